@@ -1,0 +1,26 @@
+/* Preloaded into a program, it refuses the Nth of its requests for memory (malloc and realloc), N being in REFUSE. */
+#define _GNU_SOURCE
+#include <dlfcn.h>
+#include <stdlib.h>
+
+static long left = -1;
+
+static int is_refused(void) {
+    if (left < 0) {
+        const char *n = getenv("REFUSE");
+        left = n ? atol(n) : 0;
+    }
+    return left > 0 && --left == 0;
+}
+
+void *malloc(size_t size) {
+    static void *(*next)(size_t);
+    if (!next) next = (void *(*)(size_t))dlsym(RTLD_NEXT, "malloc");
+    return is_refused() ? NULL : next(size);
+}
+
+void *realloc(void *old, size_t size) {
+    static void *(*next)(void *, size_t);
+    if (!next) next = (void *(*)(void *, size_t))dlsym(RTLD_NEXT, "realloc");
+    return is_refused() ? NULL : next(old, size);
+}

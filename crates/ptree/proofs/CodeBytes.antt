@@ -1,0 +1,67 @@
+-- The bytes of codes: ASCII, and no line feed.
+use Rattle.std.proofs.Common.{◌≡◌, ℕ, zero, suc, ◌+◌, ◌/◌, ◌%◌, ◌<◌, Bool, true, false, cond, List, [], ◌∷◌, ◌++◌, map, Option, Some, None, arith, subst, sym, refl}
+use Rattle.std.specs.Prelude.{All, nat_lt, ◌==◌, option_map, option_to_list, option_and_then, if◌then◌else◌, decimal, filter}
+use Rattle.std.specs.Fmt.{digits, digits_onto, digit_glyph}
+use Rattle.std.specs.List.{join_with_byte}
+use Rattle.std.proofs.lemmas.List.Elements.{All-nil, All-cons, All-append}
+use Rattle.ptree.specs.declared.colors.Side.{Side}
+use Rattle.ptree.specs.declared.style.Color.{Color}
+use Rattle.ptree.specs.declared.style.Style.{Style}
+use Rattle.ptree.specs.Codes.{joined}
+use Rattle.ptree.specs.Color.{color_parameters}
+use Rattle.ptree.specs.Style.{code, flags, flag_codes, side_codes, front_codes}
+use Rattle.ptree.proofs.CodeLists.{parameters_of}
+
+-- ASCII, and behind the line feed
+abbrev pub IsCodeByte : ℕ → Type 0
+IsCodeByte b = (b < 128) × (10 < b)
+
+abbrev pub AreCodeBytes : List ℕ → Type 0
+AreCodeBytes bs = All IsCodeByte bs
+
+empty : AreCodeBytes []
+empty = All-nil IsCodeByte
+
+one_more : (b : ℕ) (bs : List ℕ) → IsCodeByte b → AreCodeBytes bs → AreCodeBytes (b ∷ bs)
+one_more b bs h k = All-cons IsCodeByte b bs h k
+
+both : (xs ys : List ℕ) → AreCodeBytes xs → AreCodeBytes ys → AreCodeBytes (xs ++ ys)
+both xs ys h k = All-append IsCodeByte xs ys h k
+
+digit_is : (d : ℕ) (b : Bool) → nat_lt d 10 ≡ b → d < 10 → IsCodeByte (if b then 48 + d else 87 + d)
+digit_is d true e h = (omega arith, omega arith)
+digit_is d false e h = (omega arith, omega arith)
+
+-- digits, and those behind them
+digits_are : (k n : ℕ) (rest : List ℕ) → AreCodeBytes rest → AreCodeBytes (digits_onto k 10 false n rest)
+digits_are zero n rest h = h
+digits_are (suc k) n rest h =
+    let digit = one_more (digit_glyph false (n % 10)) rest (digit_is (n % 10) (nat_lt (n % 10) 10) refl (omega arith)) h in
+    elim (n / 10 == 0) as (λ b. AreCodeBytes (if b then digit_glyph false (n % 10) ∷ rest else digits_onto k 10 false (n / 10) (digit_glyph false (n % 10) ∷ rest))) [
+      | true ↦ digit
+      | false ↦ digits_are k (n / 10) (digit_glyph false (n % 10) ∷ rest) digit
+    ]
+
+decimal_is : (n : ℕ) → AreCodeBytes (decimal n)
+unfolding digits
+decimal_is n = digits_are 64 n [] empty
+
+parameters_are : (ns : List ℕ) → AreCodeBytes (join_with_byte 59 (map decimal ns))
+parameters_are [] = empty
+parameters_are (n ∷ []) = decimal_is n
+parameters_are (n ∷ m ∷ ns) = both (decimal n) _ (decimal_is n) (one_more 59 _ (omega arith, omega arith) (parameters_are (m ∷ ns)))
+
+code_is : (ns : List ℕ) → AreCodeBytes (code ns)
+code_is ns =
+    let last = one_more 109 [] (omega arith, omega arith) empty in
+    let all = both (join_with_byte 59 (map decimal ns)) (109 ∷ []) (parameters_are ns) last in
+    one_more 27 (91 ∷ (join_with_byte 59 (map decimal ns) ++ 109 ∷ [])) (omega arith, omega arith) (one_more 91 (join_with_byte 59 (map decimal ns) ++ 109 ∷ []) (omega arith, omega arith) all)
+
+codes_are : (pss : List (List ℕ)) → AreCodeBytes (joined (map code pss))
+codes_are [] = empty
+codes_are (ps ∷ pss) = both (code ps) _ (code_is ps) (codes_are pss)
+
+pub front_is : (style : Style) → AreCodeBytes (front_codes style)
+front_is style =
+    let h = parameters_of style in
+    subst (λ cs. AreCodeBytes (joined cs)) (sym h.1) (codes_are h.0)

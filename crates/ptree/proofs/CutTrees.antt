@@ -1,0 +1,44 @@
+-- Trees that are cut are drawn as the whole ones.
+use Rattle.std.proofs.Common.{◌≡◌, ℕ, zero, suc, ◌≤◌, List, [], ◌∷◌, ◌++◌, map, sym, ◌∙◌, ap, subst, refl, arith}
+use Rattle.ptree.specs.Drawing.{Look, IsDrawing}
+use Rattle.ptree.specs.Laws.{HasTreeCuts}
+use Rattle.ptree.specs.Lines.{own_lines, kid_lines, lines_below}
+use Rattle.ptree.specs.Shape.{kids}
+use Rattle.ptree.specs.Tree.{Forest, none, item, Tree, tree, trees, tree_kids, tree_own, shape_of_tree, cut_forest, cut_tree}
+use Rattle.ptree.proofs.Join.{drawn_is_drawing}
+use Rattle.ptree.proofs.Laws.{kid_lines-map, one_drawing}
+use Rattle.ptree.proofs.TreeLemmas.{map_twice}
+use Rattle.ptree.proofs.Unfold.{kids_of_unfold}
+
+-- no tree has level 0
+none_at_zero : (f : Forest) → cut_forest 0 f ≡ none
+none_at_zero none = refl
+none_at_zero (item t c r) = refl
+
+-- the trees of a cut forest are each cut at one less
+trees_of_cut : (d : ℕ) (f : Forest) → trees (cut_forest (suc d) f) ≡ map (cut_tree d) (trees f)
+trees_of_cut d none = refl
+trees_of_cut d (item t c r) = ap (λ ts. cut_tree d (tree t c) ∷ ts) (trees_of_cut d r)
+
+kids_of_cut_tree : (d : ℕ) (t : Tree) → kids (shape_of_tree (cut_tree (suc d) t)) ≡ map (λ s. shape_of_tree (cut_tree d s)) (tree_kids t)
+kids_of_cut_tree d t =
+    sym (kids_of_unfold tree_own tree_kids (cut_tree (suc d) t))
+    ∙ ap (map shape_of_tree) (trees_of_cut d t.children)
+    ∙ sym (map_twice (cut_tree d) shape_of_tree (tree_kids t))
+
+lines_of_cut_tree : (look : Look) (d e : ℕ) → d ≤ e → (front : List ℕ) (t : Tree)
+    → lines_below look e front (shape_of_tree (cut_tree d t)) ≡ lines_below look d front (shape_of_tree t)
+lines_of_cut_tree look zero zero h front t = refl
+lines_of_cut_tree look zero (suc e) h front t =
+    ap (kid_lines look (lines_below look e) front) (sym (kids_of_unfold tree_own tree_kids (cut_tree 0 t)) ∙ ap (λ f. map shape_of_tree (trees f)) (none_at_zero t.children))
+lines_of_cut_tree look (suc d) zero h front t = absurd (omega arith)
+lines_of_cut_tree look (suc d) (suc e) h front t =
+    ap (kid_lines look (lines_below look e) front) (kids_of_cut_tree d t)
+    ∙ kid_lines-map look (λ s. shape_of_tree (cut_tree d s)) shape_of_tree (lines_below look d) (lines_below look e) (λ s. refl) (λ f s. lines_of_cut_tree look d e (omega arith) f s) front (tree_kids t)
+    ∙ ap (kid_lines look (lines_below look d) front) (kids_of_unfold tree_own tree_kids t)
+
+pub drawing_of_cut_tree : (look : Look) (d : ℕ) → HasTreeCuts look d
+drawing_of_cut_tree look d = λ t e text h k.
+    subst (λ (y : List ℕ). IsDrawing look (shape_of_tree (cut_tree d t)) e y)
+    (ap (λ y. own_lines look [] [] (shape_of_tree t) ++ y) (lines_of_cut_tree look d e h [] t) ∙ sym (one_drawing look (shape_of_tree t) d text k))
+    (drawn_is_drawing look e (shape_of_tree (cut_tree d t)))

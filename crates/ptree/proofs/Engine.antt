@@ -1,0 +1,126 @@
+-- The steps of the engine, over plain variables.
+use Rattle.std.proofs.Common.{◌≡◌, ℕ, zero, suc, ◌-◌, ◌<◌, ◌≤◌, min, Bool, true, false, eqb, List, [], ◌∷◌, ◌++◌, Option, Result, Ok, Err, ◌+◌, length, sym, ◌∙◌, ap, subst, refl, append_assoc, map, take, arith}
+use Rattle.std.proofs.lemmas.Bool.Decides.{nat_tests}
+use Rattle.std.proofs.lemmas.List.{length-map, length-take, append-nil, take-append-le, take_all}
+use Rattle.std.specs.Io.KnownBytes.{Appends}
+use Rattle.ptree.specs.declared.style.DrawError.{DrawError}
+use Rattle.ptree.specs.declared.style.DrawError.TheVariants.{Memory}
+use Rattle.ptree.specs.Writing.{AppendsPart, IsWritten, told_faults}
+use Rattle.ptree.specs.Brush.{HasSlotCause}
+use Rattle.ptree.specs.Drawing.{Look}
+use Rattle.ptree.specs.Lines.{own_lines, is_empty, with_below, kid_lines, lines_below, item_lines}
+use Rattle.ptree.specs.Pieces.{turning_piece, passing_piece}
+use Rattle.ptree.specs.Shape.{Shape, kids}
+use Rattle.ptree.specs.Style.{front_codes, back_codes}
+use Rattle.ptree.proofs.Written.{appends_nothing, part_then, part_more, written_then}
+
+pub nothing_yet : (a : Option (List ℕ)) (x : List ℕ) → AppendsPart a a x
+nothing_yet a x = ([], (x, refl), appends_nothing a)
+
+lines_down : (look : Look) (left : ℕ) (front : List ℕ) (x : Shape) → (left ≡ 0 → ⊥) → lines_below look left front x ≡ kid_lines look (lines_below look (left - 1)) front (kids x)
+lines_down look zero front x h = absurd (h refl)
+lines_down look (suc n) front x h =
+    let e : n ≡ suc n - 1 = omega arith in ap (λ k. kid_lines look (lines_below look k) front (kids x)) e
+
+pub item_part : (look : Look) (left : ℕ) (front : List ℕ) (last : Bool) (x : Shape) (p : List ℕ) (a b : Option (List ℕ))
+    → p ≡ front ++ turning_piece look.pieces last → AppendsPart a b (own_lines look p [] x) → AppendsPart a b (item_lines look left front last x)
+item_part look left front last x p a b e h =
+    part_more a b (own_lines look (front ++ turning_piece look.pieces last) (front ++ passing_piece look.pieces last) x) _ (subst (λ (q : List ℕ). AppendsPart a b (own_lines look q [] x)) e h)
+
+pub item_written : {A E : Type 0} (look : Look) (left : ℕ) (front : List ℕ) (last : Bool) (x : Shape) (p q : List ℕ) (ks : List Shape) (a b c : Option (List ℕ)) (r : Result A E)
+    → p ≡ front ++ turning_piece look.pieces last → q ≡ front ++ passing_piece look.pieces last → ks ≡ kids x → (left ≡ 0 → ⊥)
+    → Appends a b (own_lines look p [] x) → IsWritten b c r (kid_lines look (lines_below look (left - 1)) q ks) → IsWritten a c r (item_lines look left front last x)
+item_written look left front last x p q ks a b c r ep eq ek h k w =
+    let below = lines_down look left (front ++ passing_piece look.pieces last) x h in
+    written_then a b c r (own_lines look (front ++ turning_piece look.pieces last) (front ++ passing_piece look.pieces last) x) (lines_below look left (front ++ passing_piece look.pieces last) x)
+    (subst (λ (y : List ℕ). Appends a b (own_lines look y [] x)) ep k)
+    (subst (λ (y : List ℕ). IsWritten b c r y) (ap (λ y. kid_lines look (lines_below look (left - 1)) y ks) eq ∙ ap (λ y. kid_lines look (lines_below look (left - 1)) (front ++ passing_piece look.pieces last) y) ek ∙ sym below) w)
+
+is_empty-length : {C : Type 0} (xs : List C) → eqb (length xs) 0 ≡ is_empty xs
+is_empty-length [] = refl
+is_empty-length (x ∷ xs) = grind (arith, nat_tests)
+
+-- the lines so far, those of one item, and those of the others
+pub kids_step : (look : Look) (below : List ℕ → Shape → List ℕ) (front : List ℕ) (rest others : List Shape) (x : Shape) (last : Bool) (done all : List ℕ)
+    → rest ≡ x ∷ others → last ≡ eqb (length others) 0 → done ++ kid_lines look below front rest ≡ all
+    → (done ++ with_below look below front last x) ++ kid_lines look below front others ≡ all
+kids_step look below front rest others x last done all er el e =
+    append_assoc done (with_below look below front last x) (kid_lines look below front others)
+    ∙ ap (λ l. done ++ (with_below look below front l x ++ kid_lines look below front others)) (el ∙ is_empty-length others)
+    ∙ ap (λ l. done ++ kid_lines look below front l) (sym er) ∙ e
+
+-- an item that isn't drawn whole ends the list
+pub kids_err : (look : Look) (below : List ℕ → Shape → List ℕ) (front : List ℕ) (rest others : List Shape) (x : Shape) (last : Bool) (done all : List ℕ) (a b c : Option (List ℕ))
+    → rest ≡ x ∷ others → last ≡ eqb (length others) 0 → done ++ kid_lines look below front rest ≡ all
+    → Appends a b done → AppendsPart b c (with_below look below front last x) → AppendsPart a c all
+kids_err look below front rest others x last done all a b c er el e h k =
+    subst (λ (y : List ℕ). AppendsPart a c y) (kids_step look below front rest others x last done all er el e)
+    (part_more a c (done ++ with_below look below front last x) (kid_lines look below front others) (part_then a b c done (with_below look below front last x) h k))
+
+pub same_len : {C X : Type 0} (f : C → X) (others : List C) (last : Bool) → last ≡ eqb (length others) 0 → last ≡ eqb (length (map f others)) 0
+same_len f others last e = let length_eq : length (map f others) ≡ length others = simp length-map in e ∙ ap (λ n. eqb n 0) (sym length_eq)
+
+pub item_whole : (look : Look) (left : ℕ) (front : List ℕ) (last : Bool) (x : Shape) (p q : List ℕ) (ks : List Shape) (a b c : Option (List ℕ))
+    → p ≡ front ++ turning_piece look.pieces last → q ≡ front ++ passing_piece look.pieces last → ks ≡ kids x → (left ≡ 0 → ⊥)
+    → Appends a b (own_lines look p [] x) → Appends b c (kid_lines look (lines_below look (left - 1)) q ks) → Appends a c (item_lines look left front last x)
+item_whole look left front last x p q ks a b c ep eq ek h k w = item_written {A = ℕ} {E = ℕ} look left front last x p q ks a b c (Ok 0) ep eq ek h k w
+
+empty_list : {C : Type 0} (ks : List C) (b : Bool) → b ≡ true → b ≡ eqb (length ks) 0 → ks ≡ []
+empty_list [] b h k = refl
+empty_list (x ∷ xs) b h k =
+    let some : eqb (length (x ∷ xs)) 0 ≡ false = grind (arith, nat_tests) in absurd (cc)
+
+-- an item with no children
+pub item_alone : {D : Type 0} (look : Look) (left : ℕ) (front : List ℕ) (last : Bool) (x : Shape) (a b : Option (List ℕ)) (shape : D → Shape) (ks : List D) (empty : Bool)
+    → empty ≡ true → empty ≡ eqb (length ks) 0 → map shape ks ≡ kids x → (left ≡ 0 → ⊥)
+    → Appends a b (own_lines look (front ++ turning_piece look.pieces last) [] x) → Appends a b (item_lines look left front last x)
+item_alone look left front last x a b shape ks empty e1 e2 ek h k =
+    item_whole look left front last x (front ++ turning_piece look.pieces last) (front ++ passing_piece look.pieces last) [] a b b refl refl (sym (ap (map shape) (empty_list ks empty e1 e2)) ∙ ek) h k (appends_nothing b)
+
+-- what the buffer holds is an entry: the branch's front codes, a passing text, a turning piece with the back codes, and the own bytes
+pub line_is : (look : Look) (front piece held line : List ℕ) (x : Shape) → held ≡ line ++ (piece ++ back_codes look.branch) → line ≡ front_codes look.branch ++ front
+    → (held ++ x.own [] look.leaf) ++ 10 ∷ [] ≡ own_lines look (front ++ piece) [] x
+line_is look front piece held line x eh el =
+    ap (λ t. t ++ x.own [] look.leaf ++ 10 ∷ []) (
+    eh ∙ ap (λ l. l ++ (piece ++ back_codes look.branch)) el
+    ∙ sym (append_assoc (front_codes look.branch ++ front) piece (back_codes look.branch))
+    ∙ ap (λ t. t ++ back_codes look.branch) (append_assoc (front_codes look.branch) front piece))
+
+-- what it holds a level down
+pub down_is : (look : Look) (front piece line again below : List ℕ) → line ≡ front_codes look.branch ++ front → again ≡ line → below ≡ again ++ piece → below ≡ front_codes look.branch ++ (front ++ piece)
+down_is look front piece line again below el ea eb = eb ∙ ap (λ l. l ++ piece) (ea ∙ el) ∙ append_assoc (front_codes look.branch) front piece
+
+-- a list whose first so many make a list of that length has so many
+pub long_enough : (n : ℕ) (xs ys : List ℕ) → take n xs ≡ ys → n ≡ length ys → n ≤ length xs
+long_enough n xs ys e h = let same : length (take n xs) ≡ min n (length xs) = length-take n xs in let all = ap length e in omega (arith, same, all, h)
+
+-- what is put behind the first so many leaves them
+pub take_again : (n : ℕ) (xs ys zs : List ℕ) → n ≤ length xs → zs ≡ take n xs ++ ys → take n zs ≡ take n xs
+take_again n xs ys zs h e =
+    let same : length (take n xs) ≡ min n (length xs) = length-take n xs in
+    ap (take n) e ∙ take-append-le n (take n xs) ys (omega (arith, same)) ∙ take_all n (take n xs) (omega (arith, same))
+
+-- an item at the last level
+pub item_ended : (look : Look) (left : ℕ) (front : List ℕ) (last : Bool) (x : Shape) (a b : Option (List ℕ))
+    → left ≡ 0 → Appends a b (own_lines look (front ++ turning_piece look.pieces last) [] x) → Appends a b (item_lines look left front last x)
+item_ended look zero front last x a b e h = subst (λ (y : List ℕ). Appends a b y) (sym (append-nil (own_lines look (front ++ turning_piece look.pieces last) [] x))) h
+item_ended look (suc n) front last x a b e h = absurd (omega (arith, e))
+
+-- a slot that holds no fault tells none
+pub quiet : (a b : ℕ) (e : DrawError) → HasSlotCause a b e → e ≡ Memory → b ≡ a
+quiet a b e h k =
+    let none : a + 0 ≡ a = omega arith in h ∙ ap (λ (x : DrawError). a + told_faults {A = Unit {0}} (Err x)) k ∙ none
+
+-- one that isn't the last
+pub not_last : (n : ℕ) (last : Bool) → last ≡ eqb n 0 → 0 < n → last ≡ false
+not_last n last e h = let some : eqb n 0 ≡ false = grind (arith, nat_tests) in e ∙ some
+
+-- a regular turning piece that was kept
+pub still_turned : (n : ℕ) (xs turned kept : List ℕ) (text : Bool → List ℕ) (last : Bool) → turned ≡ take n xs ++ text last → last ≡ false → take n turned ≡ take n xs → kept ≡ turned → kept ≡ take n kept ++ text false
+still_turned n xs turned kept text last e l t k =
+    k ∙ e ∙ ap (λ b. take n xs ++ text b) l ∙ ap (λ ys. ys ++ text false) (sym (ap (take n) k ∙ t))
+
+-- what is put behind all of a text is cut off again
+pub cut_back : (n : ℕ) (xs ys zs kept again : List ℕ) → n ≡ length xs → zs ≡ xs ++ ys → kept ≡ zs → again ≡ take n kept → again ≡ xs
+cut_back n xs ys zs kept again h e k a =
+    a ∙ ap (take n) (k ∙ e) ∙ take-append-le n xs ys (omega arith) ∙ take_all n xs (omega arith)

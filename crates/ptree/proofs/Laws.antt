@@ -1,0 +1,105 @@
+-- Laws of drawings.
+use Rattle.std.specs.Prelude.{slice_get, option_and_then, nat_lt, flat_map}
+use Rattle.std.specs.List.{range_with_len}
+use Rattle.std.proofs.Common.{◌≡◌, ℕ, zero, suc, ◌≤◌, true, cond, List, [], ◌∷◌, ◌++◌, map, Option, Some, None, length, sym, ◌∙◌, ap, subst, refl, append_assoc, arith}
+use Rattle.std.proofs.lemmas.Bool.Decides.{nat_tests}
+use Rattle.std.proofs.lemmas.List.{append-nil, map-id}
+use Rattle.ptree.specs.Address.{Address, at, is_last}
+use Rattle.ptree.specs.Drawing.{Look, passing_text, entry_from, entry_text, IsDrawing}
+use Rattle.ptree.specs.Lines.{own_lines, is_empty, with_below, kid_lines, lines_below, drawn}
+use Rattle.ptree.specs.Pieces.{passing_piece, turning_piece}
+use Rattle.ptree.specs.Shape.{Shape, child, kids, cut}
+use Rattle.ptree.proofs.Addresses.{one_list, walk, walk_is_list}
+use Rattle.ptree.proofs.Join.{join, drawn_is_drawing, entry_behind, entry_under, passing_child}
+
+-- ## Cut
+
+same_functions : {A B : Type 0} (f g : A → B) → ((x : A) → f x ≡ g x) → f ≡ g
+same_functions f g h = λ i x. h x i
+
+same_map : {A B : Type 0} (f g : A → B) → ((x : A) → f x ≡ g x) → (xs : List A) → map f xs ≡ map g xs
+same_map f g h [] = refl
+same_map f g h (x ∷ xs) = ap (λ y. y ∷ map f xs) (h x) ∙ ap (λ ys. g x ∷ ys) (same_map f g h xs)
+
+map_twice : {A B C : Type 0} (f : A → B) (g : B → C) (xs : List A) → map g (map f xs) ≡ map (λ x. g (f x)) xs
+map_twice f g [] = refl
+map_twice f g (x ∷ xs) = ap (λ ys. g (f x) ∷ ys) (map_twice f g xs)
+
+less_suc : (m d : ℕ) → nat_lt (suc m) (suc d) ≡ nat_lt m d
+less_suc m d = grind (arith, nat_tests)
+
+none_above : (d : ℕ) → nat_lt 0 (suc d) ≡ true
+none_above d = grind (arith, nat_tests)
+
+child_of_cut : (d : ℕ) (t : Shape) (i : ℕ) → child (cut (suc d) t) i ≡ cut d (child t i)
+child_of_cut d t i =
+    ap (λ (f : Address → ℕ). let r : Shape = record { own = λ a. t.own (i ∷ a); count = f } in r)
+    (same_functions _ _ (λ (a : Address). ap (λ b. cond b (t.count (i ∷ a)) 0) (less_suc (length a) d)))
+
+pub kids_of_cut : (d : ℕ) (t : Shape) → kids (cut (suc d) t) ≡ map (cut d) (kids t)
+kids_of_cut d t =
+    ap (λ b. map (child (cut (suc d) t)) (range_with_len 0 (cond b (t.count []) 0))) (none_above d)
+    ∙ same_map (child (cut (suc d) t)) (λ i. cut d (child t i)) (child_of_cut d t) (range_with_len 0 (t.count []))
+    ∙ sym (map_twice (child t) (cut d) (range_with_len 0 (t.count [])))
+
+is_empty-map : {X Y : Type 0} (f : X → Y) (xs : List X) → is_empty (map f xs) ≡ is_empty xs
+is_empty-map f [] = refl
+is_empty-map f (x ∷ xs) = refl
+
+-- lines of two lists of children that are drawn alike
+pub kid_lines-map : {C : Type 0} (look : Look) (f g : C → Shape) (below below' : List ℕ → Shape → List ℕ) → ((c : C) → (f c).own [] look.leaf ≡ (g c).own [] look.leaf) → ((front : List ℕ) (c : C) → below' front (f c) ≡ below front (g c))
+    → (front : List ℕ) (cs : List C) → kid_lines look below' front (map f cs) ≡ kid_lines look below front (map g cs)
+kid_lines-map look f g below below' o h front [] = refl
+kid_lines-map look f g below below' o h front (c ∷ cs) =
+    let last = is_empty (map g cs) in
+    let turned = front ++ turning_piece look.pieces last in
+    let passed = front ++ passing_piece look.pieces last in
+    ap (λ l. with_below look below' front l (f c) ++ kid_lines look below' front (map f cs)) (is_empty-map f cs ∙ sym (is_empty-map g cs))
+    ∙ ap (λ t. (entry_from look turned passed t ++ below' passed (f c)) ++ kid_lines look below' front (map f cs)) (o c)
+    ∙ ap (λ t. (own_lines look turned passed (g c) ++ t) ++ kid_lines look below' front (map f cs)) (h passed c)
+    ∙ ap (λ t. with_below look below front last (g c) ++ t) (kid_lines-map look f g below below' o h front cs)
+
+lines_of_cut : (look : Look) (d e : ℕ) → d ≤ e → (front : List ℕ) (t : Shape) → lines_below look e front (cut d t) ≡ lines_below look d front t
+lines_of_cut look zero zero h front t = refl
+lines_of_cut look zero (suc e) h front t = refl
+lines_of_cut look (suc d) zero h front t = absurd (omega arith)
+lines_of_cut look (suc d) (suc e) h front t =
+    ap (kid_lines look (lines_below look e) front) (kids_of_cut d t)
+    ∙ kid_lines-map look (cut d) (λ x. x) (lines_below look d) (lines_below look e) (λ x. refl) (λ f x. lines_of_cut look d e (omega arith) f x) front (kids t)
+    ∙ ap (kid_lines look (lines_below look d) front) (map-id (kids t))
+
+-- one text is the drawing
+pub one_drawing : (look : Look) (x : Shape) (d : ℕ) (text : List ℕ) → IsDrawing look x d text → text ≡ drawn look d x
+one_drawing look x d text h = h.2 ∙ ap (flat_map (entry_text look x)) (one_list kids x d h.0 (walk kids d x) h.1 (walk_is_list kids d x)) ∙ join look d x
+
+-- the drawing at a depth is that of the cut tree at any greater one
+pub drawing_of_cut : (look : Look) (d e : ℕ) (t : Shape) (text : List ℕ) → d ≤ e → IsDrawing look t d text → IsDrawing look (cut d t) e text
+drawing_of_cut look d e t text h k =
+    subst (λ (y : List ℕ). IsDrawing look (cut d t) e y)
+    (ap (λ y. own_lines look [] [] t ++ y) (lines_of_cut look d e h [] t) ∙ sym (one_drawing look t d text k))
+    (drawn_is_drawing look e (cut d t))
+
+-- ## Subtree
+
+-- the entry at an address below a is, behind a's passing text, that of what stands at a
+pub entry_below : (look : Look) (front : List ℕ) (x y : Shape) (a : Address) (j : ℕ) (r : Address) → at kids x a ≡ Some y
+    → entry_behind look front x (a ++ j ∷ r) ≡ entry_behind look (front ++ passing_text look x a) y (j ∷ r)
+entry_below look front x y [] j r h =
+    let same : x ≡ y = cc in
+    ap (λ z. entry_behind look front z (j ∷ r)) same ∙ ap (λ z. entry_behind look z y (j ∷ r)) (sym (append-nil front))
+entry_below look front x y (i ∷ a) j r h =
+    let s = found (slice_get (kids x) i) (λ c. at kids c a) y h in
+    let rest = headed a j r in
+    ap (λ b. entry_behind look front x (i ∷ b)) rest.2
+    ∙ entry_under look front x s.0 i rest.0 rest.1 (is_last kids x (i ∷ [])) s.1 refl
+    ∙ ap (λ b. entry_behind look (front ++ passing_piece look.pieces (is_last kids x (i ∷ []))) s.0 b) (sym rest.2)
+    ∙ entry_below look (front ++ passing_piece look.pieces (is_last kids x (i ∷ []))) s.0 y a j r s.2
+    ∙ ap (λ z. entry_behind look z y (j ∷ r)) (append_assoc front (passing_piece look.pieces (is_last kids x (i ∷ []))) (passing_text look s.0 a) ∙ ap (λ z. front ++ z) (sym (passing_child look x s.0 i a s.1)))
+  where
+    found : {X Y : Type 0} (o : Option X) (f : X → Option Y) (y : Y) → option_and_then f o ≡ Some y → (c : X) × (o ≡ Some c) × (f c ≡ Some y)
+    found None f y h = absurd (cc)
+    found (Some c) f y h = (c, refl, h)
+
+    headed : (a : Address) (j : ℕ) (r : Address) → (k : ℕ) × (q : Address) × (a ++ j ∷ r ≡ k ∷ q)
+    headed [] j r = (j, r, refl)
+    headed (k ∷ a) j r = (k, a ++ j ∷ r, refl)

@@ -1,0 +1,17 @@
+pub mod Addresses
+pub mod CodeBytes
+pub mod CodeLists
+pub mod ColorNames
+pub mod CutTrees
+pub mod Decimals
+pub mod Drawn
+pub mod Engine
+pub mod FaultWalks
+pub mod Join
+pub mod Laws
+pub mod Painting
+pub mod Styles
+pub mod Subtrees
+pub mod TreeLemmas
+pub mod Unfold
+pub mod Written

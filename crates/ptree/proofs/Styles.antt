@@ -1,0 +1,43 @@
+-- Painted texts.
+use Rattle.std.proofs.Common.{◌≡◌, ◌≢◌, ℕ, ◌<◌, List, [], ◌∷◌, ◌++◌, refl, ap, ◌∙◌, arith}
+use Rattle.std.specs.Prelude.{flat_map, IsUtf8}
+use Rattle.std.proofs.lemmas.List.{append-nil}
+use Rattle.std.proofs.lemmas.List.Elements.{All-nil, All-cons, All-weaker}
+use Rattle.std.proofs.lemmas.Str.{IsUtf8-from_ascii}
+use Rattle.std.proofs.lemmas.Str.Ascii.{IsAscii-from_all}
+use Rattle.ptree.specs.declared.style.Style.{Style}
+use Rattle.ptree.specs.Readable.{HasNoLineFeed}
+use Rattle.ptree.specs.Style.{plain_style, style_codes, reset_after, front_codes, back_codes, painted_text}
+use Rattle.ptree.proofs.CodeBytes.{IsCodeByte, front_is}
+
+-- the plain style has no code
+pub plain_codes : style_codes plain_style ≡ []
+unfolding style_codes
+plain_codes = refl
+
+-- a style that has no code paints a text as itself
+pub painted_plain : (style : Style) (text : List ℕ) → style_codes style ≡ [] → painted_text style text ≡ text
+painted_plain style text h =
+    ap (λ codes. flat_map (λ code. code) codes ++ text ++ reset_after codes) h ∙ append-nil text
+
+-- as the plain style does
+pub painted_plain_style : (text : List ℕ) → painted_text plain_style text ≡ text
+painted_plain_style text = painted_plain plain_style text plain_codes
+
+no_line_feed_reset : (codes : List (List ℕ)) → HasNoLineFeed (reset_after codes)
+no_line_feed_reset [] = All-nil (λ b. b ≢ 10)
+no_line_feed_reset (code ∷ codes) =
+    All-cons (λ b. b ≢ 10) 27 (91 ∷ 48 ∷ 109 ∷ []) (omega arith) (All-cons (λ b. b ≢ 10) 91 (48 ∷ 109 ∷ []) (omega arith) (All-cons (λ b. b ≢ 10) 48 (109 ∷ []) (omega arith) (All-cons (λ b. b ≢ 10) 109 [] (omega arith) (All-nil (λ b. b ≢ 10)))))
+
+-- what stands after a painted text is of one line
+pub no_line_feed_back : (style : Style) → HasNoLineFeed (back_codes style)
+no_line_feed_back style = no_line_feed_reset (style_codes style)
+
+-- and what stands before it
+pub no_line_feed_front : (style : Style) → HasNoLineFeed (front_codes style)
+no_line_feed_front style = All-weaker IsCodeByte (λ b. b ≢ 10) (λ b h. omega arith) (front_codes style) (front_is style)
+
+-- codes are text
+pub IsUtf8-front_codes : (style : Style) → IsUtf8 (front_codes style)
+IsUtf8-front_codes style =
+    IsUtf8-from_ascii (front_codes style) (IsAscii-from_all (front_codes style) (All-weaker IsCodeByte (λ b. b < 128) (λ b h. h.0) (front_codes style) (front_is style)))

@@ -1,0 +1,145 @@
+-- What stands below an address is drawn as it is alone.
+use Rattle.std.specs.Prelude.{slice_get, option_and_then, ◌&&◌, ◌-◌}
+use Rattle.std.proofs.Common.{◌≡◌, ℕ, ◌≤◌, ◌⊎◌, inl, inr, Bool, true, false, cond, List, [], ◌∷◌, ◌++◌, map, filter, Option, Some, None, length, sym, ◌∙◌, ap, subst, refl, append_assoc, arith, eq-eqb, eqb-true, length-append}
+use Rattle.std.proofs.lemmas.Bool.{and_parts}
+use Rattle.std.proofs.lemmas.List.Kept.{AllPairs-filter}
+use Rattle.ptree.specs.Address.{Address, at, Before, IsAddressList}
+use Rattle.ptree.specs.Drawing.{Look, passing_text, prefix_text, own_at, entry_text}
+use Rattle.ptree.specs.Laws.{begins_properly, HasSubtrees}
+use Rattle.ptree.specs.Shape.{Shape, kids}
+use Rattle.ptree.specs.Style.{style_codes, painted_text}
+use Rattle.ptree.proofs.Addresses.{In, Sorted, sorted_from_pairs, same_sorted, in_contains, contains_in}
+use Rattle.ptree.proofs.Laws.{entry_below}
+use Rattle.ptree.proofs.Styles.{painted_plain}
+
+-- ## Addresses behind an address
+
+begun : (a b : Address) → begins_properly a b ≡ true → (j : ℕ) × (r : Address) × (b ≡ a ++ j ∷ r)
+begun a [] h = absurd (cc)
+begun [] (j ∷ b) h = (j, b, refl)
+begun (i ∷ a) (j ∷ b) h =
+    let s = and_parts _ _ h in
+    let q = begun a b s.1 in
+    (q.0, q.1, ap (λ k. k ∷ b) (sym (eqb-true i j s.0)) ∙ ap (λ z. i ∷ z) q.2)
+
+begins-append : (a : Address) (j : ℕ) (r : Address) → begins_properly a (a ++ j ∷ r) ≡ true
+begins-append [] j r = refl
+begins-append (i ∷ a) j r = ap (λ p. p && begins_properly a (a ++ j ∷ r)) (eq-eqb i i refl) ∙ begins-append a j r
+
+before_behind : (a b c : Address) → Before b c → Before (a ++ b) (a ++ c)
+before_behind [] b c h = h
+before_behind (i ∷ a) b c h = inr (refl, before_behind a b c h)
+
+-- behind an address the steps are those from what stands there
+at-append : {X : Type 0} (kids : X → List X) (x y : X) (a b : Address) → at kids x a ≡ Some y → at kids x (a ++ b) ≡ at kids y b
+at-append kids x y [] b h = let same : x ≡ y = cc in ap (λ z. at kids z b) same
+at-append kids x y (i ∷ a) b h = step kids y (slice_get (kids x) i) a b (λ c. at-append kids c y a b) h
+  where
+    step : {X : Type 0} (kids : X → List X) (y : X) (o : Option X) (a b : Address) → ((c : X) → at kids c a ≡ Some y → at kids c (a ++ b) ≡ at kids y b)
+        → option_and_then (λ c. at kids c a) o ≡ Some y → option_and_then (λ c. at kids c (a ++ b)) o ≡ at kids y b
+    step kids y None a b f h = absurd (cc)
+    step kids y (Some c) a b f h = f c h
+
+-- ## Lists
+
+in_cond : (k : Bool) (a x : Address) (xs : List Address) → In a (cond k (x ∷ xs) xs) → ((x ≡ a) × (k ≡ true)) ⊎ In a xs
+in_cond true a x xs (inl e) = inl (e, refl)
+in_cond true a x xs (inr h) = inr h
+in_cond false a x xs h = inr h
+
+cond_in : (k : Bool) (a x : Address) (xs : List Address) → (x ≡ a → k ≡ true) → (x ≡ a) ⊎ In a xs → In a (cond k (x ∷ xs) xs)
+cond_in true a x xs f h = h
+cond_in false a x xs f (inl e) = let no_way = f e in absurd (cc)
+cond_in false a x xs f (inr h) = h
+
+in_filter : (p : Address → Bool) (a : Address) (xs : List Address) → In a (filter p xs) → In a xs × (p a ≡ true)
+in_filter p a [] h = absurd h
+in_filter p a (x ∷ xs) h = elim (in_cond (p x) a x (filter p xs) h) [
+  | inl e ↦ (inl e.0, sym (ap p e.0) ∙ e.1)
+  | inr k ↦ (let m = in_filter p a xs k in (inr m.0, m.1))
+]
+
+filter_in : (p : Address → Bool) (a : Address) (xs : List Address) → In a xs → p a ≡ true → In a (filter p xs)
+filter_in p a [] h k = absurd h
+filter_in p a (x ∷ xs) (inl e) k = cond_in (p x) a x (filter p xs) (λ q. ap p q ∙ k) (inl e)
+filter_in p a (x ∷ xs) (inr h) k = cond_in (p x) a x (filter p xs) (λ q. ap p q ∙ k) (inr (filter_in p a xs h k))
+
+in_behind : (a b : Address) (xs : List Address) → In b (map (λ c. a ++ c) xs) → (c : Address) × (a ++ c ≡ b) × In c xs
+in_behind a b [] h = absurd h
+in_behind a b (x ∷ xs) (inl e) = (x, e, inl refl)
+in_behind a b (x ∷ xs) (inr h) = let m = in_behind a b xs h in (m.0, m.1, inr m.2)
+
+behind_in : (a c : Address) (xs : List Address) → In c xs → In (a ++ c) (map (λ b. a ++ b) xs)
+behind_in a c [] h = absurd h
+behind_in a c (x ∷ xs) (inl e) = inl (ap (λ b. a ++ b) e)
+behind_in a c (x ∷ xs) (inr h) = inr (behind_in a c xs h)
+
+sorted_behind : (a : Address) (xs : List Address) → Sorted xs → Sorted (map (λ b. a ++ b) xs)
+sorted_behind a [] s = tt
+sorted_behind a (x ∷ xs) s = (
+  λ b h. (let m = in_behind a b xs h in subst (λ (z : Address). Before (a ++ x) z) m.1 (before_behind a x m.0 (s.0 m.0 m.2))),
+  sorted_behind a xs s.1,
+)
+
+-- what a list keeps is sorted
+sorted_filter : {X : Type 0} (kids : X → List X) (x : X) (d : ℕ) (p : Address → Bool) (xs : List Address) → IsAddressList kids x d xs → Sorted (filter p xs)
+sorted_filter kids x d p xs s = sorted_from_pairs (filter p xs) (AllPairs-filter Before p xs s.ascending)
+
+-- ## Addresses of the whole and of the part
+
+-- the addresses below one are those of what stands there, behind it
+addresses_below : {X : Type 0} (kids : X → List X) (x y : X) (a : Address) (d : ℕ) (whole part : List Address) → at kids x a ≡ Some y → length a ≤ d
+    → IsAddressList kids x d whole → IsAddressList kids y (d - length a) part
+    → filter (begins_properly a) whole ≡ map (λ b. a ++ b) (filter (begins_properly []) part)
+addresses_below kids x y a d whole part h k w p =
+    same_sorted (filter (begins_properly a) whole) (map (λ b. a ++ b) below)
+    (sorted_filter kids x d (begins_properly a) whole w)
+    (sorted_behind a below (sorted_filter kids y (d - length a) (begins_properly []) part p))
+    (λ b m.
+    let n = in_filter (begins_properly a) b whole m in
+    let q = begun a b n.1 in
+    let c = q.0 ∷ q.1 in
+    let f = (w.members b).0 (contains_in whole b n.0) in
+    let short : length c ≤ d - length a = omega (arith, f.1, ap length q.2, length-append a c) in
+    let there = (p.members c).1 (λ e. f.0 (ap (at kids x) q.2 ∙ at-append kids x y a c h ∙ e), short) in
+    subst (λ (z : Address). In z (map (λ b. a ++ b) below)) (sym q.2) (behind_in a c below (filter_in (begins_properly []) c part (in_contains part c there) refl)))
+    (λ b m.
+    let n = in_behind a b below m in
+    let c = n.0 in
+    let s = in_filter (begins_properly []) c part n.2 in
+    let q = begun [] c s.1 in
+    let f = (p.members c).0 (contains_in part c s.0) in
+    let short : length (a ++ c) ≤ d = omega (arith, f.1, length-append a c) in
+    let there = (w.members (a ++ c)).1 (λ e. f.0 (sym (at-append kids x y a c h) ∙ e), short) in
+    let test : begins_properly a (a ++ c) ≡ true = ap (λ z. begins_properly a (a ++ z)) q.2 ∙ begins-append a q.0 q.1 in
+    subst (λ (z : Address). In z (filter (begins_properly a) whole)) n.1 (filter_in (begins_properly a) (a ++ c) whole (in_contains whole (a ++ c) there) test))
+  where
+    below : List Address
+    below = filter (begins_properly []) part
+
+-- ## Entries
+
+-- an entry of the whole is, behind the passing text, the entry of the part
+entry_alone : (look : Look) (x y : Shape) (a : Address) (j : ℕ) (r : Address) → style_codes look.branch ≡ [] → at kids x a ≡ Some y
+    → entry_text look x (a ++ j ∷ r) ≡ passing_text look x a ++ entry_text look y (j ∷ r)
+entry_alone look x y a j r plain h =
+    let front = passing_text look x a in
+    let prefix = prefix_text look y (j ∷ r) in
+    let own = own_at look y (j ∷ r) in
+    entry_below look [] x y a j r h
+    ∙ ap (λ t. t ++ own ++ 10 ∷ []) (painted_plain look.branch (front ++ prefix) plain ∙ ap (λ t. front ++ t) (sym (painted_plain look.branch prefix plain)))
+    ∙ ap (λ t. t ++ 10 ∷ []) (append_assoc front (painted_text look.branch prefix) own)
+    ∙ append_assoc front (painted_text look.branch prefix ++ own) (10 ∷ [])
+
+entries_alone : (look : Look) (x y : Shape) (a : Address) (part : List Address) → style_codes look.branch ≡ [] → at kids x a ≡ Some y
+    → map (entry_text look x) (map (λ b. a ++ b) (filter (begins_properly []) part))
+    ≡ map (λ e. passing_text look x a ++ e) (map (entry_text look y) (filter (begins_properly []) part))
+entries_alone look x y a [] plain h = refl
+entries_alone look x y a ([] ∷ part) plain h = entries_alone look x y a part plain h
+entries_alone look x y a ((j ∷ r) ∷ part) plain h =
+    ap (λ t. t ∷ map (entry_text look x) (map (λ b. a ++ b) (filter (begins_properly []) part))) (entry_alone look x y a j r plain h)
+    ∙ ap (λ t. (passing_text look x a ++ entry_text look y (j ∷ r)) ∷ t) (entries_alone look x y a part plain h)
+
+pub subtrees : (look : Look) (x : Shape) (depth : ℕ) → style_codes look.branch ≡ [] → HasSubtrees look x depth
+subtrees look x depth plain = λ a y whole part h k w p.
+    ap (map (entry_text look x)) (addresses_below kids x y a depth whole part h k w p) ∙ entries_alone look x y a part plain h

@@ -1,0 +1,26 @@
+use Rattle.std.proofs.Common.{◌≡◌, ◌++◌, ap, sym, subst, ◌∙◌}
+use Rattle.std.specs.Prelude.{IsUtf8}
+use Rattle.ptree.specs.declared.colors.Side.TheVariants.{Foreground, Background}
+use Rattle.ptree.specs.Codes.{gathered, joined, reset_behind}
+use Rattle.ptree.specs.Style.{side_codes, front_codes}
+use Rattle.ptree.proofs.CodeLists.{front_codes_are, back_codes_are}
+use Rattle.ptree.proofs.Styles.{IsUtf8-front_codes}
+use Rattle.ptree.proofs.codes.Codes.of.Goals.{After-push_color-2}
+use Rattle.ptree.proofs.codes.Codes.of.Goals as goal
+
+-- what is gathered at the end
+front : (c : After-push_color-2) → gathered c.push_color-2.new.self ≡ front_codes c.args.style.now
+front c =
+    let style = c.args.style.now in
+    c.push_color-2.ensures.text
+    ∙ ap (λ bs. bs ++ joined (side_codes style.background Background)) (c.push_color.ensures.text ∙ ap (λ bs. bs ++ joined (side_codes style.foreground Foreground)) c.push_flags.ensures.text)
+    ∙ sym (front_codes_are style)
+
+pub returns-clause-front : goal.returns-clause-front
+returns-clause-front c = front c
+
+pub returns-clause-back : goal.returns-clause-back
+returns-clause-back c = ap reset_behind (front c) ∙ back_codes_are c.args.style.now
+
+pub returns-clause-utf8 : goal.returns-clause-utf8
+returns-clause-utf8 c = subst IsUtf8 (sym (front c)) (IsUtf8-front_codes c.args.style.now)

@@ -1,0 +1,8 @@
+use Rattle.std.proofs.Common.{subst, sym, arith}
+use Rattle.ptree.specs.Codes.{HasHexDigits}
+use Rattle.ptree.proofs.ColorNames.{hex_digits_at}
+use Rattle.ptree.proofs.colors.hex_tone.Goals as goal
+
+pub hex_byte-b-requires : goal.hex_byte-b-requires
+hex_byte-b-requires c =
+    subst (λ bytes. HasHexDigits bytes 5) (sym c.as_bytes-bytes.ensures.value) (hex_digits_at c.args.name.now 5 c.if-not-is_hex_name.ensures (omega arith) (omega arith))

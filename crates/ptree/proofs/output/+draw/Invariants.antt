@@ -1,0 +1,29 @@
+use Rattle.std.proofs.Common.{◌≡◌, ℕ, true, false, ◌++◌, List, ◌+◌, ◌*◌, ◌<◌, length, map, take}
+use Rattle.std.specs.Io.KnownBytes.{Appends}
+use Rattle.ptree.specs.Brush.{brush_look, turn_text}
+use Rattle.ptree.specs.Lines.{kid_lines, lines_below}
+use Rattle.ptree.specs.Style.{front_codes}
+use Rattle.ptree.specs.declared.style.DrawError.TheVariants.{Memory}
+use Rattle.ptree.proofs.output.+draw.Given as goal
+
+-- an item takes one step less than its list
+abbrev pub decreases-draw_children : goal.decreases-draw_children
+decreases-draw_children g l = 2 * l.left + 1
+
+abbrev pub decreases-draw_item : goal.decreases-draw_item
+decreases-draw_item g l = 2 * l.left
+
+-- the lines so far, and those of the rest
+abbrev pub invariant-draw_children-loop-item : goal.invariant-draw_children-loop-item
+invariant-draw_children-loop-item g l = record {
+  written : (front : List ℕ) → l.fn.line.bytes.items ≡ front_codes l.brush.branch.now ++ front
+      → (let lines = kid_lines (brush_look l.brush) (lines_below (brush_look l.brush) l.left) front in
+      (done : List ℕ) × (done ++ lines (map g.C.Shaped.shape l.rest) ≡ lines (map g.C.Shaped.shape l.items)) × Appends (g.W.Sink.contents l.fn.f) (g.W.Sink.contents l.f) done);
+  no_fault : g.W.Sink.faults l.f ≡ g.W.Sink.faults l.fn.f;
+  slot : l.slot ≡ Memory;
+  kept : take l.width l.line.bytes.items ≡ l.fn.line.bytes.items;
+  held : l.held ≡ true → 0 < length l.rest → l.line.bytes.items ≡ take l.width l.line.bytes.items ++ turn_text l.brush false;
+}
+
+abbrev pub decreases-draw_children-loop-item : goal.decreases-draw_children-loop-item
+decreases-draw_children-loop-item g l = length l.rest

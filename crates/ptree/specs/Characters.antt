@@ -1,0 +1,104 @@
+-- The characters that branches are drawn with, and the shipped sets of them, in UTF-8.
+use Rattle.std.specs.Prelude.{ℕ, List, [], ◌∷◌, Option, Some, None, if◌then◌else◌, codes, string_bytes}
+use Rattle.std.specs.Str.{bytes_eq}
+use Rattle.ptree.specs.declared.print_config.IndentChars.{IndentChars}
+use Rattle.ptree.specs.declared.print_config.StaticIndentChars.{StaticIndentChars}
+
+-- the texts that pieces are made of
+pub record Characters : Type 0 where
+  pub down_and_right : List ℕ
+  pub down : List ℕ
+  pub turn_right : List ℕ
+  pub right : List ℕ
+  pub empty : List ℕ
+
+-- the characters of a set
+abbrev pub characters_of : IndentChars → Characters
+characters_of c = record {
+  down_and_right = string_bytes c.down_and_right;
+  down = string_bytes c.down;
+  turn_right = string_bytes c.turn_right;
+  right = string_bytes c.right;
+  empty = string_bytes c.empty;
+}
+
+-- the characters of a static set
+abbrev pub static_characters : StaticIndentChars → Characters
+static_characters s = record {
+  down_and_right = s.down_and_right.now;
+  down = s.down.now;
+  turn_right = s.turn_right.now;
+  right = s.right.now;
+  empty = s.empty.now;
+}
+
+-- vertical bars and a backquote
+abbrev pub ascii_tick : Characters
+ascii_tick = record {
+  down_and_right = codes "|";
+  down = codes "|";
+  turn_right = codes "`";
+  right = codes "-";
+  empty = codes " ";
+}
+
+-- plus signs and a vertical bar
+abbrev pub ascii_plus : Characters
+ascii_plus = record {
+  down_and_right = codes "+";
+  down = codes "|";
+  turn_right = codes "+";
+  right = codes "-";
+  empty = codes " ";
+}
+
+-- ├ │ └ ─
+abbrev pub utf : Characters
+utf = record {
+  down_and_right = 226 ∷ 148 ∷ 156 ∷ [];  -- ├
+  down = 226 ∷ 148 ∷ 130 ∷ [];  -- │
+  turn_right = 226 ∷ 148 ∷ 148 ∷ [];  -- └
+  right = 226 ∷ 148 ∷ 128 ∷ [];  -- ─
+  empty = 32 ∷ [];
+}
+
+-- ╠ ║ ╚ ═
+abbrev pub utf_double : Characters
+utf_double = record {
+  down_and_right = 226 ∷ 149 ∷ 160 ∷ [];  -- ╠
+  down = 226 ∷ 149 ∷ 145 ∷ [];  -- ║
+  turn_right = 226 ∷ 149 ∷ 154 ∷ [];  -- ╚
+  right = 226 ∷ 149 ∷ 144 ∷ [];  -- ═
+  empty = 32 ∷ [];
+}
+
+-- ┣ ┃ ┗ ━
+abbrev pub utf_bold : Characters
+utf_bold = record {
+  down_and_right = 226 ∷ 148 ∷ 163 ∷ [];  -- ┣
+  down = 226 ∷ 148 ∷ 131 ∷ [];  -- ┃
+  turn_right = 226 ∷ 148 ∷ 151 ∷ [];  -- ┗
+  right = 226 ∷ 148 ∷ 129 ∷ [];  -- ━
+  empty = 32 ∷ [];
+}
+
+-- ├ ┆ └ ╌
+abbrev pub utf_dashed : Characters
+utf_dashed = record {
+  down_and_right = 226 ∷ 148 ∷ 156 ∷ [];  -- ├
+  down = 226 ∷ 148 ∷ 134 ∷ [];  -- ┆
+  turn_right = 226 ∷ 148 ∷ 148 ∷ [];  -- └
+  right = 226 ∷ 149 ∷ 140 ∷ [];  -- ╌
+  empty = 32 ∷ [];
+}
+
+-- the set of a name, exactly as spelled
+abbrev pub set_named : List ℕ → Option Characters
+set_named name =
+    if bytes_eq name (codes "utf") then Some utf else
+    if bytes_eq name (codes "ascii") then Some ascii_tick else
+    if bytes_eq name (codes "ascii-tick") then Some ascii_tick else
+    if bytes_eq name (codes "ascii-plus") then Some ascii_plus else
+    if bytes_eq name (codes "utf-bold") then Some utf_bold else
+    if bytes_eq name (codes "utf-dashed") then Some utf_dashed else
+    if bytes_eq name (codes "utf-double") then Some utf_double else None

@@ -1,0 +1,31 @@
+-- What the functions that gather codes say.
+use Rattle.std.specs.Prelude.{◌≡◌, ⊤, ℕ, ◌+◌, ◌<◌, true, List, [], ◌∷◌, length, slice_index, take, flat_map}
+use Rattle.std.specs.Char.{is_ascii_hexdigit}
+use Rattle.ptree.specs.declared.codes.Codes.{Codes}
+use Rattle.ptree.specs.declared.colors.Tone.{Tone}
+use Rattle.ptree.specs.declared.colors.Tone.TheVariants.{Eight, Indexed, Direct}
+
+-- a colour of the eight is one of them
+abbrev pub IsOfEight : Tone → Type 0
+IsOfEight (Eight k) = k < 8
+IsOfEight (Indexed n) = ⊤
+IsOfEight (Direct r g b) = ⊤
+
+-- two hexadecimal digits stand at a place and behind it
+pub record HasHexDigits (bytes : List ℕ) (at : ℕ) : Type 0 where
+  pub room : at + 1 < length bytes
+  pub high : is_ascii_hexdigit (slice_index bytes at) ≡ true
+  pub low : is_ascii_hexdigit (slice_index bytes (at + 1)) ≡ true
+
+-- the bytes that are gathered
+abbrev pub gathered : Codes → List ℕ
+gathered c = take c.len c.bytes
+
+-- codes, one behind the other
+abbrev pub joined : List (List ℕ) → List ℕ
+joined codes = flat_map (λ code. code) codes
+
+-- the reset behind these codes, if there are any
+abbrev pub reset_behind : List ℕ → List ℕ
+reset_behind [] = []
+reset_behind (b ∷ front) = 27 ∷ 91 ∷ 48 ∷ 109 ∷ []

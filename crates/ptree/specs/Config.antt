@@ -1,0 +1,26 @@
+-- What a configuration says.
+use Rattle.std.specs.Prelude.{◌≡◌, Bool, true, false}
+use Rattle.ptree.specs.declared.print_config.OutputKind.{OutputKind}
+use Rattle.ptree.specs.declared.print_config.OutputKind.TheVariants.{Stdout, Unknown}
+use Rattle.ptree.specs.declared.print_config.PrintConfig.{PrintConfig}
+use Rattle.ptree.specs.declared.print_config.StyleWhen.{StyleWhen}
+use Rattle.ptree.specs.declared.print_config.StyleWhen.TheVariants.{Never, Always, Tty}
+use Rattle.ptree.specs.Characters.{characters_of, utf}
+use Rattle.ptree.specs.Style.{plain_style}
+
+-- whether output of a kind is styled, where standard output is a terminal or not
+abbrev pub is_styled : StyleWhen → OutputKind → Bool → Bool
+is_styled Never kind terminal = false
+is_styled Always kind terminal = true
+is_styled Tty Unknown terminal = false
+is_styled Tty Stdout terminal = terminal
+
+-- the default: every level, indent 3, padding 1, styled on a terminal, regular box-drawing characters, dimmed branches and plain leaves
+pub record IsDefault (config : PrintConfig) : Type 0 where
+  pub depth : config.depth ≡ 4294967295
+  pub indent : config.indent ≡ 3
+  pub padding : config.padding ≡ 1
+  pub styled : config.styled ≡ Tty
+  pub characters : characters_of config.characters ≡ utf
+  pub branch : config.branch ≡ record plain_style { dimmed = true }
+  pub leaf : config.leaf ≡ plain_style

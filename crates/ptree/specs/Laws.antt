@@ -1,0 +1,38 @@
+-- Laws of address lists and of drawings.
+use Rattle.std.specs.Prelude.{◌≡◌, ℕ, ◌-◌, ◌≤◌, Bool, true, false, ◌&&◌, ◌==◌, List, [], ◌∷◌, ◌++◌, length, map, filter, Some}
+use Rattle.ptree.specs.Address.{Address, at, IsAddressList}
+use Rattle.ptree.specs.Drawing.{Look, passing_text, entry_text, IsDrawing}
+use Rattle.ptree.specs.Shape.{Shape, kids, cut}
+use Rattle.ptree.specs.Tree.{Tree, shape_of_tree, cut_tree}
+
+-- at most one list is the address list of x at this depth
+abbrev pub HasOneList : Shape → ℕ → Type 0
+HasOneList x depth = (xs ys : List Address) → IsAddressList kids x depth xs → IsAddressList kids x depth ys → xs ≡ ys
+
+-- the drawing of x at this depth is that of x cut there, at this or any greater depth
+abbrev pub HasCuts : Look → Shape → ℕ → Type 0
+HasCuts look x depth =
+    (deeper : ℕ) (text : List ℕ) → depth ≤ deeper → IsDrawing look x depth text → IsDrawing look (cut depth x) deeper text
+
+-- the drawing of any tree at this depth is that of the tree cut there, at this or any greater depth
+abbrev pub HasTreeCuts : Look → ℕ → Type 0
+HasTreeCuts look depth =
+    (t : Tree) (deeper : ℕ) (text : List ℕ) → depth ≤ deeper
+    → IsDrawing look (shape_of_tree t) depth text → IsDrawing look (shape_of_tree (cut_tree depth t)) deeper text
+
+-- a properly begins b
+abbrev pub begins_properly : Address → Address → Bool
+begins_properly a [] = false
+begins_properly [] (j ∷ b) = true
+begins_properly (i ∷ a) (j ∷ b) = i == j && begins_properly a b
+
+-- the entries at those addresses of a list that a properly begins, in order
+abbrev pub entries_below : Look → Shape → Address → List Address → List (List ℕ)
+entries_below look x a list = map (entry_text look x) (filter (begins_properly a) list)
+
+-- the entries below each address are, in order, those of what stands there, drawn alone at the depth that is left, its root's aside, each behind the address's passing text
+abbrev pub HasSubtrees : Look → Shape → ℕ → Type 0
+HasSubtrees look x depth =
+    (a : Address) (y : Shape) (whole part : List Address) → at kids x a ≡ Some y → length a ≤ depth
+    → IsAddressList kids x depth whole → IsAddressList kids y (depth - length a) part
+    → entries_below look x a whole ≡ map (λ e. passing_text look x a ++ e) (entries_below look y [] part)

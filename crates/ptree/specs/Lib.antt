@@ -1,0 +1,21 @@
+-- what public contracts say
+pub mod Address
+pub mod Characters
+pub mod Children
+pub mod Color
+pub mod Config
+pub mod Counted
+pub mod Drawing
+pub mod DrawnForm
+pub mod Laws
+pub mod Outline
+pub mod Pieces
+pub mod Readable
+pub mod Shape
+pub mod Style
+pub mod Tree
+pub mod Writing
+-- what the engine's private functions say
+pub mod Brush
+pub mod Codes
+pub mod Lines

@@ -1,0 +1,66 @@
+-- Painted texts. Single parameters are those of ECMA-48, SELECT GRAPHIC RENDITION; the order of the codes is this crate's own.
+use Rattle.std.specs.Prelude.{ℕ, Bool, false, List, [], ◌∷◌, ◌++◌, Option, None, map, filter, flat_map, option_map, option_and_then, option_to_list, decimal}
+use Rattle.std.specs.List.{join_with_byte}
+use Rattle.ptree.specs.declared.style.Color.{Color}
+use Rattle.ptree.specs.declared.style.Style.{Style}
+use Rattle.ptree.specs.declared.colors.Side.{Side}
+use Rattle.ptree.specs.declared.colors.Side.TheVariants.{Foreground, Background}
+use Rattle.ptree.specs.Color.{color_parameters}
+
+-- no colour and no flag
+abbrev pub plain_style : Style
+plain_style = record {
+  foreground = None;
+  background = None;
+  bold = false;
+  dimmed = false;
+  italic = false;
+  underline = false;
+  blink = false;
+  reverse = false;
+  hidden = false;
+  strikethrough = false;
+}
+
+-- ESC [, the parameters in decimal with `;` between them, and m
+abbrev pub code : List ℕ → List ℕ
+code parameters = 27 ∷ 91 ∷ join_with_byte 59 (map decimal parameters) ++ 109 ∷ []
+
+-- the flags and their parameters, in order
+abbrev pub flags : Style → List (Bool × ℕ)
+flags style =
+    (style.bold, 1) ∷ (style.dimmed, 2) ∷ (style.italic, 3) ∷ (style.underline, 4)
+    ∷ (style.blink, 5) ∷ (style.reverse, 7) ∷ (style.hidden, 8) ∷ (style.strikethrough, 9) ∷ []
+
+-- a code for each flag that is set
+abbrev pub flag_codes : List (Bool × ℕ) → List (List ℕ)
+flag_codes flags = map (λ flag. code (flag.1 ∷ [])) (filter (λ flag. flag.0) flags)
+
+-- the code that sets a colour on a side, which an unknown name hasn't
+abbrev pub color_code : Color → Side → Option (List ℕ)
+color_code color side = option_map code (color_parameters color side)
+
+-- the code that sets a side, if there is one
+abbrev pub side_codes : Option Color → Side → List (List ℕ)
+side_codes color side = option_to_list (option_and_then (λ c. color_code c side) color)
+
+-- the codes of a style, in order
+unfoldable pub style_codes : Style → List (List ℕ)
+style_codes style = flag_codes (flags style) ++ side_codes style.foreground Foreground ++ side_codes style.background Background
+
+-- what stands before a painted text: the codes
+abbrev pub front_codes : Style → List ℕ
+front_codes style = flat_map (λ code. code) (style_codes style)
+
+-- the reset after these codes, if there are any
+abbrev pub reset_after : List (List ℕ) → List ℕ
+reset_after [] = []
+reset_after (code ∷ codes) = 27 ∷ 91 ∷ 48 ∷ 109 ∷ []
+
+-- what stands after a painted text
+abbrev pub back_codes : Style → List ℕ
+back_codes style = reset_after (style_codes style)
+
+-- the codes, the text and the reset; the text alone where there is no code
+abbrev pub painted_text : Style → List ℕ → List ℕ
+painted_text style text = front_codes style ++ text ++ back_codes style

@@ -1,0 +1,105 @@
+//! What can be drawn.
+ghost use Rattle.std.specs.Prelude.{◌≡◌, [], map, IfOk, IsOkAnd};
+ghost use Rattle.ptree.specs.Children.{children_items};
+ghost use Rattle.ptree.specs.Shape.{Shape, kids};
+ghost use Rattle.ptree.specs.Writing.{IsWritten, HasCause, TakesNoMemory};
+
+use crate::style::{DrawError, Sink, Style};
+use std::alloc::{AllocError, Global};
+
+/// What means a labelled tree, which may go on for ever.
+pub trait Shaped {
+    /// Its own bytes under each style, and its children, and so on below.
+    ghost shape: { Self → Shape };
+}
+
+/// An item of a tree: what is written for it, and the items below it.
+///
+/// Both are functions of what the item holds.
+pub trait TreeItem: Shaped {
+    /// The type of this item's child items.
+    ///
+    /// This is usually Self, but may be any type that is an item itself.
+    type Child: Shaped;
+
+    /// Writes the item's own contents, without its children.
+    ///
+    /// Usually, everything written should be painted by the `style`. This is not enforced.
+    ///
+    /// # Errors
+    ///
+    /// `Write` or `Zero` where `f` failed, and `Memory`. A beginning of the contents was written.
+    fn write_self<W: Sink>(&self, alloc: Global, f: &mut W, style: &Style) -> Result<(), DrawError>
+        ensures bytes { IsWritten (W.contents f.old) (W.contents f.new) result ((Self.shape self.now).own [] style.now) }
+        ensures cause { HasCause (W.faults f.old) (W.faults f.new) result };
+
+    /// The item's children, in order. A leaf item has none.
+    ///
+    /// # Errors
+    ///
+    /// Memory ran out.
+    fn children(&self, alloc: Global) -> Result<Children<'_, Self::Child>, AllocError>
+        ensures { IfOk result (λ c. map Self.Child.shape (children_items c) ≡ kids (Self.shape self.now)) };
+}
+
+/// Children of an item: those that it holds, or ones that were made for the call.
+#[derive(Drop)]
+pub enum Children<'a, C> {
+    /// The item's own.
+    Lent(&'a [C]),
+
+    /// Made by [`TreeItem::children`].
+    Made(Vec<C>),
+}
+
+impl<'a, C> Children<'a, C> {
+    /// The children, in order.
+    pub fn as_slice(&self) -> &[C]
+        ensures { result.now ≡ children_items self.now }
+    {
+        match self {
+            Children::Lent(items) => items,
+            Children::Made(items) => items.as_slice(),
+        }
+    }
+}
+
+/// A simple concrete implementation of [`TreeItem`] by texts.
+#[derive(Debug, Drop)]
+pub struct StringItem {
+    /// The item's own text, which is written painted.
+    pub text: String,
+
+    /// The item's children, in order.
+    pub children: Vec<StringItem>,
+}
+
+impl Shaped for StringItem {
+    ghost use Rattle.ptree.specs.Tree.{tree_of, shape_of_tree};
+
+    ghost shape = { λ s. shape_of_tree (tree_of s) };
+}
+
+impl TreeItem for StringItem {
+    ghost use Rattle.ptree.specs.declared.item.StringItem.{out-StringItem};
+    ghost use Rattle.ptree.specs.Tree.{tree_of, shape_of_tree};
+
+    type Child = StringItem;
+
+    /// Writes the text, painted. It takes no memory.
+    fn write_self<W: Sink>(&self, _alloc: Global, f: &mut W, style: &Style) -> Result<(), DrawError>
+        ensures bytes { IsWritten (W.contents f.old) (W.contents f.new) result ((shape_of_tree (tree_of self.now)).own [] style.now) }
+        ensures cause { HasCause (W.faults f.old) (W.faults f.new) result }
+        ensures memory { TakesNoMemory result }
+    {
+        style.write_painted(f, self.text.as_str())
+    }
+
+    /// Lends the children. It takes no memory, and succeeds.
+    fn children(&self, _alloc: Global) -> Result<Children<'_, StringItem>, AllocError>
+        ensures shapes { IfOk result (λ c. map (λ s. shape_of_tree (tree_of s)) (children_items c) ≡ kids (shape_of_tree (tree_of self.now))) }
+        ensures lent { IsOkAnd result (λ c. children_items c ≡ (out-StringItem self.now).children.items) }
+    {
+        Ok(Children::Lent(self.children.as_slice()))
+    }
+}

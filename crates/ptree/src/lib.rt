@@ -1,0 +1,15 @@
+//! Draws any tree as text with branches, and reads such a drawing back.
+#![tactic(auto)]
+
+mod codes;
+mod colors;
+mod faults;
+pub mod item;
+pub mod output;
+pub mod print_config;
+pub mod style;
+
+pub use item::TreeItem;
+pub use output::write_tree_with;
+pub use print_config::{IndentChars, PrintConfig};
+pub use style::{Color, Style};

@@ -1,0 +1,517 @@
+//! Pieces and the drawing engine.
+ghost use Rattle.std.specs.Prelude.{◌≡◌, ℕ, true, false, length, take, if◌then◌else◌, ◌≤◌, ◌++◌, IfOk, OnOk, string_bytes, List, [], ◌∷◌, map};
+ghost use Rattle.ptree.specs.Writing.{IsWritten, HasCause};
+ghost use Rattle.ptree.specs.Drawing.{look_from, look_of};
+ghost use Rattle.ptree.specs.Lines.{item_lines, kid_lines, lines_below, drawn};
+ghost use Rattle.ptree.specs.Pieces.{turning_piece, passing_piece, pieces_from, config_pieces, pieces_of};
+ghost use Rattle.ptree.specs.Characters.{characters_of};
+ghost use Rattle.ptree.specs.Laws.{HasOneList, HasCuts, HasTreeCuts, HasSubtrees};
+ghost use Rattle.ptree.specs.Writing.{IsDrawn};
+ghost use Rattle.ptree.specs.Style.{style_codes, front_codes, back_codes};
+ghost use Rattle.ptree.specs.declared.style.DrawError.TheVariants.{Memory};
+ghost use Rattle.ptree.specs.Brush.{IsReady, brush_look, turn_text, HasSlotCause};
+
+use crate::faults::FaultCount;
+use crate::item::TreeItem;
+use crate::print_config::{IndentChars, OutputKind, PrintConfig};
+use crate::style::{DrawError, Sink, Style, put_all};
+use std::alloc::{AllocError, Global};
+use std::io;
+
+/// The four texts that stand before items: two for an item's own line, and two for the lines below it.
+#[derive(Debug, Drop)]
+pub struct Indent {
+    /// Before an item that isn't its parent's last child.
+    pub regular_prefix: String,
+
+    /// Below such an item.
+    pub child_prefix: String,
+
+    /// Before a last child.
+    pub last_regular_prefix: String,
+
+    /// Below a last child.
+    pub last_child_prefix: String,
+}
+
+impl Indent {
+    /// The pieces of a configuration.
+    ///
+    /// # Errors
+    ///
+    /// Memory ran out, or a piece would be longer than a text can be.
+    pub fn from_config(alloc: Global, config: &PrintConfig) -> Result<Indent, AllocError>
+        ensures { IfOk result (λ i. pieces_of i ≡ config_pieces config.now) }
+    {
+        Indent::from_characters_and_padding(
+            alloc,
+            config.indent,
+            config.padding,
+            &config.characters,
+        )
+    }
+
+    /// The pieces that are `indent_size` characters wide, the last one of them blank.
+    ///
+    /// # Errors
+    ///
+    /// Memory ran out, or a piece would be longer than a text can be.
+    pub fn from_characters(
+        alloc: Global,
+        indent_size: usize,
+        characters: &IndentChars,
+    ) -> Result<Indent, AllocError>
+        ensures { IfOk result (λ i. pieces_of i ≡ pieces_from (characters_of characters.now) indent_size 1) }
+    {
+        Indent::from_characters_and_padding(alloc, indent_size, 1, characters)
+    }
+
+    /// The pieces that are `indent_size` characters wide, the last `padding` of them blank.
+    ///
+    /// A piece keeps its first character and its padding also where that is wider.
+    ///
+    /// # Errors
+    ///
+    /// Memory ran out, or a piece would be longer than a text can be.
+    pub fn from_characters_and_padding(
+        alloc: Global,
+        indent_size: usize,
+        padding: usize,
+        characters: &IndentChars,
+    ) -> Result<Indent, AllocError>
+        ensures { IfOk result (λ i. pieces_of i ≡ pieces_from (characters_of characters.now) indent_size padding) }
+    {
+        let n = indent_size.saturating_sub(padding).saturating_sub(1);
+        let right_pad = characters.right.as_str().repeat(alloc, n)?;
+        let empty_pad = characters.empty.as_str().repeat(alloc, n)?;
+        let item_pad = characters.empty.as_str().repeat(alloc, padding)?;
+        let (right_pad, empty_pad) = (right_pad.as_str(), empty_pad.as_str());
+        let item_pad = item_pad.as_str();
+        Ok(Indent {
+            regular_prefix: piece(
+                alloc,
+                characters.down_and_right.as_str(),
+                right_pad,
+                item_pad,
+            )?,
+            child_prefix: piece(alloc, characters.down.as_str(), empty_pad, item_pad)?,
+            last_regular_prefix: piece(alloc, characters.turn_right.as_str(), right_pad, item_pad)?,
+            last_child_prefix: piece(alloc, characters.empty.as_str(), empty_pad, item_pad)?,
+        })
+    }
+
+    fn turning(&self, is_last: bool) -> &str
+        ensures { result.now ≡ turning_piece (pieces_of self.now) is_last }
+    {
+        if is_last {
+            self.last_regular_prefix.as_str()
+        } else {
+            self.regular_prefix.as_str()
+        }
+    }
+
+    fn passing(&self, is_last: bool) -> &str
+        ensures { result.now ≡ passing_piece (pieces_of self.now) is_last }
+    {
+        if is_last {
+            self.last_child_prefix.as_str()
+        } else {
+            self.child_prefix.as_str()
+        }
+    }
+}
+
+fn piece(alloc: Global, first: &str, middle: &str, end: &str) -> Result<String, AllocError>
+    ensures { IfOk result (λ text. string_bytes text ≡ first.now ++ middle.now ++ end.now) }
+{
+    let mut text = joined(alloc, first, middle)?;
+    text.push_str(end)?;
+    Ok(text)
+}
+
+fn joined(alloc: Global, front: &str, piece: &str) -> Result<String, AllocError>
+    ensures { IfOk result (λ text. string_bytes text ≡ front.now ++ piece.now) }
+{
+    let mut text = String::from_str(alloc, front)?;
+    text.push_str(piece)?;
+    Ok(text)
+}
+
+/// The bytes of an entry, gathered to be put at once. As a sink it fails where a growth is refused.
+#[derive(Drop)]
+struct LineBuffer {
+    bytes: Vec<u8>,
+    faults: FaultCount,
+}
+
+impl Sink for LineBuffer {
+    ghost use Rattle.std.specs.Prelude.{Some};
+
+    ghost contents = { λ l. Some l.bytes.items };
+
+    ghost faults = { λ l. l.faults.count };
+
+    #[inline(always)]
+    fn put(&mut self, bytes: &[u8]) -> io::Result<usize> {
+        match self.bytes.extend_from_slice(bytes) {
+            Ok(()) => Ok(bytes.len()),
+            Err(e) => {
+                self.faults = self.faults.next();
+                Err(io::Error::from(e))
+            }
+        }
+    }
+}
+
+impl LineBuffer {
+    // Puts a text in the place of what follows the first `width` bytes.
+    #[inline(always)]
+    fn replace_end(&mut self, width: usize, text: &str) -> Result<(), AllocError>
+        ensures { OnOk result (self.new.bytes.items ≡ take width self.old.bytes.items ++ text.now) }
+    {
+        self.bytes.truncate(width);
+        self.bytes.extend_from_slice(text.as_bytes())
+    }
+
+    // Has an item's turning piece behind the first `width` bytes; `held` says that the regular one stands there.
+    #[inline(always)]
+    fn turn(
+        &mut self,
+        width: usize,
+        brush: &Brush<'_>,
+        is_last: bool,
+        held: bool,
+    ) -> Result<(), AllocError>
+        requires ready { IsReady brush.now }
+        requires held { held ≡ true → self.old.bytes.items ≡ take width self.old.bytes.items ++ turn_text brush.now false }
+        ensures { OnOk result (self.new.bytes.items ≡ take width self.old.bytes.items ++ turn_text brush.now is_last) }
+    {
+        if is_last || !held {
+            self.replace_end(width, brush.turn(is_last))
+        } else {
+            Ok(())
+        }
+    }
+}
+
+/// What the engine appends to its buffer.
+#[derive(Drop)]
+struct Brush<'a> {
+    regular: String,
+    last_regular: String,
+    pieces: &'a Indent,
+    branch: &'a Style,
+    leaf: &'a Style,
+}
+
+impl<'a> Brush<'a> {
+    fn new(
+        alloc: Global,
+        pieces: &'a Indent,
+        branch: &'a Style,
+        leaf: &'a Style,
+        back: &str,
+    ) -> Result<Brush<'a>, AllocError>
+        requires back { back.now ≡ back_codes branch.now }
+        ensures { IfOk result (λ b. IsReady b × (brush_look b ≡ look_from branch.now leaf.now (pieces_of pieces.now))) }
+    {
+        Ok(Brush {
+            regular: joined(alloc, pieces.turning(false), back)?,
+            last_regular: joined(alloc, pieces.turning(true), back)?,
+            pieces,
+            branch,
+            leaf,
+        })
+    }
+
+    /// A turning piece and the branch's back codes.
+    #[inline(always)]
+    fn turn(&self, is_last: bool) -> &str
+        requires ready { IsReady self.now }
+        ensures { result.now ≡ turn_text self.now is_last }
+    {
+        if is_last {
+            self.last_regular.as_str()
+        } else {
+            self.regular.as_str()
+        }
+    }
+}
+
+/// A buffer that holds the branch's front codes.
+fn new_line(alloc: Global, branch: &Style) -> Result<LineBuffer, AllocError>
+    ensures { IfOk result (λ l. l.bytes.items ≡ front_codes branch.now) }
+{
+    let front = branch.front_text(alloc)?;
+    let mut bytes = Vec::new(alloc);
+    bytes.extend_from_slice(front.as_bytes())?;
+    Ok(LineBuffer {
+        bytes,
+        faults: FaultCount::new(),
+    })
+}
+
+/// The end of a drawing at an error, which stands in a slot. A result that holds none is small.
+#[derive(Drop)]
+struct Stop;
+
+impl From<AllocError> for Stop {
+    ghost from_gives = { λ _ _. Unit {0} };
+
+    fn from(_e: AllocError) -> Stop {
+        Stop
+    }
+}
+
+// What the buffer holds stands before the item's own bytes, and stays.
+#[inline(always)]
+fn draw_line<C: TreeItem, W: Sink>(
+    alloc: Global,
+    item: &C,
+    f: &mut W,
+    line: &mut LineBuffer,
+    slot: &mut DrawError,
+    leaf: &Style,
+) -> Result<(), Stop>
+    requires slot { slot.old ≡ Memory }
+    ensures bytes { IsWritten (W.contents f.old) (W.contents f.new) result
+        ((line.old.bytes.items ++ (C.shape item.now).own [] leaf.now) ++ 10 ∷ []) }
+    ensures cause { HasSlotCause (W.faults f.old) (W.faults f.new) slot.new }
+    ensures slot { OnOk result (slot.new ≡ Memory) }
+    ensures kept { OnOk result (line.new.bytes.items ≡ line.old.bytes.items) }
+{
+    let width = line.bytes.len();
+    if item.write_self(alloc, line, leaf).is_err() {
+        return Err(Stop);
+    }
+    line.bytes.extend_from_slice(b"\n")?;
+    if let Err(e) = put_all(f, line.bytes.as_slice()) {
+        *slot = e;
+        return Err(Stop);
+    }
+    line.bytes.truncate(width);
+    Ok(())
+}
+
+// The first `width` bytes of the buffer are the branch's front codes and the passing text of the item's parent, and
+// behind them is the item's turning piece. The answer says whether that still stands there.
+#[cycle(draw)]
+#[inline(always)]
+fn draw_item<C: TreeItem<Child = C> + Drop, W: Sink>(
+    alloc: Global,
+    item: &C,
+    f: &mut W,
+    line: &mut LineBuffer,
+    slot: &mut DrawError,
+    width: usize,
+    is_last: bool,
+    brush: &Brush<'_>,
+    left: u32,
+) -> Result<bool, Stop>
+    requires slot { slot.old ≡ Memory }
+    requires ready { IsReady brush.now }
+    requires width { width ≤ length line.old.bytes.items }
+    requires turned { line.old.bytes.items ≡ take width line.old.bytes.items ++ turn_text brush.now is_last }
+    ensures bytes { (front : List ℕ) → take width line.old.bytes.items ≡ front_codes brush.now.branch.now ++ front
+        → IsWritten (W.contents f.old) (W.contents f.new) result (item_lines (brush_look brush.now) left front is_last (C.shape item.now)) }
+    ensures cause { HasSlotCause (W.faults f.old) (W.faults f.new) slot.new }
+    ensures slot { OnOk result (slot.new ≡ Memory) }
+    ensures kept { OnOk result (take width line.new.bytes.items ≡ take width line.old.bytes.items) }
+    ensures held { IfOk result (λ held. held ≡ true → line.new.bytes.items ≡ line.old.bytes.items) }
+{
+    draw_line(alloc, item, f, line, slot, brush.leaf)?;
+    if left == 0 {
+        return Ok(true);
+    }
+    let children = item.children(alloc)?;
+    if children.as_slice().is_empty() {
+        return Ok(true);
+    }
+    line.replace_end(width, brush.pieces.passing(is_last))?;
+    draw_children(alloc, children.as_slice(), f, line, slot, brush, left - 1)?;
+    Ok(false)
+}
+
+// The buffer holds the branch's front codes and the passing text of the items' parent.
+#[cycle(draw)]
+fn draw_children<C: TreeItem<Child = C> + Drop, W: Sink>(
+    alloc: Global,
+    items: &[C],
+    f: &mut W,
+    line: &mut LineBuffer,
+    slot: &mut DrawError,
+    brush: &Brush<'_>,
+    left: u32,
+) -> Result<(), Stop>
+    requires slot { slot.old ≡ Memory }
+    requires ready { IsReady brush.now }
+    ensures bytes { (front : List ℕ) → line.old.bytes.items ≡ front_codes brush.now.branch.now ++ front
+        → IsWritten (W.contents f.old) (W.contents f.new) result
+        (let look = brush_look brush.now in kid_lines look (lines_below look left) front (map C.shape items.now)) }
+    ensures cause { HasSlotCause (W.faults f.old) (W.faults f.new) slot.new }
+    ensures slot { OnOk result (slot.new ≡ Memory) }
+    ensures kept { OnOk result (line.new.bytes.items ≡ line.old.bytes.items) }
+{
+    let width = line.bytes.len();
+    let mut held = false;
+    let mut rest = items;
+    while let Some((item, others)) = rest.split_first() {
+        let is_last = others.is_empty();
+        line.turn(width, brush, is_last, held)?;
+        held = draw_item(alloc, item, f, line, slot, width, is_last, brush, left)?;
+        rest = others;
+    }
+    line.bytes.truncate(width);
+    Ok(())
+}
+
+fn draw_all<T, W>(
+    alloc: Global,
+    item: &T,
+    f: &mut W,
+    slot: &mut DrawError,
+    pieces: &Indent,
+    branch: &Style,
+    leaf: &Style,
+    depth: u32,
+) -> Result<(), Stop>
+where
+    T: TreeItem,
+    T::Child: TreeItem<Child = T::Child> + Drop,
+    W: Sink,
+    requires slot { slot.old ≡ Memory }
+    ensures bytes { IsWritten (W.contents f.old) (W.contents f.new) result
+        (drawn (look_from branch.now leaf.now (pieces_of pieces.now)) depth (T.shape item.now)) }
+    ensures slot { OnOk result (slot.new ≡ Memory) }
+    ensures cause { HasSlotCause (W.faults f.old) (W.faults f.new) slot.new }
+{
+    let back = branch.back_text(alloc)?;
+    let brush = Brush::new(alloc, pieces, branch, leaf, back.as_str())?;
+    let mut line = new_line(alloc, branch)?;
+    let width = line.bytes.len();
+    line.bytes.extend_from_slice(back.as_bytes())?;
+    draw_line(alloc, item, f, &mut line, slot, leaf)?;
+    line.bytes.truncate(width);
+    if depth == 0 {
+        return Ok(());
+    }
+    let children = item.children(alloc)?;
+    draw_children(
+        alloc,
+        children.as_slice(),
+        f,
+        &mut line,
+        slot,
+        &brush,
+        depth - 1,
+    )
+}
+
+fn draw<T, W>(
+    alloc: Global,
+    item: &T,
+    f: &mut W,
+    pieces: &Indent,
+    branch: &Style,
+    leaf: &Style,
+    depth: u32,
+) -> Result<(), DrawError>
+where
+    T: TreeItem,
+    T::Child: TreeItem<Child = T::Child> + Drop,
+    W: Sink,
+    ensures bytes { IsWritten (W.contents f.old) (W.contents f.new) result
+        (drawn (look_from branch.now leaf.now (pieces_of pieces.now)) depth (T.shape item.now)) }
+    ensures cause { HasCause (W.faults f.old) (W.faults f.new) result }
+{
+    let mut slot = DrawError::Memory;
+    match draw_all(alloc, item, f, &mut slot, pieces, branch, leaf, depth) {
+        Ok(()) => Ok(()),
+        Err(_) => Err(slot),
+    }
+}
+
+// A style where output is styled, else the plain one.
+fn effective<'a>(style: &'a Style, plain: &'a Style, styled: bool) -> &'a Style
+    ensures { result.now ≡ (if styled then style.now else plain.now) }
+{
+    if styled { style } else { plain }
+}
+
+// Draws for output of a kind, `terminal` saying whether standard output is a terminal.
+fn draw_for<T, W>(
+    alloc: Global,
+    item: &T,
+    f: &mut W,
+    output_kind: OutputKind,
+    terminal: bool,
+    config: &PrintConfig,
+) -> Result<(), DrawError>
+where
+    T: TreeItem,
+    T::Child: TreeItem<Child = T::Child> + Drop,
+    W: Sink,
+    ensures bytes { IsDrawn (look_of config.now output_kind terminal) (T.shape item.now) config.now.depth (W.contents f.old) (W.contents f.new) result }
+    ensures cause { HasCause (W.faults f.old) (W.faults f.new) result }
+{
+    let pieces = Indent::from_config(alloc, config)?;
+    let plain = Style::default();
+    let styled = config.should_style_output(output_kind, terminal);
+    let branch = effective(&config.branch, &plain, styled);
+    let leaf = effective(&config.leaf, &plain, styled);
+    draw(alloc, item, f, &pieces, branch, leaf, config.depth)
+}
+
+/// Draws an item and what is below it to standard output, `terminal` saying whether that is a terminal.
+///
+/// # Errors
+///
+/// `Write` or `Zero` where `out` failed, and `Memory`. A beginning of the drawing was written.
+pub fn print_tree_with<T, W>(
+    alloc: Global,
+    item: &T,
+    out: &mut W,
+    terminal: bool,
+    config: &PrintConfig,
+) -> Result<(), DrawError>
+where
+    T: TreeItem,
+    T::Child: TreeItem<Child = T::Child> + Drop,
+    W: Sink,
+    // Success appends exactly the drawing, and a refusal a beginning of it.
+    ensures bytes { IsDrawn (look_of config.now OutputKind.Stdout terminal) (T.shape item.now) config.now.depth (W.contents out.old) (W.contents out.new) result }
+    ensures cause { HasCause (W.faults out.old) (W.faults out.new) result }
+{
+    draw_for(alloc, item, out, OutputKind::Stdout, terminal, config)
+}
+
+/// Draws an item and what is below it to a writer that isn't standard output.
+///
+/// # Errors
+///
+/// `Write` or `Zero` where `f` failed, and `Memory`. A beginning of the drawing was written.
+pub fn write_tree_with<T, W>(
+    alloc: Global,
+    item: &T,
+    f: &mut W,
+    config: &PrintConfig,
+) -> Result<(), DrawError>
+where
+    T: TreeItem,
+    T::Child: TreeItem<Child = T::Child> + Drop,
+    W: Sink,
+    // Success appends exactly the drawing, and a refusal a beginning of it.
+    ensures bytes { IsDrawn (look_of config.now OutputKind.Unknown false) (T.shape item.now) config.now.depth (W.contents f.old) (W.contents f.new) result }
+    ensures cause { HasCause (W.faults f.old) (W.faults f.new) result }
+    // One list of addresses meets the definition, and no other.
+    ensures one_list { HasOneList (T.shape item.now) config.now.depth }
+    // The drawing at a depth is that of the shape cut there, at any greater depth.
+    ensures cut { HasCuts (look_of config.now OutputKind.Unknown false) (T.shape item.now) config.now.depth }
+    // And so for every finite tree, cut as a tree.
+    ensures cut_tree { HasTreeCuts (look_of config.now OutputKind.Unknown false) config.now.depth }
+    // Where branches have no codes, what is below an address is drawn as alone, behind its passing text.
+    ensures subtree { style_codes (look_of config.now OutputKind.Unknown false).branch ≡ []
+        → HasSubtrees (look_of config.now OutputKind.Unknown false) (T.shape item.now) config.now.depth }
+{
+    draw_for(alloc, item, f, OutputKind::Unknown, false, config)
+}

@@ -1,0 +1,270 @@
+//! How trees are drawn: characters, configuration, and what a configuration is loaded from.
+ghost use Rattle.std.specs.Prelude.{◌≡◌, ◌↔◌, IfOk, IsErrOf, Some, None};
+ghost use Rattle.ptree.specs.Characters.{characters_of, static_characters, set_named};
+ghost use Rattle.ptree.specs.Config.{IsDefault, is_styled};
+
+use crate::style::Style;
+use std::alloc::{AllocError, Global};
+
+/// When output is styled.
+#[derive(Debug, Clone, Copy, PartialEq, Eq)]
+pub enum StyleWhen {
+    /// Never style output.
+    Never,
+
+    /// Always style output.
+    Always,
+
+    /// Style standard output where it is a terminal, and nothing else.
+    Tty,
+}
+
+/// How a tree is drawn.
+#[derive(Debug, Drop)]
+pub struct PrintConfig {
+    /// The greatest level that is drawn; the root has level 0. The default is 4294967295, the greatest there is.
+    pub depth: u32,
+
+    /// How many characters a piece is wide, the padding among them. The default is 3.
+    pub indent: usize,
+
+    /// How many `empty` characters end a piece, before the item's text. The default is 1.
+    pub padding: usize,
+
+    /// When output is styled. The default is [`StyleWhen::Tty`].
+    pub styled: StyleWhen,
+
+    /// The characters that branches are drawn with. The default is [`UTF_CHARS`].
+    pub characters: IndentChars,
+
+    /// The style of branches. The default is dimmed.
+    pub branch: Style,
+
+    /// The style of items' texts. The default is plain.
+    pub leaf: Style,
+}
+
+/// What a writer stands for. Standard output is a kind of its own, since one can ask whether it is a terminal.
+#[derive(Debug, Clone, Copy, PartialEq, Eq)]
+pub enum OutputKind {
+    /// The program's standard output.
+    Stdout,
+
+    /// Anything else, as a file or a text.
+    Unknown,
+}
+
+impl PrintConfig {
+    /// The configuration that is used where nothing else is said.
+    ///
+    /// # Errors
+    ///
+    /// Memory ran out.
+    pub fn default(alloc: Global) -> Result<PrintConfig, AllocError>
+        ensures { IfOk result IsDefault }
+    {
+        let mut branch = Style::default();
+        branch.dimmed = true;
+        Ok(PrintConfig {
+            depth: u32::MAX,
+            indent: 3,
+            padding: 1,
+            styled: StyleWhen::Tty,
+            characters: IndentChars::from_static(alloc, UTF_CHARS)?,
+            branch,
+            leaf: Style::default(),
+        })
+    }
+
+    /// Whether output of a kind is styled, `terminal` saying whether standard output is a terminal.
+    pub fn should_style_output(&self, output_kind: OutputKind, terminal: bool) -> bool
+        ensures { result ≡ is_styled self.now.styled output_kind terminal }
+    {
+        match (self.styled, output_kind) {
+            (StyleWhen::Always, _) => true,
+            (StyleWhen::Tty, OutputKind::Stdout) => terminal,
+            _ => false,
+        }
+    }
+}
+
+/// The characters that branches are drawn with. Each may be any text, an empty one too.
+#[derive(Debug, Drop)]
+pub struct IndentChars {
+    /// Points down and right (`├`).
+    pub down_and_right: String,
+
+    /// Points straight down (`│`).
+    pub down: String,
+
+    /// Turns from down to right (`└`).
+    pub turn_right: String,
+
+    /// Points right (`─`).
+    pub right: String,
+
+    /// Stands for nothing (` `).
+    pub empty: String,
+}
+
+impl IndentChars {
+    /// The characters of a shipped set, or of one of your own.
+    ///
+    /// # Errors
+    ///
+    /// Memory ran out.
+    pub fn from_static(alloc: Global, s: StaticIndentChars) -> Result<IndentChars, AllocError>
+        ensures { IfOk result (λ c. characters_of c ≡ static_characters s) }
+    {
+        Ok(IndentChars {
+            down_and_right: String::from_str(alloc, s.down_and_right)?,
+            down: String::from_str(alloc, s.down)?,
+            turn_right: String::from_str(alloc, s.turn_right)?,
+            right: String::from_str(alloc, s.right)?,
+            empty: String::from_str(alloc, s.empty)?,
+        })
+    }
+}
+
+impl IndentChars {
+    /// The shipped set of a name: `utf`, `ascii` or `ascii-tick`, `ascii-plus`, `utf-bold`, `utf-dashed` or `utf-double`,
+    /// exactly as spelled.
+    ///
+    /// # Errors
+    ///
+    /// `Unknown` for any other text, and `Memory`.
+    pub fn from_name(alloc: Global, s: &str) -> Result<IndentChars, CharsError>
+        ensures set { IfOk result (λ c. set_named s.now ≡ Some (characters_of c)) }
+        ensures unknown { IsErrOf result CharsError.Unknown ↔ (set_named s.now ≡ None) }
+    {
+        let set = match s {
+            "utf" => UTF_CHARS,
+            "ascii" | "ascii-tick" => ASCII_CHARS_TICK,
+            "ascii-plus" => ASCII_CHARS_PLUS,
+            "utf-bold" => UTF_CHARS_BOLD,
+            "utf-dashed" => UTF_CHARS_DASHED,
+            "utf-double" => UTF_CHARS_DOUBLE,
+            _ => return Err(CharsError::Unknown),
+        };
+        Ok(IndentChars::from_static(alloc, set)?)
+    }
+}
+
+/// Why no set was made from a name.
+#[derive(Debug, Clone, Copy, PartialEq, Eq)]
+pub enum CharsError {
+    /// No shipped set has that name.
+    Unknown,
+
+    /// Memory ran out.
+    Memory,
+}
+
+impl From<AllocError> for CharsError {
+    ghost use Rattle.ptree.specs.declared.print_config.CharsError.TheVariants.{Memory};
+
+    ghost from_gives = { λ _ e. e ≡ Memory };
+
+    fn from(_e: AllocError) -> CharsError {
+        CharsError::Memory
+    }
+}
+
+/// Characters that need no memory, as those that are shipped.
+#[derive(Debug, Clone, Copy, PartialEq, Eq)]
+pub struct StaticIndentChars {
+    /// Points down and right (`├`).
+    pub down_and_right: &'static str,
+
+    /// Points straight down (`│`).
+    pub down: &'static str,
+
+    /// Turns from down to right (`└`).
+    pub turn_right: &'static str,
+
+    /// Points right (`─`).
+    pub right: &'static str,
+
+    /// Stands for nothing (` `).
+    pub empty: &'static str,
+}
+
+/// ASCII characters, with a tick for turning right, as `tree --charset=ascii` draws.
+pub const ASCII_CHARS_TICK: StaticIndentChars = StaticIndentChars {
+    down_and_right: "|",
+    down: "|",
+    turn_right: "`",
+    right: "-",
+    empty: " ",
+};
+
+/// ASCII characters, with a plus for turning right.
+pub const ASCII_CHARS_PLUS: StaticIndentChars = StaticIndentChars {
+    down_and_right: "+",
+    down: "|",
+    turn_right: "+",
+    right: "-",
+    empty: " ",
+};
+
+/// Regular box-drawing characters, as `tree` draws.
+pub const UTF_CHARS: StaticIndentChars = StaticIndentChars {
+    down_and_right: "├",
+    down: "│",
+    turn_right: "└",
+    right: "─",
+    empty: " ",
+};
+
+/// Double box-drawing characters.
+pub const UTF_CHARS_DOUBLE: StaticIndentChars = StaticIndentChars {
+    down_and_right: "╠",
+    down: "║",
+    turn_right: "╚",
+    right: "═",
+    empty: " ",
+};
+
+/// Heavy box-drawing characters.
+pub const UTF_CHARS_BOLD: StaticIndentChars = StaticIndentChars {
+    down_and_right: "┣",
+    down: "┃",
+    turn_right: "┗",
+    right: "━",
+    empty: " ",
+};
+
+/// Dashed box-drawing characters.
+pub const UTF_CHARS_DASHED: StaticIndentChars = StaticIndentChars {
+    down_and_right: "├",
+    down: "┆",
+    turn_right: "└",
+    right: "╌",
+    empty: " ",
+};
+
+/// What the caller found of a configuration file.
+#[derive(Debug, Drop)]
+pub enum FileSource {
+    /// There is none.
+    Absent,
+
+    /// There is one, but it couldn't be read as UTF-8.
+    Unreadable,
+
+    /// The text of a TOML file.
+    Toml(String),
+
+    /// The text of a JSON file.
+    Json(String),
+}
+
+/// What a configuration is loaded from: a file, and environment variables as pairs of name and value.
+#[derive(Debug, Drop)]
+pub struct Sources {
+    /// The file.
+    pub file: FileSource,
+
+    /// The variables, in order. Of those of one name the last one counts.
+    pub variables: Vec<(String, String)>,
+}

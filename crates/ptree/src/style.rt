@@ -1,0 +1,322 @@
+//! Styles and colours, what takes and gives bytes, and the loop that writes.
+ghost use Rattle.std.specs.Io.{ReadsAtMost};
+ghost use Rattle.std.specs.Io.KnownBytes.{WriteAppends, ReadConsumes};
+ghost use Rattle.std.specs.Prelude.{◌≡◌, ℕ, ◌+◌, ◌≤◌, List, [], IfOk, IsTrue, Option, length, string_bytes};
+ghost use Rattle.ptree.specs.Counted.{fault_count, inner_value};
+ghost use Rattle.ptree.specs.Style.{plain_style, style_codes, painted_text, front_codes, back_codes};
+ghost use Rattle.ptree.specs.Writing.{IsWritten, put_faults, get_faults, HasCause, TakesNoMemory};
+
+use crate::codes::Codes;
+use crate::faults::FaultCount;
+use std::alloc::{AllocError, Global};
+use std::io;
+
+/// How a text is painted on a terminal, by codes of ECMA-48's SELECT GRAPHIC RENDITION.
+///
+/// The default is the plain style, which paints a text as itself.
+#[derive(Debug, Drop)]
+pub struct Style {
+    /// The style's foreground colour, if it has one.
+    pub foreground: Option<Color>,
+
+    /// The style's background colour, if it has one.
+    pub background: Option<Color>,
+
+    /// Whether this style is bold.
+    pub bold: bool,
+
+    /// Whether this style is dimmed.
+    pub dimmed: bool,
+
+    /// Whether this style is italic.
+    pub italic: bool,
+
+    /// Whether this style is underlined.
+    pub underline: bool,
+
+    /// Whether this style is blinking.
+    pub blink: bool,
+
+    /// Whether this style has reverse colours.
+    pub reverse: bool,
+
+    /// Whether this style is hidden.
+    pub hidden: bool,
+
+    /// Whether this style is struck through.
+    pub strikethrough: bool,
+}
+
+/// A colour of a text or of what is behind it.
+#[derive(Debug, Drop)]
+pub enum Color {
+    /// Colour 0 of the eight.
+    Black,
+
+    /// Colour 1 of the eight.
+    Red,
+
+    /// Colour 2 of the eight.
+    Green,
+
+    /// Colour 3 of the eight.
+    Yellow,
+
+    /// Colour 4 of the eight.
+    Blue,
+
+    /// Colour 5 of the eight, which ECMA-48 calls magenta.
+    Purple,
+
+    /// Colour 6 of the eight.
+    Cyan,
+
+    /// Colour 7 of the eight.
+    White,
+
+    /// A number of the terminal's table of 256 colours.
+    Fixed(u8),
+
+    /// A colour by its bytes of red, green and blue.
+    RGB(u8, u8, u8),
+
+    /// A colour by its name.
+    Named(String),
+}
+
+impl Style {
+    /// The plain style: no colour and no flag.
+    pub fn default() -> Style
+        ensures { result ≡ plain_style }
+    {
+        Style {
+            foreground: None,
+            background: None,
+            bold: false,
+            dimmed: false,
+            italic: false,
+            underline: false,
+            blink: false,
+            reverse: false,
+            hidden: false,
+            strikethrough: false,
+        }
+    }
+
+    /// The painted text: the codes, the text, and a reset where there is a code.
+    ///
+    /// # Errors
+    ///
+    /// Memory ran out.
+    pub fn paint(&self, alloc: Global, input: &str) -> Result<String, AllocError>
+        ensures text { IfOk result (λ text. string_bytes text ≡ painted_text self.now input.now) }
+        // A style that has no code paints a text as itself.
+        ensures plain { style_codes self.now ≡ [] → IfOk result (λ text. string_bytes text ≡ input.now) }
+    {
+        let codes = Codes::of(self);
+        let mut text = String::from_str(alloc, codes.as_str())?;
+        text.push_str(input)?;
+        text.push_str(codes.reset())?;
+        Ok(text)
+    }
+
+    /// Writes the painted text. It takes no memory.
+    ///
+    /// # Errors
+    ///
+    /// `Write` or `Zero` where `f` failed. A beginning of the painted text was written.
+    pub fn write_painted<W: Sink>(&self, f: &mut W, input: &str) -> Result<(), DrawError>
+        ensures bytes { IsWritten (W.contents f.old) (W.contents f.new) result (painted_text self.now input.now) }
+        ensures cause { HasCause (W.faults f.old) (W.faults f.new) result }
+        ensures memory { TakesNoMemory result }
+    {
+        if self.is_plain() {
+            return put_all(f, input.as_bytes());
+        }
+        let codes = Codes::of(self);
+        put_all(f, codes.as_bytes())?;
+        put_all(f, input.as_bytes())?;
+        put_all(f, codes.reset().as_bytes())
+    }
+
+    // Whether there is no flag and no colour.
+    #[inline(always)]
+    fn is_plain(&self) -> bool
+        ensures { IsTrue result → style_codes self.now ≡ [] }
+    {
+        let has_flag = self.bold
+            | self.dimmed
+            | self.italic
+            | self.underline
+            | self.blink
+            | self.reverse
+            | self.hidden
+            | self.strikethrough;
+        !has_flag && self.foreground.is_none() && self.background.is_none()
+    }
+
+    /// What stands before a painted text.
+    pub(crate) fn front_text(&self, alloc: Global) -> Result<String, AllocError>
+        ensures { IfOk result (λ text. string_bytes text ≡ front_codes self.now) }
+    {
+        let codes = Codes::of(self);
+        String::from_str(alloc, codes.as_str())
+    }
+
+    /// What stands after a painted text.
+    pub(crate) fn back_text(&self, alloc: Global) -> Result<String, AllocError>
+        ensures { IfOk result (λ text. string_bytes text ≡ back_codes self.now) }
+    {
+        let codes = Codes::of(self);
+        String::from_str(alloc, codes.reset())
+    }
+}
+
+/// Why a call that writes to a [`Sink`] gave up.
+///
+/// `Write` and `Zero` come exactly where the sink failed during the call. What was written is a beginning of what should
+/// have been.
+#[derive(Debug, Drop)]
+pub enum DrawError {
+    /// The sink answered an error. An interruption is one, and is not tried again.
+    Write(io::Error),
+
+    /// The sink took none of the bytes that it was given.
+    Zero,
+
+    /// Memory ran out.
+    Memory,
+}
+
+impl From<AllocError> for DrawError {
+    ghost use Rattle.ptree.specs.declared.style.DrawError.TheVariants.{Memory};
+
+    ghost from_gives = { λ _ e. e ≡ Memory };
+
+    fn from(_e: AllocError) -> DrawError {
+        DrawError::Memory
+    }
+}
+
+/// What takes bytes and may fail.
+pub trait Sink {
+    /// The bytes that it holds, where they are known.
+    ghost contents: { Self → Option (List ℕ) };
+
+    /// How often it has failed.
+    ghost faults: { Self → ℕ };
+
+    /// Takes a beginning of the bytes, and answers its length, as `std::io::Write::write` does.
+    ///
+    /// # Errors
+    ///
+    /// The sink failed, and took nothing.
+    fn put(&mut self, bytes: &[u8]) -> io::Result<usize>
+        ensures bound { IfOk result (λ n. n ≤ length bytes.now) }
+        ensures bytes { WriteAppends (contents self.old) (contents self.new) result bytes.now }
+        ensures faults { faults self.new ≡ faults self.old + put_faults result bytes.now };
+}
+
+/// What gives bytes and may fail.
+pub trait Feed {
+    /// The bytes that it still has, where they are known.
+    ghost remaining: { Self → Option (List ℕ) };
+
+    /// How often it has failed.
+    ghost faults: { Self → ℕ };
+
+    /// Fills a beginning of the room, and answers its length, as `std::io::Read::read` does.
+    ///
+    /// # Errors
+    ///
+    /// The feed failed, and gave nothing.
+    fn get(&mut self, room: &mut [u8]) -> io::Result<usize>
+        ensures bound { ReadsAtMost result room.new }
+        ensures bytes { ReadConsumes (remaining self.old) (remaining self.new) result room.new }
+        ensures faults { faults self.new ≡ faults self.old + get_faults result };
+}
+
+/// A [`Sink`] of any writer, and a [`Feed`] of any reader. It takes no memory of its own.
+#[derive(Drop)]
+pub struct Counted<T> {
+    inner: T,
+    faults: FaultCount,
+}
+
+impl<T> Counted<T> {
+    /// Lends a writer or a reader its count of faults, from 0.
+    pub fn new(inner: T) -> Counted<T>
+        ensures faults { fault_count result ≡ 0 }
+        ensures inner { inner_value result ≡ inner }
+    {
+        Counted {
+            inner,
+            faults: FaultCount::new(),
+        }
+    }
+
+    /// The writer or reader.
+    pub fn into_inner(self) -> T
+        ensures { result ≡ inner_value self }
+    {
+        let Counted { inner, faults: _ } = self;
+        inner
+    }
+}
+
+impl<T: io::Write> Sink for Counted<T> {
+    ghost use Rattle.ptree.specs.Counted.{fault_count, inner_value};
+
+    ghost contents = { λ c. T.contents (inner_value c) };
+
+    ghost faults = { fault_count };
+
+    fn put(&mut self, bytes: &[u8]) -> io::Result<usize> {
+        let result = self.inner.write(bytes);
+        let failed = match &result {
+            Ok(n) => *n == 0 && !bytes.is_empty(),
+            Err(_) => true,
+        };
+        if failed {
+            self.faults = self.faults.next();
+        }
+        result
+    }
+}
+
+impl<T: io::Read> Feed for Counted<T> {
+    ghost use Rattle.ptree.specs.Counted.{fault_count, inner_value};
+
+    ghost remaining = { λ c. T.remaining (inner_value c) };
+
+    ghost faults = { fault_count };
+
+    fn get(&mut self, room: &mut [u8]) -> io::Result<usize> {
+        let result = self.inner.read(room);
+        if result.is_err() {
+            self.faults = self.faults.next();
+        }
+        result
+    }
+}
+
+/// Writes all the bytes, and what a sink leaves of them again. For no bytes nothing is asked of the sink.
+///
+/// # Errors
+///
+/// `Write` or `Zero`, and a beginning of the bytes was written.
+pub fn put_all<W: Sink>(f: &mut W, bytes: &[u8]) -> Result<(), DrawError>
+    ensures bytes { IsWritten (W.contents f.old) (W.contents f.new) result bytes.now }
+    ensures cause { HasCause (W.faults f.old) (W.faults f.new) result }
+    ensures memory { TakesNoMemory result }
+{
+    let mut rest = bytes;
+    while !rest.is_empty() {
+        match f.put(rest) {
+            Ok(0) => return Err(DrawError::Zero),
+            Ok(n) => rest = &rest[n..],
+            Err(e) => return Err(DrawError::Write(e)),
+        }
+    }
+    Ok(())
+}

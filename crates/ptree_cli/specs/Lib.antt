@@ -1,0 +1,5 @@
+-- what public contracts say
+pub mod Command
+pub mod Run
+-- what the program's own types mean
+pub mod Meant

@@ -1,0 +1,97 @@
+//! Drawings of trees of texts.
+
+use crate::trees::{drawn, leaf, over, petgraph, plain};
+use ptree::item::StringItem;
+use ptree::print_config::{
+    ASCII_CHARS_PLUS, ASCII_CHARS_TICK, PrintConfig, UTF_CHARS, UTF_CHARS_BOLD, UTF_CHARS_DASHED,
+    UTF_CHARS_DOUBLE,
+};
+use std::str;
+use std::test::Fail;
+
+const PETGRAPH: &str = "\
+petgraph
+├── quickcheck
+│   ├── libc
+│   └── rand
+│       └── libc
+└── fixedbitset
+";
+
+#[test]
+fn small_item_output(rt: HostRuntime) -> Result<(), Fail> {
+    let alloc = rt.alloc();
+    let bytes = drawn(
+        alloc,
+        &petgraph(alloc)?,
+        &plain(alloc, UTF_CHARS, 4, u32::MAX)?,
+    )?;
+    assert_eq!(rt; str::from_utf8(&bytes)?, PETGRAPH);
+    Ok(())
+}
+
+#[test]
+fn levels_past_the_depth_are_left_out(rt: HostRuntime) -> Result<(), Fail> {
+    let alloc = rt.alloc();
+    let tree = petgraph(alloc)?;
+    let cases = [
+        (0, "petgraph\n"),
+        (1, "petgraph\n├── quickcheck\n└── fixedbitset\n"),
+        (3, PETGRAPH),
+    ];
+    for (depth, text) in cases {
+        let bytes = drawn(alloc, &tree, &plain(alloc, UTF_CHARS, 4, depth)?)?;
+        assert_eq!(rt; str::from_utf8(&bytes)?, text, "depth {depth}");
+    }
+    Ok(())
+}
+
+#[test]
+fn every_set_draws(rt: HostRuntime) -> Result<(), Fail> {
+    let alloc = rt.alloc();
+    let below = vec![in alloc; leaf(alloc, "b")?]?;
+    let children = vec![in alloc; over(alloc, "a", below)?, leaf(alloc, "c")?]?;
+    let tree = over(alloc, "r", children)?;
+    let cases = [
+        (ASCII_CHARS_TICK, "r\n|- a\n|  `- b\n`- c\n"),
+        (ASCII_CHARS_PLUS, "r\n+- a\n|  +- b\n+- c\n"),
+        (UTF_CHARS, "r\n├─ a\n│  └─ b\n└─ c\n"),
+        (UTF_CHARS_DOUBLE, "r\n╠═ a\n║  ╚═ b\n╚═ c\n"),
+        (UTF_CHARS_BOLD, "r\n┣━ a\n┃  ┗━ b\n┗━ c\n"),
+        (UTF_CHARS_DASHED, "r\n├╌ a\n┆  └╌ b\n└╌ c\n"),
+    ];
+    for (set, text) in cases {
+        let bytes = drawn(alloc, &tree, &plain(alloc, set, 3, u32::MAX)?)?;
+        assert_eq!(rt; str::from_utf8(&bytes)?, text);
+    }
+    Ok(())
+}
+
+#[test]
+fn texts_are_written_as_they_are(rt: HostRuntime) -> Result<(), Fail> {
+    let alloc = rt.alloc();
+    let config = PrintConfig::default(alloc)?;
+    let children = vec![in alloc;
+        leaf(alloc, "")?,
+        leaf(alloc, "└─ b")?,
+        leaf(alloc, "a\nb")?,
+    ]?;
+    let bytes = drawn(alloc, &over(alloc, "r", children)?, &config)?;
+    assert_eq!(rt; str::from_utf8(&bytes)?, "r\n├─ \n├─ └─ b\n└─ a\nb\n");
+    let bytes = drawn(alloc, &leaf(alloc, "")?, &config)?;
+    assert_eq!(rt; str::from_utf8(&bytes)?, "\n");
+    Ok(())
+}
+
+#[test]
+fn a_long_chain_is_drawn(rt: HostRuntime) -> Result<(), Fail> {
+    let alloc = rt.alloc();
+    let mut chain: StringItem = leaf(alloc, "x")?;
+    for _ in 0..200u8 {
+        chain = over(alloc, "x", vec![in alloc; chain]?)?;
+    }
+    let bytes = drawn(alloc, &chain, &plain(alloc, ASCII_CHARS_PLUS, 3, u32::MAX)?)?;
+    // The line of level n has 3 * n bytes of pieces, the text and a line feed.
+    assert_eq!(rt; bytes.len(), 3 * 200 * 201 / 2 + 2 * 201);
+    Ok(())
+}

@@ -1,0 +1,67 @@
+//! A writer that takes so many bytes, and then fails.
+
+use std::alloc::{AllocError, Global};
+use std::io::{self, ErrorKind, Write};
+
+/// What a writer answers once its room is used up.
+#[derive(Clone, Copy)]
+pub enum Answer {
+    Zero,
+    Error(ErrorKind),
+
+    /// An interruption, once; from then on it takes everything.
+    Interrupted,
+}
+
+/// Takes `room` bytes in all, at most `most` a call, and then gives its answer.
+#[derive(Drop)]
+pub struct Failing {
+    pub taken: Vec<u8>,
+    pub room: usize,
+    pub most: usize,
+    pub answer: Answer,
+    pub calls: usize,
+}
+
+impl Failing {
+    /// All the memory that it needs is taken here, for at most `all` bytes.
+    pub fn new(
+        alloc: Global,
+        all: usize,
+        room: usize,
+        most: usize,
+        answer: Answer,
+    ) -> Result<Failing, AllocError> {
+        Ok(Failing {
+            taken: Vec::with_capacity(alloc, all)?,
+            room,
+            most,
+            answer,
+            calls: 0,
+        })
+    }
+}
+
+impl Write for Failing {
+    fn write(&mut self, buf: &[u8]) -> io::Result<usize> {
+        self.calls = self.calls.saturating_add(1);
+        if self.room == 0 && !buf.is_empty() {
+            match self.answer {
+                Answer::Zero => return Ok(0),
+                Answer::Error(kind) => return Err(io::Error::from(kind)),
+                Answer::Interrupted => {
+                    self.room = usize::MAX;
+                    return Err(io::Error::from(ErrorKind::Interrupted));
+                }
+            }
+        }
+        let n = buf.len().min(self.room).min(self.most);
+        self.taken.extend_from_slice(&buf[..n])?;
+        self.room -= n;
+        Ok(n)
+    }
+
+    fn flush(&mut self) -> io::Result<()> {
+        Ok(())
+    }
+}

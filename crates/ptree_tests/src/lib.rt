@@ -1,0 +1,13 @@
+//! Tests of `ptree` over its public surface: worked examples, the tests of the original crate, and sinks that fail.
+#![tactic(auto)]
+
+#[cfg(test)]
+mod drawing;
+#[cfg(test)]
+mod failing;
+#[cfg(test)]
+mod indent;
+#[cfg(test)]
+mod sinks;
+#[cfg(test)]
+mod trees;
