@@ -9,7 +9,11 @@ pub mod Engine
 pub mod FaultWalks
 pub mod Join
 pub mod Laws
+pub mod OutlineAddresses
+pub mod Outlines
 pub mod Painting
+pub mod Rows
+pub mod Steps
 pub mod Styles
 pub mod Subtrees
 pub mod TreeLemmas

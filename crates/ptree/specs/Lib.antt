@@ -14,8 +14,10 @@ pub mod Readable
 pub mod Shape
 pub mod Style
 pub mod Tree
+pub mod TreeBuilder
 pub mod Writing
 -- what the engine's private functions say
 pub mod Brush
 pub mod Codes
 pub mod Lines
+pub mod Rows

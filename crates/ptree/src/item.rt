@@ -74,6 +74,29 @@ pub struct StringItem {
     pub children: Vec<StringItem>,
 }
 
+impl StringItem {
+    ghost use Rattle.ptree.specs.Tree.{tree_of};
+
+    /// The same texts and children, in memory of their own.
+    ///
+    /// # Errors
+    ///
+    /// Memory ran out.
+    pub fn clone(&self) -> Result<StringItem, AllocError>
+        ensures { IfOk result (λ s. tree_of s ≡ tree_of self.now) }
+    {
+        let alloc = *self.children.allocator();
+        let mut children = Vec::with_capacity(alloc, self.children.len())?;
+        for child in &self.children {
+            children.push(child.clone()?)?;
+        }
+        Ok(StringItem {
+            text: self.text.clone()?,
+            children,
+        })
+    }
+}
+
 impl Shaped for StringItem {
     ghost use Rattle.ptree.specs.Tree.{tree_of, shape_of_tree};
 

@@ -1,6 +1,7 @@
 //! Draws any tree as text with branches, and reads such a drawing back.
 #![tactic(auto)]
 
+pub mod builder;
 mod codes;
 mod colors;
 mod faults;
@@ -9,6 +10,7 @@ pub mod output;
 pub mod print_config;
 pub mod style;
 
+pub use builder::TreeBuilder;
 pub use item::TreeItem;
 pub use output::write_tree_with;
 pub use print_config::{IndentChars, PrintConfig};

@@ -1,0 +1,157 @@
+//! Builds a tree item by item.
+ghost use Rattle.std.specs.Prelude.{◌≡◌, ◌<◌, ◌+◌, ◌++◌, [], ◌∷◌, suc, IfOk, OnOk, OnErr, string_bytes};
+ghost use Rattle.ptree.specs.Outline.{line, outline, IsOutline, Steps};
+ghost use Rattle.ptree.specs.Rows.{lines_of, IsRow};
+ghost use Rattle.ptree.specs.Tree.{Tree, tree_of};
+
+use crate::item::StringItem;
+use std::alloc::{AllocError, Global};
+use std::convert::AsStr;
+use std::marker::Model;
+
+/// A level and a text.
+#[derive(Debug, Drop)]
+pub(crate) struct Line<T> {
+    pub level: u32,
+    pub text: T,
+}
+
+/// Builds a tree of texts item by item, in the order in which they are drawn.
+///
+/// It means an outline, that is the levels and texts of the items so far, and the level of the current item. A new child
+/// goes last among the current item's children.
+#[derive(Debug, Drop)]
+pub struct TreeBuilder {
+    text: String,
+    lines: Vec<Line<String>>,
+    level: u32,
+}
+
+impl Model for TreeBuilder {
+    ghost use Rattle.std.specs.Prelude.{◌∷◌, ◌≤◌, string_bytes};
+    ghost use Rattle.ptree.specs.Outline.{line, Steps, last_level};
+    ghost use Rattle.ptree.specs.Rows.{lines_of};
+    ghost use Rattle.ptree.specs.TreeBuilder.{Building};
+
+    ghost Value = { Building };
+
+    ghost view = { λ b. record { outline = line 0 (string_bytes b.text) ∷ lines_of string_bytes b.lines.items; level = b.level } };
+
+    ghost invariant = { λ b. Steps 0 (lines_of string_bytes b.lines.items) × (b.level ≤ last_level 0 (lines_of string_bytes b.lines.items)) };
+}
+
+impl TreeBuilder {
+    /// Starts a tree whose root has this text. The root is the current item. It takes no memory.
+    pub fn new(alloc: Global, text: String) -> TreeBuilder
+        ensures outline { result.outline ≡ line 0 (string_bytes text) ∷ [] }
+        ensures level { result.level ≡ 0 }
+    {
+        TreeBuilder {
+            text,
+            lines: Vec::new(alloc),
+            level: 0,
+        }
+    }
+
+    /// The level of the current item, that of the root being 0.
+    pub fn level(&self) -> u32
+        ensures { result ≡ self.now.level }
+    {
+        self.level
+    }
+
+    /// Adds a child to the current item, and makes the new child current.
+    ///
+    /// # Errors
+    ///
+    /// Memory ran out. The builder stays as it was, and the text is given up.
+    pub fn begin_child(&mut self, text: String) -> Result<&mut Self, AllocError>
+        requires { self.old.level < u32.MAX }
+        ensures same_reference { IfOk result (λ b. b.ghost_name ≡ self.entry.ghost_name) }
+        ensures outline { IfOk result (λ b. b.now.outline ≡ self.old.outline ++ line (self.old.level + 1) (string_bytes text) ∷ []) }
+        ensures level { IfOk result (λ b. b.now.level ≡ self.old.level + 1) }
+    {
+        let level = self.level + 1;
+        self.lines.push(Line { level, text })?;
+        self.level = level;
+        Ok(self)
+    }
+
+    /// Makes the current item's parent current. It takes no memory.
+    pub fn end_child(&mut self) -> &mut Self
+        requires { 0 < self.old.level }
+        ensures same_reference { result.ghost_name ≡ self.entry.ghost_name }
+        ensures outline { result.now.outline ≡ self.old.outline }
+        ensures level { result.now.level + 1 ≡ self.old.level }
+    {
+        self.level -= 1;
+        self
+    }
+
+    /// Adds a child without children to the current item, which stays current.
+    ///
+    /// # Errors
+    ///
+    /// Memory ran out. The builder stays as it was, and the text is given up.
+    pub fn add_empty_child(&mut self, text: String) -> Result<&mut Self, AllocError>
+        requires { self.old.level < u32.MAX }
+        ensures same_reference { IfOk result (λ b. b.ghost_name ≡ self.entry.ghost_name) }
+        ensures outline { IfOk result (λ b. b.now.outline ≡ self.old.outline ++ line (self.old.level + 1) (string_bytes text) ∷ []) }
+        ensures level { IfOk result (λ b. b.now.level ≡ self.old.level) }
+    {
+        Ok(self.begin_child(text)?.end_child())
+    }
+
+    /// The tree so far. The builder goes on, and may build again.
+    ///
+    /// # Errors
+    ///
+    /// Memory ran out. The builder stays as it was.
+    pub fn build(&mut self) -> Result<StringItem, AllocError>
+        ensures outline { IfOk result (λ t. IsOutline (tree_of t) self.old.outline) }
+        ensures unique { IfOk result (λ t. (u : Tree) → IsOutline u self.old.outline → u ≡ tree_of t) }
+        ensures kept { self.new ≡ self.old }
+    {
+        let alloc = *self.lines.allocator();
+        tree_from_outline(alloc, self.text.as_str(), self.lines.as_slice())
+    }
+}
+
+// The tree of a root's text and of the lines below it.
+pub(crate) fn tree_from_outline<T: AsStr>(
+    alloc: Global,
+    root: &str,
+    below: &[Line<T>],
+) -> Result<StringItem, AllocError>
+    requires steps { Steps 0 (lines_of T.text below.now) }
+    ensures { IfOk result (λ t. outline (tree_of t) ≡ line 0 root.now ∷ lines_of T.text below.now) }
+{
+    let (children, _) = row_from_outline(alloc, below, 0)?;
+    Ok(StringItem {
+        text: String::from_str(alloc, root)?,
+        children,
+    })
+}
+
+// The trees at the front that stand one level below `above`, and the lines after them.
+fn row_from_outline<'a, T: AsStr>(
+    alloc: Global,
+    lines: &'a [Line<T>],
+    above: u32,
+) -> Result<(Vec<StringItem>, &'a [Line<T>]), AllocError>
+    requires steps { Steps above (lines_of T.text lines.now) }
+    ensures { IfOk result (λ r. IsRow T.text above lines.now r.0.items r.1.now) }
+{
+    let mut items = Vec::new(alloc);
+    let mut rest = lines;
+    while let Some((first, tail)) = rest.split_first() {
+        if first.level <= above {
+            break;
+        }
+        let text = String::from_str(alloc, first.text.as_str())?;
+        let (children, after) = row_from_outline(alloc, tail, first.level)?;
+        items.push(StringItem { text, children })?;
+        rest = after;
+    }
+    Ok((items, rest))
+}
