@@ -110,6 +110,7 @@ impl TreeItem for StringItem {
     type Child = StringItem;
 
     /// Writes the text, painted. It takes no memory.
+    #[inline(always)]
     fn write_self<W: Sink>(&self, _alloc: Global, f: &mut W, style: &Style) -> Result<(), DrawError>
         ensures bytes { IsWritten (W.contents f.old) (W.contents f.new) result ((shape_of_tree (tree_of self.now)).own [] style.now) }
         ensures cause { HasCause (W.faults f.old) (W.faults f.new) result }

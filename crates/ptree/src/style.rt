@@ -125,14 +125,26 @@ impl Style {
     /// # Errors
     ///
     /// `Write` or `Zero` where `f` failed. A beginning of the painted text was written.
+    #[inline(always)]
     pub fn write_painted<W: Sink>(&self, f: &mut W, input: &str) -> Result<(), DrawError>
         ensures bytes { IsWritten (W.contents f.old) (W.contents f.new) result (painted_text self.now input.now) }
         ensures cause { HasCause (W.faults f.old) (W.faults f.new) result }
         ensures memory { TakesNoMemory result }
     {
         if self.is_plain() {
-            return put_all(f, input.as_bytes());
+            put_all(f, input.as_bytes())
+        } else {
+            self.write_with_codes(f, input)
         }
+    }
+
+    // Writes the painted text of any style. It stands apart, since each call pays for the room of the codes.
+    #[inline(never)]
+    fn write_with_codes<W: Sink>(&self, f: &mut W, input: &str) -> Result<(), DrawError>
+        ensures bytes { IsWritten (W.contents f.old) (W.contents f.new) result (painted_text self.now input.now) }
+        ensures cause { HasCause (W.faults f.old) (W.faults f.new) result }
+        ensures memory { TakesNoMemory result }
+    {
         let codes = Codes::of(self);
         put_all(f, codes.as_bytes())?;
         put_all(f, input.as_bytes())?;

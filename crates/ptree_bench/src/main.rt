@@ -1,0 +1,112 @@
+//! Measures the library: `ptree_bench TASK SHAPE ITEMS TIMES`. The tasks are in the `README.md` of `bench/`.
+#![tactic(auto)]
+
+mod shapes;
+
+use ptree::item::StringItem;
+use ptree::output::write_tree_with;
+use ptree::print_config::{PrintConfig, StyleWhen};
+use ptree::style::{Counted, DrawError};
+use shapes::shaped;
+use std::alloc::{AllocError, Global};
+use std::env;
+use std::io::{self, BufWriter, Write};
+use std::time::Instant;
+
+// What is to be measured.
+#[derive(Drop)]
+struct Task {
+    name: String,
+    shape: String,
+    items: u32,
+    times: u32,
+}
+
+impl Task {
+    // The task of the arguments. With none it is one drawing of a wide tree of four items to standard output.
+    fn from_args(rt: &HostRuntime) -> io::Result<Task> {
+        let alloc = rt.alloc();
+        let mut words = env::args(rt)?.skip(1);
+        let name = words.next().unwrap_or(String::from_str(alloc, "out")?);
+        let shape = words.next().unwrap_or(String::from_str(alloc, "wide")?);
+        Ok(Task {
+            name,
+            shape,
+            items: number(words.next(), 4),
+            times: number(words.next(), 1),
+        })
+    }
+}
+
+// A word's number.
+fn number(word: Option<String>, otherwise: u32) -> u32 {
+    match word {
+        Some(word) => word.as_str().parse::<u32>().unwrap_or(otherwise),
+        None => otherwise,
+    }
+}
+
+fn failed(_e: DrawError) -> io::Error {
+    io::Error::from(io::ErrorKind::Other)
+}
+
+// The default configuration, never styled, or always where the task's name ends so.
+fn config(alloc: Global, name: &str) -> Result<PrintConfig, AllocError> {
+    let mut config = PrintConfig::default(alloc)?;
+    config.styled = StyleWhen::Never;
+    if name.ends_with("styled") {
+        config.styled = StyleWhen::Always;
+        config.leaf.bold = true;
+    }
+    Ok(config)
+}
+
+// Draws to standard output, as the program does.
+fn draw_out(rt: &HostRuntime, task: &Task, item: &StringItem) -> io::Result<()> {
+    let alloc = rt.alloc();
+    let config = config(alloc, &task.name)?;
+    let mut out = Counted::new(BufWriter::new(alloc, io::writer(rt))?);
+    for _ in 0..task.times {
+        write_tree_with(alloc, item, &mut out, &config).map_err(failed)?;
+    }
+    out.into_inner().flush()
+}
+
+// Draws into memory that is there already, and then copies the bytes, with the time of each.
+fn draw_in(rt: &HostRuntime, task: &Task, item: &StringItem) -> io::Result<()> {
+    let alloc = rt.alloc();
+    let config = config(alloc, &task.name)?;
+    let mut first = Counted::new(Vec::new(alloc));
+    write_tree_with(alloc, item, &mut first, &config).map_err(failed)?;
+    let drawn = first.into_inner();
+    let len = drawn.len();
+    for _ in 0..task.times {
+        let mut room: Vec<u8> = Vec::with_capacity(alloc, len)?;
+        room.extend_from_slice(&drawn)?;
+        room.clear();
+        let mut out = Counted::new(room);
+        let start = Instant::now(rt)?;
+        write_tree_with(alloc, item, &mut out, &config).map_err(failed)?;
+        let drawing = start.elapsed(rt)?.as_nanos();
+        let mut copy = out.into_inner();
+        copy.clear();
+        let start = Instant::now(rt)?;
+        copy.extend_from_slice(&drawn)?;
+        let copying = start.elapsed(rt)?.as_nanos();
+        println!(rt; "{len} bytes, drawn in {drawing} ns, copied in {copying} ns")?;
+    }
+    Ok(())
+}
+
+fn main(rt: HostRuntime) -> io::Result<()> {
+    let task = Task::from_args(&rt)?;
+    let mut builder = shaped(rt.alloc(), &task.shape, task.items)?;
+    let start = Instant::now(&rt)?;
+    let item = builder.build()?;
+    let building = start.elapsed(&rt)?.as_nanos();
+    match task.name.as_str() {
+        "build" => println!(rt; "built in {building} ns"),
+        "out" | "out-styled" => draw_out(&rt, &task, &item),
+        _ => draw_in(&rt, &task, &item),
+    }
+}
