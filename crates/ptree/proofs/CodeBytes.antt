@@ -1,15 +1,12 @@
 -- The bytes of codes: ASCII, and no line feed.
-use Rattle.std.proofs.Common.{◌≡◌, ℕ, zero, suc, ◌+◌, ◌/◌, ◌%◌, ◌<◌, Bool, true, false, cond, List, [], ◌∷◌, ◌++◌, map, Option, Some, None, arith, subst, sym, refl}
-use Rattle.std.specs.Prelude.{All, nat_lt, ◌==◌, option_map, option_to_list, option_and_then, if◌then◌else◌, decimal, filter}
+use Rattle.std.proofs.Common.{◌≡◌, ℕ, zero, suc, ◌+◌, ◌/◌, ◌%◌, ◌<◌, Bool, true, false, List, [], ◌∷◌, ◌++◌, map, arith, subst, sym, refl}
+use Rattle.std.specs.Prelude.{All, nat_lt, ◌==◌, if◌then◌else◌, decimal}
 use Rattle.std.specs.Fmt.{digits, digits_onto, digit_glyph}
 use Rattle.std.specs.List.{join_with_byte}
 use Rattle.std.proofs.lemmas.List.Elements.{All-nil, All-cons, All-append}
-use Rattle.ptree.specs.declared.colors.Side.{Side}
-use Rattle.ptree.specs.declared.style.Color.{Color}
 use Rattle.ptree.specs.declared.style.Style.{Style}
 use Rattle.ptree.specs.Codes.{joined}
-use Rattle.ptree.specs.Color.{color_parameters}
-use Rattle.ptree.specs.Style.{code, flags, flag_codes, side_codes, front_codes}
+use Rattle.ptree.specs.Style.{code, front_codes}
 use Rattle.ptree.proofs.CodeLists.{parameters_of}
 
 -- ASCII, and behind the line feed

@@ -1,5 +1,5 @@
 -- What writing the codes, the text and the reset leaves.
-use Rattle.std.proofs.Common.{◌≡◌, ℕ, List, ◌++◌, Option, Result, ap, ◌∙◌, subst}
+use Rattle.std.proofs.Common.{◌≡◌, ℕ, List, ◌++◌, Option, Result, subst}
 use Rattle.std.specs.Io.KnownBytes.{Appends}
 use Rattle.ptree.specs.Writing.{AppendsPart, IsWritten}
 use Rattle.ptree.proofs.Written.{part_more, part_then, appends_then, written_then}

@@ -1,5 +1,5 @@
 -- The characters that branches are drawn with, and the shipped sets of them, in UTF-8.
-use Rattle.std.specs.Prelude.{ℕ, List, [], ◌∷◌, Option, Some, None, if◌then◌else◌, codes, string_bytes}
+use Rattle.std.specs.Prelude.{◌≡◌, ◌⊎◌, ℕ, List, [], ◌∷◌, Option, Some, None, if◌then◌else◌, codes, string_bytes}
 use Rattle.std.specs.Str.{bytes_eq}
 use Rattle.ptree.specs.declared.print_config.IndentChars.{IndentChars}
 use Rattle.ptree.specs.declared.print_config.StaticIndentChars.{StaticIndentChars}
@@ -91,6 +91,10 @@ utf_dashed = record {
   right = 226 ∷ 149 ∷ 140 ∷ [];  -- ╌
   empty = 32 ∷ [];
 }
+
+-- one of the shipped sets other than the one with a backquote
+abbrev pub IsShippedWithoutTicks : Characters → Type 0
+IsShippedWithoutTicks c = (c ≡ ascii_plus) ⊎ ((c ≡ utf) ⊎ ((c ≡ utf_double) ⊎ ((c ≡ utf_bold) ⊎ (c ≡ utf_dashed))))
 
 -- the set of a name, exactly as spelled
 abbrev pub set_named : List ℕ → Option Characters

@@ -7,6 +7,7 @@ pub mod Config
 pub mod Counted
 pub mod Drawing
 pub mod DrawnForm
+pub mod Equality
 pub mod Laws
 pub mod Outline
 pub mod Pieces
@@ -21,3 +22,8 @@ pub mod Brush
 pub mod Codes
 pub mod Lines
 pub mod Rows
+-- what the reader's private functions say
+pub mod Flags
+pub mod Framed
+pub mod Meant
+pub mod Spelled

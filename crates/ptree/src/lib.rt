@@ -8,6 +8,7 @@ mod faults;
 pub mod item;
 pub mod output;
 pub mod print_config;
+pub mod read;
 pub mod style;
 
 pub use builder::TreeBuilder;

@@ -1,11 +1,12 @@
 //! Pieces and the drawing engine.
-ghost use Rattle.std.specs.Prelude.{◌≡◌, ℕ, true, false, length, take, if◌then◌else◌, ◌≤◌, ◌++◌, IfOk, OnOk, string_bytes, List, [], ◌∷◌, map};
+ghost use Rattle.std.specs.Prelude.{◌≡◌, ◌↔◌, ℕ, Bool, IsTrue, true, false, length, take, if◌then◌else◌, ◌≤◌, ◌++◌, IfOk, OnOk, string_bytes, List, [], ◌∷◌, map};
 ghost use Rattle.ptree.specs.Writing.{IsWritten, HasCause};
 ghost use Rattle.ptree.specs.Drawing.{look_from, look_of};
 ghost use Rattle.ptree.specs.Lines.{item_lines, kid_lines, lines_below, drawn};
 ghost use Rattle.ptree.specs.Pieces.{turning_piece, passing_piece, pieces_from, config_pieces, pieces_of};
 ghost use Rattle.ptree.specs.Characters.{characters_of};
 ghost use Rattle.ptree.specs.Laws.{HasOneList, HasCuts, HasTreeCuts, HasSubtrees};
+ghost use Rattle.ptree.specs.Readable.{HasNoLineFeed, AreApart, AreEqualOrApart, IsReadable};
 ghost use Rattle.ptree.specs.Writing.{IsDrawn};
 ghost use Rattle.ptree.specs.Style.{style_codes, front_codes, back_codes};
 ghost use Rattle.ptree.specs.declared.style.DrawError.TheVariants.{Memory};
@@ -100,7 +101,45 @@ impl Indent {
         })
     }
 
-    fn turning(&self, is_last: bool) -> &str
+    /// Whether a drawing with these pieces can be read back: the pieces at the front of a line can be told apart from its
+    /// left end, whatever stands behind them.
+    ///
+    /// That is so where no piece holds a line feed, no piece of an item's own line begins one of the lines below it, nor the
+    /// reverse, and the two of one kind are equal or neither begins the other. An empty piece is never readable, since the
+    /// empty text begins every text. It takes no memory.
+    pub fn is_readable(&self) -> bool
+        ensures { IsTrue result ↔ IsReadable (pieces_of self.now) }
+    {
+        self.is_one_line() && self.has_kinds_apart() && self.has_pairs_apart()
+    }
+
+    // Whether no piece holds a line feed.
+    fn is_one_line(&self) -> bool
+        ensures { IsTrue result ↔ ((last : Bool) → HasNoLineFeed (turning_piece (pieces_of self.now) last) × HasNoLineFeed (passing_piece (pieces_of self.now) last)) }
+    {
+        are_one_line(self.turning(false), self.turning(true))
+            && are_one_line(self.passing(false), self.passing(true))
+    }
+
+    // Whether no turning piece begins a passing one, nor the reverse.
+    fn has_kinds_apart(&self) -> bool
+        ensures { IsTrue result ↔ ((a b : Bool) → AreApart (turning_piece (pieces_of self.now) a) (passing_piece (pieces_of self.now) b)) }
+    {
+        let (child, last_child) = (self.passing(false), self.passing(true));
+        is_apart_from(self.turning(false), child, last_child)
+            && is_apart_from(self.turning(true), child, last_child)
+    }
+
+    // Whether of each kind the two pieces are equal, or neither begins the other.
+    fn has_pairs_apart(&self) -> bool
+        ensures { IsTrue result ↔ (AreEqualOrApart (turning_piece (pieces_of self.now) false) (turning_piece (pieces_of self.now) true)
+            × AreEqualOrApart (passing_piece (pieces_of self.now) false) (passing_piece (pieces_of self.now) true)) }
+    {
+        are_equal_or_apart(self.turning(false), self.turning(true))
+            && are_equal_or_apart(self.passing(false), self.passing(true))
+    }
+
+    pub(crate) fn turning(&self, is_last: bool) -> &str
         ensures { result.now ≡ turning_piece (pieces_of self.now) is_last }
     {
         if is_last {
@@ -110,7 +149,7 @@ impl Indent {
         }
     }
 
-    fn passing(&self, is_last: bool) -> &str
+    pub(crate) fn passing(&self, is_last: bool) -> &str
         ensures { result.now ≡ passing_piece (pieces_of self.now) is_last }
     {
         if is_last {
@@ -119,6 +158,41 @@ impl Indent {
             self.child_prefix.as_str()
         }
     }
+}
+
+// Whether a text holds no line feed.
+fn is_one_line(text: &str) -> bool
+    ensures { IsTrue result ↔ HasNoLineFeed text.now }
+{
+    !text.contains('\n')
+}
+
+// Whether neither text holds a line feed.
+fn are_one_line(a: &str, b: &str) -> bool
+    ensures { IsTrue result ↔ (HasNoLineFeed a.now × HasNoLineFeed b.now) }
+{
+    is_one_line(a) && is_one_line(b)
+}
+
+// Whether neither text begins the other.
+fn are_apart(a: &str, b: &str) -> bool
+    ensures { IsTrue result ↔ AreApart a.now b.now }
+{
+    !a.starts_with(b) && !b.starts_with(a)
+}
+
+// Whether a text begins neither of two others, nor the reverse.
+fn is_apart_from(text: &str, a: &str, b: &str) -> bool
+    ensures { IsTrue result ↔ (AreApart text.now a.now × AreApart text.now b.now) }
+{
+    are_apart(text, a) && are_apart(text, b)
+}
+
+// Whether the texts are equal, or neither begins the other.
+fn are_equal_or_apart(a: &str, b: &str) -> bool
+    ensures { IsTrue result ↔ AreEqualOrApart a.now b.now }
+{
+    a == b || are_apart(a, b)
 }
 
 fn piece(alloc: Global, first: &str, middle: &str, end: &str) -> Result<String, AllocError>
@@ -432,7 +506,7 @@ where
 }
 
 // A style where output is styled, else the plain one.
-fn effective<'a>(style: &'a Style, plain: &'a Style, styled: bool) -> &'a Style
+pub(crate) fn effective<'a>(style: &'a Style, plain: &'a Style, styled: bool) -> &'a Style
     ensures { result.now ≡ (if styled then style.now else plain.now) }
 {
     if styled { style } else { plain }

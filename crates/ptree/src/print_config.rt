@@ -1,7 +1,12 @@
 //! How trees are drawn: characters, configuration, and what a configuration is loaded from.
-ghost use Rattle.std.specs.Prelude.{◌≡◌, ◌↔◌, IfOk, IsErrOf, Some, None};
+ghost use Rattle.std.specs.Prelude.{◌≡◌, ◌↔◌, IfOk, IsTrue, IsErrOf, Some, None, string_bytes};
 ghost use Rattle.ptree.specs.Characters.{characters_of, static_characters, set_named};
 ghost use Rattle.ptree.specs.Config.{IsDefault, is_styled};
+ghost use Rattle.ptree.specs.Equality.{SameConfig};
+ghost use Rattle.ptree.specs.Style.{painted_text};
+ghost use Rattle.ptree.specs.declared.print_config.IndentChars.{IndentChars};
+ghost use Rattle.ptree.specs.declared.print_config.PrintConfig.{PrintConfig};
+ghost use Rattle.ptree.specs.declared.print_config.StaticIndentChars.{StaticIndentChars};
 
 use crate::style::Style;
 use std::alloc::{AllocError, Global};
@@ -20,7 +25,7 @@ pub enum StyleWhen {
 }
 
 /// How a tree is drawn.
-#[derive(Debug, Drop)]
+#[derive(Debug, PartialEq, Drop)]
 pub struct PrintConfig {
     /// The greatest level that is drawn; the root has level 0. The default is 4294967295, the greatest there is.
     pub depth: u32,
@@ -86,10 +91,54 @@ impl PrintConfig {
             _ => false,
         }
     }
+
+    /// The text, painted by the style of branches.
+    ///
+    /// # Errors
+    ///
+    /// Memory ran out.
+    pub fn paint_branch(&self, alloc: Global, input: &str) -> Result<String, AllocError>
+        ensures { IfOk result (λ text. string_bytes text ≡ painted_text self.now.branch input.now) }
+    {
+        self.branch.paint(alloc, input)
+    }
+
+    /// The text, painted by the style of leaves.
+    ///
+    /// # Errors
+    ///
+    /// Memory ran out.
+    pub fn paint_leaf(&self, alloc: Global, input: &str) -> Result<String, AllocError>
+        ensures { IfOk result (λ text. string_bytes text ≡ painted_text self.now.leaf input.now) }
+    {
+        self.leaf.paint(alloc, input)
+    }
+
+    /// A configuration that equals this one.
+    ///
+    /// # Errors
+    ///
+    /// Memory ran out.
+    #[tactic(auto, using(crate::proofs::Equality::config_equality))]
+    pub fn clone(&self) -> Result<PrintConfig, AllocError>
+        ensures value { IfOk result (λ config. SameConfig config self.now) }
+        // `==` holds exactly where all fields are equal.
+        ensures equality { (other : PrintConfig) → IsTrue (⟦<PrintConfig as PartialEq>⟧.eq self.now other) ↔ SameConfig self.now other }
+    {
+        Ok(PrintConfig {
+            depth: self.depth,
+            indent: self.indent,
+            padding: self.padding,
+            styled: self.styled,
+            characters: self.characters.clone()?,
+            branch: self.branch.clone()?,
+            leaf: self.leaf.clone()?,
+        })
+    }
 }
 
 /// The characters that branches are drawn with. Each may be any text, an empty one too.
-#[derive(Debug, Drop)]
+#[derive(Debug, PartialEq, Eq, Drop)]
 pub struct IndentChars {
     /// Points down and right (`├`).
     pub down_and_right: String,
@@ -114,7 +163,9 @@ impl IndentChars {
     ///
     /// Memory ran out.
     pub fn from_static(alloc: Global, s: StaticIndentChars) -> Result<IndentChars, AllocError>
-        ensures { IfOk result (λ c. characters_of c ≡ static_characters s) }
+        ensures value { IfOk result (λ c. characters_of c ≡ static_characters s) }
+        // `==` of static characters holds exactly where all texts are equal.
+        ensures equality { (other : StaticIndentChars) → IsTrue (⟦<StaticIndentChars as PartialEq>⟧.eq s other) ↔ (static_characters s ≡ static_characters other) }
     {
         Ok(IndentChars {
             down_and_right: String::from_str(alloc, s.down_and_right)?,
@@ -122,6 +173,25 @@ impl IndentChars {
             turn_right: String::from_str(alloc, s.turn_right)?,
             right: String::from_str(alloc, s.right)?,
             empty: String::from_str(alloc, s.empty)?,
+        })
+    }
+
+    /// Characters that equal these.
+    ///
+    /// # Errors
+    ///
+    /// Memory ran out.
+    pub fn clone(&self) -> Result<IndentChars, AllocError>
+        ensures value { IfOk result (λ c. characters_of c ≡ characters_of self.now) }
+        // `==` holds exactly where all texts are equal.
+        ensures equality { (other : IndentChars) → IsTrue (⟦<IndentChars as PartialEq>⟧.eq self.now other) ↔ (characters_of self.now ≡ characters_of other) }
+    {
+        Ok(IndentChars {
+            down_and_right: self.down_and_right.clone()?,
+            down: self.down.clone()?,
+            turn_right: self.turn_right.clone()?,
+            right: self.right.clone()?,
+            empty: self.empty.clone()?,
         })
     }
 }

@@ -1,8 +1,11 @@
 //! Styles and colours, what takes and gives bytes, and the loop that writes.
 ghost use Rattle.std.specs.Io.{ReadsAtMost};
 ghost use Rattle.std.specs.Io.KnownBytes.{WriteAppends, ReadConsumes};
-ghost use Rattle.std.specs.Prelude.{◌≡◌, ℕ, ◌+◌, ◌≤◌, List, [], IfOk, IsTrue, Option, length, string_bytes};
+ghost use Rattle.std.specs.Prelude.{◌≡◌, ◌↔◌, ℕ, ◌+◌, ◌≤◌, List, [], IfOk, IsTrue, Option, length, string_bytes};
 ghost use Rattle.ptree.specs.Counted.{fault_count, inner_value};
+ghost use Rattle.ptree.specs.declared.style.Color.{Color};
+ghost use Rattle.ptree.specs.declared.style.Style.{Style};
+ghost use Rattle.ptree.specs.Equality.{color_value, SameStyle};
 ghost use Rattle.ptree.specs.Style.{plain_style, style_codes, painted_text, front_codes, back_codes};
 ghost use Rattle.ptree.specs.Writing.{IsWritten, put_faults, get_faults, HasCause, TakesNoMemory};
 
@@ -11,10 +14,15 @@ use crate::faults::FaultCount;
 use std::alloc::{AllocError, Global};
 use std::io;
 
-/// How a text is painted on a terminal, by codes of ECMA-48's SELECT GRAPHIC RENDITION.
+/// Terminal output style: how a text is painted.
 ///
-/// The default is the plain style, which paints a text as itself.
-#[derive(Debug, Drop)]
+/// A painted text is the codes of the style, the text, and a reset; the text alone where the style has no code. Each flag that is
+/// set has a code, and each colour but a name that isn't known. The flags come first, in the order of the fields, then the
+/// foreground, then the background, which is this crate's choice. The flags' parameters are those of ECMA-48, SELECT GRAPHIC
+/// RENDITION.
+///
+/// Unlike the original crate, this one paints blink, reverse, hidden and strikethrough too.
+#[derive(Debug, PartialEq, Eq, Drop)]
 pub struct Style {
     /// The style's foreground colour, if it has one.
     pub foreground: Option<Color>,
@@ -47,41 +55,89 @@ pub struct Style {
     pub strikethrough: bool,
 }
 
-/// A colour of a text or of what is behind it.
-#[derive(Debug, Drop)]
+/// A colour is one specific type of code, and can refer to either the foreground or background colour.
+///
+/// The codes of the eight colours are those of ECMA-48; those of a table's number and of three bytes are xterm's. `==` compares
+/// names by their bytes. Neither it nor painting to a [`Sink`] takes memory.
+#[derive(Debug, PartialEq, Eq, Drop)]
 pub enum Color {
-    /// Colour 0 of the eight.
+    /// Colour 0 (foreground code 30, background code 40). It is the default.
+    ///
+    /// This is not necessarily the background colour, and using it as one may render the text hard to read on terminals with
+    /// dark backgrounds.
     Black,
 
-    /// Colour 1 of the eight.
+    /// Colour 1 (foreground code 31, background code 41).
     Red,
 
-    /// Colour 2 of the eight.
+    /// Colour 2 (foreground code 32, background code 42).
     Green,
 
-    /// Colour 3 of the eight.
+    /// Colour 3 (foreground code 33, background code 43).
     Yellow,
 
-    /// Colour 4 of the eight.
+    /// Colour 4 (foreground code 34, background code 44).
     Blue,
 
-    /// Colour 5 of the eight, which ECMA-48 calls magenta.
+    /// Colour 5 (foreground code 35, background code 45), which ECMA-48 calls magenta.
     Purple,
 
-    /// Colour 6 of the eight.
+    /// Colour 6 (foreground code 36, background code 46).
     Cyan,
 
-    /// Colour 7 of the eight.
+    /// Colour 7 (foreground code 37, background code 47).
+    ///
+    /// As above, this is not necessarily the foreground colour, and may be hard to read on terminals with light backgrounds.
     White,
 
-    /// A number of the terminal's table of 256 colours.
+    /// A colour number from 0 to 255, for use in 256-colour terminal environments (foreground code 38;5;n, background code
+    /// 48;5;n).
     Fixed(u8),
 
-    /// A colour by its bytes of red, green and blue.
+    /// A 24-bit colour by its bytes of red, green and blue (foreground code 38;2;r;g;b, background code 48;2;r;g;b).
     RGB(u8, u8, u8),
 
-    /// A colour by its name.
+    /// A colour by its name. The first rule that fits decides, which is this crate's choice:
+    ///
+    /// 1. `black`, `red`, `green`, `yellow`, `blue`, `purple`, `cyan` and `white`, exactly, are the eight colours.
+    /// 2. `#` and exactly six hexadecimal digits of any case are the bytes of red, green and blue.
+    /// 3. The sixteen names of HTML 4.01, `steelblue` and `mediumseagreen`, in any ASCII case, are the bytes that they stand for.
+    /// 4. Any other text sets no colour, and has no code.
     Named(String),
+}
+
+impl Color {
+    /// Colour 0 of the eight.
+    pub fn default() -> Color
+        ensures { result ≡ Color.Black }
+    {
+        Color::Black
+    }
+
+    /// A colour that equals this one.
+    ///
+    /// # Errors
+    ///
+    /// Memory ran out.
+    pub fn clone(&self) -> Result<Color, AllocError>
+        ensures value { IfOk result (λ color. color_value color ≡ color_value self.now) }
+        // `==` holds exactly where variant and fields are equal, a name by its bytes.
+        ensures equality { (other : Color) → IsTrue (⟦<Color as PartialEq>⟧.eq self.now other) ↔ (color_value self.now ≡ color_value other) }
+    {
+        Ok(match self {
+            Color::Black => Color::Black,
+            Color::Red => Color::Red,
+            Color::Green => Color::Green,
+            Color::Yellow => Color::Yellow,
+            Color::Blue => Color::Blue,
+            Color::Purple => Color::Purple,
+            Color::Cyan => Color::Cyan,
+            Color::White => Color::White,
+            Color::Fixed(n) => Color::Fixed(*n),
+            Color::RGB(r, g, b) => Color::RGB(*r, *g, *b),
+            Color::Named(name) => Color::Named(name.clone()?),
+        })
+    }
 }
 
 impl Style {
@@ -103,7 +159,7 @@ impl Style {
         }
     }
 
-    /// The painted text: the codes, the text, and a reset where there is a code.
+    /// Paints `input` according to this style.
     ///
     /// # Errors
     ///
@@ -120,7 +176,7 @@ impl Style {
         Ok(text)
     }
 
-    /// Writes the painted text. It takes no memory.
+    /// Writes `input` painted according to this style. It takes no memory.
     ///
     /// # Errors
     ///
@@ -149,6 +205,31 @@ impl Style {
         put_all(f, codes.as_bytes())?;
         put_all(f, input.as_bytes())?;
         put_all(f, codes.reset().as_bytes())
+    }
+
+    /// A style that equals this one.
+    ///
+    /// # Errors
+    ///
+    /// Memory ran out.
+    #[tactic(auto, using(crate::proofs::Equality::style_equality))]
+    pub fn clone(&self) -> Result<Style, AllocError>
+        ensures value { IfOk result (λ style. SameStyle style self.now) }
+        // `==` holds exactly where all fields are equal.
+        ensures equality { (other : Style) → IsTrue (⟦<Style as PartialEq>⟧.eq self.now other) ↔ SameStyle self.now other }
+    {
+        Ok(Style {
+            foreground: self.foreground.as_ref().map(Color::clone).transpose()?,
+            background: self.background.as_ref().map(Color::clone).transpose()?,
+            bold: self.bold,
+            dimmed: self.dimmed,
+            italic: self.italic,
+            underline: self.underline,
+            blink: self.blink,
+            reverse: self.reverse,
+            hidden: self.hidden,
+            strikethrough: self.strikethrough,
+        })
     }
 
     // Whether there is no flag and no colour.

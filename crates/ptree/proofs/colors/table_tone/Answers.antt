@@ -1,11 +1,10 @@
-use Rattle.std.proofs.Common.{◌≡◌, ◌∙◌, rules, tests, ap, sym, refl, map}
+use Rattle.std.proofs.Common.{◌∙◌, rules, tests, ap, sym, refl, map}
 use Rattle.std.specs.Slice.Iter.{iter_rest}
 use Rattle.ptree.specs.Color.{named}
-use Rattle.std.specs.Prelude.{find, option_map, option_copied}
+use Rattle.std.specs.Prelude.{option_map}
 use Rattle.std.specs.Str.{str_eq_ignore_ascii_case}
 use Rattle.std.proofs.lemmas.Iterator.{YieldsList-from_slice}
 use Rattle.std.proofs.lemmas.Iterator.Search.{find_from_yields_List}
-use Rattle.ptree.specs.declared.colors.TheConstants.{NAMED_COLORS}
 use Rattle.ptree.specs.declared.colors.Tone.TheVariants.{Direct}
 use Rattle.ptree.proofs.ColorNames.{mapped, option_map-option_map, table_found}
 use Rattle.ptree.proofs.colors.table_tone.Goals as goal

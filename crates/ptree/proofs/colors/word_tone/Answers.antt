@@ -2,7 +2,6 @@ use Rattle.std.proofs.Common.{◌≡◌, ◌∙◌, rules, tests, bytes_eq, ap}
 use Rattle.std.specs.Prelude.{position, option_map}
 use Rattle.std.proofs.lemmas.Iterator.{YieldsList-from_slice}
 use Rattle.std.proofs.lemmas.Iterator.Search.{position_from_yields_List}
-use Rattle.ptree.specs.Color.{word_tone}
 use Rattle.ptree.specs.declared.colors.TheConstants.{COLOR_WORDS}
 use Rattle.ptree.specs.declared.colors.Tone.TheVariants.{Eight}
 use Rattle.ptree.proofs.ColorNames.{mapped}

@@ -1,0 +1,25 @@
+use Rattle.std.proofs.Common.{◌≡◌, ℕ, suc, ◌≤◌, [], length, rules, sym, ap, ◌∙◌, arith}
+use Rattle.std.proofs.lemmas.Bool.{eqb-true, eqb-false}
+use Rattle.std.proofs.lemmas.List.{map-append, nil_from_length}
+use Rattle.ptree.specs.Meant.{frame_of, spelled_lines, spelled_line}
+use Rattle.ptree.proofs.LineScans.{scanned_more, scanned_all, no_lines}
+use Rattle.ptree.proofs.read.scan.Goals as goal
+
+pub returns-in_default : goal.returns-in_default
+returns-in_default c =
+    no_lines (frame_of c.args.frame.now) c.args.depth c.min-highest.result c.requires.readable c.requires.codes c.args.body.now c.loop-rest.rest.now (spelled_lines c.loop-rest.lines.items) c.loop-rest.level c.loop-rest.invariant.1
+    (λ e. eqb-false (length c.loop-rest.rest.now) 0 (sym c.is_empty.ensures ∙ c.loop-rest-test.true) (ap length e))
+    (λ n deep jump. let top = c.ranges.depth.fits in omega (arith, c.saturating_add.ensures, c.min-highest.ensures)) c.in_default.ensures
+
+pub loop-rest-preserved : goal.loop-rest-preserved
+loop-rest-preserved c = (
+  search rules,
+  rw (c.in_ok-push.ensures.items, map-append)
+      (scanned_more (frame_of c.args.frame.now) c.args.depth c.args.body.now c.loop-rest.rest.now c.in-Some.behind.now (spelled_lines c.loop-rest.lines.items) c.loop-rest.level (spelled_line c.in-Some.line)
+      c.loop-rest.invariant.1 c.in-Some.ensures.1 (omega (arith, c.in-Some.ensures.0, c.min-highest.ensures)) (omega (arith, c.in-Some.ensures.0, c.saturating_add.ensures, c.min-highest.ensures))),
+)
+
+pub returns : goal.returns
+returns c =
+    scanned_all (frame_of c.args.frame.now) c.args.depth c.args.body.now c.loop-rest.rest.now (spelled_lines c.loop-rest.lines.items) c.loop-rest.level c.loop-rest.invariant.1
+    (nil_from_length c.loop-rest.rest.now (eqb-true (length c.loop-rest.rest.now) 0 (sym c.is_empty.ensures ∙ c.loop-rest-test.false)))

@@ -1,0 +1,36 @@
+-- When values that hold texts are equal: texts by their bytes, wherever these lie.
+use Rattle.std.specs.Prelude.{◌≡◌, ◌⊎◌, List, ℕ, option_map, string_bytes}
+use Rattle.std.proofs.Common.{inl, inr}
+use Rattle.ptree.specs.declared.style.Color.{Color}
+use Rattle.ptree.specs.declared.style.Color.TheVariants.{Named}
+use Rattle.ptree.specs.declared.style.Style.{Style}
+use Rattle.ptree.specs.declared.print_config.PrintConfig.{PrintConfig}
+use Rattle.ptree.specs.Characters.{characters_of}
+
+-- a colour, or the bytes of its name
+abbrev pub color_value : Color → Color ⊎ List ℕ
+color_value (Named name) = inr (string_bytes name)
+color_value color = inl color
+
+-- all fields are equal
+pub record SameStyle (a b : Style) : Type 0 where
+  pub foreground : option_map color_value a.foreground ≡ option_map color_value b.foreground
+  pub background : option_map color_value a.background ≡ option_map color_value b.background
+  pub bold : a.bold ≡ b.bold
+  pub dimmed : a.dimmed ≡ b.dimmed
+  pub italic : a.italic ≡ b.italic
+  pub underline : a.underline ≡ b.underline
+  pub blink : a.blink ≡ b.blink
+  pub reverse : a.reverse ≡ b.reverse
+  pub hidden : a.hidden ≡ b.hidden
+  pub strikethrough : a.strikethrough ≡ b.strikethrough
+
+-- all fields are equal
+pub record SameConfig (a b : PrintConfig) : Type 0 where
+  pub depth : a.depth ≡ b.depth
+  pub indent : a.indent ≡ b.indent
+  pub padding : a.padding ≡ b.padding
+  pub styled : a.styled ≡ b.styled
+  pub characters : characters_of a.characters ≡ characters_of b.characters
+  pub branch : SameStyle a.branch b.branch
+  pub leaf : SameStyle a.leaf b.leaf

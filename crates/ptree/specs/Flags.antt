@@ -1,0 +1,31 @@
+-- Which items are last children, by the levels of the lines after them.
+use Rattle.std.specs.Prelude.{◌≡◌, ◌<◌, ℕ, zero, suc, Bool, false, not, nat_lt, nat_eq, if◌then◌else◌, List, [], ◌∷◌, ◌++◌, length}
+use Rattle.ptree.specs.Framed.{passing_all}
+use Rattle.ptree.specs.Outline.{Line}
+use Rattle.ptree.specs.Pieces.{Pieces, turning_piece}
+use Rattle.ptree.specs.Spelled.{SpelledLine, spelled}
+
+-- the first of the lines that isn't deeper than n is at level n: the item at level n above them has a sibling after it
+abbrev pub has_later : List Line → ℕ → Bool
+has_later [] n = false
+has_later (l ∷ o) n = if nat_lt n l.level then has_later o n else nat_eq n l.level
+
+-- for levels 1 to n, whether the item at that level is a last child, by the lines after it
+abbrev pub last_flags : List Line → ℕ → List Bool
+last_flags o zero = []
+last_flags o (suc n) = last_flags o n ++ not (has_later o (suc n)) ∷ []
+
+-- the last flags by the lines, for so many levels; an item at a deeper level is a last child
+pub record AreLastFlags (o : List Line) (list : List Bool) : Type 0 where
+  pub are : list ≡ last_flags o (length list)
+  pub beyond : (n : ℕ) → length list < n → has_later o n ≡ false
+
+-- the pieces of a line, by its level and the lines after it
+abbrev pub pieces_by : Pieces → List Line → ℕ → List ℕ
+pieces_by p o zero = []
+pieces_by p o (suc n) = passing_all p (last_flags o n) ++ turning_piece p (not (has_later o (suc n)))
+
+-- the lines, each with the pieces that the levels give it
+abbrev pub spelled_by : Pieces → List Line → List SpelledLine
+spelled_by p [] = []
+spelled_by p (l ∷ o) = spelled l.level (pieces_by p o l.level) l.text ∷ spelled_by p o

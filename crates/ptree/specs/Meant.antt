@@ -1,0 +1,25 @@
+-- What the reader's values mean.
+use Rattle.std.specs.Prelude.{List, map, string_bytes}
+use Rattle.ptree.specs.declared.builder.Line.{Line as TextLine}
+use Rattle.ptree.specs.declared.read.CodeTexts.{CodeTexts}
+use Rattle.ptree.specs.declared.read.FrameTexts.{FrameTexts}
+use Rattle.ptree.specs.declared.read.Spelled.{Spelled}
+use Rattle.ptree.specs.Framed.{Paint, Frame}
+use Rattle.ptree.specs.Pieces.{pieces_of}
+use Rattle.ptree.specs.Spelled.{SpelledLine, spelled}
+
+-- the paint that codes make
+abbrev pub paint_of : CodeTexts → Paint
+paint_of c = record { front = string_bytes c.front; back = string_bytes c.back }
+
+-- the frame that pieces and codes make
+abbrev pub frame_of : FrameTexts → Frame
+frame_of f = record { pieces = pieces_of f.indent; branch = paint_of f.branch; leaf = paint_of f.leaf }
+
+-- a line that was read
+abbrev pub spelled_line : TextLine Spelled → SpelledLine
+spelled_line l = spelled l.level l.text.pieces.now l.text.text.now
+
+-- lines that were read
+abbrev pub spelled_lines : List (TextLine Spelled) → List SpelledLine
+spelled_lines lines = map spelled_line lines

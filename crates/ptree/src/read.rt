@@ -1,0 +1,373 @@
+//! Reads a drawing back.
+ghost use Rattle.std.specs.Prelude.{◌≡◌, ◌≢◌, ℕ, ◌≤◌, ◌<◌, ◌+◌, ◌++◌, ◌∷◌, Bool, false, List, All, IsTrue, ◌↔◌, MatchOption, IfOk, IfSome, IfNone, IsSomeAnd, OnOk, string_bytes};
+ghost use Rattle.ptree.specs.Characters.{IsShippedWithoutTicks, ascii_tick, characters_of};
+ghost use Rattle.ptree.specs.Drawing.{Look, look_of};
+ghost use Rattle.ptree.specs.DrawnForm.{IsDrawnForm, ReadsOneWay, DrawAlike, nested_tree, flat_tree};
+ghost use Rattle.ptree.specs.Flags.{AreLastFlags, last_flags, spelled_by};
+ghost use Rattle.ptree.specs.Framed.{paint_in, frame_in, passing_all};
+ghost use Rattle.ptree.specs.Meant.{paint_of, frame_of, spelled_line, spelled_lines};
+ghost use Rattle.ptree.specs.Outline.{Line as OutlineLine};
+ghost use Rattle.ptree.specs.Pieces.{pieces_of, turning_piece, passing_piece, config_pieces};
+ghost use Rattle.ptree.specs.Readable.{IsReadable, HasNoLineFeed};
+ghost use Rattle.ptree.specs.Spelled.{SpelledLine, HasPieces, HasText, HasLine, HasRoot, Spells, lines_in};
+ghost use Rattle.ptree.specs.Style.{plain_style};
+ghost use Rattle.ptree.specs.Tree.{Tree, tree_of};
+
+use crate::builder::{Line, tree_from_outline};
+use crate::item::StringItem;
+use crate::output::{Indent, effective};
+use crate::print_config::{OutputKind, PrintConfig};
+use crate::style::Style;
+use std::alloc::{AllocError, Global};
+use std::convert::AsStr;
+
+/// Whether the pieces of a configuration are readable, which [`read_tree`] asks for.
+///
+/// # Errors
+///
+/// Memory ran out.
+pub fn pieces_readable(alloc: Global, config: &PrintConfig) -> Result<bool, AllocError>
+    ensures exact { IfOk result (λ b. IsTrue b ↔ IsReadable (config_pieces config.now)) }
+    // Where the answer is true, no text is the drawing of two trees.
+    ensures unique { IfOk result (λ b. IsTrue b → ReadsOneWay (config_pieces config.now)) }
+    ensures shipped { IsShippedWithoutTicks (characters_of config.now.characters) → IfOk result IsTrue }
+    ensures tick { characters_of config.now.characters ≡ ascii_tick
+        → IfOk result (λ b. IsTrue b ↔ (1 + config.now.padding < config.now.indent)) }
+    // Where it is false for the set with ticks, two trees have one drawing: in the second the child's line is a sibling's text.
+    ensures twice { characters_of config.now.characters ≡ ascii_tick → 2 ≤ config.now.depth
+        → (look_of config.now OutputKind.Unknown false).branch ≡ plain_style
+        → (look_of config.now OutputKind.Unknown false).leaf ≡ plain_style
+        → IfOk result (λ b. b ≡ false → (r a b c : List ℕ) → DrawAlike (look_of config.now OutputKind.Unknown false)
+        config.now.depth (nested_tree r a b c) (flat_tree r a ((config_pieces config.now).last_regular ++ b) c)) }
+{
+    let indent = Indent::from_config(alloc, config)?;
+    Ok(indent.is_readable())
+}
+
+/// The tree whose drawing the text is.
+///
+/// The text is what [`write_tree_with`](crate::output::write_tree_with) draws for that tree under the configuration, byte for
+/// byte. No text of the tree holds a line feed, and no level of it exceeds the configured depth. Any other character may stand
+/// in a text, a carriage return, U+0085 and U+2028 too, and also what looks like a piece. The drawing's last line ends in its
+/// line feed.
+///
+/// The answer is `None` exactly where the text is the drawing of no such tree. Else there is exactly one. Where
+/// [`pieces_readable`] answers false the call can't be made, since a text may then be the drawing of two trees.
+///
+/// # Errors
+///
+/// Memory ran out.
+pub fn read_tree(
+    alloc: Global,
+    text: &str,
+    config: &PrintConfig,
+) -> Result<Option<StringItem>, AllocError>
+    requires { IsReadable (config_pieces config.now) }
+    ensures some { IfOk result (λ o. IfSome o (λ t.
+        IsDrawnForm (look_of config.now OutputKind.Unknown false) config.now.depth text.now (tree_of t))) }
+    ensures none { IfOk result (λ o. IfNone o ((t : Tree) →
+        IsDrawnForm (look_of config.now OutputKind.Unknown false) config.now.depth text.now t → ⊥)) }
+    // What is drawn of a tree reads back as that tree.
+    ensures drawn { (t : Tree) → IsDrawnForm (look_of config.now OutputKind.Unknown false) config.now.depth text.now t
+        → IfOk result (λ o. IsSomeAnd o (λ s. tree_of s ≡ t)) }
+{
+    let frame = FrameTexts::from_config(alloc, config)?;
+    read_in_frame(alloc, text, &frame, config.depth)
+}
+
+// The tree whose drawing the text is, in a frame.
+fn read_in_frame(
+    alloc: Global,
+    text: &str,
+    frame: &FrameTexts,
+    depth: u32,
+) -> Result<Option<StringItem>, AllocError>
+    requires readable { IsReadable (frame_of frame.now).pieces }
+    requires codes { HasNoLineFeed (frame_of frame.now).leaf.back }
+    ensures { (look : Look) → frame_of frame.now ≡ frame_in look
+        → IfOk result (λ o. MatchOption o
+        ((t : Tree) → IsDrawnForm look depth text.now t → ⊥)
+        (λ t. IsDrawnForm look depth text.now (tree_of t))) }
+{
+    let Some((root, body)) = after_root(text, frame) else {
+        return Ok(None);
+    };
+    let Some(lines) = scan(alloc, body, frame, depth)? else {
+        return Ok(None);
+    };
+    if !have_last_flags(alloc, &lines, &frame.indent)? {
+        return Ok(None);
+    }
+    let tree = tree_from_outline(alloc, root, &lines)?;
+    Ok(Some(tree))
+}
+
+/// The codes before and after a painted text.
+#[derive(Drop)]
+struct CodeTexts {
+    front: String,
+    back: String,
+}
+
+impl CodeTexts {
+    // The codes of a style.
+    fn of_style(alloc: Global, style: &Style) -> Result<CodeTexts, AllocError>
+        ensures { IfOk result (λ c. paint_of c ≡ paint_in style.now) }
+    {
+        Ok(CodeTexts {
+            front: style.front_text(alloc)?,
+            back: style.back_text(alloc)?,
+        })
+    }
+}
+
+/// What a drawing writes around texts: the pieces, and the codes of prefixes and of texts.
+#[derive(Drop)]
+struct FrameTexts {
+    indent: Indent,
+    branch: CodeTexts,
+    leaf: CodeTexts,
+}
+
+impl FrameTexts {
+    // What is written around texts where output is no standard output.
+    fn from_config(alloc: Global, config: &PrintConfig) -> Result<FrameTexts, AllocError>
+        ensures { IfOk result (λ f. frame_of f ≡ frame_in (look_of config.now OutputKind.Unknown false)) }
+    {
+        let plain = Style::default();
+        let styled = config.should_style_output(OutputKind::Unknown, false);
+        Ok(FrameTexts {
+            indent: Indent::from_config(alloc, config)?,
+            branch: CodeTexts::of_style(alloc, effective(&config.branch, &plain, styled))?,
+            leaf: CodeTexts::of_style(alloc, effective(&config.leaf, &plain, styled))?,
+        })
+    }
+}
+
+/// What a line shows besides its level: the pieces at its front, and its item's text, as which it lends itself.
+#[derive(Clone, Copy)]
+struct Spelled<'a> {
+    pieces: &'a str,
+    text: &'a str,
+}
+
+impl<'a> AsStr for Spelled<'a> {
+    ghost text = { λ s. s.text.now };
+
+    fn as_str(&self) -> &str {
+        self.text
+    }
+}
+
+// What follows a front.
+fn after<'a>(text: &'a str, front: &str) -> Option<&'a str>
+    ensures { MatchOption result ((rest : List ℕ) → text.now ≢ front.now ++ rest) (λ r. text.now ≡ front.now ++ r.now) }
+{
+    text.strip_prefix(front)
+}
+
+// What precedes a back.
+fn before<'a>(text: &'a str, back: &str) -> Option<&'a str>
+    ensures { MatchOption result ((front : List ℕ) → text.now ≢ front ++ back.now) (λ r. text.now ≡ r.now ++ back.now) }
+{
+    text.strip_suffix(back)
+}
+
+// What precedes a part that ends the text.
+fn without_end<'a>(text: &'a str, end: &str) -> &'a str
+    requires { (front : List ℕ) × (text.now ≡ front ++ end.now) }
+    ensures { text.now ≡ result.now ++ end.now }
+{
+    &text[..text.len() - end.len()]
+}
+
+// The first line, and what follows its line feed.
+fn first_line(text: &str) -> Option<(&str, &str)>
+    ensures { MatchOption result (HasNoLineFeed text.now) (λ r. HasNoLineFeed r.0.now × (text.now ≡ r.0.now ++ 10 ∷ r.1.now)) }
+{
+    text.split_once('\n')
+}
+
+// What follows a passing piece of either kind.
+fn after_passing<'a>(text: &'a str, indent: &Indent) -> Option<&'a str>
+    ensures { MatchOption result
+        ((last : Bool) (rest : List ℕ) → text.now ≢ passing_piece (pieces_of indent.now) last ++ rest)
+        (λ r. (last : Bool) × (text.now ≡ passing_piece (pieces_of indent.now) last ++ r.now)) }
+{
+    match after(text, indent.passing(false)) {
+        Some(rest) => Some(rest),
+        None => after(text, indent.passing(true)),
+    }
+}
+
+// What follows a turning piece of either kind.
+fn after_turning<'a>(text: &'a str, indent: &Indent) -> Option<&'a str>
+    ensures { MatchOption result
+        ((last : Bool) (rest : List ℕ) → text.now ≢ turning_piece (pieces_of indent.now) last ++ rest)
+        (λ r. (last : Bool) × (text.now ≡ turning_piece (pieces_of indent.now) last ++ r.now)) }
+{
+    match after(text, indent.turning(false)) {
+        Some(rest) => Some(rest),
+        None => after(text, indent.turning(true)),
+    }
+}
+
+// The level that the pieces at the front give, and what follows them.
+fn after_pieces<'a>(text: &'a str, indent: &Indent, highest: u32) -> Option<(u32, &'a str)>
+    requires { IsReadable (pieces_of indent.now) }
+    ensures { MatchOption result
+        ((level : ℕ) (rest : List ℕ) → level ≤ highest → HasPieces (pieces_of indent.now) level rest text.now → ⊥)
+        (λ r. (r.0 ≤ highest) × HasPieces (pieces_of indent.now) r.0 r.1.now text.now) }
+{
+    let mut rest = text;
+    for passed in 0..highest {
+        let Some(behind) = after_passing(rest, indent) else {
+            return match after_turning(rest, indent) {
+                Some(end) => Some((passed + 1, end)),
+                None => None,
+            };
+        };
+        rest = behind;
+    }
+    None
+}
+
+// The text at the front, and what follows its line feed.
+fn after_text<'a>(input: &'a str, leaf: &CodeTexts) -> Option<(&'a str, &'a str)>
+    requires { HasNoLineFeed (string_bytes leaf.now.back) }
+    ensures { MatchOption result
+        ((own rest : List ℕ) → HasText (paint_of leaf.now) own rest input.now → ⊥)
+        (λ r. HasText (paint_of leaf.now) r.0.now r.1.now input.now) }
+{
+    let Some(body) = after(input, leaf.front.as_str()) else {
+        return None;
+    };
+    let Some((line, rest)) = first_line(body) else {
+        return None;
+    };
+    let Some(own) = before(line, leaf.back.as_str()) else {
+        return None;
+    };
+    Some((own, rest))
+}
+
+// The root's text, and what follows its line.
+fn after_root<'a>(input: &'a str, frame: &FrameTexts) -> Option<(&'a str, &'a str)>
+    requires { HasNoLineFeed (frame_of frame.now).leaf.back }
+    ensures { MatchOption result
+        ((root rest : List ℕ) → HasRoot (frame_of frame.now) root rest input.now → ⊥)
+        (λ r. HasRoot (frame_of frame.now) r.0.now r.1.now input.now) }
+{
+    let Some(open) = after(input, frame.branch.front.as_str()) else {
+        return None;
+    };
+    let Some(own) = after(open, frame.branch.back.as_str()) else {
+        return None;
+    };
+    after_text(own, &frame.leaf)
+}
+
+// The line at the front, its level being at most the highest, and what follows it.
+fn after_line<'a>(
+    input: &'a str,
+    frame: &FrameTexts,
+    highest: u32,
+) -> Option<(Line<Spelled<'a>>, &'a str)>
+    requires readable { IsReadable (frame_of frame.now).pieces }
+    requires codes { HasNoLineFeed (frame_of frame.now).leaf.back }
+    ensures { MatchOption result
+        ((r : SpelledLine) (rest : List ℕ) → r.level ≤ highest → HasLine (frame_of frame.now) r rest input.now → ⊥)
+        (λ r. (r.0.level ≤ highest) × HasLine (frame_of frame.now) (spelled_line r.0) r.1.now input.now) }
+{
+    let Some(open) = after(input, frame.branch.front.as_str()) else {
+        return None;
+    };
+    let Some((level, closed)) = after_pieces(open, &frame.indent, highest) else {
+        return None;
+    };
+    let pieces = without_end(open, closed);
+    let Some(own) = after(closed, frame.branch.back.as_str()) else {
+        return None;
+    };
+    let Some((text, rest)) = after_text(own, &frame.leaf) else {
+        return None;
+    };
+    let text = Spelled { pieces, text };
+    Some((Line { level, text }, rest))
+}
+
+// The lines below the root's.
+fn scan<'a>(
+    alloc: Global,
+    body: &'a str,
+    frame: &FrameTexts,
+    depth: u32,
+) -> Result<Option<Vec<Line<Spelled<'a>>>>, AllocError>
+    requires readable { IsReadable (frame_of frame.now).pieces }
+    requires codes { HasNoLineFeed (frame_of frame.now).leaf.back }
+    ensures { IfOk result (λ o. MatchOption o
+        ((lines : List SpelledLine) → Spells (frame_of frame.now) depth lines body.now → ⊥)
+        (λ v. Spells (frame_of frame.now) depth (spelled_lines v.items) body.now)) }
+{
+    let mut lines = Vec::new(alloc);
+    let mut rest = body;
+    let mut level: u32 = 0;
+    while !rest.is_empty() {
+        let highest = depth.min(level.saturating_add(1));
+        let Some((line, behind)) = after_line(rest, frame, highest) else {
+            return Ok(None);
+        };
+        level = line.level;
+        lines.push(line)?;
+        rest = behind;
+    }
+    Ok(Some(lines))
+}
+
+// Whether the pieces are those that the last flags of an item and of its ancestors give.
+fn are_pieces_by(pieces: &str, indent: &Indent, ancestors: &[bool], is_last: bool) -> bool
+    ensures { IsTrue result ↔ (pieces.now ≡ passing_all (pieces_of indent.now) ancestors.now ++ turning_piece (pieces_of indent.now) is_last) }
+{
+    let mut rest = pieces;
+    for flag in ancestors {
+        let Some(behind) = after(rest, indent.passing(*flag)) else {
+            return false;
+        };
+        rest = behind;
+    }
+    rest == indent.turning(is_last)
+}
+
+// Last flags for the levels up to this one. Below the levels that are noted each item is a last child.
+fn resize(flags: &mut Vec<bool>, level: usize) -> Result<(), AllocError>
+    ensures { OnOk result ((o : List OutlineLine) → AreLastFlags o flags.old.items → flags.new.items ≡ last_flags o level) }
+{
+    flags.truncate(level);
+    while flags.len() < level {
+        flags.push(true)?;
+    }
+    Ok(())
+}
+
+// Whether the pieces of the lines are those that the levels of the lines give.
+fn have_last_flags(
+    alloc: Global,
+    lines: &[Line<Spelled<'_>>],
+    indent: &Indent,
+) -> Result<bool, AllocError>
+    requires { All (λ l. 0 < l.level) lines.now }
+    ensures { IfOk result (λ b. IsTrue b ↔ (spelled_lines lines.now ≡ spelled_by (pieces_of indent.now) (lines_in (spelled_lines lines.now)))) }
+{
+    let mut flags = Vec::new(alloc);
+    for line in lines.iter().rev() {
+        resize(&mut flags, line.level as usize)?;
+        let Some(is_last) = flags.pop() else {
+            return Ok(false);
+        };
+        if !are_pieces_by(line.text.pieces, indent, &flags, is_last) {
+            return Ok(false);
+        }
+        flags.push(false)?;
+    }
+    Ok(true)
+}
