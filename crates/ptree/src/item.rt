@@ -17,14 +17,12 @@ pub trait Shaped {
 ///
 /// Both are functions of what the item holds.
 pub trait TreeItem: Shaped {
-    /// The type of this item's child items.
-    ///
-    /// This is usually Self, but may be any type that is an item itself.
+    /// What the children are: items of this type, or of another.
     type Child: Shaped;
 
     /// Writes the item's own contents, without its children.
     ///
-    /// Usually, everything written should be painted by the `style`. This is not enforced.
+    /// The `style` is the one that leaves are drawn in. Items that heed it paint what they write by it.
     ///
     /// # Errors
     ///

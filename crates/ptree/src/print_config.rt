@@ -14,13 +14,13 @@ use std::alloc::{AllocError, Global};
 /// When output is styled.
 #[derive(Debug, Clone, Copy, PartialEq, Eq)]
 pub enum StyleWhen {
-    /// Never style output.
+    /// No output is styled.
     Never,
 
-    /// Always style output.
+    /// All output is styled.
     Always,
 
-    /// Style standard output where it is a terminal, and nothing else.
+    /// Standard output is styled where it is a terminal, and nothing else is.
     Tty,
 }
 
@@ -52,7 +52,7 @@ pub struct PrintConfig {
 /// What a writer stands for. Standard output is a kind of its own, since one can ask whether it is a terminal.
 #[derive(Debug, Clone, Copy, PartialEq, Eq)]
 pub enum OutputKind {
-    /// The program's standard output.
+    /// What the program writes to its user.
     Stdout,
 
     /// Anything else, as a file or a text.
@@ -85,10 +85,10 @@ impl PrintConfig {
     pub fn should_style_output(&self, output_kind: OutputKind, terminal: bool) -> bool
         ensures { result ≡ is_styled self.now.styled output_kind terminal }
     {
-        match (self.styled, output_kind) {
-            (StyleWhen::Always, _) => true,
-            (StyleWhen::Tty, OutputKind::Stdout) => terminal,
-            _ => false,
+        match self.styled {
+            StyleWhen::Never => false,
+            StyleWhen::Always => true,
+            StyleWhen::Tty => terminal && matches!(output_kind, OutputKind::Stdout),
         }
     }
 

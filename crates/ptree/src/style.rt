@@ -14,7 +14,7 @@ use crate::faults::FaultCount;
 use std::alloc::{AllocError, Global};
 use std::io;
 
-/// Terminal output style: how a text is painted.
+/// How a text is painted on a terminal.
 ///
 /// A painted text is the codes of the style, the text, and a reset; the text alone where the style has no code. Each flag that is
 /// set has a code, and each colour but a name that isn't known. The flags come first, in the order of the fields, then the
@@ -24,38 +24,38 @@ use std::io;
 /// Unlike the original crate, this one paints blink, reverse, hidden and strikethrough too.
 #[derive(Debug, PartialEq, Eq, Drop)]
 pub struct Style {
-    /// The style's foreground colour, if it has one.
+    /// The colour of the text; with none it stays as it is.
     pub foreground: Option<Color>,
 
-    /// The style's background colour, if it has one.
+    /// The colour behind the text; with none it stays as it is.
     pub background: Option<Color>,
 
-    /// Whether this style is bold.
+    /// Bold text.
     pub bold: bool,
 
-    /// Whether this style is dimmed.
+    /// Dimmed text.
     pub dimmed: bool,
 
-    /// Whether this style is italic.
+    /// Italic text.
     pub italic: bool,
 
-    /// Whether this style is underlined.
+    /// Underlined text.
     pub underline: bool,
 
-    /// Whether this style is blinking.
+    /// Blinking text.
     pub blink: bool,
 
-    /// Whether this style has reverse colours.
+    /// Text in the colours exchanged.
     pub reverse: bool,
 
-    /// Whether this style is hidden.
+    /// Hidden text.
     pub hidden: bool,
 
-    /// Whether this style is struck through.
+    /// Text that is struck through.
     pub strikethrough: bool,
 }
 
-/// A colour is one specific type of code, and can refer to either the foreground or background colour.
+/// A colour, of a text or of what is behind it.
 ///
 /// The codes of the eight colours are those of ECMA-48; those of a table's number and of three bytes are xterm's. `==` compares
 /// names by their bytes. Neither it nor painting to a [`Sink`] takes memory.
@@ -63,8 +63,7 @@ pub struct Style {
 pub enum Color {
     /// Colour 0 (foreground code 30, background code 40). It is the default.
     ///
-    /// This is not necessarily the background colour, and using it as one may render the text hard to read on terminals with
-    /// dark backgrounds.
+    /// On a terminal with a dark background a text in it can hardly be read.
     Black,
 
     /// Colour 1 (foreground code 31, background code 41).
@@ -87,11 +86,10 @@ pub enum Color {
 
     /// Colour 7 (foreground code 37, background code 47).
     ///
-    /// As above, this is not necessarily the foreground colour, and may be hard to read on terminals with light backgrounds.
+    /// On a terminal with a light background a text in it can hardly be read.
     White,
 
-    /// A colour number from 0 to 255, for use in 256-colour terminal environments (foreground code 38;5;n, background code
-    /// 48;5;n).
+    /// A colour by its number in the terminal's table of 256 (foreground code 38;5;n, background code 48;5;n).
     Fixed(u8),
 
     /// A 24-bit colour by its bytes of red, green and blue (foreground code 38;2;r;g;b, background code 48;2;r;g;b).
@@ -159,7 +157,7 @@ impl Style {
         }
     }
 
-    /// Paints `input` according to this style.
+    /// The painted text: the codes, `input`, and the reset where there is a code.
     ///
     /// # Errors
     ///
