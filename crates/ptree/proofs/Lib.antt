@@ -5,6 +5,7 @@ pub mod ColorNames
 pub mod CutTrees
 pub mod Decimals
 pub mod Drawn
+pub mod EdgeLists
 pub mod Engine
 pub mod Equality
 pub mod FaultWalks
@@ -14,6 +15,7 @@ pub mod Laws
 pub mod Levels
 pub mod LineScans
 pub mod LinesOnce
+pub mod Links
 pub mod OutlineAddresses
 pub mod Outlines
 pub mod Painting
@@ -33,4 +35,5 @@ pub mod TickTrees
 pub mod TreeDrawing
 pub mod TreeLemmas
 pub mod Unfold
+pub mod Walks
 pub mod Written

@@ -8,6 +8,7 @@ pub mod Counted
 pub mod Drawing
 pub mod DrawnForm
 pub mod Equality
+pub mod Graph
 pub mod Laws
 pub mod Outline
 pub mod Pieces
@@ -17,12 +18,12 @@ pub mod Style
 pub mod Tree
 pub mod TreeBuilder
 pub mod Writing
--- what the engine's private functions say
-pub mod Brush
+-- what private functions say: of codes, of the engine, of the builder, of graphs and of the reader
 pub mod Codes
+pub mod Brush
 pub mod Lines
 pub mod Rows
--- what the reader's private functions say
+pub mod GraphLinks
 pub mod Flags
 pub mod Framed
 pub mod Meant

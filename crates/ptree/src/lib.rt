@@ -5,6 +5,7 @@ pub mod builder;
 mod codes;
 mod colors;
 mod faults;
+pub mod graph;
 pub mod item;
 pub mod output;
 pub mod print_config;

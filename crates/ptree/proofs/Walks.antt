@@ -1,0 +1,89 @@
+-- The drawing of a node is that of the tree of the walks from it.
+use Rattle.std.specs.Prelude.{slice_get, option_map, unwrap_or, All}
+use Rattle.std.proofs.Common.{◌≡◌, ℕ, zero, suc, ◌<◌, List, [], ◌∷◌, ◌++◌, map, Option, Some, None, length, sym, ◌∙◌, ap, subst, refl, arith}
+use Rattle.std.proofs.lemmas.List.Elements.{All-head, All-tail}
+use Rattle.ptree.specs.declared.graph.Graph.{Graph}
+use Rattle.ptree.specs.declared.style.Style.{Style}
+use Rattle.ptree.specs.Drawing.{Look, entry_from, IsDrawing}
+use Rattle.ptree.specs.Graph.{weights_of, edges_of, neighbors_of, node_own, node_shape, node_text, walks}
+use Rattle.ptree.specs.Lines.{own_lines, is_empty, with_below, kid_lines, lines_below, drawn}
+use Rattle.ptree.specs.Pieces.{passing_piece, turning_piece}
+use Rattle.ptree.specs.Shape.{Shape, kids}
+use Rattle.ptree.specs.Style.{painted_text}
+use Rattle.ptree.specs.Tree.{tree_own, tree_kids, shape_of_tree}
+use Rattle.ptree.proofs.Join.{drawn_is_drawing}
+use Rattle.ptree.proofs.Laws.{one_drawing}
+use Rattle.ptree.proofs.Links.{neighbors_below}
+use Rattle.ptree.proofs.TreeLemmas.{trees_of_forest, map_twice}
+use Rattle.ptree.proofs.Unfold.{kids_of_unfold}
+
+same_empty : {X : Type 0} (f g : X → Shape) (xs : List X) → is_empty (map f xs) ≡ is_empty (map g xs)
+same_empty f g [] = refl
+same_empty f g (x ∷ xs) = refl
+
+-- lines of children that two functions give, where both give the same bytes and lines
+kid_lines_alike : {X : Type 0} (look : Look) (below : List ℕ → Shape → List ℕ) (f g : X → Shape) (P : X → Type 0)
+    → ((x : X) → P x → (f x).own [] look.leaf ≡ (g x).own [] look.leaf) → ((x : X) → P x → (front : List ℕ) → below front (f x) ≡ below front (g x))
+    → (front : List ℕ) (xs : List X) → All P xs → kid_lines look below front (map f xs) ≡ kid_lines look below front (map g xs)
+kid_lines_alike look below f g P o b front [] h = refl
+kid_lines_alike look below f g P o b front (x ∷ xs) h =
+    let here = All-head P x xs h in
+    let turned = front ++ turning_piece look.pieces (is_empty (map g xs)) in
+    let passed = front ++ passing_piece look.pieces (is_empty (map g xs)) in
+    ap (λ l. with_below look below front l (f x) ++ kid_lines look below front (map f xs)) (same_empty f g xs)
+    ∙ ap (λ t. (entry_from look turned passed t ++ below passed (f x)) ++ kid_lines look below front (map f xs)) (o x here)
+    ∙ ap (λ t. (own_lines look turned passed (g x) ++ t) ++ kid_lines look below front (map f xs)) (b x here passed)
+    ∙ ap (λ t. with_below look below front (is_empty (map g xs)) (g x) ++ t) (kid_lines_alike look below f g P o b front xs (All-tail P x xs h))
+
+-- an element within a list is there
+within_is_some : {X : Type 0} (xs : List X) (i : ℕ) → i < length xs → slice_get xs i ≡ None → ⊥
+within_is_some [] i h e = absurd (omega arith)
+within_is_some (x ∷ xs) zero h e = absurd (cc)
+within_is_some (x ∷ xs) (suc i) h e = within_is_some xs i (omega arith) e
+
+module _ {N : Type 0} (text : N → List ℕ) (g : Graph N) where
+  -- the tree of the walks, as an item's meaning
+  abbrev shape_of_walks : ℕ → ℕ → Shape
+  shape_of_walks v d = shape_of_tree (walks text g v d)
+
+  text_of_walks : (v d : ℕ) → (walks text g v d).text ≡ node_text text g v
+  text_of_walks v zero = refl
+  text_of_walks v (suc d) = refl
+
+  painted_some : (style : Style) (o : Option N) → (o ≡ None → ⊥)
+      → unwrap_or (option_map (λ w. painted_text style (text w)) o) [] ≡ painted_text style (unwrap_or (option_map text o) [])
+  painted_some style None h = absurd (h refl)
+  painted_some style (Some w) h = refl
+
+  own_of_walks : (style : Style) (v d : ℕ) → v < length (weights_of g) → (node_shape text g v).own [] style ≡ (shape_of_walks v d).own [] style
+  own_of_walks style v d h =
+      painted_some style (slice_get (weights_of g) v) (within_is_some (weights_of g) v h) ∙ ap (painted_text style) (sym (text_of_walks v d))
+
+  kids_of_walks : (v d : ℕ) → map (λ u. shape_of_walks u d) (neighbors_of (edges_of g) v) ≡ kids (shape_of_walks v (suc d))
+  kids_of_walks v d =
+      let below = neighbors_of (edges_of g) v in
+      map_twice (λ u. walks text g u d) shape_of_tree below
+      ∙ ap (map shape_of_tree) (sym (trees_of_forest (map (λ u. walks text g u d) below)))
+      ∙ kids_of_unfold tree_own tree_kids (walks text g v (suc d))
+
+  lines_of_walks : (look : Look) (d v : ℕ) → v < length (weights_of g) → (front : List ℕ)
+      → lines_below look d front (node_shape text g v) ≡ lines_below look d front (shape_of_walks v d)
+  lines_of_walks look zero v h front = refl
+  lines_of_walks look (suc d) v h front =
+      let lines = kid_lines look (lines_below look d) front in
+      ap lines (sym (kids_of_unfold (node_own text g) (neighbors_of (edges_of g)) v))
+      ∙ kid_lines_alike look (lines_below look d) (node_shape text g) (λ u. shape_of_walks u d) (λ u. u < length (weights_of g))
+      (λ u. own_of_walks look.leaf u d) (lines_of_walks look d) front (neighbors_of (edges_of g) v) (neighbors_below g v)
+      ∙ ap lines (kids_of_walks v d)
+
+  drawn_of_walks : (look : Look) (d v : ℕ) → v < length (weights_of g) → drawn look d (node_shape text g v) ≡ drawn look d (shape_of_walks v d)
+  drawn_of_walks look d v h =
+      ap (λ own. entry_from look [] [] own ++ lines_below look d [] (node_shape text g v)) (own_of_walks look.leaf v d h)
+      ∙ ap (λ lines. own_lines look [] [] (shape_of_walks v d) ++ lines) (lines_of_walks look d v h [])
+
+  -- byte for byte
+  pub drawing_of_walks : (look : Look) (d v : ℕ) → v < length (weights_of g) → (bytes : List ℕ)
+      → IsDrawing look (node_shape text g v) d bytes → IsDrawing look (shape_of_tree (walks text g v d)) d bytes
+  drawing_of_walks look d v h bytes k =
+      subst (λ (y : List ℕ). IsDrawing look (shape_of_walks v d) d y)
+      (sym (one_drawing look (node_shape text g v) d bytes k ∙ drawn_of_walks look d v h)) (drawn_is_drawing look d (shape_of_walks v d))

@@ -1,0 +1,7 @@
+use Rattle.std.proofs.Common.{sym, arith}
+use Rattle.ptree.proofs.Links.{newest_of_none}
+use Rattle.ptree.proofs.graph.Graph.newest.Goals as goal
+
+pub returns-in-None-clause-newest : goal.returns-in-None-clause-newest
+returns-in-None-clause-newest g c =
+    sym (newest_of_none _ _ c.args.a.0 c.args.self.now.linked (omega (arith, c.in-None.ensures.lookup)))

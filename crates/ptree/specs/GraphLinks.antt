@@ -1,0 +1,27 @@
+-- What the private lists of a graph keep. No public clause cites this.
+use Rattle.std.specs.Prelude.{◌≡◌, ℕ, suc, ◌<◌, ◌==◌, List, [], ◌∷◌, length, map, reverse, take, Some, slice_get, All, if◌then◌else◌}
+use Rattle.ptree.specs.declared.graph.Edge.{Edge}
+use Rattle.ptree.specs.declared.graph.Node.{Node}
+
+-- the numbers of an edge's source and target
+abbrev pub ends_of : Edge → ℕ × ℕ
+ends_of e = (e.source, e.target)
+
+-- of edges that stand newest first, the number of the first one from v: the oldest has number 1, and 0 says that there is none
+abbrev pub first_from : List (ℕ × ℕ) → ℕ → ℕ
+first_from [] v = 0
+first_from (e ∷ older) v = if e.0 == v then suc (length older) else first_from older v
+
+-- the number of the newest edge from v
+abbrev pub newest_from : List (ℕ × ℕ) → ℕ → ℕ
+newest_from edges v = first_from (reverse edges) v
+
+-- both ends of an edge are among so many nodes
+abbrev pub EndsBelow : ℕ → Edge → Type 0
+EndsBelow count e = (e.source < count) × (e.target < count)
+
+-- each end is a node, each node has its newest edge, and each edge the next older one from its source
+pub record IsLinked {N : Type 0} (nodes : List (Node N)) (edges : List Edge) : Type 0 where
+  pub ends : All (EndsBelow (length nodes)) edges
+  pub newest : (v : ℕ) (n : Node N) → slice_get nodes v ≡ Some n → n.newest ≡ newest_from (map ends_of edges) v
+  pub next : (i : ℕ) (e : Edge) → slice_get edges i ≡ Some e → e.next ≡ newest_from (take i (map ends_of edges)) e.source

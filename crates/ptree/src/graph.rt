@@ -1,0 +1,179 @@
+//! Graphs, and their nodes as items.
+ghost use Rattle.std.specs.Prelude.{◌≡◌, ◌+◌, ◌-◌, ◌<◌, ◌≤◌, ◌↔◌, IsTrue, [], ◌∷◌, ◌++◌, length, map, All, Any, IfOk, IsOkAnd, IsErrOf, OnOk, OnErr, option_copied, slice_get, vec_len, vec_capacity};
+ghost use Rattle.ptree.specs.GraphLinks.{IsLinked, newest_from};
+
+mod drawing;
+
+pub use drawing::{GraphNode, Label, write_graph_with};
+use std::alloc::{AllocError, Global};
+
+/// The number of a node, counted from 0 in the order of [`Graph::add_node`].
+#[derive(Debug, Clone, Copy, PartialEq, Eq)]
+pub struct NodeIndex(pub usize);
+
+/// Why edges were refused.
+#[derive(Debug, Clone, Copy, PartialEq, Eq)]
+pub enum EdgeError {
+    /// An end of an edge is no node.
+    NoNode,
+
+    /// Memory ran out.
+    Memory,
+}
+
+impl From<AllocError> for EdgeError {
+    ghost use Rattle.ptree.specs.declared.graph.EdgeError.TheVariants.{Memory};
+
+    ghost from_gives = { λ _ e. e ≡ Memory };
+
+    fn from(_e: AllocError) -> EdgeError {
+        EdgeError::Memory
+    }
+}
+
+/// A directed graph: a list of weights, one for each node, and a list of edges.
+#[derive(Drop)]
+pub struct Graph<N> {
+    nodes: Vec<Node<N>>,
+    edges: Vec<Edge>,
+    ghost linked: { IsLinked nodes.items edges.items },
+}
+
+// A node, and the number of the newest edge from it. Edges are counted from 1, and 0 says that there is none.
+#[derive(Drop)]
+struct Node<N> {
+    weight: N,
+    newest: usize,
+}
+
+// An edge, and the number of the next older one from the same source.
+#[derive(Drop)]
+struct Edge {
+    source: usize,
+    target: usize,
+    next: usize,
+}
+
+impl<N> Graph<N> {
+    ghost use Rattle.ptree.specs.Graph.{weights_of, edges_of, neighbors_of, numbers_of, LacksNode};
+
+    /// A graph without nodes. It takes no memory.
+    pub fn new(alloc: Global) -> Graph<N>
+        ensures weights { weights_of result ≡ [] }
+        ensures edges { edges_of result ≡ [] }
+    {
+        Graph {
+            nodes: Vec::new(alloc),
+            edges: Vec::new(alloc),
+        }
+    }
+
+    /// Adds a node, whose number is how many there were.
+    ///
+    /// # Errors
+    ///
+    /// Memory ran out. The graph is as before, and the weight is given up.
+    pub fn add_node(&mut self, weight: N) -> Result<NodeIndex, AllocError>
+    where
+        N: Drop,
+        ensures number { IfOk result (λ a. a.0 ≡ length (weights_of self.old)) }
+        ensures ok { OnOk result (weights_of self.new ≡ weights_of self.old ++ weight ∷ []) }
+        ensures err { OnErr result (weights_of self.new ≡ weights_of self.old) }
+        ensures edges { edges_of self.new ≡ edges_of self.old }
+    {
+        let number = self.nodes.len();
+        self.nodes.push(Node { weight, newest: 0 })?;
+        Ok(NodeIndex(number))
+    }
+
+    /// Adds edges from the first node of each pair to the second, in order.
+    ///
+    /// # Errors
+    ///
+    /// `NoNode`, which is tested first, and `Memory`. The graph is as before.
+    pub fn extend_with_edges(&mut self, edges: &[(NodeIndex, NodeIndex)]) -> Result<(), EdgeError>
+        ensures no_node { IsErrOf result EdgeError.NoNode ↔ Any (LacksNode (length (weights_of self.old))) edges.now }
+        ensures ok { OnOk result (edges_of self.new ≡ edges_of self.old ++ map numbers_of edges.now) }
+        ensures err { OnErr result (edges_of self.new ≡ edges_of self.old) }
+        ensures weights { weights_of self.new ≡ weights_of self.old }
+    {
+        if self.lacks_node(edges) {
+            return Err(EdgeError::NoNode);
+        }
+        self.edges.reserve(edges.len())?;
+        for (source, target) in edges {
+            self.add_edge(source.0, target.0);
+        }
+        Ok(())
+    }
+
+    /// The weight of a node, if there is one of that number.
+    pub fn node_weight(&self, a: NodeIndex) -> Option<&N>
+        ensures { option_copied result ≡ slice_get (weights_of self.now) a.0 }
+    {
+        Some(&self.nodes.get(a.0)?.weight)
+    }
+
+    /// The targets of the edges from a node, newest edge first. Parallel edges repeat their target.
+    ///
+    /// A number that is no node's has none, which takes no memory.
+    ///
+    /// # Errors
+    ///
+    /// Memory ran out.
+    pub fn neighbors(&self, a: NodeIndex) -> Result<Vec<NodeIndex>, AllocError>
+        ensures targets { IfOk result (λ v. map (λ b. b.0) v.items ≡ neighbors_of (edges_of self.now) a.0) }
+        ensures no_node { length (weights_of self.now) ≤ a.0 → IsOkAnd result (λ v. v.items ≡ []) }
+        // Each of them is a node.
+        ensures nodes { All (λ u. u < length (weights_of self.now)) (neighbors_of (edges_of self.now) a.0) }
+    {
+        let mut targets = Vec::new(*self.nodes.allocator());
+        let mut number = self.newest(a);
+        while number > 0 {
+            let edge = &self.edges[number - 1];
+            targets.push(NodeIndex(edge.target))?;
+            number = edge.next;
+        }
+        Ok(targets)
+    }
+
+    // Whether an end of some edge is no node.
+    fn lacks_node(&self, edges: &[(NodeIndex, NodeIndex)]) -> bool
+        ensures { IsTrue result ↔ Any (LacksNode (length (weights_of self.now))) edges.now }
+    {
+        let count = self.nodes.len();
+        edges
+            .iter()
+            .any(|(source, target)| source.0 >= count || target.0 >= count)
+    }
+
+    // Adds an edge, for which there is room.
+    fn add_edge(&mut self, source: usize, target: usize)
+        requires source { source < vec_len self.old.nodes }
+        requires target { target < vec_len self.old.nodes }
+        requires room { vec_len self.old.edges < vec_capacity self.old.edges }
+        ensures edges { edges_of self.new ≡ edges_of self.old ++ (source, target) ∷ [] }
+        ensures weights { weights_of self.new ≡ weights_of self.old }
+        ensures capacity { vec_capacity self.old.edges ≤ vec_capacity self.new.edges }
+    {
+        let next = self.nodes[source].newest;
+        let edge = Edge {
+            source,
+            target,
+            next,
+        };
+        self.edges.push(edge).unwrap();
+        self.nodes[source].newest = self.edges.len();
+    }
+
+    // The number of the newest edge from a node, or 0.
+    fn newest(&self, a: NodeIndex) -> usize
+        ensures newest { result ≡ newest_from (edges_of self.now) a.0 }
+        ensures no_node { length (weights_of self.now) ≤ a.0 → result ≡ 0 }
+    {
+        match self.nodes.get(a.0) {
+            Some(node) => node.newest,
+            None => 0,
+        }
+    }
+}

@@ -1,0 +1,170 @@
+//! What is drawn of a graph.
+ghost use Rattle.std.specs.Prelude.{◌≡◌, ℕ, ◌<◌, false, List, length, map, IfOk};
+ghost use Rattle.ptree.specs.Children.{children_items};
+ghost use Rattle.ptree.specs.Drawing.{look_of, IsDrawing};
+ghost use Rattle.ptree.specs.Graph.{weights_of, node_shape, walks};
+ghost use Rattle.ptree.specs.Style.{painted_text};
+ghost use Rattle.ptree.specs.Tree.{shape_of_tree};
+ghost use Rattle.ptree.specs.Writing.{IsWritten, HasCause, TakesNoMemory, IsDrawn};
+
+use super::{Graph, NodeIndex};
+use crate::item::{Children, Shaped, TreeItem};
+use crate::output::write_tree_with;
+use crate::print_config::{OutputKind, PrintConfig};
+use crate::style::{DrawError, Sink, Style};
+use std::alloc::{AllocError, Global};
+
+/// What a node's weight is drawn as.
+pub trait Label {
+    /// The text that it means.
+    ghost text: { Self → List ℕ };
+
+    /// Writes the text, painted.
+    ///
+    /// # Errors
+    ///
+    /// `Write` or `Zero` where `f` failed, and `Memory`. A beginning of the painted text was written.
+    fn write_label<W: Sink>(&self, alloc: Global, f: &mut W, style: &Style) -> Result<(), DrawError>
+        ensures bytes { IsWritten (W.contents f.old) (W.contents f.new) result (painted_text style.now (text self.now)) }
+        ensures cause { HasCause (W.faults f.old) (W.faults f.new) result };
+}
+
+impl Label for String {
+    ghost use Rattle.std.specs.Prelude.{string_bytes};
+
+    ghost text = { string_bytes };
+
+    /// Writes the text itself, painted. It takes no memory.
+    fn write_label<W: Sink>(
+        &self,
+        _alloc: Global,
+        f: &mut W,
+        style: &Style,
+    ) -> Result<(), DrawError>
+        ensures bytes { IsWritten (W.contents f.old) (W.contents f.new) result (painted_text style.now (string_bytes self.now)) }
+        ensures cause { HasCause (W.faults f.old) (W.faults f.new) result }
+        ensures memory { TakesNoMemory result }
+    {
+        style.write_painted(f, self.as_str())
+    }
+}
+
+impl Label for &str {
+    ghost text = { λ s. s.now };
+
+    /// Writes the text itself, painted. It takes no memory.
+    fn write_label<W: Sink>(
+        &self,
+        _alloc: Global,
+        f: &mut W,
+        style: &Style,
+    ) -> Result<(), DrawError>
+        ensures bytes { IsWritten (W.contents f.old) (W.contents f.new) result (painted_text style.now self.now.now) }
+        ensures cause { HasCause (W.faults f.old) (W.faults f.new) result }
+        ensures memory { TakesNoMemory result }
+    {
+        style.write_painted(f, self)
+    }
+}
+
+impl Label for u64 {
+    ghost use Rattle.std.specs.Prelude.{decimal};
+
+    ghost text = { decimal };
+
+    /// Writes the number in decimal, painted.
+    fn write_label<W: Sink>(
+        &self,
+        alloc: Global,
+        f: &mut W,
+        style: &Style,
+    ) -> Result<(), DrawError> {
+        let digits = self.to_string(alloc)?;
+        style.write_painted(f, digits.as_str())
+    }
+}
+
+/// A node of a graph as an item: its weight, and its neighbours below it. Where the graph has a cycle, they go on for ever.
+pub struct GraphNode<'a, N> {
+    /// The graph.
+    pub graph: &'a Graph<N>,
+
+    /// The node's number. One that is no node's means an item that writes nothing and has no children.
+    pub node: NodeIndex,
+}
+
+impl<N> Clone for GraphNode<'_, N> {
+    ghost use Rattle.std.specs.Prelude.{⊤};
+
+    ghost is_clone = { λ x y. y ≡ x };
+
+    ghost is_infallible = { λ _. ⊤ };
+
+    fn clone(&self) -> Result<Self, AllocError> {
+        Ok(*self)
+    }
+}
+
+impl<N> Copy for GraphNode<'_, N> {}
+
+impl<N: Label> Shaped for GraphNode<'_, N> {
+    ghost use Rattle.ptree.specs.Graph.{node_shape};
+
+    ghost shape = { λ g. node_shape N.text g.graph.now g.node.0 };
+}
+
+impl<'a, N: Label> TreeItem for GraphNode<'a, N> {
+    type Child = GraphNode<'a, N>;
+
+    /// Writes the weight's text, painted, and nothing at all where there is no such node.
+    fn write_self<W: Sink>(
+        &self,
+        alloc: Global,
+        f: &mut W,
+        style: &Style,
+    ) -> Result<(), DrawError> {
+        match self.graph.node_weight(self.node) {
+            Some(weight) => weight.write_label(alloc, f, style),
+            None => Ok(()),
+        }
+    }
+
+    /// Makes an item of each neighbour.
+    fn children(&self, alloc: Global) -> Result<Children<'_, GraphNode<'a, N>>, AllocError> {
+        let mut nodes = Vec::new(alloc);
+        let mut number = self.graph.newest(self.node);
+        while number > 0 {
+            let edge = &self.graph.edges[number - 1];
+            nodes.push(GraphNode {
+                graph: self.graph,
+                node: NodeIndex(edge.target),
+            })?;
+            number = edge.next;
+        }
+        Ok(Children::Made(nodes))
+    }
+}
+
+/// Draws a graph from a start node on to a writer that isn't standard output.
+///
+/// A graph with cycles is bounded by the configuration's depth alone.
+///
+/// # Errors
+///
+/// `Write` or `Zero` where `f` failed, and `Memory`. A beginning of the drawing was written.
+pub fn write_graph_with<N: Label, W: Sink>(
+    alloc: Global,
+    graph: &Graph<N>,
+    start: NodeIndex,
+    f: &mut W,
+    config: &PrintConfig,
+) -> Result<(), DrawError>
+    ensures bytes { IsDrawn (look_of config.now OutputKind.Unknown false) (node_shape N.text graph.now start.0) config.now.depth (W.contents f.old) (W.contents f.new) result }
+    ensures cause { HasCause (W.faults f.old) (W.faults f.new) result }
+    // The drawing of a node is that of the tree of the walks from it.
+    ensures walks { start.0 < length (weights_of graph.now) → (text : List ℕ)
+        → IsDrawing (look_of config.now OutputKind.Unknown false) (node_shape N.text graph.now start.0) config.now.depth text
+        → IsDrawing (look_of config.now OutputKind.Unknown false) (shape_of_tree (walks N.text graph.now start.0 config.now.depth)) config.now.depth text }
+{
+    write_tree_with(alloc, &GraphNode { graph, node: start }, f, config)
+}
