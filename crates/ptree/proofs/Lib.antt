@@ -1,4 +1,5 @@
 pub mod Addresses
+pub mod BuilderWalks
 pub mod CodeBytes
 pub mod CodeLists
 pub mod ColorNames

@@ -9,6 +9,7 @@ pub mod Drawing
 pub mod DrawnForm
 pub mod Equality
 pub mod Graph
+pub mod HandedBack
 pub mod Laws
 pub mod Outline
 pub mod Pieces

@@ -1,5 +1,6 @@
 //! Builds a tree item by item.
-ghost use Rattle.std.specs.Prelude.{◌≡◌, ◌<◌, ◌+◌, ◌++◌, [], ◌∷◌, suc, IfOk, OnOk, OnErr, string_bytes};
+ghost use Rattle.std.specs.Borrow.{sem};
+ghost use Rattle.std.specs.Prelude.{if◌then◌else◌, ◌≡◌, ◌<◌, ◌+◌, ◌++◌, [], ◌∷◌, suc, IfOk, OnOk, OnErr, string_bytes};
 ghost use Rattle.ptree.specs.Outline.{line, outline, IsOutline, Steps};
 ghost use Rattle.ptree.specs.Rows.{lines_of, IsRow};
 ghost use Rattle.ptree.specs.Tree.{Tree, tree_of};
@@ -41,6 +42,8 @@ impl Model for TreeBuilder {
 }
 
 impl TreeBuilder {
+    ghost use Rattle.ptree.specs.HandedBack.{HandsBack};
+
     /// Starts a tree whose root has this text. The root is the current item. It takes no memory.
     pub fn new(alloc: Global, text: String) -> TreeBuilder
         ensures outline { result.outline ≡ line 0 (string_bytes text) ∷ [] }
@@ -67,14 +70,12 @@ impl TreeBuilder {
     /// Memory ran out. The builder stays as it was, and the text is given up.
     pub fn begin_child(&mut self, text: String) -> Result<&mut Self, AllocError>
         requires { self.old.level < u32.MAX }
+        ensures* kept { sem 𝓛 (HandsBack self.entry result) }
         ensures same_reference { IfOk result (λ b. b.ghost_name ≡ self.entry.ghost_name) }
         ensures outline { IfOk result (λ b. b.now.outline ≡ self.old.outline ++ line (self.old.level + 1) (string_bytes text) ∷ []) }
         ensures level { IfOk result (λ b. b.now.level ≡ self.old.level + 1) }
     {
-        let level = self.level + 1;
-        self.lines.push(Line { level, text })?;
-        self.level = level;
-        Ok(self)
+        self.add(text, true)
     }
 
     /// Makes the current item's parent current. It takes no memory.
@@ -95,11 +96,12 @@ impl TreeBuilder {
     /// Memory ran out. The builder stays as it was, and the text is given up.
     pub fn add_empty_child(&mut self, text: String) -> Result<&mut Self, AllocError>
         requires { self.old.level < u32.MAX }
+        ensures* kept { sem 𝓛 (HandsBack self.entry result) }
         ensures same_reference { IfOk result (λ b. b.ghost_name ≡ self.entry.ghost_name) }
         ensures outline { IfOk result (λ b. b.now.outline ≡ self.old.outline ++ line (self.old.level + 1) (string_bytes text) ∷ []) }
         ensures level { IfOk result (λ b. b.now.level ≡ self.old.level) }
     {
-        Ok(self.begin_child(text)?.end_child())
+        self.add(text, false)
     }
 
     /// The tree so far. The builder goes on, and may build again.
@@ -114,6 +116,35 @@ impl TreeBuilder {
     {
         let alloc = *self.lines.allocator();
         tree_from_outline(alloc, self.text.as_str(), self.lines.as_slice())
+    }
+
+    // Adds the line of a new child, and makes the child current where it is begun.
+    fn add(&mut self, text: String, is_begun: bool) -> Result<&mut Self, AllocError>
+        requires { self.old.level < u32.MAX }
+        ensures* kept { sem 𝓛 (HandsBack self.entry result) }
+        ensures same_reference { IfOk result (λ b. b.ghost_name ≡ self.entry.ghost_name) }
+        ensures outline { IfOk result (λ b. b.now.outline ≡ self.old.outline ++ line (self.old.level + 1) (string_bytes text) ∷ []) }
+        ensures level { IfOk result (λ b. b.now.level ≡ (if is_begun then self.old.level + 1 else self.old.level)) }
+    {
+        match self.add_line(text, is_begun) {
+            Ok(()) => Ok(self),
+            Err(e) => Err(e),
+        }
+    }
+
+    // Takes its memory before it changes anything.
+    fn add_line(&mut self, text: String, is_begun: bool) -> Result<(), AllocError>
+        requires { self.old.level < u32.MAX }
+        ensures outline { OnOk result (self.new.outline ≡ self.old.outline ++ line (self.old.level + 1) (string_bytes text) ∷ []) }
+        ensures level { OnOk result (self.new.level ≡ (if is_begun then self.old.level + 1 else self.old.level)) }
+        ensures kept { OnErr result (self.new ≡ self.old) }
+    {
+        let level = self.level + 1;
+        self.lines.push(Line { level, text })?;
+        if is_begun {
+            self.level = level;
+        }
+        Ok(())
     }
 }
 

@@ -84,6 +84,7 @@ impl Codes {
     }
 
     // The code that sets a side, if there is one.
+    #[inline(always)]
     fn push_color(&mut self, color: &Option<Color>, side: Side)
         requires { self.old.len + 22 ≤ ROOM }
         ensures text { gathered self.new ≡ gathered self.old ++ joined (side_codes color.now side) }

@@ -5,6 +5,7 @@ ghost use Rattle.ptree.specs.Config.{IsDefault, is_styled};
 ghost use Rattle.ptree.specs.Equality.{SameConfig};
 ghost use Rattle.ptree.specs.Style.{painted_text};
 ghost use Rattle.ptree.specs.declared.print_config.IndentChars.{IndentChars};
+ghost use Rattle.ptree.specs.declared.print_config.OutputKind.{OutputKind};
 ghost use Rattle.ptree.specs.declared.print_config.PrintConfig.{PrintConfig};
 ghost use Rattle.ptree.specs.declared.print_config.StaticIndentChars.{StaticIndentChars};
 
@@ -83,7 +84,9 @@ impl PrintConfig {
 
     /// Whether output of a kind is styled, `terminal` saying whether standard output is a terminal.
     pub fn should_style_output(&self, output_kind: OutputKind, terminal: bool) -> bool
-        ensures { result ≡ is_styled self.now.styled output_kind terminal }
+        ensures value { result ≡ is_styled self.now.styled output_kind terminal }
+        // `==` of kinds holds exactly at the same one.
+        ensures equality { (other : OutputKind) → IsTrue (⟦<OutputKind as PartialEq>⟧.eq output_kind other) ↔ (output_kind ≡ other) }
     {
         match self.styled {
             StyleWhen::Never => false,

@@ -1,8 +1,10 @@
 //! Measures the library: `ptree_bench TASK SHAPE ITEMS TIMES`. The tasks are in the `README.md` of `bench/`.
 #![tactic(auto)]
 
+mod gallery;
 mod shapes;
 
+use gallery::draw_gallery;
 use ptree::item::StringItem;
 use ptree::output::write_tree_with;
 use ptree::print_config::{PrintConfig, StyleWhen};
@@ -46,7 +48,8 @@ fn number(word: Option<String>, otherwise: u32) -> u32 {
     }
 }
 
-fn failed(_e: DrawError) -> io::Error {
+// What std calls a drawing that failed.
+pub fn failed(_e: DrawError) -> io::Error {
     io::Error::from(io::ErrorKind::Other)
 }
 
@@ -100,6 +103,9 @@ fn draw_in(rt: &HostRuntime, task: &Task, item: &StringItem) -> io::Result<()> {
 
 fn main(rt: HostRuntime) -> io::Result<()> {
     let task = Task::from_args(&rt)?;
+    if task.name.as_str() == "gallery" {
+        return draw_gallery(&rt);
+    }
     let mut builder = shaped(rt.alloc(), &task.shape, task.items)?;
     let start = Instant::now(&rt)?;
     let item = builder.build()?;

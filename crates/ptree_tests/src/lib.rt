@@ -2,12 +2,20 @@
 #![tactic(auto)]
 
 #[cfg(test)]
+mod builder;
+#[cfg(test)]
 mod drawing;
 #[cfg(test)]
 mod failing;
 #[cfg(test)]
+mod graph;
+#[cfg(test)]
 mod indent;
 #[cfg(test)]
+mod readme;
+#[cfg(test)]
 mod sinks;
+#[cfg(test)]
+mod style;
 #[cfg(test)]
 mod trees;

@@ -20,7 +20,7 @@ returns-clause-bytes g c =
     let styled = is_styled config.styled c.args.output_kind c.args.terminal in
     let look_is : look ≡ look_of config c.args.output_kind c.args.terminal =
     ap (λ p. look_from c.effective-branch.result.now c.effective-leaf.result.now p) c.in_ok-pieces.ensures
-    ∙ ap (λ b. look_from b c.effective-leaf.result.now (look_of config c.args.output_kind c.args.terminal).pieces) (c.effective-branch.ensures ∙ ap (λ p. if c.should_style_output-styled.result then config.branch else p) c.default-plain.ensures ∙ ap (λ b. if b then config.branch else plain_style) c.should_style_output-styled.ensures)
-    ∙ ap (λ l. look_from (if styled then config.branch else plain_style) l (look_of config c.args.output_kind c.args.terminal).pieces) (c.effective-leaf.ensures ∙ ap (λ p. if c.should_style_output-styled.result then config.leaf else p) c.default-plain.ensures ∙ ap (λ b. if b then config.leaf else plain_style) c.should_style_output-styled.ensures) in
+    ∙ ap (λ b. look_from b c.effective-leaf.result.now (look_of config c.args.output_kind c.args.terminal).pieces) (c.effective-branch.ensures ∙ ap (λ p. if c.should_style_output-styled.result then config.branch else p) c.default-plain.ensures ∙ ap (λ b. if b then config.branch else plain_style) c.should_style_output-styled.ensures.value)
+    ∙ ap (λ l. look_from (if styled then config.branch else plain_style) l (look_of config c.args.output_kind c.args.terminal).pieces) (c.effective-leaf.ensures ∙ ap (λ p. if c.should_style_output-styled.result then config.leaf else p) c.default-plain.ensures ∙ ap (λ b. if b then config.leaf else plain_style) c.should_style_output-styled.ensures.value) in
     subst (λ (l : Look). IsDrawn l x config.depth (g.W.Sink.contents c.args.f.now) (g.W.Sink.contents c.draw.new.f) c.draw.result) look_is
     (drawn look config.depth x, drawn_is_drawing look config.depth x, c.draw.ensures.bytes)

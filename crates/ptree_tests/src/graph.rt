@@ -1,0 +1,237 @@
+use ptree::graph::{EdgeError, Graph, GraphNode, Label, NodeIndex, write_graph_with};
+use ptree::item::TreeItem;
+use ptree::print_config::{PrintConfig, StyleWhen};
+use ptree::style::{Counted, DrawError, Style};
+use std::alloc::{AllocError, Global};
+use std::io;
+use std::process::Abort;
+use std::test::Fail;
+
+// A graph of these texts and edges.
+fn graph(
+    alloc: Global,
+    texts: &[&'static str],
+    edges: &[(usize, usize)],
+) -> Result<Graph<&'static str>, Fail> {
+    let mut graph = Graph::new(alloc);
+    for text in texts {
+        graph.add_node(*text)?;
+    }
+    let mut pairs = Vec::new(alloc);
+    for (source, target) in edges {
+        pairs.push((NodeIndex(*source), NodeIndex(*target)))?;
+    }
+    graph.extend_with_edges(pairs.as_slice())?;
+    Ok(graph)
+}
+
+fn at_depth(alloc: Global, depth: u32) -> Result<PrintConfig, AllocError> {
+    let mut config = PrintConfig::default(alloc)?;
+    config.depth = depth;
+    Ok(config)
+}
+
+// That the drawing from a start succeeds, and is this text.
+fn assert_drawn<N: Label>(
+    rt: &impl Abort,
+    alloc: Global,
+    graph: &Graph<N>,
+    start: usize,
+    config: &PrintConfig,
+    text: &str,
+) {
+    let mut out = Counted::new(Vec::new(alloc));
+    let result = write_graph_with(alloc, graph, NodeIndex(start), &mut out, config);
+    assert!(rt; result.is_ok());
+    let drawn = out.into_inner();
+    assert!(rt; drawn.as_slice() == text.as_bytes(), "{text}");
+}
+
+// That the neighbours of a node are these.
+fn assert_neighbors<N>(rt: &impl Abort, graph: &Graph<N>, node: usize, numbers: &[usize]) {
+    match graph.neighbors(NodeIndex(node)) {
+        Ok(neighbors) => {
+            assert_eq!(rt; neighbors.len(), numbers.len());
+            for (neighbor, number) in neighbors.iter().zip(numbers) {
+                assert_eq!(rt; neighbor.0, *number);
+            }
+        }
+        Err(_) => assert!(rt; false, "memory"),
+    }
+}
+
+#[test]
+fn small_graph_output(rt: HostRuntime) -> Result<(), Fail> {
+    let alloc = rt.alloc();
+    let texts = ["petgraph", "fixedbitset", "quickcheck", "rand", "libc"];
+    let edges = [(0, 1), (0, 2), (2, 3), (3, 4), (2, 4)];
+    let graph = graph(alloc, &texts, &edges)?;
+    let mut config = PrintConfig::default(alloc)?;
+    config.indent = 4;
+    let text =
+        "petgraph\n├── quickcheck\n│   ├── libc\n│   └── rand\n│       └── libc\n└── fixedbitset\n";
+    assert_drawn(&rt, alloc, &graph, 0, &config, text);
+    Ok(())
+}
+
+#[test]
+fn draws_a_cycle_down_to_the_depth(rt: HostRuntime) -> Result<(), Fail> {
+    let alloc = rt.alloc();
+    let pair = graph(alloc, &["x", "y"], &[(0, 1), (1, 0)])?;
+    let text = "x\n└─ y\n   └─ x\n      └─ y\n";
+    assert_drawn(&rt, alloc, &pair, 0, &at_depth(alloc, 3)?, text);
+    let alone = graph(alloc, &["x"], &[(0, 0)])?;
+    assert_drawn(&rt, alloc, &alone, 0, &at_depth(alloc, 0)?, "x\n");
+    let text = "x\n└─ x\n   └─ x\n";
+    assert_drawn(&rt, alloc, &alone, 0, &at_depth(alloc, 2)?, text);
+    let twice = graph(alloc, &["x"], &[(0, 0), (0, 0)])?;
+    assert_drawn(
+        &rt,
+        alloc,
+        &twice,
+        0,
+        &at_depth(alloc, 1)?,
+        "x\n├─ x\n└─ x\n",
+    );
+    Ok(())
+}
+
+#[test]
+fn draws_a_line_feed_where_there_is_no_node(rt: HostRuntime) -> Result<(), Fail> {
+    let alloc = rt.alloc();
+    let mut config = PrintConfig::default(alloc)?;
+    config.styled = StyleWhen::Always;
+    config.branch = Style::default();
+    config.leaf.bold = true;
+    let pair = graph(alloc, &["x", "y"], &[(0, 1), (1, 0)])?;
+    for start in [2, 7, 18446744073709551615] {
+        assert_drawn(&rt, alloc, &pair, start, &config, "\n");
+    }
+    let empty = graph(alloc, &[], &[])?;
+    for start in [0, 18446744073709551615] {
+        assert_drawn(&rt, alloc, &empty, start, &config, "\n");
+        assert_neighbors(&rt, &empty, start, &[]);
+        assert!(rt; empty.node_weight(NodeIndex(start)).is_none());
+    }
+    Ok(())
+}
+
+#[test]
+fn refuses_edges_whole(rt: HostRuntime) -> Result<(), Fail> {
+    let alloc = rt.alloc();
+    let mut graph = graph(alloc, &["x", "y"], &[])?;
+    let (x, y, none) = (NodeIndex(0), NodeIndex(1), NodeIndex(2));
+    for bad in [
+        (x, none),
+        (none, x),
+        (none, NodeIndex(18446744073709551615)),
+    ] {
+        let result = graph.extend_with_edges(&[(x, y), bad]);
+        assert_eq!(rt; result, Err(EdgeError::NoNode));
+        assert_neighbors(&rt, &graph, 0, &[]);
+    }
+    graph.extend_with_edges(&[(x, y), (x, y)])?;
+    let config = PrintConfig::default(alloc)?;
+    assert_drawn(&rt, alloc, &graph, 0, &config, "x\n├─ y\n└─ y\n");
+    Ok(())
+}
+
+#[test]
+fn takes_no_edges(rt: HostRuntime) -> Result<(), Fail> {
+    let mut graph: Graph<u64> = Graph::new(rt.alloc());
+    graph.extend_with_edges(&[])?;
+    Ok(())
+}
+
+#[test]
+fn gives_neighbors_newest_first(rt: HostRuntime) -> Result<(), Fail> {
+    let alloc = rt.alloc();
+    let graph = graph(alloc, &["x", "y", "z"], &[(0, 1), (0, 2), (0, 2)])?;
+    assert_neighbors(&rt, &graph, 0, &[2, 2, 1]);
+    assert_neighbors(&rt, &graph, 1, &[]);
+    assert_neighbors(&rt, &graph, 3, &[]);
+    let config = PrintConfig::default(alloc)?;
+    assert_drawn(&rt, alloc, &graph, 0, &config, "x\n├─ z\n├─ z\n└─ y\n");
+    Ok(())
+}
+
+#[test]
+fn draws_labels_of_each_kind(rt: HostRuntime) -> Result<(), Fail> {
+    let alloc = rt.alloc();
+    let config = PrintConfig::default(alloc)?;
+    let mut numbers = Graph::new(alloc);
+    assert_eq!(rt; numbers.add_node(18446744073709551615u64)?, NodeIndex(0));
+    assert_drawn(&rt, alloc, &numbers, 0, &config, "18446744073709551615\n");
+    let mut texts = Graph::new(alloc);
+    let x = texts.add_node(String::from_str(alloc, "x")?)?;
+    let y = texts.add_node(String::from_str(alloc, "y")?)?;
+    texts.extend_with_edges(&[(x, y)])?;
+    assert_drawn(&rt, alloc, &texts, 0, &config, "x\n└─ y\n");
+    Ok(())
+}
+
+#[test]
+fn is_an_item(rt: HostRuntime) -> Result<(), Fail> {
+    let alloc = rt.alloc();
+    let graph = graph(alloc, &["x", "y"], &[(0, 1)])?;
+    let node = GraphNode {
+        graph: &graph,
+        node: NodeIndex(0),
+    };
+    let same = node;
+    let copy = node.clone()?;
+    assert_eq!(rt; same.node, copy.node);
+    let mut out = Counted::new(Vec::new(alloc));
+    node.write_self(alloc, &mut out, &Style::default())?;
+    assert!(rt; out.into_inner().as_slice() == b"x".as_slice());
+    let children = copy.children(alloc)?;
+    assert_eq!(rt; children.as_slice().len(), 1);
+    assert_eq!(rt; children.as_slice()[0].node, NodeIndex(1));
+    assert_eq!(rt;
+        graph.node_weight(children.as_slice()[0].node).copied(),
+        Some("y")
+    );
+    Ok(())
+}
+
+// Takes so many bytes in all, and then errs.
+#[derive(Drop)]
+struct Short {
+    room: usize,
+    taken: Vec<u8>,
+}
+
+impl io::Write for Short {
+    fn write(&mut self, buf: &[u8]) -> io::Result<usize> {
+        if self.room == 0 {
+            return Err(io::Error::from(io::ErrorKind::Other));
+        }
+        let n = buf.len().min(self.room);
+        self.taken.extend_from_slice(&buf[..n])?;
+        self.room -= n;
+        Ok(n)
+    }
+
+    fn flush(&mut self) -> io::Result<()> {
+        Ok(())
+    }
+}
+
+#[test]
+fn ends_at_the_writer_that_errs(rt: HostRuntime) -> Result<(), Fail> {
+    let alloc = rt.alloc();
+    let graph = graph(alloc, &["x"], &[(0, 0)])?;
+    let whole =
+        "x\n└─ x\n   └─ x\n      └─ x\n         └─ x\n            └─ x\n               └─ x\n";
+    assert_eq!(rt; whole.len(), 101);
+    assert_drawn(&rt, alloc, &graph, 0, &at_depth(alloc, 6)?, whole);
+    let mut out = Counted::new(Short {
+        room: 100,
+        taken: Vec::new(alloc),
+    });
+    let config = PrintConfig::default(alloc)?;
+    let result = write_graph_with(alloc, &graph, NodeIndex(0), &mut out, &config);
+    assert!(rt; matches!(result, Err(DrawError::Write(_))));
+    assert!(rt; out.into_inner().taken.as_slice() == &whole.as_bytes()[..100]);
+    Ok(())
+}
