@@ -2,18 +2,21 @@
 #![tactic(auto)]
 
 mod gallery;
+mod graphs;
 mod shapes;
 
 use gallery::draw_gallery;
+use graphs::draw_graph;
 use ptree::item::StringItem;
 use ptree::output::write_tree_with;
 use ptree::print_config::{PrintConfig, StyleWhen};
+use ptree::read::{pieces_readable, read_tree};
 use ptree::style::{Counted, DrawError};
 use shapes::shaped;
 use std::alloc::{AllocError, Global};
-use std::env;
 use std::io::{self, BufWriter, Write};
 use std::time::Instant;
+use std::{env, str};
 
 // What is to be measured.
 #[derive(Drop)]
@@ -101,10 +104,36 @@ fn draw_in(rt: &HostRuntime, task: &Task, item: &StringItem) -> io::Result<()> {
     Ok(())
 }
 
+// Reads a drawing back, with the time of each reading.
+fn read_back(rt: &HostRuntime, task: &Task, item: &StringItem) -> io::Result<()> {
+    let alloc = rt.alloc();
+    let config = config(alloc, &task.name)?;
+    let mut out = Counted::new(Vec::new(alloc));
+    write_tree_with(alloc, item, &mut out, &config).map_err(failed)?;
+    let drawn = out.into_inner();
+    let Ok(text) = str::from_utf8(&drawn) else {
+        return Ok(());
+    };
+    let len = text.len();
+    for _ in 0..task.times {
+        if !pieces_readable(alloc, &config)? {
+            return Ok(());
+        }
+        let start = Instant::now(rt)?;
+        let read = read_tree(alloc, text, &config)?.is_some();
+        let reading = start.elapsed(rt)?.as_nanos();
+        println!(rt; "{len} bytes, read in {reading} ns: {read}")?;
+    }
+    Ok(())
+}
+
 fn main(rt: HostRuntime) -> io::Result<()> {
     let task = Task::from_args(&rt)?;
     if task.name.as_str() == "gallery" {
         return draw_gallery(&rt);
+    }
+    if task.name.as_str() == "graph" {
+        return draw_graph(&rt, task.items, task.times);
     }
     let mut builder = shaped(rt.alloc(), &task.shape, task.items)?;
     let start = Instant::now(&rt)?;
@@ -112,6 +141,7 @@ fn main(rt: HostRuntime) -> io::Result<()> {
     let building = start.elapsed(&rt)?.as_nanos();
     match task.name.as_str() {
         "build" => println!(rt; "built in {building} ns"),
+        "read" => read_back(&rt, &task, &item),
         "out" | "out-styled" => draw_out(&rt, &task, &item),
         _ => draw_in(&rt, &task, &item),
     }

@@ -12,7 +12,11 @@ mod graph;
 #[cfg(test)]
 mod indent;
 #[cfg(test)]
+mod read;
+#[cfg(test)]
 mod readme;
+#[cfg(test)]
+mod real;
 #[cfg(test)]
 mod sinks;
 #[cfg(test)]

@@ -56,3 +56,12 @@ pub fn drawn(alloc: Global, item: &StringItem, config: &PrintConfig) -> Result<V
     write_tree_with(alloc, item, &mut out, config)?;
     Ok(out.into_inner())
 }
+
+/// How many items a tree has.
+pub fn count_items(tree: &StringItem) -> usize {
+    let mut count: usize = 1;
+    for child in &tree.children {
+        count = count.saturating_add(count_items(child));
+    }
+    count
+}
