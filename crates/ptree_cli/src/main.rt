@@ -3,6 +3,8 @@
 
 mod command;
 mod run;
+#[cfg(test)]
+mod tests;
 
 use ptree::print_config::{FileSource, Sources};
 use ptree::style::Counted;
