@@ -140,6 +140,7 @@ impl Codes {
         self.push(b'0' + n % 10);
     }
 
+    // One byte, for which there is room.
     fn push(&mut self, byte: u8)
         requires { self.old.len < ROOM }
         ensures text { gathered self.new ≡ gathered self.old ++ byte ∷ [] }

@@ -132,6 +132,7 @@ fn is_hex_name(name: &str) -> bool
     bytes.len() == 7 && bytes[0] == b'#' && are_hex_digits(&bytes[1..])
 }
 
+// Whether all of them are hexadecimal digits of any case.
 fn are_hex_digits(bytes: &[u8]) -> bool
     ensures { result ≡ list_all is_ascii_hexdigit bytes.now }
 {
@@ -148,6 +149,7 @@ fn table_tone(name: &str) -> Option<Tone>
         .map(|color| Tone::Direct(color.1, color.2, color.3))
 }
 
+// Whether two names are one but for ASCII case.
 fn same_name(a: &str, b: &str) -> bool
     ensures { result ≡ str_eq_ignore_ascii_case a.now b.now }
 {
