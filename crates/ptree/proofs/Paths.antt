@@ -1,34 +1,41 @@
--- The pieces of a line whose last flags are known.
-use Rattle.std.proofs.Common.{◌≡◌, ◌≢◌, ℕ, ◌+◌, ◌<◌, ◌≤◌, Bool, List, [], ◌∷◌, ◌++◌, length, take, drop, get_or, refl, sym, ap, ◌∙◌, subst, append_assoc, arith}
-use Rattle.std.specs.Prelude.{◌↔◌}
-use Rattle.std.proofs.lemmas.List.{append_cancel_left}
+-- The pieces along a path whose last flags are known.
+use Rattle.std.proofs.Common.{◌≡◌, ℕ, ◌+◌, ◌-◌, ◌≤◌, Bool, List, [], ◌∷◌, ◌++◌, length, take, IsUtf8, IsCharBoundary, refl, sym, ap, ◌∙◌, subst, append_assoc, length-append, arith}
+use Rattle.std.proofs.Math.Seq.{take-append_seam}
+use Rattle.std.proofs.lemmas.List.{append-nil}
+use Rattle.std.proofs.lemmas.Str.{IsCharBoundary-at_seam}
 use Rattle.ptree.specs.Framed.{passing_all}
 use Rattle.ptree.specs.Pieces.{Pieces, passing_piece}
 
--- text is the pieces of path and z just where rest is those of left and z
-pub record Along (p : Pieces) (text rest : List ℕ) (path left : List Bool) : Type 0 where
-  pub whole : (z : List ℕ) → rest ≡ passing_all p left ++ z → text ≡ passing_all p path ++ z
-  pub part : (z : List ℕ) → text ≡ passing_all p path ++ z → rest ≡ passing_all p left ++ z
+pub passing_all-push : (p : Pieces) (above : List Bool) (b : Bool) → passing_all p (above ++ b ∷ []) ≡ passing_all p above ++ passing_piece p b
+passing_all-push p [] b = append-nil (passing_piece p b)
+passing_all-push p (a ∷ above) b = ap (λ z. passing_piece p a ++ z) (passing_all-push p above b) ∙ sym (append_assoc (passing_piece p a) (passing_all p above) (passing_piece p b))
 
-pub along_none : (p : Pieces) (text : List ℕ) (path : List Bool) → Along p text text path path
-along_none p text path = record { whole = λ z e. e; part = λ z e. e }
+-- one level more
+pub path_more : (p : Pieces) (flags flags' : List Bool) (b : Bool) (pieces pieces' piece : List ℕ) → pieces ≡ passing_all p flags → flags' ≡ flags ++ b ∷ [] → piece ≡ passing_piece p b
+    → pieces' ≡ pieces ++ piece → pieces' ≡ passing_all p flags'
+path_more p flags flags' b pieces pieces' piece h f e is =
+    is ∙ (ap (λ z. z ++ piece) h ∙ (ap (λ z. passing_all p flags ++ z) e ∙ (sym (passing_all-push p flags b) ∙ ap (passing_all p) (sym f))))
 
-pub along_more : (p : Pieces) (text rest behind : List ℕ) (path left more : List Bool) (b : Bool) → Along p text rest path left → left ≡ b ∷ more → rest ≡ passing_piece p b ++ behind
-    → Along p text behind path more
-along_more p text rest behind path left more b h e is =
-    let at : Along p text rest path (b ∷ more) = subst (λ z. Along p text rest path z) e h in
+-- the pieces of a path of one level less, and the last piece
+path_seam : (p : Pieces) (flags flags' : List Bool) (b : Bool) (pieces piece : List ℕ) → pieces ≡ passing_all p flags → flags ≡ flags' ++ b ∷ [] → piece ≡ passing_piece p b
+    → pieces ≡ passing_all p flags' ++ piece
+path_seam p flags flags' b pieces piece h f e =
+    h ∙ (ap (passing_all p) f ∙ (passing_all-push p flags' b ∙ ap (λ z. passing_all p flags' ++ z) (sym e)))
+
+-- where the last piece of a path begins
+pub record LastPiece (p : Pieces) (flags' : List Bool) (pieces piece : List ℕ) : Type 0 where
+  pub narrow : length piece ≤ length pieces
+  pub begins : IsCharBoundary pieces (length pieces - length piece)
+  pub front : take (length pieces - length piece) pieces ≡ passing_all p flags'
+
+pub last_piece : (p : Pieces) (flags flags' : List Bool) (b : Bool) (pieces piece : List ℕ) → pieces ≡ passing_all p flags → flags ≡ flags' ++ b ∷ [] → piece ≡ passing_piece p b → IsUtf8 piece
+    → LastPiece p flags' pieces piece
+last_piece p flags flags' b pieces piece h f e text =
+    let seam = path_seam p flags flags' b pieces piece h f e in
+    let size : length pieces ≡ length (passing_all p flags') + length piece = ap length seam ∙ length-append (passing_all p flags') piece in
+    let place : length (passing_all p flags') ≡ length pieces - length piece = omega (arith, size) in
     record {
-      whole = λ z f. at.whole z (is ∙ (ap (λ w. passing_piece p b ++ w) f ∙ sym (append_assoc (passing_piece p b) (passing_all p more) z)));
-      part = λ z f. append_cancel_left (passing_piece p b) behind (passing_all p more ++ z) (sym is ∙ (at.part z f ∙ append_assoc (passing_piece p b) (passing_all p more) z));
+      narrow = omega (arith, size);
+      begins = subst (λ n. IsCharBoundary pieces n) place (IsCharBoundary-at_seam pieces (passing_all p flags') piece seam text);
+      front = ap (λ n. take n pieces) (sym place) ∙ (ap (take (length (passing_all p flags'))) seam ∙ take-append_seam (passing_all p flags') piece);
     }
-
-pub along_stuck : (p : Pieces) (text rest : List ℕ) (path left more : List Bool) (b : Bool) → Along p text rest path left → left ≡ b ∷ more
-    → ((z : List ℕ) → rest ≢ passing_piece p b ++ z) → (z : List ℕ) → text ≢ passing_all p path ++ z
-along_stuck p text rest path left more b h e none z f =
-    let at : Along p text rest path (b ∷ more) = subst (λ z. Along p text rest path z) e h in
-    none (passing_all p more ++ z) (at.part z f ∙ append_assoc (passing_piece p b) (passing_all p more) z)
-
-pub along_all : (p : Pieces) (text rest : List ℕ) (path left : List Bool) → Along p text rest path left → left ≡ [] → (z : List ℕ) → (rest ≡ z) ↔ (text ≡ passing_all p path ++ z)
-along_all p text rest path left h e z =
-    let at : Along p text rest path [] = subst (λ z. Along p text rest path z) e h in
-    (at.whole z, at.part z)

@@ -1,30 +1,29 @@
 -- Going over the pieces at a line's front.
 use Rattle.std.proofs.Common.{◌≡◌, ◌≢◌, ℕ, zero, suc, ◌+◌, ◌<◌, ◌≤◌, Bool, List, [], ◌∷◌, ◌++◌, length, take, drop, get_or, refl, sym, ap, ◌∙◌, subst, append_assoc, add-one, arith}
-use Rattle.std.proofs.lemmas.List.{append-nil, append_cancel_left, length_push}
+use Rattle.std.proofs.lemmas.List.{append_cancel_left, append_cancel_right, length_push}
 use Rattle.ptree.specs.Framed.{passing_all}
 use Rattle.ptree.specs.Pieces.{Pieces, turning_piece, passing_piece}
 use Rattle.ptree.specs.Readable.{IsReadable}
-use Rattle.ptree.specs.Spelled.{HasPieces}
+use Rattle.ptree.specs.Spelled.{HasPieces, ArePassing, Passed}
+use Rattle.ptree.proofs.Paths.{passing_all-push}
 use Rattle.ptree.proofs.Prefixes.{apart_never, same_front, same_kind}
 
--- so many passing pieces were taken from the front of text, and rest is left
-pub record Passed (p : Pieces) (text rest : List ℕ) (passed : ℕ) : Type 0 where
-  pub above : List Bool
-  pub count : length above ≡ passed
-  pub text_is : text ≡ passing_all p above ++ rest
-
 pub passed_none : (p : Pieces) (text : List ℕ) → Passed p text text 0
-passed_none p text = record { above = []; count = refl; text_is = refl }
+passed_none p text = record { above = []; count_is = refl; text_is = refl }
 
-pub passing_all-push : (p : Pieces) (above : List Bool) (b : Bool) → passing_all p (above ++ b ∷ []) ≡ passing_all p above ++ passing_piece p b
-passing_all-push p [] b = append-nil (passing_piece p b)
-passing_all-push p (a ∷ above) b = ap (λ z. passing_piece p a ++ z) (passing_all-push p above b) ∙ sym (append_assoc (passing_piece p a) (passing_all p above) (passing_piece p b))
+-- those of a line above, where they stand here too
+pub passed_same : (p : Pieces) (count : ℕ) (pieces text rest : List ℕ) → ArePassing p count pieces → text ≡ pieces ++ rest → Passed p text rest count
+passed_same p count pieces text rest (above, len, is) e = record { above = above; count_is = len; text_is = e ∙ ap (λ z. z ++ rest) is }
+
+-- what was passed, as a text
+pub passed_pieces : (p : Pieces) (text rest pieces : List ℕ) (count : ℕ) → Passed p text rest count → text ≡ pieces ++ rest → ArePassing p count pieces
+passed_pieces p text rest pieces count h e = (h.above, h.count_is, append_cancel_right pieces (passing_all p h.above) rest (sym e ∙ h.text_is))
 
 pub passed_more : (p : Pieces) (text rest behind : List ℕ) (passed : ℕ) → Passed p text rest passed → (b : Bool) × (rest ≡ passing_piece p b ++ behind)
     → Passed p text behind (passed + 1)
 passed_more p text rest behind passed h (b, is) = record {
   above = h.above ++ b ∷ [];
-  count = length_push h.above b ∙ ap (λ z. z + 1) h.count;
+  count_is = length_push h.above b ∙ ap (λ z. z + 1) h.count_is;
   text_is = h.text_is ∙ (ap (λ z. passing_all p h.above ++ z) is ∙ (sym (append_assoc (passing_all p h.above) (passing_piece p b) behind) ∙ ap (λ z. z ++ behind) (sym (passing_all-push p h.above b))));
 }
 
@@ -63,11 +62,11 @@ pub none_so_low : (p : Pieces) → IsReadable p → (text rest : List ℕ) (pass
     → (level : ℕ) (z : List ℕ) → level ≤ highest → HasPieces p level z text → ⊥
 none_so_low p r text rest passed highest h most zero z low (pieces, at, is) = absurd at
 none_so_low p r text rest passed highest h most (suc n) z low (pieces, (above', last, len, is'), is) =
-    let count = h.count in
+    let count = h.count_is in
     too_many p r h.above above' last rest z (omega (arith, len, count)) (sym h.text_is ∙ (is ∙ ap (λ y. y ++ z) is'))
 
 pub pieces_there : (p : Pieces) (text rest behind : List ℕ) (passed : ℕ) → Passed p text rest passed → (last : Bool) × (rest ≡ turning_piece p last ++ behind)
     → HasPieces p (passed + 1) behind text
 pieces_there p text rest behind passed h (last, is) =
     subst (λ n. HasPieces p n behind text) (sym (add-one passed))
-    (passing_all p h.above ++ turning_piece p last, (h.above, last, h.count, refl), h.text_is ∙ (ap (λ z. passing_all p h.above ++ z) is ∙ sym (append_assoc (passing_all p h.above) (turning_piece p last) behind)))
+    (passing_all p h.above ++ turning_piece p last, (h.above, last, h.count_is, refl), h.text_is ∙ (ap (λ z. passing_all p h.above ++ z) is ∙ sym (append_assoc (passing_all p h.above) (turning_piece p last) behind)))

@@ -1,11 +1,12 @@
 -- What the reader's values mean.
-use Rattle.std.specs.Prelude.{List, map, string_bytes}
+use Rattle.std.specs.Prelude.{◌≡◌, List, map, string_bytes}
 use Rattle.ptree.specs.declared.builder.Line.{Line as TextLine}
 use Rattle.ptree.specs.declared.read.CodeTexts.{CodeTexts}
 use Rattle.ptree.specs.declared.read.FrameTexts.{FrameTexts}
+use Rattle.ptree.specs.declared.read.Path.{Path}
 use Rattle.ptree.specs.declared.read.Spelled.{Spelled}
-use Rattle.ptree.specs.Framed.{Paint, Frame}
-use Rattle.ptree.specs.Pieces.{pieces_of}
+use Rattle.ptree.specs.Framed.{Paint, Frame, passing_all}
+use Rattle.ptree.specs.Pieces.{Pieces, pieces_of}
 use Rattle.ptree.specs.Spelled.{SpelledLine, spelled}
 
 -- the paint that codes make
@@ -23,3 +24,7 @@ spelled_line l = spelled l.level l.text.pieces.now l.text.text.now
 -- lines that were read
 abbrev pub spelled_lines : List (TextLine Spelled) → List SpelledLine
 spelled_lines lines = map spelled_line lines
+
+-- the path's pieces are those that its flags give
+abbrev pub IsPath : Pieces → Path → Type 0
+IsPath p path = string_bytes path.pieces ≡ passing_all p path.flags.items

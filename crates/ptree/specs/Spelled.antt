@@ -29,6 +29,16 @@ ArePiecesAt p zero pieces = ⊥
 ArePiecesAt p (suc n) pieces =
     (above : List Bool) × (last : Bool) × (length above ≡ n) × (pieces ≡ passing_all p above ++ turning_piece p last)
 
+-- so many passing pieces of either kind
+abbrev pub ArePassing : Pieces → ℕ → List ℕ → Type 0
+ArePassing p n pieces = (above : List Bool) × (length above ≡ n) × (pieces ≡ passing_all p above)
+
+-- so many passing pieces were taken from the front of text, and rest is left
+pub record Passed (p : Pieces) (text rest : List ℕ) (count : ℕ) : Type 0 where
+  pub above : List Bool
+  pub count_is : length above ≡ count
+  pub text_is : text ≡ passing_all p above ++ rest
+
 -- the line's pieces give its level, and its text holds no line feed
 abbrev pub IsSpelled : Pieces → SpelledLine → Type 0
 IsSpelled p l = ArePiecesAt p l.level l.pieces × HasNoLineFeed l.text

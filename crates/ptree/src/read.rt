@@ -1,15 +1,15 @@
 //! Reads a drawing back.
-ghost use Rattle.std.specs.Prelude.{◌≡◌, ◌≢◌, ℕ, ◌≤◌, ◌<◌, ◌+◌, ◌++◌, ◌∷◌, Bool, false, List, All, IsTrue, ◌↔◌, MatchOption, IfOk, IfSome, IfNone, IsSomeAnd, OnOk, string_bytes};
+ghost use Rattle.std.specs.Prelude.{◌≡◌, ◌≢◌, ℕ, ◌≤◌, ◌<◌, ◌+◌, ◌++◌, [], ◌∷◌, Bool, false, List, take, All, IsTrue, ◌↔◌, MatchOption, IfOk, IfSome, IfNone, IsSomeAnd, OnOk, string_bytes};
 ghost use Rattle.ptree.specs.Characters.{IsShippedWithoutTicks, ascii_tick, characters_of};
 ghost use Rattle.ptree.specs.Drawing.{Look, look_of};
 ghost use Rattle.ptree.specs.DrawnForm.{IsDrawnForm, ReadsOneWay, DrawAlike, nested_tree, flat_tree};
 ghost use Rattle.ptree.specs.Flags.{AreLastFlags, last_flags, spelled_by};
-ghost use Rattle.ptree.specs.Framed.{paint_in, frame_in, passing_all};
-ghost use Rattle.ptree.specs.Meant.{paint_of, frame_of, spelled_line, spelled_lines};
+ghost use Rattle.ptree.specs.Framed.{paint_in, frame_in};
+ghost use Rattle.ptree.specs.Meant.{paint_of, frame_of, spelled_line, spelled_lines, IsPath};
 ghost use Rattle.ptree.specs.Outline.{Line as OutlineLine};
-ghost use Rattle.ptree.specs.Pieces.{pieces_of, turning_piece, passing_piece, config_pieces};
+ghost use Rattle.ptree.specs.Pieces.{Pieces, pieces_of, turning_piece, passing_piece, config_pieces};
 ghost use Rattle.ptree.specs.Readable.{IsReadable, HasNoLineFeed};
-ghost use Rattle.ptree.specs.Spelled.{SpelledLine, HasPieces, HasText, HasLine, HasRoot, Spells, lines_in};
+ghost use Rattle.ptree.specs.Spelled.{SpelledLine, ArePassing, Passed, HasPieces, HasText, HasLine, HasRoot, Spells, lines_in};
 ghost use Rattle.ptree.specs.Style.{plain_style};
 ghost use Rattle.ptree.specs.Tree.{Tree, tree_of};
 
@@ -151,6 +151,13 @@ struct Spelled<'a> {
     text: &'a str,
 }
 
+/// The passing pieces at the front of a line, and how many they are.
+#[derive(Clone, Copy)]
+struct Passing<'a> {
+    count: u32,
+    pieces: &'a str,
+}
+
 impl<'a> AsStr for Spelled<'a> {
     ghost text = { λ s. s.text.now };
 
@@ -212,22 +219,42 @@ fn after_turning<'a>(text: &'a str, indent: &Indent) -> Option<&'a str>
     }
 }
 
-// The level that the pieces at the front give, and what follows them.
-fn after_pieces<'a>(text: &'a str, indent: &Indent, highest: u32) -> Option<(u32, &'a str)>
-    requires { IsReadable (pieces_of indent.now) }
+// How many passing pieces were taken from the front, and what follows them: those of the line above where they stand there
+// too, as they do but where a line stands higher than the one above it.
+fn after_same<'a>(text: &'a str, above: Passing<'_>) -> (u32, &'a str)
+    ensures { (p : Pieces) → ArePassing p above.entry.count above.entry.pieces.now → Passed p text.now result.1.now result.0 }
+{
+    match after(text, above.pieces) {
+        Some(rest) => (above.count, rest),
+        None => (0, text),
+    }
+}
+
+// The passing pieces at the front, and what follows them and the turning piece behind them.
+fn after_pieces<'a>(
+    text: &'a str,
+    indent: &Indent,
+    above: Passing<'_>,
+    highest: u32,
+) -> Option<(Passing<'a>, &'a str)>
+    requires readable { IsReadable (pieces_of indent.now) }
+    requires above { ArePassing (pieces_of indent.now) above.count above.pieces.now }
     ensures { MatchOption result
         ((level : ℕ) (rest : List ℕ) → level ≤ highest → HasPieces (pieces_of indent.now) level rest text.now → ⊥)
-        (λ r. (r.0 ≤ highest) × HasPieces (pieces_of indent.now) r.0 r.1.now text.now) }
+        (λ r. (r.0.count < highest) × ArePassing (pieces_of indent.now) r.0.count r.0.pieces.now
+        × HasPieces (pieces_of indent.now) (r.0.count + 1) r.1.now text.now) }
 {
-    let mut rest = text;
-    for passed in 0..highest {
+    let (mut count, mut rest) = after_same(text, above);
+    while count < highest {
         let Some(behind) = after_passing(rest, indent) else {
-            return match after_turning(rest, indent) {
-                Some(end) => Some((passed + 1, end)),
-                None => None,
+            let Some(end) = after_turning(rest, indent) else {
+                return None;
             };
+            let pieces = without_end(text, rest);
+            return Some((Passing { count, pieces }, end));
         };
         rest = behind;
+        count += 1;
     }
     None
 }
@@ -267,22 +294,25 @@ fn after_root<'a>(input: &'a str, frame: &FrameTexts) -> Option<(&'a str, &'a st
     after_text(own, &frame.leaf)
 }
 
-// The line at the front, its level being at most the highest, and what follows it.
+// The line at the front, its level being at most the highest, its passing pieces, and what follows it.
 fn after_line<'a>(
     input: &'a str,
     frame: &FrameTexts,
+    above: Passing<'_>,
     highest: u32,
-) -> Option<(Line<Spelled<'a>>, &'a str)>
+) -> Option<(Line<Spelled<'a>>, Passing<'a>, &'a str)>
     requires readable { IsReadable (frame_of frame.now).pieces }
     requires codes { HasNoLineFeed (frame_of frame.now).leaf.back }
+    requires above { ArePassing (frame_of frame.now).pieces above.count above.pieces.now }
     ensures { MatchOption result
         ((r : SpelledLine) (rest : List ℕ) → r.level ≤ highest → HasLine (frame_of frame.now) r rest input.now → ⊥)
-        (λ r. (r.0.level ≤ highest) × HasLine (frame_of frame.now) (spelled_line r.0) r.1.now input.now) }
+        (λ r. (r.0.level ≤ highest) × ArePassing (frame_of frame.now).pieces r.1.count r.1.pieces.now
+        × HasLine (frame_of frame.now) (spelled_line r.0) r.2.now input.now) }
 {
     let Some(open) = after(input, frame.branch.front.as_str()) else {
         return None;
     };
-    let Some((level, closed)) = after_pieces(open, &frame.indent, highest) else {
+    let Some((passing, closed)) = after_pieces(open, &frame.indent, above, highest) else {
         return None;
     };
     let pieces = without_end(open, closed);
@@ -292,8 +322,9 @@ fn after_line<'a>(
     let Some((text, rest)) = after_text(own, &frame.leaf) else {
         return None;
     };
+    let level = passing.count + 1;
     let text = Spelled { pieces, text };
-    Some((Line { level, text }, rest))
+    Some((Line { level, text }, passing, rest))
 }
 
 // The lines below the root's.
@@ -312,41 +343,89 @@ fn scan<'a>(
     let mut lines = Vec::new(alloc);
     let mut rest = body;
     let mut level: u32 = 0;
+    let mut above = Passing {
+        count: 0,
+        pieces: "",
+    };
     while !rest.is_empty() {
         let highest = depth.min(level.saturating_add(1));
-        let Some((line, behind)) = after_line(rest, frame, highest) else {
+        let Some((line, passing, behind)) = after_line(rest, frame, above, highest) else {
             return Ok(None);
         };
         level = line.level;
+        above = passing;
         lines.push(line)?;
         rest = behind;
     }
     Ok(Some(lines))
 }
 
-// Whether the pieces are those that the last flags of an item and of its ancestors give.
-fn are_pieces_by(pieces: &str, indent: &Indent, ancestors: &[bool], is_last: bool) -> bool
-    ensures { IsTrue result ↔ (pieces.now ≡ passing_all (pieces_of indent.now) ancestors.now ++ turning_piece (pieces_of indent.now) is_last) }
-{
-    let mut rest = pieces;
-    for flag in ancestors {
-        let Some(behind) = after(rest, indent.passing(*flag)) else {
-            return false;
-        };
-        rest = behind;
-    }
-    rest == indent.turning(is_last)
+/// Whether each item along a path from the root is a last child, and the passing pieces that this gives.
+#[derive(Drop)]
+struct Path {
+    flags: Vec<bool>,
+    pieces: String,
 }
 
-// Last flags for the levels up to this one. Below the levels that are noted each item is a last child.
-fn resize(flags: &mut Vec<bool>, level: usize) -> Result<(), AllocError>
-    ensures { OnOk result ((o : List OutlineLine) → AreLastFlags o flags.old.items → flags.new.items ≡ last_flags o level) }
-{
-    flags.truncate(level);
-    while flags.len() < level {
-        flags.push(true)?;
+impl Path {
+    // One level more.
+    fn push(&mut self, indent: &Indent, is_last: bool) -> Result<(), AllocError>
+        requires { IsPath (pieces_of indent.now) self.old }
+        ensures flags { OnOk result (self.new.flags.items ≡ self.old.flags.items ++ is_last ∷ []) }
+        ensures path { OnOk result (IsPath (pieces_of indent.now) self.new) }
+    {
+        self.pieces.push_str(indent.passing(is_last))?;
+        self.flags.push(is_last)?;
+        Ok(())
     }
-    Ok(())
+
+    // One level less, and the flag that stood there.
+    fn pop(&mut self, indent: &Indent) -> Option<bool>
+        requires { IsPath (pieces_of indent.now) self.old }
+        ensures flags { MatchOption result (self.old.flags.items ≡ []) (λ is_last. self.old.flags.items ≡ self.new.flags.items ++ is_last ∷ []) }
+        ensures path { IsPath (pieces_of indent.now) self.new }
+    {
+        let Some(is_last) = self.flags.pop() else {
+            return None;
+        };
+        let width = indent.passing(is_last).len();
+        self.pieces.truncate(self.pieces.len() - width);
+        Some(is_last)
+    }
+
+    // The levels down to this one.
+    fn cut(&mut self, indent: &Indent, level: usize)
+        requires { IsPath (pieces_of indent.now) self.old }
+        ensures flags { self.new.flags.items ≡ take level self.old.flags.items }
+        ensures path { IsPath (pieces_of indent.now) self.new }
+    {
+        while self.flags.len() > level {
+            self.pop(indent);
+        }
+    }
+
+    // Levels down to this one. Below those that are noted each item is a last child.
+    fn resize(&mut self, indent: &Indent, level: usize) -> Result<(), AllocError>
+        requires { IsPath (pieces_of indent.now) self.old }
+        ensures flags { OnOk result ((o : List OutlineLine) → AreLastFlags o self.old.flags.items → self.new.flags.items ≡ last_flags o level) }
+        ensures path { OnOk result (IsPath (pieces_of indent.now) self.new) }
+    {
+        self.cut(indent, level);
+        while self.flags.len() < level {
+            self.push(indent, true)?;
+        }
+        Ok(())
+    }
+}
+
+// Whether the text is the two parts.
+fn is_joined(text: &str, front: &str, back: &str) -> bool
+    ensures { IsTrue result ↔ (text.now ≡ front.now ++ back.now) }
+{
+    match after(text, front) {
+        Some(rest) => rest == back,
+        None => false,
+    }
 }
 
 // Whether the pieces of the lines are those that the levels of the lines give.
@@ -358,16 +437,23 @@ fn have_last_flags(
     requires { All (λ l. 0 < l.level) lines.now }
     ensures { IfOk result (λ b. IsTrue b ↔ (spelled_lines lines.now ≡ spelled_by (pieces_of indent.now) (lines_in (spelled_lines lines.now)))) }
 {
-    let mut flags = Vec::new(alloc);
+    let mut path = Path {
+        flags: Vec::new(alloc),
+        pieces: String::new(alloc),
+    };
     for line in lines.iter().rev() {
-        resize(&mut flags, line.level as usize)?;
-        let Some(is_last) = flags.pop() else {
+        path.resize(indent, line.level as usize)?;
+        let Some(is_last) = path.pop(indent) else {
             return Ok(false);
         };
-        if !are_pieces_by(line.text.pieces, indent, &flags, is_last) {
+        if !is_joined(
+            line.text.pieces,
+            path.pieces.as_str(),
+            indent.turning(is_last),
+        ) {
             return Ok(false);
         }
-        flags.push(false)?;
+        path.push(indent, false)?;
     }
     Ok(true)
 }

@@ -1,20 +1,21 @@
 use Rattle.std.proofs.Common.{rules, arith}
 use Rattle.ptree.specs.Pieces.{pieces_of}
-use Rattle.ptree.proofs.PieceScans.{passed_more, no_pieces, none_so_low, pieces_there}
+use Rattle.ptree.proofs.PieceScans.{passed_more, passed_pieces, no_pieces, none_so_low, pieces_there}
 use Rattle.ptree.proofs.read.after_pieces.Goals as goal
 
-pub returns-in-Some-after_turning : goal.returns-in-Some-after_turning
-returns-in-Some-after_turning c = (
+pub returns-in_default-after_turning : goal.returns-in_default-after_turning
+returns-in_default-after_turning c =
+    λ level z low. no_pieces (pieces_of c.args.indent.now) c.requires.readable c.args.text.now c.loop-count.rest.now c.loop-count.count c.loop-count.invariant.1 c.in_default-after_turning.ensures c.in_default.ensures level z
+
+pub returns-in_default : goal.returns-in_default
+returns-in_default c = (
   omega arith,
-  pieces_there (pieces_of c.args.indent.now) c.args.text.now c.loop-passed.rest.now c.in-Some-after_turning.end.now c.loop-passed.passed c.loop-passed.invariant.1 c.in-Some-after_turning.ensures,
+  passed_pieces (pieces_of c.args.indent.now) c.args.text.now c.loop-count.rest.now c.without_end-pieces.result.now c.loop-count.count c.loop-count.invariant.1 c.without_end-pieces.ensures,
+  pieces_there (pieces_of c.args.indent.now) c.args.text.now c.loop-count.rest.now c.in-Some-after_turning.end.now c.loop-count.count c.loop-count.invariant.1 c.in-Some-after_turning.ensures,
 )
 
-pub returns-in-None : goal.returns-in-None
-returns-in-None c =
-    λ level z low. no_pieces (pieces_of c.args.indent.now) c.requires c.args.text.now c.loop-passed.rest.now c.loop-passed.passed c.loop-passed.invariant.1 c.in-None.ensures c.in_default.ensures level z
-
-pub loop-passed-preserved : goal.loop-passed-preserved
-loop-passed-preserved c = (search rules, passed_more (pieces_of c.args.indent.now) c.args.text.now c.loop-passed.rest.now c.in-Some.behind.now c.loop-passed.passed c.loop-passed.invariant.1 c.in-Some.ensures)
+pub loop-count-preserved : goal.loop-count-preserved
+loop-count-preserved c = (search rules, passed_more (pieces_of c.args.indent.now) c.args.text.now c.loop-count.rest.now c.in-Some.behind.now c.loop-count.count c.loop-count.invariant.1 c.in-Some.ensures)
 
 pub returns : goal.returns
-returns c = none_so_low (pieces_of c.args.indent.now) c.requires c.args.text.now c.loop-passed.rest.now c.loop-passed.passed c.args.highest c.loop-passed.invariant.1 (omega arith)
+returns c = none_so_low (pieces_of c.args.indent.now) c.requires.readable c.args.text.now c.loop-count.rest.now c.loop-count.count c.args.highest c.loop-count.invariant.1 (omega arith)

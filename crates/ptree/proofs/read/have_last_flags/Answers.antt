@@ -4,6 +4,7 @@ use Rattle.std.proofs.lemmas.List.{map-append}
 use Rattle.std.proofs.lemmas.List.Elements.{All-map}
 use Rattle.std.specs.Iterator.Adapters.{rev_source}
 use Rattle.std.specs.Slice.Iter.{iter_rest}
+use Rattle.ptree.specs.Framed.{passing_all}
 use Rattle.ptree.specs.Meant.{spelled_line, spelled_lines}
 use Rattle.ptree.specs.Pieces.{pieces_of}
 use Rattle.ptree.specs.Spelled.{SpelledLine}
@@ -18,23 +19,24 @@ loop-line-init c =
     let low = All-map (λ (l : SpelledLine). 0 < l.level) spelled_line lines c.requires in (
       tt,
       tt,
-      subst (λ z. Upward (pieces_of c.args.indent.now) (spelled_lines lines) (spelled_lines z) c.new-flags.result.items) (sym all)
-          (upward_none (pieces_of c.args.indent.now) (spelled_lines lines) c.new-flags.result.items low c.new-flags.ensures.items),
+      subst (λ z. Upward (pieces_of c.args.indent.now) (spelled_lines lines) (spelled_lines z) c.new.result.items) (sym all)
+          (upward_none (pieces_of c.args.indent.now) (spelled_lines lines) c.new.result.items low c.new.ensures.items),
+      c.new-2.ensures.bytes ∙ ap (passing_all (pieces_of c.args.indent.now)) (sym c.new.ensures.items),
     )
 
-pub returns-then-not-are_pieces_by : goal.returns-then-not-are_pieces_by
-returns-then-not-are_pieces_by c =
+pub returns-then-not-is_joined : goal.returns-then-not-is_joined
+returns-then-not-is_joined c =
     let p = pieces_of c.args.indent.now in
     let left = iter_rest (rev_source c.next.new.self) in
     let l = spelled_line c.in-Some.line.now in
     let up = c.loop-line.invariant.2 in
     let step : spelled_lines (iter_rest (rev_source c.loop-line.line-iterator)) ≡ spelled_lines left ++ l ∷ [] =
     ap spelled_lines c.in-Some.ensures.steps ∙ map-append spelled_line left (c.in-Some.line.now ∷ []) in
-    let here = upward_here p (spelled_lines c.args.lines.now) _ (spelled_lines left) l c.loop-line.flags.items c.resize.new.flags.items c.pop.new.self.items c.in-Some-pop.is_last up step c.in_ok-resize.ensures c.in-Some-pop.ensures.items in
-    let pieces = rw c.deref.ensures.value at c.are_pieces_by.ensures in (
+    let here = upward_here p (spelled_lines c.args.lines.now) _ (spelled_lines left) l c.loop-line.path.flags.items c.resize.new.self.flags.items c.pop.new.self.flags.items c.in-Some-pop.is_last up step c.in_ok-resize.ensures.flags c.in-Some-pop.ensures.flags in
+    let pieces = rw (c.as_str.ensures.value, c.turning.ensures, c.pop.ensures.path) at c.is_joined.ensures in (
       λ no. absurd (false≢true no),
-      λ all. absurd (upward_wrong p (spelled_lines c.args.lines.now) _ (spelled_lines left) l c.loop-line.flags.items c.pop.new.self.items c.in-Some-pop.is_last up step here
-          (λ is. let yes = pieces.1 is in let no = c.if-not-are_pieces_by.true in cc) all),
+      λ all. absurd (upward_wrong p (spelled_lines c.args.lines.now) _ (spelled_lines left) l c.loop-line.path.flags.items c.pop.new.self.flags.items c.in-Some-pop.is_last up step here
+          (λ is. let yes = pieces.1 is in let no = c.if-not-is_joined.true in cc) all),
     )
 
 pub loop-line-preserved : goal.loop-line-preserved
@@ -45,10 +47,11 @@ loop-line-preserved c =
     let up = c.loop-line.invariant.2 in
     let step : spelled_lines (iter_rest (rev_source c.loop-line.line-iterator)) ≡ spelled_lines left ++ l ∷ [] =
     ap spelled_lines c.in-Some.ensures.steps ∙ map-append spelled_line left (c.in-Some.line.now ∷ []) in
-    let here = upward_here p (spelled_lines c.args.lines.now) _ (spelled_lines left) l c.loop-line.flags.items c.resize.new.flags.items c.pop.new.self.items c.in-Some-pop.is_last up step c.in_ok-resize.ensures c.in-Some-pop.ensures.items in
-    let pieces = rw c.deref.ensures.value at c.are_pieces_by.ensures in (
+    let here = upward_here p (spelled_lines c.args.lines.now) _ (spelled_lines left) l c.loop-line.path.flags.items c.resize.new.self.flags.items c.pop.new.self.flags.items c.in-Some-pop.is_last up step c.in_ok-resize.ensures.flags c.in-Some-pop.ensures.flags in
+    let pieces = rw (c.as_str.ensures.value, c.turning.ensures, c.pop.ensures.path) at c.is_joined.ensures in (
       tt,
       tt,
-      upward_more p (spelled_lines c.args.lines.now) _ (spelled_lines left) l c.loop-line.flags.items c.pop.new.self.items c.push.new.self.items c.in-Some-pop.is_last up step here
-          (pieces.0 c.if-not-are_pieces_by.false) c.in_ok-push.ensures.items,
+      upward_more p (spelled_lines c.args.lines.now) _ (spelled_lines left) l c.loop-line.path.flags.items c.pop.new.self.flags.items c.push.new.self.flags.items c.in-Some-pop.is_last up step here
+          (pieces.0 c.if-not-is_joined.false) c.in_ok-push.ensures.flags,
+      c.in_ok-push.ensures.path,
     )

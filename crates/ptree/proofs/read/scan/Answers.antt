@@ -1,9 +1,16 @@
-use Rattle.std.proofs.Common.{◌≡◌, ℕ, suc, ◌≤◌, [], length, rules, sym, ap, ◌∙◌, arith}
+use Rattle.std.proofs.Common.{◌≡◌, ℕ, suc, ◌≤◌, [], length, rules, refl, sym, ap, ◌∙◌, subst, arith}
 use Rattle.std.proofs.lemmas.Bool.{eqb-true, eqb-false}
 use Rattle.std.proofs.lemmas.List.{map-append, nil_from_length}
 use Rattle.ptree.specs.Meant.{frame_of, spelled_lines, spelled_line}
-use Rattle.ptree.proofs.LineScans.{scanned_more, scanned_all, no_lines}
+use Rattle.ptree.proofs.LineScans.{Scanned, scanned_none, scanned_more, scanned_all, no_lines}
 use Rattle.ptree.proofs.read.scan.Goals as goal
+
+pub loop-rest-init : goal.loop-rest-init
+loop-rest-init c = (
+  search rules,
+  subst (λ z. Scanned (frame_of c.args.frame.now) c.args.depth c.args.body.now c.args.body.now (spelled_lines z) 0) (sym c.new-lines.ensures.items) (scanned_none (frame_of c.args.frame.now) c.args.depth c.args.body.now),
+  ([], refl, refl),
+)
 
 pub returns-in_default : goal.returns-in_default
 returns-in_default c =
@@ -16,7 +23,8 @@ loop-rest-preserved c = (
   search rules,
   rw (c.in_ok-push.ensures.items, map-append)
       (scanned_more (frame_of c.args.frame.now) c.args.depth c.args.body.now c.loop-rest.rest.now c.in-Some.behind.now (spelled_lines c.loop-rest.lines.items) c.loop-rest.level (spelled_line c.in-Some.line)
-      c.loop-rest.invariant.1 c.in-Some.ensures.1 (omega (arith, c.in-Some.ensures.0, c.min-highest.ensures)) (omega (arith, c.in-Some.ensures.0, c.saturating_add.ensures, c.min-highest.ensures))),
+      c.loop-rest.invariant.1 c.in-Some.ensures.2 (omega (arith, c.in-Some.ensures.0, c.min-highest.ensures)) (omega (arith, c.in-Some.ensures.0, c.saturating_add.ensures, c.min-highest.ensures))),
+  c.in-Some.ensures.1,
 )
 
 pub returns : goal.returns
