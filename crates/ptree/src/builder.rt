@@ -157,11 +157,35 @@ pub(crate) fn tree_from_outline<T: AsStr>(
     requires steps { Steps 0 (lines_of T.text below.now) }
     ensures { IfOk result (λ t. outline (tree_of t) ≡ line 0 root.now ∷ lines_of T.text below.now) }
 {
-    let (children, _) = row_from_outline(alloc, below, 0)?;
+    let counts = child_counts(alloc, below)?;
+    let (children, _) = row_from_outline(alloc, below, 0, &counts)?;
     Ok(StringItem {
         text: String::from_str(alloc, root)?,
         children,
     })
+}
+
+// The number of children of each item, at the place that says how many lines follow the item's; all of them follow the root's.
+// It says what room to make, and nothing else.
+fn child_counts<T>(alloc: Global, lines: &[Line<T>]) -> Result<Vec<usize>, AllocError> {
+    let mut counts = Vec::with_capacity(alloc, lines.len().saturating_add(1))?;
+    // At the place of each level, the number of items there whose parent is still to come.
+    let mut orphans: Vec<usize> = Vec::new(alloc);
+    for line in lines.iter().rev() {
+        let level = line.level as usize;
+        counts.push(count_at(&orphans, level + 1))?;
+        orphans.resize(level + 1, 0)?;
+        if let Some(count) = orphans.last_mut() {
+            *count = count.saturating_add(1);
+        }
+    }
+    counts.push(count_at(&orphans, 1))?;
+    Ok(counts)
+}
+
+// The count at a place, and 0 beyond.
+fn count_at(counts: &[usize], place: usize) -> usize {
+    counts.get(place).copied().unwrap_or(0)
 }
 
 // The trees at the front that stand one level below `above`, and the lines after them.
@@ -169,18 +193,19 @@ fn row_from_outline<'a, T: AsStr>(
     alloc: Global,
     lines: &'a [Line<T>],
     above: u32,
+    counts: &[usize],
 ) -> Result<(Vec<StringItem>, &'a [Line<T>]), AllocError>
     requires steps { Steps above (lines_of T.text lines.now) }
     ensures { IfOk result (λ r. IsRow T.text above lines.now r.0.items r.1.now) }
 {
-    let mut items = Vec::new(alloc);
+    let mut items = Vec::with_capacity(alloc, count_at(counts, lines.len()))?;
     let mut rest = lines;
     while let Some((first, tail)) = rest.split_first() {
         if first.level <= above {
             break;
         }
         let text = String::from_str(alloc, first.text.as_str())?;
-        let (children, after) = row_from_outline(alloc, tail, first.level)?;
+        let (children, after) = row_from_outline(alloc, tail, first.level, counts)?;
         items.push(StringItem { text, children })?;
         rest = after;
     }
