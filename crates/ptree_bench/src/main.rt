@@ -3,6 +3,7 @@
 
 mod gallery;
 mod graphs;
+mod refusals;
 mod shapes;
 
 use gallery::draw_gallery;
@@ -12,6 +13,7 @@ use ptree::output::write_tree_with;
 use ptree::print_config::{PrintConfig, StyleWhen};
 use ptree::read::{pieces_readable, read_tree};
 use ptree::style::{Counted, DrawError};
+use refusals::make_calls;
 use shapes::shaped;
 use std::alloc::{AllocError, Global};
 use std::io::{self, BufWriter, Write};
@@ -131,6 +133,9 @@ fn main(rt: HostRuntime) -> io::Result<()> {
     let task = Task::from_args(&rt)?;
     if task.name.as_str() == "gallery" {
         return draw_gallery(&rt);
+    }
+    if task.name.as_str() == "refusals" {
+        return make_calls(&rt);
     }
     if task.name.as_str() == "graph" {
         return draw_graph(&rt, task.items, task.times);
