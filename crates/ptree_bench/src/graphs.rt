@@ -16,7 +16,7 @@ const EDGES: u32 = 5;
 // The greatest level that is drawn: there are 488,281 walks.
 const DEPTH: u32 = 8;
 
-// A graph of so many nodes, each with edges to nodes that lie far apart.
+// A graph of so many nodes.
 fn graph(alloc: Global, nodes: u32) -> Result<Graph<String>, AllocError> {
     let mut graph = Graph::new(alloc);
     for i in 0..nodes {
@@ -25,25 +25,38 @@ fn graph(alloc: Global, nodes: u32) -> Result<Graph<String>, AllocError> {
     Ok(graph)
 }
 
+// Where the edge of number `k` from node `i` goes, modulo the number of nodes. The neighbours of a node lie near it, or far
+// apart.
+fn target(neighbors: &str, i: u32, k: u32) -> u32 {
+    match neighbors {
+        "near" => i.wrapping_add(k).wrapping_add(1),
+        _ => i.wrapping_mul(7919).wrapping_add(k.wrapping_mul(104_729)),
+    }
+}
+
 // The edges of such a graph.
-fn edges(alloc: Global, nodes: u32) -> Result<Vec<(NodeIndex, NodeIndex)>, AllocError> {
+fn edges(
+    alloc: Global,
+    neighbors: &str,
+    nodes: u32,
+) -> Result<Vec<(NodeIndex, NodeIndex)>, AllocError> {
     let mut edges = Vec::new(alloc);
     for i in 0..nodes {
         for k in 0..EDGES {
-            let target = i.wrapping_mul(7919).wrapping_add(k.wrapping_mul(104_729)) % nodes.max(1);
+            let target = target(neighbors, i, k) % nodes.max(1);
             edges.push((NodeIndex(i as usize), NodeIndex(target as usize)))?;
         }
     }
     Ok(edges)
 }
 
-/// Times the making of a graph, its drawing, and the drawing of the same tree as items.
-pub fn draw_graph(rt: &HostRuntime, nodes: u32, times: u32) -> io::Result<()> {
+/// Times the making of a graph, its drawing, and the drawing of the same tree as items. The neighbours are `near`, or else far.
+pub fn draw_graph(rt: &HostRuntime, neighbors: &str, nodes: u32, times: u32) -> io::Result<()> {
     let alloc = rt.alloc();
     let mut config = PrintConfig::default(alloc)?;
     config.depth = DEPTH;
     let mut graph = graph(alloc, nodes)?;
-    let edges = edges(alloc, nodes)?;
+    let edges = edges(alloc, neighbors, nodes)?;
     let start = Instant::now(rt)?;
     let made = graph.extend_with_edges(&edges).is_ok();
     let making = start.elapsed(rt)?.as_nanos();

@@ -8,6 +8,7 @@ mod shapes;
 
 use gallery::draw_gallery;
 use graphs::draw_graph;
+use ptree::TreeBuilder;
 use ptree::item::StringItem;
 use ptree::output::write_tree_with;
 use ptree::print_config::{PrintConfig, StyleWhen};
@@ -122,9 +123,21 @@ fn read_back(rt: &HostRuntime, task: &Task, item: &StringItem) -> io::Result<()>
             return Ok(());
         }
         let start = Instant::now(rt)?;
-        let read = read_tree(alloc, text, &config)?.is_some();
+        let tree = read_tree(alloc, text, &config)?;
         let reading = start.elapsed(rt)?.as_nanos();
+        let read = tree.is_some();
         println!(rt; "{len} bytes, read in {reading} ns: {read}")?;
+    }
+    Ok(())
+}
+
+// Builds, with the time of each building.
+fn build(rt: &HostRuntime, task: &Task, builder: &mut TreeBuilder) -> io::Result<()> {
+    for _ in 0..task.times {
+        let start = Instant::now(rt)?;
+        let _item = builder.build()?;
+        let building = start.elapsed(rt)?.as_nanos();
+        println!(rt; "built in {building} ns")?;
     }
     Ok(())
 }
@@ -138,14 +151,14 @@ fn main(rt: HostRuntime) -> io::Result<()> {
         return make_calls(&rt);
     }
     if task.name.as_str() == "graph" {
-        return draw_graph(&rt, task.items, task.times);
+        return draw_graph(&rt, &task.shape, task.items, task.times);
     }
     let mut builder = shaped(rt.alloc(), &task.shape, task.items)?;
-    let start = Instant::now(&rt)?;
+    if task.name.as_str() == "build" {
+        return build(&rt, &task, &mut builder);
+    }
     let item = builder.build()?;
-    let building = start.elapsed(&rt)?.as_nanos();
     match task.name.as_str() {
-        "build" => println!(rt; "built in {building} ns"),
         "read" => read_back(&rt, &task, &item),
         "out" | "out-styled" => draw_out(&rt, &task, &item),
         _ => draw_in(&rt, &task, &item),
