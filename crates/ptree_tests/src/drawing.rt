@@ -1,11 +1,14 @@
 //! Drawings of trees of texts.
 
 use crate::trees::{drawn, leaf, over, petgraph, plain};
-use ptree::item::StringItem;
+use ptree::item::{Children, Shaped, StringItem, TreeItem};
+use ptree::output::write_tree_with;
 use ptree::print_config::{
     ASCII_CHARS_PLUS, ASCII_CHARS_TICK, PrintConfig, UTF_CHARS, UTF_CHARS_BOLD, UTF_CHARS_DASHED,
     UTF_CHARS_DOUBLE,
 };
+use ptree::style::{Counted, DrawError, Sink, Style};
+use std::alloc::{AllocError, Global};
 use std::str;
 use std::test::Fail;
 
@@ -93,5 +96,58 @@ fn a_long_chain_is_drawn(rt: HostRuntime) -> Result<(), Fail> {
     let bytes = drawn(alloc, &chain, &plain(alloc, ASCII_CHARS_PLUS, 3, u32::MAX)?)?;
     // The line of level n has 3 * n bytes of pieces, the text and a line feed.
     assert_eq!(rt; bytes.len(), 3 * 200 * 201 / 2 + 2 * 201);
+    Ok(())
+}
+
+// An item that has no memory for its children.
+#[derive(Drop)]
+struct Barren {
+    item: StringItem,
+}
+
+impl Shaped for Barren {
+    ghost use Rattle.ptree.specs.Tree.{tree_of, shape_of_tree};
+
+    ghost shape = { λ b. shape_of_tree (tree_of b.item) };
+}
+
+impl TreeItem for Barren {
+    type Child = Barren;
+
+    fn write_self<W: Sink>(
+        &self,
+        alloc: Global,
+        f: &mut W,
+        style: &Style,
+    ) -> Result<(), DrawError> {
+        self.item.write_self(alloc, f, style)
+    }
+
+    fn children(&self, _alloc: Global) -> Result<Children<'_, Barren>, AllocError> {
+        Err(AllocError)
+    }
+}
+
+#[test]
+fn children_not_asked_at_depth(rt: HostRuntime) -> Result<(), Fail> {
+    let alloc = rt.alloc();
+    let item = Barren {
+        item: leaf(alloc, "x")?,
+    };
+    for depth in [0, 1] {
+        let mut out = Counted::new(Vec::new(alloc));
+        let result = write_tree_with(alloc, &item, &mut out, &plain(alloc, UTF_CHARS, 3, depth)?);
+        let right = match &result {
+            Ok(()) => depth == 0,
+            Err(DrawError::Memory) => depth == 1,
+            Err(_) => false,
+        };
+        assert!(rt; right, "depth {depth}: {result:?}");
+        assert_eq!(rt;
+            out.into_inner().as_slice(),
+            b"x\n".as_slice(),
+            "depth {depth}"
+        );
+    }
     Ok(())
 }
