@@ -10,11 +10,14 @@ use std::alloc::{AllocError, Global};
 use std::time::Instant;
 use std::{io, str};
 
-// How many edges go out from each node.
+// How many edges go out from each node but the first.
 const EDGES: u32 = 5;
 
-// The greatest level that is drawn: there are 488,281 walks.
-const DEPTH: u32 = 8;
+// How many go out from the first, where the drawing starts.
+const FIRST_EDGES: u32 = 2;
+
+// The greatest level that is drawn: there are 976,563 walks.
+const DEPTH: u32 = 9;
 
 // A graph of so many nodes.
 fn graph(alloc: Global, nodes: u32) -> Result<Graph<String>, AllocError> {
@@ -42,7 +45,8 @@ fn edges(
 ) -> Result<Vec<(NodeIndex, NodeIndex)>, AllocError> {
     let mut edges = Vec::new(alloc);
     for i in 0..nodes {
-        for k in 0..EDGES {
+        let count = if i == 0 { FIRST_EDGES } else { EDGES };
+        for k in 0..count {
             let target = target(neighbors, i, k) % nodes.max(1);
             edges.push((NodeIndex(i as usize), NodeIndex(target as usize)))?;
         }

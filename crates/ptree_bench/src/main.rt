@@ -142,6 +142,14 @@ fn build(rt: &HostRuntime, task: &Task, builder: &mut TreeBuilder) -> io::Result
     Ok(())
 }
 
+// Clones a tree, to be measured for its memory.
+fn clone(task: &Task, item: &StringItem) -> io::Result<()> {
+    for _ in 0..task.times {
+        item.clone()?;
+    }
+    Ok(())
+}
+
 fn main(rt: HostRuntime) -> io::Result<()> {
     let task = Task::from_args(&rt)?;
     if task.name.as_str() == "gallery" {
@@ -159,6 +167,7 @@ fn main(rt: HostRuntime) -> io::Result<()> {
     }
     let item = builder.build()?;
     match task.name.as_str() {
+        "clone" => clone(&task, &item),
         "read" => read_back(&rt, &task, &item),
         "out" | "out-styled" => draw_out(&rt, &task, &item),
         _ => draw_in(&rt, &task, &item),
