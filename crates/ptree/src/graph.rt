@@ -127,7 +127,7 @@ impl<N> Graph<N> {
         // Each of them is a node.
         ensures nodes { All (λ u. u < length (weights_of self.now)) (neighbors_of (edges_of self.now) a.0) }
     {
-        let mut targets = Vec::new(*self.nodes.allocator());
+        let mut targets = Vec::with_capacity(*self.nodes.allocator(), self.degree(a))?;
         let mut number = self.newest(a);
         while number > 0 {
             let edge = &self.edges[number - 1];
@@ -164,6 +164,20 @@ impl<N> Graph<N> {
         };
         self.edges.push(edge).unwrap();
         self.nodes[source].newest = self.edges.len();
+    }
+
+    // How many edges there are from a node.
+    fn degree(&self, a: NodeIndex) -> usize
+        ensures no_node { length (weights_of self.now) ≤ a.0 → result ≡ 0 }
+    {
+        let mut count: usize = 0;
+        let mut number = self.newest(a);
+        while number > 0 {
+            let edge = &self.edges[number - 1];
+            count += 1;
+            number = edge.next;
+        }
+        count
     }
 
     // The number of the newest edge from a node, or 0.

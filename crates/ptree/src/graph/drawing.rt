@@ -131,7 +131,7 @@ impl<'a, N: Label> TreeItem for GraphNode<'a, N> {
 
     /// Makes an item of each neighbour.
     fn children(&self, alloc: Global) -> Result<Children<'_, GraphNode<'a, N>>, AllocError> {
-        let mut nodes = Vec::new(alloc);
+        let mut nodes = Vec::with_capacity(alloc, self.graph.degree(self.node))?;
         let mut number = self.graph.newest(self.node);
         while number > 0 {
             let edge = &self.graph.edges[number - 1];

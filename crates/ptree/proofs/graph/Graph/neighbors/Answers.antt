@@ -12,9 +12,9 @@ loop-number-init g c =
     let edges = edges_of c.args.self.now in
     let start = newest_starts edges c.args.a.0 c.newest-number.result c.newest-number.ensures.newest in
     record {
-      given = ap (λ ts. map (λ (b : NodeIndex). b.0) ts ++ neighbors_of (take c.newest-number.result edges) c.args.a.0) c.new-targets.ensures.items ∙ start.0;
+      given = ap (λ ts. map (λ (b : NodeIndex). b.0) ts ++ neighbors_of (take c.newest-number.result edges) c.args.a.0) c.in_ok-targets.ensures.items ∙ start.0;
       newest = start.1;
-      no_node = λ h. (c.newest-number.ensures.no_node h, c.new-targets.ensures.items);
+      no_node = λ h. (c.newest-number.ensures.no_node h, c.in_ok-targets.ensures.items);
     }
 
 pub index-edge-requires : goal.index-edge-requires
@@ -39,3 +39,6 @@ returns-clause-nodes g c = neighbors_below c.args.self.now c.args.a.0
 
 pub returns-in_err-push-clause-nodes : goal.returns-in_err-push-clause-nodes
 returns-in_err-push-clause-nodes g c = neighbors_below c.args.self.now c.args.a.0
+
+pub returns-in_err-targets-clause-nodes : goal.returns-in_err-targets-clause-nodes
+returns-in_err-targets-clause-nodes g c = neighbors_below c.args.self.now c.args.a.0

@@ -13,7 +13,7 @@ loop-number-init g c =
     let shape = node_shape g.N.Label.text c.args.self.now.graph.now in
     let start = newest_starts edges c.args.self.now.node.0 c.newest-number.result c.newest-number.ensures.newest in
     record {
-      given = ap (λ ns. map (λ x. node_shape g.N.Label.text x.graph.now x.node.0) ns ++ map shape (neighbors_of (take c.newest-number.result edges) c.args.self.now.node.0)) c.new-nodes.ensures.items ∙ ap (map shape) start.0;
+      given = ap (λ ns. map (λ x. node_shape g.N.Label.text x.graph.now x.node.0) ns ++ map shape (neighbors_of (take c.newest-number.result edges) c.args.self.now.node.0)) c.in_ok-nodes.ensures.items ∙ ap (map shape) start.0;
       newest = start.1;
     }
 
