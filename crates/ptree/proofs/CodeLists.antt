@@ -1,8 +1,9 @@
 -- Codes, one behind the other.
-use Rattle.std.proofs.Common.{◌≡◌, ℕ, ◌+◌, ◌<◌, Bool, true, false, List, [], ◌∷◌, ◌++◌, length, map, take, get_or, Option, Some, None, refl, ap, sym, ◌∙◌, append_assoc}
+use Rattle.std.proofs.Common.{◌≡◌, ℕ, ◌+◌, ◌<◌, ◌≤◌, Bool, true, List, [], ◌∷◌, ◌++◌, length, map, take, set, Option, Some, None, refl, ap, sym, ◌∙◌, append_assoc, arith}
 use Rattle.std.specs.Prelude.{filter, option_map, option_to_list, option_and_then}
-use Rattle.std.proofs.lemmas.List.{append-nil, take_more}
-use Rattle.std.proofs.lemmas.Grind.{flat_map-append}
+use Rattle.std.proofs.lemmas.List.{append-nil, length-set}
+use Rattle.std.proofs.lemmas.Fmt.{decimal_digit}
+use Rattle.std.proofs.lemmas.Grind.{flat_map-append, take-set_at}
 use Rattle.std.proofs.lemmas.List.Elements.{filter-append}
 use Rattle.std.proofs.lemmas.List.{map-append}
 use Rattle.std.proofs.lemmas.Simd.{map-map}
@@ -19,26 +20,32 @@ flag_codes-append xs ys =
     ap (λ fs. joined (map (λ flag. code (flag.1 ∷ [])) fs)) (filter-append (λ flag. flag.0) xs ys)
     ∙ ap joined (map-append (λ flag. code (flag.1 ∷ [])) _ _) ∙ flat_map-append (λ c. c) (flag_codes xs) (flag_codes ys)
 
-flag_codes_more : (base now : List ℕ) (fs : List (Bool × ℕ)) (i : ℕ) (d : Bool × ℕ) → i < length fs → now ≡ base ++ joined (flag_codes (take i fs))
-    → now ++ joined (flag_codes (get_or fs i d ∷ [])) ≡ base ++ joined (flag_codes (take (i + 1) fs))
-flag_codes_more base now fs i d l e =
-    ap (λ bs. bs ++ joined (flag_codes (get_or fs i d ∷ []))) e ∙ append_assoc base _ _
-    ∙ ap (λ bs. base ++ bs) (sym (flag_codes-append (take i fs) (get_or fs i d ∷ [])) ∙ ap (λ gs. joined (flag_codes gs)) (sym (take_more fs i d l)))
+-- one flag more
+pub flag_more : (base a b : List ℕ) (fs : List (Bool × ℕ)) (f : Bool × ℕ) → b ≡ a ++ joined (flag_codes (f ∷ [])) → a ≡ base ++ joined (flag_codes fs)
+    → b ≡ base ++ joined (flag_codes (fs ++ f ∷ []))
+flag_more base a b fs f e d =
+    e ∙ ap (λ bs. bs ++ joined (flag_codes (f ∷ []))) d ∙ append_assoc base _ _ ∙ ap (λ bs. base ++ bs) (sym (flag_codes-append fs (f ∷ [])))
 
-one_flag : (flag : Bool × ℕ) (b : Bool) → flag.0 ≡ b → joined (flag_codes (flag ∷ [])) ≡ joined (flag_codes ((b, flag.1) ∷ []))
-one_flag flag b e = ap (λ set. joined (flag_codes ((set, flag.1) ∷ []))) e
-
--- one flag more, which is set
-pub flag_set : (base now : List ℕ) (fs : List (Bool × ℕ)) (i : ℕ) (d : Bool × ℕ) → i < length fs → now ≡ base ++ joined (flag_codes (take i fs)) → (get_or fs i d).0 ≡ true
-    → now ++ code ((get_or fs i d).1 ∷ []) ≡ base ++ joined (flag_codes (take (i + 1) fs))
-flag_set base now fs i d l e t =
-    ap (λ bs. now ++ bs) (sym (append-nil (code ((get_or fs i d).1 ∷ []))) ∙ sym (one_flag (get_or fs i d) true t)) ∙ flag_codes_more base now fs i d l e
-
--- one flag more, which isn't
-pub flag_unset : (base now : List ℕ) (fs : List (Bool × ℕ)) (i : ℕ) (d : Bool × ℕ) → i < length fs → now ≡ base ++ joined (flag_codes (take i fs)) → (get_or fs i d).0 ≡ false
-    → now ≡ base ++ joined (flag_codes (take (i + 1) fs))
-flag_unset base now fs i d l e t =
-    sym (append-nil now) ∙ ap (λ bs. now ++ bs) (sym (one_flag (get_or fs i d) false t)) ∙ flag_codes_more base now fs i d l e
+-- the code of a flag that is set, byte by byte
+pub flag_set : (bytes : List ℕ) (at digit : ℕ) (b : Bool) → b ≡ true → digit < 10 → at + 4 ≤ length bytes
+    → take (at + 4) (set (set (set (set bytes at 27) (at + 1) 91) (at + 2) (48 + digit)) (at + 3) 109) ≡ take at bytes ++ joined (flag_codes ((b, digit) ∷ []))
+flag_set bytes at digit b t small room =
+    let one = set bytes at 27 in
+    let two = set one (at + 1) 91 in
+    let three = set two (at + 2) (48 + digit) in
+    let e1 : length one ≡ length bytes = length-set bytes at 27 in
+    let e2 : length two ≡ length one = length-set one (at + 1) 91 in
+    let e3 : length three ≡ length two = length-set two (at + 2) (48 + digit) in
+    take-set_at three (at + 3) (at + 4) 109 (omega arith) (omega (arith, e1, e2, e3))
+    ∙ ap (λ bs. bs ++ 109 ∷ []) (take-set_at two (at + 2) (at + 3) (48 + digit) (omega arith) (omega (arith, e1, e2))
+    ∙ ap (λ bs. bs ++ (48 + digit) ∷ []) (take-set_at one (at + 1) (at + 2) 91 (omega arith) (omega (arith, e1))
+    ∙ ap (λ bs. bs ++ 91 ∷ []) (take-set_at bytes at (at + 1) 27 (omega arith) (omega arith))))
+    ∙ pieces (take at bytes) (48 + digit)
+    ∙ ap (λ bs. take at bytes ++ 27 ∷ 91 ∷ (bs ++ 109 ∷ [])) (sym (decimal_digit digit small))
+    ∙ ap (λ bs. take at bytes ++ bs) (sym (append-nil (code (digit ∷ [])))) ∙ ap (λ is_set. take at bytes ++ joined (flag_codes ((is_set, digit) ∷ []))) (sym t)
+  where
+    pieces : (old : List ℕ) (d : ℕ) → (((old ++ 27 ∷ []) ++ 91 ∷ []) ++ d ∷ []) ++ 109 ∷ [] ≡ old ++ 27 ∷ 91 ∷ d ∷ 109 ∷ []
+    pieces old d = simp append_assoc
 
 -- what stands before a painted text, piece by piece
 pub front_codes_are : (style : Style) → front_codes style ≡ (joined (flag_codes (flags style)) ++ joined (side_codes style.foreground Foreground)) ++ joined (side_codes style.background Background)

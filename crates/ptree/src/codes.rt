@@ -1,15 +1,15 @@
 //! The codes of a style, gathered without memory.
-ghost use Rattle.std.specs.Prelude.{◌≡◌, ◌+◌, ◌*◌, ◌≤◌, ◌<◌, [], ◌∷◌, ◌++◌, length, IsUtf8, decimal, flat_map};
+ghost use Rattle.std.specs.Prelude.{◌≡◌, ◌+◌, ◌*◌, ◌≤◌, ◌<◌, [], ◌∷◌, ◌++◌, length, IsUtf8, decimal, flat_map, option_to_list};
 ghost use Rattle.ptree.specs.declared.codes.TheConstants.{ROOM};
 ghost use Rattle.ptree.specs.Color.{tone_parameters};
-ghost use Rattle.ptree.specs.Style.{code, flags, flag_codes, side_codes, front_codes, back_codes};
+ghost use Rattle.ptree.specs.Style.{code, flags, flag_codes, color_code, side_codes, front_codes, back_codes};
 
 use crate::colors::{Side, Tone, color_tone};
 use crate::style::{Color, Style};
 use std::str;
 
-// Eight flags take at most six bytes each, and two colours 22.
-const ROOM: usize = 92;
+// Eight flags take four bytes each, and two colours at most 22.
+const ROOM: usize = 76;
 
 /// Codes, one behind the other.
 #[derive(Drop)]
@@ -22,20 +22,39 @@ pub struct Codes {
 impl Codes {
     ghost use Rattle.ptree.specs.Codes.{IsOfEight, gathered, joined, reset_behind};
 
+    /// No code yet.
+    #[inline(always)]
+    pub fn none() -> Codes
+        ensures { result.len ≡ 0 }
+    {
+        Codes {
+            bytes: [0; ROOM],
+            len: 0,
+        }
+    }
+
     /// The codes of a style, in order.
     pub fn of(style: &Style) -> Codes
         ensures front { gathered result ≡ front_codes style.now }
         ensures back { reset_behind (gathered result) ≡ back_codes style.now }
         ensures utf8 { IsUtf8 (gathered result) }
     {
-        let mut codes = Codes {
-            bytes: [0; ROOM],
-            len: 0,
-        };
-        codes.push_flags(style);
-        codes.push_color(&style.foreground, Side::Foreground);
-        codes.push_color(&style.background, Side::Background);
+        let mut codes = Codes::none();
+        codes.gather(style);
         codes
+    }
+
+    /// Gathers the codes of a style, in order. Unlike `of`, it copies nothing where it stands in line.
+    #[inline(always)]
+    pub fn gather(&mut self, style: &Style)
+        requires { self.old.len ≡ 0 }
+        ensures front { gathered self.new ≡ front_codes style.now }
+        ensures back { reset_behind (gathered self.new) ≡ back_codes style.now }
+        ensures utf8 { IsUtf8 (gathered self.new) }
+    {
+        self.push_flags(style);
+        self.push_side(&style.foreground, Side::Foreground);
+        self.push_side(&style.background, Side::Background);
     }
 
     /// The codes' bytes.
@@ -61,36 +80,60 @@ impl Codes {
     }
 
     // A code for each flag that is set.
+    #[inline(always)]
     fn push_flags(&mut self, style: &Style)
-        requires { self.old.len + 48 ≤ ROOM }
+        requires { self.old.len + 32 ≤ ROOM }
         ensures text { gathered self.new ≡ gathered self.old ++ joined (flag_codes (flags style.now)) }
-        ensures len { self.new.len ≤ self.old.len + 48 }
+        ensures len { self.new.len ≤ self.old.len + 32 }
     {
-        let flags = [
-            (style.bold, 1),
-            (style.dimmed, 2),
-            (style.italic, 3),
-            (style.underline, 4),
-            (style.blink, 5),
-            (style.reverse, 7),
-            (style.hidden, 8),
-            (style.strikethrough, 9),
-        ];
-        for (is_set, number) in flags {
-            if is_set {
-                self.push_code(number, &[]);
-            }
+        self.push_flag(style.bold, 1);
+        self.push_flag(style.dimmed, 2);
+        self.push_flag(style.italic, 3);
+        self.push_flag(style.underline, 4);
+        self.push_flag(style.blink, 5);
+        self.push_flag(style.reverse, 7);
+        self.push_flag(style.hidden, 8);
+        self.push_flag(style.strikethrough, 9);
+    }
+
+    // The flag's code, if it is set. The length is read and stored once, so that the four bytes are stored at once.
+    #[inline(always)]
+    fn push_flag(&mut self, is_set: bool, digit: u8)
+        requires digit { digit < 10 }
+        requires room { self.old.len + 4 ≤ ROOM }
+        ensures text { gathered self.new ≡ gathered self.old ++ joined (flag_codes ((is_set, digit) ∷ [])) }
+        ensures len { self.new.len ≤ self.old.len + 4 }
+    {
+        if is_set {
+            let at = self.len;
+            self.bytes[at] = 27;
+            self.bytes[at + 1] = b'[';
+            self.bytes[at + 2] = b'0' + digit;
+            self.bytes[at + 3] = b'm';
+            self.len = at + 4;
         }
     }
 
     // The code that sets a side, if there is one.
     #[inline(always)]
-    fn push_color(&mut self, color: &Option<Color>, side: Side)
+    fn push_side(&mut self, color: &Option<Color>, side: Side)
         requires { self.old.len + 22 ≤ ROOM }
         ensures text { gathered self.new ≡ gathered self.old ++ joined (side_codes color.now side) }
         ensures len { self.new.len ≤ self.old.len + 22 }
     {
-        if let Some(tone) = color.as_ref().and_then(color_tone) {
+        if let Some(color) = color {
+            self.push_color(color, side);
+        }
+    }
+
+    // The code that sets a colour on a side, if it has one. It stands apart, since many styles have no colour.
+    #[inline(never)]
+    fn push_color(&mut self, color: &Color, side: Side)
+        requires { self.old.len + 22 ≤ ROOM }
+        ensures text { gathered self.new ≡ gathered self.old ++ joined (option_to_list (color_code color.now side)) }
+        ensures len { self.new.len ≤ self.old.len + 22 }
+    {
+        if let Some(tone) = color_tone(color) {
             self.push_tone(tone, side);
         }
     }

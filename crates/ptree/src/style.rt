@@ -199,10 +199,12 @@ impl Style {
         ensures cause { HasCause (W.faults f.old) (W.faults f.new) result }
         ensures memory { TakesNoMemory result }
     {
-        let codes = Codes::of(self);
-        put_all(f, codes.as_bytes())?;
+        let mut codes = Codes::none();
+        codes.gather(self);
+        put_codes(f, codes.as_bytes())?;
         put_all(f, input.as_bytes())?;
-        put_all(f, codes.reset().as_bytes())
+        put_all(f, codes.reset().as_bytes())?;
+        done()
     }
 
     /// A style that equals this one.
@@ -235,14 +237,8 @@ impl Style {
     fn is_plain(&self) -> bool
         ensures { IsTrue result → style_codes self.now ≡ [] }
     {
-        let has_flag = self.bold
-            | self.dimmed
-            | self.italic
-            | self.underline
-            | self.blink
-            | self.reverse
-            | self.hidden
-            | self.strikethrough;
+        let has_flag = (self.bold | self.dimmed | self.italic | self.underline)
+            || (self.blink | self.reverse | self.hidden | self.strikethrough);
         !has_flag && self.foreground.is_none() && self.background.is_none()
     }
 
@@ -389,6 +385,28 @@ impl<T: io::Read> Feed for Counted<T> {
         }
         result
     }
+}
+
+// No error. A result that is made in line is cheaper than one that has its room from the start of a function.
+#[inline(always)]
+fn done() -> Result<(), DrawError>
+    ensures { result ≡ Ok tt }
+{
+    Ok(())
+}
+
+// Writes codes. Most often there is one, of a flag, and four bytes are copied at once where their number is known.
+#[inline(always)]
+fn put_codes<W: Sink>(f: &mut W, codes: &[u8]) -> Result<(), DrawError>
+    ensures bytes { IsWritten (W.contents f.old) (W.contents f.new) result codes.now }
+    ensures cause { HasCause (W.faults f.old) (W.faults f.new) result }
+    ensures memory { TakesNoMemory result }
+{
+    match codes {
+        [a, b, c, d] => put_all(f, &[*a, *b, *c, *d])?,
+        _ => put_all(f, codes)?,
+    }
+    done()
 }
 
 /// Writes all the bytes, and what a sink leaves of them again. For no bytes nothing is asked of the sink.

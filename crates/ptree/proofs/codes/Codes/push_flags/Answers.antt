@@ -1,19 +1,14 @@
-use Rattle.std.proofs.Common.{ap, ◌∙◌, arith}
-use Rattle.ptree.specs.declared.codes.Codes.{Codes}
+use Rattle.std.proofs.Common.{take}
 use Rattle.ptree.specs.Codes.{gathered}
-use Rattle.ptree.proofs.CodeLists.{flag_set, flag_unset}
+use Rattle.ptree.specs.Style.{flags}
+use Rattle.ptree.proofs.CodeLists.{flag_more}
 use Rattle.ptree.proofs.codes.Codes.push_flags.Goals as goal
-use Rattle.ptree.proofs.codes.Codes.push_flags.Goals.{then-is_set, else-is_set}
 
-pub loop-is_set-preserved : goal.loop-is_set-preserved
-loop-is_set-preserved c =
-    elim c.if-is_set.branch [
-      | then-is_set w ↦ record {
-        text = ap gathered w.self-is ∙ w.push_code.ensures.text ∙ flag_set _ _ _ _ _ c.loop-is_set-test.true c.loop-is_set.invariant.text w.if-is_set.true;
-        len = omega (arith, ap (λ (codes : Codes). codes.len) w.self-is);
-      }
-      | else-is_set w ↦ record {
-        text = ap gathered w.self-is ∙ flag_unset _ _ _ _ _ c.loop-is_set-test.true c.loop-is_set.invariant.text w.if-is_set.false;
-        len = omega (arith, ap (λ (codes : Codes). codes.len) w.self-is);
-      }
-    ]
+pub returns-clause-text : goal.returns-clause-text
+returns-clause-text c =
+    let base = gathered c.args.self.now in
+    let fs = flags c.args.style.now in
+    flag_more base _ _ (take 7 fs) _ c.push_flag-8.ensures.text (flag_more base _ _ (take 6 fs) _ c.push_flag-7.ensures.text
+    (flag_more base _ _ (take 5 fs) _ c.push_flag-6.ensures.text (flag_more base _ _ (take 4 fs) _ c.push_flag-5.ensures.text
+    (flag_more base _ _ (take 3 fs) _ c.push_flag-4.ensures.text (flag_more base _ _ (take 2 fs) _ c.push_flag-3.ensures.text
+    (flag_more base _ _ (take 1 fs) _ c.push_flag-2.ensures.text c.push_flag.ensures.text))))))
