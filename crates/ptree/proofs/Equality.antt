@@ -1,10 +1,10 @@
 -- What `==` says of values that hold texts.
-use Rattle.std.proofs.Common.{◌≡◌, ◌↔◌, ◌&&◌, ◌==◌, ℕ, Bool, true, false, Option, Some, None, rules, ap, sym, ◌∙◌, refl, eq-eqb, eqb-true}
+use Rattle.std.proofs.Common.{◌≡◌, ◌↔◌, ◌&&◌, ◌==◌, ℕ, Bool, true, false, Option, Some, None, rules, ap, sym, refl, eq-eqb, eqb-true}
 use Rattle.std.specs.Prelude.{IsTrue, option_map}
 use Rattle.std.specs.Option.{option_eq}
 use Rattle.std.proofs.lemmas.Bool.{and_parts, and_from}
 use mathlib.Core.Bool.{beq}
-use denote.Enum.Bare.{sameb, same_true}
+use denote.Enum.Bare.{sameb}
 use Rattle.ptree.specs.declared.style.Color.{Color}
 use Rattle.ptree.specs.declared.style.Style.{Style}
 use Rattle.ptree.specs.declared.print_config.IndentChars.{IndentChars}

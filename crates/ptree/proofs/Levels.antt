@@ -4,7 +4,7 @@ use Rattle.std.proofs.lemmas.Bool.{lt-ltb, le-ltb, eq-eqb, ne_eqb}
 use Rattle.std.proofs.lemmas.List.{append-nil}
 use Rattle.ptree.specs.Flags.{has_later, last_flags, pieces_by, spelled_by}
 use Rattle.ptree.specs.Framed.{Frame, passing_all, entry}
-use Rattle.ptree.specs.Outline.{Line, line, outline_at, outline}
+use Rattle.ptree.specs.Outline.{Line, line, outline_at}
 use Rattle.ptree.specs.Pieces.{turning_piece}
 use Rattle.ptree.specs.Spelled.{spelled_text}
 use Rattle.ptree.specs.Tree.{Forest, none, item, Tree}

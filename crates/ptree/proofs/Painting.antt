@@ -1,11 +1,8 @@
 -- What writing the codes, the text and the reset leaves.
-use Rattle.std.proofs.Common.{◌≡◌, ℕ, List, ◌++◌, Option, Result, Ok, sym, subst}
+use Rattle.std.proofs.Common.{◌≡◌, ℕ, List, ◌++◌, Option, Result, subst}
 use Rattle.std.specs.Io.KnownBytes.{Appends}
 use Rattle.ptree.specs.Writing.{AppendsPart, IsWritten}
-use Rattle.ptree.proofs.Written.{part_more, part_then, appends_then}
-
-codes_and_text : (a b c : Option (List ℕ)) (x y front text : List ℕ) → x ≡ front → y ≡ text → Appends a b x → Appends b c y → Appends a c (front ++ text)
-codes_and_text a b c x y front text e f h k = appends_then a b c front text (subst (λ bs. Appends a b bs) e h) (subst (λ bs. Appends b c bs) f k)
+use Rattle.ptree.proofs.Written.{part_more, part_then, appends_then, written_then}
 
 -- the codes failed
 pub codes_part : (a b : Option (List ℕ)) (x front text back : List ℕ) → x ≡ front → AppendsPart a b x → AppendsPart a b (front ++ text ++ back)
@@ -16,15 +13,8 @@ pub text_part : (a b c : Option (List ℕ)) (x y front text back : List ℕ) →
 text_part a b c x y front text back e f h k =
     part_more a c (front ++ text) back (part_then a b c front text (subst (λ bs. Appends a b bs) e h) (subst (λ bs. AppendsPart b c bs) f k))
 
--- the reset failed
-pub back_part : (a b c d : Option (List ℕ)) (x y z front text back : List ℕ) → x ≡ front → y ≡ text → z ≡ back
-    → Appends a b x → Appends b c y → AppendsPart c d z → AppendsPart a d (front ++ text ++ back)
-back_part a b c d x y z front text back e f g h k w =
-    part_then a c d (front ++ text) back (codes_and_text a b c x y front text e f h k) (subst (λ bs. AppendsPart c d bs) g w)
-
 -- the reset is written last
-pub all_written : {A E : Type 0} (a b c d : Option (List ℕ)) (r : Result A E) (v : A) (x y z front text back : List ℕ) → x ≡ front → y ≡ text → z ≡ back
-    → Appends a b x → Appends b c y → Appends c d z → r ≡ Ok v → IsWritten a d r (front ++ text ++ back)
-all_written a b c d r v x y z front text back e f g h k w is_ok =
-    subst (λ r. IsWritten a d r (front ++ text ++ back)) (sym is_ok)
-    (appends_then a c d (front ++ text) back (codes_and_text a b c x y front text e f h k) (subst (λ bs. Appends c d bs) g w))
+pub all_written : {A E : Type 0} (a b c d : Option (List ℕ)) (r : Result A E) (x y z front text back : List ℕ) → x ≡ front → y ≡ text → z ≡ back
+    → Appends a b x → Appends b c y → IsWritten c d r z → IsWritten a d r (front ++ text ++ back)
+all_written a b c d r x y z front text back e f g h k w =
+    written_then a c d r (front ++ text) back (appends_then a b c front text (subst (λ bs. Appends a b bs) e h) (subst (λ bs. Appends b c bs) f k)) (subst (λ bs. IsWritten c d r bs) g w)

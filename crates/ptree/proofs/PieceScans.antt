@@ -1,6 +1,6 @@
 -- Going over the pieces at a line's front.
-use Rattle.std.proofs.Common.{◌≡◌, ◌≢◌, ℕ, zero, suc, ◌+◌, ◌<◌, ◌≤◌, Bool, List, [], ◌∷◌, ◌++◌, length, take, drop, get_or, refl, sym, ap, ◌∙◌, subst, append_assoc, add-one, arith}
-use Rattle.std.proofs.lemmas.List.{append_cancel_left, append_cancel_right, length_push}
+use Rattle.std.proofs.Common.{◌≡◌, ◌≢◌, ℕ, zero, suc, ◌+◌, ◌<◌, ◌≤◌, Bool, List, [], ◌∷◌, ◌++◌, length, refl, sym, ap, ◌∙◌, subst, append_assoc, add-one, arith}
+use Rattle.std.proofs.lemmas.List.{append_cancel_right, length_push}
 use Rattle.ptree.specs.Framed.{passing_all}
 use Rattle.ptree.specs.Pieces.{Pieces, turning_piece, passing_piece}
 use Rattle.ptree.specs.Readable.{IsReadable}

@@ -1,17 +1,16 @@
 -- A text is the drawn form of a tree just where it spells the tree's outline with the pieces that its levels give.
-use Rattle.std.proofs.Common.{◌≡◌, ◌≢◌, ℕ, zero, suc, ◌+◌, ◌<◌, ◌≤◌, List, [], ◌∷◌, ◌++◌, length, map, not, All, refl, sym, ap, ◌∙◌, subst, append_assoc, add-one, arith}
-use Rattle.std.proofs.lemmas.List.{append-nil, length_push}
+use Rattle.std.proofs.Common.{◌≡◌, ℕ, zero, suc, ◌+◌, ◌<◌, ◌≤◌, List, [], ◌∷◌, ◌++◌, not, All, refl, sym, ap, ◌∙◌, subst, append_assoc, arith}
+use Rattle.std.proofs.lemmas.List.{append-nil}
 use Rattle.std.proofs.lemmas.List.Elements.{All-nil, All-cons, All-head, All-tail}
-use Rattle.std.specs.Prelude.{◌↔◌}
 use Rattle.ptree.specs.Drawing.{Look}
 use Rattle.ptree.specs.DrawnForm.{HasOneLineTexts, IsDrawnForm}
 use Rattle.ptree.specs.Flags.{has_later, last_flags, pieces_by, spelled_by}
 use Rattle.ptree.specs.Framed.{Frame, frame_in, entry}
-use Rattle.ptree.specs.Outline.{Line, line, outline_at, outline, Steps}
+use Rattle.ptree.specs.Outline.{Line, line, outline_at, Steps}
 use Rattle.ptree.specs.Pieces.{Pieces}
 use Rattle.ptree.specs.Readable.{IsReadable, HasNoLineFeed}
 use Rattle.ptree.specs.Spelled.{SpelledLine, ArePiecesAt, IsSpelled, Spells, HasRoot, lines_in, spelled_text}
-use Rattle.ptree.specs.Tree.{Forest, none, item, Tree, tree, height}
+use Rattle.ptree.specs.Tree.{Forest, none, item, Tree, height}
 use Rattle.ptree.proofs.LastFlags.{length-last_flags}
 use Rattle.ptree.proofs.Levels.{tree_by_levels}
 use Rattle.ptree.proofs.Outlines.{same_tree}

@@ -203,8 +203,7 @@ impl Style {
         codes.gather(self);
         put_codes(f, codes.as_bytes())?;
         put_all(f, input.as_bytes())?;
-        put_all(f, codes.reset().as_bytes())?;
-        done()
+        put_all(f, codes.reset().as_bytes())
     }
 
     /// A style that equals this one.
@@ -387,15 +386,7 @@ impl<T: io::Read> Feed for Counted<T> {
     }
 }
 
-// No error. A result that is made in line is cheaper than one that has its room from the start of a function.
-#[inline(always)]
-fn done() -> Result<(), DrawError>
-    ensures { result ≡ Ok tt }
-{
-    Ok(())
-}
-
-// Writes codes. Most often there is one, of a flag, and four bytes are copied at once where their number is known.
+// Writes codes. Most often there is one, a flag's: four bytes are copied at once where their number is known.
 #[inline(always)]
 fn put_codes<W: Sink>(f: &mut W, codes: &[u8]) -> Result<(), DrawError>
     ensures bytes { IsWritten (W.contents f.old) (W.contents f.new) result codes.now }
@@ -403,10 +394,9 @@ fn put_codes<W: Sink>(f: &mut W, codes: &[u8]) -> Result<(), DrawError>
     ensures memory { TakesNoMemory result }
 {
     match codes {
-        [a, b, c, d] => put_all(f, &[*a, *b, *c, *d])?,
-        _ => put_all(f, codes)?,
+        [a, b, c, d] => put_all(f, &[*a, *b, *c, *d]),
+        _ => put_all(f, codes),
     }
-    done()
 }
 
 /// Writes all the bytes, and what a sink leaves of them again. For no bytes nothing is asked of the sink.

@@ -1,6 +1,4 @@
-use Rattle.std.proofs.Common.{sym, ap, ◌∙◌, subst}
 use Rattle.ptree.specs.Meant.{frame_of, spelled_lines}
-use Rattle.ptree.specs.Outline.{Steps, line}
 use Rattle.ptree.specs.Tree.{tree_of}
 use Rattle.ptree.proofs.Readings.{no_form_root, no_form_lines, no_form_flags, form_there, built_lines, below_root}
 use Rattle.ptree.proofs.read.read_in_frame.Goals as goal

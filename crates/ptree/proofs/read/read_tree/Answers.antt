@@ -2,7 +2,7 @@ use Rattle.std.proofs.Common.{sym, subst}
 use Rattle.std.specs.Prelude.{false}
 use Rattle.std.proofs.lemmas.Result.{IfOk-weaker}
 use Rattle.ptree.specs.declared.print_config.OutputKind.TheVariants.{Unknown}
-use Rattle.ptree.specs.Drawing.{Look, look_of}
+use Rattle.ptree.specs.Drawing.{look_of}
 use Rattle.ptree.specs.Framed.{Frame}
 use Rattle.ptree.specs.Readable.{HasNoLineFeed}
 use Rattle.ptree.proofs.Styles.{no_line_feed_back}

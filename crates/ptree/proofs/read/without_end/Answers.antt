@@ -1,4 +1,4 @@
-use Rattle.std.proofs.Common.{◌≡◌, ◌-◌, length, ap, sym, ◌∙◌, subst, length-append, IsCharBoundary, arith}
+use Rattle.std.proofs.Common.{◌≡◌, ◌-◌, length, ap, subst, length-append, IsCharBoundary, arith}
 use Rattle.std.proofs.lemmas.Str.{IsCharBoundary-at_seam}
 use Rattle.ptree.proofs.read.without_end.Goals as goal
 

@@ -1,5 +1,3 @@
-use Rattle.ptree.specs.Pieces.{pieces_of}
-use Rattle.ptree.specs.Readable.{IsReadable}
 use Rattle.ptree.proofs.output.Indent.is_readable.Goals.{then-is_one_line, else-is_one_line}
 use Rattle.ptree.proofs.output.Indent.is_readable.Goals as goal
 

@@ -1,5 +1,5 @@
 use Rattle.std.proofs.Common.{◌∙◌}
-use Rattle.ptree.proofs.Painting.{codes_part, text_part, back_part, all_written}
+use Rattle.ptree.proofs.Painting.{codes_part, text_part, all_written}
 use Rattle.ptree.proofs.Written.{written_err}
 use Rattle.ptree.proofs.style.Style.write_with_codes.Goals as goal
 
@@ -12,13 +12,7 @@ returns-in_err-put_all-clause-bytes g c =
     written_err _ _ _ _ _ c.from_residual-in_err-put_all.ensures.1
     (text_part _ _ _ _ _ _ _ _ (c.as_bytes.ensures ∙ c.gather.ensures.front) c.as_bytes-2.ensures.value c.in_ok-put_codes.ensures.bytes c.in_err-put_all.ensures.bytes)
 
-pub returns-in_err-put_all-2-clause-bytes : goal.returns-in_err-put_all-2-clause-bytes
-returns-in_err-put_all-2-clause-bytes g c =
-    written_err _ _ _ _ _ c.from_residual-in_err-put_all-2.ensures.1
-    (back_part _ _ _ _ _ _ _ _ _ _ (c.as_bytes.ensures ∙ c.gather.ensures.front) c.as_bytes-2.ensures.value (c.as_bytes-3.ensures.value ∙ c.reset.ensures ∙ c.gather.ensures.back)
-    c.in_ok-put_codes.ensures.bytes c.in_ok-put_all.ensures.bytes c.in_err-put_all-2.ensures.bytes)
-
 pub returns-clause-bytes : goal.returns-clause-bytes
 returns-clause-bytes g c =
-    all_written _ _ _ _ _ _ _ _ _ _ _ _ (c.as_bytes.ensures ∙ c.gather.ensures.front) c.as_bytes-2.ensures.value (c.as_bytes-3.ensures.value ∙ c.reset.ensures ∙ c.gather.ensures.back)
-    c.in_ok-put_codes.ensures.bytes c.in_ok-put_all.ensures.bytes c.in_ok-put_all-2.ensures.bytes c.done.ensures
+    all_written _ _ _ _ _ _ _ _ _ _ _ (c.as_bytes.ensures ∙ c.gather.ensures.front) c.as_bytes-2.ensures.value (c.as_bytes-3.ensures.value ∙ c.reset.ensures ∙ c.gather.ensures.back)
+    c.in_ok-put_codes.ensures.bytes c.in_ok-put_all.ensures.bytes c.put_all-2.ensures.bytes
