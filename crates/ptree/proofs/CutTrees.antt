@@ -1,12 +1,11 @@
 -- Trees that are cut are drawn as the whole ones.
-use Rattle.std.proofs.Common.{◌≡◌, ℕ, zero, suc, ◌≤◌, List, [], ◌∷◌, ◌++◌, map, sym, ◌∙◌, ap, subst, refl, arith}
-use Rattle.ptree.specs.Drawing.{Look, IsDrawing}
+use Rattle.std.proofs.Common.{◌≡◌, ℕ, zero, suc, ◌≤◌, List, [], ◌∷◌, ◌++◌, map, sym, ◌∙◌, ap, refl, arith}
+use Rattle.ptree.specs.Drawing.{Look}
 use Rattle.ptree.specs.Laws.{HasTreeCuts}
 use Rattle.ptree.specs.Lines.{own_lines, kid_lines, lines_below}
 use Rattle.ptree.specs.Shape.{kids}
 use Rattle.ptree.specs.Tree.{Forest, none, item, Tree, tree, trees, tree_kids, tree_own, shape_of_tree, cut_forest, cut_tree}
-use Rattle.ptree.proofs.Join.{drawn_is_drawing}
-use Rattle.ptree.proofs.Laws.{kid_lines-map, one_drawing}
+use Rattle.ptree.proofs.Laws.{kid_lines-map, same_drawings}
 use Rattle.ptree.proofs.TreeLemmas.{map_twice}
 use Rattle.ptree.proofs.Unfold.{kids_of_unfold}
 
@@ -38,7 +37,6 @@ lines_of_cut_tree look (suc d) (suc e) h front t =
     ∙ ap (kid_lines look (lines_below look d) front) (kids_of_unfold tree_own tree_kids t)
 
 pub drawing_of_cut_tree : (look : Look) (d : ℕ) → HasTreeCuts look d
-drawing_of_cut_tree look d = λ t e text h k.
-    subst (λ (y : List ℕ). IsDrawing look (shape_of_tree (cut_tree d t)) e y)
-    (ap (λ y. own_lines look [] [] (shape_of_tree t) ++ y) (lines_of_cut_tree look d e h [] t) ∙ sym (one_drawing look (shape_of_tree t) d text k))
-    (drawn_is_drawing look e (shape_of_tree (cut_tree d t)))
+drawing_of_cut_tree look d = λ t e text h.
+    same_drawings look (shape_of_tree t) (shape_of_tree (cut_tree d t)) d e
+    (sym (ap (λ y. own_lines look [] [] (shape_of_tree t) ++ y) (lines_of_cut_tree look d e h [] t))) text

@@ -1,5 +1,5 @@
 -- Laws of drawings.
-use Rattle.std.specs.Prelude.{slice_get, option_and_then, nat_lt, flat_map}
+use Rattle.std.specs.Prelude.{◌↔◌, slice_get, option_and_then, nat_lt, flat_map}
 use Rattle.std.specs.List.{range_with_len}
 use Rattle.std.proofs.Common.{◌≡◌, ℕ, zero, suc, ◌≤◌, true, cond, List, [], ◌∷◌, ◌++◌, map, Option, Some, None, length, sym, ◌∙◌, ap, subst, refl, append_assoc, arith}
 use Rattle.std.proofs.lemmas.Bool.Decides.{nat_tests}
@@ -72,12 +72,17 @@ lines_of_cut look (suc d) (suc e) h front t =
 pub one_drawing : (look : Look) (x : Shape) (d : ℕ) (text : List ℕ) → IsDrawing look x d text → text ≡ drawn look d x
 one_drawing look x d text h = h.2 ∙ ap (flat_map (entry_text look x)) (one_list kids x d h.0 (walk kids d x) h.1 (walk_is_list kids d x)) ∙ join look d x
 
--- the drawing at a depth is that of the cut tree at any greater one
-pub drawing_of_cut : (look : Look) (d e : ℕ) (t : Shape) (text : List ℕ) → d ≤ e → IsDrawing look t d text → IsDrawing look (cut d t) e text
-drawing_of_cut look d e t text h k =
-    subst (λ (y : List ℕ). IsDrawing look (cut d t) e y)
-    (ap (λ y. own_lines look [] [] t ++ y) (lines_of_cut look d e h [] t) ∙ sym (one_drawing look t d text k))
-    (drawn_is_drawing look e (cut d t))
+-- shapes whose lines are the same have the same drawings
+pub same_drawings : (look : Look) (x y : Shape) (d e : ℕ) → drawn look d x ≡ drawn look e y → (text : List ℕ) → IsDrawing look x d text ↔ IsDrawing look y e text
+same_drawings look x y d e h text = (
+  λ k. subst (λ (z : List ℕ). IsDrawing look y e z) (sym (one_drawing look x d text k ∙ h)) (drawn_is_drawing look e y),
+  λ k. subst (λ (z : List ℕ). IsDrawing look x d z) (sym (one_drawing look y e text k ∙ sym h)) (drawn_is_drawing look d x),
+)
+
+-- the drawings at a depth are those of the cut tree at any greater one
+pub drawing_of_cut : (look : Look) (d e : ℕ) (t : Shape) (text : List ℕ) → d ≤ e → IsDrawing look t d text ↔ IsDrawing look (cut d t) e text
+drawing_of_cut look d e t text h =
+    same_drawings look t (cut d t) d e (sym (ap (λ y. own_lines look [] [] t ++ y) (lines_of_cut look d e h [] t))) text
 
 -- ## Subtree
 

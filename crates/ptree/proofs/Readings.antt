@@ -5,7 +5,7 @@ use Rattle.std.proofs.lemmas.List.Elements.{All-nil, All-cons}
 use Rattle.ptree.specs.declared.builder.Line.{Line as TextLine}
 use Rattle.ptree.specs.declared.item.StringItem.{StringItem}
 use Rattle.ptree.specs.declared.read.Spelled.{Spelled}
-use Rattle.ptree.specs.Drawing.{Look}
+use Rattle.ptree.specs.Drawing.{Look, IsDrawing}
 use Rattle.ptree.specs.DrawnForm.{IsDrawnForm}
 use Rattle.ptree.specs.Flags.{spelled_by}
 use Rattle.ptree.specs.Framed.{Frame, frame_in}
@@ -14,7 +14,8 @@ use Rattle.ptree.specs.Outline.{Line, line, outline_at, outline, Steps}
 use Rattle.ptree.specs.Readable.{IsReadable, HasNoLineFeed}
 use Rattle.ptree.specs.Rows.{lines_of}
 use Rattle.ptree.specs.Spelled.{SpelledLine, HasRoot, Spells, lines_in}
-use Rattle.ptree.specs.Tree.{Tree, tree_of}
+use Rattle.ptree.specs.Tree.{Tree, tree_of, shape_of_tree}
+use Rattle.ptree.proofs.Laws.{one_drawing}
 use Rattle.ptree.proofs.LinesOnce.{root_once}
 use Rattle.ptree.proofs.SpelledForms.{Shows, tree_lines, lines_by, form_shows, shows_form, shows_once, same_drawn_form}
 
@@ -74,6 +75,14 @@ IsAnswer look depth x o = MatchOption o ((t : Tree) → IsDrawnForm look depth x
 pub answer_some : (look : Look) (depth : ℕ) (x : List ℕ) (o : Option StringItem) → IsAnswer look depth x o → IfSome o (λ s. IsDrawnForm look depth x (tree_of s))
 answer_some look depth x None h = tt
 answer_some look depth x (Some s) h = h
+
+-- what is drawn of the tree is the text
+pub answer_redrawn : (look : Look) (depth : ℕ) (x : List ℕ) (o : Option StringItem) → IsAnswer look depth x o
+    → IfSome o (λ s. (y : List ℕ) → IsDrawing look (shape_of_tree (tree_of s)) depth y → y ≡ x)
+answer_redrawn look depth x None h = tt
+answer_redrawn look depth x (Some s) h = λ y d.
+    let t = shape_of_tree (tree_of s) in
+    one_drawing look t depth y d ∙ sym (one_drawing look t depth x h.drawn)
 
 pub answer_none : (look : Look) (depth : ℕ) (x : List ℕ) (o : Option StringItem) → IsAnswer look depth x o → IfNone o ((t : Tree) → IsDrawnForm look depth x t → ⊥)
 answer_none look depth x None h = h

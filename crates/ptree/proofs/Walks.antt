@@ -1,6 +1,6 @@
 -- The drawing of a node is that of the tree of the walks from it.
-use Rattle.std.specs.Prelude.{slice_get, option_map, unwrap_or, All}
-use Rattle.std.proofs.Common.{◌≡◌, ℕ, zero, suc, ◌<◌, List, [], ◌∷◌, ◌++◌, map, Option, Some, None, length, sym, ◌∙◌, ap, subst, refl, arith}
+use Rattle.std.specs.Prelude.{◌↔◌, slice_get, option_map, unwrap_or, All}
+use Rattle.std.proofs.Common.{◌≡◌, ℕ, zero, suc, ◌<◌, List, [], ◌∷◌, ◌++◌, map, Option, Some, None, length, sym, ◌∙◌, ap, refl, arith}
 use Rattle.std.proofs.lemmas.List.Elements.{All-head, All-tail}
 use Rattle.ptree.specs.declared.graph.Graph.{Graph}
 use Rattle.ptree.specs.declared.style.Style.{Style}
@@ -11,8 +11,7 @@ use Rattle.ptree.specs.Pieces.{passing_piece, turning_piece}
 use Rattle.ptree.specs.Shape.{Shape, kids}
 use Rattle.ptree.specs.Style.{painted_text}
 use Rattle.ptree.specs.Tree.{tree_own, tree_kids, shape_of_tree}
-use Rattle.ptree.proofs.Join.{drawn_is_drawing}
-use Rattle.ptree.proofs.Laws.{one_drawing}
+use Rattle.ptree.proofs.Laws.{same_drawings}
 use Rattle.ptree.proofs.Links.{neighbors_below}
 use Rattle.ptree.proofs.TreeLemmas.{trees_of_forest, map_twice}
 use Rattle.ptree.proofs.Unfold.{kids_of_unfold}
@@ -83,7 +82,5 @@ module _ {N : Type 0} (text : N → List ℕ) (g : Graph N) where
 
   -- byte for byte
   pub drawing_of_walks : (look : Look) (d v : ℕ) → v < length (weights_of g) → (bytes : List ℕ)
-      → IsDrawing look (node_shape text g v) d bytes → IsDrawing look (shape_of_tree (walks text g v d)) d bytes
-  drawing_of_walks look d v h bytes k =
-      subst (λ (y : List ℕ). IsDrawing look (shape_of_walks v d) d y)
-      (sym (one_drawing look (node_shape text g v) d bytes k ∙ drawn_of_walks look d v h)) (drawn_is_drawing look d (shape_of_walks v d))
+      → IsDrawing look (node_shape text g v) d bytes ↔ IsDrawing look (shape_of_tree (walks text g v d)) d bytes
+  drawing_of_walks look d v h = same_drawings look (node_shape text g v) (shape_of_walks v d) d d (drawn_of_walks look d v h)

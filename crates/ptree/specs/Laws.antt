@@ -1,5 +1,5 @@
 -- Laws of address lists and of drawings.
-use Rattle.std.specs.Prelude.{◌≡◌, ℕ, ◌-◌, ◌≤◌, Bool, true, false, ◌&&◌, ◌==◌, List, [], ◌∷◌, ◌++◌, length, map, filter, Some}
+use Rattle.std.specs.Prelude.{◌≡◌, ◌↔◌, ℕ, ◌-◌, ◌≤◌, Bool, true, false, ◌&&◌, ◌==◌, List, [], ◌∷◌, ◌++◌, length, map, filter, Some}
 use Rattle.ptree.specs.Address.{Address, at, IsAddressList}
 use Rattle.ptree.specs.Drawing.{Look, passing_text, entry_text, IsDrawing}
 use Rattle.ptree.specs.Shape.{Shape, kids, cut}
@@ -9,16 +9,16 @@ use Rattle.ptree.specs.Tree.{Tree, shape_of_tree, cut_tree}
 abbrev pub HasOneList : Shape → ℕ → Type 0
 HasOneList x depth = (xs ys : List Address) → IsAddressList kids x depth xs → IsAddressList kids x depth ys → xs ≡ ys
 
--- the drawing of x at this depth is that of x cut there, at this or any greater depth
+-- the drawings of x at this depth are those of x cut there, at this or any greater depth
 abbrev pub HasCuts : Look → Shape → ℕ → Type 0
 HasCuts look x depth =
-    (deeper : ℕ) (text : List ℕ) → depth ≤ deeper → IsDrawing look x depth text → IsDrawing look (cut depth x) deeper text
+    (deeper : ℕ) (text : List ℕ) → depth ≤ deeper → IsDrawing look x depth text ↔ IsDrawing look (cut depth x) deeper text
 
--- the drawing of any tree at this depth is that of the tree cut there, at this or any greater depth
+-- the drawings of any tree at this depth are those of the tree cut there, at this or any greater depth
 abbrev pub HasTreeCuts : Look → ℕ → Type 0
 HasTreeCuts look depth =
     (t : Tree) (deeper : ℕ) (text : List ℕ) → depth ≤ deeper
-    → IsDrawing look (shape_of_tree t) depth text → IsDrawing look (shape_of_tree (cut_tree depth t)) deeper text
+    → IsDrawing look (shape_of_tree t) depth text ↔ IsDrawing look (shape_of_tree (cut_tree depth t)) deeper text
 
 -- a properly begins b
 abbrev pub begins_properly : Address → Address → Bool

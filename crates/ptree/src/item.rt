@@ -41,7 +41,7 @@ pub trait TreeItem: Shaped {
 }
 
 /// Children of an item: those that it holds, or ones that were made for the call.
-#[derive(Drop)]
+#[derive(Debug, Drop)]
 pub enum Children<'a, C> {
     /// The item's own.
     Lent(&'a [C]),

@@ -14,6 +14,6 @@ pub mod style;
 
 pub use builder::TreeBuilder;
 pub use item::TreeItem;
-pub use output::write_tree_with;
+pub use output::{print_tree_with, write_tree_with};
 pub use print_config::{IndentChars, PrintConfig};
 pub use style::{Color, Style};

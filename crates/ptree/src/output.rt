@@ -1,13 +1,12 @@
 //! Pieces and the drawing engine.
 ghost use Rattle.std.specs.Prelude.{◌≡◌, ◌↔◌, ℕ, Bool, IsTrue, true, false, length, take, if◌then◌else◌, ◌≤◌, ◌++◌, IfOk, OnOk, string_bytes, List, [], ◌∷◌, map};
-ghost use Rattle.ptree.specs.Writing.{IsWritten, HasCause};
+ghost use Rattle.ptree.specs.Writing.{IsWritten, HasCause, IsDrawn};
 ghost use Rattle.ptree.specs.Drawing.{look_from, look_of};
 ghost use Rattle.ptree.specs.Lines.{item_lines, kid_lines, lines_below, drawn};
 ghost use Rattle.ptree.specs.Pieces.{turning_piece, passing_piece, pieces_from, config_pieces, pieces_of};
 ghost use Rattle.ptree.specs.Characters.{characters_of};
 ghost use Rattle.ptree.specs.Laws.{HasOneList, HasCuts, HasTreeCuts, HasSubtrees};
 ghost use Rattle.ptree.specs.Readable.{HasNoLineFeed, AreApart, AreEqualOrApart, IsReadable};
-ghost use Rattle.ptree.specs.Writing.{IsDrawn};
 ghost use Rattle.ptree.specs.Style.{style_codes, front_codes, back_codes};
 ghost use Rattle.ptree.specs.declared.style.DrawError.TheVariants.{Memory};
 ghost use Rattle.ptree.specs.Brush.{IsReady, brush_look, turn_text, HasSlotCause};
@@ -579,7 +578,7 @@ where
     ensures cause { HasCause (W.faults f.old) (W.faults f.new) result }
     // One list of addresses meets the definition, and no other.
     ensures one_list { HasOneList (T.shape item.now) config.now.depth }
-    // The drawing at a depth is that of the shape cut there, at any greater depth.
+    // The drawings at a depth are those of the shape cut there, at that or any greater depth.
     ensures cut { HasCuts (look_of config.now OutputKind.Unknown false) (T.shape item.now) config.now.depth }
     // And so for every finite tree, cut as a tree.
     ensures cut_tree { HasTreeCuts (look_of config.now OutputKind.Unknown false) config.now.depth }

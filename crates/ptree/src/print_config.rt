@@ -87,6 +87,8 @@ impl PrintConfig {
         ensures value { result ≡ is_styled self.now.styled output_kind terminal }
         // `==` of kinds holds exactly at the same one.
         ensures equality { (other : OutputKind) → IsTrue (⟦<OutputKind as PartialEq>⟧.eq output_kind other) ↔ (output_kind ≡ other) }
+        // And so does `==` of when to style.
+        ensures when_equality { (other : StyleWhen) → IsTrue (⟦<StyleWhen as PartialEq>⟧.eq self.now.styled other) ↔ (self.now.styled ≡ other) }
     {
         match self.styled {
             StyleWhen::Never => false,

@@ -1,7 +1,7 @@
 //! Reads a drawing back.
 ghost use Rattle.std.specs.Prelude.{◌≡◌, ◌≢◌, ℕ, ◌≤◌, ◌<◌, ◌+◌, ◌++◌, [], ◌∷◌, Bool, false, List, take, All, IsTrue, ◌↔◌, MatchOption, IfOk, IfSome, IfNone, IsSomeAnd, OnOk, string_bytes};
 ghost use Rattle.ptree.specs.Characters.{IsShippedWithoutTicks, ascii_tick, characters_of};
-ghost use Rattle.ptree.specs.Drawing.{Look, look_of};
+ghost use Rattle.ptree.specs.Drawing.{Look, look_of, IsDrawing};
 ghost use Rattle.ptree.specs.DrawnForm.{IsDrawnForm, ReadsOneWay, DrawAlike, nested_tree, flat_tree};
 ghost use Rattle.ptree.specs.Flags.{AreLastFlags, last_flags, spelled_by};
 ghost use Rattle.ptree.specs.Framed.{paint_in, frame_in};
@@ -11,7 +11,7 @@ ghost use Rattle.ptree.specs.Pieces.{Pieces, pieces_of, turning_piece, passing_p
 ghost use Rattle.ptree.specs.Readable.{IsReadable, HasNoLineFeed};
 ghost use Rattle.ptree.specs.Spelled.{SpelledLine, ArePassing, Passed, HasPieces, HasText, HasLine, HasRoot, Spells, lines_in};
 ghost use Rattle.ptree.specs.Style.{plain_style};
-ghost use Rattle.ptree.specs.Tree.{Tree, tree_of};
+ghost use Rattle.ptree.specs.Tree.{Tree, tree_of, shape_of_tree};
 
 use crate::builder::{Line, tree_from_outline};
 use crate::item::StringItem;
@@ -70,6 +70,9 @@ pub fn read_tree(
     // What is drawn of a tree reads back as that tree.
     ensures drawn { (t : Tree) → IsDrawnForm (look_of config.now OutputKind.Unknown false) config.now.depth text.now t
         → IfOk result (λ o. IsSomeAnd o (λ s. tree_of s ≡ t)) }
+    // And what is drawn of the tree that was read is the text.
+    ensures redrawn { IfOk result (λ o. IfSome o (λ t. (drawing : List ℕ)
+        → IsDrawing (look_of config.now OutputKind.Unknown false) (shape_of_tree (tree_of t)) config.now.depth drawing → drawing ≡ text.now)) }
 {
     let frame = FrameTexts::from_config(alloc, config)?;
     read_in_frame(alloc, text, &frame, config.depth)

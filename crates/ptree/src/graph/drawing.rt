@@ -1,5 +1,5 @@
 //! What is drawn of a graph.
-ghost use Rattle.std.specs.Prelude.{◌≡◌, ℕ, ◌<◌, false, List, length, map, IfOk};
+ghost use Rattle.std.specs.Prelude.{◌≡◌, ◌↔◌, ℕ, ◌<◌, false, List, length, map, IfOk};
 ghost use Rattle.ptree.specs.Children.{children_items};
 ghost use Rattle.ptree.specs.Drawing.{look_of, IsDrawing};
 ghost use Rattle.ptree.specs.Graph.{weights_of, node_shape, walks};
@@ -161,10 +161,10 @@ pub fn write_graph_with<N: Label, W: Sink>(
 ) -> Result<(), DrawError>
     ensures bytes { IsDrawn (look_of config.now OutputKind.Unknown false) (node_shape N.text graph.now start.0) config.now.depth (W.contents f.old) (W.contents f.new) result }
     ensures cause { HasCause (W.faults f.old) (W.faults f.new) result }
-    // The drawing of a node is that of the tree of the walks from it.
+    // The drawings of a node are those of the tree of the walks from it.
     ensures walks { start.0 < length (weights_of graph.now) → (text : List ℕ)
         → IsDrawing (look_of config.now OutputKind.Unknown false) (node_shape N.text graph.now start.0) config.now.depth text
-        → IsDrawing (look_of config.now OutputKind.Unknown false) (shape_of_tree (walks N.text graph.now start.0 config.now.depth)) config.now.depth text }
+        ↔ IsDrawing (look_of config.now OutputKind.Unknown false) (shape_of_tree (walks N.text graph.now start.0 config.now.depth)) config.now.depth text }
 {
     write_tree_with(alloc, &GraphNode { graph, node: start }, f, config)
 }

@@ -12,7 +12,7 @@ pub returns-clause-one_list : goal.returns-clause-one_list
 returns-clause-one_list g c = one_list kids (g.T.Shaped.shape c.args.item.now) c.args.config.now.depth
 
 pub returns-clause-cut : goal.returns-clause-cut
-returns-clause-cut g c = λ e text h k. drawing_of_cut (look_of c.args.config.now Unknown false) c.args.config.now.depth e (g.T.Shaped.shape c.args.item.now) text h k
+returns-clause-cut g c = λ e text h. drawing_of_cut (look_of c.args.config.now Unknown false) c.args.config.now.depth e (g.T.Shaped.shape c.args.item.now) text h
 
 pub returns-clause-cut_tree : goal.returns-clause-cut_tree
 returns-clause-cut_tree g c = drawing_of_cut_tree (look_of c.args.config.now Unknown false) c.args.config.now.depth

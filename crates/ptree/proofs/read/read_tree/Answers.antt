@@ -6,7 +6,7 @@ use Rattle.ptree.specs.Drawing.{look_of}
 use Rattle.ptree.specs.Framed.{Frame}
 use Rattle.ptree.specs.Readable.{HasNoLineFeed}
 use Rattle.ptree.proofs.Styles.{no_line_feed_back}
-use Rattle.ptree.proofs.Readings.{answer_some, answer_none, answer_drawn}
+use Rattle.ptree.proofs.Readings.{answer_some, answer_none, answer_drawn, answer_redrawn}
 use Rattle.ptree.proofs.read.read_tree.Goals as goal
 
 pub returns-clause-some : goal.returns-clause-some
@@ -23,6 +23,11 @@ pub returns-clause-drawn : goal.returns-clause-drawn
 returns-clause-drawn c =
     let look = look_of c.args.config.now Unknown false in
     λ t d. IfOk-weaker c.read_in_frame.result _ _ (answer_drawn look c.args.config.now.depth c.args.text.now c.requires t d) (c.read_in_frame.ensures look c.in_ok-frame.ensures)
+
+pub returns-clause-redrawn : goal.returns-clause-redrawn
+returns-clause-redrawn c =
+    let look = look_of c.args.config.now Unknown false in
+    IfOk-weaker c.read_in_frame.result _ _ (answer_redrawn look c.args.config.now.depth c.args.text.now) (c.read_in_frame.ensures look c.in_ok-frame.ensures)
 
 pub read_in_frame-requires-clause-codes : goal.read_in_frame-requires-clause-codes
 read_in_frame-requires-clause-codes c =

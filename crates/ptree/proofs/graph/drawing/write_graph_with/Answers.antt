@@ -5,5 +5,5 @@ use Rattle.ptree.proofs.Walks.{drawing_of_walks}
 use Rattle.ptree.proofs.graph.drawing.write_graph_with.Goals as goal
 
 pub returns-clause-walks : goal.returns-clause-walks
-returns-clause-walks g c = λ h text k.
-    drawing_of_walks g.N.Label.text c.args.graph.now (look_of c.args.config.now Unknown false) c.args.config.now.depth c.args.start.0 h text k
+returns-clause-walks g c = λ h.
+    drawing_of_walks g.N.Label.text c.args.graph.now (look_of c.args.config.now Unknown false) c.args.config.now.depth c.args.start.0 h
