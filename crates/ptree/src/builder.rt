@@ -56,14 +56,15 @@ impl TreeBuilder {
         }
     }
 
-    /// The level of the current item, that of the root being 0.
+    /// The level of the current item, that of the root being 0. It says which calls can be made.
     pub fn level(&self) -> u32
         ensures { result ≡ self.now.level }
     {
         self.level
     }
 
-    /// Adds a child to the current item, and makes the new child current.
+    /// Adds a child to the current item, and makes the new child current. It can be called where [`level`](Self::level) is below
+    /// 4294967295.
     ///
     /// # Errors
     ///
@@ -78,7 +79,8 @@ impl TreeBuilder {
         self.add(text, true)
     }
 
-    /// Makes the current item's parent current. It takes no memory.
+    /// Makes the current item's parent current. It can be called where [`level`](Self::level) is above 0, that is below the root.
+    /// It takes no memory.
     pub fn end_child(&mut self) -> &mut Self
         requires { 0 < self.old.level }
         ensures same_reference { result.ghost_name ≡ self.entry.ghost_name }
@@ -89,7 +91,8 @@ impl TreeBuilder {
         self
     }
 
-    /// Adds a child without children to the current item, which stays current.
+    /// Adds a child without children to the current item, which stays current. It can be called where [`level`](Self::level) is
+    /// below 4294967295.
     ///
     /// # Errors
     ///

@@ -1,4 +1,18 @@
-//! Draws any tree as text with branches, and reads such a drawing back.
+//! Draws any tree as text with branches, and reads such a drawing back, exactly.
+//!
+//! What can be drawn is a [`TreeItem`]: a tree of texts ([`item::StringItem`], which [`TreeBuilder`] builds), a node of a
+//! [`graph::Graph`], or a type of your own. [`write_tree_with`] draws it to any [`style::Sink`] as a [`PrintConfig`] says, and
+//! [`read::read_tree`] answers the tree whose drawing a text is.
+//!
+//! ```text
+//! tree
+//! ├─ branch
+//! │  └─ leaf
+//! └─ empty branch
+//! ```
+//!
+//! Each call that takes memory is handed an allocator, and answers a refusal. Each call that writes has two clauses: what it
+//! appends (all of it on success, a beginning of it on a refusal), and that `Write` and `Zero` come exactly where the sink failed.
 #![tactic(auto)]
 
 pub mod builder;
