@@ -16,6 +16,7 @@ pub mod Pieces
 pub mod Readable
 pub mod Shape
 pub mod Style
+pub mod Text
 pub mod Tree
 pub mod TreeBuilder
 pub mod Writing
