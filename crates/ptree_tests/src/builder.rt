@@ -1,8 +1,7 @@
 //! Trees that a builder makes, and clones of items.
 
-use crate::trees::{drawn, plain};
+use crate::trees::{drawn, long_chain, plain, spelled};
 use ptree::TreeBuilder;
-use ptree::item::StringItem;
 use ptree::print_config::UTF_CHARS;
 use std::alloc::{AllocError, Global};
 use std::process::Abort;
@@ -37,26 +36,6 @@ fn add(
 fn end(rt: &impl Abort, builder: &mut TreeBuilder) {
     assert!(rt; 0 < builder.level());
     builder.end_child();
-}
-
-// Spells an item's text, and its children in brackets.
-fn spell(item: &StringItem, out: &mut String) -> Result<(), AllocError> {
-    out.push_str(item.text.as_str())?;
-    if item.children.is_empty() {
-        return Ok(());
-    }
-    for (i, child) in item.children.iter().enumerate() {
-        out.push_str(if i == 0 { " [" } else { ", " })?;
-        spell(child, out)?;
-    }
-    out.push_str("]")
-}
-
-// An item as `x [y, z]`.
-fn spelled(alloc: Global, item: &StringItem) -> Result<String, AllocError> {
-    let mut out = String::new(alloc);
-    spell(item, &mut out)?;
-    Ok(out)
 }
 
 #[test]
@@ -189,18 +168,16 @@ fn calls_are_chained(rt: HostRuntime) -> Result<(), Fail> {
 #[test]
 fn a_long_chain_is_drawn(rt: HostRuntime) -> Result<(), Fail> {
     let alloc = rt.alloc();
-    let mut builder = TreeBuilder::new(alloc, String::from_str(alloc, "root")?);
     let mut front = String::new(alloc);
     let mut text = String::from_str(alloc, "root\n")?;
     for _ in 0..200u32 {
-        begin(&rt, alloc, &mut builder, "x")?;
         text.push_str(front.as_str())?;
         text.push_str("└─ x\n")?;
         front.push_str("   ")?;
     }
     let bytes = drawn(
         alloc,
-        &builder.build()?,
+        &long_chain(&rt, alloc)?,
         &plain(alloc, UTF_CHARS, 3, u32::MAX)?,
     )?;
     assert_eq!(rt; str::from_utf8(&bytes)?, text.as_str());

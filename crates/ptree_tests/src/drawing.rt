@@ -1,11 +1,11 @@
 //! Drawings of trees of texts.
 
-use crate::trees::{drawn, leaf, over, petgraph, plain};
+use crate::trees::{drawn, leaf, over, petgraph, plain, printed};
 use ptree::item::{Children, Shaped, StringItem, TreeItem};
 use ptree::output::write_tree_with;
 use ptree::print_config::{
-    ASCII_CHARS_PLUS, ASCII_CHARS_TICK, PrintConfig, UTF_CHARS, UTF_CHARS_BOLD, UTF_CHARS_DASHED,
-    UTF_CHARS_DOUBLE,
+    ASCII_CHARS_PLUS, ASCII_CHARS_TICK, PrintConfig, StyleWhen, UTF_CHARS, UTF_CHARS_BOLD,
+    UTF_CHARS_DASHED, UTF_CHARS_DOUBLE,
 };
 use ptree::style::{Counted, DrawError, Sink, Style};
 use std::alloc::{AllocError, Global};
@@ -83,6 +83,33 @@ fn texts_are_written_as_they_are(rt: HostRuntime) -> Result<(), Fail> {
     assert_eq!(rt; str::from_utf8(&bytes)?, "r\n├─ \n├─ └─ b\n└─ a\nb\n");
     let bytes = drawn(alloc, &leaf(alloc, "")?, &config)?;
     assert_eq!(rt; str::from_utf8(&bytes)?, "\n");
+    Ok(())
+}
+
+#[test]
+fn styles_are_drawn_where_they_are_asked_for(rt: HostRuntime) -> Result<(), Fail> {
+    let alloc = rt.alloc();
+    let tree = over(alloc, "r", vec![in alloc; leaf(alloc, "a")?]?)?;
+    let mut config = PrintConfig::default(alloc)?;
+    let plain = "r\n└─ a\n";
+    let styled = "\x1b[2m\x1b[0mr\n\x1b[2m└─ \x1b[0ma\n";
+    let cases = [
+        (StyleWhen::Tty, plain, styled, plain),
+        (StyleWhen::Never, plain, plain, plain),
+        (StyleWhen::Always, styled, styled, styled),
+    ];
+    for (when, written, on_terminal, elsewhere) in cases {
+        config.styled = when;
+        let bytes = drawn(alloc, &tree, &config)?;
+        assert_eq!(rt; str::from_utf8(&bytes)?, written);
+        let bytes = printed(alloc, &tree, true, &config)?;
+        assert_eq!(rt; str::from_utf8(&bytes)?, on_terminal);
+        let bytes = printed(alloc, &tree, false, &config)?;
+        assert_eq!(rt; str::from_utf8(&bytes)?, elsewhere);
+    }
+    config.leaf.bold = true;
+    let bytes = drawn(alloc, &leaf(alloc, "r")?, &config)?;
+    assert_eq!(rt; str::from_utf8(&bytes)?, "\x1b[2m\x1b[0m\x1b[1mr\x1b[0m\n");
     Ok(())
 }
 

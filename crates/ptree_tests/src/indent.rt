@@ -9,8 +9,8 @@ use std::alloc::{AllocError, Global};
 use std::process::Abort;
 use std::test::Fail;
 
-// The pieces are these, in the order of the fields.
-fn assert_pieces(rt: &impl Abort, indent: &Indent, pieces: [&str; 4]) {
+/// The pieces are these, in the order of the fields.
+pub fn assert_pieces(rt: &impl Abort, indent: &Indent, pieces: [&str; 4]) {
     let found = [
         indent.regular_prefix.as_str(),
         indent.child_prefix.as_str(),
@@ -100,6 +100,7 @@ fn an_empty_text_is_repeated_at_once(rt: HostRuntime) -> Result<(), Fail> {
     };
     let indent = padded(alloc, usize::MAX, usize::MAX, set)?;
     assert_pieces(&rt, &indent, ["├", "│", "└", ""]);
+    assert!(rt; !indent.is_readable());
     Ok(())
 }
 

@@ -1,11 +1,10 @@
 //! Drawings that are read back, and texts that are none.
 
-use crate::trees::{count_items, drawn, leaf, over, petgraph, plain};
+use crate::trees::{count_items, drawn, leaf, long_chain, over, petgraph, plain, spelled};
 use ptree::item::StringItem;
 use ptree::output::Indent;
 use ptree::print_config::{
-    ASCII_CHARS_PLUS, ASCII_CHARS_TICK, IndentChars, PrintConfig, StaticIndentChars, StyleWhen,
-    UTF_CHARS,
+    ASCII_CHARS_PLUS, ASCII_CHARS_TICK, PrintConfig, StaticIndentChars, StyleWhen, UTF_CHARS,
 };
 use ptree::read::{pieces_readable, read_tree};
 use std::alloc::{AllocError, Global};
@@ -38,18 +37,18 @@ fn texts_that_are_drawings(rt: HostRuntime) -> Result<(), Fail> {
     let alloc = rt.alloc();
     let config = plain(alloc, UTF_CHARS, 3, u32::MAX)?;
     let cases = [
-        ("\n", 1),
-        ("r\n", 1),
-        ("r\n└─ a\n", 2),
-        ("r\n├─ a\n│  └─ b\n└─ c\n", 4),
-        ("r\n└─ └─ b\n", 2),
-        ("r\n└─ \n", 2),
-        ("r\r\n└─ a\r\n", 2),
-        ("r\u{85}\n└─ a\u{2028}b\n", 2),
+        ("\n", ""),
+        ("r\n", "r"),
+        ("r\n└─ a\n", "r [a]"),
+        ("r\n├─ a\n│  └─ b\n└─ c\n", "r [a [b], c]"),
+        ("r\n└─ └─ b\n", "r [└─ b]"),
+        ("r\n└─ \n", "r []"),
+        ("r\r\n└─ a\r\n", "r\r [a\r]"),
+        ("r\u{85}\n└─ a\u{2028}b\n", "r\u{85} [a\u{2028}b]"),
     ];
     for (text, items) in cases {
         let tree = read(alloc, text, &config)?.ok_or("no drawing")?;
-        assert_eq!(rt; count_items(&tree), items);
+        assert_eq!(rt; spelled(alloc, &tree)?.as_str(), items);
         assert_eq!(rt; str::from_utf8(&drawn(alloc, &tree, &config)?)?, text);
     }
     Ok(())
@@ -87,6 +86,7 @@ fn levels_past_the_depth_are_no_drawing(rt: HostRuntime) -> Result<(), Fail> {
         let config = plain(alloc, UTF_CHARS, 3, depth)?;
         assert_eq!(rt; read(alloc, text, &config)?.is_some(), is_read, "{depth}");
         assert!(rt; read(alloc, "r\n", &config)?.is_some());
+        assert_eq!(rt; read(alloc, "r\n└─ a\n", &config)?.is_some(), depth > 0);
     }
     Ok(())
 }
@@ -97,10 +97,11 @@ fn fronts_of_a_drawing(rt: HostRuntime) -> Result<(), Fail> {
     let config = plain(alloc, ASCII_CHARS_PLUS, 3, u32::MAX)?;
     let text = "r\n+- a\n|  +- b\n+- c\n";
     assert_eq!(rt; text.len(), 20);
-    for (n, items) in [(2, 1), (7, 2), (20, 4)] {
+    for (n, items) in [(2, "r"), (7, "r [a]"), (20, "r [a [b], c]")] {
         let front = text.get(..n).ok_or("no front")?;
         let tree = read(alloc, front, &config)?.ok_or("no drawing")?;
-        assert_eq!(rt; count_items(&tree), items);
+        assert_eq!(rt; spelled(alloc, &tree)?.as_str(), items);
+        assert_eq!(rt; str::from_utf8(&drawn(alloc, &tree, &config)?)?, front);
     }
     for n in 0..20 {
         if n != 2 && n != 7 {
@@ -118,7 +119,7 @@ fn styled_drawings_read_back(rt: HostRuntime) -> Result<(), Fail> {
     config.styled = StyleWhen::Always;
     let text = "\x1b[2m\x1b[0mr\n\x1b[2m└─ \x1b[0ma\n";
     let tree = read(alloc, text, &config)?.ok_or("no drawing")?;
-    assert_eq!(rt; count_items(&tree), 2);
+    assert_eq!(rt; spelled(alloc, &tree)?.as_str(), "r [a]");
     assert!(rt; read(alloc, "r\n└─ a\n", &config)?.is_none());
     let reset = "\x1b[2m\x1b[0mr\n\x1b[2m└─ \x1b[0ma\x1b[0m\n";
     let tree = read(alloc, reset, &config)?.ok_or("no drawing")?;
@@ -163,6 +164,7 @@ fn readable_sets(rt: HostRuntime) -> Result<(), Fail> {
 #[test]
 fn sets_of_ones_own(rt: HostRuntime) -> Result<(), Fail> {
     let alloc = rt.alloc();
+    let all = usize::MAX;
     let set = |down_and_right, down, turn_right, right, empty| StaticIndentChars {
         down_and_right,
         down,
@@ -176,11 +178,12 @@ fn sets_of_ones_own(rt: HostRuntime) -> Result<(), Fail> {
         (set("", "", "", "", ""), 3, 1, false),
         (set("x", "x", "x", "x", "x"), 3, 1, false),
         (set("\n", "│", "└", "─", " "), 0, 0, false),
-        (set("├", "│", "└", "─", ""), 9, 9, false),
+        (set("├", "│", "└", "─", ""), all, all, false),
     ];
     for (characters, indent, padding, readable) in cases {
-        let characters = IndentChars::from_static(alloc, characters)?;
-        let pieces = Indent::from_characters_and_padding(alloc, indent, padding, &characters)?;
+        let config = set_of(alloc, characters, indent, padding)?;
+        assert_eq!(rt; pieces_readable(alloc, &config)?, readable);
+        let pieces = Indent::from_config(alloc, &config)?;
         assert_eq!(rt; pieces.is_readable(), readable);
     }
     Ok(())
@@ -199,7 +202,7 @@ fn pieces_of_one_kind_may_be_equal(rt: HostRuntime) -> Result<(), Fail> {
     let config = set_of(alloc, set, 3, 1)?;
     let text = "r\n+- a\n   +- b\n+- c\n";
     let tree = read(alloc, text, &config)?.ok_or("no drawing")?;
-    assert_eq!(rt; tree.children.len(), 2);
+    assert_eq!(rt; spelled(alloc, &tree)?.as_str(), "r [a [b], c]");
     assert_eq!(rt; str::from_utf8(&drawn(alloc, &tree, &config)?)?, text);
     Ok(())
 }
@@ -207,14 +210,21 @@ fn pieces_of_one_kind_may_be_equal(rt: HostRuntime) -> Result<(), Fail> {
 #[test]
 fn two_trees_draw_alike_with_short_ticks(rt: HostRuntime) -> Result<(), Fail> {
     let alloc = rt.alloc();
-    let config = set_of(alloc, ASCII_CHARS_TICK, 2, 1)?;
-    let below = vec![in alloc; leaf(alloc, "b")?]?;
-    let nested = vec![in alloc; over(alloc, "a", below)?, leaf(alloc, "c")?]?;
-    let flat = vec![in alloc; leaf(alloc, "a")?, leaf(alloc, "` b")?, leaf(alloc, "c")?]?;
-    let first = drawn(alloc, &over(alloc, "r", nested)?, &config)?;
-    let second = drawn(alloc, &over(alloc, "r", flat)?, &config)?;
-    assert_eq!(rt; str::from_utf8(&first)?, "r\n| a\n| ` b\n` c\n");
-    assert!(rt; first.as_slice() == second.as_slice());
+    let mut config = set_of(alloc, ASCII_CHARS_TICK, 2, 1)?;
+    config.depth = 2;
+    let cases = [
+        (["r", "a", "b", "` b", "c"], "r\n| a\n| ` b\n` c\n"),
+        (["", "", "", "` ", ""], "\n| \n| ` \n` \n"),
+    ];
+    for ([r, a, b, tick_b, c], text) in cases {
+        let below = vec![in alloc; leaf(alloc, b)?]?;
+        let nested = vec![in alloc; over(alloc, a, below)?, leaf(alloc, c)?]?;
+        let flat = vec![in alloc; leaf(alloc, a)?, leaf(alloc, tick_b)?, leaf(alloc, c)?]?;
+        for children in [nested, flat] {
+            let bytes = drawn(alloc, &over(alloc, r, children)?, &config)?;
+            assert_eq!(rt; str::from_utf8(&bytes)?, text);
+        }
+    }
     Ok(())
 }
 
@@ -224,7 +234,10 @@ fn a_changed_piece_is_told(rt: HostRuntime) -> Result<(), Fail> {
     let config = plain(alloc, UTF_CHARS, 4, u32::MAX)?;
     let bytes = drawn(alloc, &petgraph(alloc)?, &config)?;
     let tree = read(alloc, str::from_utf8(&bytes)?, &config)?.ok_or("no drawing")?;
-    assert_eq!(rt; count_items(&tree), 6);
+    assert_eq!(rt;
+        spelled(alloc, &tree)?.as_str(),
+        "petgraph [quickcheck [libc, rand [libc]], fixedbitset]"
+    );
     let changed = "\
 petgraph
 ├── quickcheck
@@ -234,6 +247,21 @@ petgraph
 └── fixedbitset
 ";
     assert!(rt; read(alloc, changed, &config)?.is_none());
+    Ok(())
+}
+
+#[test]
+fn a_long_chain_reads_back(rt: HostRuntime) -> Result<(), Fail> {
+    let alloc = rt.alloc();
+    let config = plain(alloc, UTF_CHARS, 3, u32::MAX)?;
+    let chain = long_chain(&rt, alloc)?;
+    let bytes = drawn(alloc, &chain, &config)?;
+    let back = read(alloc, str::from_utf8(&bytes)?, &config)?.ok_or("no drawing")?;
+    assert_eq!(rt;
+        spelled(alloc, &back)?.as_str(),
+        spelled(alloc, &chain)?.as_str()
+    );
+    assert!(rt; drawn(alloc, &back, &config)?.as_slice() == bytes.as_slice());
     Ok(())
 }
 

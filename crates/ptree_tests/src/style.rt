@@ -403,8 +403,10 @@ fn names_are_known_in_any_case(rt: HostRuntime) -> Result<(), Fail> {
         ),
     ];
     for (upper, mixed, on_front, on_back) in names {
-        paints(&rt, alloc, &on_text(named(alloc, upper)?), "x", on_front)?;
-        paints(&rt, alloc, &behind(named(alloc, mixed)?), "x", on_back)?;
+        for name in [upper, mixed] {
+            paints(&rt, alloc, &on_text(named(alloc, name)?), "x", on_front)?;
+            paints(&rt, alloc, &behind(named(alloc, name)?), "x", on_back)?;
+        }
     }
     Ok(())
 }
@@ -499,8 +501,10 @@ fn an_unknown_name_sets_no_color(rt: HostRuntime) -> Result<(), Fail> {
         "éd",
     ];
     for name in names {
-        paints(&rt, alloc, &on_text(named(alloc, name)?), "x", "x")?;
-        paints(&rt, alloc, &behind(named(alloc, name)?), "", "")?;
+        for text in ["", "x"] {
+            paints(&rt, alloc, &on_text(named(alloc, name)?), text, text)?;
+            paints(&rt, alloc, &behind(named(alloc, name)?), text, text)?;
+        }
         let mut style = on_text(named(alloc, name)?);
         style.bold = true;
         paints(&rt, alloc, &style, "x", "\x1b[1mx\x1b[0m")?;

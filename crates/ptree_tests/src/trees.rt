@@ -1,10 +1,12 @@
 //! Trees and configurations that several tests draw.
 
+use ptree::TreeBuilder;
 use ptree::item::StringItem;
-use ptree::output::write_tree_with;
+use ptree::output::{print_tree_with, write_tree_with};
 use ptree::print_config::{IndentChars, PrintConfig, StaticIndentChars, StyleWhen};
 use ptree::style::{Counted, DrawError, Style};
 use std::alloc::{AllocError, Global};
+use std::process::Abort;
 
 /// An item with no children.
 pub fn leaf(alloc: Global, text: &str) -> Result<StringItem, AllocError> {
@@ -32,6 +34,16 @@ pub fn petgraph(alloc: Global) -> Result<StringItem, AllocError> {
     over(alloc, "petgraph", vec![in alloc; quickcheck, fixedbitset]?)
 }
 
+/// A root over a chain of 200 items.
+pub fn long_chain(rt: &impl Abort, alloc: Global) -> Result<StringItem, AllocError> {
+    let mut builder = TreeBuilder::new(alloc, String::from_str(alloc, "root")?);
+    for _ in 0..200u32 {
+        assert!(rt; builder.level() < u32::MAX);
+        builder.begin_child(String::from_str(alloc, "x")?)?;
+    }
+    builder.build()
+}
+
 /// Plain styles under a set, an indent and a depth, with padding 1.
 pub fn plain(
     alloc: Global,
@@ -55,6 +67,38 @@ pub fn drawn(alloc: Global, item: &StringItem, config: &PrintConfig) -> Result<V
     let mut out = Counted::new(Vec::new(alloc));
     write_tree_with(alloc, item, &mut out, config)?;
     Ok(out.into_inner())
+}
+
+/// What `print_tree_with` writes of an item.
+pub fn printed(
+    alloc: Global,
+    item: &StringItem,
+    terminal: bool,
+    config: &PrintConfig,
+) -> Result<Vec<u8>, DrawError> {
+    let mut out = Counted::new(Vec::new(alloc));
+    print_tree_with(alloc, item, &mut out, terminal, config)?;
+    Ok(out.into_inner())
+}
+
+/// An item as `x [y, z]`.
+pub fn spelled(alloc: Global, item: &StringItem) -> Result<String, AllocError> {
+    let mut out = String::new(alloc);
+    spell(item, &mut out)?;
+    Ok(out)
+}
+
+// Spells an item's text, and its children in brackets.
+fn spell(item: &StringItem, out: &mut String) -> Result<(), AllocError> {
+    out.push_str(item.text.as_str())?;
+    if item.children.is_empty() {
+        return Ok(());
+    }
+    for (i, child) in item.children.iter().enumerate() {
+        out.push_str(if i == 0 { " [" } else { ", " })?;
+        spell(child, out)?;
+    }
+    out.push_str("]")
 }
 
 /// How many items a tree has.
