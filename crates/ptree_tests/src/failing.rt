@@ -1,7 +1,7 @@
-//! A writer that takes so many bytes, and then fails.
+//! A writer that takes so many bytes, and a reader that gives so many, and then fails.
 
 use std::alloc::{AllocError, Global};
-use std::io::{self, ErrorKind, Write};
+use std::io::{self, ErrorKind, Read, Write};
 
 /// What a writer answers once its room is used up.
 #[derive(Clone, Copy)]
@@ -63,5 +63,26 @@ impl Write for Failing {
 
     fn flush(&mut self) -> io::Result<()> {
         Ok(())
+    }
+}
+
+/// Gives its bytes, at most `most` a call, and then an error.
+#[derive(Drop)]
+pub struct Breaking {
+    pub rest: &'static [u8],
+    pub most: usize,
+    pub error: ErrorKind,
+}
+
+impl Read for Breaking {
+    fn read(&mut self, buf: &mut [u8]) -> io::Result<usize> {
+        if self.rest.is_empty() && !buf.is_empty() {
+            return Err(io::Error::from(self.error));
+        }
+        let n = buf.len().min(self.rest.len()).min(self.most);
+        let (front, rest) = self.rest.split_at(n);
+        buf[..n].copy_from_slice(front);
+        self.rest = rest;
+        Ok(n)
     }
 }

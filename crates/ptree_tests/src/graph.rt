@@ -1,9 +1,12 @@
+//! Graphs that are drawn, and edges that are refused.
+
+use crate::failing::{Answer, Failing};
 use ptree::graph::{EdgeError, Graph, GraphNode, Label, NodeIndex, write_graph_with};
 use ptree::item::TreeItem;
 use ptree::print_config::{PrintConfig, StyleWhen};
 use ptree::style::{Counted, DrawError, Style};
 use std::alloc::{AllocError, Global};
-use std::io;
+use std::io::ErrorKind;
 use std::process::Abort;
 use std::test::Fail;
 
@@ -194,29 +197,6 @@ fn is_an_item(rt: HostRuntime) -> Result<(), Fail> {
     Ok(())
 }
 
-// Takes so many bytes in all, and then errs.
-#[derive(Drop)]
-struct Short {
-    room: usize,
-    taken: Vec<u8>,
-}
-
-impl io::Write for Short {
-    fn write(&mut self, buf: &[u8]) -> io::Result<usize> {
-        if self.room == 0 {
-            return Err(io::Error::from(io::ErrorKind::Other));
-        }
-        let n = buf.len().min(self.room);
-        self.taken.extend_from_slice(&buf[..n])?;
-        self.room -= n;
-        Ok(n)
-    }
-
-    fn flush(&mut self) -> io::Result<()> {
-        Ok(())
-    }
-}
-
 #[test]
 fn ends_at_the_writer_that_errs(rt: HostRuntime) -> Result<(), Fail> {
     let alloc = rt.alloc();
@@ -225,13 +205,11 @@ fn ends_at_the_writer_that_errs(rt: HostRuntime) -> Result<(), Fail> {
         "x\n└─ x\n   └─ x\n      └─ x\n         └─ x\n            └─ x\n               └─ x\n";
     assert_eq!(rt; whole.len(), 101);
     assert_drawn(&rt, alloc, &graph, 0, &at_depth(alloc, 6)?, whole);
-    let mut out = Counted::new(Short {
-        room: 100,
-        taken: Vec::new(alloc),
-    });
+    let error = Answer::Error(ErrorKind::StorageFull);
+    let mut out = Counted::new(Failing::new(alloc, 100, 100, usize::MAX, error)?);
     let config = PrintConfig::default(alloc)?;
     let result = write_graph_with(alloc, &graph, NodeIndex(0), &mut out, &config);
-    assert!(rt; matches!(result, Err(DrawError::Write(_))));
+    assert!(rt; matches!(&result, Err(DrawError::Write(e)) if e.kind() == ErrorKind::StorageFull));
     assert!(rt; out.into_inner().taken.as_slice() == &whole.as_bytes()[..100]);
     Ok(())
 }

@@ -1,10 +1,10 @@
-//! Writers that take little, that fail, and that take everything.
+//! Writers that take little, that fail, and that take everything, and readers.
 
-use crate::failing::{Answer, Failing};
+use crate::failing::{Answer, Breaking, Failing};
 use crate::trees::{leaf, over, petgraph, plain};
 use ptree::output::write_tree_with;
 use ptree::print_config::UTF_CHARS;
-use ptree::style::{Counted, DrawError, put_all};
+use ptree::style::{Counted, DrawError, Feed, put_all};
 use std::io::ErrorKind;
 use std::str;
 use std::test::Fail;
@@ -70,5 +70,40 @@ fn an_entry_is_one_put(rt: HostRuntime) -> Result<(), Fail> {
     let mut out = Counted::new(Failing::new(alloc, 119, 119, 119, Answer::Zero)?);
     assert!(rt; write_tree_with(alloc, &petgraph(alloc)?, &mut out, &config).is_ok());
     assert_eq!(rt; out.into_inner().calls, 6);
+    Ok(())
+}
+
+#[test]
+fn a_feed_gives_what_its_reader_gives(rt: HostRuntime) -> Result<(), Fail> {
+    let mut room = [0; 4];
+    let mut feed = Counted::new(b"abcdef".as_slice());
+    assert_eq!(rt; feed.get(&mut [])?, 0);
+    assert_eq!(rt; feed.get(&mut room)?, 4);
+    assert!(rt; room == *b"abcd");
+    assert_eq!(rt; feed.get(&mut room)?, 2);
+    assert!(rt; room == *b"efcd");
+    assert_eq!(rt; feed.get(&mut room)?, 0);
+    assert!(rt; feed.into_inner().is_empty());
+    Ok(())
+}
+
+#[test]
+fn an_error_of_a_reader_is_passed_on(rt: HostRuntime) -> Result<(), Fail> {
+    for error in [ErrorKind::BrokenPipe, ErrorKind::Interrupted] {
+        let mut room = [0; 4];
+        let mut feed = Counted::new(Breaking {
+            rest: b"abc",
+            most: 2,
+            error,
+        });
+        assert_eq!(rt; feed.get(&mut room)?, 2);
+        assert_eq!(rt; feed.get(&mut room)?, 1);
+        assert!(rt; room == [b'c', b'b', 0, 0]);
+        for _ in 0..2u8 {
+            let result = feed.get(&mut room);
+            assert!(rt; matches!(&result, Err(e) if e.kind() == error));
+        }
+        assert!(rt; feed.into_inner().rest.is_empty());
+    }
     Ok(())
 }
