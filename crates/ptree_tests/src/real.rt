@@ -217,12 +217,12 @@ TranslationUnitDecl <<invalid sloc>> <invalid sloc>
 
 // `cargo tree -p app --charset ascii --no-dedupe`
 const CARGO_TREE_ASCII: &str = "\
-app v0.1.0 (/tmp/real/ws/app)
-|-- lib_a v0.1.0 (/tmp/real/ws/lib_a)
-|   `-- lib_c v0.1.0 (/tmp/real/ws/lib_c)
-`-- lib_b v0.1.0 (/tmp/real/ws/lib_b)
-    |-- lib_c v0.1.0 (/tmp/real/ws/lib_c)
-    `-- lib_d v0.1.0 (/tmp/real/ws/lib_d)
+app v0.1.0 (/home/user/ws/app)
+|-- lib_a v0.1.0 (/home/user/ws/lib_a)
+|   `-- lib_c v0.1.0 (/home/user/ws/lib_c)
+`-- lib_b v0.1.0 (/home/user/ws/lib_b)
+    |-- lib_c v0.1.0 (/home/user/ws/lib_c)
+    `-- lib_d v0.1.0 (/home/user/ws/lib_d)
 ";
 
 // `findmnt -n -o TARGET --ascii`
@@ -246,7 +246,7 @@ const FINDMNT_ASCII: &str = "\
 | | `-/dev/shm
 | `-/dev/pts
 |   `-/dev/pts
-`-/mnt/sandboxing/model_tools_env/v1/python
+`-/mnt/tools/python
 ";
 
 // `ps --forest -o args=`
@@ -377,60 +377,108 @@ fn outputs_of_programs_read_back(rt: HostRuntime) -> Result<(), Fail> {
     Ok(())
 }
 
+// For each output a line of its middle, and whether a drawing is left without the root, without that line, and without the
+// last line. One is left where no line has lost its parent, and no item the last of its later siblings.
+const LOST: [(&str, bool, bool, bool); 10] = [
+    ("│\u{a0}\u{a0} └── nested\n", true, false, true),
+    ("|-- src\n", true, true, true),
+    (
+        "│       ├── libc v0.1.0 (/home/dev/ws/libc)\n",
+        false,
+        true,
+        false,
+    ),
+    ("│ └─/sys/fs/cgroup\n", true, false, false),
+    ("|  `--COMPOUND QUERY\n", true, false, false),
+    (
+        "│  └─ org.slf4j:slf4j-api:jar:debian:compile\n",
+        false,
+        false,
+        false,
+    ),
+    ("  `-CompoundStmt <col:16, col:67>\n", false, false, true),
+    (
+        "`-- lib_b v0.1.0 (/home/user/ws/lib_b)\n",
+        false,
+        false,
+        false,
+    ),
+    ("| `-/sys/fs/cgroup\n", true, false, false),
+    (" |   \\_ sleep 22\n", true, true, false),
+];
+
+#[test]
+fn lost_lines_are_told_or_leave_a_drawing(rt: HostRuntime) -> Result<(), Fail> {
+    let alloc = rt.alloc();
+    for (output, (line, no_root, no_line, no_last)) in outputs().iter().zip(LOST) {
+        let config = settings(alloc, output)?;
+        let (_, below) = output.text.split_once('\n').ok_or("no line")?;
+        assert_eq!(rt; is_drawing(&rt, alloc, below, &config)?, no_root, "{below}");
+        let (front, back) = output.text.split_once(line).ok_or("no such line")?;
+        let rest = format!(in alloc; "{front}{back}")?;
+        assert_eq!(rt;
+            is_drawing(&rt, alloc, rest.as_str(), &config)?,
+            no_line,
+            "{rest}"
+        );
+        let cut = output.text.strip_suffix("\n").ok_or("no line feed")?;
+        let (front, _) = cut.rsplit_once('\n').ok_or("one line")?;
+        let rest = format!(in alloc; "{front}\n")?;
+        assert_eq!(rt;
+            is_drawing(&rt, alloc, rest.as_str(), &config)?,
+            no_last,
+            "{rest}"
+        );
+    }
+    Ok(())
+}
+
 #[test]
 fn damaged_outputs_are_told(rt: HostRuntime) -> Result<(), Fail> {
     let alloc = rt.alloc();
     for output in outputs() {
         let config = settings(alloc, &output)?;
         let (root, below) = output.text.split_once('\n').ok_or("no line")?;
-        // without the last line feed, without the root, and with the root twice
         let cut = below.strip_suffix("\n").ok_or("no line feed")?;
-        assert!(rt; !is_drawing(&rt, alloc, &format!(in alloc; "{root}\n{cut}")?, &config)?);
-        assert!(rt;
-            !is_drawing(
-                &rt,
-                alloc,
-                &format!(in alloc; "{root}\n{root}\n{below}")?,
-                &config
-            )?
-        );
-        // a line feed behind the last one, and one ahead of the first
-        assert!(rt;
-            !is_drawing(
-                &rt,
-                alloc,
-                &format!(in alloc; "{root}\n{below}\n")?,
-                &config
-            )?
-        );
-        // the root's text may end in a space or a carriage return
-        assert!(rt; is_drawing(&rt, alloc, &format!(in alloc; "{root} \n{below}")?, &config)?);
-        assert!(rt;
-            is_drawing(
-                &rt,
-                alloc,
-                &format!(in alloc; "{root}\r\n{below}")?,
-                &config
-            )?
-        );
-        // a space ahead of the second line changes its piece
-        assert!(rt; !is_drawing(&rt, alloc, &format!(in alloc; "{root}\n {below}")?, &config)?);
-        // without its last line the text is a drawing only where no item has lost a sibling below it
         let (front, last) = cut.rsplit_once('\n').ok_or("one line")?;
-        let _ = is_drawing(
-            &rt,
-            alloc,
-            &format!(in alloc; "{root}\n{front}\n")?,
-            &config,
-        )?;
-        assert!(rt;
-            !is_drawing(
-                &rt,
-                alloc,
-                &format!(in alloc; "{root}\n{last}\n{front}\n")?,
-                &config
-            )?
-        );
+        let damaged = [
+            // without the last line feed, and with the root twice
+            format!(in alloc; "{root}\n{cut}")?,
+            format!(in alloc; "{root}\n{root}\n{below}")?,
+            // a line feed behind the last one, and one ahead of the root
+            format!(in alloc; "{root}\n{below}\n")?,
+            format!(in alloc; "\n{root}\n{below}")?,
+            // a space ahead of the second line, which changes its piece
+            format!(in alloc; "{root}\n {below}")?,
+            // the last line right under the root
+            format!(in alloc; "{root}\n{last}\n{front}\n")?,
+        ];
+        for text in &damaged {
+            assert!(rt; !is_drawing(&rt, alloc, text.as_str(), &config)?, "{text}");
+        }
+    }
+    Ok(())
+}
+
+#[test]
+fn texts_may_end_in_a_space_or_a_carriage_return(rt: HostRuntime) -> Result<(), Fail> {
+    let alloc = rt.alloc();
+    for output in outputs() {
+        let config = settings(alloc, &output)?;
+        let (root, below) = output.text.split_once('\n').ok_or("no line")?;
+        let cut = below.strip_suffix("\n").ok_or("no line feed")?;
+        let changed = [
+            // at the root, at the last item, and at each
+            format!(in alloc; "{root} \n{below}")?,
+            format!(in alloc; "{root}\r\n{below}")?,
+            format!(in alloc; "{root}\n{cut} \n")?,
+            format!(in alloc; "{root}\n{cut}\r\n")?,
+            output.text.replace(alloc, '\n', " \n")?,
+            output.text.replace(alloc, '\n', "\r\n")?,
+        ];
+        for text in &changed {
+            assert!(rt; is_drawing(&rt, alloc, text.as_str(), &config)?, "{text}");
+        }
     }
     Ok(())
 }
