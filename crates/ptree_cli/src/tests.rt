@@ -59,6 +59,7 @@ fn words_are_drawn_or_refused(rt: HostRuntime) -> Result<(), Fail> {
             "\x1b[2m\x1b[0mr\n\x1b[2m└─ \x1b[0ma\n",
             "",
         ),
+        ([].as_slice(), 2, "", USAGE),
         (["words"].as_slice(), 2, "", USAGE),
         (["json"].as_slice(), 2, "", USAGE),
         (["--tty"].as_slice(), 2, "", USAGE),
