@@ -6,7 +6,7 @@ use Rattle.std.specs.Io.KnownBytes.{Appends}
 use Rattle.ptree.specs.declared.style.DrawError.{DrawError}
 use Rattle.ptree.specs.declared.style.DrawError.TheVariants.{Memory}
 use Rattle.ptree.specs.Writing.{AppendsPart, IsWritten, told_faults}
-use Rattle.ptree.specs.Brush.{HasSlotCause}
+use Rattle.ptree.specs.Brush.{HasErrorCause}
 use Rattle.ptree.specs.Drawing.{Look}
 use Rattle.ptree.specs.Lines.{own_lines, is_empty, with_below, kid_lines, lines_below, item_lines}
 use Rattle.ptree.specs.Pieces.{turning_piece, passing_piece}
@@ -106,8 +106,8 @@ pub item_ended : (look : Look) (left : ℕ) (front : List ℕ) (last : Bool) (x 
 item_ended look zero front last x a b e h = subst (λ (y : List ℕ). Appends a b y) (sym (append-nil (own_lines look (front ++ turning_piece look.pieces last) [] x))) h
 item_ended look (suc n) front last x a b e h = absurd (omega (arith, e))
 
--- a slot that holds no fault tells none
-pub quiet : (a b : ℕ) (e : DrawError) → HasSlotCause a b e → e ≡ Memory → b ≡ a
+-- an error that is no fault tells none
+pub quiet : (a b : ℕ) (e : DrawError) → HasErrorCause a b e → e ≡ Memory → b ≡ a
 quiet a b e h k =
     let none : a + 0 ≡ a = omega arith in h ∙ ap (λ (x : DrawError). a + told_faults {A = Unit {0}} (Err x)) k ∙ none
 

@@ -19,6 +19,6 @@ turn_text b last = turning_piece (pieces_of b.pieces.now) last ++ back_codes b.b
 abbrev pub IsReady : Brush → Type 0
 IsReady b = (string_bytes b.regular ≡ turn_text b false) × (string_bytes b.last_regular ≡ turn_text b true)
 
--- the count of faults rose by one exactly where the slot holds a fault
-abbrev pub HasSlotCause : ℕ → ℕ → DrawError → Type 0
-HasSlotCause old new e = HasCause {A = Unit {0}} old new (Err e)
+-- the count of faults rose by one exactly where the error is one
+abbrev pub HasErrorCause : ℕ → ℕ → DrawError → Type 0
+HasErrorCause old new e = HasCause {A = Unit {0}} old new (Err e)

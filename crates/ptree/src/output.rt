@@ -9,7 +9,7 @@ ghost use Rattle.ptree.specs.Laws.{HasOneList, HasCuts, HasTreeCuts, HasSubtrees
 ghost use Rattle.ptree.specs.Readable.{HasNoLineFeed, AreApart, AreEqualOrApart, IsReadable};
 ghost use Rattle.ptree.specs.Style.{style_codes, front_codes, back_codes};
 ghost use Rattle.ptree.specs.declared.style.DrawError.TheVariants.{Memory};
-ghost use Rattle.ptree.specs.Brush.{IsReady, brush_look, turn_text, HasSlotCause};
+ghost use Rattle.ptree.specs.Brush.{IsReady, brush_look, turn_text, HasErrorCause};
 
 use crate::faults::FaultCount;
 use crate::item::TreeItem;
@@ -270,6 +270,7 @@ impl LineBuffer {
 /// What the engine appends to its buffer.
 #[derive(Drop)]
 struct Brush<'a> {
+    alloc: Global,
     regular: String,
     last_regular: String,
     pieces: &'a Indent,
@@ -289,6 +290,7 @@ impl<'a> Brush<'a> {
         ensures { IfOk result (λ b. IsReady b × (brush_look b ≡ look_from branch.now leaf.now (pieces_of pieces.now))) }
     {
         Ok(Brush {
+            alloc,
             regular: joined(alloc, pieces.turning(false), back)?,
             last_regular: joined(alloc, pieces.turning(true), back)?,
             pieces,
@@ -311,20 +313,42 @@ impl<'a> Brush<'a> {
     }
 }
 
-/// A buffer that holds the branch's front codes.
-fn new_line(alloc: Global, branch: &Style) -> Result<LineBuffer, AllocError>
-    ensures { IfOk result (λ l. l.bytes.items ≡ front_codes branch.now) }
-{
-    let front = branch.front_text(alloc)?;
-    let mut bytes = Vec::new(alloc);
-    bytes.extend_from_slice(front.as_bytes())?;
-    Ok(LineBuffer {
-        bytes,
-        faults: FaultCount::new(),
-    })
+/// The buffer of a drawing, and what ends it. Until another error is told, that is want of memory.
+#[derive(Drop)]
+struct Pen {
+    line: LineBuffer,
+    error: DrawError,
 }
 
-/// The end of a drawing at an error, which stands in a slot. A result that holds none is small.
+impl Pen {
+    // A pen whose buffer holds the branch's front codes.
+    fn new(alloc: Global, branch: &Style) -> Result<Pen, AllocError>
+        ensures line { IfOk result (λ p. p.line.bytes.items ≡ front_codes branch.now) }
+        ensures error { IfOk result (λ p. p.error ≡ Memory) }
+    {
+        let front = branch.front_text(alloc)?;
+        let mut bytes = Vec::new(alloc);
+        bytes.extend_from_slice(front.as_bytes())?;
+        let line = LineBuffer {
+            bytes,
+            faults: FaultCount::new(),
+        };
+        Ok(Pen {
+            line,
+            error: DrawError::Memory,
+        })
+    }
+
+    // What ended the drawing.
+    fn into_error(self) -> DrawError
+        ensures { result ≡ self.error }
+    {
+        let Pen { line: _, error } = self;
+        error
+    }
+}
+
+/// The end of a drawing at an error, which the pen holds. A result that holds none is small.
 #[derive(Drop)]
 struct Stop;
 
@@ -339,30 +363,31 @@ impl From<AllocError> for Stop {
 // What the buffer holds stands before the item's own bytes, and stays.
 #[inline(always)]
 fn draw_line<C: TreeItem, W: Sink>(
-    alloc: Global,
     item: &C,
     f: &mut W,
-    line: &mut LineBuffer,
-    slot: &mut DrawError,
-    leaf: &Style,
+    pen: &mut Pen,
+    brush: &Brush<'_>,
 ) -> Result<(), Stop>
-    requires slot { slot.old ≡ Memory }
+    requires error { pen.old.error ≡ Memory }
     ensures bytes { IsWritten (W.contents f.old) (W.contents f.new) result
-        ((line.old.bytes.items ++ (C.shape item.now).own [] leaf.now) ++ 10 ∷ []) }
-    ensures cause { HasSlotCause (W.faults f.old) (W.faults f.new) slot.new }
-    ensures slot { OnOk result (slot.new ≡ Memory) }
-    ensures kept { OnOk result (line.new.bytes.items ≡ line.old.bytes.items) }
+        ((pen.old.line.bytes.items ++ (C.shape item.now).own [] brush.now.leaf.now) ++ 10 ∷ []) }
+    ensures cause { HasErrorCause (W.faults f.old) (W.faults f.new) pen.new.error }
+    ensures error { OnOk result (pen.new.error ≡ Memory) }
+    ensures kept { OnOk result (pen.new.line.bytes.items ≡ pen.old.line.bytes.items) }
 {
-    let width = line.bytes.len();
-    if item.write_self(alloc, line, leaf).is_err() {
+    let width = pen.line.bytes.len();
+    if item
+        .write_self(brush.alloc, &mut pen.line, brush.leaf)
+        .is_err()
+    {
         return Err(Stop);
     }
-    line.bytes.extend_from_slice(b"\n")?;
-    if let Err(e) = put_all(f, line.bytes.as_slice()) {
-        *slot = e;
+    pen.line.bytes.extend_from_slice(b"\n")?;
+    if let Err(e) = put_all(f, pen.line.bytes.as_slice()) {
+        pen.error = e;
         return Err(Stop);
     }
-    line.bytes.truncate(width);
+    pen.line.bytes.truncate(width);
     Ok(())
 }
 
@@ -371,115 +396,102 @@ fn draw_line<C: TreeItem, W: Sink>(
 #[cycle(draw)]
 #[inline(always)]
 fn draw_item<C: TreeItem<Child = C> + Drop, W: Sink>(
-    alloc: Global,
     item: &C,
     f: &mut W,
-    line: &mut LineBuffer,
-    slot: &mut DrawError,
+    pen: &mut Pen,
+    brush: &Brush<'_>,
     width: usize,
     is_last: bool,
-    brush: &Brush<'_>,
     left: u32,
 ) -> Result<bool, Stop>
-    requires slot { slot.old ≡ Memory }
+    requires error { pen.old.error ≡ Memory }
     requires ready { IsReady brush.now }
-    requires width { width ≤ length line.old.bytes.items }
-    requires turned { line.old.bytes.items ≡ take width line.old.bytes.items ++ turn_text brush.now is_last }
-    ensures bytes { (front : List ℕ) → take width line.old.bytes.items ≡ front_codes brush.now.branch.now ++ front
+    requires width { width ≤ length pen.old.line.bytes.items }
+    requires turned { pen.old.line.bytes.items ≡ take width pen.old.line.bytes.items ++ turn_text brush.now is_last }
+    ensures bytes { (front : List ℕ) → take width pen.old.line.bytes.items ≡ front_codes brush.now.branch.now ++ front
         → IsWritten (W.contents f.old) (W.contents f.new) result (item_lines (brush_look brush.now) left front is_last (C.shape item.now)) }
-    ensures cause { HasSlotCause (W.faults f.old) (W.faults f.new) slot.new }
-    ensures slot { OnOk result (slot.new ≡ Memory) }
-    ensures kept { OnOk result (take width line.new.bytes.items ≡ take width line.old.bytes.items) }
-    ensures held { IfOk result (λ held. held ≡ true → line.new.bytes.items ≡ line.old.bytes.items) }
+    ensures cause { HasErrorCause (W.faults f.old) (W.faults f.new) pen.new.error }
+    ensures error { OnOk result (pen.new.error ≡ Memory) }
+    ensures kept { OnOk result (take width pen.new.line.bytes.items ≡ take width pen.old.line.bytes.items) }
+    ensures held { IfOk result (λ held. held ≡ true → pen.new.line.bytes.items ≡ pen.old.line.bytes.items) }
 {
-    draw_line(alloc, item, f, line, slot, brush.leaf)?;
+    draw_line(item, f, pen, brush)?;
     if left == 0 {
         return Ok(true);
     }
-    let children = item.children(alloc)?;
+    let children = item.children(brush.alloc)?;
     if children.as_slice().is_empty() {
         return Ok(true);
     }
-    line.replace_end(width, brush.pieces.passing(is_last))?;
-    draw_children(alloc, children.as_slice(), f, line, slot, brush, left - 1)?;
+    pen.line.replace_end(width, brush.pieces.passing(is_last))?;
+    draw_children(children.as_slice(), f, pen, brush, left - 1)?;
     Ok(false)
 }
 
 // The buffer holds the branch's front codes and the passing text of the items' parent.
 #[cycle(draw)]
 fn draw_children<C: TreeItem<Child = C> + Drop, W: Sink>(
-    alloc: Global,
     items: &[C],
     f: &mut W,
-    line: &mut LineBuffer,
-    slot: &mut DrawError,
+    pen: &mut Pen,
     brush: &Brush<'_>,
     left: u32,
 ) -> Result<(), Stop>
-    requires slot { slot.old ≡ Memory }
+    requires error { pen.old.error ≡ Memory }
     requires ready { IsReady brush.now }
-    ensures bytes { (front : List ℕ) → line.old.bytes.items ≡ front_codes brush.now.branch.now ++ front
+    ensures bytes { (front : List ℕ) → pen.old.line.bytes.items ≡ front_codes brush.now.branch.now ++ front
         → IsWritten (W.contents f.old) (W.contents f.new) result
         (let look = brush_look brush.now in kid_lines look (lines_below look left) front (map C.shape items.now)) }
-    ensures cause { HasSlotCause (W.faults f.old) (W.faults f.new) slot.new }
-    ensures slot { OnOk result (slot.new ≡ Memory) }
-    ensures kept { OnOk result (line.new.bytes.items ≡ line.old.bytes.items) }
+    ensures cause { HasErrorCause (W.faults f.old) (W.faults f.new) pen.new.error }
+    ensures error { OnOk result (pen.new.error ≡ Memory) }
+    ensures kept { OnOk result (pen.new.line.bytes.items ≡ pen.old.line.bytes.items) }
 {
-    let width = line.bytes.len();
+    let width = pen.line.bytes.len();
     let mut held = false;
     let mut rest = items;
     while let Some((item, others)) = rest.split_first() {
         let is_last = others.is_empty();
-        line.turn(width, brush, is_last, held)?;
-        held = draw_item(alloc, item, f, line, slot, width, is_last, brush, left)?;
+        pen.line.turn(width, brush, is_last, held)?;
+        held = draw_item(item, f, pen, brush, width, is_last, left)?;
         rest = others;
     }
-    line.bytes.truncate(width);
+    pen.line.bytes.truncate(width);
     Ok(())
 }
 
-fn draw_all<T, W>(
-    alloc: Global,
+// The buffer holds the branch's front codes, and `back` its back codes.
+fn draw_root<T, W>(
     item: &T,
     f: &mut W,
-    slot: &mut DrawError,
-    pieces: &Indent,
-    branch: &Style,
-    leaf: &Style,
+    pen: &mut Pen,
+    brush: &Brush<'_>,
+    back: &str,
     depth: u32,
 ) -> Result<(), Stop>
 where
     T: TreeItem,
     T::Child: TreeItem<Child = T::Child> + Drop,
     W: Sink,
-    requires slot { slot.old ≡ Memory }
-    ensures bytes { IsWritten (W.contents f.old) (W.contents f.new) result
-        (drawn (look_from branch.now leaf.now (pieces_of pieces.now)) depth (T.shape item.now)) }
-    ensures slot { OnOk result (slot.new ≡ Memory) }
-    ensures cause { HasSlotCause (W.faults f.old) (W.faults f.new) slot.new }
+    requires error { pen.old.error ≡ Memory }
+    requires ready { IsReady brush.now }
+    requires front { pen.old.line.bytes.items ≡ front_codes brush.now.branch.now }
+    requires back { back.now ≡ back_codes brush.now.branch.now }
+    ensures bytes { IsWritten (W.contents f.old) (W.contents f.new) result (drawn (brush_look brush.now) depth (T.shape item.now)) }
+    ensures error { OnOk result (pen.new.error ≡ Memory) }
+    ensures cause { HasErrorCause (W.faults f.old) (W.faults f.new) pen.new.error }
 {
-    let back = branch.back_text(alloc)?;
-    let brush = Brush::new(alloc, pieces, branch, leaf, back.as_str())?;
-    let mut line = new_line(alloc, branch)?;
-    let width = line.bytes.len();
-    line.bytes.extend_from_slice(back.as_bytes())?;
-    draw_line(alloc, item, f, &mut line, slot, leaf)?;
-    line.bytes.truncate(width);
+    let width = pen.line.bytes.len();
+    pen.line.bytes.extend_from_slice(back.as_bytes())?;
+    draw_line(item, f, pen, brush)?;
+    pen.line.bytes.truncate(width);
     if depth == 0 {
         return Ok(());
     }
-    let children = item.children(alloc)?;
-    draw_children(
-        alloc,
-        children.as_slice(),
-        f,
-        &mut line,
-        slot,
-        &brush,
-        depth - 1,
-    )
+    let children = item.children(brush.alloc)?;
+    draw_children(children.as_slice(), f, pen, brush, depth - 1)
 }
 
+// Makes all that stands around prefixes, and draws.
 fn draw<T, W>(
     alloc: Global,
     item: &T,
@@ -497,10 +509,12 @@ where
         (drawn (look_from branch.now leaf.now (pieces_of pieces.now)) depth (T.shape item.now)) }
     ensures cause { HasCause (W.faults f.old) (W.faults f.new) result }
 {
-    let mut slot = DrawError::Memory;
-    match draw_all(alloc, item, f, &mut slot, pieces, branch, leaf, depth) {
+    let back = branch.back_text(alloc)?;
+    let brush = Brush::new(alloc, pieces, branch, leaf, back.as_str())?;
+    let mut pen = Pen::new(alloc, branch)?;
+    match draw_root(item, f, &mut pen, &brush, back.as_str(), depth) {
         Ok(()) => Ok(()),
-        Err(_) => Err(slot),
+        Err(_) => Err(pen.into_error()),
     }
 }
 

@@ -13,8 +13,8 @@ draw_children-returns-in_err-held-clause-bytes g t c = λ front e.
     let look = brush_look c.args.brush.now in
     let inv = c.loop-item.invariant in
     let done = inv.written front e in
-    let wide : c.len-width.result ≡ length c.args.line.now.bytes.items = omega (arith, c.len-width.ensures, c.args.line.now.bytes.ok.0) in
-    let held = take_again c.len-width.result c.loop-item.line.bytes.items _ _ (long_enough _ _ _ inv.kept wide) c.in_ok-turn.ensures ∙ inv.kept ∙ e in
+    let wide : c.len-width.result ≡ length c.args.pen.now.line.bytes.items = omega (arith, c.len-width.ensures, c.args.pen.now.line.bytes.ok.0) in
+    let held = take_again c.len-width.result c.loop-item.pen.line.bytes.items _ _ (long_enough _ _ _ inv.kept wide) c.in_ok-turn.ensures ∙ inv.kept ∙ e in
     written_err _ _ _ _ _ c.from_residual-in_err-held.ensures.1
     (kids_err look (lines_below look c.args.left) front (map g.C.Shaped.shape c.loop-item.rest.now) (map g.C.Shaped.shape c.in-Some.others.now) (g.C.Shaped.shape c.in-Some.item.now) c.is_empty-is_last.result done.0 _ _ _ _
     (ap (map g.C.Shaped.shape) c.in-Some.ensures.cases.0) (same_len g.C.Shaped.shape c.in-Some.others.now c.is_empty-is_last.result c.is_empty-is_last.ensures) done.1 done.2
@@ -23,8 +23,8 @@ draw_children-returns-in_err-held-clause-bytes g t c = λ front e.
 pub draw_children-loop-item-preserved : goal.draw_children-loop-item-preserved
 draw_children-loop-item-preserved g t c =
     let inv = c.loop-item.invariant in
-    let wide : c.len-width.result ≡ length c.args.line.now.bytes.items = omega (arith, c.len-width.ensures, c.args.line.now.bytes.ok.0) in
-    let kept = take_again c.len-width.result c.loop-item.line.bytes.items _ _ (long_enough _ _ _ inv.kept wide) c.in_ok-turn.ensures in
+    let wide : c.len-width.result ≡ length c.args.pen.now.line.bytes.items = omega (arith, c.len-width.ensures, c.args.pen.now.line.bytes.ok.0) in
+    let kept = take_again c.len-width.result c.loop-item.pen.line.bytes.items _ _ (long_enough _ _ _ inv.kept wide) c.in_ok-turn.ensures in
     record {
       written = λ front e.
           let look = brush_look c.args.brush.now in
@@ -33,10 +33,10 @@ draw_children-loop-item-preserved g t c =
             kids_step look (lines_below look c.args.left) front (map g.C.Shaped.shape c.loop-item.rest.now) (map g.C.Shaped.shape c.in-Some.others.now) (g.C.Shaped.shape c.in-Some.item.now) c.is_empty-is_last.result done.0 _ (ap (map g.C.Shaped.shape) c.in-Some.ensures.cases.0) (same_len g.C.Shaped.shape c.in-Some.others.now c.is_empty-is_last.result c.is_empty-is_last.ensures) done.1,
             appends_then _ _ _ _ _ done.2 (c.in_ok-held.ensures.bytes front (kept ∙ inv.kept ∙ e)),
           );
-      no_fault = quiet _ _ c.draw_item.new.slot c.in_ok-held.ensures.cause c.in_ok-held.ensures.slot ∙ inv.no_fault;
-      slot = c.in_ok-held.ensures.slot;
+      no_fault = quiet _ _ c.draw_item.new.pen.error c.in_ok-held.ensures.cause c.in_ok-held.ensures.error ∙ inv.no_fault;
+      error = c.in_ok-held.ensures.error;
       kept = c.in_ok-held.ensures.kept ∙ kept ∙ inv.kept;
-      held = λ held some. still_turned c.len-width.result c.loop-item.line.bytes.items _ _ (turn_text c.args.brush.now) c.is_empty-is_last.result c.in_ok-turn.ensures (not_last _ _ c.is_empty-is_last.ensures some) kept (c.in_ok-held.ensures.held held);
+      held = λ held some. still_turned c.len-width.result c.loop-item.pen.line.bytes.items _ _ (turn_text c.args.brush.now) c.is_empty-is_last.result c.in_ok-turn.ensures (not_last _ _ c.is_empty-is_last.ensures some) kept (c.in_ok-held.ensures.held held);
     }
 
 pub draw_item-returns-in_err-draw_line-clause-bytes : goal.draw_item-returns-in_err-draw_line-clause-bytes
@@ -70,7 +70,7 @@ draw_item-returns-in_err-draw_children-clause-bytes g t c = λ front e.
     let look = brush_look c.args.brush.now in
     let x = g.C.Shaped.shape c.args.item.now in
     let held = down_is look front (passing_piece look.pieces c.args.is_last) _ _ _ e (ap (take c.args.width) c.in_ok-draw_line.ensures.kept)
-    (c.in_ok-replace_end.ensures ∙ ap (λ s. take c.args.width c.draw_line.new.line.bytes.items ++ s) c.passing.ensures) in
+    (c.in_ok-replace_end.ensures ∙ ap (λ s. take c.args.width c.draw_line.new.pen.line.bytes.items ++ s) c.passing.ensures) in
     item_written look c.args.left front c.args.is_last x _ (front ++ passing_piece look.pieces c.args.is_last) (map g.C.Shaped.shape c.as_slice-2.result.now) _ _ _ _ refl refl
     (ap (map g.C.Shaped.shape) c.as_slice-2.ensures ∙ c.in_ok-children.ensures) (λ z. c.if-left-eq0.false z)
     (subst (λ (y : List ℕ). Appends (g.W.Sink.contents c.args.f.now) (g.W.Sink.contents c.draw_line.new.f) y)
@@ -82,7 +82,7 @@ draw_item-returns-clause-bytes g t c = λ front e.
     let look = brush_look c.args.brush.now in
     let x = g.C.Shaped.shape c.args.item.now in
     let held = down_is look front (passing_piece look.pieces c.args.is_last) _ _ _ e (ap (take c.args.width) c.in_ok-draw_line.ensures.kept)
-    (c.in_ok-replace_end.ensures ∙ ap (λ s. take c.args.width c.draw_line.new.line.bytes.items ++ s) c.passing.ensures) in
+    (c.in_ok-replace_end.ensures ∙ ap (λ s. take c.args.width c.draw_line.new.pen.line.bytes.items ++ s) c.passing.ensures) in
     item_whole look c.args.left front c.args.is_last x _ (front ++ passing_piece look.pieces c.args.is_last) (map g.C.Shaped.shape c.as_slice-2.result.now) _ _ _ refl refl
     (ap (map g.C.Shaped.shape) c.as_slice-2.ensures ∙ c.in_ok-children.ensures) (λ z. c.if-left-eq0.false z)
     (subst (λ (y : List ℕ). Appends (g.W.Sink.contents c.args.f.now) (g.W.Sink.contents c.draw_line.new.f) y)

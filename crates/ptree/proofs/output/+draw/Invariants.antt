@@ -16,13 +16,13 @@ decreases-draw_item g l = 2 * l.left
 -- the lines so far, and those of the rest
 abbrev pub invariant-draw_children-loop-item : goal.invariant-draw_children-loop-item
 invariant-draw_children-loop-item g l = record {
-  written : (front : List ℕ) → l.fn.line.bytes.items ≡ front_codes l.brush.branch.now ++ front
+  written : (front : List ℕ) → l.fn.pen.line.bytes.items ≡ front_codes l.brush.branch.now ++ front
       → (let lines = kid_lines (brush_look l.brush) (lines_below (brush_look l.brush) l.left) front in
       (done : List ℕ) × (done ++ lines (map g.C.Shaped.shape l.rest) ≡ lines (map g.C.Shaped.shape l.items)) × Appends (g.W.Sink.contents l.fn.f) (g.W.Sink.contents l.f) done);
   no_fault : g.W.Sink.faults l.f ≡ g.W.Sink.faults l.fn.f;
-  slot : l.slot ≡ Memory;
-  kept : take l.width l.line.bytes.items ≡ l.fn.line.bytes.items;
-  held : l.held ≡ true → 0 < length l.rest → l.line.bytes.items ≡ take l.width l.line.bytes.items ++ turn_text l.brush false;
+  error : l.pen.error ≡ Memory;
+  kept : take l.width l.pen.line.bytes.items ≡ l.fn.pen.line.bytes.items;
+  held : l.held ≡ true → 0 < length l.rest → l.pen.line.bytes.items ≡ take l.width l.pen.line.bytes.items ++ turn_text l.brush false;
 }
 
 abbrev pub decreases-draw_children-loop-item : goal.decreases-draw_children-loop-item
