@@ -138,6 +138,7 @@ impl Indent {
             && are_equal_or_apart(self.passing(false), self.passing(true))
     }
 
+    /// The piece of an item's own line.
     pub(crate) fn turning(&self, is_last: bool) -> &str
         ensures { result.now ≡ turning_piece (pieces_of self.now) is_last }
     {
@@ -148,6 +149,7 @@ impl Indent {
         }
     }
 
+    /// The piece of the lines below an item.
     pub(crate) fn passing(&self, is_last: bool) -> &str
         ensures { result.now ≡ passing_piece (pieces_of self.now) is_last }
     {
@@ -194,6 +196,7 @@ fn are_equal_or_apart(a: &str, b: &str) -> bool
     a == b || are_apart(a, b)
 }
 
+// A piece of its three parts.
 fn piece(alloc: Global, first: &str, middle: &str, end: &str) -> Result<String, AllocError>
     ensures { IfOk result (λ text. string_bytes text ≡ first.now ++ middle.now ++ end.now) }
 {
@@ -202,6 +205,7 @@ fn piece(alloc: Global, first: &str, middle: &str, end: &str) -> Result<String, 
     Ok(text)
 }
 
+// One text behind another.
 fn joined(alloc: Global, front: &str, piece: &str) -> Result<String, AllocError>
     ensures { IfOk result (λ text. string_bytes text ≡ front.now ++ piece.now) }
 {
@@ -279,6 +283,7 @@ struct Brush<'a> {
 }
 
 impl<'a> Brush<'a> {
+    // A brush of pieces and styles, `back` being the branch's back codes.
     fn new(
         alloc: Global,
         pieces: &'a Indent,

@@ -199,9 +199,7 @@ impl IndentChars {
             empty: self.empty.clone()?,
         })
     }
-}
 
-impl IndentChars {
     /// The shipped set of a name: `utf`, `ascii` or `ascii-tick`, `ascii-plus`, `utf-bold`, `utf-dashed` or `utf-double`,
     /// exactly as spelled.
     ///
