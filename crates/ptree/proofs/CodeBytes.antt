@@ -5,7 +5,7 @@ use Rattle.std.specs.Fmt.{digits, digits_onto, digit_glyph}
 use Rattle.std.specs.List.{join_with_byte}
 use Rattle.std.proofs.lemmas.List.Elements.{All-nil, All-cons, All-append}
 use Rattle.ptree.specs.declared.style.Style.{Style}
-use Rattle.ptree.specs.Codes.{joined}
+use Rattle.ptree.specs.Codes.{joined_codes}
 use Rattle.ptree.specs.Style.{code, front_codes}
 use Rattle.ptree.proofs.CodeLists.{parameters_of}
 
@@ -54,11 +54,11 @@ code_is ns =
     let all = both (join_with_byte 59 (map decimal ns)) (109 ∷ []) (parameters_are ns) last in
     one_more 27 (91 ∷ (join_with_byte 59 (map decimal ns) ++ 109 ∷ [])) (omega arith, omega arith) (one_more 91 (join_with_byte 59 (map decimal ns) ++ 109 ∷ []) (omega arith, omega arith) all)
 
-codes_are : (pss : List (List ℕ)) → AreCodeBytes (joined (map code pss))
+codes_are : (pss : List (List ℕ)) → AreCodeBytes (joined_codes (map code pss))
 codes_are [] = empty
 codes_are (ps ∷ pss) = both (code ps) _ (code_is ps) (codes_are pss)
 
 pub front_is : (style : Style) → AreCodeBytes (front_codes style)
 front_is style =
     let h = parameters_of style in
-    subst (λ cs. AreCodeBytes (joined cs)) (sym h.1) (codes_are h.0)
+    subst (λ cs. AreCodeBytes (joined_codes cs)) (sym h.1) (codes_are h.0)

@@ -7,7 +7,7 @@ use Rattle.std.proofs.lemmas.Grind.{flat_map-append, take-set_at}
 use Rattle.std.proofs.lemmas.List.Elements.{filter-append}
 use Rattle.std.proofs.lemmas.List.{map-append}
 use Rattle.std.proofs.lemmas.Simd.{map-map}
-use Rattle.ptree.specs.Codes.{joined, reset_behind}
+use Rattle.ptree.specs.Codes.{joined_codes, reset_behind}
 use Rattle.ptree.specs.declared.colors.Side.{Side}
 use Rattle.ptree.specs.declared.colors.Side.TheVariants.{Foreground, Background}
 use Rattle.ptree.specs.declared.style.Color.{Color}
@@ -15,20 +15,20 @@ use Rattle.ptree.specs.declared.style.Style.{Style}
 use Rattle.ptree.specs.Color.{color_parameters}
 use Rattle.ptree.specs.Style.{code, flags, flag_codes, side_codes, style_codes, front_codes, reset_after, back_codes}
 
-flag_codes-append : (xs ys : List (Bool × ℕ)) → joined (flag_codes (xs ++ ys)) ≡ joined (flag_codes xs) ++ joined (flag_codes ys)
+flag_codes-append : (xs ys : List (Bool × ℕ)) → joined_codes (flag_codes (xs ++ ys)) ≡ joined_codes (flag_codes xs) ++ joined_codes (flag_codes ys)
 flag_codes-append xs ys =
-    ap (λ fs. joined (map (λ flag. code (flag.1 ∷ [])) fs)) (filter-append (λ flag. flag.0) xs ys)
-    ∙ ap joined (map-append (λ flag. code (flag.1 ∷ [])) _ _) ∙ flat_map-append (λ c. c) (flag_codes xs) (flag_codes ys)
+    ap (λ fs. joined_codes (map (λ flag. code (flag.1 ∷ [])) fs)) (filter-append (λ flag. flag.0) xs ys)
+    ∙ ap joined_codes (map-append (λ flag. code (flag.1 ∷ [])) _ _) ∙ flat_map-append (λ c. c) (flag_codes xs) (flag_codes ys)
 
 -- one flag more
-pub flag_more : (base a b : List ℕ) (fs : List (Bool × ℕ)) (f : Bool × ℕ) → b ≡ a ++ joined (flag_codes (f ∷ [])) → a ≡ base ++ joined (flag_codes fs)
-    → b ≡ base ++ joined (flag_codes (fs ++ f ∷ []))
+pub flag_more : (base a b : List ℕ) (fs : List (Bool × ℕ)) (f : Bool × ℕ) → b ≡ a ++ joined_codes (flag_codes (f ∷ [])) → a ≡ base ++ joined_codes (flag_codes fs)
+    → b ≡ base ++ joined_codes (flag_codes (fs ++ f ∷ []))
 flag_more base a b fs f e d =
-    e ∙ ap (λ bs. bs ++ joined (flag_codes (f ∷ []))) d ∙ append_assoc base _ _ ∙ ap (λ bs. base ++ bs) (sym (flag_codes-append fs (f ∷ [])))
+    e ∙ ap (λ bs. bs ++ joined_codes (flag_codes (f ∷ []))) d ∙ append_assoc base _ _ ∙ ap (λ bs. base ++ bs) (sym (flag_codes-append fs (f ∷ [])))
 
 -- the code of a flag that is set, byte by byte
 pub flag_set : (bytes : List ℕ) (at digit : ℕ) (b : Bool) → b ≡ true → digit < 10 → at + 4 ≤ length bytes
-    → take (at + 4) (set (set (set (set bytes at 27) (at + 1) 91) (at + 2) (48 + digit)) (at + 3) 109) ≡ take at bytes ++ joined (flag_codes ((b, digit) ∷ []))
+    → take (at + 4) (set (set (set (set bytes at 27) (at + 1) 91) (at + 2) (48 + digit)) (at + 3) 109) ≡ take at bytes ++ joined_codes (flag_codes ((b, digit) ∷ []))
 flag_set bytes at digit b t small room =
     let one = set bytes at 27 in
     let two = set one (at + 1) 91 in
@@ -42,17 +42,17 @@ flag_set bytes at digit b t small room =
     ∙ ap (λ bs. bs ++ 91 ∷ []) (take-set_at bytes at (at + 1) 27 (omega arith) (omega arith))))
     ∙ pieces (take at bytes) (48 + digit)
     ∙ ap (λ bs. take at bytes ++ 27 ∷ 91 ∷ (bs ++ 109 ∷ [])) (sym (decimal_digit digit small))
-    ∙ ap (λ bs. take at bytes ++ bs) (sym (append-nil (code (digit ∷ [])))) ∙ ap (λ is_set. take at bytes ++ joined (flag_codes ((is_set, digit) ∷ []))) (sym t)
+    ∙ ap (λ bs. take at bytes ++ bs) (sym (append-nil (code (digit ∷ [])))) ∙ ap (λ is_set. take at bytes ++ joined_codes (flag_codes ((is_set, digit) ∷ []))) (sym t)
   where
     pieces : (old : List ℕ) (d : ℕ) → (((old ++ 27 ∷ []) ++ 91 ∷ []) ++ d ∷ []) ++ 109 ∷ [] ≡ old ++ 27 ∷ 91 ∷ d ∷ 109 ∷ []
     pieces old d = simp append_assoc
 
 -- what stands before a painted text, piece by piece
-pub front_codes_are : (style : Style) → front_codes style ≡ (joined (flag_codes (flags style)) ++ joined (side_codes style.foreground Foreground)) ++ joined (side_codes style.background Background)
+pub front_codes_are : (style : Style) → front_codes style ≡ (joined_codes (flag_codes (flags style)) ++ joined_codes (side_codes style.foreground Foreground)) ++ joined_codes (side_codes style.background Background)
 unfolding style_codes
 front_codes_are style =
     flat_map-append (λ c. c) (flag_codes (flags style) ++ side_codes style.foreground Foreground) (side_codes style.background Background)
-    ∙ ap (λ bs. bs ++ joined (side_codes style.background Background)) (flat_map-append (λ c. c) (flag_codes (flags style)) (side_codes style.foreground Foreground))
+    ∙ ap (λ bs. bs ++ joined_codes (side_codes style.background Background)) (flat_map-append (λ c. c) (flag_codes (flags style)) (side_codes style.foreground Foreground))
 
 one_code : (o : Option (List ℕ)) → option_to_list (option_map code o) ≡ map code (option_to_list o)
 one_code None = refl
@@ -77,7 +77,7 @@ parameters_of style =
           ∙ ap (λ cs. cs ++ map code back) (sym (map-append code one front)) ∙ sym (map-append code (one ++ front) back),
     )
 
-reset_is : (pss : List (List ℕ)) → reset_behind (joined (map code pss)) ≡ reset_after (map code pss)
+reset_is : (pss : List (List ℕ)) → reset_behind (joined_codes (map code pss)) ≡ reset_after (map code pss)
 reset_is [] = refl
 reset_is (ps ∷ pss) = refl
 
@@ -85,4 +85,4 @@ reset_is (ps ∷ pss) = refl
 pub back_codes_are : (style : Style) → reset_behind (front_codes style) ≡ back_codes style
 back_codes_are style =
     let h = parameters_of style in
-    ap (λ cs. reset_behind (joined cs)) h.1 ∙ reset_is h.0 ∙ ap reset_after (sym h.1)
+    ap (λ cs. reset_behind (joined_codes cs)) h.1 ∙ reset_is h.0 ∙ ap reset_after (sym h.1)

@@ -11,7 +11,7 @@ use Rattle.std.proofs.lemmas.List.Quantifiers.{position-Some}
 use Rattle.std.specs.Str.{str_eq_ignore_ascii_case}
 use Rattle.ptree.specs.declared.colors.Tone.{Tone}
 use Rattle.ptree.specs.declared.colors.Tone.TheVariants.{Eight, Direct}
-use Rattle.ptree.specs.Color.{NamedColor, named, named_colors, color_words, word_tone, is_hex_name, hex_tone, table_tone, named_tone}
+use Rattle.ptree.specs.Color.{NamedColor, named_color, named_colors, color_words, word_tone, is_hex_name, hex_tone, table_tone, named_tone}
 use Rattle.ptree.specs.Codes.{IsOfEight, HasHexDigits}
 
 -- what `map` answers, where its closure computes f
@@ -37,10 +37,10 @@ find-map p h f (x ∷ xs) =
     ∙ ap (cond (p (h x)) (Some (f (h x)))) (find-map p h f xs) ∙ sym (option_map-cond f (p (h x)) (h x) (find p (map h xs)))
 
 -- what is found of a table that holds the names and bytes of the definition
-pub table_found : (name : List ℕ) (table : List (Bor (List ℕ) × ℕ × ℕ × ℕ)) → map (λ c. named c.0.now c.1 c.2 c.3) table ≡ named_colors
+pub table_found : (name : List ℕ) (table : List (Bor (List ℕ) × ℕ × ℕ × ℕ)) → map (λ c. named_color c.0.now c.1 c.2 c.3) table ≡ named_colors
     → option_map (λ c. Direct c.1 c.2 c.3) (find (λ c. str_eq_ignore_ascii_case c.0.now name) table) ≡ table_tone name
 table_found name table e =
-    find-map (λ c. str_eq_ignore_ascii_case c.name name) (λ c. named c.0.now c.1 c.2 c.3) (λ c. Direct c.red c.green c.blue) table
+    find-map (λ c. str_eq_ignore_ascii_case c.name name) (λ c. named_color c.0.now c.1 c.2 c.3) (λ c. Direct c.red c.green c.blue) table
     ∙ ap (λ cs. option_map (λ c. Direct c.red c.green c.blue) (find (λ c. str_eq_ignore_ascii_case c.name name) cs)) e
 
 -- a word's place is one of eight

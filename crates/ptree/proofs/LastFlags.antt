@@ -7,7 +7,7 @@ use Rattle.ptree.specs.Flags.{has_later, last_flags, AreLastFlags, pieces_by, sp
 use Rattle.ptree.specs.Framed.{passing_all}
 use Rattle.ptree.specs.Outline.{Line}
 use Rattle.ptree.specs.Pieces.{Pieces, turning_piece}
-use Rattle.ptree.specs.Spelled.{SpelledLine, spelled, line_in, lines_in}
+use Rattle.ptree.specs.Spelled.{SpelledLine, spelled_line, line_in, lines_in}
 use Rattle.ptree.proofs.Levels.{last_flags_same, has_later_deeper, has_later_here}
 
 pub length-last_flags : (o : List Line) (n : ℕ) → length (last_flags o n) ≡ n
@@ -141,7 +141,7 @@ upward_more p lines rest rest' l flags ancestors flags' last h e here is pushed 
       are = h.are ∙ (ap (λ z. z ++ h.done) e ∙ append_assoc rest' (l ∷ []) h.done);
       low = (All-last (λ m. 0 < m.level) rest' l (subst (λ z. All (λ (m : SpelledLine). 0 < m.level) z) e h.low)).0;
       flagged = flags_up (line_in l) o here.up flags' here.level_is (pushed ∙ ap (λ z. z ++ false ∷ []) here.ancestors_are);
-      right = ap (λ z. spelled l.level z l.text ∷ h.done) pieces ∙ ap (λ z. spelled l.level (pieces_by p o l.level) l.text ∷ z) h.right;
+      right = ap (λ z. spelled_line l.level z l.text ∷ h.done) pieces ∙ ap (λ z. spelled_line l.level (pieces_by p o l.level) l.text ∷ z) h.right;
     }
 
 pub upward_wrong : (p : Pieces) (lines rest rest' : List SpelledLine) (l : SpelledLine) (flags ancestors : List Bool) (last : Bool) (h : Upward p lines rest flags)
@@ -149,7 +149,7 @@ pub upward_wrong : (p : Pieces) (lines rest rest' : List SpelledLine) (l : Spell
 upward_wrong p lines rest rest' l flags ancestors last h e here other all =
     let are : lines ≡ rest' ++ (l ∷ h.done) = h.are ∙ (ap (λ z. z ++ h.done) e ∙ append_assoc rest' (l ∷ []) h.done) in
     let tail = spelled_by_tail p rest' (l ∷ h.done) (subst (λ z. z ≡ spelled_by p (lines_in z)) are all) in
-    let firsts : l ≡ spelled l.level (pieces_by p (lines_in h.done) l.level) l.text = cc in
+    let firsts : l ≡ spelled_line l.level (pieces_by p (lines_in h.done) l.level) l.text = cc in
     other (ap (λ (m : SpelledLine). m.pieces) firsts ∙ sym here.pieces_are)
 
 pub upward_empty : (p : Pieces) (lines rest rest' : List SpelledLine) (l : SpelledLine) (flags fitted : List Bool) (h : Upward p lines rest flags)

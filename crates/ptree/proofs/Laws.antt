@@ -6,9 +6,9 @@ use Rattle.std.proofs.lemmas.Bool.Decides.{nat_tests}
 use Rattle.std.proofs.lemmas.List.{append-nil, map-id}
 use Rattle.ptree.specs.Address.{Address, at, is_last}
 use Rattle.ptree.specs.Drawing.{Look, passing_text, entry_from, entry_text, IsDrawing}
-use Rattle.ptree.specs.Lines.{own_lines, is_empty, with_below, kid_lines, lines_below, drawn}
+use Rattle.ptree.specs.Lines.{own_lines, is_empty, with_below, kid_lines, lines_below, drawn_lines}
 use Rattle.ptree.specs.Pieces.{passing_piece, turning_piece}
-use Rattle.ptree.specs.Shape.{Shape, child, kids, cut}
+use Rattle.ptree.specs.Shape.{Shape, child, kids, cut_shape}
 use Rattle.ptree.proofs.Addresses.{one_list, walk, walk_is_list}
 use Rattle.ptree.proofs.Join.{join, drawn_is_drawing, entry_behind, entry_under, passing_child}
 
@@ -31,16 +31,16 @@ less_suc m d = grind (arith, nat_tests)
 none_above : (d : ℕ) → nat_lt 0 (suc d) ≡ true
 none_above d = grind (arith, nat_tests)
 
-child_of_cut : (d : ℕ) (t : Shape) (i : ℕ) → child (cut (suc d) t) i ≡ cut d (child t i)
+child_of_cut : (d : ℕ) (t : Shape) (i : ℕ) → child (cut_shape (suc d) t) i ≡ cut_shape d (child t i)
 child_of_cut d t i =
     ap (λ (f : Address → ℕ). let r : Shape = record { own = λ a. t.own (i ∷ a); count = f } in r)
     (same_functions _ _ (λ (a : Address). ap (λ b. cond b (t.count (i ∷ a)) 0) (less_suc (length a) d)))
 
-pub kids_of_cut : (d : ℕ) (t : Shape) → kids (cut (suc d) t) ≡ map (cut d) (kids t)
+pub kids_of_cut : (d : ℕ) (t : Shape) → kids (cut_shape (suc d) t) ≡ map (cut_shape d) (kids t)
 kids_of_cut d t =
-    ap (λ b. map (child (cut (suc d) t)) (range_with_len 0 (cond b (t.count []) 0))) (none_above d)
-    ∙ same_map (child (cut (suc d) t)) (λ i. cut d (child t i)) (child_of_cut d t) (range_with_len 0 (t.count []))
-    ∙ sym (map_twice (child t) (cut d) (range_with_len 0 (t.count [])))
+    ap (λ b. map (child (cut_shape (suc d) t)) (range_with_len 0 (cond b (t.count []) 0))) (none_above d)
+    ∙ same_map (child (cut_shape (suc d) t)) (λ i. cut_shape d (child t i)) (child_of_cut d t) (range_with_len 0 (t.count []))
+    ∙ sym (map_twice (child t) (cut_shape d) (range_with_len 0 (t.count [])))
 
 is_empty-map : {X Y : Type 0} (f : X → Y) (xs : List X) → is_empty (map f xs) ≡ is_empty xs
 is_empty-map f [] = refl
@@ -59,30 +59,30 @@ kid_lines-map look f g below below' o h front (c ∷ cs) =
     ∙ ap (λ t. (own_lines look turned passed (g c) ++ t) ++ kid_lines look below' front (map f cs)) (h passed c)
     ∙ ap (λ t. with_below look below front last (g c) ++ t) (kid_lines-map look f g below below' o h front cs)
 
-lines_of_cut : (look : Look) (d e : ℕ) → d ≤ e → (front : List ℕ) (t : Shape) → lines_below look e front (cut d t) ≡ lines_below look d front t
+lines_of_cut : (look : Look) (d e : ℕ) → d ≤ e → (front : List ℕ) (t : Shape) → lines_below look e front (cut_shape d t) ≡ lines_below look d front t
 lines_of_cut look zero zero h front t = refl
 lines_of_cut look zero (suc e) h front t = refl
 lines_of_cut look (suc d) zero h front t = absurd (omega arith)
 lines_of_cut look (suc d) (suc e) h front t =
     ap (kid_lines look (lines_below look e) front) (kids_of_cut d t)
-    ∙ kid_lines-map look (cut d) (λ x. x) (lines_below look d) (lines_below look e) (λ x. refl) (λ f x. lines_of_cut look d e (omega arith) f x) front (kids t)
+    ∙ kid_lines-map look (cut_shape d) (λ x. x) (lines_below look d) (lines_below look e) (λ x. refl) (λ f x. lines_of_cut look d e (omega arith) f x) front (kids t)
     ∙ ap (kid_lines look (lines_below look d) front) (map-id (kids t))
 
 -- one text is the drawing
-pub one_drawing : (look : Look) (x : Shape) (d : ℕ) (text : List ℕ) → IsDrawing look x d text → text ≡ drawn look d x
+pub one_drawing : (look : Look) (x : Shape) (d : ℕ) (text : List ℕ) → IsDrawing look x d text → text ≡ drawn_lines look d x
 one_drawing look x d text h = h.2 ∙ ap (flat_map (entry_text look x)) (one_list kids x d h.0 (walk kids d x) h.1 (walk_is_list kids d x)) ∙ join look d x
 
 -- shapes whose lines are the same have the same drawings
-pub same_drawings : (look : Look) (x y : Shape) (d e : ℕ) → drawn look d x ≡ drawn look e y → (text : List ℕ) → IsDrawing look x d text ↔ IsDrawing look y e text
+pub same_drawings : (look : Look) (x y : Shape) (d e : ℕ) → drawn_lines look d x ≡ drawn_lines look e y → (text : List ℕ) → IsDrawing look x d text ↔ IsDrawing look y e text
 same_drawings look x y d e h text = (
   λ k. subst (λ (z : List ℕ). IsDrawing look y e z) (sym (one_drawing look x d text k ∙ h)) (drawn_is_drawing look e y),
   λ k. subst (λ (z : List ℕ). IsDrawing look x d z) (sym (one_drawing look y e text k ∙ sym h)) (drawn_is_drawing look d x),
 )
 
 -- the drawings at a depth are those of the cut tree at any greater one
-pub drawing_of_cut : (look : Look) (d e : ℕ) (t : Shape) (text : List ℕ) → d ≤ e → IsDrawing look t d text ↔ IsDrawing look (cut d t) e text
+pub drawing_of_cut : (look : Look) (d e : ℕ) (t : Shape) (text : List ℕ) → d ≤ e → IsDrawing look t d text ↔ IsDrawing look (cut_shape d t) e text
 drawing_of_cut look d e t text h =
-    same_drawings look t (cut d t) d e (sym (ap (λ y. own_lines look [] [] t ++ y) (lines_of_cut look d e h [] t))) text
+    same_drawings look t (cut_shape d t) d e (sym (ap (λ y. own_lines look [] [] t ++ y) (lines_of_cut look d e h [] t))) text
 
 -- ## Subtree
 

@@ -5,7 +5,7 @@ use Rattle.std.proofs.lemmas.List.Elements.{All-head, All-tail, All-append}
 use Rattle.ptree.specs.Framed.{Frame, entry, passing_all}
 use Rattle.ptree.specs.Pieces.{Pieces, turning_piece}
 use Rattle.ptree.specs.Readable.{IsReadable, HasNoLineFeed}
-use Rattle.ptree.specs.Spelled.{SpelledLine, spelled, ArePiecesAt, IsSpelled, HasLine, HasRoot, spelled_text}
+use Rattle.ptree.specs.Spelled.{SpelledLine, spelled_line, ArePiecesAt, IsSpelled, HasLine, HasRoot, spelled_text}
 use Rattle.ptree.proofs.Prefixes.{pieces_once}
 
 -- a line ends at its first line feed
@@ -56,7 +56,7 @@ same_pieces p r (suc n) (suc m) a b (above, last, len, is) (above', last', len',
     record { level = ap suc (sym len ∙ (same.0 ∙ len')); pieces = is ∙ (same.1 ∙ sym is'); rest = same.2 }
 
 same_spelled : (r s : SpelledLine) → r.level ≡ s.level → r.pieces ≡ s.pieces → r.text ≡ s.text → r ≡ s
-same_spelled r s e f g = ap (λ z. spelled z r.pieces r.text) e ∙ (ap (λ z. spelled s.level z r.text) f ∙ ap (λ z. spelled s.level s.pieces z) g)
+same_spelled r s e f g = ap (λ z. spelled_line z r.pieces r.text) e ∙ (ap (λ z. spelled_line s.level z r.text) f ∙ ap (λ z. spelled_line s.level s.pieces z) g)
 
 -- one line at the front of a text
 pub line_at_once : (k : Frame) → IsReadable k.pieces → HasNoLineFeed k.leaf.back → (r s : SpelledLine) (x rest rest' : List ℕ) → HasLine k r rest x → HasLine k s rest' x → (r ≡ s) × (rest ≡ rest')

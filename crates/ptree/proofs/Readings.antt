@@ -9,7 +9,7 @@ use Rattle.ptree.specs.Drawing.{Look, IsDrawing}
 use Rattle.ptree.specs.DrawnForm.{IsDrawnForm}
 use Rattle.ptree.specs.Flags.{spelled_by}
 use Rattle.ptree.specs.Framed.{Frame, frame_in}
-use Rattle.ptree.specs.Meant.{spelled_lines}
+use Rattle.ptree.specs.Meant.{spelled_lines_of}
 use Rattle.ptree.specs.Outline.{Line, line, outline_at, outline, Steps}
 use Rattle.ptree.specs.Readable.{IsReadable, HasNoLineFeed}
 use Rattle.ptree.specs.Rows.{lines_of}
@@ -57,12 +57,12 @@ form_there k depth x root body lines t has spells right made look e =
     shows_form look depth x t (subst (λ (f : Frame). Shows f depth t.text (tree_lines f.pieces t) x) e shows)
 
 -- the lines as the builder sees them
-pub built_lines : (lines : List (TextLine Spelled)) → lines_of (λ s. s.text.now) lines ≡ lines_in (spelled_lines lines)
+pub built_lines : (lines : List (TextLine Spelled)) → lines_of (λ s. s.text.now) lines ≡ lines_in (spelled_lines_of lines)
 built_lines [] = refl
 built_lines (l ∷ lines) = ap (λ z. line l.level l.text.text.now ∷ z) (built_lines lines)
 
 -- no line is a root's
-pub below_root : (n : ℕ) (lines : List (TextLine Spelled)) → Steps n (lines_in (spelled_lines lines)) → All (λ l. 0 < l.level) lines
+pub below_root : (n : ℕ) (lines : List (TextLine Spelled)) → Steps n (lines_in (spelled_lines_of lines)) → All (λ l. 0 < l.level) lines
 below_root n [] s = All-nil (λ l. 0 < l.level)
 below_root n (l ∷ lines) s = All-cons (λ (m : TextLine Spelled). 0 < m.level) l lines s.0 (below_root l.level lines s.2)
 

@@ -4,9 +4,9 @@ use Rattle.std.proofs.lemmas.List.{append_cancel_left, append_cancel_right, get_
 use Rattle.std.proofs.lemmas.List.Elements.{All-append}
 use Rattle.std.specs.Prelude.{Option, Some, None, MatchOption}
 use denote.Ref.{Bor}
-use Rattle.ptree.specs.Framed.{Paint, Frame, painted, entry}
+use Rattle.ptree.specs.Framed.{Paint, Frame, text_in_paint, entry}
 use Rattle.ptree.specs.Readable.{IsReadable, HasNoLineFeed}
-use Rattle.ptree.specs.Spelled.{SpelledLine, spelled, ArePiecesAt, HasPieces, HasText, HasLine, HasRoot}
+use Rattle.ptree.specs.Spelled.{SpelledLine, spelled_line, ArePiecesAt, HasPieces, HasText, HasLine, HasRoot}
 use Rattle.ptree.proofs.LinesOnce.{line_once, same_pieces}
 
 -- what is known of the default reading is known of each
@@ -49,14 +49,14 @@ only_behind : (s : Paint) (back closed own : List ℕ) → closed ≡ back ++ ow
 only_behind s back closed own e h other f text rest t =
     h text rest (subst (λ z. HasText s text rest z) (sym (append_cancel_left back own other (sym e ∙ f))) t)
 
-root_is : (k : Frame) (text rest : List ℕ) → entry k [] text ++ rest ≡ k.branch.front ++ (k.branch.back ++ (painted k.leaf text ++ 10 ∷ rest))
+root_is : (k : Frame) (text rest : List ℕ) → entry k [] text ++ rest ≡ k.branch.front ++ (k.branch.back ++ (text_in_paint k.leaf text ++ 10 ∷ rest))
 root_is k text rest = simp append_assoc
 
 pub no_root : (k : Frame) (x start : List ℕ) → x ≡ k.branch.front ++ start
     → ((own : List ℕ) → start ≡ k.branch.back ++ own → (text rest : List ℕ) → HasText k.leaf text rest own → ⊥)
     → (text rest : List ℕ) → HasRoot k text rest x → ⊥
 no_root k x start e h text rest (one, is) =
-    h (painted k.leaf text ++ 10 ∷ rest) (append_cancel_left k.branch.front _ _ (sym e ∙ (is ∙ root_is k text rest))) text rest (one, refl)
+    h (text_in_paint k.leaf text ++ 10 ∷ rest) (append_cancel_left k.branch.front _ _ (sym e ∙ (is ∙ root_is k text rest))) text rest (one, refl)
 
 pub root_cases : (k : Frame) (x start own : List ℕ) → x ≡ k.branch.front ++ start → start ≡ k.branch.back ++ own → (r : Option (Bor (List ℕ) × Bor (List ℕ)))
     → MatchOption r ((text rest : List ℕ) → HasText k.leaf text rest own → ⊥) (λ r. HasText k.leaf r.0.now r.1.now own)
@@ -65,13 +65,13 @@ root_cases k x start own e f None h = no_root k x start e (only_behind k.leaf k.
 root_cases k x start own e f (Some r) h =
     (h.0, e ∙ (ap (λ z. k.branch.front ++ z) (f ∙ ap (λ z. k.branch.back ++ z) h.1) ∙ sym (root_is k r.0.now r.1.now)))
 
-line_is : (k : Frame) (pieces text rest : List ℕ) → entry k pieces text ++ rest ≡ k.branch.front ++ (pieces ++ (k.branch.back ++ (painted k.leaf text ++ 10 ∷ rest)))
+line_is : (k : Frame) (pieces text rest : List ℕ) → entry k pieces text ++ rest ≡ k.branch.front ++ (pieces ++ (k.branch.back ++ (text_in_paint k.leaf text ++ 10 ∷ rest)))
 line_is k pieces text rest = simp append_assoc
 
 pub no_line_front : (k : Frame) (x : List ℕ) → ((z : List ℕ) → x ≢ k.branch.front ++ z) → (r : SpelledLine) (rest : List ℕ) → HasLine k r rest x → ⊥
 no_line_front k x h r rest (is_line, is) = h _ (is ∙ line_is k r.pieces r.text rest)
 
-start_is : (k : Frame) (x start rest : List ℕ) (r : SpelledLine) → x ≡ k.branch.front ++ start → HasLine k r rest x → start ≡ r.pieces ++ (k.branch.back ++ (painted k.leaf r.text ++ 10 ∷ rest))
+start_is : (k : Frame) (x start rest : List ℕ) (r : SpelledLine) → x ≡ k.branch.front ++ start → HasLine k r rest x → start ≡ r.pieces ++ (k.branch.back ++ (text_in_paint k.leaf r.text ++ 10 ∷ rest))
 start_is k x start rest r e (is_line, is) = append_cancel_left k.branch.front _ _ (sym e ∙ (is ∙ line_is k r.pieces r.text rest))
 
 pub no_line_pieces : (k : Frame) (highest : ℕ) (x start : List ℕ) → x ≡ k.branch.front ++ start
@@ -84,7 +84,7 @@ pub no_line_text : (k : Frame) → IsReadable k.pieces → (level : ℕ) (x star
     → (r : SpelledLine) (rest : List ℕ) → HasLine k r rest x → ⊥
 no_line_text k readable level x start closed e (pieces, at, is) h r rest has =
     let same = same_pieces k.pieces readable level r.level pieces r.pieces at has.0.0 closed _ (sym is ∙ start_is k x start rest r e has) in
-    h (painted k.leaf r.text ++ 10 ∷ rest) same.rest r.text rest (has.0.1, refl)
+    h (text_in_paint k.leaf r.text ++ 10 ∷ rest) same.rest r.text rest (has.0.1, refl)
 
 pub no_line_behind : (k : Frame) → IsReadable k.pieces → (level : ℕ) (x start closed own : List ℕ) → x ≡ k.branch.front ++ start → HasPieces k.pieces level closed start
     → closed ≡ k.branch.back ++ own → ((text rest : List ℕ) → HasText k.leaf text rest own → ⊥) → (r : SpelledLine) (rest : List ℕ) → HasLine k r rest x → ⊥
@@ -92,7 +92,7 @@ no_line_behind k readable level x start closed own e has f h =
     no_line_text k readable level x start closed e has (only_behind k.leaf k.branch.back closed own f h)
 
 pub line_there : (k : Frame) (level : ℕ) (x start pieces closed own text rest : List ℕ) → x ≡ k.branch.front ++ start → HasPieces k.pieces level closed start → start ≡ pieces ++ closed
-    → closed ≡ k.branch.back ++ own → HasText k.leaf text rest own → HasLine k (spelled level pieces text) rest x
+    → closed ≡ k.branch.back ++ own → HasText k.leaf text rest own → HasLine k (spelled_line level pieces text) rest x
 line_there k level x start pieces closed own text rest e (pieces', at, is) cut f (one, g) =
     let same : pieces' ≡ pieces = append_cancel_right pieces' pieces closed (sym is ∙ cut) in (
       (subst (λ z. ArePiecesAt k.pieces level z) same at, one),

@@ -4,7 +4,7 @@ use Rattle.std.proofs.Common.{◌≡◌, ℕ, zero, suc, ◌≤◌, Bool, true, 
 use Rattle.std.proofs.lemmas.List.{append-nil}
 use Rattle.ptree.specs.Drawing.{Look, entry_from, IsDrawing}
 use Rattle.ptree.specs.Framed.{Frame, frame_in, entry, passing_all}
-use Rattle.ptree.specs.Lines.{is_empty, with_below, kid_lines, lines_below, drawn}
+use Rattle.ptree.specs.Lines.{is_empty, with_below, kid_lines, lines_below, drawn_lines}
 use Rattle.ptree.specs.Pieces.{Pieces, turning_piece, passing_piece}
 use Rattle.ptree.specs.Shape.{Shape}
 use Rattle.ptree.specs.Style.{painted_text}
@@ -64,7 +64,7 @@ lines_of_tree look (suc d) above t h =
     ap (kid_lines look (lines_below look d) (passing_all look.pieces above)) (sym (kids_of_unfold tree_own tree_kids t))
     ∙ lines_of_forest look d (lines_of_tree look d) above t.children h
 
-pub drawn_tree : (look : Look) (depth : ℕ) (t : Tree) → height t.children ≤ depth → drawn look depth (shape_of_tree t) ≡ tree_drawing (frame_in look) t
+pub drawn_tree : (look : Look) (depth : ℕ) (t : Tree) → height t.children ≤ depth → drawn_lines look depth (shape_of_tree t) ≡ tree_drawing (frame_in look) t
 drawn_tree look depth t h = ap (λ z. entry_from look [] [] (painted_text look.leaf t.text) ++ z) (lines_of_tree look depth [] t h)
 
 -- the drawing of a tree by addresses is its drawing by recursion, at a depth that it doesn't exceed

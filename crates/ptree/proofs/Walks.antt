@@ -6,7 +6,7 @@ use Rattle.ptree.specs.declared.graph.Graph.{Graph}
 use Rattle.ptree.specs.declared.style.Style.{Style}
 use Rattle.ptree.specs.Drawing.{Look, entry_from, IsDrawing}
 use Rattle.ptree.specs.Graph.{weights_of, edges_of, neighbors_of, node_own, node_shape, node_text, walks}
-use Rattle.ptree.specs.Lines.{own_lines, is_empty, with_below, kid_lines, lines_below, drawn}
+use Rattle.ptree.specs.Lines.{own_lines, is_empty, with_below, kid_lines, lines_below, drawn_lines}
 use Rattle.ptree.specs.Pieces.{passing_piece, turning_piece}
 use Rattle.ptree.specs.Shape.{Shape, kids}
 use Rattle.ptree.specs.Style.{painted_text}
@@ -75,7 +75,7 @@ module _ {N : Type 0} (text : N → List ℕ) (g : Graph N) where
       (λ u. own_of_walks look.leaf u d) (lines_of_walks look d) front (neighbors_of (edges_of g) v) (neighbors_below g v)
       ∙ ap lines (kids_of_walks v d)
 
-  drawn_of_walks : (look : Look) (d v : ℕ) → v < length (weights_of g) → drawn look d (node_shape text g v) ≡ drawn look d (shape_of_walks v d)
+  drawn_of_walks : (look : Look) (d v : ℕ) → v < length (weights_of g) → drawn_lines look d (node_shape text g v) ≡ drawn_lines look d (shape_of_walks v d)
   drawn_of_walks look d v h =
       ap (λ own. entry_from look [] [] own ++ lines_below look d [] (node_shape text g v)) (own_of_walks look.leaf v d h)
       ∙ ap (λ lines. own_lines look [] [] (shape_of_walks v d) ++ lines) (lines_of_walks look d v h [])

@@ -18,12 +18,12 @@ pub record HasHexDigits (bytes : List ℕ) (at : ℕ) : Type 0 where
   pub low : is_ascii_hexdigit (slice_index bytes (at + 1)) ≡ true
 
 -- the bytes that are gathered
-abbrev pub gathered : Codes → List ℕ
-gathered c = take c.len c.bytes
+abbrev pub gathered_codes : Codes → List ℕ
+gathered_codes c = take c.len c.bytes
 
 -- codes, one behind the other
-abbrev pub joined : List (List ℕ) → List ℕ
-joined codes = flat_map (λ code. code) codes
+abbrev pub joined_codes : List (List ℕ) → List ℕ
+joined_codes codes = flat_map (λ code. code) codes
 
 -- the reset behind these codes, if there are any
 abbrev pub reset_behind : List ℕ → List ℕ

@@ -52,18 +52,18 @@ pub record NamedColor : Type 0 where
   pub blue : ℕ
 
 -- a name with its bytes of red, green and blue
-abbrev pub named : List ℕ → ℕ → ℕ → ℕ → NamedColor
-named name r g b = record { name = name; red = r; green = g; blue = b }
+abbrev pub named_color : List ℕ → ℕ → ℕ → ℕ → NamedColor
+named_color name r g b = record { name = name; red = r; green = g; blue = b }
 
 -- the sixteen names of HTML 4.01, and two more
 abbrev pub named_colors : List NamedColor
 named_colors =
-    named (codes "black") 0 0 0 ∷ named (codes "silver") 192 192 192 ∷ named (codes "gray") 128 128 128
-    ∷ named (codes "white") 255 255 255 ∷ named (codes "maroon") 128 0 0 ∷ named (codes "red") 255 0 0
-    ∷ named (codes "purple") 128 0 128 ∷ named (codes "fuchsia") 255 0 255 ∷ named (codes "green") 0 128 0
-    ∷ named (codes "lime") 0 255 0 ∷ named (codes "olive") 128 128 0 ∷ named (codes "yellow") 255 255 0
-    ∷ named (codes "navy") 0 0 128 ∷ named (codes "blue") 0 0 255 ∷ named (codes "teal") 0 128 128
-    ∷ named (codes "aqua") 0 255 255 ∷ named (codes "steelblue") 70 130 180 ∷ named (codes "mediumseagreen") 60 179 113 ∷ []
+    named_color (codes "black") 0 0 0 ∷ named_color (codes "silver") 192 192 192 ∷ named_color (codes "gray") 128 128 128
+    ∷ named_color (codes "white") 255 255 255 ∷ named_color (codes "maroon") 128 0 0 ∷ named_color (codes "red") 255 0 0
+    ∷ named_color (codes "purple") 128 0 128 ∷ named_color (codes "fuchsia") 255 0 255 ∷ named_color (codes "green") 0 128 0
+    ∷ named_color (codes "lime") 0 255 0 ∷ named_color (codes "olive") 128 128 0 ∷ named_color (codes "yellow") 255 255 0
+    ∷ named_color (codes "navy") 0 0 128 ∷ named_color (codes "blue") 0 0 255 ∷ named_color (codes "teal") 0 128 128
+    ∷ named_color (codes "aqua") 0 255 255 ∷ named_color (codes "steelblue") 70 130 180 ∷ named_color (codes "mediumseagreen") 60 179 113 ∷ []
 
 -- one of those names, in any ASCII case
 abbrev pub table_tone : List ℕ → Option Tone

@@ -3,7 +3,7 @@ use Rattle.std.specs.Prelude.{◌≡◌, ◌<◌, ℕ, zero, suc, Bool, false, n
 use Rattle.ptree.specs.Framed.{passing_all}
 use Rattle.ptree.specs.Outline.{Line}
 use Rattle.ptree.specs.Pieces.{Pieces, turning_piece}
-use Rattle.ptree.specs.Spelled.{SpelledLine, spelled}
+use Rattle.ptree.specs.Spelled.{SpelledLine, spelled_line}
 
 -- the first of the lines that isn't deeper than n is at level n: the item at level n above them has a sibling after it
 abbrev pub has_later : List Line → ℕ → Bool
@@ -28,4 +28,4 @@ pieces_by p o (suc n) = passing_all p (last_flags o n) ++ turning_piece p (not (
 -- the lines, each with the pieces that the levels give it
 abbrev pub spelled_by : Pieces → List Line → List SpelledLine
 spelled_by p [] = []
-spelled_by p (l ∷ o) = spelled l.level (pieces_by p o l.level) l.text ∷ spelled_by p o
+spelled_by p (l ∷ o) = spelled_line l.level (pieces_by p o l.level) l.text ∷ spelled_by p o

@@ -25,12 +25,12 @@ abbrev pub frame_in : Look → Frame
 frame_in look = record { pieces = look.pieces; branch = paint_in look.branch; leaf = paint_in look.leaf }
 
 -- the text in its paint
-abbrev pub painted : Paint → List ℕ → List ℕ
-painted s text = s.front ++ text ++ s.back
+abbrev pub text_in_paint : Paint → List ℕ → List ℕ
+text_in_paint s text = s.front ++ text ++ s.back
 
 -- a line: the painted prefix, the painted text and a line feed
 abbrev pub entry : Frame → List ℕ → List ℕ → List ℕ
-entry k prefix text = painted k.branch prefix ++ painted k.leaf text ++ 10 ∷ []
+entry k prefix text = text_in_paint k.branch prefix ++ text_in_paint k.leaf text ++ 10 ∷ []
 
 -- the passing pieces of items, by whether each is a last child
 abbrev pub passing_all : Pieces → List Bool → List ℕ

@@ -2,7 +2,7 @@
 use Rattle.std.specs.Prelude.{◌≡◌, ◌↔◌, ℕ, ◌-◌, ◌≤◌, Bool, true, false, ◌&&◌, ◌==◌, List, [], ◌∷◌, ◌++◌, length, map, filter, Some}
 use Rattle.ptree.specs.Address.{Address, at, IsAddressList}
 use Rattle.ptree.specs.Drawing.{Look, passing_text, entry_text, IsDrawing}
-use Rattle.ptree.specs.Shape.{Shape, kids, cut}
+use Rattle.ptree.specs.Shape.{Shape, kids, cut_shape}
 use Rattle.ptree.specs.Tree.{Tree, shape_of_tree, cut_tree}
 
 -- at most one list is the address list of x at this depth
@@ -12,7 +12,7 @@ HasOneList x depth = (xs ys : List Address) → IsAddressList kids x depth xs �
 -- the drawings of x at this depth are those of x cut there, at this or any greater depth
 abbrev pub HasCuts : Look → Shape → ℕ → Type 0
 HasCuts look x depth =
-    (deeper : ℕ) (text : List ℕ) → depth ≤ deeper → IsDrawing look x depth text ↔ IsDrawing look (cut depth x) deeper text
+    (deeper : ℕ) (text : List ℕ) → depth ≤ deeper → IsDrawing look x depth text ↔ IsDrawing look (cut_shape depth x) deeper text
 
 -- the drawings of any tree at this depth are those of the tree cut there, at this or any greater depth
 abbrev pub HasTreeCuts : Look → ℕ → Type 0

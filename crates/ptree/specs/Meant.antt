@@ -7,7 +7,7 @@ use Rattle.ptree.specs.declared.read.Path.{Path}
 use Rattle.ptree.specs.declared.read.Spelled.{Spelled}
 use Rattle.ptree.specs.Framed.{Paint, Frame, passing_all}
 use Rattle.ptree.specs.Pieces.{Pieces, pieces_of}
-use Rattle.ptree.specs.Spelled.{SpelledLine, spelled}
+use Rattle.ptree.specs.Spelled.{SpelledLine, spelled_line}
 
 -- the paint that codes make
 abbrev pub paint_of : CodeTexts → Paint
@@ -18,12 +18,12 @@ abbrev pub frame_of : FrameTexts → Frame
 frame_of f = record { pieces = pieces_of f.indent; branch = paint_of f.branch; leaf = paint_of f.leaf }
 
 -- a line that was read
-abbrev pub spelled_line : TextLine Spelled → SpelledLine
-spelled_line l = spelled l.level l.text.pieces.now l.text.text.now
+abbrev pub spelled_line_of : TextLine Spelled → SpelledLine
+spelled_line_of l = spelled_line l.level l.text.pieces.now l.text.text.now
 
 -- lines that were read
-abbrev pub spelled_lines : List (TextLine Spelled) → List SpelledLine
-spelled_lines lines = map spelled_line lines
+abbrev pub spelled_lines_of : List (TextLine Spelled) → List SpelledLine
+spelled_lines_of lines = map spelled_line_of lines
 
 -- the path's pieces are those that its flags give
 abbrev pub IsPath : Pieces → Path → Type 0

@@ -1,6 +1,6 @@
 -- What a text shows before last flags are looked at: the level, the pieces and the text of each line.
 use Rattle.std.specs.Prelude.{◌≡◌, ◌≤◌, ℕ, zero, suc, Bool, List, [], ◌∷◌, ◌++◌, length, map, All}
-use Rattle.ptree.specs.Framed.{Paint, Frame, painted, entry, passing_all}
+use Rattle.ptree.specs.Framed.{Paint, Frame, text_in_paint, entry, passing_all}
 use Rattle.ptree.specs.Outline.{Line, line, Steps}
 use Rattle.ptree.specs.Pieces.{Pieces, turning_piece}
 use Rattle.ptree.specs.Readable.{HasNoLineFeed}
@@ -12,8 +12,8 @@ pub record SpelledLine : Type 0 where
   pub text : List ℕ
 
 -- the line with this level, these pieces and this text
-abbrev pub spelled : ℕ → List ℕ → List ℕ → SpelledLine
-spelled n pieces text = record { level = n; pieces = pieces; text = text }
+abbrev pub spelled_line : ℕ → List ℕ → List ℕ → SpelledLine
+spelled_line n pieces text = record { level = n; pieces = pieces; text = text }
 
 -- the line without its pieces
 abbrev pub line_in : SpelledLine → Line
@@ -61,7 +61,7 @@ HasPieces p level rest x = (pieces : List ℕ) × ArePiecesAt p level pieces × 
 
 -- x is text, painted, a line feed and rest
 abbrev pub HasText : Paint → List ℕ → List ℕ → List ℕ → Type 0
-HasText s text rest x = HasNoLineFeed text × (x ≡ painted s text ++ 10 ∷ rest)
+HasText s text rest x = HasNoLineFeed text × (x ≡ text_in_paint s text ++ 10 ∷ rest)
 
 -- x is the text of a line, and rest
 abbrev pub HasLine : Frame → SpelledLine → List ℕ → List ℕ → Type 0

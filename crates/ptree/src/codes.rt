@@ -20,7 +20,7 @@ pub struct Codes {
 }
 
 impl Codes {
-    ghost use Rattle.ptree.specs.Codes.{IsOfEight, gathered, joined, reset_behind};
+    ghost use Rattle.ptree.specs.Codes.{IsOfEight, gathered_codes, joined_codes, reset_behind};
 
     /// No code yet.
     #[inline(always)]
@@ -35,9 +35,9 @@ impl Codes {
 
     /// The codes of a style, in order.
     pub fn of(style: &Style) -> Codes
-        ensures front { gathered result ≡ front_codes style.now }
-        ensures back { reset_behind (gathered result) ≡ back_codes style.now }
-        ensures utf8 { IsUtf8 (gathered result) }
+        ensures front { gathered_codes result ≡ front_codes style.now }
+        ensures back { reset_behind (gathered_codes result) ≡ back_codes style.now }
+        ensures utf8 { IsUtf8 (gathered_codes result) }
     {
         let mut codes = Codes::none();
         codes.gather(style);
@@ -48,9 +48,9 @@ impl Codes {
     #[inline(always)]
     pub fn gather(&mut self, style: &Style)
         requires { self.old.len ≡ 0 }
-        ensures front { gathered self.new ≡ front_codes style.now }
-        ensures back { reset_behind (gathered self.new) ≡ back_codes style.now }
-        ensures utf8 { IsUtf8 (gathered self.new) }
+        ensures front { gathered_codes self.new ≡ front_codes style.now }
+        ensures back { reset_behind (gathered_codes self.new) ≡ back_codes style.now }
+        ensures utf8 { IsUtf8 (gathered_codes self.new) }
     {
         self.push_flags(style);
         self.push_side(&style.foreground, Side::Foreground);
@@ -59,22 +59,22 @@ impl Codes {
 
     /// The codes' bytes.
     pub fn as_bytes(&self) -> &[u8]
-        ensures { result.now ≡ gathered self.now }
+        ensures { result.now ≡ gathered_codes self.now }
     {
         &self.bytes[..self.len]
     }
 
     /// The codes as a text.
     pub fn as_str(&self) -> &str
-        requires { IsUtf8 (gathered self.now) }
-        ensures { result.now ≡ gathered self.now }
+        requires { IsUtf8 (gathered_codes self.now) }
+        ensures { result.now ≡ gathered_codes self.now }
     {
         str::from_utf8(self.as_bytes()).unwrap()
     }
 
     /// What undoes the codes, if there are any.
     pub fn reset(&self) -> &'static str
-        ensures { result.now ≡ reset_behind (gathered self.now) }
+        ensures { result.now ≡ reset_behind (gathered_codes self.now) }
     {
         if self.len == 0 { "" } else { "\x1b[0m" }
     }
@@ -83,7 +83,7 @@ impl Codes {
     #[inline(always)]
     fn push_flags(&mut self, style: &Style)
         requires { self.old.len + 32 ≤ ROOM }
-        ensures text { gathered self.new ≡ gathered self.old ++ joined (flag_codes (flags style.now)) }
+        ensures text { gathered_codes self.new ≡ gathered_codes self.old ++ joined_codes (flag_codes (flags style.now)) }
         ensures len { self.new.len ≤ self.old.len + 32 }
     {
         self.push_flag(style.bold, 1);
@@ -101,7 +101,7 @@ impl Codes {
     fn push_flag(&mut self, is_set: bool, digit: u8)
         requires digit { digit < 10 }
         requires room { self.old.len + 4 ≤ ROOM }
-        ensures text { gathered self.new ≡ gathered self.old ++ joined (flag_codes ((is_set, digit) ∷ [])) }
+        ensures text { gathered_codes self.new ≡ gathered_codes self.old ++ joined_codes (flag_codes ((is_set, digit) ∷ [])) }
         ensures len { self.new.len ≤ self.old.len + 4 }
     {
         if is_set {
@@ -118,7 +118,7 @@ impl Codes {
     #[inline(always)]
     fn push_side(&mut self, color: &Option<Color>, side: Side)
         requires { self.old.len + 22 ≤ ROOM }
-        ensures text { gathered self.new ≡ gathered self.old ++ joined (side_codes color.now side) }
+        ensures text { gathered_codes self.new ≡ gathered_codes self.old ++ joined_codes (side_codes color.now side) }
         ensures len { self.new.len ≤ self.old.len + 22 }
     {
         if let Some(color) = color {
@@ -130,7 +130,7 @@ impl Codes {
     #[inline(never)]
     fn push_color(&mut self, color: &Color, side: Side)
         requires { self.old.len + 22 ≤ ROOM }
-        ensures text { gathered self.new ≡ gathered self.old ++ joined (option_to_list (color_code color.now side)) }
+        ensures text { gathered_codes self.new ≡ gathered_codes self.old ++ joined_codes (option_to_list (color_code color.now side)) }
         ensures len { self.new.len ≤ self.old.len + 22 }
     {
         if let Some(tone) = color_tone(color) {
@@ -142,7 +142,7 @@ impl Codes {
     fn push_tone(&mut self, tone: Tone, side: Side)
         requires room { self.old.len + 22 ≤ ROOM }
         requires eight { IsOfEight tone }
-        ensures text { gathered self.new ≡ gathered self.old ++ code (tone_parameters side tone) }
+        ensures text { gathered_codes self.new ≡ gathered_codes self.old ++ code (tone_parameters side tone) }
         ensures len { self.new.len ≤ self.old.len + 22 }
     {
         let base = side.base();
@@ -157,7 +157,7 @@ impl Codes {
     #[tactic(auto, using(crate::proofs::Decimals::byte_lengths))]
     fn push_code(&mut self, first: u8, others: &[u8])
         requires { self.old.len + 4 * length others.now + 6 ≤ ROOM }
-        ensures text { gathered self.new ≡ gathered self.old ++ code (first ∷ others.now) }
+        ensures text { gathered_codes self.new ≡ gathered_codes self.old ++ code (first ∷ others.now) }
         ensures len { self.new.len ≤ self.old.len + 4 * length others.now + 6 }
     {
         self.push(27);
@@ -174,7 +174,7 @@ impl Codes {
     #[tactic(auto, using(crate::proofs::Decimals::byte_digits))]
     fn push_number(&mut self, n: u8)
         requires { self.old.len + length (decimal n) ≤ ROOM }
-        ensures text { gathered self.new ≡ gathered self.old ++ decimal n }
+        ensures text { gathered_codes self.new ≡ gathered_codes self.old ++ decimal n }
         ensures len { self.new.len ≡ self.old.len + length (decimal n) }
     {
         if n >= 10 {
@@ -186,7 +186,7 @@ impl Codes {
     // One byte, for which there is room.
     fn push(&mut self, byte: u8)
         requires { self.old.len < ROOM }
-        ensures text { gathered self.new ≡ gathered self.old ++ byte ∷ [] }
+        ensures text { gathered_codes self.new ≡ gathered_codes self.old ++ byte ∷ [] }
         ensures len { self.new.len ≡ self.old.len + 1 }
     {
         self.bytes[self.len] = byte;

@@ -2,7 +2,7 @@
 ghost use Rattle.std.specs.Prelude.{◌≡◌, ◌↔◌, ℕ, Bool, IsTrue, true, false, length, take, if◌then◌else◌, ◌≤◌, ◌++◌, IfOk, OnOk, string_bytes, List, [], ◌∷◌, map};
 ghost use Rattle.ptree.specs.Writing.{IsWritten, HasCause, IsDrawn};
 ghost use Rattle.ptree.specs.Drawing.{look_from, look_of};
-ghost use Rattle.ptree.specs.Lines.{item_lines, kid_lines, lines_below, drawn};
+ghost use Rattle.ptree.specs.Lines.{item_lines, kid_lines, lines_below, drawn_lines};
 ghost use Rattle.ptree.specs.Pieces.{turning_piece, passing_piece, pieces_from, config_pieces, pieces_of};
 ghost use Rattle.ptree.specs.Characters.{characters_of};
 ghost use Rattle.ptree.specs.Laws.{HasOneList, HasCuts, HasTreeCuts, HasSubtrees};
@@ -481,7 +481,7 @@ where
     requires ready { IsReady brush.now }
     requires front { pen.old.line.bytes.items ≡ front_codes brush.now.branch.now }
     requires back { back.now ≡ back_codes brush.now.branch.now }
-    ensures bytes { IsWritten (W.contents f.old) (W.contents f.new) result (drawn (brush_look brush.now) depth (T.shape item.now)) }
+    ensures bytes { IsWritten (W.contents f.old) (W.contents f.new) result (drawn_lines (brush_look brush.now) depth (T.shape item.now)) }
     ensures error { OnOk result (pen.new.error ≡ Memory) }
     ensures cause { HasErrorCause (W.faults f.old) (W.faults f.new) pen.new.error }
 {
@@ -511,7 +511,7 @@ where
     T::Child: TreeItem<Child = T::Child> + Drop,
     W: Sink,
     ensures bytes { IsWritten (W.contents f.old) (W.contents f.new) result
-        (drawn (look_from branch.now leaf.now (pieces_of pieces.now)) depth (T.shape item.now)) }
+        (drawn_lines (look_from branch.now leaf.now (pieces_of pieces.now)) depth (T.shape item.now)) }
     ensures cause { HasCause (W.faults f.old) (W.faults f.new) result }
 {
     let back = branch.back_text(alloc)?;

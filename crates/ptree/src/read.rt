@@ -5,7 +5,7 @@ ghost use Rattle.ptree.specs.Drawing.{Look, look_of, IsDrawing};
 ghost use Rattle.ptree.specs.DrawnForm.{IsDrawnForm, ReadsOneWay, DrawAlike, nested_tree, flat_tree};
 ghost use Rattle.ptree.specs.Flags.{AreLastFlags, last_flags, spelled_by};
 ghost use Rattle.ptree.specs.Framed.{paint_in, frame_in};
-ghost use Rattle.ptree.specs.Meant.{paint_of, frame_of, spelled_line, spelled_lines, IsPath};
+ghost use Rattle.ptree.specs.Meant.{paint_of, frame_of, spelled_line_of, spelled_lines_of, IsPath};
 ghost use Rattle.ptree.specs.Outline.{Line as OutlineLine};
 ghost use Rattle.ptree.specs.Pieces.{Pieces, pieces_of, turning_piece, passing_piece, config_pieces};
 ghost use Rattle.ptree.specs.Readable.{IsReadable, HasNoLineFeed};
@@ -310,7 +310,7 @@ fn after_line<'a>(
     ensures { MatchOption result
         ((r : SpelledLine) (rest : List ℕ) → r.level ≤ highest → HasLine (frame_of frame.now) r rest input.now → ⊥)
         (λ r. (r.0.level ≤ highest) × ArePassing (frame_of frame.now).pieces r.1.count r.1.pieces.now
-        × HasLine (frame_of frame.now) (spelled_line r.0) r.2.now input.now) }
+        × HasLine (frame_of frame.now) (spelled_line_of r.0) r.2.now input.now) }
 {
     let Some(open) = after(input, frame.branch.front.as_str()) else {
         return None;
@@ -341,7 +341,7 @@ fn scan<'a>(
     requires codes { HasNoLineFeed (frame_of frame.now).leaf.back }
     ensures { IfOk result (λ o. MatchOption o
         ((lines : List SpelledLine) → Spells (frame_of frame.now) depth lines body.now → ⊥)
-        (λ v. Spells (frame_of frame.now) depth (spelled_lines v.items) body.now)) }
+        (λ v. Spells (frame_of frame.now) depth (spelled_lines_of v.items) body.now)) }
 {
     let mut lines = Vec::new(alloc);
     let mut rest = body;
@@ -438,7 +438,7 @@ fn have_last_flags(
     indent: &Indent,
 ) -> Result<bool, AllocError>
     requires { All (λ l. 0 < l.level) lines.now }
-    ensures { IfOk result (λ b. IsTrue b ↔ (spelled_lines lines.now ≡ spelled_by (pieces_of indent.now) (lines_in (spelled_lines lines.now)))) }
+    ensures { IfOk result (λ b. IsTrue b ↔ (spelled_lines_of lines.now ≡ spelled_by (pieces_of indent.now) (lines_in (spelled_lines_of lines.now)))) }
 {
     let mut path = Path {
         flags: Vec::new(alloc),

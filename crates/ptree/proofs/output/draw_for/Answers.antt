@@ -1,7 +1,7 @@
 use Rattle.std.proofs.Common.{◌≡◌, ◌∙◌, ap, subst, if◌then◌else◌}
 use Rattle.ptree.specs.Config.{is_styled}
 use Rattle.ptree.specs.Drawing.{Look, look_from, look_of}
-use Rattle.ptree.specs.Lines.{drawn}
+use Rattle.ptree.specs.Lines.{drawn_lines}
 use Rattle.ptree.specs.Pieces.{pieces_of}
 use Rattle.ptree.specs.Style.{plain_style}
 use Rattle.ptree.specs.Writing.{IsDrawn}
@@ -23,4 +23,4 @@ returns-clause-bytes g c =
     ∙ ap (λ b. look_from b c.effective-leaf.result.now (look_of config c.args.output_kind c.args.terminal).pieces) (c.effective-branch.ensures ∙ ap (λ p. if c.should_style_output-styled.result then config.branch else p) c.default-plain.ensures ∙ ap (λ b. if b then config.branch else plain_style) c.should_style_output-styled.ensures.value)
     ∙ ap (λ l. look_from (if styled then config.branch else plain_style) l (look_of config c.args.output_kind c.args.terminal).pieces) (c.effective-leaf.ensures ∙ ap (λ p. if c.should_style_output-styled.result then config.leaf else p) c.default-plain.ensures ∙ ap (λ b. if b then config.leaf else plain_style) c.should_style_output-styled.ensures.value) in
     subst (λ (l : Look). IsDrawn l x config.depth (g.W.Sink.contents c.args.f.now) (g.W.Sink.contents c.draw.new.f) c.draw.result) look_is
-    (drawn look config.depth x, drawn_is_drawing look config.depth x, c.draw.ensures.bytes)
+    (drawn_lines look config.depth x, drawn_is_drawing look config.depth x, c.draw.ensures.bytes)

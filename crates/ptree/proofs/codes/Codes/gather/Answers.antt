@@ -1,7 +1,7 @@
 use Rattle.std.proofs.Common.{◌≡◌, ◌++◌, take, ap, sym, subst, ◌∙◌}
 use Rattle.std.specs.Prelude.{IsUtf8}
 use Rattle.ptree.specs.declared.colors.Side.TheVariants.{Foreground, Background}
-use Rattle.ptree.specs.Codes.{gathered, joined, reset_behind}
+use Rattle.ptree.specs.Codes.{gathered_codes, joined_codes, reset_behind}
 use Rattle.ptree.specs.Style.{flags, flag_codes, side_codes, front_codes}
 use Rattle.ptree.proofs.CodeLists.{front_codes_are, back_codes_are}
 use Rattle.ptree.proofs.Styles.{IsUtf8-front_codes}
@@ -9,11 +9,11 @@ use Rattle.ptree.proofs.codes.Codes.gather.Goals.{After-push_side-2}
 use Rattle.ptree.proofs.codes.Codes.gather.Goals as goal
 
 -- what is gathered at the end
-front : (c : After-push_side-2) → gathered c.push_side-2.new.self ≡ front_codes c.args.style.now
+front : (c : After-push_side-2) → gathered_codes c.push_side-2.new.self ≡ front_codes c.args.style.now
 front c =
     let style = c.args.style.now in
     c.push_side-2.ensures.text
-    ∙ ap (λ bs. bs ++ joined (side_codes style.background Background)) (c.push_side.ensures.text ∙ ap (λ bs. bs ++ joined (side_codes style.foreground Foreground)) (c.push_flags.ensures.text ∙ ap (λ n. take n c.args.self.now.bytes ++ joined (flag_codes (flags style))) c.requires))
+    ∙ ap (λ bs. bs ++ joined_codes (side_codes style.background Background)) (c.push_side.ensures.text ∙ ap (λ bs. bs ++ joined_codes (side_codes style.foreground Foreground)) (c.push_flags.ensures.text ∙ ap (λ n. take n c.args.self.now.bytes ++ joined_codes (flag_codes (flags style))) c.requires))
     ∙ sym (front_codes_are style)
 
 pub returns-clause-front : goal.returns-clause-front
