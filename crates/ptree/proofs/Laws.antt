@@ -6,6 +6,7 @@ use Rattle.std.proofs.lemmas.Bool.Decides.{nat_tests}
 use Rattle.std.proofs.lemmas.List.{append-nil, map-id}
 use Rattle.ptree.specs.Address.{Address, at, is_last}
 use Rattle.ptree.specs.Drawing.{Look, passing_text, entry_from, entry_text, IsDrawing}
+use Rattle.ptree.specs.Laws.{HasOneList}
 use Rattle.ptree.specs.Lines.{own_lines, is_empty, with_below, kid_lines, lines_below, drawn_lines}
 use Rattle.ptree.specs.Pieces.{passing_piece, turning_piece}
 use Rattle.ptree.specs.Shape.{Shape, child, kids, cut_shape}
@@ -67,6 +68,10 @@ lines_of_cut look (suc d) (suc e) h front t =
     ap (kid_lines look (lines_below look e) front) (kids_of_cut d t)
     ∙ kid_lines-map look (cut_shape d) (λ x. x) (lines_below look d) (lines_below look e) (λ x. refl) (λ f x. lines_of_cut look d e (omega arith) f x) front (kids t)
     ∙ ap (kid_lines look (lines_below look d) front) (map-id (kids t))
+
+-- one list is the address list
+pub the_list : (x : Shape) (d : ℕ) → HasOneList x d
+the_list x d = (walk kids d x, walk_is_list kids d x, λ other h. one_list kids x d other (walk kids d x) h (walk_is_list kids d x))
 
 -- one text is the drawing
 pub one_drawing : (look : Look) (x : Shape) (d : ℕ) (text : List ℕ) → IsDrawing look x d text → text ≡ drawn_lines look d x

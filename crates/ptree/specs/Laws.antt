@@ -5,9 +5,10 @@ use Rattle.ptree.specs.Drawing.{Look, passing_text, entry_text, IsDrawing}
 use Rattle.ptree.specs.Shape.{Shape, kids, cut_shape}
 use Rattle.ptree.specs.Tree.{Tree, shape_of_tree, cut_tree}
 
--- at most one list is the address list of x at this depth
+-- one list is the address list of x at this depth, and no other
 abbrev pub HasOneList : Shape → ℕ → Type 0
-HasOneList x depth = (xs ys : List Address) → IsAddressList kids x depth xs → IsAddressList kids x depth ys → xs ≡ ys
+HasOneList x depth =
+    (list : List Address) × IsAddressList kids x depth list × ((other : List Address) → IsAddressList kids x depth other → other ≡ list)
 
 -- the drawings of x at this depth are those of x cut there, at this or any greater depth
 abbrev pub HasCuts : Look → Shape → ℕ → Type 0

@@ -1,15 +1,13 @@
 use Rattle.std.proofs.Common.{false}
 use Rattle.ptree.specs.Drawing.{look_of}
-use Rattle.ptree.specs.Shape.{kids}
 use Rattle.ptree.specs.declared.print_config.OutputKind.TheVariants.{Unknown}
-use Rattle.ptree.proofs.Addresses.{one_list}
 use Rattle.ptree.proofs.CutTrees.{drawing_of_cut_tree}
-use Rattle.ptree.proofs.Laws.{drawing_of_cut}
+use Rattle.ptree.proofs.Laws.{the_list, drawing_of_cut}
 use Rattle.ptree.proofs.Subtrees.{subtrees}
 use Rattle.ptree.proofs.output.write_tree_with.Goals as goal
 
 pub returns-clause-one_list : goal.returns-clause-one_list
-returns-clause-one_list g c = one_list kids (g.T.Shaped.shape c.args.item.now) c.args.config.now.depth
+returns-clause-one_list g c = the_list (g.T.Shaped.shape c.args.item.now) c.args.config.now.depth
 
 pub returns-clause-cut : goal.returns-clause-cut
 returns-clause-cut g c = λ e text h. drawing_of_cut (look_of c.args.config.now Unknown false) c.args.config.now.depth e (g.T.Shaped.shape c.args.item.now) text h
