@@ -71,6 +71,27 @@ fn paints(
     Ok(())
 }
 
+// The colour paints by these parameters: on the text, and behind it.
+fn paints_by(
+    rt: &impl Abort,
+    alloc: Global,
+    color: &Color,
+    front: &str,
+    back: &str,
+) -> Result<(), AllocError> {
+    let painted = format!(in alloc; "\x1b[{front}mx\x1b[0m")?;
+    paints(rt, alloc, &on_text(color.clone()?), "x", &painted)?;
+    let painted = format!(in alloc; "\x1b[{back}mx\x1b[0m")?;
+    paints(rt, alloc, &behind(color.clone()?), "x", &painted)
+}
+
+// The name's colour has these three bytes.
+fn paints_bytes(rt: &impl Abort, alloc: Global, name: &str, bytes: &str) -> Result<(), AllocError> {
+    let front = format!(in alloc; "38;2;{bytes}")?;
+    let back = format!(in alloc; "48;2;{bytes}")?;
+    paints_by(rt, alloc, &named(alloc, name)?, &front, &back)
+}
+
 #[test]
 fn a_plain_style_paints_a_text_as_itself(rt: HostRuntime) -> Result<(), Fail> {
     let alloc = rt.alloc();
@@ -147,59 +168,17 @@ fn codes_stand_in_the_order_of_the_fields(rt: HostRuntime) -> Result<(), Fail> {
 #[test]
 fn each_of_the_eight_colors_has_its_code(rt: HostRuntime) -> Result<(), Fail> {
     let alloc = rt.alloc();
-    let colors = [
-        (
-            Color::Black,
-            Color::Black,
-            "\x1b[30mx\x1b[0m",
-            "\x1b[40mx\x1b[0m",
-        ),
-        (
-            Color::Red,
-            Color::Red,
-            "\x1b[31mx\x1b[0m",
-            "\x1b[41mx\x1b[0m",
-        ),
-        (
-            Color::Green,
-            Color::Green,
-            "\x1b[32mx\x1b[0m",
-            "\x1b[42mx\x1b[0m",
-        ),
-        (
-            Color::Yellow,
-            Color::Yellow,
-            "\x1b[33mx\x1b[0m",
-            "\x1b[43mx\x1b[0m",
-        ),
-        (
-            Color::Blue,
-            Color::Blue,
-            "\x1b[34mx\x1b[0m",
-            "\x1b[44mx\x1b[0m",
-        ),
-        (
-            Color::Purple,
-            Color::Purple,
-            "\x1b[35mx\x1b[0m",
-            "\x1b[45mx\x1b[0m",
-        ),
-        (
-            Color::Cyan,
-            Color::Cyan,
-            "\x1b[36mx\x1b[0m",
-            "\x1b[46mx\x1b[0m",
-        ),
-        (
-            Color::White,
-            Color::White,
-            "\x1b[37mx\x1b[0m",
-            "\x1b[47mx\x1b[0m",
-        ),
-    ];
-    for (front, back, on_front, on_back) in colors {
-        paints(&rt, alloc, &on_text(front), "x", on_front)?;
-        paints(&rt, alloc, &behind(back), "x", on_back)?;
+    for (color, front, back) in [
+        (Color::Black, "30", "40"),
+        (Color::Red, "31", "41"),
+        (Color::Green, "32", "42"),
+        (Color::Yellow, "33", "43"),
+        (Color::Blue, "34", "44"),
+        (Color::Purple, "35", "45"),
+        (Color::Cyan, "36", "46"),
+        (Color::White, "37", "47"),
+    ] {
+        paints_by(&rt, alloc, &color, front, back)?;
     }
     Ok(())
 }
@@ -207,42 +186,36 @@ fn each_of_the_eight_colors_has_its_code(rt: HostRuntime) -> Result<(), Fail> {
 #[test]
 fn numbers_and_bytes_are_decimal(rt: HostRuntime) -> Result<(), Fail> {
     let alloc = rt.alloc();
-    let numbers = [
-        (0, "\x1b[38;5;0mx\x1b[0m", "\x1b[48;5;0mx\x1b[0m"),
-        (9, "\x1b[38;5;9mx\x1b[0m", "\x1b[48;5;9mx\x1b[0m"),
-        (10, "\x1b[38;5;10mx\x1b[0m", "\x1b[48;5;10mx\x1b[0m"),
-        (99, "\x1b[38;5;99mx\x1b[0m", "\x1b[48;5;99mx\x1b[0m"),
-        (100, "\x1b[38;5;100mx\x1b[0m", "\x1b[48;5;100mx\x1b[0m"),
-        (110, "\x1b[38;5;110mx\x1b[0m", "\x1b[48;5;110mx\x1b[0m"),
-        (255, "\x1b[38;5;255mx\x1b[0m", "\x1b[48;5;255mx\x1b[0m"),
-    ];
-    for (n, on_front, on_back) in numbers {
-        paints(&rt, alloc, &on_text(Color::Fixed(n)), "x", on_front)?;
-        paints(&rt, alloc, &behind(Color::Fixed(n)), "x", on_back)?;
+    for (color, front, back) in [
+        (Color::Fixed(0), "38;5;0", "48;5;0"),
+        (Color::Fixed(9), "38;5;9", "48;5;9"),
+        (Color::Fixed(10), "38;5;10", "48;5;10"),
+        (Color::Fixed(99), "38;5;99", "48;5;99"),
+        (Color::Fixed(100), "38;5;100", "48;5;100"),
+        (Color::Fixed(110), "38;5;110", "48;5;110"),
+        (Color::Fixed(255), "38;5;255", "48;5;255"),
+        (Color::RGB(10, 20, 30), "38;2;10;20;30", "48;2;10;20;30"),
+        (Color::RGB(0, 7, 255), "38;2;0;7;255", "48;2;0;7;255"),
+    ] {
+        paints_by(&rt, alloc, &color, front, back)?;
     }
-    let style = on_text(Color::RGB(10, 20, 30));
-    paints(&rt, alloc, &style, "x", "\x1b[38;2;10;20;30mx\x1b[0m")?;
-    let style = behind(Color::RGB(0, 7, 255));
-    paints(&rt, alloc, &style, "x", "\x1b[48;2;0;7;255mx\x1b[0m")?;
     Ok(())
 }
 
 #[test]
 fn the_eight_words_are_the_eight_colors(rt: HostRuntime) -> Result<(), Fail> {
     let alloc = rt.alloc();
-    let words = [
-        ("black", "\x1b[30mx\x1b[0m", "\x1b[40mx\x1b[0m"),
-        ("red", "\x1b[31mx\x1b[0m", "\x1b[41mx\x1b[0m"),
-        ("green", "\x1b[32mx\x1b[0m", "\x1b[42mx\x1b[0m"),
-        ("yellow", "\x1b[33mx\x1b[0m", "\x1b[43mx\x1b[0m"),
-        ("blue", "\x1b[34mx\x1b[0m", "\x1b[44mx\x1b[0m"),
-        ("purple", "\x1b[35mx\x1b[0m", "\x1b[45mx\x1b[0m"),
-        ("cyan", "\x1b[36mx\x1b[0m", "\x1b[46mx\x1b[0m"),
-        ("white", "\x1b[37mx\x1b[0m", "\x1b[47mx\x1b[0m"),
-    ];
-    for (word, on_front, on_back) in words {
-        paints(&rt, alloc, &on_text(named(alloc, word)?), "x", on_front)?;
-        paints(&rt, alloc, &behind(named(alloc, word)?), "x", on_back)?;
+    for (word, front, back) in [
+        ("black", "30", "40"),
+        ("red", "31", "41"),
+        ("green", "32", "42"),
+        ("yellow", "33", "43"),
+        ("blue", "34", "44"),
+        ("purple", "35", "45"),
+        ("cyan", "36", "46"),
+        ("white", "37", "47"),
+    ] {
+        paints_by(&rt, alloc, &named(alloc, word)?, front, back)?;
     }
     Ok(())
 }
@@ -250,41 +223,15 @@ fn the_eight_words_are_the_eight_colors(rt: HostRuntime) -> Result<(), Fail> {
 #[test]
 fn six_hexadecimal_digits_are_bytes(rt: HostRuntime) -> Result<(), Fail> {
     let alloc = rt.alloc();
-    let names = [
-        (
-            "#4682B4",
-            "\x1b[38;2;70;130;180mx\x1b[0m",
-            "\x1b[48;2;70;130;180mx\x1b[0m",
-        ),
-        (
-            "#4682b4",
-            "\x1b[38;2;70;130;180mx\x1b[0m",
-            "\x1b[48;2;70;130;180mx\x1b[0m",
-        ),
-        (
-            "#102030",
-            "\x1b[38;2;16;32;48mx\x1b[0m",
-            "\x1b[48;2;16;32;48mx\x1b[0m",
-        ),
-        (
-            "#aBcDeF",
-            "\x1b[38;2;171;205;239mx\x1b[0m",
-            "\x1b[48;2;171;205;239mx\x1b[0m",
-        ),
-        (
-            "#000000",
-            "\x1b[38;2;0;0;0mx\x1b[0m",
-            "\x1b[48;2;0;0;0mx\x1b[0m",
-        ),
-        (
-            "#ffFFff",
-            "\x1b[38;2;255;255;255mx\x1b[0m",
-            "\x1b[48;2;255;255;255mx\x1b[0m",
-        ),
-    ];
-    for (name, on_front, on_back) in names {
-        paints(&rt, alloc, &on_text(named(alloc, name)?), "x", on_front)?;
-        paints(&rt, alloc, &behind(named(alloc, name)?), "x", on_back)?;
+    for (name, bytes) in [
+        ("#4682B4", "70;130;180"),
+        ("#4682b4", "70;130;180"),
+        ("#102030", "16;32;48"),
+        ("#aBcDeF", "171;205;239"),
+        ("#000000", "0;0;0"),
+        ("#ffFFff", "255;255;255"),
+    ] {
+        paints_bytes(&rt, alloc, name, bytes)?;
     }
     Ok(())
 }
@@ -292,121 +239,28 @@ fn six_hexadecimal_digits_are_bytes(rt: HostRuntime) -> Result<(), Fail> {
 #[test]
 fn names_are_known_in_any_case(rt: HostRuntime) -> Result<(), Fail> {
     let alloc = rt.alloc();
-    let names = [
-        (
-            "BLACK",
-            "Black",
-            "\x1b[38;2;0;0;0mx\x1b[0m",
-            "\x1b[48;2;0;0;0mx\x1b[0m",
-        ),
-        (
-            "SILVER",
-            "Silver",
-            "\x1b[38;2;192;192;192mx\x1b[0m",
-            "\x1b[48;2;192;192;192mx\x1b[0m",
-        ),
-        (
-            "GRAY",
-            "graY",
-            "\x1b[38;2;128;128;128mx\x1b[0m",
-            "\x1b[48;2;128;128;128mx\x1b[0m",
-        ),
-        (
-            "WHITE",
-            "White",
-            "\x1b[38;2;255;255;255mx\x1b[0m",
-            "\x1b[48;2;255;255;255mx\x1b[0m",
-        ),
-        (
-            "MAROON",
-            "maRoon",
-            "\x1b[38;2;128;0;0mx\x1b[0m",
-            "\x1b[48;2;128;0;0mx\x1b[0m",
-        ),
-        (
-            "RED",
-            "Red",
-            "\x1b[38;2;255;0;0mx\x1b[0m",
-            "\x1b[48;2;255;0;0mx\x1b[0m",
-        ),
-        (
-            "PURPLE",
-            "Purple",
-            "\x1b[38;2;128;0;128mx\x1b[0m",
-            "\x1b[48;2;128;0;128mx\x1b[0m",
-        ),
-        (
-            "FUCHSIA",
-            "FuchsiA",
-            "\x1b[38;2;255;0;255mx\x1b[0m",
-            "\x1b[48;2;255;0;255mx\x1b[0m",
-        ),
-        (
-            "GREEN",
-            "greeN",
-            "\x1b[38;2;0;128;0mx\x1b[0m",
-            "\x1b[48;2;0;128;0mx\x1b[0m",
-        ),
-        (
-            "LIME",
-            "Lime",
-            "\x1b[38;2;0;255;0mx\x1b[0m",
-            "\x1b[48;2;0;255;0mx\x1b[0m",
-        ),
-        (
-            "OLIVE",
-            "oLive",
-            "\x1b[38;2;128;128;0mx\x1b[0m",
-            "\x1b[48;2;128;128;0mx\x1b[0m",
-        ),
-        (
-            "YELLOW",
-            "YelloW",
-            "\x1b[38;2;255;255;0mx\x1b[0m",
-            "\x1b[48;2;255;255;0mx\x1b[0m",
-        ),
-        (
-            "NAVY",
-            "Navy",
-            "\x1b[38;2;0;0;128mx\x1b[0m",
-            "\x1b[48;2;0;0;128mx\x1b[0m",
-        ),
-        (
-            "BLUE",
-            "bLuE",
-            "\x1b[38;2;0;0;255mx\x1b[0m",
-            "\x1b[48;2;0;0;255mx\x1b[0m",
-        ),
-        (
-            "TEAL",
-            "Teal",
-            "\x1b[38;2;0;128;128mx\x1b[0m",
-            "\x1b[48;2;0;128;128mx\x1b[0m",
-        ),
-        (
-            "AQUA",
-            "aquA",
-            "\x1b[38;2;0;255;255mx\x1b[0m",
-            "\x1b[48;2;0;255;255mx\x1b[0m",
-        ),
-        (
-            "STEELBLUE",
-            "SteelBlue",
-            "\x1b[38;2;70;130;180mx\x1b[0m",
-            "\x1b[48;2;70;130;180mx\x1b[0m",
-        ),
-        (
-            "MEDIUMSEAGREEN",
-            "MediumSeaGreen",
-            "\x1b[38;2;60;179;113mx\x1b[0m",
-            "\x1b[48;2;60;179;113mx\x1b[0m",
-        ),
-    ];
-    for (upper, mixed, on_front, on_back) in names {
-        for name in [upper, mixed] {
-            paints(&rt, alloc, &on_text(named(alloc, name)?), "x", on_front)?;
-            paints(&rt, alloc, &behind(named(alloc, name)?), "x", on_back)?;
-        }
+    for (upper, mixed, bytes) in [
+        ("BLACK", "Black", "0;0;0"),
+        ("SILVER", "Silver", "192;192;192"),
+        ("GRAY", "graY", "128;128;128"),
+        ("WHITE", "White", "255;255;255"),
+        ("MAROON", "maRoon", "128;0;0"),
+        ("RED", "Red", "255;0;0"),
+        ("PURPLE", "Purple", "128;0;128"),
+        ("FUCHSIA", "FuchsiA", "255;0;255"),
+        ("GREEN", "greeN", "0;128;0"),
+        ("LIME", "Lime", "0;255;0"),
+        ("OLIVE", "oLive", "128;128;0"),
+        ("YELLOW", "YelloW", "255;255;0"),
+        ("NAVY", "Navy", "0;0;128"),
+        ("BLUE", "bLuE", "0;0;255"),
+        ("TEAL", "Teal", "0;128;128"),
+        ("AQUA", "aquA", "0;255;255"),
+        ("STEELBLUE", "SteelBlue", "70;130;180"),
+        ("MEDIUMSEAGREEN", "MediumSeaGreen", "60;179;113"),
+    ] {
+        paints_bytes(&rt, alloc, upper, bytes)?;
+        paints_bytes(&rt, alloc, mixed, bytes)?;
     }
     Ok(())
 }
@@ -415,66 +269,20 @@ fn names_are_known_in_any_case(rt: HostRuntime) -> Result<(), Fail> {
 fn names_are_known_in_lower_case(rt: HostRuntime) -> Result<(), Fail> {
     let alloc = rt.alloc();
     // The other seven are among the eight words.
-    let names = [
-        (
-            "silver",
-            "\x1b[38;2;192;192;192mx\x1b[0m",
-            "\x1b[48;2;192;192;192mx\x1b[0m",
-        ),
-        (
-            "gray",
-            "\x1b[38;2;128;128;128mx\x1b[0m",
-            "\x1b[48;2;128;128;128mx\x1b[0m",
-        ),
-        (
-            "maroon",
-            "\x1b[38;2;128;0;0mx\x1b[0m",
-            "\x1b[48;2;128;0;0mx\x1b[0m",
-        ),
-        (
-            "fuchsia",
-            "\x1b[38;2;255;0;255mx\x1b[0m",
-            "\x1b[48;2;255;0;255mx\x1b[0m",
-        ),
-        (
-            "lime",
-            "\x1b[38;2;0;255;0mx\x1b[0m",
-            "\x1b[48;2;0;255;0mx\x1b[0m",
-        ),
-        (
-            "olive",
-            "\x1b[38;2;128;128;0mx\x1b[0m",
-            "\x1b[48;2;128;128;0mx\x1b[0m",
-        ),
-        (
-            "navy",
-            "\x1b[38;2;0;0;128mx\x1b[0m",
-            "\x1b[48;2;0;0;128mx\x1b[0m",
-        ),
-        (
-            "teal",
-            "\x1b[38;2;0;128;128mx\x1b[0m",
-            "\x1b[48;2;0;128;128mx\x1b[0m",
-        ),
-        (
-            "aqua",
-            "\x1b[38;2;0;255;255mx\x1b[0m",
-            "\x1b[48;2;0;255;255mx\x1b[0m",
-        ),
-        (
-            "steelblue",
-            "\x1b[38;2;70;130;180mx\x1b[0m",
-            "\x1b[48;2;70;130;180mx\x1b[0m",
-        ),
-        (
-            "mediumseagreen",
-            "\x1b[38;2;60;179;113mx\x1b[0m",
-            "\x1b[48;2;60;179;113mx\x1b[0m",
-        ),
-    ];
-    for (name, on_front, on_back) in names {
-        paints(&rt, alloc, &on_text(named(alloc, name)?), "x", on_front)?;
-        paints(&rt, alloc, &behind(named(alloc, name)?), "x", on_back)?;
+    for (name, bytes) in [
+        ("silver", "192;192;192"),
+        ("gray", "128;128;128"),
+        ("maroon", "128;0;0"),
+        ("fuchsia", "255;0;255"),
+        ("lime", "0;255;0"),
+        ("olive", "128;128;0"),
+        ("navy", "0;0;128"),
+        ("teal", "0;128;128"),
+        ("aqua", "0;255;255"),
+        ("steelblue", "70;130;180"),
+        ("mediumseagreen", "60;179;113"),
+    ] {
+        paints_bytes(&rt, alloc, name, bytes)?;
     }
     Ok(())
 }
