@@ -4,7 +4,7 @@ use Rattle.ptree.specs.Drawing.{Look}
 use Rattle.ptree.specs.Laws.{HasTreeCuts}
 use Rattle.ptree.specs.Lines.{own_lines, kid_lines, lines_below}
 use Rattle.ptree.specs.Shape.{kids}
-use Rattle.ptree.specs.Tree.{Forest, none, item, Tree, tree, trees, tree_kids, tree_own, shape_of_tree, cut_forest, cut_tree}
+use Rattle.ptree.specs.Tree.{none, item, Forest, Tree, tree, trees, tree_kids, cut_forest, cut_tree, tree_own, shape_of_tree}
 use Rattle.ptree.proofs.Laws.{kid_lines-map, same_drawings}
 use Rattle.ptree.proofs.TreeLemmas.{map_twice}
 use Rattle.ptree.proofs.Unfold.{kids_of_unfold}

@@ -1,17 +1,21 @@
 -- The steps of the engine, over plain variables.
-use Rattle.std.proofs.Common.{◌≡◌, ℕ, zero, suc, ◌-◌, ◌<◌, ◌≤◌, min, Bool, true, false, eqb, List, [], ◌∷◌, ◌++◌, Option, Result, Ok, Err, ◌+◌, length, sym, ◌∙◌, ap, subst, refl, append_assoc, map, take, arith}
+use Rattle.std.proofs.Common.{◌≡◌, ℕ, zero, suc, ◌-◌, ◌<◌, ◌≤◌, min, Bool, true, false, eqb, List, [], ◌∷◌, ◌++◌, Option, None, Result, Ok, Err, ◌+◌, length, sym, ◌∙◌, ap, subst, refl, append_assoc, map, take, drop, arith}
+use Rattle.std.proofs.Math.Seq.{take-append_seam, drop-append_seam}
 use Rattle.std.proofs.lemmas.Bool.Decides.{nat_tests}
 use Rattle.std.proofs.lemmas.List.{length-map, length-take, append-nil, take-append-le, take_all}
+use Rattle.std.specs.Prelude.{Some, is_err}
+use Rattle.std.proofs.lemmas.Bool.{false≢true}
 use Rattle.std.specs.Io.KnownBytes.{Appends}
 use Rattle.ptree.specs.declared.style.DrawError.{DrawError}
 use Rattle.ptree.specs.declared.style.DrawError.TheVariants.{Memory}
-use Rattle.ptree.specs.Writing.{AppendsPart, IsWritten, told_faults}
-use Rattle.ptree.specs.Brush.{HasErrorCause}
-use Rattle.ptree.specs.Drawing.{Look}
-use Rattle.ptree.specs.Lines.{own_lines, is_empty, with_below, kid_lines, lines_below, item_lines}
+use Rattle.ptree.specs.Drawing.{Look, with_inserted}
+use Rattle.ptree.specs.Looks.{own_piece, below_piece, own_text, further_text, own_entry}
+use Rattle.ptree.specs.Lines.{is_empty, own_lines, with_below, kid_lines, lines_below, item_lines}
+use Rattle.ptree.specs.Outline.{line}
 use Rattle.ptree.specs.Pieces.{turning_piece, passing_piece}
 use Rattle.ptree.specs.Shape.{Shape, kids}
-use Rattle.ptree.specs.Style.{front_codes, back_codes}
+use Rattle.ptree.specs.Style.{front_codes, back_codes, painted_text}
+use Rattle.ptree.specs.Writing.{AppendsPart, IsWritten, told_faults, HasErrorCause}
 use Rattle.ptree.proofs.Written.{appends_nothing, part_then, part_more, written_then}
 
 pub nothing_yet : (a : Option (List ℕ)) (x : List ℕ) → AppendsPart a a x
@@ -23,17 +27,17 @@ lines_down look (suc n) front x h =
     let e : n ≡ suc n - 1 = omega arith in ap (λ k. kid_lines look (lines_below look k) front (kids x)) e
 
 pub item_part : (look : Look) (left : ℕ) (front : List ℕ) (last : Bool) (x : Shape) (p : List ℕ) (a b : Option (List ℕ))
-    → p ≡ front ++ turning_piece look.pieces last → AppendsPart a b (own_lines look p [] x) → AppendsPart a b (item_lines look left front last x)
+    → p ≡ front ++ turning_piece look.pieces last → AppendsPart a b (own_lines look p (front ++ passing_piece look.pieces last) x) → AppendsPart a b (item_lines look left front last x)
 item_part look left front last x p a b e h =
-    part_more a b (own_lines look (front ++ turning_piece look.pieces last) (front ++ passing_piece look.pieces last) x) _ (subst (λ (q : List ℕ). AppendsPart a b (own_lines look q [] x)) e h)
+    part_more a b (own_lines look (front ++ turning_piece look.pieces last) (front ++ passing_piece look.pieces last) x) _ (subst (λ (q : List ℕ). AppendsPart a b (own_lines look q (front ++ passing_piece look.pieces last) x)) e h)
 
 pub item_written : {A E : Type 0} (look : Look) (left : ℕ) (front : List ℕ) (last : Bool) (x : Shape) (p q : List ℕ) (ks : List Shape) (a b c : Option (List ℕ)) (r : Result A E)
     → p ≡ front ++ turning_piece look.pieces last → q ≡ front ++ passing_piece look.pieces last → ks ≡ kids x → (left ≡ 0 → ⊥)
-    → Appends a b (own_lines look p [] x) → IsWritten b c r (kid_lines look (lines_below look (left - 1)) q ks) → IsWritten a c r (item_lines look left front last x)
+    → Appends a b (own_lines look p (front ++ passing_piece look.pieces last) x) → IsWritten b c r (kid_lines look (lines_below look (left - 1)) q ks) → IsWritten a c r (item_lines look left front last x)
 item_written look left front last x p q ks a b c r ep eq ek h k w =
     let below = lines_down look left (front ++ passing_piece look.pieces last) x h in
     written_then a b c r (own_lines look (front ++ turning_piece look.pieces last) (front ++ passing_piece look.pieces last) x) (lines_below look left (front ++ passing_piece look.pieces last) x)
-    (subst (λ (y : List ℕ). Appends a b (own_lines look y [] x)) ep k)
+    (subst (λ (y : List ℕ). Appends a b (own_lines look y (front ++ passing_piece look.pieces last) x)) ep k)
     (subst (λ (y : List ℕ). IsWritten b c r y) (ap (λ y. kid_lines look (lines_below look (left - 1)) y ks) eq ∙ ap (λ y. kid_lines look (lines_below look (left - 1)) (front ++ passing_piece look.pieces last) y) ek ∙ sym below) w)
 
 is_empty-length : {C : Type 0} (xs : List C) → eqb (length xs) 0 ≡ is_empty xs
@@ -62,7 +66,7 @@ same_len f others last e = let length_eq : length (map f others) ≡ length othe
 
 pub item_whole : (look : Look) (left : ℕ) (front : List ℕ) (last : Bool) (x : Shape) (p q : List ℕ) (ks : List Shape) (a b c : Option (List ℕ))
     → p ≡ front ++ turning_piece look.pieces last → q ≡ front ++ passing_piece look.pieces last → ks ≡ kids x → (left ≡ 0 → ⊥)
-    → Appends a b (own_lines look p [] x) → Appends b c (kid_lines look (lines_below look (left - 1)) q ks) → Appends a c (item_lines look left front last x)
+    → Appends a b (own_lines look p (front ++ passing_piece look.pieces last) x) → Appends b c (kid_lines look (lines_below look (left - 1)) q ks) → Appends a c (item_lines look left front last x)
 item_whole look left front last x p q ks a b c ep eq ek h k w = item_written {A = ℕ} {E = ℕ} look left front last x p q ks a b c (Ok 0) ep eq ek h k w
 
 empty_list : {C : Type 0} (ks : List C) (b : Bool) → b ≡ true → b ≡ eqb (length ks) 0 → ks ≡ []
@@ -73,18 +77,28 @@ empty_list (x ∷ xs) b h k =
 -- an item with no children
 pub item_alone : {D : Type 0} (look : Look) (left : ℕ) (front : List ℕ) (last : Bool) (x : Shape) (a b : Option (List ℕ)) (shape : D → Shape) (ks : List D) (empty : Bool)
     → empty ≡ true → empty ≡ eqb (length ks) 0 → map shape ks ≡ kids x → (left ≡ 0 → ⊥)
-    → Appends a b (own_lines look (front ++ turning_piece look.pieces last) [] x) → Appends a b (item_lines look left front last x)
+    → Appends a b (own_lines look (front ++ turning_piece look.pieces last) (front ++ passing_piece look.pieces last) x) → Appends a b (item_lines look left front last x)
 item_alone look left front last x a b shape ks empty e1 e2 ek h k =
     item_whole look left front last x (front ++ turning_piece look.pieces last) (front ++ passing_piece look.pieces last) [] a b b refl refl (sym (ap (map shape) (empty_list ks empty e1 e2)) ∙ ek) h k (appends_nothing b)
 
--- what the buffer holds is an entry: the branch's front codes, a passing text, a turning piece with the back codes, and the own bytes
-pub line_is : (look : Look) (front piece held line : List ℕ) (x : Shape) → held ≡ line ++ (piece ++ back_codes look.branch) → line ≡ front_codes look.branch ++ front
-    → (held ++ x.own [] look.leaf) ++ 10 ∷ [] ≡ own_lines look (front ++ piece) [] x
-line_is look front piece held line x eh el =
-    ap (λ t. t ++ x.own [] look.leaf ++ 10 ∷ []) (
-    eh ∙ ap (λ l. l ++ (piece ++ back_codes look.branch)) el
-    ∙ sym (append_assoc (front_codes look.branch ++ front) piece (back_codes look.branch))
-    ∙ ap (λ t. t ++ back_codes look.branch) (append_assoc (front_codes look.branch) front piece))
+-- what the buffer holds is an entry: its first bytes, a text with the back codes, and the own bytes, with the same first bytes and another such text before each of their further lines
+pub entry_held : (look : Look) (width : ℕ) (bytes front : List ℕ) (last : Option Bool) (x : Shape)
+    → bytes ≡ take width bytes ++ own_text look last → take width bytes ≡ front_codes look.branch ++ front
+    → (bytes ++ with_inserted (take width bytes ++ further_text look last) (x.own [] look.leaf)) ++ 10 ∷ [] ≡ own_entry look front last x
+entry_held look width bytes front last x turned is =
+    let own : List ℕ = own_piece look.pieces last in
+    let below : List ℕ = below_piece look.pieces last in
+    ap (λ t. t ++ with_inserted (take width bytes ++ further_text look last) (x.own [] look.leaf) ++ 10 ∷ []) (
+    turned ∙ ap (λ l. l ++ (own ++ back_codes look.branch)) is
+    ∙ around (front_codes look.branch) front own (back_codes look.branch))
+    ∙ ap (λ m. painted_text look.branch (front ++ own) ++ with_inserted m (x.own [] look.leaf) ++ 10 ∷ [])
+    (ap (λ l. l ++ further_text look last) is ∙ inside (front_codes look.branch) front below look.mark (back_codes look.branch))
+  where
+    around : (a b c d : List ℕ) → (a ++ b) ++ (c ++ d) ≡ a ++ (b ++ c) ++ d
+    around a b c d = simp append_assoc
+
+    inside : (a b c d e : List ℕ) → (a ++ b) ++ (c ++ d ++ e) ≡ a ++ ((b ++ c) ++ d) ++ e
+    inside a b c d e = simp append_assoc
 
 -- what it holds a level down
 pub down_is : (look : Look) (front piece line again below : List ℕ) → line ≡ front_codes look.branch ++ front → again ≡ line → below ≡ again ++ piece → below ≡ front_codes look.branch ++ (front ++ piece)
@@ -102,8 +116,8 @@ take_again n xs ys zs h e =
 
 -- an item at the last level
 pub item_ended : (look : Look) (left : ℕ) (front : List ℕ) (last : Bool) (x : Shape) (a b : Option (List ℕ))
-    → left ≡ 0 → Appends a b (own_lines look (front ++ turning_piece look.pieces last) [] x) → Appends a b (item_lines look left front last x)
-item_ended look zero front last x a b e h = subst (λ (y : List ℕ). Appends a b y) (sym (append-nil (own_lines look (front ++ turning_piece look.pieces last) [] x))) h
+    → left ≡ 0 → Appends a b (own_lines look (front ++ turning_piece look.pieces last) (front ++ passing_piece look.pieces last) x) → Appends a b (item_lines look left front last x)
+item_ended look zero front last x a b e h = subst (λ (y : List ℕ). Appends a b y) (sym (append-nil (own_lines look (front ++ turning_piece look.pieces last) (front ++ passing_piece look.pieces last) x))) h
 item_ended look (suc n) front last x a b e h = absurd (omega (arith, e))
 
 -- an error that is no fault tells none
@@ -124,3 +138,33 @@ still_turned n xs turned kept text last e l t k =
 pub cut_back : (n : ℕ) (xs ys zs kept again : List ℕ) → n ≡ length xs → zs ≡ xs ++ ys → kept ≡ zs → again ≡ take n kept → again ≡ xs
 cut_back n xs ys zs kept again h e k a =
     a ∙ ap (take n) (k ∙ e) ∙ take-append-le n xs ys (omega arith) ∙ take_all n xs (omega arith)
+
+-- own bytes behind what the buffer held, with what is inserted
+pub spread_is : (n width : ℕ) (old own held after further : List ℕ) → held ≡ old ++ own → n ≡ length old → width ≤ length old
+    → after ≡ take n held ++ with_inserted (take width held ++ further) (drop n held) → after ≡ old ++ with_inserted (take width old ++ further) own
+spread_is n width old own held after further e len low is =
+    let front : take n held ≡ old = ap (take n) e ∙ (ap (λ m. take m (old ++ own)) len ∙ take-append_seam old own) in
+    let back : drop n held ≡ own = ap (drop n) e ∙ (ap (λ m. drop m (old ++ own)) len ∙ drop-append_seam old own) in
+    let part : take width held ≡ take width old = ap (take width) e ∙ take-append-le width old own low in
+    is ∙ (ap (λ z. z ++ with_inserted (take width held ++ further) (drop n held)) front
+    ∙ (ap (λ z. old ++ with_inserted (z ++ further) (drop n held)) part ∙ ap (λ z. old ++ with_inserted (take width old ++ further) z) back))
+
+-- what a call that didn't fail put into the buffer
+pub gathered : {A E : Type 0} (xs ys own : List ℕ) (r : Result A E) (b : Bool) → b ≡ is_err r → b ≡ false → IsWritten (Some xs) (Some ys) r own → ys ≡ xs ++ own
+gathered xs ys own (Ok v) b e f w = w
+gathered xs ys own (Err x) b e f w = absurd (false≢true (sym f ∙ e))
+
+-- what was gathered is an entry: own bytes behind what the buffer held, continued, and a line feed
+pub entry_gathered : (look : Look) (width start : ℕ) (old held spread line front : List ℕ) (last : Option Bool) (x : Shape)
+    → old ≡ take width old ++ own_text look last → take width old ≡ front_codes look.branch ++ front
+    → held ≡ old ++ x.own [] look.leaf → start ≡ length old → width ≤ length old → spread ≡ take start held ++ with_inserted (take width held ++ further_text look last) (drop start held) → line ≡ spread ++ 10 ∷ []
+    → line ≡ own_entry look front last x
+entry_gathered look width start old held spread line front last x turned is own len low e f =
+    f ∙ (ap (λ z. z ++ 10 ∷ []) (spread_is start width old _ held spread (further_text look last) own len low e) ∙ entry_held look width old front last x turned is)
+
+pub front_kept : (width : ℕ) (old bytes back : List ℕ) → width ≡ length old → bytes ≡ old ++ back → take width bytes ≡ old
+front_kept width old bytes back len is = ap (take width) is ∙ (ap (λ n. take n (old ++ back)) len ∙ take-append_seam old back)
+
+-- the buffer before a root's own bytes: the branch's codes, with nothing between them
+pub root_turned : (look : Look) (width : ℕ) (old bytes back : List ℕ) → width ≡ length old → bytes ≡ old ++ back → back ≡ own_text look None → bytes ≡ take width bytes ++ own_text look None
+root_turned look width old bytes back len is e = is ∙ (ap (λ z. z ++ back) (sym (front_kept width old bytes back len is)) ∙ ap (λ z. take width bytes ++ z) e)

@@ -1,6 +1,8 @@
 -- What `==` says of values that hold texts.
 use Rattle.std.proofs.Common.{◌≡◌, ◌↔◌, ◌&&◌, ◌==◌, ℕ, Bool, true, false, Option, Some, None, rules, ap, sym, refl, eq-eqb, eqb-true}
-use Rattle.std.specs.Prelude.{IsTrue, option_map}
+use Rattle.std.specs.Prelude.{IsTrue, List, option_map, string_bytes}
+use Rattle.std.specs.Str.{bytes_eq}
+use Rattle.std.proofs.lemmas.Slice.Eq.{bytes_eq-Decides}
 use Rattle.std.specs.Option.{option_eq}
 use Rattle.std.proofs.lemmas.Bool.{and_parts, and_from}
 use mathlib.Core.Bool.{beq}
@@ -65,10 +67,13 @@ style_equality a b =
       λ s. h.1 (s.foreground, (s.background, (s.bold, (s.dimmed, (s.italic, (s.underline, (s.blink, (s.reverse, (s.hidden, s.strikethrough))))))))),
     )
 
+texts : (a b : List ℕ) → IsTrue (bytes_eq a b) ↔ (a ≡ b)
+texts a b = let decides = bytes_eq-Decides a b in (λ h. decides.0 h, λ h. decides.1 h)
+
 pub config_equality : (a b : PrintConfig) → IsTrue (config_impl.eq-value.it a b) ↔ SameConfig a b
 config_equality a b =
     let h = both _ _ (numbers a.depth b.depth) (both _ _ (numbers a.indent b.indent) (both _ _ (numbers a.padding b.padding) (both _ _ (whens a.styled b.styled)
-    (both _ _ (characters a.characters b.characters) (both _ _ (style_equality a.branch b.branch) (style_equality a.leaf b.leaf)))))) in (
+    (both _ _ (characters a.characters b.characters) (both _ _ (style_equality a.branch b.branch) (both _ _ (style_equality a.leaf b.leaf) (texts (string_bytes a.continued) (string_bytes b.continued)))))))) in (
       λ e. let p = h.0 e in record {
         depth = p.0;
         indent = p.1.0;
@@ -76,7 +81,8 @@ config_equality a b =
         styled = p.1.1.1.0;
         characters = p.1.1.1.1.0;
         branch = p.1.1.1.1.1.0;
-        leaf = p.1.1.1.1.1.1;
+        leaf = p.1.1.1.1.1.1.0;
+        continued = p.1.1.1.1.1.1.1;
       },
-      λ s. h.1 (s.depth, (s.indent, (s.padding, (s.styled, (s.characters, (s.branch, s.leaf)))))),
+      λ s. h.1 (s.depth, (s.indent, (s.padding, (s.styled, (s.characters, (s.branch, (s.leaf, s.continued))))))),
     )

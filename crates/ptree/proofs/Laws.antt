@@ -6,12 +6,12 @@ use Rattle.std.proofs.lemmas.Bool.Decides.{nat_tests}
 use Rattle.std.proofs.lemmas.List.{append-nil, map-id}
 use Rattle.ptree.specs.Address.{Address, at, is_last}
 use Rattle.ptree.specs.Drawing.{Look, passing_text, entry_from, entry_text, IsDrawing}
-use Rattle.ptree.specs.Laws.{HasOneList}
-use Rattle.ptree.specs.Lines.{own_lines, is_empty, with_below, kid_lines, lines_below, drawn_lines}
-use Rattle.ptree.specs.Pieces.{passing_piece, turning_piece}
+use Rattle.ptree.specs.Laws.{HasOneList, entry_behind}
+use Rattle.ptree.specs.Lines.{is_empty, own_lines, with_below, kid_lines, lines_below, drawn_lines}
+use Rattle.ptree.specs.Pieces.{turning_piece, passing_piece}
 use Rattle.ptree.specs.Shape.{Shape, child, kids, cut_shape}
 use Rattle.ptree.proofs.Addresses.{one_list, walk, walk_is_list}
-use Rattle.ptree.proofs.Join.{join, drawn_is_drawing, entry_behind, entry_under, passing_child}
+use Rattle.ptree.proofs.Join.{join, drawn_is_drawing, entry_under, passing_child}
 
 -- ## Cut
 
@@ -91,7 +91,7 @@ drawing_of_cut look d e t text h =
 
 -- ## Subtree
 
--- the entry at an address below a is, behind a's passing text, that of what stands at a
+-- the text_entry at an address below a is, behind a's passing text, that of what stands at a
 pub entry_below : (look : Look) (front : List ℕ) (x y : Shape) (a : Address) (j : ℕ) (r : Address) → at kids x a ≡ Some y
     → entry_behind look front x (a ++ j ∷ r) ≡ entry_behind look (front ++ passing_text look x a) y (j ∷ r)
 entry_below look front x y [] j r h =

@@ -1,17 +1,19 @@
 -- A tree's drawing is that of its outline.
-use Rattle.std.proofs.Common.{◌≡◌, ℕ, zero, suc, ◌<◌, ◌≤◌, Bool, true, false, not, eqb, List, [], ◌∷◌, ◌++◌, refl, sym, ap, ◌∙◌, append_assoc, arith}
+use Rattle.std.proofs.Common.{◌≡◌, ℕ, zero, suc, ◌<◌, ◌≤◌, Bool, true, false, not, cond, eqb, List, [], ◌∷◌, ◌++◌, refl, sym, ap, ◌∙◌, append_assoc, arith}
 use Rattle.std.proofs.lemmas.Bool.{lt-ltb, le-ltb, eq-eqb, ne_eqb}
 use Rattle.std.proofs.lemmas.List.{append-nil}
-use Rattle.ptree.specs.Flags.{has_later, last_flags, pieces_by, spelled_by}
-use Rattle.ptree.specs.Framed.{Frame, passing_all, entry}
+use Rattle.ptree.specs.Drawing.{Look}
+use Rattle.ptree.specs.Flags.{has_later, last_flags, pieces_by, passing_by, shown_by, spelled_by}
 use Rattle.ptree.specs.Outline.{Line, line, outline_at}
-use Rattle.ptree.specs.Pieces.{turning_piece}
-use Rattle.ptree.specs.Spelled.{spelled_text}
-use Rattle.ptree.specs.Tree.{Forest, none, item, Tree}
+use Rattle.ptree.specs.Pieces.{turning_piece, passing_all}
+use Rattle.ptree.specs.Spelled.{has_line_feed, text_entry, spelled_text}
+use Rattle.ptree.specs.Style.{painted_text}
+use Rattle.ptree.specs.Tree.{none, item, Forest, Tree}
+use Rattle.ptree.proofs.Inserted.{inserted_none, feed_painted, no_feed_when}
 use Rattle.ptree.proofs.TreeDrawing.{is_bare, forest_drawing, tree_drawing}
 
 -- the drawing of lines, by their levels and texts
-abbrev pub lines_drawing : Frame → List Line → List ℕ
+abbrev pub lines_drawing : Look → List Line → List ℕ
 lines_drawing k o = spelled_text k (spelled_by k.pieces o)
 
 pub has_later_deeper : (l : Line) (o : List Line) (m : ℕ) → m < l.level → has_later (l ∷ o) m ≡ has_later o m
@@ -47,7 +49,16 @@ not_not : (b : Bool) → not (not b) ≡ b
 not_not true = refl
 not_not false = refl
 
-forest_by_levels : (k : Frame) (above : List Bool) (n : ℕ) (f : Forest) (o : List Line) → above ≡ last_flags o n → ((m : ℕ) → n < m → has_later o m ≡ false)
+-- where a text has no further line, no passing pieces are shown
+pub entry_shown : (k : Look) (prefix passing text : List ℕ) → text_entry k prefix (cond (has_line_feed text) passing []) text ≡ text_entry k prefix passing text
+entry_shown k prefix passing text = at (has_line_feed text) refl where
+  at : (b : Bool) → has_line_feed text ≡ b → text_entry k prefix (cond b passing []) text ≡ text_entry k prefix passing text
+  at true e = refl
+  at false e =
+      let one = no_feed_when (painted_text k.leaf text) (feed_painted k.leaf text ∙ e) in
+      ap (λ z. painted_text k.branch prefix ++ z ++ 10 ∷ []) (inserted_none _ (painted_text k.leaf text) one ∙ sym (inserted_none _ (painted_text k.leaf text) one))
+
+forest_by_levels : (k : Look) → (above : List Bool) (n : ℕ) (f : Forest) (o : List Line) → above ≡ last_flags o n → ((m : ℕ) → n < m → has_later o m ≡ false)
     → lines_drawing k (outline_at (suc n) f ++ o) ≡ forest_drawing k above f ++ lines_drawing k o
 forest_by_levels k above n none o e h = refl
 forest_by_levels k above n (item t c r) o e h =
@@ -68,13 +79,19 @@ forest_by_levels k above n (item t c r) o e h =
     ap (λ z. passing_all k.pieces z ++ turning_piece k.pieces (not (has_later tail (suc n)))) over_tail ∙ ap (λ z. passing_all k.pieces above ++ turning_piece k.pieces z) last in
     let rest : lines_drawing k tail ≡ forest_drawing k (above ++ is_bare r ∷ []) c ++ (forest_drawing k above r ++ lines_drawing k o) =
     ap (λ z. lines_drawing k z) regrouped ∙ (below ∙ ap (λ z. forest_drawing k (above ++ is_bare r ∷ []) c ++ z) after) in
-    ap (λ z. entry k z t ++ lines_drawing k tail) prefix
-    ∙ (ap (λ z. entry k (passing_all k.pieces above ++ turning_piece k.pieces (is_bare r)) t ++ z) rest
-    ∙ simp append_assoc)
+    let deep : List Bool = above ++ is_bare r ∷ [] in
+    let passing : passing_by k.pieces tail (suc n) ≡ passing_all k.pieces deep =
+    ap (λ z. passing_all k.pieces (z ++ not (has_later tail (suc n)) ∷ [])) over_tail ∙ ap (λ z. passing_all k.pieces (above ++ z ∷ [])) last in
+    let turned : List ℕ = passing_all k.pieces above ++ turning_piece k.pieces (is_bare r) in
+    ap (λ z. text_entry k z (shown_by k.pieces tail (line (suc n) t)) t ++ lines_drawing k tail) prefix
+    ∙ (ap (λ z. z ++ lines_drawing k tail) (entry_shown k turned (passing_by k.pieces tail (suc n)) t)
+    ∙ (ap (λ z. text_entry k turned z t ++ lines_drawing k tail) passing
+    ∙ (ap (λ z. text_entry k turned (passing_all k.pieces deep) t ++ z) rest
+    ∙ sym (append_assoc (text_entry k turned (passing_all k.pieces deep) t) _ _ ∙ ap (λ z. text_entry k turned (passing_all k.pieces deep) t ++ z) (append_assoc (forest_drawing k deep c) (forest_drawing k above r) (lines_drawing k o))))))
 
 -- a tree's drawing, by the levels and the texts of its outline
-pub tree_by_levels : (k : Frame) (t : Tree) → tree_drawing k t ≡ entry k [] t.text ++ lines_drawing k (outline_at 1 t.children)
+pub tree_by_levels : (k : Look) → (t : Tree) → tree_drawing k t ≡ text_entry k [] [] t.text ++ lines_drawing k (outline_at 1 t.children)
 tree_by_levels k t =
     let below = forest_by_levels k [] 0 t.children [] refl (λ m l. refl) in
-    ap (λ z. entry k [] t.text ++ z)
+    ap (λ z. text_entry k [] [] t.text ++ z)
     (sym (append-nil (forest_drawing k [] t.children)) ∙ (sym below ∙ ap (λ z. lines_drawing k z) (append-nil (outline_at 1 t.children))))

@@ -9,14 +9,17 @@ pub mod Drawn
 pub mod EdgeLists
 pub mod Engine
 pub mod Equality
+pub mod Examples
 pub mod FaultWalks
+pub mod Inserted
+pub mod ItemsOnce
 pub mod Join
 pub mod LastFlags
 pub mod Laws
 pub mod Levels
 pub mod LineScans
-pub mod LinesOnce
 pub mod Links
+pub mod Marks
 pub mod OutlineAddresses
 pub mod Outlines
 pub mod Painting
@@ -36,5 +39,6 @@ pub mod TickTrees
 pub mod TreeDrawing
 pub mod TreeLemmas
 pub mod Unfold
+pub mod Upward
 pub mod Walks
 pub mod Written

@@ -1,40 +1,43 @@
 -- Going over the lines below the root's.
-use Rattle.std.proofs.Common.{◌≡◌, ℕ, zero, suc, ◌<◌, ◌≤◌, List, [], ◌∷◌, ◌++◌, All, refl, sym, ap, ◌∙◌, subst, append_assoc, arith}
+use Rattle.std.proofs.Common.{◌≡◌, ℕ, suc, ◌≤◌, List, [], ◌∷◌, ◌++◌, All, refl, sym, ap, ◌∙◌, subst, append_assoc, arith}
 use Rattle.std.proofs.lemmas.List.{append-nil, map-append}
 use Rattle.std.proofs.lemmas.List.Elements.{All-nil, All-cons, All-head, All-tail, All-append}
-use Rattle.ptree.specs.Framed.{Frame, entry}
+use Rattle.ptree.specs.Drawing.{Look}
 use Rattle.ptree.specs.Outline.{Line, Steps, last_level}
-use Rattle.ptree.specs.Pieces.{Pieces}
-use Rattle.ptree.specs.Readable.{IsReadable, HasNoLineFeed}
-use Rattle.ptree.specs.Spelled.{SpelledLine, ArePiecesAt, IsSpelled, HasLine, Spells, line_in, lines_in, spelled_text}
-use Rattle.ptree.proofs.LinesOnce.{lines_once}
+use Rattle.ptree.specs.Readable.{IsReadableWith}
+use Rattle.ptree.specs.Spelled.{SpelledItem, line_in, lines_in, IsSpelled, IsNotContinued, text_entry, spelled_text, Spells, HasItem}
+use Rattle.ptree.proofs.Upward.{above_root}
+use Rattle.ptree.proofs.ItemsOnce.{Stops, lines_once}
+use Rattle.ptree.proofs.Marks.{items_never}
 use Rattle.ptree.proofs.Steps.{Steps-push, last_level-push}
 
 -- lines were taken from the front of body, the last of them at this level, and rest is left
-pub record Scanned (k : Frame) (depth : ℕ) (body rest : List ℕ) (lines : List SpelledLine) (level : ℕ) : Type 0 where
+pub record Scanned (k : Look) (depth : ℕ) (body rest : List ℕ) (lines : List SpelledItem) (level : ℕ) : Type 0 where
   pub are_spelled : All (IsSpelled k.pieces) lines
   pub steps : Steps 0 (lines_in lines)
   pub within : All (λ l. l.level ≤ depth) lines
   pub text_is : body ≡ spelled_text k lines ++ rest
   pub level_is : level ≡ last_level 0 (lines_in lines)
+  pub stops : Stops k lines rest
 
-pub scanned_none : (k : Frame) (depth : ℕ) (body : List ℕ) → Scanned k depth body body [] 0
-scanned_none k depth body = record { are_spelled = All-nil (IsSpelled k.pieces); steps = tt; within = All-nil (λ l. l.level ≤ depth); text_is = refl; level_is = refl }
+pub scanned_none : (k : Look) (depth : ℕ) (body : List ℕ) → Scanned k depth body body [] 0
+scanned_none k depth body = record { are_spelled = All-nil (IsSpelled k.pieces); steps = tt; within = All-nil (λ l. l.level ≤ depth); text_is = refl; level_is = refl; stops = tt }
 
-spelled_text-push : (k : Frame) (lines : List SpelledLine) (l : SpelledLine) → spelled_text k (lines ++ l ∷ []) ≡ spelled_text k lines ++ entry k l.pieces l.text
-spelled_text-push k [] l = append-nil (entry k l.pieces l.text)
-spelled_text-push k (m ∷ lines) l = ap (λ z. entry k m.pieces m.text ++ z) (spelled_text-push k lines l) ∙ sym (append_assoc (entry k m.pieces m.text) (spelled_text k lines) (entry k l.pieces l.text))
+spelled_text-push : (k : Look) (lines : List SpelledItem) (l : SpelledItem) → spelled_text k (lines ++ l ∷ []) ≡ spelled_text k lines ++ text_entry k l.pieces l.passing l.text
+spelled_text-push k [] l = append-nil (text_entry k l.pieces l.passing l.text)
+spelled_text-push k (m ∷ lines) l = ap (λ z. text_entry k m.pieces m.passing m.text ++ z) (spelled_text-push k lines l) ∙ sym (append_assoc (text_entry k m.pieces m.passing m.text) (spelled_text k lines) (text_entry k l.pieces l.passing l.text))
 
-above_root : (p : Pieces) (n : ℕ) (pieces : List ℕ) → ArePiecesAt p n pieces → 0 < n
-above_root p zero pieces a = absurd a
-above_root p (suc n) pieces a = omega arith
+stops_push : (k : Look) (lines : List SpelledItem) (l : SpelledItem) (rest : List ℕ) → IsNotContinued k l.level rest → Stops k (lines ++ l ∷ []) rest
+stops_push k [] l rest s = s
+stops_push k (m ∷ []) l rest s = s
+stops_push k (m ∷ n ∷ lines) l rest s = stops_push k (n ∷ lines) l rest s
 
 All-push : {A : Type 0} (P : A → Type 0) (xs : List A) (x : A) → All P xs → P x → All P (xs ++ x ∷ [])
 All-push P xs x h here = All-append P xs (x ∷ []) h (All-cons P x [] here (All-nil P))
 
-pub scanned_more : (k : Frame) (depth : ℕ) (body rest after : List ℕ) (lines : List SpelledLine) (level : ℕ) (l : SpelledLine) → Scanned k depth body rest lines level → HasLine k l after rest
+pub scanned_more : (k : Look) (depth : ℕ) (body rest after : List ℕ) (lines : List SpelledItem) (level : ℕ) (l : SpelledItem) → Scanned k depth body rest lines level → HasItem k l after rest
     → l.level ≤ depth → l.level ≤ suc level → Scanned k depth body after (lines ++ l ∷ []) l.level
-scanned_more k depth body rest after lines level l h (is_line, is) deep jump =
+scanned_more k depth body rest after lines level l h (is_line, is, stop) deep jump =
     let pushed : lines_in (lines ++ l ∷ []) ≡ lines_in lines ++ line_in l ∷ [] = map-append line_in lines (l ∷ []) in
     let last = h.level_is in
     record {
@@ -42,11 +45,12 @@ scanned_more k depth body rest after lines level l h (is_line, is) deep jump =
       steps = subst (λ z. Steps 0 z) (sym pushed) (Steps-push 0 (lines_in lines) (line_in l) h.steps (above_root k.pieces l.level l.pieces is_line.0) (omega (arith, jump, last)));
       within = All-push (λ m. m.level ≤ depth) lines l h.within deep;
       text_is = h.text_is ∙ (ap (λ z. spelled_text k lines ++ z) is
-          ∙ (sym (append_assoc (spelled_text k lines) (entry k l.pieces l.text) after) ∙ ap (λ z. z ++ after) (sym (spelled_text-push k lines l))));
+          ∙ (sym (append_assoc (spelled_text k lines) (text_entry k l.pieces l.passing l.text) after) ∙ ap (λ z. z ++ after) (sym (spelled_text-push k lines l))));
       level_is = sym (ap (last_level 0) pushed ∙ last_level-push 0 (lines_in lines) (line_in l));
+      stops = stops_push k lines l after stop;
     }
 
-pub scanned_all : (k : Frame) (depth : ℕ) (body rest : List ℕ) (lines : List SpelledLine) (level : ℕ) → Scanned k depth body rest lines level → rest ≡ [] → Spells k depth lines body
+pub scanned_all : (k : Look) (depth : ℕ) (body rest : List ℕ) (lines : List SpelledItem) (level : ℕ) → Scanned k depth body rest lines level → rest ≡ [] → Spells k depth lines body
 scanned_all k depth body rest lines level h e = record {
   are_spelled = h.are_spelled;
   steps = h.steps;
@@ -64,16 +68,16 @@ All-behind P [] ys h = h
 All-behind P (x ∷ xs) ys h = All-behind P xs ys (All-tail P x (xs ++ ys) h)
 
 -- nothing spells the body where no line at such a level stands at the front of what is left
-pub no_lines : (k : Frame) (depth highest : ℕ) → IsReadable k.pieces → HasNoLineFeed k.leaf.back → (body rest : List ℕ) (lines : List SpelledLine) (level : ℕ) → Scanned k depth body rest lines level
-    → (rest ≡ [] → ⊥) → ((n : ℕ) → n ≤ depth → n ≤ suc level → n ≤ highest) → ((l : SpelledLine) (after : List ℕ) → l.level ≤ highest → HasLine k l after rest → ⊥)
-    → (all : List SpelledLine) → Spells k depth all body → ⊥
-no_lines k depth highest readable codes body rest lines level h some most none all s =
-    let on = lines_once k readable codes lines all rest h.are_spelled s.are_spelled (sym h.text_is ∙ s.text_is) in
+pub no_lines : (k : Look) (depth highest : ℕ) → IsReadableWith k.pieces k.mark → (body rest : List ℕ) (lines : List SpelledItem) (level : ℕ) → Scanned k depth body rest lines level
+    → (rest ≡ [] → ⊥) → ((n : ℕ) → n ≤ depth → n ≤ suc level → n ≤ highest) → ((l : SpelledItem) (after : List ℕ) → l.level ≤ highest → HasItem k l after rest → ⊥)
+    → (all : List SpelledItem) → Spells k depth all body → ⊥
+no_lines k depth highest readable body rest lines level h some most none all s =
+    let on = lines_once k readable lines all rest h.are_spelled s.are_spelled h.stops (sym h.text_is ∙ s.text_is) in
     let steps = Steps-behind 0 (lines_in lines) (lines_in on.more) (subst (λ z. Steps 0 z) (ap lines_in on.are ∙ map-append line_in lines on.more) s.steps) in
-    let within = All-behind (λ l. l.level ≤ depth) lines on.more (subst (λ z. All (λ (l : SpelledLine). l.level ≤ depth) z) on.are s.within) in
+    let within = All-behind (λ l. l.level ≤ depth) lines on.more (subst (λ z. All (λ (l : SpelledItem). l.level ≤ depth) z) on.are s.within) in
     no_more on.more on.are_spelled on.rest_is (subst (λ n. Steps n (lines_in on.more)) (sym h.level_is) steps) within
   where
-    no_more : (more : List SpelledLine) → All (IsSpelled k.pieces) more → rest ≡ spelled_text k more → Steps level (lines_in more) → All (λ l. l.level ≤ depth) more → ⊥
+    no_more : (more : List SpelledItem) → All (IsSpelled k.pieces) more → rest ≡ spelled_text k more → Steps level (lines_in more) → All (λ l. l.level ≤ depth) more → ⊥
     no_more [] are e steps within = some e
     no_more (l ∷ more) are e steps within =
-        none l (spelled_text k more) (most l.level (All-head (λ m. m.level ≤ depth) l more within) steps.1) (All-head (IsSpelled k.pieces) l more are, e)
+        none l (spelled_text k more) (most l.level (All-head (λ m. m.level ≤ depth) l more within) steps.1) (All-head (IsSpelled k.pieces) l more are, e, items_never k readable l.level more (All-tail (IsSpelled k.pieces) l more are))

@@ -3,8 +3,7 @@ use Rattle.std.proofs.Common.{◌≡◌, ℕ, ◌+◌, ◌-◌, ◌≤◌, Bool,
 use Rattle.std.proofs.Math.Seq.{take-append_seam}
 use Rattle.std.proofs.lemmas.List.{append-nil}
 use Rattle.std.proofs.lemmas.Str.{IsCharBoundary-at_seam}
-use Rattle.ptree.specs.Framed.{passing_all}
-use Rattle.ptree.specs.Pieces.{Pieces, passing_piece}
+use Rattle.ptree.specs.Pieces.{Pieces, passing_piece, passing_all}
 
 pub passing_all-push : (p : Pieces) (above : List Bool) (b : Bool) → passing_all p (above ++ b ∷ []) ≡ passing_all p above ++ passing_piece p b
 passing_all-push p [] b = append-nil (passing_piece p b)

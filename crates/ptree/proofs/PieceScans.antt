@@ -1,8 +1,7 @@
 -- Going over the pieces at a line's front.
 use Rattle.std.proofs.Common.{◌≡◌, ◌≢◌, ℕ, zero, suc, ◌+◌, ◌<◌, ◌≤◌, Bool, List, [], ◌∷◌, ◌++◌, length, refl, sym, ap, ◌∙◌, subst, append_assoc, add-one, arith}
 use Rattle.std.proofs.lemmas.List.{append_cancel_right, length_push}
-use Rattle.ptree.specs.Framed.{passing_all}
-use Rattle.ptree.specs.Pieces.{Pieces, turning_piece, passing_piece}
+use Rattle.ptree.specs.Pieces.{Pieces, turning_piece, passing_piece, passing_all}
 use Rattle.ptree.specs.Readable.{IsReadable}
 use Rattle.ptree.specs.Spelled.{HasPieces, ArePassing, Passed}
 use Rattle.ptree.proofs.Paths.{passing_all-push}

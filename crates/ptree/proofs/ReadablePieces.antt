@@ -3,7 +3,8 @@ use Rattle.std.proofs.Common.{◌≡◌, ℕ, ◌<◌, Bool, true, false, not, L
 use Rattle.std.specs.Prelude.{IsTrue, ◌↔◌}
 use Rattle.std.proofs.lemmas.List.{get_or_default}
 use Rattle.ptree.specs.Pieces.{Pieces, turning_piece, passing_piece}
-use Rattle.ptree.specs.Readable.{HasNoLineFeed, AreApart}
+use Rattle.ptree.specs.Readable.{AreApart}
+use Rattle.ptree.specs.Text.{HasNoLineFeed}
 
 -- what is known of a search for the line feed
 pub no_line_feed_test : (bs : List ℕ) (found : Bool) → (found ≡ true → (k : ℕ) × (k < length bs) × (get_or bs k 0 ≡ 10)) × ((k : ℕ) → k < length bs → get_or bs k 0 ≡ 10 → found ≡ true)

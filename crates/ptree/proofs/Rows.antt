@@ -2,9 +2,8 @@
 use Rattle.std.proofs.Common.{◌≡◌, ℕ, suc, ◌<◌, ◌≤◌, List, [], ◌∷◌, ◌++◌, length, map, sym, ap, ◌∙◌, append_assoc, subst, arith}
 use Rattle.std.proofs.lemmas.List.{append-nil, map-append}
 use Rattle.ptree.specs.Outline.{Line, line, outline_at, Steps, StartsAtMost}
-use Rattle.ptree.specs.Rows.{lines_of, IsRow}
+use Rattle.ptree.specs.Rows.{IsRow}
 use Rattle.ptree.specs.Tree.{Tree, forest, tree, tree_of}
-use Rattle.ptree.specs.declared.builder.Line.{Line as TextLine}
 use Rattle.ptree.specs.declared.item.StringItem.{StringItem}
 
 -- the lines of a tree whose root has level n
@@ -26,32 +25,32 @@ Steps-higher : (above : ℕ) (o : List Line) → StartsAtMost (suc above) o → 
 Steps-higher above [] h s = tt
 Steps-higher above (l ∷ o) h s = (s.0, h, s.2)
 
-module _ {T : Type 0} (text : T → List ℕ) where
+module _ {T : Type 0} (line_of : T → Line) where
   -- a row as far as its loop has come
-  pub record IsRowSoFar (above : ℕ) (lines : List (TextLine T)) (items : List StringItem) (rest : List (TextLine T)) : Type 0 where
-    pub are : lines_of text lines ≡ outline_at (suc above) (forest (map tree_of items)) ++ lines_of text rest
+  pub record IsRowSoFar (above : ℕ) (lines : List T) (items : List StringItem) (rest : List T) : Type 0 where
+    pub are : map line_of lines ≡ outline_at (suc above) (forest (map tree_of items)) ++ map line_of rest
     pub shorter : length rest ≤ length lines
-    pub steps : Steps above (lines_of text rest)
+    pub steps : Steps above (map line_of rest)
 
   -- one item more, made of the first line and of the row below it
-  pub row-more : (above : ℕ) (lines : List (TextLine T)) (items : List StringItem) (rest tail after : List (TextLine T))
-      (first : TextLine T) (x : StringItem) (children : List StringItem)
-      → IsRowSoFar above lines items rest → rest ≡ first ∷ tail → above < first.level
-      → tree_of x ≡ tree (text first.text) (forest (map tree_of children))
-      → IsRow text first.level tail children after → IsRowSoFar above lines (items ++ x ∷ []) after
+  pub row-more : (above : ℕ) (lines : List T) (items : List StringItem) (rest tail after : List T)
+      (first : T) (x : StringItem) (children : List StringItem)
+      → IsRowSoFar above lines items rest → rest ≡ first ∷ tail → above < (line_of first).level
+      → tree_of x ≡ tree ((line_of first).text) (forest (map tree_of children))
+      → IsRow line_of (line_of first).level tail children after → IsRowSoFar above lines (items ++ x ∷ []) after
   unfolding outline_under
   row-more above lines items rest tail after first x children h e deeper is below =
       let n = suc above in
-      let o = lines_of text after in
+      let o = map line_of after in
       let trees : List Tree = map tree_of items in
-      let steps = subst (λ z. Steps above (lines_of text z)) e h.steps in
-      let level : first.level ≡ suc above = omega (arith, steps.1) in
-      let made : lines_of text tail ≡ outline_at (suc first.level) (tree_of x).children ++ o =
-      below.are ∙ ap (λ (z : Tree). outline_at (suc first.level) z.children ++ o) (sym is) in
-      let front : lines_of text rest ≡ outline_under n (tree_of x) ++ o =
-      ap (lines_of text) e
-      ∙ (ap (λ (z : Tree). line first.level z.text ∷ lines_of text tail) (sym is)
-      ∙ (ap (λ z. line first.level (tree_of x).text ∷ z) made
+      let steps = subst (λ z. Steps above (map line_of z)) e h.steps in
+      let level : (line_of first).level ≡ suc above = omega (arith, steps.1) in
+      let made : map line_of tail ≡ outline_at (suc (line_of first).level) (tree_of x).children ++ o =
+      below.are ∙ ap (λ (z : Tree). outline_at (suc (line_of first).level) z.children ++ o) (sym is) in
+      let front : map line_of rest ≡ outline_under n (tree_of x) ++ o =
+      ap (map line_of) e
+      ∙ (ap (λ (z : Tree). line (line_of first).level z.text ∷ map line_of tail) (sym is)
+      ∙ (ap (λ z. line (line_of first).level (tree_of x).text ∷ z) made
       ∙ ap (λ k. outline_under k (tree_of x) ++ o) level)) in
       let pushed : outline_at n (forest (map tree_of (items ++ x ∷ []))) ≡ outline_at n (forest trees) ++ outline_under n (tree_of x) =
       ap (λ z. outline_at n (forest z)) (map-append tree_of items (x ∷ [])) ∙ outline_at-push n trees (tree_of x) in

@@ -6,7 +6,7 @@ use Rattle.std.proofs.lemmas.List.Elements.{All-nil, All-cons, All-weaker}
 use Rattle.std.proofs.lemmas.Str.{IsUtf8-from_ascii}
 use Rattle.std.proofs.lemmas.Str.Ascii.{IsAscii-from_all}
 use Rattle.ptree.specs.declared.style.Style.{Style}
-use Rattle.ptree.specs.Readable.{HasNoLineFeed}
+use Rattle.ptree.specs.Text.{HasNoLineFeed}
 use Rattle.ptree.specs.Style.{plain_style, style_codes, reset_after, front_codes, back_codes, painted_text}
 use Rattle.ptree.proofs.CodeBytes.{IsCodeByte, front_is}
 

@@ -1,16 +1,14 @@
 -- What stands below an address is drawn as it is alone.
 use Rattle.std.specs.Prelude.{slice_get, option_and_then, ◌&&◌, ◌-◌}
-use Rattle.std.proofs.Common.{◌≡◌, ℕ, ◌≤◌, ◌⊎◌, inl, inr, Bool, true, false, cond, List, [], ◌∷◌, ◌++◌, map, filter, Option, Some, None, length, sym, ◌∙◌, ap, subst, refl, append_assoc, arith, eq-eqb, eqb-true, length-append}
+use Rattle.std.proofs.Common.{◌≡◌, ℕ, ◌≤◌, ◌⊎◌, inl, inr, Bool, true, false, cond, List, [], ◌∷◌, ◌++◌, map, filter, Option, Some, None, length, sym, ◌∙◌, ap, subst, refl, arith, eq-eqb, eqb-true, length-append}
 use Rattle.std.proofs.lemmas.Bool.{and_parts}
 use Rattle.std.proofs.lemmas.List.Kept.{AllPairs-filter}
 use Rattle.ptree.specs.Address.{Address, at, Before, IsAddressList}
-use Rattle.ptree.specs.Drawing.{Look, passing_text, prefix_text, own_at, entry_text}
-use Rattle.ptree.specs.Laws.{begins_properly, HasSubtrees}
+use Rattle.ptree.specs.Drawing.{Look, passing_text, entry_text}
+use Rattle.ptree.specs.Laws.{begins_properly, entry_behind, HasSubtrees}
 use Rattle.ptree.specs.Shape.{Shape, kids}
-use Rattle.ptree.specs.Style.{style_codes, painted_text}
 use Rattle.ptree.proofs.Addresses.{In, Sorted, sorted_from_pairs, same_sorted, in_contains, contains_in}
 use Rattle.ptree.proofs.Laws.{entry_below}
-use Rattle.ptree.proofs.Styles.{painted_plain}
 
 -- ## Addresses behind an address
 
@@ -120,26 +118,14 @@ addresses_below kids x y a d whole part h k w p =
 -- ## Entries
 
 -- an entry of the whole is, behind the passing text, the entry of the part
-entry_alone : (look : Look) (x y : Shape) (a : Address) (j : ℕ) (r : Address) → style_codes look.branch ≡ [] → at kids x a ≡ Some y
-    → entry_text look x (a ++ j ∷ r) ≡ passing_text look x a ++ entry_text look y (j ∷ r)
-entry_alone look x y a j r plain h =
-    let front = passing_text look x a in
-    let prefix = prefix_text look y (j ∷ r) in
-    let own = own_at look y (j ∷ r) in
-    entry_below look [] x y a j r h
-    ∙ ap (λ t. t ++ own ++ 10 ∷ []) (painted_plain look.branch (front ++ prefix) plain ∙ ap (λ t. front ++ t) (sym (painted_plain look.branch prefix plain)))
-    ∙ ap (λ t. t ++ 10 ∷ []) (append_assoc front (painted_text look.branch prefix) own)
-    ∙ append_assoc front (painted_text look.branch prefix ++ own) (10 ∷ [])
+entries_alone : (look : Look) (x y : Shape) (a : Address) (part : List Address) → at kids x a ≡ Some y
+    → map (entry_text look x) (map (λ b. a ++ b) (filter (begins_properly []) part)) ≡ map (entry_behind look (passing_text look x a) y) (filter (begins_properly []) part)
+entries_alone look x y a [] h = refl
+entries_alone look x y a ([] ∷ part) h = entries_alone look x y a part h
+entries_alone look x y a ((j ∷ r) ∷ part) h =
+    ap (λ t. t ∷ map (entry_text look x) (map (λ b. a ++ b) (filter (begins_properly []) part))) (entry_below look [] x y a j r h)
+    ∙ ap (λ t. entry_behind look (passing_text look x a) y (j ∷ r) ∷ t) (entries_alone look x y a part h)
 
-entries_alone : (look : Look) (x y : Shape) (a : Address) (part : List Address) → style_codes look.branch ≡ [] → at kids x a ≡ Some y
-    → map (entry_text look x) (map (λ b. a ++ b) (filter (begins_properly []) part))
-    ≡ map (λ e. passing_text look x a ++ e) (map (entry_text look y) (filter (begins_properly []) part))
-entries_alone look x y a [] plain h = refl
-entries_alone look x y a ([] ∷ part) plain h = entries_alone look x y a part plain h
-entries_alone look x y a ((j ∷ r) ∷ part) plain h =
-    ap (λ t. t ∷ map (entry_text look x) (map (λ b. a ++ b) (filter (begins_properly []) part))) (entry_alone look x y a j r plain h)
-    ∙ ap (λ t. (passing_text look x a ++ entry_text look y (j ∷ r)) ∷ t) (entries_alone look x y a part plain h)
-
-pub subtrees : (look : Look) (x : Shape) (depth : ℕ) → style_codes look.branch ≡ [] → HasSubtrees look x depth
-subtrees look x depth plain = λ a y whole part h k w p.
-    ap (map (entry_text look x)) (addresses_below kids x y a depth whole part h k w p) ∙ entries_alone look x y a part plain h
+pub subtrees : (look : Look) (x : Shape) (depth : ℕ) → HasSubtrees look x depth
+subtrees look x depth = λ a y whole part h k w p.
+    ap (map (entry_text look x)) (addresses_below kids x y a depth whole part h k w p) ∙ entries_alone look x y a part h

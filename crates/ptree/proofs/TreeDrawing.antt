@@ -3,12 +3,12 @@ use Rattle.std.specs.Prelude.{◌↔◌}
 use Rattle.std.proofs.Common.{◌≡◌, ℕ, zero, suc, ◌≤◌, Bool, true, false, List, [], ◌∷◌, ◌++◌, map, refl, sym, ap, ◌∙◌, subst, append_assoc, arith}
 use Rattle.std.proofs.lemmas.List.{append-nil}
 use Rattle.ptree.specs.Drawing.{Look, entry_from, IsDrawing}
-use Rattle.ptree.specs.Framed.{Frame, frame_in, entry, passing_all}
 use Rattle.ptree.specs.Lines.{is_empty, with_below, kid_lines, lines_below, drawn_lines}
-use Rattle.ptree.specs.Pieces.{Pieces, turning_piece, passing_piece}
+use Rattle.ptree.specs.Pieces.{Pieces, turning_piece, passing_piece, passing_all}
 use Rattle.ptree.specs.Shape.{Shape}
+use Rattle.ptree.specs.Spelled.{text_entry}
 use Rattle.ptree.specs.Style.{painted_text}
-use Rattle.ptree.specs.Tree.{Forest, none, item, Tree, tree, trees, tree_kids, tree_own, shape_of_tree, height}
+use Rattle.ptree.specs.Tree.{none, item, Forest, Tree, tree, trees, tree_kids, height, tree_own, shape_of_tree}
 use Rattle.ptree.proofs.Join.{drawn_is_drawing}
 use Rattle.ptree.proofs.Laws.{one_drawing}
 use Rattle.ptree.proofs.Unfold.{kids_of_unfold}
@@ -19,15 +19,15 @@ is_bare none = true
 is_bare (item t c r) = false
 
 -- the lines of trees side by side, and of what is below them; above says of each ancestor whether it is a last child
-abbrev pub forest_drawing : Frame → List Bool → Forest → List ℕ
+abbrev pub forest_drawing : Look → List Bool → Forest → List ℕ
 forest_drawing k above none = []
 forest_drawing k above (item t c r) =
-    entry k (passing_all k.pieces above ++ turning_piece k.pieces (is_bare r)) t
+    text_entry k (passing_all k.pieces above ++ turning_piece k.pieces (is_bare r)) (passing_all k.pieces (above ++ is_bare r ∷ [])) t
     ++ (forest_drawing k (above ++ is_bare r ∷ []) c ++ forest_drawing k above r)
 
 -- the root's line, and those below it
-abbrev pub tree_drawing : Frame → Tree → List ℕ
-tree_drawing k t = entry k [] t.text ++ forest_drawing k [] t.children
+abbrev pub tree_drawing : Look → Tree → List ℕ
+tree_drawing k t = text_entry k [] [] t.text ++ forest_drawing k [] t.children
 
 passing_all_push : (p : Pieces) (above : List Bool) (b : Bool) → passing_all p above ++ passing_piece p b ≡ passing_all p (above ++ b ∷ [])
 passing_all_push p [] b = sym (append-nil (passing_piece p b))
@@ -37,8 +37,8 @@ bare_shapes : (f : Forest) → is_empty (map shape_of_tree (trees f)) ≡ is_bar
 bare_shapes none = refl
 bare_shapes (item t c r) = refl
 
-lines_of_forest : (look : Look) (d : ℕ) → ((above : List Bool) (t : Tree) → height t.children ≤ d → lines_below look d (passing_all look.pieces above) (shape_of_tree t) ≡ forest_drawing (frame_in look) above t.children)
-    → (above : List Bool) (f : Forest) → height f ≤ suc d → kid_lines look (lines_below look d) (passing_all look.pieces above) (map shape_of_tree (trees f)) ≡ forest_drawing (frame_in look) above f
+lines_of_forest : (look : Look) (d : ℕ) → ((above : List Bool) (t : Tree) → height t.children ≤ d → lines_below look d (passing_all look.pieces above) (shape_of_tree t) ≡ forest_drawing look above t.children)
+    → (above : List Bool) (f : Forest) → height f ≤ suc d → kid_lines look (lines_below look d) (passing_all look.pieces above) (map shape_of_tree (trees f)) ≡ forest_drawing look above f
 lines_of_forest look d ih above none h = refl
 lines_of_forest look d ih above (item t c r) h =
     let p = look.pieces in
@@ -51,24 +51,24 @@ lines_of_forest look d ih above (item t c r) h =
     ap (λ b. with_below look (lines_below look d) front b x ++ others) (bare_shapes r)
     ∙ (ap (λ q. (entry_from look (front ++ turning_piece p (is_bare r)) q own ++ lines_below look d q x) ++ others) (passing_all_push p above (is_bare r))
     ∙ (ap (λ z. (here ++ z) ++ others) (ih deep (tree t c) (omega (arith, h)))
-    ∙ (append_assoc here (forest_drawing (frame_in look) deep c) others
-    ∙ ap (λ z. here ++ (forest_drawing (frame_in look) deep c ++ z)) (lines_of_forest look d ih above r (omega (arith, h))))))
+    ∙ (append_assoc here (forest_drawing look deep c) others
+    ∙ ap (λ z. here ++ (forest_drawing look deep c ++ z)) (lines_of_forest look d ih above r (omega (arith, h))))))
 
-no_trees : (look : Look) (above : List Bool) (f : Forest) → height f ≤ 0 → [] ≡ forest_drawing (frame_in look) above f
+no_trees : (look : Look) (above : List Bool) (f : Forest) → height f ≤ 0 → [] ≡ forest_drawing look above f
 no_trees look above none h = refl
 no_trees look above (item t c r) h = absurd (omega (arith, h))
 
-lines_of_tree : (look : Look) (d : ℕ) (above : List Bool) (t : Tree) → height t.children ≤ d → lines_below look d (passing_all look.pieces above) (shape_of_tree t) ≡ forest_drawing (frame_in look) above t.children
+lines_of_tree : (look : Look) (d : ℕ) (above : List Bool) (t : Tree) → height t.children ≤ d → lines_below look d (passing_all look.pieces above) (shape_of_tree t) ≡ forest_drawing look above t.children
 lines_of_tree look zero above t h = no_trees look above t.children h
 lines_of_tree look (suc d) above t h =
     ap (kid_lines look (lines_below look d) (passing_all look.pieces above)) (sym (kids_of_unfold tree_own tree_kids t))
     ∙ lines_of_forest look d (lines_of_tree look d) above t.children h
 
-pub drawn_tree : (look : Look) (depth : ℕ) (t : Tree) → height t.children ≤ depth → drawn_lines look depth (shape_of_tree t) ≡ tree_drawing (frame_in look) t
+pub drawn_tree : (look : Look) (depth : ℕ) (t : Tree) → height t.children ≤ depth → drawn_lines look depth (shape_of_tree t) ≡ tree_drawing look t
 drawn_tree look depth t h = ap (λ z. entry_from look [] [] (painted_text look.leaf t.text) ++ z) (lines_of_tree look depth [] t h)
 
 -- the drawing of a tree by addresses is its drawing by recursion, at a depth that it doesn't exceed
-pub drawing_of_tree : (look : Look) (depth : ℕ) (t : Tree) (x : List ℕ) → height t.children ≤ depth → IsDrawing look (shape_of_tree t) depth x ↔ (x ≡ tree_drawing (frame_in look) t)
+pub drawing_of_tree : (look : Look) (depth : ℕ) (t : Tree) (x : List ℕ) → height t.children ≤ depth → IsDrawing look (shape_of_tree t) depth x ↔ (x ≡ tree_drawing look t)
 drawing_of_tree look depth t x h = (
   λ e. one_drawing look (shape_of_tree t) depth x e ∙ drawn_tree look depth t h,
   λ e. subst (λ (y : List ℕ). IsDrawing look (shape_of_tree t) depth y) (drawn_tree look depth t h ∙ sym e) (drawn_is_drawing look depth (shape_of_tree t)),

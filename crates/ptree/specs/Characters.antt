@@ -96,6 +96,10 @@ utf_dashed = record {
 abbrev pub IsShippedWithoutTicks : Characters → Type 0
 IsShippedWithoutTicks c = (c ≡ ascii_plus) ⊎ ((c ≡ utf) ⊎ ((c ≡ utf_double) ⊎ ((c ≡ utf_bold) ⊎ (c ≡ utf_dashed))))
 
+-- one of the shipped sets
+abbrev pub IsShipped : Characters → Type 0
+IsShipped c = (c ≡ ascii_tick) ⊎ IsShippedWithoutTicks c
+
 -- the set of a name, exactly as spelled
 abbrev pub set_named : List ℕ → Option Characters
 set_named name =

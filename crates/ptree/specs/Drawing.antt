@@ -1,29 +1,36 @@
 -- A drawing, by the addresses of a shape. No definition here goes over the output: each entry is a function of its own address.
-use Rattle.std.specs.Prelude.{◌≡◌, ℕ, Bool, if◌then◌else◌, List, [], ◌∷◌, ◌++◌, flat_map, option_map, unwrap_or}
+use Rattle.std.specs.Prelude.{◌≡◌, ℕ, Bool, false, if◌then◌else◌, nat_eq, List, [], ◌∷◌, ◌++◌, flat_map, option_map, unwrap_or}
 use Rattle.ptree.specs.declared.print_config.OutputKind.{OutputKind}
+use Rattle.ptree.specs.declared.print_config.OutputKind.TheVariants.{Unknown}
 use Rattle.ptree.specs.declared.print_config.PrintConfig.{PrintConfig}
 use Rattle.ptree.specs.declared.style.Style.{Style}
 use Rattle.ptree.specs.Address.{Address, at, IsAddressList, is_last, beginnings, parent}
 use Rattle.ptree.specs.Config.{is_styled}
-use Rattle.ptree.specs.Pieces.{Pieces, passing_piece, turning_piece, config_pieces}
+use Rattle.ptree.specs.Pieces.{Pieces, passing_piece, turning_piece, config_pieces, mark_of}
 use Rattle.ptree.specs.Shape.{Shape, kids}
 use Rattle.ptree.specs.Style.{plain_style, painted_text}
+use Rattle.ptree.specs.Text.{line_feed}
 
--- how a drawing looks: the effective styles and the pieces
+-- how a drawing looks: the effective styles, the pieces, and the mark before an item's further lines
 pub record Look : Type 0 where
   pub branch : Style
   pub leaf : Style
   pub pieces : Pieces
+  pub mark : List ℕ
 
--- the look of two styles and pieces
-abbrev pub look_from : Style → Style → Pieces → Look
-look_from branch leaf pieces = record { branch = branch; leaf = leaf; pieces = pieces }
+-- the look of two styles, pieces and a mark
+abbrev pub look_from : Style → Style → Pieces → List ℕ → Look
+look_from branch leaf pieces mark = record { branch = branch; leaf = leaf; pieces = pieces; mark = mark }
 
 -- the look that a configuration gives output of a kind, where standard output is a terminal or not: its styles where that is styled, else plain ones
 abbrev pub look_of : PrintConfig → OutputKind → Bool → Look
 look_of config kind terminal =
     let styled = is_styled config.styled kind terminal in
-    look_from (if styled then config.branch else plain_style) (if styled then config.leaf else plain_style) (config_pieces config)
+    look_from (if styled then config.branch else plain_style) (if styled then config.leaf else plain_style) (config_pieces config) (mark_of config)
+
+-- the look that a configuration gives what isn't standard output
+abbrev pub written_look : PrintConfig → Look
+written_look config = look_of config Unknown false
 
 -- a passing piece for each nonempty beginning
 abbrev pub passing_text : Look → Shape → Address → List ℕ
@@ -34,9 +41,17 @@ abbrev pub prefix_text : Look → Shape → Address → List ℕ
 prefix_text look x [] = []
 prefix_text look x (i ∷ rest) = passing_text look x (parent (i ∷ rest)) ++ turning_piece look.pieces (is_last kids x (i ∷ rest))
 
--- The painted prefix, the own bytes and a line feed. The passing text is for own bytes of several lines, and has no use yet.
+-- a text with this inserted after each of its line feeds
+abbrev pub with_inserted : List ℕ → List ℕ → List ℕ
+with_inserted inserted text = flat_map (λ b. if nat_eq b line_feed then line_feed ∷ inserted else b ∷ []) text
+
+-- what stands before a further line of an item: its passing text and the mark, painted as branches are
+abbrev pub continued_prefix : Look → List ℕ → List ℕ
+continued_prefix look passing = painted_text look.branch (passing ++ look.mark)
+
+-- the painted prefix, the own bytes with the prefix of further lines after each of their line feeds, and a line feed
 abbrev pub entry_from : Look → List ℕ → List ℕ → List ℕ → List ℕ
-entry_from look prefix passing own = painted_text look.branch prefix ++ own ++ 10 ∷ []
+entry_from look prefix passing own = painted_text look.branch prefix ++ with_inserted (continued_prefix look passing) own ++ line_feed ∷ []
 
 -- the own bytes of what stands at an address
 abbrev pub own_at : Look → Shape → Address → List ℕ

@@ -6,6 +6,7 @@ use Rattle.ptree.specs.declared.style.Color.TheVariants.{Named}
 use Rattle.ptree.specs.declared.style.Style.{Style}
 use Rattle.ptree.specs.declared.print_config.PrintConfig.{PrintConfig}
 use Rattle.ptree.specs.Characters.{characters_of}
+use Rattle.ptree.specs.Pieces.{mark_of}
 
 -- a colour, or the bytes of its name
 abbrev pub color_value : Color → Color ⊎ List ℕ
@@ -34,3 +35,4 @@ pub record SameConfig (a b : PrintConfig) : Type 0 where
   pub characters : characters_of a.characters ≡ characters_of b.characters
   pub branch : SameStyle a.branch b.branch
   pub leaf : SameStyle a.leaf b.leaf
+  pub continued : mark_of a ≡ mark_of b

@@ -1,9 +1,8 @@
 -- Which items are last children, by the levels of the lines after them.
 use Rattle.std.specs.Prelude.{◌≡◌, ◌<◌, ℕ, zero, suc, Bool, false, not, nat_lt, nat_eq, if◌then◌else◌, List, [], ◌∷◌, ◌++◌, length}
-use Rattle.ptree.specs.Framed.{passing_all}
 use Rattle.ptree.specs.Outline.{Line}
-use Rattle.ptree.specs.Pieces.{Pieces, turning_piece}
-use Rattle.ptree.specs.Spelled.{SpelledLine, spelled_line}
+use Rattle.ptree.specs.Pieces.{Pieces, turning_piece, passing_all}
+use Rattle.ptree.specs.Spelled.{SpelledItem, spelled_item, has_line_feed}
 
 -- the first of the lines that isn't deeper than n is at level n: the item at level n above them has a sibling after it
 abbrev pub has_later : List Line → ℕ → Bool
@@ -25,7 +24,15 @@ abbrev pub pieces_by : Pieces → List Line → ℕ → List ℕ
 pieces_by p o zero = []
 pieces_by p o (suc n) = passing_all p (last_flags o n) ++ turning_piece p (not (has_later o (suc n)))
 
--- the lines, each with the pieces that the levels give it
-abbrev pub spelled_by : Pieces → List Line → List SpelledLine
+-- the passing pieces of an item, its own included, by its level and the lines after it
+abbrev pub passing_by : Pieces → List Line → ℕ → List ℕ
+passing_by p o n = passing_all p (last_flags o n)
+
+-- those that its text shows: none where it has no further line
+abbrev pub shown_by : Pieces → List Line → Line → List ℕ
+shown_by p o l = if has_line_feed l.text then passing_by p o l.level else []
+
+-- the items of lines, each with the pieces that the levels give it
+abbrev pub spelled_by : Pieces → List Line → List SpelledItem
 spelled_by p [] = []
-spelled_by p (l ∷ o) = spelled_line l.level (pieces_by p o l.level) l.text ∷ spelled_by p o
+spelled_by p (l ∷ o) = spelled_item l.level (pieces_by p o l.level) (shown_by p o l) l.text ∷ spelled_by p o

@@ -1,7 +1,7 @@
 -- Laws of address lists and of drawings.
 use Rattle.std.specs.Prelude.{◌≡◌, ◌↔◌, ℕ, ◌-◌, ◌≤◌, Bool, true, false, ◌&&◌, ◌==◌, List, [], ◌∷◌, ◌++◌, length, map, filter, Some}
 use Rattle.ptree.specs.Address.{Address, at, IsAddressList}
-use Rattle.ptree.specs.Drawing.{Look, passing_text, entry_text, IsDrawing}
+use Rattle.ptree.specs.Drawing.{Look, prefix_text, passing_text, entry_from, own_at, entry_text, IsDrawing}
 use Rattle.ptree.specs.Shape.{Shape, kids, cut_shape}
 use Rattle.ptree.specs.Tree.{Tree, shape_of_tree, cut_tree}
 
@@ -27,13 +27,13 @@ begins_properly a [] = false
 begins_properly [] (j ∷ b) = true
 begins_properly (i ∷ a) (j ∷ b) = i == j && begins_properly a b
 
--- the entries at those addresses of a list that a properly begins, in order
-abbrev pub entries_below : Look → Shape → Address → List Address → List (List ℕ)
-entries_below look x a list = map (entry_text look x) (filter (begins_properly a) list)
+-- the entry of an address, with this text in front of its prefix and of that of each further line
+abbrev pub entry_behind : Look → List ℕ → Shape → Address → List ℕ
+entry_behind look front x a = entry_from look (front ++ prefix_text look x a) (front ++ passing_text look x a) (own_at look x a)
 
 -- the entries below each address are, in order, those of what stands there, drawn alone at the depth that is left, its root's aside, each behind the address's passing text
 abbrev pub HasSubtrees : Look → Shape → ℕ → Type 0
 HasSubtrees look x depth =
     (a : Address) (y : Shape) (whole part : List Address) → at kids x a ≡ Some y → length a ≤ depth
     → IsAddressList kids x depth whole → IsAddressList kids y (depth - length a) part
-    → entries_below look x a whole ≡ map (λ e. passing_text look x a ++ e) (entries_below look y [] part)
+    → map (entry_text look x) (filter (begins_properly a) whole) ≡ map (entry_behind look (passing_text look x a) y) (filter (begins_properly []) part)

@@ -22,11 +22,10 @@ pub mod TreeBuilder
 pub mod Writing
 -- what private functions say: of codes, of the engine, of the builder, of graphs and of the reader
 pub mod Codes
-pub mod Brush
+pub mod Looks
 pub mod Lines
 pub mod Rows
 pub mod GraphLinks
 pub mod Flags
-pub mod Framed
 pub mod Meant
 pub mod Spelled

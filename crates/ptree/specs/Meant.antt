@@ -1,29 +1,24 @@
 -- What the reader's values mean.
-use Rattle.std.specs.Prelude.{◌≡◌, List, map, string_bytes}
-use Rattle.ptree.specs.declared.builder.Line.{Line as TextLine}
-use Rattle.ptree.specs.declared.read.CodeTexts.{CodeTexts}
-use Rattle.ptree.specs.declared.read.FrameTexts.{FrameTexts}
-use Rattle.ptree.specs.declared.read.Path.{Path}
-use Rattle.ptree.specs.declared.read.Spelled.{Spelled}
-use Rattle.ptree.specs.Framed.{Paint, Frame, passing_all}
-use Rattle.ptree.specs.Pieces.{Pieces, pieces_of}
-use Rattle.ptree.specs.Spelled.{SpelledLine, spelled_line}
+use Rattle.std.specs.Prelude.{◌≡◌, ℕ, List, map, string_bytes}
+use Rattle.ptree.specs.declared.read.lines.Item.{Item}
+use Rattle.ptree.specs.declared.read.lines.Own.{Own}
+use Rattle.ptree.specs.declared.read.lines.Own.TheVariants.{Line, Lines}
+use Rattle.ptree.specs.declared.read.path.Path.{Path}
+use Rattle.ptree.specs.Pieces.{Pieces, passing_all}
+use Rattle.ptree.specs.Spelled.{SpelledItem, spelled_item}
 
--- the paint that codes make
-abbrev pub paint_of : CodeTexts → Paint
-paint_of c = record { front = string_bytes c.front; back = string_bytes c.back }
+-- the bytes of a text that was read
+abbrev pub own_meant : Own → List ℕ
+own_meant (Line line) = line.now
+own_meant (Lines lines) = string_bytes lines
 
--- the frame that pieces and codes make
-abbrev pub frame_of : FrameTexts → Frame
-frame_of f = record { pieces = pieces_of f.indent; branch = paint_of f.branch; leaf = paint_of f.leaf }
+-- an item that was read
+abbrev pub item_meant : Item → SpelledItem
+item_meant i = spelled_item i.level i.pieces.now i.passing.now (own_meant i.text)
 
--- a line that was read
-abbrev pub spelled_line_of : TextLine Spelled → SpelledLine
-spelled_line_of l = spelled_line l.level l.text.pieces.now l.text.text.now
-
--- lines that were read
-abbrev pub spelled_lines_of : List (TextLine Spelled) → List SpelledLine
-spelled_lines_of lines = map spelled_line_of lines
+-- items that were read
+abbrev pub items_meant : List Item → List SpelledItem
+items_meant items = map item_meant items
 
 -- the path's pieces are those that its flags give
 abbrev pub IsPath : Pieces → Path → Type 0

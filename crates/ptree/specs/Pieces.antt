@@ -1,7 +1,7 @@
 -- The four pieces that stand before items.
-use Rattle.std.specs.Prelude.{ℕ, ◌+◌, ◌-◌, Bool, if◌then◌else◌, List, ◌++◌, string_bytes}
+use Rattle.std.specs.Prelude.{ℕ, ◌+◌, ◌-◌, Bool, if◌then◌else◌, List, [], ◌∷◌, ◌++◌, string_bytes}
 use Rattle.std.specs.List.{repeat}
-use Rattle.ptree.specs.declared.output.Indent.{Indent}
+use Rattle.ptree.specs.declared.output.indent.Indent.{Indent}
 use Rattle.ptree.specs.declared.print_config.PrintConfig.{PrintConfig}
 use Rattle.ptree.specs.Characters.{Characters, characters_of}
 
@@ -20,6 +20,11 @@ turning_piece p last = if last then p.last_regular else p.regular
 abbrev pub passing_piece : Pieces → Bool → List ℕ
 passing_piece p last = if last then p.last_child else p.child
 
+-- the passing pieces of items, by whether each is a last child
+abbrev pub passing_all : Pieces → List Bool → List ℕ
+passing_all p [] = []
+passing_all p (b ∷ bs) = passing_piece p b ++ passing_all p bs
+
 -- The pieces that characters, indent and padding make. A difference of whole numbers is 0 where it would be negative.
 abbrev pub pieces_from : Characters → ℕ → ℕ → Pieces
 pieces_from c indent padding =
@@ -34,6 +39,10 @@ pieces_from c indent padding =
 -- the pieces of a configuration
 abbrev pub config_pieces : PrintConfig → Pieces
 config_pieces config = pieces_from (characters_of config.characters) config.indent config.padding
+
+-- the mark of a configuration
+abbrev pub mark_of : PrintConfig → List ℕ
+mark_of config = string_bytes config.continued
 
 -- the pieces that an `Indent` holds
 abbrev pub pieces_of : Indent → Pieces

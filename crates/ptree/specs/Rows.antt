@@ -1,22 +1,17 @@
--- Lines whose texts are values, and rows of trees made of them. No public contract cites it.
-use Rattle.std.specs.Prelude.{◌≡◌, ◌≤◌, ◌++◌, ℕ, suc, List, length, map}
-use Rattle.ptree.specs.declared.builder.Line.{Line as TextLine}
+-- Outlines held as lists of other values, and rows of trees made of them. No public contract cites it.
+use Rattle.std.specs.Prelude.{◌≡◌, ◌≤◌, ◌++◌, ℕ, suc, List, length, map, string_bytes}
+use Rattle.ptree.specs.declared.builder.TextLine.{TextLine}
 use Rattle.ptree.specs.declared.item.StringItem.{StringItem}
 use Rattle.ptree.specs.Outline.{Line, line, outline_at, Steps, StartsAtMost}
 use Rattle.ptree.specs.Tree.{forest, tree_of}
 
-module _ {T : Type 0} (text : T → List ℕ) where
-  -- the line of a level and a value
-  abbrev pub line_of : TextLine T → Line
-  line_of l = line l.level (text l.text)
+-- a line that a builder holds
+abbrev pub text_line : TextLine → Line
+text_line l = line l.level (string_bytes l.text)
 
-  -- the lines of levels and values
-  abbrev pub lines_of : List (TextLine T) → List Line
-  lines_of = map line_of
-
-  -- the front of the lines is the items' trees, one level below above, and what is left goes on below that level
-  pub record IsRow (above : ℕ) (lines : List (TextLine T)) (items : List StringItem) (rest : List (TextLine T)) : Type 0 where
-    pub are : lines_of lines ≡ outline_at (suc above) (forest (map tree_of items)) ++ lines_of rest
-    pub shorter : length rest ≤ length lines
-    pub steps : Steps above (lines_of rest)
-    pub stops : StartsAtMost above (lines_of rest)
+-- the front of the lines is the items' trees, one level below above, and what is left goes on below that level
+pub record IsRow {T : Type 0} (line_of : T → Line) (above : ℕ) (lines : List T) (items : List StringItem) (rest : List T) : Type 0 where
+  pub are : map line_of lines ≡ outline_at (suc above) (forest (map tree_of items)) ++ map line_of rest
+  pub shorter : length rest ≤ length lines
+  pub steps : Steps above (map line_of rest)
+  pub stops : StartsAtMost above (map line_of rest)

@@ -1,27 +1,34 @@
--- What a text shows before last flags are looked at: the level, the pieces and the text of each line.
-use Rattle.std.specs.Prelude.{◌≡◌, ◌≤◌, ℕ, zero, suc, Bool, List, [], ◌∷◌, ◌++◌, length, map, All}
-use Rattle.ptree.specs.Framed.{Paint, Frame, text_in_paint, entry, passing_all}
+-- What a text shows before last flags are looked at: the level, the pieces and the text of each item.
+use Rattle.std.specs.Prelude.{◌≡◌, ◌≢◌, ◌≤◌, ℕ, zero, suc, nat_eq, if◌then◌else◌, Bool, true, false, List, [], ◌∷◌, ◌++◌, length, map, All}
+use Rattle.ptree.specs.Drawing.{Look, with_inserted, continued_prefix, entry_from}
 use Rattle.ptree.specs.Outline.{Line, line, Steps}
-use Rattle.ptree.specs.Pieces.{Pieces, turning_piece}
-use Rattle.ptree.specs.Readable.{HasNoLineFeed}
+use Rattle.ptree.specs.Pieces.{Pieces, turning_piece, passing_all}
+use Rattle.ptree.specs.Style.{painted_text}
+use Rattle.ptree.specs.Text.{line_feed}
 
--- a line below the root's: its level, the pieces at its front, and its text
-pub record SpelledLine : Type 0 where
+-- whether a text has further lines
+abbrev pub has_line_feed : List ℕ → Bool
+has_line_feed [] = false
+has_line_feed (b ∷ bs) = if nat_eq b line_feed then true else has_line_feed bs
+
+-- an item below the root: its level, the pieces at its front, the passing pieces before each of its further lines (none where it has no such line), and its text
+pub record SpelledItem : Type 0 where
   pub level : ℕ
   pub pieces : List ℕ
+  pub passing : List ℕ
   pub text : List ℕ
 
--- the line with this level, these pieces and this text
-abbrev pub spelled_line : ℕ → List ℕ → List ℕ → SpelledLine
-spelled_line n pieces text = record { level = n; pieces = pieces; text = text }
+-- the item with this level, these pieces and this text
+abbrev pub spelled_item : ℕ → List ℕ → List ℕ → List ℕ → SpelledItem
+spelled_item n pieces passing text = record { level = n; pieces = pieces; passing = passing; text = text }
 
--- the line without its pieces
-abbrev pub line_in : SpelledLine → Line
-line_in l = line l.level l.text
+-- the item without its pieces
+abbrev pub line_in : SpelledItem → Line
+line_in i = line i.level i.text
 
--- the lines without their pieces
-abbrev pub lines_in : List SpelledLine → List Line
-lines_in lines = map line_in lines
+-- the items without their pieces
+abbrev pub lines_in : List SpelledItem → List Line
+lines_in items = map line_in items
 
 -- passing pieces of either kind, one fewer than the level, and a turning piece of either kind
 abbrev pub ArePiecesAt : Pieces → ℕ → List ℕ → Type 0
@@ -39,34 +46,54 @@ pub record Passed (p : Pieces) (text rest : List ℕ) (count : ℕ) : Type 0 whe
   pub count_is : length above ≡ count
   pub text_is : text ≡ passing_all p above ++ rest
 
--- the line's pieces give its level, and its text holds no line feed
-abbrev pub IsSpelled : Pieces → SpelledLine → Type 0
-IsSpelled p l = ArePiecesAt p l.level l.pieces × HasNoLineFeed l.text
+-- what a text of this level shows of its passing pieces: so many of either kind before each further line, and none where it has no such line
+pub record IsShown (p : Pieces) (n : ℕ) (passing text : List ℕ) : Type 0 where
+  pub further : has_line_feed text ≡ true → ArePassing p n passing
+  pub single : has_line_feed text ≡ false → passing ≡ []
 
--- the text of lines
-abbrev pub spelled_text : Frame → List SpelledLine → List ℕ
-spelled_text k [] = []
-spelled_text k (l ∷ lines) = entry k l.pieces l.text ++ spelled_text k lines
+-- the item's pieces give its level, and so do those of its further lines
+abbrev pub IsSpelled : Pieces → SpelledItem → Type 0
+IsSpelled p i = ArePiecesAt p i.level i.pieces × IsShown p i.level i.passing i.text
 
--- x is the text of the lines below a root, whose levels go down by steps and not below depth
-pub record Spells (k : Frame) (depth : ℕ) (lines : List SpelledLine) (x : List ℕ) : Type 0 where
-  pub are_spelled : All (IsSpelled k.pieces) lines
-  pub steps : Steps 0 (lines_in lines)
-  pub within : All (λ l. l.level ≤ depth) lines
-  pub text_is : x ≡ spelled_text k lines
+-- rest doesn't begin with a further line of an item at this level
+abbrev pub IsNotContinued : Look → ℕ → List ℕ → Type 0
+IsNotContinued look level rest = (passing z : List ℕ) → ArePassing look.pieces level passing → rest ≢ continued_prefix look passing ++ z
+
+-- the entry of a text, painted
+abbrev pub text_entry : Look → List ℕ → List ℕ → List ℕ → List ℕ
+text_entry look prefix passing text = entry_from look prefix passing (painted_text look.leaf text)
+
+-- the text of items
+abbrev pub spelled_text : Look → List SpelledItem → List ℕ
+spelled_text look [] = []
+spelled_text look (i ∷ items) = text_entry look i.pieces i.passing i.text ++ spelled_text look items
+
+-- x is the text of the items below a root, whose levels go down by steps and not below depth
+pub record Spells (look : Look) (depth : ℕ) (items : List SpelledItem) (x : List ℕ) : Type 0 where
+  pub are_spelled : All (IsSpelled look.pieces) items
+  pub steps : Steps 0 (lines_in items)
+  pub within : All (λ i. i.level ≤ depth) items
+  pub text_is : x ≡ spelled_text look items
 
 -- x is pieces that give this level, and rest
 abbrev pub HasPieces : Pieces → ℕ → List ℕ → List ℕ → Type 0
 HasPieces p level rest x = (pieces : List ℕ) × ArePiecesAt p level pieces × (x ≡ pieces ++ rest)
 
--- x is text, painted, a line feed and rest
-abbrev pub HasText : Paint → List ℕ → List ℕ → List ℕ → Type 0
-HasText s text rest x = HasNoLineFeed text × (x ≡ text_in_paint s text ++ 10 ∷ rest)
+-- x is own bytes that show these passing pieces, a line feed, and rest, which doesn't go on with the item
+abbrev pub HasOwn : Look → ℕ → List ℕ → List ℕ → List ℕ → List ℕ → Type 0
+HasOwn look level own passing rest x =
+    IsShown look.pieces level passing own × (x ≡ with_inserted (continued_prefix look passing) own ++ line_feed ∷ rest) × IsNotContinued look level rest
 
--- x is the text of a line, and rest
-abbrev pub HasLine : Frame → SpelledLine → List ℕ → List ℕ → Type 0
-HasLine k l rest x = IsSpelled k.pieces l × (x ≡ entry k l.pieces l.text ++ rest)
+-- x is text, painted, that shows these passing pieces, a line feed, and rest, which doesn't go on with the item
+abbrev pub HasText : Look → ℕ → List ℕ → List ℕ → List ℕ → List ℕ → Type 0
+HasText look level text passing rest x =
+    IsShown look.pieces level passing text × (x ≡ with_inserted (continued_prefix look passing) (painted_text look.leaf text) ++ line_feed ∷ rest)
+    × IsNotContinued look level rest
 
--- x is the text of a root's line, and rest
-abbrev pub HasRoot : Frame → List ℕ → List ℕ → List ℕ → Type 0
-HasRoot k root rest x = HasNoLineFeed root × (x ≡ entry k [] root ++ rest)
+-- x is the text of an item, and rest, which doesn't go on with the item
+abbrev pub HasItem : Look → SpelledItem → List ℕ → List ℕ → Type 0
+HasItem look i rest x = IsSpelled look.pieces i × (x ≡ text_entry look i.pieces i.passing i.text ++ rest) × IsNotContinued look i.level rest
+
+-- x is the text of a root, and rest, which doesn't go on with the root
+abbrev pub HasRoot : Look → List ℕ → List ℕ → List ℕ → Type 0
+HasRoot look root rest x = (x ≡ text_entry look [] [] root ++ rest) × IsNotContinued look 0 rest

@@ -1,20 +1,45 @@
 //! Builds a tree item by item.
 ghost use Rattle.std.specs.Borrow.{sem};
-ghost use Rattle.std.specs.Prelude.{if◌then◌else◌, ◌≡◌, ◌<◌, ◌+◌, ◌++◌, [], ◌∷◌, suc, IfOk, OnOk, OnErr, string_bytes};
-ghost use Rattle.ptree.specs.Outline.{line, outline, IsOutline, Steps};
-ghost use Rattle.ptree.specs.Rows.{lines_of, IsRow};
+ghost use Rattle.std.specs.Prelude.{if◌then◌else◌, ◌≡◌, ◌<◌, ◌+◌, ◌++◌, [], ◌∷◌, suc, map, IfOk, OnOk, OnErr, string_bytes};
+ghost use Rattle.ptree.specs.Outline.{Line, line, outline, IsOutline, Steps};
+ghost use Rattle.ptree.specs.Rows.{IsRow};
 ghost use Rattle.ptree.specs.Tree.{Tree, tree_of};
 
 use crate::item::StringItem;
 use std::alloc::{AllocError, Global};
-use std::convert::AsStr;
 use std::marker::Model;
+
+/// What means a line of an outline: a level and a text.
+pub(crate) trait OutlineLine {
+    ghost line: { Self → Line };
+
+    fn level(&self) -> u32
+        ensures { result ≡ (line self.now).level };
+
+    fn text(&self) -> &str
+        ensures { result.now ≡ (line self.now).text };
+}
 
 /// A level and a text.
 #[derive(Debug, Drop)]
-pub(crate) struct Line<T> {
-    pub level: u32,
-    pub text: T,
+struct TextLine {
+    level: u32,
+    text: String,
+}
+
+impl OutlineLine for TextLine {
+    ghost use Rattle.std.specs.Prelude.{string_bytes};
+    ghost use Rattle.ptree.specs.Outline.{line};
+
+    ghost line = { λ l. line l.level (string_bytes l.text) };
+
+    fn level(&self) -> u32 {
+        self.level
+    }
+
+    fn text(&self) -> &str {
+        self.text.as_str()
+    }
 }
 
 /// Builds a tree of texts item by item, in the order in which they are drawn.
@@ -24,21 +49,21 @@ pub(crate) struct Line<T> {
 #[derive(Debug, Drop)]
 pub struct TreeBuilder {
     text: String,
-    lines: Vec<Line<String>>,
+    lines: Vec<TextLine>,
     level: u32,
 }
 
 impl Model for TreeBuilder {
-    ghost use Rattle.std.specs.Prelude.{◌∷◌, ◌≤◌, string_bytes};
+    ghost use Rattle.std.specs.Prelude.{◌∷◌, ◌≤◌, map, string_bytes};
     ghost use Rattle.ptree.specs.Outline.{line, Steps, last_level};
-    ghost use Rattle.ptree.specs.Rows.{lines_of};
+    ghost use Rattle.ptree.specs.Rows.{text_line};
     ghost use Rattle.ptree.specs.TreeBuilder.{Building};
 
     ghost Value = { Building };
 
-    ghost view = { λ b. record { outline = line 0 (string_bytes b.text) ∷ lines_of string_bytes b.lines.items; level = b.level } };
+    ghost view = { λ b. record { outline = line 0 (string_bytes b.text) ∷ map text_line b.lines.items; level = b.level } };
 
-    ghost invariant = { λ b. Steps 0 (lines_of string_bytes b.lines.items) × (b.level ≤ last_level 0 (lines_of string_bytes b.lines.items)) };
+    ghost invariant = { λ b. Steps 0 (map text_line b.lines.items) × (b.level ≤ last_level 0 (map text_line b.lines.items)) };
 }
 
 impl TreeBuilder {
@@ -143,7 +168,7 @@ impl TreeBuilder {
         ensures kept { OnErr result (self.new ≡ self.old) }
     {
         let level = self.level + 1;
-        self.lines.push(Line { level, text })?;
+        self.lines.push(TextLine { level, text })?;
         if is_begun {
             self.level = level;
         }
@@ -152,13 +177,13 @@ impl TreeBuilder {
 }
 
 // The tree of a root's text and of the lines below it.
-pub(crate) fn tree_from_outline<T: AsStr>(
+pub(crate) fn tree_from_outline<T: OutlineLine>(
     alloc: Global,
     root: &str,
-    below: &[Line<T>],
+    below: &[T],
 ) -> Result<StringItem, AllocError>
-    requires steps { Steps 0 (lines_of T.text below.now) }
-    ensures { IfOk result (λ t. outline (tree_of t) ≡ line 0 root.now ∷ lines_of T.text below.now) }
+    requires steps { Steps 0 (map T.line below.now) }
+    ensures { IfOk result (λ t. outline (tree_of t) ≡ line 0 root.now ∷ map T.line below.now) }
 {
     let counts = child_counts(alloc, below)?;
     let (children, _) = row_from_outline(alloc, below, 0, &counts)?;
@@ -170,12 +195,12 @@ pub(crate) fn tree_from_outline<T: AsStr>(
 
 // The number of children of each item, at the place that says how many lines follow the item's; all of them follow the root's.
 // It says what room to make, and nothing else.
-fn child_counts<T>(alloc: Global, lines: &[Line<T>]) -> Result<Vec<usize>, AllocError> {
+fn child_counts<T: OutlineLine>(alloc: Global, lines: &[T]) -> Result<Vec<usize>, AllocError> {
     let mut counts = Vec::with_capacity(alloc, lines.len().saturating_add(1))?;
     // At the place of each level, the number of items there whose parent is still to come.
     let mut orphans: Vec<usize> = Vec::new(alloc);
     for line in lines.iter().rev() {
-        let level = line.level as usize;
+        let level = line.level() as usize;
         counts.push(count_at(&orphans, level + 1))?;
         orphans.resize(level + 1, 0)?;
         if let Some(count) = orphans.last_mut() {
@@ -192,23 +217,24 @@ fn count_at(counts: &[usize], place: usize) -> usize {
 }
 
 // The trees at the front that stand one level below `above`, and the lines after them.
-fn row_from_outline<'a, T: AsStr>(
+fn row_from_outline<'a, T: OutlineLine>(
     alloc: Global,
-    lines: &'a [Line<T>],
+    lines: &'a [T],
     above: u32,
     counts: &[usize],
-) -> Result<(Vec<StringItem>, &'a [Line<T>]), AllocError>
-    requires steps { Steps above (lines_of T.text lines.now) }
-    ensures { IfOk result (λ r. IsRow T.text above lines.now r.0.items r.1.now) }
+) -> Result<(Vec<StringItem>, &'a [T]), AllocError>
+    requires steps { Steps above (map T.line lines.now) }
+    ensures { IfOk result (λ r. IsRow T.line above lines.now r.0.items r.1.now) }
 {
     let mut items = Vec::with_capacity(alloc, count_at(counts, lines.len()))?;
     let mut rest = lines;
     while let Some((first, tail)) = rest.split_first() {
-        if first.level <= above {
+        let level = first.level();
+        if level <= above {
             break;
         }
-        let text = String::from_str(alloc, first.text.as_str())?;
-        let (children, after) = row_from_outline(alloc, tail, first.level, counts)?;
+        let text = String::from_str(alloc, first.text())?;
+        let (children, after) = row_from_outline(alloc, tail, level, counts)?;
         items.push(StringItem { text, children })?;
         rest = after;
     }

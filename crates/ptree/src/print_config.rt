@@ -48,6 +48,9 @@ pub struct PrintConfig {
 
     /// The style of items' texts. The default is plain.
     pub leaf: Style,
+
+    /// The mark that stands before each further line of an item's text, behind the pieces. The default is a colon and a space.
+    pub continued: String,
 }
 
 /// What a writer stands for. Standard output is a kind of its own, since one can ask whether it is a terminal.
@@ -79,6 +82,7 @@ impl PrintConfig {
             characters: IndentChars::from_static(alloc, UTF_CHARS)?,
             branch,
             leaf: Style::default(),
+            continued: String::from_str(alloc, ": ")?,
         })
     }
 
@@ -138,6 +142,7 @@ impl PrintConfig {
             characters: self.characters.clone()?,
             branch: self.branch.clone()?,
             leaf: self.leaf.clone()?,
+            continued: self.continued.clone()?,
         })
     }
 }

@@ -1,13 +1,14 @@
 //! Styles and colours, what takes and gives bytes, and the loop that writes.
 ghost use Rattle.std.specs.Io.{ReadsAtMost};
 ghost use Rattle.std.specs.Io.KnownBytes.{WriteAppends, ReadConsumes};
-ghost use Rattle.std.specs.Prelude.{◌≡◌, ◌↔◌, ℕ, ◌+◌, ◌≤◌, List, [], IfOk, IsTrue, Option, length, string_bytes};
+ghost use Rattle.std.specs.Prelude.{◌≡◌, ◌≢◌, ◌↔◌, ℕ, ◌+◌, ◌≤◌, List, [], IfOk, IsOk, OnOk, OnErr, IsTrue, Option, length, string_bytes};
 ghost use Rattle.ptree.specs.Counted.{fault_count, inner_value};
 ghost use Rattle.ptree.specs.declared.style.Color.{Color};
 ghost use Rattle.ptree.specs.declared.style.Style.{Style};
 ghost use Rattle.ptree.specs.Equality.{color_value, SameStyle};
 ghost use Rattle.ptree.specs.Style.{plain_style, style_codes, painted_text, front_codes, back_codes};
-ghost use Rattle.ptree.specs.Writing.{IsWritten, put_faults, get_faults, HasCause, TakesNoMemory};
+ghost use Rattle.ptree.specs.Writing.{IsWritten, put_faults, get_faults, HasCause, HasErrorCause, TakesNoMemory};
+ghost use Rattle.ptree.specs.declared.style.DrawError.TheVariants.{Memory};
 
 use crate::codes::Codes;
 use crate::faults::FaultCount;
@@ -236,9 +237,13 @@ impl Style {
     fn is_plain(&self) -> bool
         ensures { IsTrue result → style_codes self.now ≡ [] }
     {
-        let has_flag = (self.bold | self.dimmed | self.italic | self.underline)
-            || (self.blink | self.reverse | self.hidden | self.strikethrough);
-        !has_flag && self.foreground.is_none() && self.background.is_none()
+        if self.bold | self.dimmed | self.italic | self.underline {
+            return false;
+        }
+        if self.blink | self.reverse | self.hidden | self.strikethrough {
+            return false;
+        }
+        self.foreground.is_none() && self.background.is_none()
     }
 
     /// What stands before a painted text.
@@ -408,13 +413,56 @@ pub fn put_all<W: Sink>(f: &mut W, bytes: &[u8]) -> Result<(), DrawError>
     ensures bytes { IsWritten (W.contents f.old) (W.contents f.new) result bytes.now }
     ensures cause { HasCause (W.faults f.old) (W.faults f.new) result }
     ensures memory { TakesNoMemory result }
+    // For no bytes nothing is put, and no fault is counted.
+    ensures none { bytes.now ≡ [] → IsOk result × (f.new ≡ f.old) }
+{
+    if bytes.is_empty() {
+        return Ok(());
+    }
+    let mut error = DrawError::Memory;
+    match put_or_stop(f, bytes, &mut error) {
+        Ok(()) => Ok(()),
+        Err(_) => Err(error),
+    }
+}
+
+/// The end of a drawing at an error, which stands elsewhere. A result that holds none is small.
+#[derive(Drop)]
+pub(crate) struct Stop;
+
+impl From<AllocError> for Stop {
+    ghost from_gives = { λ _ _. Unit {0} };
+
+    fn from(_e: AllocError) -> Stop {
+        Stop
+    }
+}
+
+/// Writes all the bytes, as [`put_all`] does, and leaves in `error` what the sink's failure was.
+#[inline(always)]
+pub(crate) fn put_or_stop<W: Sink>(
+    f: &mut W,
+    bytes: &[u8],
+    error: &mut DrawError,
+) -> Result<(), Stop>
+    requires { error.old ≡ Memory }
+    ensures bytes { IsWritten (W.contents f.old) (W.contents f.new) result bytes.now }
+    ensures cause { HasErrorCause (W.faults f.old) (W.faults f.new) error.new }
+    ensures error { OnOk result (error.new ≡ Memory) }
+    ensures memory { OnErr result (error.new ≢ Memory) }
 {
     let mut rest = bytes;
     while !rest.is_empty() {
         match f.put(rest) {
-            Ok(0) => return Err(DrawError::Zero),
+            Ok(0) => {
+                *error = DrawError::Zero;
+                return Err(Stop);
+            }
             Ok(n) => rest = &rest[n..],
-            Err(e) => return Err(DrawError::Write(e)),
+            Err(e) => {
+                *error = DrawError::Write(e);
+                return Err(Stop);
+            }
         }
     }
     Ok(())

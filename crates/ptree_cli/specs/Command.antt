@@ -3,6 +3,7 @@ use Rattle.std.specs.Prelude.{ℕ, Bool, true, false, if◌then◌else◌, List,
 use Rattle.std.specs.Str.{bytes_eq}
 use Rattle.ptree.specs.Drawing.{Look, look_from, IsDrawing}
 use Rattle.ptree.specs.Characters.{utf}
+use Rattle.ptree.specs.Config.{default_mark}
 use Rattle.ptree.specs.Pieces.{pieces_from}
 use Rattle.ptree.specs.Style.{plain_style}
 use Rattle.ptree.specs.Tree.{Tree, none, tree, forest, shape_of_tree}
@@ -41,7 +42,7 @@ words_tree root children = tree root (forest (map (λ text. tree text none) chil
 
 -- the look of the default configuration on standard output: dimmed branches on a terminal
 abbrev pub default_look : Bool → Look
-default_look terminal = look_from (if terminal then record plain_style { dimmed = true } else plain_style) plain_style (pieces_from utf 3 1)
+default_look terminal = look_from (if terminal then record plain_style { dimmed = true } else plain_style) plain_style (pieces_from utf 3 1) default_mark
 
 -- the tree that a command draws
 abbrev pub command_tree : Command → Tree

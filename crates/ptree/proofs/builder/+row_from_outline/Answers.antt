@@ -8,8 +8,8 @@ pub loop-first-preserved : goal.loop-first-preserved
 loop-first-preserved g t c =
     let children = c.in_ok-children.children.items in
     rw c.in_ok-push.ensures.items
-    (row-more g.T.AsStr.text c.args.above c.args.lines.now c.loop-first.items.items c.loop-first.rest.now
+    (row-more g.T.OutlineLine.line c.args.above c.args.lines.now c.loop-first.items.items c.loop-first.rest.now
     c.in-Some.tail.now c.in_ok-children.after.now c.in-Some.first.now _ children
-    c.loop-first.invariant c.in-Some.ensures.cases.0 c.if-first-above.false
-    (tree_of_roll _ ∙ ap (λ z. tree z (forest (map tree_of children))) (c.in_ok-text.ensures.ok ∙ c.as_str.ensures))
-    c.in_ok-children.ensures)
+    c.loop-first.invariant c.in-Some.ensures.cases.0 (rw c.level-level.ensures at c.if-level-above.false)
+    (tree_of_roll _ ∙ ap (λ z. tree z (forest (map tree_of children))) (c.in_ok-text.ensures.ok ∙ c.text.ensures))
+    (rw c.level-level.ensures at c.in_ok-children.ensures))

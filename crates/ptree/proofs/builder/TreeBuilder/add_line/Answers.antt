@@ -1,13 +1,13 @@
-use Rattle.std.proofs.Common.{arith, string_bytes, ◌+◌}
+use Rattle.std.proofs.Common.{arith, map, string_bytes, ◌+◌}
 use Rattle.std.proofs.lemmas.List.{map-append}
 use Rattle.ptree.specs.Outline.{line}
-use Rattle.ptree.specs.Rows.{lines_of}
+use Rattle.ptree.specs.Rows.{text_line}
 use Rattle.ptree.proofs.Steps.{Steps-push, last_level-push}
 use Rattle.ptree.proofs.builder.TreeBuilder.add_line.Goals as goal
 
 pub invariant_of-self-then-is_begun : goal.invariant_of-self-then-is_begun
 invariant_of-self-then-is_begun c =
-    let old = lines_of string_bytes c.self.inside.lines.items in
+    let old = map text_line c.self.inside.lines.items in
     let added = line (c.self.inside.level + 1) (string_bytes c.args.text) in
     let inside = c.self.invariant in
     rw (c.in_ok-push.ensures.items, map-append)
@@ -15,7 +15,7 @@ invariant_of-self-then-is_begun c =
 
 pub invariant_of-self-else-is_begun : goal.invariant_of-self-else-is_begun
 invariant_of-self-else-is_begun c =
-    let old = lines_of string_bytes c.self.inside.lines.items in
+    let old = map text_line c.self.inside.lines.items in
     let added = line (c.self.inside.level + 1) (string_bytes c.args.text) in
     let inside = c.self.invariant in
     rw (c.in_ok-push.ensures.items, map-append)

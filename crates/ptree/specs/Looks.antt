@@ -1,0 +1,53 @@
+-- What the looks and the texts of private functions mean.
+use Rattle.std.specs.Prelude.{◌≡◌, ℕ, Bool, true, false, Option, Some, None, List, [], ◌++◌, string_bytes}
+use Rattle.ptree.specs.declared.output.look.Look.{Look as HeldLook}
+use Rattle.ptree.specs.declared.read.lines.CodeTexts.{CodeTexts}
+use Rattle.ptree.specs.declared.style.Style.{Style}
+use Rattle.ptree.specs.Drawing.{Look, look_from}
+use Rattle.ptree.specs.Lines.{own_lines}
+use Rattle.ptree.specs.Pieces.{Pieces, turning_piece, passing_piece, pieces_of}
+use Rattle.ptree.specs.Shape.{Shape}
+use Rattle.ptree.specs.Style.{front_codes, back_codes}
+
+-- the look that the code holds
+abbrev pub look_meant : HeldLook → Look
+look_meant l = look_from l.branch.now l.leaf.now (pieces_of l.pieces) l.mark.now
+
+-- the piece on the own line of a root (none) or of a child, by whether that is last
+abbrev pub own_piece : Pieces → Option Bool → List ℕ
+own_piece p None = []
+own_piece p (Some last) = turning_piece p last
+
+-- the piece on the lines below it
+abbrev pub below_piece : Pieces → Option Bool → List ℕ
+below_piece p None = []
+below_piece p (Some last) = passing_piece p last
+
+-- the first with the branch's back codes behind it
+abbrev pub own_text : Look → Option Bool → List ℕ
+own_text look last = own_piece look.pieces last ++ back_codes look.branch
+
+-- the second with the mark and the branch's back codes behind it
+abbrev pub further_text : Look → Option Bool → List ℕ
+further_text look last = below_piece look.pieces last ++ look.mark ++ back_codes look.branch
+
+-- the texts of a root and of children on their own lines
+pub record AreOwnTexts (look : Look) (root child last_child : List ℕ) : Type 0 where
+  pub root_is : root ≡ own_text look None
+  pub child_is : child ≡ own_text look (Some false)
+  pub last_child_is : last_child ≡ own_text look (Some true)
+
+-- those before their further lines
+pub record AreFurtherTexts (look : Look) (root child last_child : List ℕ) : Type 0 where
+  pub root_is : root ≡ further_text look None
+  pub child_is : child ≡ further_text look (Some false)
+  pub last_child_is : last_child ≡ further_text look (Some true)
+
+-- the entry of a root or of a child, behind its parent's passing text
+abbrev pub own_entry : Look → List ℕ → Option Bool → Shape → List ℕ
+own_entry look front last x = own_lines look (front ++ own_piece look.pieces last) (front ++ below_piece look.pieces last) x
+
+-- two texts are the codes of a style
+pub record HasCodes (c : CodeTexts) (style : Style) : Type 0 where
+  pub front : string_bytes c.front ≡ front_codes style
+  pub back : string_bytes c.back ≡ back_codes style

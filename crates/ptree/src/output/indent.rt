@@ -1,0 +1,231 @@
+//! The pieces that stand before items.
+ghost use Rattle.std.specs.Prelude.{◌≡◌, ◌↔◌, Bool, IsTrue, true, false, ◌++◌, IfOk, string_bytes};
+ghost use Rattle.ptree.specs.Pieces.{turning_piece, passing_piece, pieces_from, config_pieces, pieces_of};
+ghost use Rattle.ptree.specs.Characters.{characters_of};
+ghost use Rattle.ptree.specs.Readable.{AreApart, AreEqualOrApart, IsReadable, IsReadableWith};
+ghost use Rattle.ptree.specs.Text.{HasNoLineFeed};
+
+use crate::print_config::{IndentChars, PrintConfig};
+use std::alloc::{AllocError, Global};
+
+/// The four texts that stand before items: two for an item's own line, and two for the lines below it.
+#[derive(Debug, Drop)]
+pub struct Indent {
+    /// Before an item that isn't its parent's last child.
+    pub regular_prefix: String,
+
+    /// Below such an item.
+    pub child_prefix: String,
+
+    /// Before a last child.
+    pub last_regular_prefix: String,
+
+    /// Below a last child.
+    pub last_child_prefix: String,
+}
+
+impl Indent {
+    /// The pieces of a configuration.
+    ///
+    /// # Errors
+    ///
+    /// Memory ran out, or a piece would be longer than a text can be.
+    pub fn from_config(alloc: Global, config: &PrintConfig) -> Result<Indent, AllocError>
+        ensures { IfOk result (λ i. pieces_of i ≡ config_pieces config.now) }
+    {
+        Indent::from_characters_and_padding(
+            alloc,
+            config.indent,
+            config.padding,
+            &config.characters,
+        )
+    }
+
+    /// The pieces that are `indent_size` characters wide, the last one of them blank.
+    ///
+    /// # Errors
+    ///
+    /// Memory ran out, or a piece would be longer than a text can be.
+    pub fn from_characters(
+        alloc: Global,
+        indent_size: usize,
+        characters: &IndentChars,
+    ) -> Result<Indent, AllocError>
+        ensures { IfOk result (λ i. pieces_of i ≡ pieces_from (characters_of characters.now) indent_size 1) }
+    {
+        Indent::from_characters_and_padding(alloc, indent_size, 1, characters)
+    }
+
+    /// The pieces that are `indent_size` characters wide, the last `padding` of them blank.
+    ///
+    /// A piece keeps its first character and its padding also where that is wider.
+    ///
+    /// # Errors
+    ///
+    /// Memory ran out, or a piece would be longer than a text can be.
+    pub fn from_characters_and_padding(
+        alloc: Global,
+        indent_size: usize,
+        padding: usize,
+        characters: &IndentChars,
+    ) -> Result<Indent, AllocError>
+        ensures { IfOk result (λ i. pieces_of i ≡ pieces_from (characters_of characters.now) indent_size padding) }
+    {
+        let n = indent_size.saturating_sub(padding).saturating_sub(1);
+        let right_pad = characters.right.as_str().repeat(alloc, n)?;
+        let empty_pad = characters.empty.as_str().repeat(alloc, n)?;
+        let item_pad = characters.empty.as_str().repeat(alloc, padding)?;
+        let (right_pad, empty_pad) = (right_pad.as_str(), empty_pad.as_str());
+        let item_pad = item_pad.as_str();
+        Ok(Indent {
+            regular_prefix: joined_three(
+                alloc,
+                characters.down_and_right.as_str(),
+                right_pad,
+                item_pad,
+            )?,
+            child_prefix: joined_three(alloc, characters.down.as_str(), empty_pad, item_pad)?,
+            last_regular_prefix: joined_three(
+                alloc,
+                characters.turn_right.as_str(),
+                right_pad,
+                item_pad,
+            )?,
+            last_child_prefix: joined_three(alloc, characters.empty.as_str(), empty_pad, item_pad)?,
+        })
+    }
+
+    /// Whether a drawing with these pieces can be read back: the pieces at the front of a line can be told apart from its
+    /// left end, whatever stands behind them.
+    ///
+    /// That is so where no piece holds a line feed, no piece of an item's own line begins one of the lines below it, nor the
+    /// reverse, and the two of one kind are equal or neither begins the other. An empty piece is never readable, since the
+    /// empty text begins every text. It takes no memory.
+    pub fn is_readable(&self) -> bool
+        ensures { IsTrue result ↔ IsReadable (pieces_of self.now) }
+    {
+        self.is_one_line() && self.has_kinds_apart() && self.has_pairs_apart()
+    }
+
+    /// Whether a drawing with these pieces and this mark can be read back: the mark holds no line feed, and neither begins nor is
+    /// begun by any of the four pieces.
+    pub(crate) fn is_readable_with(&self, mark: &str) -> bool
+        ensures { IsTrue result ↔ IsReadableWith (pieces_of self.now) mark.now }
+    {
+        self.is_readable() && is_one_line(mark) && self.is_mark_apart(mark)
+    }
+
+    // Whether the mark neither begins nor is begun by a piece.
+    fn is_mark_apart(&self, mark: &str) -> bool
+        ensures { IsTrue result ↔ ((last : Bool) → AreApart mark.now (turning_piece (pieces_of self.now) last) × AreApart mark.now (passing_piece (pieces_of self.now) last)) }
+    {
+        is_apart_from(mark, self.turning(false), self.passing(false))
+            && is_apart_from(mark, self.turning(true), self.passing(true))
+    }
+
+    // Whether no piece holds a line feed.
+    fn is_one_line(&self) -> bool
+        ensures { IsTrue result ↔ ((last : Bool) → HasNoLineFeed (turning_piece (pieces_of self.now) last) × HasNoLineFeed (passing_piece (pieces_of self.now) last)) }
+    {
+        are_one_line(self.turning(false), self.turning(true))
+            && are_one_line(self.passing(false), self.passing(true))
+    }
+
+    // Whether no turning piece begins a passing one, nor the reverse.
+    fn has_kinds_apart(&self) -> bool
+        ensures { IsTrue result ↔ ((a b : Bool) → AreApart (turning_piece (pieces_of self.now) a) (passing_piece (pieces_of self.now) b)) }
+    {
+        let (child, last_child) = (self.passing(false), self.passing(true));
+        is_apart_from(self.turning(false), child, last_child)
+            && is_apart_from(self.turning(true), child, last_child)
+    }
+
+    // Whether of each kind the two pieces are equal, or neither begins the other.
+    fn has_pairs_apart(&self) -> bool
+        ensures { IsTrue result ↔ (AreEqualOrApart (turning_piece (pieces_of self.now) false) (turning_piece (pieces_of self.now) true)
+            × AreEqualOrApart (passing_piece (pieces_of self.now) false) (passing_piece (pieces_of self.now) true)) }
+    {
+        are_equal_or_apart(self.turning(false), self.turning(true))
+            && are_equal_or_apart(self.passing(false), self.passing(true))
+    }
+
+    /// The piece of an item's own line.
+    pub(crate) fn turning(&self, is_last: bool) -> &str
+        ensures { result.now ≡ turning_piece (pieces_of self.now) is_last }
+    {
+        if is_last {
+            self.last_regular_prefix.as_str()
+        } else {
+            self.regular_prefix.as_str()
+        }
+    }
+
+    /// The piece of the lines below an item.
+    pub(crate) fn passing(&self, is_last: bool) -> &str
+        ensures { result.now ≡ passing_piece (pieces_of self.now) is_last }
+    {
+        if is_last {
+            self.last_child_prefix.as_str()
+        } else {
+            self.child_prefix.as_str()
+        }
+    }
+}
+
+// Whether a text holds no line feed.
+fn is_one_line(text: &str) -> bool
+    ensures { IsTrue result ↔ HasNoLineFeed text.now }
+{
+    !text.contains('\n')
+}
+
+// Whether neither text holds a line feed.
+fn are_one_line(a: &str, b: &str) -> bool
+    ensures { IsTrue result ↔ (HasNoLineFeed a.now × HasNoLineFeed b.now) }
+{
+    is_one_line(a) && is_one_line(b)
+}
+
+// Whether neither text begins the other.
+fn are_apart(a: &str, b: &str) -> bool
+    ensures { IsTrue result ↔ AreApart a.now b.now }
+{
+    !a.starts_with(b) && !b.starts_with(a)
+}
+
+// Whether a text begins neither of two others, nor the reverse.
+fn is_apart_from(text: &str, a: &str, b: &str) -> bool
+    ensures { IsTrue result ↔ (AreApart text.now a.now × AreApart text.now b.now) }
+{
+    are_apart(text, a) && are_apart(text, b)
+}
+
+// Whether the texts are equal, or neither begins the other.
+fn are_equal_or_apart(a: &str, b: &str) -> bool
+    ensures { IsTrue result ↔ AreEqualOrApart a.now b.now }
+{
+    a == b || are_apart(a, b)
+}
+
+/// Three texts, one behind the other.
+pub(crate) fn joined_three(
+    alloc: Global,
+    first: &str,
+    middle: &str,
+    end: &str,
+) -> Result<String, AllocError>
+    ensures { IfOk result (λ text. string_bytes text ≡ first.now ++ middle.now ++ end.now) }
+{
+    let mut text = joined(alloc, first, middle)?;
+    text.push_str(end)?;
+    Ok(text)
+}
+
+/// One text behind another.
+pub(crate) fn joined(alloc: Global, front: &str, back: &str) -> Result<String, AllocError>
+    ensures { IfOk result (λ text. string_bytes text ≡ front.now ++ back.now) }
+{
+    let mut text = String::from_str(alloc, front)?;
+    text.push_str(back)?;
+    Ok(text)
+}

@@ -1,0 +1,49 @@
+//! How drawings look.
+ghost use Rattle.std.specs.Prelude.{◌≡◌, Bool, if◌then◌else◌, IfOk};
+ghost use Rattle.ptree.specs.Drawing.{look_of};
+ghost use Rattle.ptree.specs.Looks.{look_meant};
+ghost use Rattle.ptree.specs.Style.{plain_style};
+
+use crate::output::indent::Indent;
+use crate::print_config::{OutputKind, PrintConfig};
+use crate::style::Style;
+use std::alloc::{AllocError, Global};
+
+/// How a drawing looks: the styles as they are in effect, the pieces, and the mark before an item's further lines.
+#[derive(Drop)]
+pub(crate) struct Look<'a> {
+    pub(crate) branch: &'a Style,
+    pub(crate) leaf: &'a Style,
+    pub(crate) pieces: Indent,
+    pub(crate) mark: &'a str,
+}
+
+impl<'a> Look<'a> {
+    /// What a configuration gives output of a kind, `terminal` saying whether standard output is a terminal. The styles are the
+    /// plain one where that isn't styled.
+    pub(crate) fn of_config(
+        alloc: Global,
+        config: &'a PrintConfig,
+        plain: &'a Style,
+        output_kind: OutputKind,
+        terminal: bool,
+    ) -> Result<Look<'a>, AllocError>
+        requires { plain.now ≡ plain_style }
+        ensures { IfOk result (λ look. look_meant look ≡ look_of config.now output_kind terminal) }
+    {
+        let styled = config.should_style_output(output_kind, terminal);
+        Ok(Look {
+            branch: effective_style(&config.branch, plain, styled),
+            leaf: effective_style(&config.leaf, plain, styled),
+            pieces: Indent::from_config(alloc, config)?,
+            mark: config.continued.as_str(),
+        })
+    }
+}
+
+// A style where output is styled, else the plain one.
+fn effective_style<'a>(style: &'a Style, plain: &'a Style, styled: bool) -> &'a Style
+    ensures { result.now ≡ (if styled then style.now else plain.now) }
+{
+    if styled { style } else { plain }
+}

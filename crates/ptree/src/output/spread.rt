@@ -1,0 +1,86 @@
+//! Texts of several lines: what is inserted after each of their line feeds.
+ghost use Rattle.std.specs.Prelude.{◌≡◌, ◌≢◌, ℕ, Bool, false, length, slice_index, take, drop, ◌≤◌, ◌<◌, ◌+◌, ◌++◌, IfOk};
+ghost use Rattle.ptree.specs.Drawing.{with_inserted};
+ghost use Rattle.ptree.specs.Text.{HasNoLineFeed, line_feed};
+
+use std::alloc::{AllocError, Global};
+use std::simd::prelude::*;
+
+/// Whether a line feed may stand behind the first `start` bytes: never where the answer is false. The bytes are looked at by
+/// sixteen, some of the first ones among them.
+#[inline(always)]
+pub(crate) fn may_hold_line_feed(bytes: &[u8], start: usize) -> bool
+    requires { start ≤ length bytes.now }
+    ensures { result ≡ false → HasNoLineFeed (drop start bytes.now) }
+{
+    // Past the start where there are fewer than sixteen bytes.
+    let from = bytes.len().wrapping_sub(16);
+    if from <= start {
+        holds_line_feed_at(bytes, from)
+    } else {
+        holds_line_feed(bytes, start)
+    }
+}
+
+// Whether a line feed is among the sixteen bytes at a place.
+#[inline(always)]
+fn holds_line_feed_at(bytes: &[u8], place: usize) -> bool
+    requires { place + 16 ≤ length bytes.now }
+    ensures { result ≡ false → (k : ℕ) → place ≤ k → k < place + 16 → slice_index bytes.now k ≢ line_feed }
+{
+    u8x16::from_slice(&bytes[place..])
+        .simd_eq(u8x16::splat(b'\n'))
+        .to_bitmask()
+        != 0
+}
+
+// The same of fewer than sixteen bytes, or of more behind the first ones.
+#[inline(never)]
+fn holds_line_feed(bytes: &[u8], start: usize) -> bool
+    requires { start ≤ length bytes.now }
+    ensures { result ≡ false → HasNoLineFeed (drop start bytes.now) }
+{
+    let mut end = bytes.len();
+    while end >= 16 && end > start {
+        let from = end - 16;
+        if holds_line_feed_at(bytes, from) {
+            return true;
+        }
+        end = from;
+    }
+    for place in start..end {
+        if bytes[place] == b'\n' {
+            return true;
+        }
+    }
+    false
+}
+
+/// The bytes, with the first `width` of them and a text inserted after each line feed of what stands behind the first `start`.
+///
+/// # Errors
+///
+/// Memory ran out.
+#[inline(never)]
+pub(crate) fn spread(
+    alloc: Global,
+    bytes: &[u8],
+    start: usize,
+    width: usize,
+    further: &str,
+) -> Result<Vec<u8>, AllocError>
+    requires within { width ≤ start }
+    requires start { start ≤ length bytes.now }
+    ensures { IfOk result (λ v. v.items ≡ take start bytes.now ++ with_inserted (take width bytes.now ++ further.now) (drop start bytes.now)) }
+{
+    let mut out = Vec::new(alloc);
+    out.extend_from_slice(&bytes[..start])?;
+    for b in &bytes[start..] {
+        out.push(*b)?;
+        if *b == b'\n' {
+            out.extend_from_slice(&bytes[..width])?;
+            out.extend_from_slice(further.as_bytes())?;
+        }
+    }
+    Ok(out)
+}
