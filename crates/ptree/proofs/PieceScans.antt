@@ -1,9 +1,11 @@
 -- Going over the pieces at a line's front.
-use Rattle.std.proofs.Common.{◌≡◌, ◌≢◌, ℕ, zero, suc, ◌+◌, ◌<◌, ◌≤◌, Bool, List, [], ◌∷◌, ◌++◌, length, refl, sym, ap, ◌∙◌, subst, append_assoc, add-one, arith}
+use Rattle.std.proofs.Common.{◌≡◌, ◌≢◌, ℕ, zero, suc, ◌+◌, ◌<◌, ◌≤◌, inl, inr, Bool, List, [], ◌∷◌, ◌++◌, length, refl, sym, ap, ◌∙◌, subst, append_assoc, add-one, arith}
+use Rattle.std.proofs.lemmas.Bool.{cases_lt}
 use Rattle.std.proofs.lemmas.List.{append_cancel_right, length_push}
 use Rattle.ptree.specs.Pieces.{Pieces, turning_piece, passing_piece, passing_all}
 use Rattle.ptree.specs.Readable.{IsReadable}
 use Rattle.ptree.specs.Spelled.{HasPieces, ArePassing, Passed}
+use Rattle.ptree.proofs.Marks.{passings_once}
 use Rattle.ptree.proofs.Paths.{passing_all-push}
 use Rattle.ptree.proofs.Prefixes.{apart_never, same_front, same_kind}
 
@@ -63,6 +65,21 @@ none_so_low p r text rest passed highest h most zero z low (pieces, at, is) = ab
 none_so_low p r text rest passed highest h most (suc n) z low (pieces, (above', last, len, is'), is) =
     let count = h.count_is in
     too_many p r h.above above' last rest z (omega (arith, len, count)) (sym h.text_is ∙ (is ∙ ap (λ y. y ++ z) is'))
+
+-- no turning piece follows as many passing pieces as there are, up to a level
+pub no_turning : (p : Pieces) → IsReadable p → (text rest : List ℕ) (passed most highest : ℕ) → Passed p text rest passed → passed ≤ most → (passed < most → (last : Bool) (z : List ℕ) → rest ≢ passing_piece p last ++ z)
+    → highest ≤ most + 1 → ((last : Bool) (z : List ℕ) → rest ≢ turning_piece p last ++ z) → (level : ℕ) (z : List ℕ) → level ≤ highest → HasPieces p level z text → ⊥
+no_turning p r text rest passed most highest h few stops top none zero z low (pieces, at, is) = absurd at
+no_turning p r text rest passed most highest h few stops top none (suc n) z low (pieces, (above', last, len, is'), is) =
+    let count = h.count_is in
+    let both : passing_all p h.above ++ rest ≡ (passing_all p above' ++ turning_piece p last) ++ z = sym h.text_is ∙ (is ∙ ap (λ y. y ++ z) is') in
+    elim (cases_lt passed most) [
+      | inl less ↦ stuck p r h.above rest none (stops less) above' last z both
+      | inr all ↦ elim (cases_lt (length above') (length h.above)) [
+        | inl fewer ↦ too_many p r h.above above' last rest z fewer both
+        | inr same ↦ none last z (passings_once p r h.above above' rest (turning_piece p last ++ z) (omega (arith, count, len)) (both ∙ append_assoc (passing_all p above') (turning_piece p last) z)).1
+      ]
+    ]
 
 pub pieces_there : (p : Pieces) (text rest behind : List ℕ) (passed : ℕ) → Passed p text rest passed → (last : Bool) × (rest ≡ turning_piece p last ++ behind)
     → HasPieces p (passed + 1) behind text

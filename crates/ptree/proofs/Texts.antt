@@ -1,5 +1,5 @@
 -- An item's text, behind its prefix.
-use Rattle.std.proofs.Common.{◌≡◌, ◌≢◌, ℕ, suc, ◌<◌, ◌≤◌, get_or, Bool, true, false, List, [], ◌∷◌, ◌++◌, length, inl, inr, refl, sym, ap, ◌∙◌, subst, append_assoc, arith}
+use Rattle.std.proofs.Common.{◌≡◌, ◌≢◌, ℕ, suc, ◌+◌, ◌<◌, ◌≤◌, get_or, Bool, true, false, List, [], ◌∷◌, ◌++◌, length, inl, inr, refl, sym, ap, ◌∙◌, subst, append_assoc, arith}
 use Rattle.std.proofs.lemmas.Bool.{false≢true}
 use Rattle.std.specs.Prelude.{Option, Some, None, MatchOption}
 use denote.Ref.{Bor}
@@ -7,11 +7,14 @@ use Rattle.std.proofs.lemmas.List.{append_cancel_left, append_cancel_right}
 use Rattle.ptree.specs.Address.{at}
 use Rattle.ptree.specs.Drawing.{Look, with_inserted, continued_prefix}
 use Rattle.ptree.specs.Outline.{line}
-use Rattle.ptree.specs.Pieces.{Pieces, passing_piece, passing_all}
+use Rattle.ptree.specs.declared.read.lines.Ahead.{Ahead}
+use Rattle.ptree.specs.Meant.{IsFront}
+use Rattle.ptree.specs.Pieces.{Pieces, turning_piece, passing_piece, passing_all}
 use Rattle.ptree.specs.Readable.{IsReadable, IsReadableWith}
-use Rattle.ptree.specs.Spelled.{has_line_feed, SpelledItem, spelled_item, ArePiecesAt, ArePassing, Passed, IsShown, IsNotContinued, text_entry, HasPieces, HasOwn, HasText, HasItem, HasRoot}
+use Rattle.ptree.specs.Spelled.{has_line_feed, SpelledItem, spelled_item, ArePiecesAt, ArePassing, Passed, IsShown, IsNotContinued, text_entry, HasPieces, HasItemPieces, HasOwn, HasText, HasItem, HasRoot}
 use Rattle.ptree.specs.Style.{front_codes, back_codes, painted_text}
 use Rattle.ptree.specs.Text.{HasNoLineFeed}
+use Rattle.ptree.proofs.PieceScans.{none_so_low, no_turning, pieces_there}
 use Rattle.ptree.proofs.Prefixes.{same_front, same_kind, same_pieces}
 use Rattle.ptree.proofs.Inserted.{no_line_feed_from_reads, is_feed, inserted_feed, inserted_other, inserted-append, inserted_none, feed_here, feed_tail, feed_behind, feed_back, no_feed}
 use Rattle.ptree.proofs.ItemsOnce.{own_once, none_passing}
@@ -50,32 +53,44 @@ no_level p r text rest count level h more none passing z (above', len, is) e =
 
 -- ## The mark
 
-pub no_mark_front : (k : Look) (n : ℕ) (x : List ℕ) → ((z : List ℕ) → x ≢ (front_codes k.branch) ++ z) → IsNotContinued k n x
+pub no_mark_front : (k : Look) (n : ℕ) (x : List ℕ) → ((z : List ℕ) → x ≢ front_codes k.branch ++ z) → IsNotContinued k n x
 no_mark_front k n x h q z at e = h _ (e ∙ mark_is k q z)
 
-open_is : (k : Look) (x start q z : List ℕ) → x ≡ (front_codes k.branch) ++ start → x ≡ continued_prefix k q ++ z → start ≡ q ++ (k.mark ++ ((back_codes k.branch) ++ z))
+open_is : (k : Look) (x start q z : List ℕ) → x ≡ front_codes k.branch ++ start → x ≡ continued_prefix k q ++ z → start ≡ q ++ (k.mark ++ (back_codes k.branch ++ z))
 open_is k x start q z e f = append_cancel_left (front_codes k.branch) _ _ (sym e ∙ (f ∙ mark_is k q z))
 
-pub no_mark_level : (k : Look) (n : ℕ) (x start : List ℕ) → x ≡ (front_codes k.branch) ++ start → ((q z : List ℕ) → ArePassing k.pieces n q → start ≢ q ++ z) → IsNotContinued k n x
-no_mark_level k n x start e h q z at f = h q _ at (open_is k x start q z e f)
+-- what the front of x has passed
+passed_front : (look : Look) (level : ℕ) (x : List ℕ) (a : Ahead) → IsFront look level x a → Passed look.pieces a.open.now a.rest.now a.passing.count
+passed_front look level x a h =
+    let (above, len, is) = h.are_passing in
+    record { above = above; count_is = len; text_is = h.rest_is ∙ ap (λ z. z ++ a.rest.now) is }
 
-marked_is : (k : Look) → IsReadable k.pieces → (n : ℕ) (start marked q y : List ℕ) → Passed k.pieces start marked n → ArePassing k.pieces n q → start ≡ q ++ y → marked ≡ y
-marked_is k r n start marked q y h (above, len, is) e =
-    (passings_once k.pieces r h.above above marked y (h.count_is ∙ sym len) (sym h.text_is ∙ (e ∙ ap (λ z. z ++ y) is))).1
+-- too few passing pieces stand there
+pub no_mark_level : (k : Look) → IsReadable k.pieces → (n : ℕ) (x : List ℕ) (a : Ahead) → IsFront k n x a → a.passing.count < n → IsNotContinued k n x
+no_mark_level k r n x a h less q z at f =
+    no_level k.pieces r a.open.now a.rest.now a.passing.count n (passed_front k n x a h) less (h.no_more less) q _ at (open_is k x a.open.now q z h.open_is f)
 
-pub no_mark_here : (k : Look) → IsReadable k.pieces → (n : ℕ) (x start marked : List ℕ) → x ≡ (front_codes k.branch) ++ start → Passed k.pieces start marked n → ((z : List ℕ) → marked ≢ k.mark ++ z) → IsNotContinued k n x
-no_mark_here k r n x start marked e h none q z at f = none _ (marked_is k r n start marked q _ h at (open_is k x start q z e f))
+-- what follows as many as the level
+marked_is : (k : Look) → IsReadable k.pieces → (n : ℕ) (x : List ℕ) (a : Ahead) (q y : List ℕ) → IsFront k n x a → n ≤ a.passing.count → ArePassing k.pieces n q → a.open.now ≡ q ++ y → a.rest.now ≡ y
+marked_is k r n x a q y h enough (above, len, is) e =
+    let passed = passed_front k n x a h in
+    let few = h.few in
+    let count = passed.count_is in
+    (passings_once k.pieces r passed.above above a.rest.now y (omega (arith, few, count, len)) (sym passed.text_is ∙ (e ∙ ap (λ z. z ++ y) is))).1
 
-pub no_mark_back : (k : Look) → IsReadable k.pieces → (n : ℕ) (x start marked closed : List ℕ) → x ≡ (front_codes k.branch) ++ start → Passed k.pieces start marked n → marked ≡ k.mark ++ closed
-    → ((z : List ℕ) → closed ≢ (back_codes k.branch) ++ z) → IsNotContinued k n x
-no_mark_back k r n x start marked closed e h g none q z at f =
-    none z (append_cancel_left k.mark _ _ (sym g ∙ marked_is k r n start marked q _ h at (open_is k x start q z e f)))
+pub no_mark_here : (k : Look) → IsReadable k.pieces → (n : ℕ) (x : List ℕ) (a : Ahead) → IsFront k n x a → n ≤ a.passing.count → ((z : List ℕ) → a.rest.now ≢ k.mark ++ z) → IsNotContinued k n x
+no_mark_here k r n x a h enough none q z at f = none _ (marked_is k r n x a q _ h enough at (open_is k x a.open.now q z h.open_is f))
 
-pub mark_there : (k : Look) (n : ℕ) (x start marked pieces closed rest : List ℕ) → x ≡ (front_codes k.branch) ++ start → Passed k.pieces start marked n → start ≡ pieces ++ marked → marked ≡ k.mark ++ closed
-    → closed ≡ (back_codes k.branch) ++ rest → ArePassing k.pieces n pieces × (x ≡ continued_prefix k pieces ++ rest)
-mark_there k n x start marked pieces closed rest e h cut g f = (
-  (h.above, h.count_is, append_cancel_right pieces (passing_all k.pieces h.above) marked (sym cut ∙ h.text_is)),
-  e ∙ (ap (λ z. (front_codes k.branch) ++ z) (cut ∙ ap (λ z. pieces ++ z) (g ∙ ap (λ z. k.mark ++ z) f)) ∙ sym (mark_is k pieces rest)),
+pub no_mark_back : (k : Look) → IsReadable k.pieces → (n : ℕ) (x : List ℕ) (a : Ahead) (closed : List ℕ) → IsFront k n x a → n ≤ a.passing.count → a.rest.now ≡ k.mark ++ closed
+    → ((z : List ℕ) → closed ≢ back_codes k.branch ++ z) → IsNotContinued k n x
+no_mark_back k r n x a closed h enough g none q z at f =
+    none z (append_cancel_left k.mark _ _ (sym g ∙ marked_is k r n x a q _ h enough at (open_is k x a.open.now q z h.open_is f)))
+
+pub mark_there : (k : Look) (n : ℕ) (x : List ℕ) (a : Ahead) (closed rest : List ℕ) → IsFront k n x a → n ≤ a.passing.count → a.rest.now ≡ k.mark ++ closed
+    → closed ≡ back_codes k.branch ++ rest → ArePassing k.pieces n a.passing.pieces.now × (x ≡ continued_prefix k a.passing.pieces.now ++ rest)
+mark_there k n x a closed rest h enough g f = (
+  (let (above, len, is) = h.are_passing in let few = h.few in (above, omega (arith, len, few), is)),
+  h.open_is ∙ (ap (λ z. front_codes k.branch ++ z) (h.rest_is ∙ ap (λ z. a.passing.pieces.now ++ z) (g ∙ ap (λ z. k.mark ++ z) f)) ∙ sym (mark_is k a.passing.pieces.now rest)),
 )
 
 -- ## Own bytes
@@ -243,7 +258,7 @@ text_there k n x body own text q rest e (shown, is, stop) t = (
 
 -- ## Items
 
--- what follows the branch codes of an text_entry
+-- what follows the branch codes of an entry
 line_is : (k : Look) (pieces q text rest : List ℕ) → text_entry k pieces q text ++ rest ≡ (front_codes k.branch) ++ (pieces ++ ((back_codes k.branch) ++ (with_inserted (continued_prefix k q) (painted_text k.leaf text) ++ 10 ∷ rest)))
 line_is k pieces q text rest = at (with_inserted (continued_prefix k q) (painted_text k.leaf text)) where
   at : (own : List ℕ) → (painted_text k.branch pieces ++ own ++ 10 ∷ []) ++ rest ≡ (front_codes k.branch) ++ (pieces ++ ((back_codes k.branch) ++ (own ++ 10 ∷ rest)))
@@ -280,33 +295,52 @@ root_there k x start own text q rest e f (shown, is, stop) =
     let none = no_passing k.pieces q text shown in
     (e ∙ (ap (λ z. (front_codes k.branch) ++ z) (f ∙ ap (λ z. (back_codes k.branch) ++ z) (is ∙ ap (λ z. with_inserted (continued_prefix k z) (painted_text k.leaf text) ++ 10 ∷ rest) none)) ∙ sym (line_is k [] [] text rest)), stop)
 
-pub no_item_front : (k : Look) (x : List ℕ) → ((z : List ℕ) → x ≢ (front_codes k.branch) ++ z) → (r : SpelledItem) (rest : List ℕ) → HasItem k r rest x → ⊥
-no_item_front k x h r rest (are, is, stop) = h _ (is ∙ line_is k r.pieces r.passing r.text rest)
-
-start_is : (k : Look) (x start rest : List ℕ) (r : SpelledItem) → x ≡ (front_codes k.branch) ++ start → HasItem k r rest x → start ≡ r.pieces ++ ((back_codes k.branch) ++ (with_inserted (continued_prefix k r.passing) (painted_text k.leaf r.text) ++ 10 ∷ rest))
+-- pieces at the front of an item, and what follows them
+start_is : (k : Look) (x start rest : List ℕ) (r : SpelledItem) → x ≡ front_codes k.branch ++ start → HasItem k r rest x → start ≡ r.pieces ++ (back_codes k.branch ++ (with_inserted (continued_prefix k r.passing) (painted_text k.leaf r.text) ++ 10 ∷ rest))
 start_is k x start rest r e (are, is, stop) = append_cancel_left (front_codes k.branch) _ _ (sym e ∙ (is ∙ line_is k r.pieces r.passing r.text rest))
 
-pub no_item_pieces : (k : Look) (highest : ℕ) (x start : List ℕ) → x ≡ (front_codes k.branch) ++ start
+pub no_item_front : (k : Look) (x : List ℕ) → ((z : List ℕ) → x ≢ front_codes k.branch ++ z) → (r : SpelledItem) (rest : List ℕ) → HasItem k r rest x → ⊥
+no_item_front k x h r rest (are, is, stop) = h _ (is ∙ line_is k r.pieces r.passing r.text rest)
+
+no_item_pieces : (k : Look) (highest : ℕ) (x start : List ℕ) → x ≡ front_codes k.branch ++ start
     → ((level : ℕ) (z : List ℕ) → level ≤ highest → HasPieces k.pieces level z start → ⊥)
     → (r : SpelledItem) (rest : List ℕ) → r.level ≤ highest → HasItem k r rest x → ⊥
 no_item_pieces k highest x start e h r rest low has = h r.level _ low (r.pieces, has.0.0, start_is k x start rest r e has)
 
-pub no_item_back : (k : Look) → IsReadable k.pieces → (level : ℕ) (x start closed : List ℕ) → x ≡ (front_codes k.branch) ++ start → HasPieces k.pieces level closed start
-    → ((z : List ℕ) → closed ≢ (back_codes k.branch) ++ z) → (r : SpelledItem) (rest : List ℕ) → HasItem k r rest x → ⊥
-no_item_back k readable level x start closed e (pieces, at, is) h r rest has =
-    h _ (same_pieces k.pieces readable level r.level pieces r.pieces at has.0.0 closed _ (sym is ∙ start_is k x start rest r e has)).rest
+-- where as many passing pieces stand as the highest level
+pub no_item_high : (k : Look) → IsReadable k.pieces → (n highest : ℕ) (x : List ℕ) (a : Ahead) → IsFront k n x a → highest ≤ a.passing.count
+    → (r : SpelledItem) (rest : List ℕ) → r.level ≤ highest → HasItem k r rest x → ⊥
+no_item_high k readable n highest x a h most =
+    no_item_pieces k highest x a.open.now h.open_is (none_so_low k.pieces readable a.open.now a.rest.now a.passing.count highest (passed_front k n x a h) most)
 
-pub no_item_text : (k : Look) → IsReadable k.pieces → (level : ℕ) (x start closed own : List ℕ) → x ≡ (front_codes k.branch) ++ start → HasPieces k.pieces level closed start → closed ≡ (back_codes k.branch) ++ own
+-- where no turning piece follows the passing ones
+pub no_item_turning : (k : Look) → IsReadable k.pieces → (n highest : ℕ) (x : List ℕ) (a : Ahead) → IsFront k n x a → highest ≤ n + 1 → ((last : Bool) (z : List ℕ) → a.rest.now ≢ turning_piece k.pieces last ++ z)
+    → (r : SpelledItem) (rest : List ℕ) → r.level ≤ highest → HasItem k r rest x → ⊥
+no_item_turning k readable n highest x a h top none =
+    no_item_pieces k highest x a.open.now h.open_is (no_turning k.pieces readable a.open.now a.rest.now a.passing.count n highest (passed_front k n x a h) h.few h.no_more top none)
+
+-- where no codes follow the turning piece
+pub no_item_back : (k : Look) → IsReadable k.pieces → (n : ℕ) (x : List ℕ) (a : Ahead) (closed : List ℕ) → IsFront k n x a → (last : Bool) × (a.rest.now ≡ turning_piece k.pieces last ++ closed)
+    → ((z : List ℕ) → closed ≢ back_codes k.branch ++ z) → (r : SpelledItem) (rest : List ℕ) → HasItem k r rest x → ⊥
+no_item_back k readable n x a closed h turned none r rest has =
+    let (pieces, at, is) = pieces_there k.pieces a.open.now a.rest.now closed a.passing.count (passed_front k n x a h) turned in
+    none _ (same_pieces k.pieces readable (a.passing.count + 1) r.level pieces r.pieces at has.0.0 closed _ (sym is ∙ start_is k x a.open.now rest r h.open_is has)).rest
+
+-- else pieces stand there
+pub item_pieces_there : (k : Look) (n : ℕ) (x : List ℕ) (a : Ahead) (closed pieces own : List ℕ) → IsFront k n x a → (last : Bool) × (a.rest.now ≡ turning_piece k.pieces last ++ closed)
+    → a.open.now ≡ pieces ++ closed → closed ≡ back_codes k.branch ++ own → HasItemPieces k (a.passing.count + 1) pieces own x
+item_pieces_there k n x a closed pieces own h turned cut back =
+    let (pieces', at, is) = pieces_there k.pieces a.open.now a.rest.now closed a.passing.count (passed_front k n x a h) turned in
+    let same : pieces' ≡ pieces = append_cancel_right pieces' pieces closed (sym is ∙ cut) in
+    (subst (λ z. ArePiecesAt k.pieces (a.passing.count + 1) z) same at, h.open_is ∙ ap (λ z. front_codes k.branch ++ z) (cut ∙ ap (λ z. pieces ++ z) back))
+
+-- and with them an item, or none
+pub no_item_text : (k : Look) → IsReadable k.pieces → (level : ℕ) (x pieces own : List ℕ) → HasItemPieces k level pieces own x
     → ((text q rest : List ℕ) → HasText k level text q rest own → ⊥) → (r : SpelledItem) (rest : List ℕ) → HasItem k r rest x → ⊥
-no_item_text k readable level x start closed own e (pieces, at, is) f h r rest has =
-    let same = same_pieces k.pieces readable level r.level pieces r.pieces at has.0.0 closed _ (sym is ∙ start_is k x start rest r e has) in
-    h r.text r.passing rest (subst (λ n. HasText k n r.text r.passing rest own) (sym same.level) (has.0.1, append_cancel_left (back_codes k.branch) _ _ (sym f ∙ same.rest), has.2))
+no_item_text k readable level x pieces own (at, is) h r rest has =
+    let same = same_pieces k.pieces readable level r.level pieces r.pieces at has.0.0 _ _ (start_is k x _ rest r is has) in
+    h r.text r.passing rest (subst (λ n. HasText k n r.text r.passing rest own) (sym same.level) (has.0.1, append_cancel_left (back_codes k.branch) _ _ same.rest, has.2))
 
-pub item_there : (k : Look) (level : ℕ) (x start pieces closed own text q rest : List ℕ) → x ≡ (front_codes k.branch) ++ start → HasPieces k.pieces level closed start → start ≡ pieces ++ closed
-    → closed ≡ (back_codes k.branch) ++ own → HasText k level text q rest own → HasItem k (spelled_item level pieces q text) rest x
-item_there k level x start pieces closed own text q rest e (pieces', at, is) cut f (shown, g, stop) =
-    let same : pieces' ≡ pieces = append_cancel_right pieces' pieces closed (sym is ∙ cut) in (
-      (subst (λ z. ArePiecesAt k.pieces level z) same at, shown),
-      e ∙ (ap (λ z. (front_codes k.branch) ++ z) (cut ∙ ap (λ z. pieces ++ z) (f ∙ ap (λ z. (back_codes k.branch) ++ z) g)) ∙ sym (line_is k pieces q text rest)),
-      stop,
-    )
+pub item_there : (k : Look) (level : ℕ) (x pieces own text q rest : List ℕ) → HasItemPieces k level pieces own x → HasText k level text q rest own → HasItem k (spelled_item level pieces q text) rest x
+item_there k level x pieces own text q rest (at, is) (shown, g, stop) =
+    ((at, shown), is ∙ (ap (λ z. front_codes k.branch ++ (pieces ++ (back_codes k.branch ++ z))) g ∙ sym (line_is k pieces q text rest)), stop)

@@ -3,7 +3,7 @@ use Rattle.std.specs.Prelude.{◌≡◌, ◌≢◌, ◌≤◌, ℕ, zero, suc, n
 use Rattle.ptree.specs.Drawing.{Look, with_inserted, continued_prefix, entry_from}
 use Rattle.ptree.specs.Outline.{Line, line, Steps}
 use Rattle.ptree.specs.Pieces.{Pieces, turning_piece, passing_all}
-use Rattle.ptree.specs.Style.{painted_text}
+use Rattle.ptree.specs.Style.{front_codes, back_codes, painted_text}
 use Rattle.ptree.specs.Text.{line_feed}
 
 -- whether a text has further lines
@@ -78,6 +78,10 @@ pub record Spells (look : Look) (depth : ℕ) (items : List SpelledItem) (x : Li
 -- x is pieces that give this level, and rest
 abbrev pub HasPieces : Pieces → ℕ → List ℕ → List ℕ → Type 0
 HasPieces p level rest x = (pieces : List ℕ) × ArePiecesAt p level pieces × (x ≡ pieces ++ rest)
+
+-- x is the codes and pieces of an item at this level, with the codes behind them, and rest
+abbrev pub HasItemPieces : Look → ℕ → List ℕ → List ℕ → List ℕ → Type 0
+HasItemPieces look level pieces rest x = ArePiecesAt look.pieces level pieces × (x ≡ front_codes look.branch ++ (pieces ++ (back_codes look.branch ++ rest)))
 
 -- x is own bytes that show these passing pieces, a line feed, and rest, which doesn't go on with the item
 abbrev pub HasOwn : Look → ℕ → List ℕ → List ℕ → List ℕ → List ℕ → Type 0

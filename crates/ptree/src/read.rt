@@ -98,15 +98,15 @@ fn read_in_frame(
         ((t : Tree) → IsDrawnForm look depth text.now t → ⊥)
         (λ t. IsDrawnForm look depth text.now (tree_of t))) }
 {
-    let Some((root, body)) = read_root(alloc, text, frame)? else {
+    let Some(root) = read_root(alloc, text, frame)? else {
         return Ok(None);
     };
-    let Some(items) = read_items(alloc, body, frame, depth)? else {
+    let Some(items) = read_items(alloc, root.rest, root.ahead, frame, depth)? else {
         return Ok(None);
     };
     if !have_last_flags(alloc, &items, &frame.look.pieces)? {
         return Ok(None);
     }
-    let tree = tree_from_outline(alloc, root.as_str(), &items)?;
+    let tree = tree_from_outline(alloc, root.own.as_str(), &items)?;
     Ok(Some(tree))
 }

@@ -2,10 +2,10 @@
 ghost use Rattle.std.specs.Prelude.{◌≡◌, ◌≢◌, ℕ, ◌≤◌, ◌<◌, ◌+◌, ◌++◌, [], ◌∷◌, Bool, List, MatchOption, IfOk, string_bytes};
 ghost use Rattle.ptree.specs.Drawing.{continued_prefix};
 ghost use Rattle.ptree.specs.Looks.{look_meant, HasCodes};
-ghost use Rattle.ptree.specs.Meant.{own_meant, item_meant, items_meant};
+ghost use Rattle.ptree.specs.Meant.{own_meant, item_meant, items_meant, IsAhead};
 ghost use Rattle.ptree.specs.Pieces.{Pieces, pieces_of, turning_piece, passing_piece};
 ghost use Rattle.ptree.specs.Readable.{IsReadable, IsReadableWith};
-ghost use Rattle.ptree.specs.Spelled.{SpelledItem, ArePassing, Passed, HasPieces, IsNotContinued, HasOwn, HasText, HasItem, HasRoot, Spells};
+ghost use Rattle.ptree.specs.Spelled.{SpelledItem, ArePassing, Passed, HasItemPieces, IsNotContinued, HasOwn, HasText, HasItem, HasRoot, Spells};
 ghost use Rattle.ptree.specs.Style.{front_codes, back_codes};
 ghost use Rattle.ptree.specs.Text.{HasNoLineFeed};
 
@@ -150,22 +150,49 @@ impl<'a> OutlineLine for Item<'a> {
 
 /// The passing pieces at the front of a line, and how many they are.
 #[derive(Clone, Copy)]
-struct Passing<'a> {
+pub(crate) struct Passing<'a> {
     count: u32,
     pieces: &'a str,
 }
 
-/// What follows a front.
+/// What stands at the front of a line behind the codes: passing pieces, as many as the level of the item above at most, and what
+/// follows them.
+#[derive(Clone, Copy)]
+pub(crate) struct Ahead<'a> {
+    open: &'a str,
+    passing: Passing<'a>,
+    rest: &'a str,
+}
+
+/// A text that was read, the passing pieces before its further lines (none where it has none), what follows its last line feed, and
+/// the front of that.
+#[derive(Drop)]
+pub(crate) struct Text<'a> {
+    pub(crate) own: Own<'a>,
+    passing: &'a str,
+    pub(crate) rest: &'a str,
+    pub(crate) ahead: Option<Ahead<'a>>,
+}
+
+/// What follows a front. Most often there are no codes, so an empty one is tried first.
+#[inline(always)]
 pub(crate) fn skip<'a>(text: &'a str, front: &str) -> Option<&'a str>
     ensures { MatchOption result ((rest : List ℕ) → text.now ≢ front.now ++ rest) (λ r. text.now ≡ front.now ++ r.now) }
 {
+    if front.is_empty() {
+        return Some(text);
+    }
     text.strip_prefix(front)
 }
 
-// What precedes a back.
+// What precedes a back. Most often there are no codes, so an empty one is tried first.
+#[inline(always)]
 fn without_back<'a>(text: &'a str, back: &str) -> Option<&'a str>
     ensures { MatchOption result ((front : List ℕ) → text.now ≢ front ++ back.now) (λ r. text.now ≡ r.now ++ back.now) }
 {
+    if back.is_empty() {
+        return Some(text);
+    }
     text.strip_suffix(back)
 }
 
@@ -233,95 +260,97 @@ fn read_line(text: &str) -> Option<(&str, &str)>
     text.split_once('\n')
 }
 
-// The passing pieces at the front, and what follows them and the turning piece behind them.
-fn read_pieces<'a>(
+// How many passing pieces are at the front, the level at most, and what follows them. Those of the line above are looked for first.
+#[inline(always)]
+fn skip_all_passing<'a>(
     text: &'a str,
     indent: &Indent,
     above: Passing<'_>,
-    highest: u32,
-) -> Option<(Passing<'a>, &'a str)>
-    requires readable { IsReadable (pieces_of indent.now) }
-    requires above { ArePassing (pieces_of indent.now) above.count above.pieces.now }
-    ensures { MatchOption result
-        ((level : ℕ) (rest : List ℕ) → level ≤ highest → HasPieces (pieces_of indent.now) level rest text.now → ⊥)
-        (λ r. (r.0.count < highest) × ArePassing (pieces_of indent.now) r.0.count r.0.pieces.now
-        × HasPieces (pieces_of indent.now) (r.0.count + 1) r.1.now text.now) }
-{
-    let (mut count, mut rest) = skip_same(text, above);
-    while count < highest {
-        let Some(behind) = skip_passing(rest, indent) else {
-            let Some(end) = skip_turning(rest, indent) else {
-                return None;
-            };
-            let pieces = without_end(text, rest);
-            return Some((Passing { count, pieces }, end));
-        };
-        rest = behind;
-        count += 1;
-    }
-    None
-}
-
-// What follows passing pieces, as many as the level says.
-fn skip_level<'a>(text: &'a str, indent: &Indent, above: Passing<'_>, level: u32) -> Option<&'a str>
-    requires readable { IsReadable (pieces_of indent.now) }
+    level: u32,
+) -> (u32, &'a str)
     requires above { ArePassing (pieces_of indent.now) above.count above.pieces.now }
     requires few { above.count ≤ level }
-    ensures { MatchOption result
-        ((passing rest : List ℕ) → ArePassing (pieces_of indent.now) level passing → text.now ≢ passing ++ rest)
-        (λ r. Passed (pieces_of indent.now) text.now r.now level) }
+    ensures passed { Passed (pieces_of indent.now) text.now result.1.now result.0 }
+    ensures few { result.0 ≤ level }
+    ensures no_more { result.0 < level → (last : Bool) (z : List ℕ) → result.1.now ≢ passing_piece (pieces_of indent.now) last ++ z }
 {
     let (mut count, mut rest) = skip_same(text, above);
     while count < level {
         let Some(behind) = skip_passing(rest, indent) else {
-            return None;
+            return (count, rest);
         };
         rest = behind;
         count += 1;
     }
-    Some(rest)
+    (count, rest)
 }
 
-// The passing pieces before a further line of an item at this level, and what follows the mark behind them.
-fn read_mark<'a>(
+// The front of a line that follows one of an item at a level, where codes stand there. The passing pieces of the line above are
+// looked for first.
+#[inline(always)]
+fn look_ahead<'a>(
     input: &'a str,
     frame: &Frame<'_>,
     above: Passing<'_>,
     level: u32,
-) -> Option<(&'a str, &'a str)>
-    requires readable { IsReadable (pieces_of frame.now.look.now.pieces) }
+) -> Option<Ahead<'a>>
     requires above { ArePassing (pieces_of frame.now.look.now.pieces) above.count above.pieces.now }
     requires few { above.count ≤ level }
-    ensures { let look = look_meant frame.now.look.now in MatchOption result
-        (IsNotContinued look level input.now)
-        (λ r. ArePassing look.pieces level r.0.now × (input.now ≡ continued_prefix look r.0.now ++ r.1.now)) }
+    ensures { IsAhead (look_meant frame.now.look.now) level input.now result }
 {
     let Some(open) = frame.skip_branch_front(input) else {
         return None;
     };
-    let Some(marked) = skip_level(open, &frame.look.pieces, above, level) else {
+    let (count, rest) = skip_all_passing(open, &frame.look.pieces, above, level);
+    let pieces = without_end(open, rest);
+    let passing = Passing { count, pieces };
+    Some(Ahead {
+        open,
+        passing,
+        rest,
+    })
+}
+
+// The passing pieces before a further line of an item at this level, and what follows the mark behind them.
+#[inline(always)]
+fn read_mark<'a>(
+    input: &'a str,
+    ahead: Option<Ahead<'a>>,
+    frame: &Frame<'_>,
+    level: u32,
+) -> Option<(&'a str, &'a str)>
+    requires readable { IsReadable (pieces_of frame.now.look.now.pieces) }
+    requires ahead { IsAhead (look_meant frame.now.look.now) level input.now ahead }
+    ensures { let look = look_meant frame.now.look.now in MatchOption result
+        (IsNotContinued look level input.now)
+        (λ r. ArePassing look.pieces level r.0.now × (input.now ≡ continued_prefix look r.0.now ++ r.1.now)) }
+{
+    let Some(front) = ahead else {
         return None;
     };
-    let pieces = without_end(open, marked);
-    let Some(closed) = skip(marked, frame.look.mark) else {
+    if front.passing.count < level {
+        return None;
+    }
+    let Some(closed) = skip(front.rest, frame.look.mark) else {
         return None;
     };
     let Some(rest) = frame.skip_branch_back(closed) else {
         return None;
     };
-    Some((pieces, rest))
+    Some((front.passing.pieces, rest))
 }
 
-// The own bytes that begin with this line and go on with further lines behind these passing pieces, and what follows them.
+// The own bytes that begin with this line and go on with further lines behind these passing pieces.
+#[inline(never)]
 fn read_further_lines<'a>(
     alloc: Global,
     first: &str,
     input: &'a str,
-    pieces: &str,
+    pieces: &'a str,
     frame: &Frame<'_>,
     above: Passing<'_>,
     level: u32,
-) -> Result<Option<(String, &'a str)>, AllocError>
+) -> Result<Option<Text<'a>>, AllocError>
     requires readable { let look = look_meant frame.now.look.now in IsReadableWith look.pieces look.mark }
     requires above { ArePassing (pieces_of frame.now.look.now.pieces) above.count above.pieces.now }
     requires few { above.count ≤ level }
@@ -330,15 +359,21 @@ fn read_further_lines<'a>(
     ensures { IfOk result (λ o. let look = look_meant frame.now.look.now in
         let x = first.now ++ 10 ∷ (continued_prefix look pieces.now ++ input.now) in MatchOption o
         ((own passing rest : List ℕ) → HasOwn look level own passing rest x → ⊥)
-        (λ r. HasOwn look level (string_bytes r.0) pieces.now r.1.now x)) }
+        (λ t. HasOwn look level (own_meant t.own) t.passing.now t.rest.now x × IsAhead look level t.rest.now t.ahead)) }
 {
     let mut text = String::from_str(alloc, first)?;
     let mut rest = input;
     while let Some((line, behind)) = read_line(rest) {
         text.push_str("\n")?;
         text.push_str(line)?;
-        let Some((other, more)) = read_mark(behind, frame, above, level) else {
-            return Ok(Some((text, behind)));
+        let ahead = look_ahead(behind, frame, above, level);
+        let Some((other, more)) = read_mark(behind, ahead, frame, level) else {
+            return Ok(Some(Text {
+                own: Own::Lines(text),
+                passing: pieces,
+                rest: behind,
+                ahead,
+            }));
         };
         if other != pieces {
             return Ok(None);
@@ -348,71 +383,86 @@ fn read_further_lines<'a>(
     Ok(None)
 }
 
-// The own bytes at the front, the passing pieces before their further lines, and what follows their last line feed.
+// The own bytes at the front.
+#[inline(always)]
 fn read_own<'a>(
     alloc: Global,
     input: &'a str,
     frame: &Frame<'_>,
     above: Passing<'_>,
     level: u32,
-) -> Result<Option<(Own<'a>, &'a str, &'a str)>, AllocError>
+) -> Result<Option<Text<'a>>, AllocError>
     requires readable { let look = look_meant frame.now.look.now in IsReadableWith look.pieces look.mark }
     requires above { ArePassing (pieces_of frame.now.look.now.pieces) above.count above.pieces.now }
     requires few { above.count ≤ level }
     ensures { IfOk result (λ o. let look = look_meant frame.now.look.now in MatchOption o
         ((own passing rest : List ℕ) → HasOwn look level own passing rest input.now → ⊥)
-        (λ r. HasOwn look level (own_meant r.0) r.1.now r.2.now input.now)) }
+        (λ t. HasOwn look level (own_meant t.own) t.passing.now t.rest.now input.now × IsAhead look level t.rest.now t.ahead)) }
 {
     let Some((line, rest)) = read_line(input) else {
         return Ok(None);
     };
-    let Some((pieces, behind)) = read_mark(rest, frame, above, level) else {
-        return Ok(Some((Own::Line(line), "", rest)));
+    let ahead = look_ahead(rest, frame, above, level);
+    let Some((pieces, behind)) = read_mark(rest, ahead, frame, level) else {
+        return Ok(Some(Text {
+            own: Own::Line(line),
+            passing: "",
+            rest,
+            ahead,
+        }));
     };
-    let Some((text, end)) = read_further_lines(alloc, line, behind, pieces, frame, above, level)?
-    else {
-        return Ok(None);
-    };
-    Ok(Some((Own::Lines(text), pieces, end)))
+    read_further_lines(alloc, line, behind, pieces, frame, above, level)
 }
 
-// The text at the front, the passing pieces before its further lines, and what follows its last line feed.
+// The text at the front, without the codes around it.
+#[inline(always)]
 fn read_text<'a>(
     alloc: Global,
     input: &'a str,
     frame: &Frame<'_>,
     above: Passing<'_>,
     level: u32,
-) -> Result<Option<(Own<'a>, &'a str, &'a str)>, AllocError>
+) -> Result<Option<Text<'a>>, AllocError>
     requires readable { let look = look_meant frame.now.look.now in IsReadableWith look.pieces look.mark }
     requires above { ArePassing (pieces_of frame.now.look.now.pieces) above.count above.pieces.now }
     requires few { above.count ≤ level }
     ensures { IfOk result (λ o. let look = look_meant frame.now.look.now in MatchOption o
         ((text passing rest : List ℕ) → HasText look level text passing rest input.now → ⊥)
-        (λ r. HasText look level (own_meant r.0) r.1.now r.2.now input.now)) }
+        (λ t. HasText look level (own_meant t.own) t.passing.now t.rest.now input.now × IsAhead look level t.rest.now t.ahead)) }
 {
     let Some(body) = frame.skip_leaf_front(input) else {
         return Ok(None);
     };
-    let Some((own, pieces, rest)) = read_own(alloc, body, frame, above, level)? else {
+    let Some(text) = read_own(alloc, body, frame, above, level)? else {
         return Ok(None);
     };
-    let Some(text) = frame.drop_leaf_back(own) else {
+    let Text {
+        own,
+        passing,
+        rest,
+        ahead,
+    } = text;
+    let Some(own) = frame.drop_leaf_back(own) else {
         return Ok(None);
     };
-    Ok(Some((text, pieces, rest)))
+    Ok(Some(Text {
+        own,
+        passing,
+        rest,
+        ahead,
+    }))
 }
 
-/// The root's text, and what follows its lines.
+/// The root's text.
 pub(crate) fn read_root<'a>(
     alloc: Global,
     input: &'a str,
     frame: &Frame<'_>,
-) -> Result<Option<(Own<'a>, &'a str)>, AllocError>
+) -> Result<Option<Text<'a>>, AllocError>
     requires { let look = look_meant frame.now.look.now in IsReadableWith look.pieces look.mark }
     ensures { IfOk result (λ o. let look = look_meant frame.now.look.now in MatchOption o
         ((root rest : List ℕ) → HasRoot look root rest input.now → ⊥)
-        (λ r. HasRoot look (own_meant r.0) r.1.now input.now)) }
+        (λ t. HasRoot look (own_meant t.own) t.rest.now input.now × IsAhead look 0 t.rest.now t.ahead)) }
 {
     let Some(open) = frame.skip_branch_front(input) else {
         return Ok(None);
@@ -424,78 +474,111 @@ pub(crate) fn read_root<'a>(
         count: 0,
         pieces: "",
     };
-    let Some((text, _, rest)) = read_text(alloc, own, frame, above, 0)? else {
+    let Some(text) = read_text(alloc, own, frame, above, 0)? else {
         return Ok(None);
     };
-    Ok(Some((text, rest)))
+    Ok(Some(text))
 }
 
-// The item at the front, its level being at most the highest, the passing pieces of its first line, and what follows it.
+// The pieces of an item's own line, its level being at most the highest, and what follows the codes behind them.
+#[inline(always)]
+fn read_pieces<'a>(
+    input: &'a str,
+    ahead: Option<Ahead<'a>>,
+    frame: &Frame<'_>,
+    level: u32,
+    highest: u32,
+) -> Option<(Passing<'a>, &'a str, &'a str)>
+    requires readable { IsReadable (pieces_of frame.now.look.now.pieces) }
+    requires ahead { IsAhead (look_meant frame.now.look.now) level input.now ahead }
+    requires highest { highest ≤ level + 1 }
+    ensures { let look = look_meant frame.now.look.now in MatchOption result
+        ((r : SpelledItem) (rest : List ℕ) → r.level ≤ highest → HasItem look r rest input.now → ⊥)
+        (λ r. (r.0.count < highest) × ArePassing look.pieces r.0.count r.0.pieces.now
+        × HasItemPieces look (r.0.count + 1) r.1.now r.2.now input.now) }
+{
+    let Some(front) = ahead else {
+        return None;
+    };
+    if front.passing.count >= highest {
+        return None;
+    }
+    let Some(closed) = skip_turning(front.rest, &frame.look.pieces) else {
+        return None;
+    };
+    let Some(text) = frame.skip_branch_back(closed) else {
+        return None;
+    };
+    Some((front.passing, without_end(front.open, closed), text))
+}
+
+// The item at the front, behind one at a level. Its own level is at most the highest.
+#[inline(always)]
 fn read_item<'a>(
     alloc: Global,
     input: &'a str,
+    ahead: Option<Ahead<'a>>,
     frame: &Frame<'_>,
-    above: Passing<'_>,
+    level: u32,
     highest: u32,
-) -> Result<Option<(Item<'a>, Passing<'a>, &'a str)>, AllocError>
+) -> Result<Option<(Item<'a>, &'a str, Option<Ahead<'a>>)>, AllocError>
     requires readable { let look = look_meant frame.now.look.now in IsReadableWith look.pieces look.mark }
-    requires above { ArePassing (pieces_of frame.now.look.now.pieces) above.count above.pieces.now }
+    requires ahead { IsAhead (look_meant frame.now.look.now) level input.now ahead }
+    requires highest { highest ≤ level + 1 }
     ensures { IfOk result (λ o. let look = look_meant frame.now.look.now in MatchOption o
         ((r : SpelledItem) (rest : List ℕ) → r.level ≤ highest → HasItem look r rest input.now → ⊥)
-        (λ r. (r.0.level ≤ highest) × ArePassing look.pieces r.1.count r.1.pieces.now
-        × HasItem look (item_meant r.0) r.2.now input.now)) }
+        (λ r. (r.0.level ≤ highest) × HasItem look (item_meant r.0) r.1.now input.now × IsAhead look r.0.level r.1.now r.2)) }
 {
-    let Some(open) = frame.skip_branch_front(input) else {
+    let Some((above, pieces, start)) = read_pieces(input, ahead, frame, level, highest) else {
         return Ok(None);
     };
-    let Some((first, closed)) = read_pieces(open, &frame.look.pieces, above, highest) else {
+    let level = above.count + 1;
+    let Some(text) = read_text(alloc, start, frame, above, level)? else {
         return Ok(None);
     };
-    let pieces = without_end(open, closed);
-    let Some(own) = frame.skip_branch_back(closed) else {
-        return Ok(None);
-    };
-    let level = first.count + 1;
-    let Some((text, passing, rest)) = read_text(alloc, own, frame, first, level)? else {
-        return Ok(None);
-    };
+    let Text {
+        own,
+        passing,
+        rest,
+        ahead,
+    } = text;
     let item = Item {
         level,
         pieces,
         passing,
-        text,
+        text: own,
     };
-    Ok(Some((item, first, rest)))
+    Ok(Some((item, rest, ahead)))
 }
 
 /// The items below the root.
 pub(crate) fn read_items<'a>(
     alloc: Global,
     body: &'a str,
+    ahead: Option<Ahead<'a>>,
     frame: &Frame<'_>,
     depth: u32,
 ) -> Result<Option<Vec<Item<'a>>>, AllocError>
-    requires { let look = look_meant frame.now.look.now in IsReadableWith look.pieces look.mark }
+    requires readable { let look = look_meant frame.now.look.now in IsReadableWith look.pieces look.mark }
+    requires ahead { IsAhead (look_meant frame.now.look.now) 0 body.now ahead }
     ensures { IfOk result (λ o. let look = look_meant frame.now.look.now in MatchOption o
         ((items : List SpelledItem) → Spells look depth items body.now → ⊥)
         (λ v. Spells look depth (items_meant v.items) body.now)) }
 {
     let mut items = Vec::new(alloc);
     let mut rest = body;
+    let mut front = ahead;
     let mut level: u32 = 0;
-    let mut above = Passing {
-        count: 0,
-        pieces: "",
-    };
     while !rest.is_empty() {
         let highest = depth.min(level.saturating_add(1));
-        let Some((item, first, behind)) = read_item(alloc, rest, frame, above, highest)? else {
+        let Some((item, behind, next)) = read_item(alloc, rest, front, frame, level, highest)?
+        else {
             return Ok(None);
         };
         level = item.level;
-        above = first;
         items.push(item)?;
         rest = behind;
+        front = next;
     }
     Ok(Some(items))
 }

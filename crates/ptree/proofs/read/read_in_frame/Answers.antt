@@ -12,8 +12,8 @@ returns-in_default c =
 
 pub returns-in_default-2 : goal.returns-in_default-2
 returns-in_default-2 c =
-    no_form_items (look_meant c.args.frame.now.look.now) c.args.depth c.args.text.now (own_meant c.in-Some.root) c.in-Some.body.now c.requires
-    (rw c.in-Some.is at c.in_ok-root.ensures) (rw c.in_default-2.is at c.in_ok-items.ensures)
+    no_form_items (look_meant c.args.frame.now.look.now) c.args.depth c.args.text.now (own_meant c.in-Some.root.own) c.in-Some.root.rest.now c.requires
+    (let root = rw c.in-Some.is at c.in_ok-root.ensures in root.0) (rw c.in_default-2.is at c.in_ok-items.ensures)
 
 pub have_last_flags-requires : goal.have_last_flags-requires
 have_last_flags-requires c =
@@ -23,8 +23,8 @@ have_last_flags-requires c =
 pub returns-then-not-branch : goal.returns-then-not-branch
 returns-then-not-branch c =
     let flags = rw c.deref.ensures.value at c.in_ok-have_last_flags.ensures in
-    no_form_flags (look_meant c.args.frame.now.look.now) c.args.depth c.args.text.now (own_meant c.in-Some.root) c.in-Some.body.now (items_meant c.in-Some-2.items.items) c.requires
-    (rw c.in-Some.is at c.in_ok-root.ensures) (rw c.in-Some-2.is at c.in_ok-items.ensures) (λ right. let yes = flags.1 right in let no = c.if-not-branch.true in cc)
+    no_form_flags (look_meant c.args.frame.now.look.now) c.args.depth c.args.text.now (own_meant c.in-Some.root.own) c.in-Some.root.rest.now (items_meant c.in-Some-2.items.items) c.requires
+    (let root = rw c.in-Some.is at c.in_ok-root.ensures in root.0) (rw c.in-Some-2.is at c.in_ok-items.ensures) (λ right. let yes = flags.1 right in let no = c.if-not-branch.true in cc)
 
 pub tree_from_outline-requires : goal.tree_from_outline-requires
 tree_from_outline-requires c =
@@ -34,6 +34,6 @@ tree_from_outline-requires c =
 pub returns : goal.returns
 returns c =
     let flags = rw c.deref.ensures.value at c.in_ok-have_last_flags.ensures in
-    form_there (look_meant c.args.frame.now.look.now) c.args.depth c.args.text.now (own_meant c.in-Some.root) c.in-Some.body.now (items_meant c.in-Some-2.items.items) (tree_of c.in_ok-tree.tree)
-    (rw c.in-Some.is at c.in_ok-root.ensures) (rw c.in-Some-2.is at c.in_ok-items.ensures) (flags.0 c.if-not-branch.false)
+    form_there (look_meant c.args.frame.now.look.now) c.args.depth c.args.text.now (own_meant c.in-Some.root.own) c.in-Some.root.rest.now (items_meant c.in-Some-2.items.items) (tree_of c.in_ok-tree.tree)
+    (let root = rw c.in-Some.is at c.in_ok-root.ensures in root.0) (rw c.in-Some-2.is at c.in_ok-items.ensures) (flags.0 c.if-not-branch.false)
     (rw (c.deref-2.ensures.value, c.as_str.ensures, map_twice item_meant line_in c.in-Some-2.items.items) at c.in_ok-tree.ensures)

@@ -27,7 +27,7 @@ returns-in_default-read_mark c =
     let text' = string_bytes c.push_str-in-Some.new.self in
     let t = c.in_ok-push_str-2.ensures.bytes ∙ ap (λ z. z ++ c.in-Some.line.now) c.in_ok-push_str.ensures.bytes in
     let here = begun_line k q text c.loop-line.rest.now c.in-Some.line.now c.in-Some.behind.now text' _ c.loop-line.invariant.1 c.in-Some.ensures t in
-    own_several k c.args.level q text c.in-Some.line.now text' c.in-Some.behind.now _ c.requires.pieces t here c.in_default-read_mark.ensures
+    (own_several k c.args.level q text c.in-Some.line.now text' c.in-Some.behind.now _ c.requires.pieces t here c.in_default-read_mark.ensures, c.look_ahead-ahead.ensures)
 
 pub returns-then-ne : goal.returns-then-ne
 returns-then-ne c =

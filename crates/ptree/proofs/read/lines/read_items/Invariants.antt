@@ -1,9 +1,8 @@
 use Rattle.std.proofs.Common.{length}
 use denote.Text.{Utf8}
 use denote.Shadow.{shadow}
-use Rattle.ptree.specs.Spelled.{ArePassing}
 use Rattle.ptree.specs.Looks.{look_meant}
-use Rattle.ptree.specs.Meant.{items_meant}
+use Rattle.ptree.specs.Meant.{items_meant, IsAhead}
 use Rattle.ptree.proofs.LineScans.{Scanned}
 use Rattle.ptree.proofs.read.lines.read_items.Given as goal
 
@@ -11,7 +10,7 @@ use Rattle.ptree.proofs.read.lines.read_items.Given as goal
 abbrev pub invariant-loop-rest : goal.invariant-loop-rest
 invariant-loop-rest l =
     shadow (Utf8 l.rest) × Scanned (look_meant l.frame.look.now) l.depth l.body l.rest (items_meant l.items.items) l.level
-    × ArePassing (look_meant l.frame.look.now).pieces l.above.count l.above.pieces.now
+    × IsAhead (look_meant l.frame.look.now) l.level l.rest l.front
 
 abbrev pub decreases-loop-rest : goal.decreases-loop-rest
 decreases-loop-rest l = length l.rest

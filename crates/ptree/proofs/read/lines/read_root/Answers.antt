@@ -14,5 +14,8 @@ returns-in_default-2 c =
 
 pub returns : goal.returns
 returns c =
-    root_there (look_meant c.args.frame.now.look.now) c.args.input.now c.in-Some.open.now c.in-Some-skip_branch_back.own.now (own_meant c.in-Some-2.text) c.in-Some-2.field-0-1.now c.in-Some-2.rest.now
-    c.in-Some.ensures c.in-Some-skip_branch_back.ensures (rw c.in-Some-2.is at c.in_ok-text.ensures)
+    let text = rw c.in-Some-2.is at c.in_ok-text.ensures in (
+      root_there (look_meant c.args.frame.now.look.now) c.args.input.now c.in-Some.open.now c.in-Some-skip_branch_back.own.now (own_meant c.in-Some-2.text.own) c.in-Some-2.text.passing.now c.in-Some-2.text.rest.now
+          c.in-Some.ensures c.in-Some-skip_branch_back.ensures text.0,
+      text.1,
+    )

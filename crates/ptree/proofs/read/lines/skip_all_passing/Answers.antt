@@ -1,8 +1,7 @@
 use Rattle.std.proofs.Common.{rules, arith}
 use Rattle.ptree.specs.Pieces.{pieces_of}
 use Rattle.ptree.proofs.PieceScans.{passed_more}
-use Rattle.ptree.proofs.Texts.{no_level}
-use Rattle.ptree.proofs.read.lines.skip_level.Goals as goal
+use Rattle.ptree.proofs.read.lines.skip_all_passing.Goals as goal
 
 pub loop-count-init : goal.loop-count-init
 loop-count-init c = (
@@ -10,10 +9,6 @@ loop-count-init c = (
   c.skip_same-count.ensures.passed (pieces_of c.args.indent.now) c.requires.above,
   omega (arith, c.skip_same-count.ensures.few, c.requires.few),
 )
-
-pub returns-in_default : goal.returns-in_default
-returns-in_default c =
-    no_level (pieces_of c.args.indent.now) c.requires.readable c.args.text.now c.loop-count.rest.now c.loop-count.count c.args.level c.loop-count.invariant.1 c.loop-count-test.true c.in_default.ensures
 
 pub loop-count-preserved : goal.loop-count-preserved
 loop-count-preserved c = (
