@@ -1,9 +1,9 @@
 -- What the reader's values mean.
-use Rattle.std.specs.Prelude.{◌≡◌, ◌≢◌, ℕ, ◌<◌, ◌≤◌, Bool, Option, Some, None, List, ◌++◌, map, string_bytes}
+use Rattle.std.specs.Prelude.{◌≡◌, ◌≢◌, ℕ, ◌<◌, ◌≤◌, Bool, Option, Some, None, List, [], ◌++◌, map, string_bytes}
 use Rattle.ptree.specs.declared.read.lines.Ahead.{Ahead}
 use Rattle.ptree.specs.declared.read.lines.Item.{Item}
-use Rattle.ptree.specs.declared.read.lines.Own.{Own}
-use Rattle.ptree.specs.declared.read.lines.Own.TheVariants.{Line, Lines}
+use Rattle.ptree.specs.declared.read.lines.Text.{Text}
+use Rattle.ptree.specs.declared.read.lines.Text.TheVariants.{Line, Lines}
 use Rattle.ptree.specs.declared.read.path.Path.{Path}
 use Rattle.ptree.specs.Drawing.{Look}
 use Rattle.ptree.specs.Pieces.{Pieces, passing_piece, passing_all}
@@ -11,13 +11,18 @@ use Rattle.ptree.specs.Spelled.{SpelledItem, spelled_item, ArePassing}
 use Rattle.ptree.specs.Style.{front_codes}
 
 -- the bytes of a text that was read
-abbrev pub own_meant : Own → List ℕ
-own_meant (Line line) = line.now
-own_meant (Lines lines) = string_bytes lines
+abbrev pub text_meant : Text → List ℕ
+text_meant (Line line) = line.now
+text_meant (Lines lines) = string_bytes lines.value.text
+
+-- the passing pieces before its further lines
+abbrev pub passing_meant : Text → List ℕ
+passing_meant (Line line) = []
+passing_meant (Lines lines) = lines.value.passing.now
 
 -- an item that was read
 abbrev pub item_meant : Item → SpelledItem
-item_meant i = spelled_item i.level i.pieces.now i.passing.now (own_meant i.text)
+item_meant i = spelled_item i.level i.pieces.now (passing_meant i.text) (text_meant i.text)
 
 -- items that were read
 abbrev pub items_meant : List Item → List SpelledItem

@@ -107,6 +107,6 @@ fn read_in_frame(
     if !have_last_flags(alloc, &items, &frame.look.pieces)? {
         return Ok(None);
     }
-    let tree = tree_from_outline(alloc, root.own.as_str(), &items)?;
+    let tree = tree_from_outline(alloc, root.text.as_str(), &items)?;
     Ok(Some(tree))
 }

@@ -2,7 +2,7 @@
 ghost use Rattle.std.specs.Prelude.{◌≡◌, ◌≢◌, ℕ, ◌≤◌, ◌<◌, ◌+◌, ◌++◌, [], ◌∷◌, Bool, List, MatchOption, IfOk, string_bytes};
 ghost use Rattle.ptree.specs.Drawing.{continued_prefix};
 ghost use Rattle.ptree.specs.Looks.{look_meant, HasCodes};
-ghost use Rattle.ptree.specs.Meant.{own_meant, item_meant, items_meant, IsAhead};
+ghost use Rattle.ptree.specs.Meant.{text_meant, passing_meant, item_meant, items_meant, IsAhead};
 ghost use Rattle.ptree.specs.Pieces.{Pieces, pieces_of, turning_piece, passing_piece};
 ghost use Rattle.ptree.specs.Readable.{IsReadable, IsReadableWith};
 ghost use Rattle.ptree.specs.Spelled.{SpelledItem, ArePassing, Passed, HasItemPieces, IsNotContinued, HasOwn, HasText, HasItem, HasRoot, Spells};
@@ -79,58 +79,65 @@ impl<'a> Frame<'a> {
         skip(text, self.leaf.front.as_str())
     }
 
-    // What precedes the codes behind a text.
-    fn drop_leaf_back<'b>(&self, own: Own<'b>) -> Option<Own<'b>>
+    // What precedes the codes behind a text of one line.
+    fn drop_leaf_back<'b>(&self, line: &'b str) -> Option<&'b str>
         ensures { let codes = back_codes self.now.look.now.leaf.now in
-            MatchOption result ((text : List ℕ) → own_meant own.entry ≢ text ++ codes) (λ r. own_meant own.entry ≡ own_meant r ++ codes) }
+            MatchOption result ((text : List ℕ) → line.now ≢ text ++ codes) (λ r. line.now ≡ r.now ++ codes) }
     {
-        own.without_back(self.leaf.back.as_str())
+        without_back(line, self.leaf.back.as_str())
+    }
+
+    // What precedes the codes behind a text of several lines, in the same memory.
+    fn drop_leaf_back_of(&self, lines: String) -> Option<String>
+        ensures { let codes = back_codes self.now.look.now.leaf.now in
+            MatchOption result ((text : List ℕ) → string_bytes lines ≢ text ++ codes) (λ r. string_bytes lines ≡ string_bytes r ++ codes) }
+    {
+        string_without_back(lines, self.leaf.back.as_str())
     }
 }
 
-/// An item's text: a part of the input, or the parts of several lines, joined.
+/// A text of several lines, and the passing pieces before the further ones.
 #[derive(Drop)]
-pub(crate) enum Own<'a> {
-    Line(&'a str),
-    Lines(String),
+pub(crate) struct Lines<'a> {
+    passing: &'a str,
+    text: String,
 }
 
-impl<'a> Own<'a> {
+/// The text of an item: a part of the input, or several lines, joined. These stand elsewhere, so that an item is small.
+#[derive(Drop)]
+pub(crate) enum Text<'a> {
+    Line(&'a str),
+    Lines(Box<Lines<'a>>),
+}
+
+impl<'a> Text<'a> {
     /// The text.
     pub(crate) fn as_str(&self) -> &str
-        ensures { result.now ≡ own_meant self.now }
+        ensures { result.now ≡ text_meant self.now }
     {
         match self {
-            Own::Line(line) => line,
-            Own::Lines(lines) => lines.as_str(),
+            Text::Line(line) => line,
+            Text::Lines(lines) => lines.text.as_str(),
         }
     }
 
-    // What precedes a back.
-    fn without_back(self, back: &str) -> Option<Own<'a>>
-        ensures { MatchOption result ((front : List ℕ) → own_meant self.entry ≢ front ++ back.now) (λ r. own_meant self.entry ≡ own_meant r ++ back.now) }
+    /// The passing pieces before its further lines; none where it has no such line.
+    pub(crate) fn passing(&self) -> &str
+        ensures { result.now ≡ passing_meant self.now }
     {
         match self {
-            Own::Line(line) => match without_back(line, back) {
-                Some(text) => Some(Own::Line(text)),
-                None => None,
-            },
-            Own::Lines(lines) => match string_without_back(lines, back) {
-                Some(text) => Some(Own::Lines(text)),
-                None => None,
-            },
+            Text::Line(_) => "",
+            Text::Lines(lines) => lines.passing,
         }
     }
 }
 
-/// An item below the root: its level, the pieces at its front, the passing pieces before its further lines (none where it has no
-/// such line), and its text.
+/// An item below the root: its level, the pieces at its front, and its text.
 #[derive(Drop)]
 pub(crate) struct Item<'a> {
     pub(crate) level: u32,
     pub(crate) pieces: &'a str,
-    pub(crate) passing: &'a str,
-    text: Own<'a>,
+    pub(crate) text: Text<'a>,
 }
 
 impl<'a> OutlineLine for Item<'a> {
@@ -164,12 +171,10 @@ pub(crate) struct Ahead<'a> {
     rest: &'a str,
 }
 
-/// A text that was read, the passing pieces before its further lines (none where it has none), what follows its last line feed, and
-/// the front of that.
+/// A text that was read, what follows its last line feed, and the front of that.
 #[derive(Drop)]
-pub(crate) struct Text<'a> {
-    pub(crate) own: Own<'a>,
-    passing: &'a str,
+pub(crate) struct Read<'a> {
+    pub(crate) text: Text<'a>,
     pub(crate) rest: &'a str,
     pub(crate) ahead: Option<Ahead<'a>>,
 }
@@ -340,17 +345,18 @@ fn read_mark<'a>(
     Some((front.passing.pieces, rest))
 }
 
-// The own bytes that begin with this line and go on with further lines behind these passing pieces.
+// The own bytes that begin with this line and go on with further lines behind these passing pieces, what follows them, and the
+// front of that.
 #[inline(never)]
 fn read_further_lines<'a>(
     alloc: Global,
     first: &str,
     input: &'a str,
-    pieces: &'a str,
+    pieces: &str,
     frame: &Frame<'_>,
     above: Passing<'_>,
     level: u32,
-) -> Result<Option<Text<'a>>, AllocError>
+) -> Result<Option<(String, &'a str, Option<Ahead<'a>>)>, AllocError>
     requires readable { let look = look_meant frame.now.look.now in IsReadableWith look.pieces look.mark }
     requires above { ArePassing (pieces_of frame.now.look.now.pieces) above.count above.pieces.now }
     requires few { above.count ≤ level }
@@ -359,7 +365,7 @@ fn read_further_lines<'a>(
     ensures { IfOk result (λ o. let look = look_meant frame.now.look.now in
         let x = first.now ++ 10 ∷ (continued_prefix look pieces.now ++ input.now) in MatchOption o
         ((own passing rest : List ℕ) → HasOwn look level own passing rest x → ⊥)
-        (λ t. HasOwn look level (own_meant t.own) t.passing.now t.rest.now x × IsAhead look level t.rest.now t.ahead)) }
+        (λ r. HasOwn look level (string_bytes r.0) pieces.now r.1.now x × IsAhead look level r.1.now r.2)) }
 {
     let mut text = String::from_str(alloc, first)?;
     let mut rest = input;
@@ -368,12 +374,7 @@ fn read_further_lines<'a>(
         text.push_str(line)?;
         let ahead = look_ahead(behind, frame, above, level);
         let Some((other, more)) = read_mark(behind, ahead, frame, level) else {
-            return Ok(Some(Text {
-                own: Own::Lines(text),
-                passing: pieces,
-                rest: behind,
-                ahead,
-            }));
+            return Ok(Some((text, behind, ahead)));
         };
         if other != pieces {
             return Ok(None);
@@ -381,37 +382,6 @@ fn read_further_lines<'a>(
         rest = more;
     }
     Ok(None)
-}
-
-// The own bytes at the front.
-#[inline(always)]
-fn read_own<'a>(
-    alloc: Global,
-    input: &'a str,
-    frame: &Frame<'_>,
-    above: Passing<'_>,
-    level: u32,
-) -> Result<Option<Text<'a>>, AllocError>
-    requires readable { let look = look_meant frame.now.look.now in IsReadableWith look.pieces look.mark }
-    requires above { ArePassing (pieces_of frame.now.look.now.pieces) above.count above.pieces.now }
-    requires few { above.count ≤ level }
-    ensures { IfOk result (λ o. let look = look_meant frame.now.look.now in MatchOption o
-        ((own passing rest : List ℕ) → HasOwn look level own passing rest input.now → ⊥)
-        (λ t. HasOwn look level (own_meant t.own) t.passing.now t.rest.now input.now × IsAhead look level t.rest.now t.ahead)) }
-{
-    let Some((line, rest)) = read_line(input) else {
-        return Ok(None);
-    };
-    let ahead = look_ahead(rest, frame, above, level);
-    let Some((pieces, behind)) = read_mark(rest, ahead, frame, level) else {
-        return Ok(Some(Text {
-            own: Own::Line(line),
-            passing: "",
-            rest,
-            ahead,
-        }));
-    };
-    read_further_lines(alloc, line, behind, pieces, frame, above, level)
 }
 
 // The text at the front, without the codes around it.
@@ -422,35 +392,39 @@ fn read_text<'a>(
     frame: &Frame<'_>,
     above: Passing<'_>,
     level: u32,
-) -> Result<Option<Text<'a>>, AllocError>
+) -> Result<Option<Read<'a>>, AllocError>
     requires readable { let look = look_meant frame.now.look.now in IsReadableWith look.pieces look.mark }
     requires above { ArePassing (pieces_of frame.now.look.now.pieces) above.count above.pieces.now }
     requires few { above.count ≤ level }
     ensures { IfOk result (λ o. let look = look_meant frame.now.look.now in MatchOption o
         ((text passing rest : List ℕ) → HasText look level text passing rest input.now → ⊥)
-        (λ t. HasText look level (own_meant t.own) t.passing.now t.rest.now input.now × IsAhead look level t.rest.now t.ahead)) }
+        (λ r. HasText look level (text_meant r.text) (passing_meant r.text) r.rest.now input.now × IsAhead look level r.rest.now r.ahead)) }
 {
-    let Some(body) = frame.skip_leaf_front(input) else {
+    let Some(own) = frame.skip_leaf_front(input) else {
         return Ok(None);
     };
-    let Some(text) = read_own(alloc, body, frame, above, level)? else {
+    let Some((line, rest)) = read_line(own) else {
         return Ok(None);
     };
-    let Text {
-        own,
-        passing,
-        rest,
-        ahead,
-    } = text;
-    let Some(own) = frame.drop_leaf_back(own) else {
+    let ahead = look_ahead(rest, frame, above, level);
+    let Some((passing, behind)) = read_mark(rest, ahead, frame, level) else {
+        let Some(text) = frame.drop_leaf_back(line) else {
+            return Ok(None);
+        };
+        let text = Text::Line(text);
+        return Ok(Some(Read { text, rest, ahead }));
+    };
+    let Some((lines, rest, ahead)) = read_further_lines(
+        alloc, line, behind, passing, frame, above, level,
+    )?
+    else {
         return Ok(None);
     };
-    Ok(Some(Text {
-        own,
-        passing,
-        rest,
-        ahead,
-    }))
+    let Some(text) = frame.drop_leaf_back_of(lines) else {
+        return Ok(None);
+    };
+    let text = Text::Lines(Box::new(alloc, Lines { passing, text })?);
+    Ok(Some(Read { text, rest, ahead }))
 }
 
 /// The root's text.
@@ -458,11 +432,11 @@ pub(crate) fn read_root<'a>(
     alloc: Global,
     input: &'a str,
     frame: &Frame<'_>,
-) -> Result<Option<Text<'a>>, AllocError>
+) -> Result<Option<Read<'a>>, AllocError>
     requires { let look = look_meant frame.now.look.now in IsReadableWith look.pieces look.mark }
     ensures { IfOk result (λ o. let look = look_meant frame.now.look.now in MatchOption o
         ((root rest : List ℕ) → HasRoot look root rest input.now → ⊥)
-        (λ t. HasRoot look (own_meant t.own) t.rest.now input.now × IsAhead look 0 t.rest.now t.ahead)) }
+        (λ r. HasRoot look (text_meant r.text) r.rest.now input.now × IsAhead look 0 r.rest.now r.ahead)) }
 {
     let Some(open) = frame.skip_branch_front(input) else {
         return Ok(None);
@@ -474,10 +448,10 @@ pub(crate) fn read_root<'a>(
         count: 0,
         pieces: "",
     };
-    let Some(text) = read_text(alloc, own, frame, above, 0)? else {
+    let Some(root) = read_text(alloc, own, frame, above, 0)? else {
         return Ok(None);
     };
-    Ok(Some(text))
+    Ok(Some(root))
 }
 
 // The pieces of an item's own line, its level being at most the highest, and what follows the codes behind them.
@@ -533,20 +507,14 @@ fn read_item<'a>(
         return Ok(None);
     };
     let level = above.count + 1;
-    let Some(text) = read_text(alloc, start, frame, above, level)? else {
+    let Some(read) = read_text(alloc, start, frame, above, level)? else {
         return Ok(None);
     };
-    let Text {
-        own,
-        passing,
-        rest,
-        ahead,
-    } = text;
+    let Read { text, rest, ahead } = read;
     let item = Item {
         level,
         pieces,
-        passing,
-        text: own,
+        text,
     };
     Ok(Some((item, rest, ahead)))
 }

@@ -102,7 +102,7 @@ pub(crate) fn have_last_flags(
     };
     for item in items.iter().rev() {
         path.resize(indent, item.level as usize)?;
-        if !shows(item.passing, path.pieces.as_str()) {
+        if !shows(item.text.passing(), path.pieces.as_str()) {
             return Ok(false);
         }
         let Some(is_last) = path.pop(indent) else {

@@ -1,4 +1,3 @@
-use Rattle.std.proofs.Common.{sym, ◌∙◌}
 use Rattle.ptree.specs.Looks.{look_meant}
 use Rattle.ptree.proofs.PieceScans.{passed_pieces}
 use Rattle.ptree.proofs.read.lines.look_ahead.Goals as goal

@@ -1,4 +1,4 @@
-use Rattle.std.proofs.Common.{[], length, rules, refl, sym, ap, ◌∙◌, subst, arith}
+use Rattle.std.proofs.Common.{length, rules, sym, ap, ◌∙◌, subst, arith}
 use Rattle.std.proofs.lemmas.Bool.{eqb-true, eqb-false}
 use Rattle.std.proofs.lemmas.List.{map-append, nil_from_length}
 use Rattle.ptree.specs.Looks.{look_meant}

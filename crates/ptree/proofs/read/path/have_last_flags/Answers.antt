@@ -28,7 +28,7 @@ returns-then-not-shows c =
     let up = c.loop-item.invariant.2 in
     let step : items_meant (iter_rest (rev_source c.loop-item.item-iterator)) ≡ items_meant left ++ l ∷ [] =
     ap items_meant c.in-Some.ensures.steps ∙ map-append item_meant left (c.in-Some.item.now ∷ []) in
-    let shown = rw (c.as_str.ensures.value, c.in_ok-resize.ensures.path) at c.shows.ensures in (
+    let shown = rw (c.passing.ensures, c.as_str.ensures.value, c.in_ok-resize.ensures.path) at c.shows.ensures in (
       λ no. absurd (false≢true no),
       λ all. absurd (upward_wrong_passing p (items_meant c.args.items.now) _ (items_meant left) l c.loop-item.path.flags.items c.resize.new.self.flags.items up step c.in_ok-resize.ensures.flags
           (λ is. let yes = shown.1 is in let no = c.if-not-shows.true in cc) all),
@@ -69,7 +69,7 @@ loop-item-preserved c =
     ap items_meant c.in-Some.ensures.steps ∙ map-append item_meant left (c.in-Some.item.now ∷ []) in
     let here = upward_here p (items_meant c.args.items.now) _ (items_meant left) l c.loop-item.path.flags.items c.resize.new.self.flags.items c.pop.new.self.flags.items c.in-Some-pop.is_last up step c.in_ok-resize.ensures.flags c.in-Some-pop.ensures.flags in
     let pieces = rw (c.as_str-in-loop-item.ensures.value, c.turning.ensures, c.pop.ensures.path) at c.is_joined.ensures in
-    let shown = rw (c.as_str.ensures.value, c.in_ok-resize.ensures.path) at c.shows.ensures in (
+    let shown = rw (c.passing.ensures, c.as_str.ensures.value, c.in_ok-resize.ensures.path) at c.shows.ensures in (
       tt,
       tt,
       upward_more p c.requires.readable (items_meant c.args.items.now) _ (items_meant left) l c.loop-item.path.flags.items c.resize.new.self.flags.items c.pop.new.self.flags.items c.push.new.self.flags.items c.in-Some-pop.is_last up step here
