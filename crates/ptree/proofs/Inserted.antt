@@ -33,7 +33,7 @@ inserted_none inserted [] h = refl
 inserted_none inserted (b ∷ text) h =
     inserted_other inserted b text (All-head (λ c. c ≢ 10) b text h) ∙ ap (λ z. b ∷ z) (inserted_none inserted text (All-tail (λ c. c ≢ 10) b text h))
 
--- an item whose own bytes hold no line feed has the text_entry that it had
+-- own bytes without a line feed stand in their entry as they are
 pub entry_of_one_line : (look : Look) (prefix passing own : List ℕ) → HasNoLineFeed own → entry_from look prefix passing own ≡ painted_text look.branch prefix ++ own ++ 10 ∷ []
 entry_of_one_line look prefix passing own h = ap (λ z. painted_text look.branch prefix ++ z ++ 10 ∷ []) (inserted_none _ own h)
 

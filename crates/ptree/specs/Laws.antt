@@ -3,6 +3,8 @@ use Rattle.std.specs.Prelude.{◌≡◌, ◌↔◌, ℕ, ◌-◌, ◌≤◌, Boo
 use Rattle.ptree.specs.Address.{Address, at, IsAddressList}
 use Rattle.ptree.specs.Drawing.{Look, prefix_text, passing_text, entry_from, own_at, entry_text, IsDrawing}
 use Rattle.ptree.specs.Shape.{Shape, kids, cut_shape}
+use Rattle.ptree.specs.Style.{painted_text}
+use Rattle.ptree.specs.Text.{line_feed, HasNoLineFeed}
 use Rattle.ptree.specs.Tree.{Tree, shape_of_tree, cut_tree}
 
 -- one list is the address list of x at this depth, and no other
@@ -37,3 +39,8 @@ HasSubtrees look x depth =
     (a : Address) (y : Shape) (whole part : List Address) → at kids x a ≡ Some y → length a ≤ depth
     → IsAddressList kids x depth whole → IsAddressList kids y (depth - length a) part
     → map (entry_text look x) (filter (begins_properly a) whole) ≡ map (entry_behind look (passing_text look x a) y) (filter (begins_properly []) part)
+
+-- where the own bytes at an address hold no line feed, its entry is the painted prefix, the own bytes as they are and a line feed
+abbrev pub HasOneLineEntries : Look → Shape → Type 0
+HasOneLineEntries look x =
+    (a : Address) → HasNoLineFeed (own_at look x a) → entry_text look x a ≡ painted_text look.branch (prefix_text look x a) ++ own_at look x a ++ line_feed ∷ []

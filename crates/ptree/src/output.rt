@@ -1,7 +1,7 @@
 //! Pieces, and the calls that draw.
 ghost use Rattle.ptree.specs.Writing.{HasCause, IsDrawn};
 ghost use Rattle.ptree.specs.Drawing.{look_of, written_look};
-ghost use Rattle.ptree.specs.Laws.{HasOneList, HasCuts, HasTreeCuts, HasSubtrees};
+ghost use Rattle.ptree.specs.Laws.{HasOneList, HasCuts, HasTreeCuts, HasSubtrees, HasOneLineEntries};
 
 pub(crate) mod engine;
 pub(crate) mod indent;
@@ -86,6 +86,8 @@ where
     ensures cut_tree { HasTreeCuts (written_look config.now) config.now.depth }
     // What is below an address is drawn as alone, each entry and each further line behind the address's passing text.
     ensures subtree { HasSubtrees (written_look config.now) (T.shape item.now) config.now.depth }
+    // A text of one line is drawn as it is.
+    ensures one_line { HasOneLineEntries (written_look config.now) (T.shape item.now) }
 {
     draw_for(alloc, item, f, OutputKind::Unknown, false, config)
 }

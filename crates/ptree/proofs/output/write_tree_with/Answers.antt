@@ -1,7 +1,8 @@
 use Rattle.std.proofs.Common.{false}
-use Rattle.ptree.specs.Drawing.{look_of}
+use Rattle.ptree.specs.Drawing.{look_of, prefix_text, passing_text, own_at}
 use Rattle.ptree.specs.declared.print_config.OutputKind.TheVariants.{Unknown}
 use Rattle.ptree.proofs.CutTrees.{drawing_of_cut_tree}
+use Rattle.ptree.proofs.Inserted.{entry_of_one_line}
 use Rattle.ptree.proofs.Laws.{the_list, drawing_of_cut}
 use Rattle.ptree.proofs.Subtrees.{subtrees}
 use Rattle.ptree.proofs.output.write_tree_with.Goals as goal
@@ -16,4 +17,10 @@ pub returns-clause-cut_tree : goal.returns-clause-cut_tree
 returns-clause-cut_tree g c = drawing_of_cut_tree (look_of c.args.config.now Unknown false) c.args.config.now.depth
 
 pub returns-clause-subtree : goal.returns-clause-subtree
-returns-clause-subtree g c = λ plain. subtrees (look_of c.args.config.now Unknown false) (g.T.Shaped.shape c.args.item.now) c.args.config.now.depth plain
+returns-clause-subtree g c = subtrees (look_of c.args.config.now Unknown false) (g.T.Shaped.shape c.args.item.now) c.args.config.now.depth
+
+pub returns-clause-one_line : goal.returns-clause-one_line
+returns-clause-one_line g c =
+    let look = look_of c.args.config.now Unknown false in
+    let x = g.T.Shaped.shape c.args.item.now in
+    λ a. entry_of_one_line look (prefix_text look x a) (passing_text look x a) (own_at look x a)
