@@ -24,6 +24,14 @@ const DEPTH: u32 = 5;
 // What is read back.
 const TEXT: &str = "r\n├─ a\n│  ├─ b\n│  └─ c\n├─ d\n└─ e\n";
 
+// What is read back of texts of several lines, by its entries.
+const ENTRIES: [&str; 4] = [
+    "r\n: s\n",
+    "├─ a\n│  : b\n",
+    "│  └─ c\n│     : \n│     : d\n",
+    "└─ e\n   : f\n",
+];
+
 // Why a call failed.
 #[derive(Drop)]
 enum Failure {
@@ -233,10 +241,21 @@ impl Trial {
         self.note_pieces(alloc, config)?;
         let readable = self.retried(|| Ok(pieces_readable(alloc, config)?))?;
         writeln!(self.notes, "readable: {readable}")?;
-        match self.retried(|| read(alloc, config))? {
+        match self.retried(|| read(alloc, TEXT, config))? {
             Some(tree) => self.note_drawing(alloc, &tree, config),
             None => Err(Failure::Other),
         }
+    }
+
+    // The reading and the drawing of texts of several lines.
+    fn call_lines(&mut self, alloc: Global, config: &PrintConfig) -> Result<(), Failure> {
+        let text = self.retried(|| Ok(ENTRIES.concat(alloc)?))?;
+        let Some(tree) = self.retried(|| read(alloc, text.as_str(), config))? else {
+            return Err(Failure::Other);
+        };
+        let drawing = self.retried(|| entries_drawn(alloc, &tree, config))?;
+        self.notes.extend_from_slice(&drawing)?;
+        Ok(())
     }
 
     // The calls of sets of characters.
@@ -276,7 +295,8 @@ impl Trial {
         self.call_builder(alloc, &clone)?;
         self.call_graph(alloc, &plain)?;
         self.call_numbers(alloc, &plain)?;
-        self.call_reader(alloc, &plain)
+        self.call_reader(alloc, &plain)?;
+        self.call_lines(alloc, &plain)
     }
 }
 
@@ -325,11 +345,39 @@ fn end(builder: &mut TreeBuilder) {
 }
 
 // The tree whose drawing the text is.
-fn read(alloc: Global, config: &PrintConfig) -> Result<Option<StringItem>, Failure> {
+fn read(alloc: Global, text: &str, config: &PrintConfig) -> Result<Option<StringItem>, Failure> {
     if !pieces_readable(alloc, config)? {
         return Ok(None);
     }
-    Ok(read_tree(alloc, TEXT, config)?)
+    Ok(read_tree(alloc, text, config)?)
+}
+
+// Whether the bytes are the first entries of texts of several lines, each of them whole.
+fn are_entries(bytes: &[u8]) -> bool {
+    let mut rest = bytes;
+    for entry in ENTRIES {
+        let Some(others) = rest.strip_prefix(entry.as_bytes()) else {
+            break;
+        };
+        rest = others;
+    }
+    rest.is_empty()
+}
+
+// What is drawn of the tree of texts of several lines. Where memory is refused, whole entries have to be all that was written.
+fn entries_drawn(
+    alloc: Global,
+    tree: &StringItem,
+    config: &PrintConfig,
+) -> Result<Vec<u8>, Failure> {
+    let mut out = Counted::new(Vec::with_capacity(alloc, SHEET)?);
+    let result = write_tree_with(alloc, tree, &mut out, config);
+    let written = out.into_inner();
+    if !are_entries(&written) {
+        return Err(Failure::Other);
+    }
+    result?;
+    Ok(written)
 }
 
 // What is drawn of a tree.

@@ -54,9 +54,21 @@ fn words_are_drawn_or_refused(rt: HostRuntime) -> Result<(), Fail> {
         (["words", "r"].as_slice(), 0, "r\n", ""),
         (["words", "r", ""].as_slice(), 0, "r\n└─ \n", ""),
         (
+            ["words", "r\ns", "a\nb", "c"].as_slice(),
+            0,
+            "r\n: s\n├─ a\n│  : b\n└─ c\n",
+            "",
+        ),
+        (
             ["--tty", "words", "r", "a"].as_slice(),
             0,
             "\x1b[2m\x1b[0mr\n\x1b[2m└─ \x1b[0ma\n",
+            "",
+        ),
+        (
+            ["--tty", "words", "r", "a\nb"].as_slice(),
+            0,
+            "\x1b[2m\x1b[0mr\n\x1b[2m└─ \x1b[0ma\n\x1b[2m   : \x1b[0mb\n",
             "",
         ),
         ([].as_slice(), 2, "", USAGE),

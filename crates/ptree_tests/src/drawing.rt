@@ -77,10 +77,10 @@ fn texts_are_written_as_they_are(rt: HostRuntime) -> Result<(), Fail> {
     let children = vec![in alloc;
         leaf(alloc, "")?,
         leaf(alloc, "└─ b")?,
-        leaf(alloc, "a\nb")?,
+        leaf(alloc, "a\rb")?,
     ]?;
     let bytes = drawn(alloc, &over(alloc, "r", children)?, &config)?;
-    assert_eq!(rt; str::from_utf8(&bytes)?, "r\n├─ \n├─ └─ b\n└─ a\nb\n");
+    assert_eq!(rt; str::from_utf8(&bytes)?, "r\n├─ \n├─ └─ b\n└─ a\rb\n");
     let bytes = drawn(alloc, &leaf(alloc, "")?, &config)?;
     assert_eq!(rt; str::from_utf8(&bytes)?, "\n");
     Ok(())

@@ -174,6 +174,18 @@ fn draws_labels_of_each_kind(rt: HostRuntime) -> Result<(), Fail> {
 }
 
 #[test]
+fn draws_labels_of_several_lines(rt: HostRuntime) -> Result<(), Fail> {
+    let alloc = rt.alloc();
+    let above = graph(alloc, &["r", "c", "a\nb"], &[(0, 1), (0, 2)])?;
+    let text = "r\n├─ a\n│  : b\n└─ c\n";
+    assert_drawn(&rt, alloc, &above, 0, &at_depth(alloc, 1)?, text);
+    let alone = graph(alloc, &["x\ny\n"], &[(0, 0)])?;
+    let text = "x\n: y\n: \n└─ x\n   : y\n   : \n";
+    assert_drawn(&rt, alloc, &alone, 0, &at_depth(alloc, 1)?, text);
+    Ok(())
+}
+
+#[test]
 fn is_an_item(rt: HostRuntime) -> Result<(), Fail> {
     let alloc = rt.alloc();
     let graph = graph(alloc, &["x", "y"], &[(0, 1)])?;

@@ -131,7 +131,7 @@ fn defaults(rt: HostRuntime) -> Result<(), Fail> {
     assert_eq!(rt; config.styled, StyleWhen::Tty);
     assert!(rt; config.branch.dimmed && !config.branch.bold);
     assert!(rt; !config.leaf.dimmed && config.leaf.foreground.is_none());
-
+    assert_eq!(rt; config.continued.as_str(), ": ");
     assert!(rt; Style::default().background.is_none());
     Ok(())
 }

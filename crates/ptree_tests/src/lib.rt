@@ -12,6 +12,8 @@ mod graph;
 #[cfg(test)]
 mod indent;
 #[cfg(test)]
+mod lines;
+#[cfg(test)]
 mod memory;
 #[cfg(test)]
 mod read;

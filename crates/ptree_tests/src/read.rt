@@ -1,36 +1,15 @@
 //! Drawings that are read back, and texts that are none.
 
-use crate::trees::{count_items, drawn, leaf, long_chain, over, petgraph, plain, spelled};
-use ptree::item::StringItem;
+use crate::trees::{
+    count_items, drawn, leaf, long_chain, over, petgraph, plain, read, set_of, spelled,
+};
 use ptree::output::Indent;
 use ptree::print_config::{
     ASCII_CHARS_PLUS, ASCII_CHARS_TICK, PrintConfig, StaticIndentChars, StyleWhen, UTF_CHARS,
 };
-use ptree::read::{pieces_readable, read_tree};
-use std::alloc::{AllocError, Global};
+use ptree::read::pieces_readable;
 use std::str;
 use std::test::Fail;
-
-// What is read of a text: nothing where the pieces aren't readable.
-fn read(alloc: Global, text: &str, config: &PrintConfig) -> Result<Option<StringItem>, AllocError> {
-    if pieces_readable(alloc, config)? {
-        read_tree(alloc, text, config)
-    } else {
-        Ok(None)
-    }
-}
-
-// A set of characters with an indent and a padding.
-fn set_of(
-    alloc: Global,
-    set: StaticIndentChars,
-    indent: usize,
-    padding: usize,
-) -> Result<PrintConfig, AllocError> {
-    let mut config = plain(alloc, set, indent, u32::MAX)?;
-    config.padding = padding;
-    Ok(config)
-}
 
 #[test]
 fn texts_that_are_drawings(rt: HostRuntime) -> Result<(), Fail> {

@@ -421,7 +421,7 @@ fn one_other_field_makes_styles_differ(rt: HostRuntime) -> Result<(), Fail> {
 fn one_other_field_makes_configurations_differ(rt: HostRuntime) -> Result<(), Fail> {
     let alloc = rt.alloc();
     let config = PrintConfig::default(alloc)?;
-    for i in 0..12 {
+    for i in 0..13 {
         let mut other = config.clone()?;
         match i {
             0 => other.depth = 3,
@@ -435,9 +435,11 @@ fn one_other_field_makes_configurations_differ(rt: HostRuntime) -> Result<(), Fa
             8 => other.characters.empty = String::from_str(alloc, "+")?,
             9 => other.branch.bold = true,
             10 => other.leaf.bold = true,
-            _ => other.leaf.background = Some(Color::Black),
+            11 => other.leaf.background = Some(Color::Black),
+            _ => other.continued = String::from_str(alloc, "+")?,
         }
         assert!(rt; other != config, "{i}");
+        assert!(rt; other.clone()? == other, "{i}");
     }
     Ok(())
 }

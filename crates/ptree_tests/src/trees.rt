@@ -4,6 +4,7 @@ use ptree::TreeBuilder;
 use ptree::item::StringItem;
 use ptree::output::{print_tree_with, write_tree_with};
 use ptree::print_config::{IndentChars, PrintConfig, StaticIndentChars, StyleWhen};
+use ptree::read::{pieces_readable, read_tree};
 use ptree::style::{Counted, DrawError, Style};
 use std::alloc::{AllocError, Global};
 use std::process::Abort;
@@ -44,7 +45,7 @@ pub fn long_chain(rt: &impl Abort, alloc: Global) -> Result<StringItem, AllocErr
     builder.build()
 }
 
-/// Plain styles under a set, an indent and a depth, with padding 1.
+/// Plain styles under a set, an indent and a depth, with padding 1 and the default mark.
 pub fn plain(
     alloc: Global,
     set: StaticIndentChars,
@@ -59,7 +60,33 @@ pub fn plain(
         characters: IndentChars::from_static(alloc, set)?,
         branch: Style::default(),
         leaf: Style::default(),
+        continued: String::from_str(alloc, ": ")?,
     })
+}
+
+/// Plain styles under a set, an indent and a padding.
+pub fn set_of(
+    alloc: Global,
+    set: StaticIndentChars,
+    indent: usize,
+    padding: usize,
+) -> Result<PrintConfig, AllocError> {
+    let mut config = plain(alloc, set, indent, u32::MAX)?;
+    config.padding = padding;
+    Ok(config)
+}
+
+/// What is read of a text: nothing where the pieces and the mark aren't readable.
+pub fn read(
+    alloc: Global,
+    text: &str,
+    config: &PrintConfig,
+) -> Result<Option<StringItem>, AllocError> {
+    if pieces_readable(alloc, config)? {
+        read_tree(alloc, text, config)
+    } else {
+        Ok(None)
+    }
 }
 
 /// What `write_tree_with` writes of an item.
