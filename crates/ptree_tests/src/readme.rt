@@ -1,6 +1,7 @@
 //! The examples of the README.
 
 use crate::failing::{Answer, Failing};
+use crate::trees::spelled;
 use ptree::TreeBuilder;
 use ptree::graph::{Graph, write_graph_with};
 use ptree::output::write_tree_with;
@@ -44,6 +45,120 @@ fn a_drawing_is_read_back(rt: HostRuntime) -> Result<(), Fail> {
     write_tree_with(alloc, &tree, &mut out, &config)?;
     assert_eq!(rt; str::from_utf8(&out.into_inner())?, text);
     assert!(rt; read_tree(alloc, "tree\n┣━ branch\n", &config)?.is_none());
+    Ok(())
+}
+
+#[test]
+fn notes_are_edited_as_text(rt: HostRuntime) -> Result<(), Fail> {
+    let alloc = rt.alloc();
+    let mut builder = TreeBuilder::new(alloc, String::from_str(alloc, "notes")?);
+    builder
+        .begin_child(String::from_str(alloc, "shopping\nby Friday")?)?
+        .add_empty_child(String::from_str(alloc, "bread")?)?
+        .end_child();
+    builder.add_empty_child(String::from_str(alloc, "call home\nafter six")?)?;
+    let notes = builder.build()?;
+
+    let config = PrintConfig::default(alloc)?;
+    let mut out = Counted::new(Vec::new(alloc));
+    write_tree_with(alloc, &notes, &mut out, &config)?;
+    let drawing = out.into_inner();
+    let text = str::from_utf8(&drawing)?;
+    let edited = text.replace(alloc, "by Friday\n", "by Friday,\n│  : with flowers\n")?;
+    let notes = read_tree(alloc, edited.as_str(), &config)?.ok_or("no drawing")?;
+    let shopping = notes.children.first().ok_or("no child")?;
+    assert_eq!(rt;
+        shopping.text.as_str(),
+        "shopping\nby Friday,\nwith flowers"
+    );
+
+    assert_eq!(rt;
+        text,
+        "\
+notes
+├─ shopping
+│  : by Friday
+│  └─ bread
+└─ call home
+   : after six
+"
+    );
+    let mut out = Counted::new(Vec::new(alloc));
+    write_tree_with(alloc, &notes, &mut out, &config)?;
+    assert_eq!(rt; str::from_utf8(&out.into_inner())?, edited.as_str());
+    Ok(())
+}
+
+// `rich.tree` of Python, each line feed of a label being followed by `: `, and without these marks.
+const RICH_MARKED: &str = "\
+notes
+: of the week
+├── shopping
+│   : bread
+│   : milk
+│   ├── later
+│   │   : cheese
+│   └── never
+└── call home
+    : after six
+";
+
+const RICH: &str = "\
+notes
+of the week
+├── shopping
+│   bread
+│   milk
+│   ├── later
+│   │   cheese
+│   └── never
+└── call home
+    after six
+";
+
+// `termtree` of Rust, with other glyphs for passing pieces, and a colon behind those of further lines.
+const TERMTREE: &str = "\
+notes
+├── shopping
+│  :bread
+│  :milk
+│  ├── later
+│  │  :cheese
+│  └── never
+└── call home
+   :after six
+";
+
+#[test]
+fn other_programs_draw_several_lines(rt: HostRuntime) -> Result<(), Fail> {
+    let alloc = rt.alloc();
+    let mut config = PrintConfig::default(alloc)?;
+    config.indent = 4;
+    let tree = read_tree(alloc, RICH_MARKED, &config)?.ok_or("no drawing")?;
+    assert_eq!(rt;
+        spelled(alloc, &tree)?.as_str(),
+        "notes\nof the week [shopping\nbread\nmilk [later\ncheese, never], call home\nafter six]"
+    );
+    assert!(rt; read_tree(alloc, RICH, &config)?.is_none());
+    config.continued = String::new(alloc);
+    assert!(rt; !pieces_readable(alloc, &config)?);
+
+    config.indent = 0;
+    config.padding = 0;
+    config.characters = IndentChars {
+        down_and_right: String::from_str(alloc, "├── ")?,
+        down: String::from_str(alloc, "│  ")?,
+        turn_right: String::from_str(alloc, "└── ")?,
+        right: String::new(alloc),
+        empty: String::from_str(alloc, "   ")?,
+    };
+    config.continued = String::from_str(alloc, ":")?;
+    assert!(rt; pieces_readable(alloc, &config)?);
+    let tree = read_tree(alloc, TERMTREE, &config)?.ok_or("no drawing")?;
+    assert_eq!(rt;
+        spelled(alloc, &tree)?.as_str(),
+        "notes [shopping\nbread\nmilk [later\ncheese, never], call home\nafter six]"
+    );
     Ok(())
 }
 
