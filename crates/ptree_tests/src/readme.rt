@@ -64,6 +64,7 @@ fn notes_are_edited_as_text(rt: HostRuntime) -> Result<(), Fail> {
     write_tree_with(alloc, &notes, &mut out, &config)?;
     let drawing = out.into_inner();
     let text = str::from_utf8(&drawing)?;
+    assert!(rt; pieces_readable(alloc, &config)?);
     let edited = text.replace(alloc, "by Friday\n", "by Friday,\n│  : with flowers\n")?;
     let notes = read_tree(alloc, edited.as_str(), &config)?.ok_or("no drawing")?;
     let shopping = notes.children.first().ok_or("no child")?;
@@ -134,6 +135,7 @@ fn other_programs_draw_several_lines(rt: HostRuntime) -> Result<(), Fail> {
     let alloc = rt.alloc();
     let mut config = PrintConfig::default(alloc)?;
     config.indent = 4;
+    assert!(rt; pieces_readable(alloc, &config)?);
     let tree = read_tree(alloc, RICH_MARKED, &config)?.ok_or("no drawing")?;
     assert_eq!(rt;
         spelled(alloc, &tree)?.as_str(),
