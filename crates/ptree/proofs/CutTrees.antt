@@ -1,11 +1,11 @@
 -- Trees that are cut are drawn as the whole ones.
-use Rattle.std.proofs.Common.{◌≡◌, ℕ, zero, suc, ◌≤◌, List, [], ◌∷◌, ◌++◌, map, sym, ◌∙◌, ap, refl, arith}
+use Rattle.std.proofs.Common.{◌≡◌, ℕ, zero, suc, ◌≤◌, List, [], ◌∷◌, map, sym, ◌∙◌, ap, refl, arith}
 use Rattle.ptree.specs.Drawing.{Look}
 use Rattle.ptree.specs.Laws.{HasTreeCuts}
-use Rattle.ptree.specs.Lines.{own_lines, kid_lines, lines_below}
+use Rattle.ptree.specs.Entries.{entry_of, kid_entries, entries_below}
 use Rattle.ptree.specs.Shape.{kids}
 use Rattle.ptree.specs.Tree.{none, item, Forest, Tree, tree, trees, tree_kids, cut_forest, cut_tree, tree_own, shape_of_tree}
-use Rattle.ptree.proofs.Laws.{kid_lines-map, same_drawings}
+use Rattle.ptree.proofs.Laws.{kid_entries-map, same_drawings}
 use Rattle.ptree.proofs.TreeLemmas.{map_twice}
 use Rattle.ptree.proofs.Unfold.{kids_of_unfold}
 
@@ -25,18 +25,18 @@ kids_of_cut_tree d t =
     ∙ ap (map shape_of_tree) (trees_of_cut d t.children)
     ∙ sym (map_twice (cut_tree d) shape_of_tree (tree_kids t))
 
-lines_of_cut_tree : (look : Look) (d e : ℕ) → d ≤ e → (front : List ℕ) (t : Tree)
-    → lines_below look e front (shape_of_tree (cut_tree d t)) ≡ lines_below look d front (shape_of_tree t)
-lines_of_cut_tree look zero zero h front t = refl
-lines_of_cut_tree look zero (suc e) h front t =
-    ap (kid_lines look (lines_below look e) front) (sym (kids_of_unfold tree_own tree_kids (cut_tree 0 t)) ∙ ap (λ f. map shape_of_tree (trees f)) (none_at_zero t.children))
-lines_of_cut_tree look (suc d) zero h front t = absurd (omega arith)
-lines_of_cut_tree look (suc d) (suc e) h front t =
-    ap (kid_lines look (lines_below look e) front) (kids_of_cut_tree d t)
-    ∙ kid_lines-map look (λ s. shape_of_tree (cut_tree d s)) shape_of_tree (lines_below look d) (lines_below look e) (λ s. refl) (λ f s. lines_of_cut_tree look d e (omega arith) f s) front (tree_kids t)
-    ∙ ap (kid_lines look (lines_below look d) front) (kids_of_unfold tree_own tree_kids t)
+entries_of_cut_tree : (look : Look) (d e : ℕ) → d ≤ e → (front : List ℕ) (t : Tree)
+    → entries_below look e front (shape_of_tree (cut_tree d t)) ≡ entries_below look d front (shape_of_tree t)
+entries_of_cut_tree look zero zero h front t = refl
+entries_of_cut_tree look zero (suc e) h front t =
+    ap (kid_entries look (entries_below look e) front) (sym (kids_of_unfold tree_own tree_kids (cut_tree 0 t)) ∙ ap (λ f. map shape_of_tree (trees f)) (none_at_zero t.children))
+entries_of_cut_tree look (suc d) zero h front t = absurd (omega arith)
+entries_of_cut_tree look (suc d) (suc e) h front t =
+    ap (kid_entries look (entries_below look e) front) (kids_of_cut_tree d t)
+    ∙ kid_entries-map look (λ s. shape_of_tree (cut_tree d s)) shape_of_tree (entries_below look d) (entries_below look e) (λ s. refl) (λ f s. entries_of_cut_tree look d e (omega arith) f s) front (tree_kids t)
+    ∙ ap (kid_entries look (entries_below look d) front) (kids_of_unfold tree_own tree_kids t)
 
 pub drawing_of_cut_tree : (look : Look) (d : ℕ) → HasTreeCuts look d
 drawing_of_cut_tree look d = λ t e text h.
     same_drawings look (shape_of_tree t) (shape_of_tree (cut_tree d t)) d e
-    (sym (ap (λ y. own_lines look [] [] (shape_of_tree t) ++ y) (lines_of_cut_tree look d e h [] t))) text
+    (sym (ap (λ y. entry_of look [] [] (shape_of_tree t) ∷ y) (entries_of_cut_tree look d e h [] t))) text

@@ -6,68 +6,68 @@ use Rattle.std.proofs.lemmas.List.{length-map, length-take, append-nil, take-app
 use Rattle.std.specs.Prelude.{Some, is_err}
 use Rattle.std.proofs.lemmas.Bool.{false≢true}
 use Rattle.std.specs.Io.KnownBytes.{Appends}
+use Rattle.std.specs.List.{concat}
 use Rattle.ptree.specs.declared.style.DrawError.{DrawError}
 use Rattle.ptree.specs.declared.style.DrawError.TheVariants.{Memory}
 use Rattle.ptree.specs.Drawing.{Look, with_inserted}
 use Rattle.ptree.specs.Looks.{own_piece, below_piece, own_text, further_text, own_entry}
-use Rattle.ptree.specs.Lines.{is_empty, own_lines, with_below, kid_lines, lines_below, item_lines}
+use Rattle.ptree.specs.Entries.{is_empty, entry_of, with_below, kid_entries, entries_below, item_entries}
 use Rattle.ptree.specs.Outline.{line}
 use Rattle.ptree.specs.Pieces.{turning_piece, passing_piece}
 use Rattle.ptree.specs.Shape.{Shape, kids}
 use Rattle.ptree.specs.Style.{front_codes, back_codes, painted_text}
-use Rattle.ptree.specs.Writing.{AppendsPart, IsWritten, told_faults, HasErrorCause}
-use Rattle.ptree.proofs.Written.{appends_nothing, part_then, part_more, written_then}
+use Rattle.ptree.specs.Writing.{AppendsPart, AppendsEntries, IsWritten, AreWritten, told_faults, HasErrorCause}
+use Rattle.ptree.proofs.Written.{appends_nothing, entries_then, entries_more, entry_part, entry_then}
 
 pub nothing_yet : (a : Option (List ℕ)) (x : List ℕ) → AppendsPart a a x
 nothing_yet a x = ([], (x, refl), appends_nothing a)
 
-lines_down : (look : Look) (left : ℕ) (front : List ℕ) (x : Shape) → (left ≡ 0 → ⊥) → lines_below look left front x ≡ kid_lines look (lines_below look (left - 1)) front (kids x)
-lines_down look zero front x h = absurd (h refl)
-lines_down look (suc n) front x h =
-    let e : n ≡ suc n - 1 = omega arith in ap (λ k. kid_lines look (lines_below look k) front (kids x)) e
+entries_down : (look : Look) (left : ℕ) (front : List ℕ) (x : Shape) → (left ≡ 0 → ⊥) → entries_below look left front x ≡ kid_entries look (entries_below look (left - 1)) front (kids x)
+entries_down look zero front x h = absurd (h refl)
+entries_down look (suc n) front x h =
+    let e : n ≡ suc n - 1 = omega arith in ap (λ k. kid_entries look (entries_below look k) front (kids x)) e
 
-pub item_part : (look : Look) (left : ℕ) (front : List ℕ) (last : Bool) (x : Shape) (p : List ℕ) (a b : Option (List ℕ))
-    → p ≡ front ++ turning_piece look.pieces last → AppendsPart a b (own_lines look p (front ++ passing_piece look.pieces last) x) → AppendsPart a b (item_lines look left front last x)
-item_part look left front last x p a b e h =
-    part_more a b (own_lines look (front ++ turning_piece look.pieces last) (front ++ passing_piece look.pieces last) x) _ (subst (λ (q : List ℕ). AppendsPart a b (own_lines look q (front ++ passing_piece look.pieces last) x)) e h)
+pub item_part : (look : Look) (left : ℕ) (front : List ℕ) (last : Bool) (x : Shape) (a b : Option (List ℕ)) (e : DrawError)
+    → AppendsPart a b (entry_of look (front ++ turning_piece look.pieces last) (front ++ passing_piece look.pieces last) x) → (e ≡ Memory → b ≡ a) → AppendsEntries a b e (item_entries look left front last x)
+item_part look left front last x a b e h k = entry_part a b e _ (entries_below look left (front ++ passing_piece look.pieces last) x) h k
 
-pub item_written : {A E : Type 0} (look : Look) (left : ℕ) (front : List ℕ) (last : Bool) (x : Shape) (p q : List ℕ) (ks : List Shape) (a b c : Option (List ℕ)) (r : Result A E)
-    → p ≡ front ++ turning_piece look.pieces last → q ≡ front ++ passing_piece look.pieces last → ks ≡ kids x → (left ≡ 0 → ⊥)
-    → Appends a b (own_lines look p (front ++ passing_piece look.pieces last) x) → IsWritten b c r (kid_lines look (lines_below look (left - 1)) q ks) → IsWritten a c r (item_lines look left front last x)
-item_written look left front last x p q ks a b c r ep eq ek h k w =
-    let below = lines_down look left (front ++ passing_piece look.pieces last) x h in
-    written_then a b c r (own_lines look (front ++ turning_piece look.pieces last) (front ++ passing_piece look.pieces last) x) (lines_below look left (front ++ passing_piece look.pieces last) x)
-    (subst (λ (y : List ℕ). Appends a b (own_lines look y (front ++ passing_piece look.pieces last) x)) ep k)
-    (subst (λ (y : List ℕ). IsWritten b c r y) (ap (λ y. kid_lines look (lines_below look (left - 1)) y ks) eq ∙ ap (λ y. kid_lines look (lines_below look (left - 1)) (front ++ passing_piece look.pieces last) y) ek ∙ sym below) w)
+pub item_written : {A E : Type 0} (look : Look) (left : ℕ) (front : List ℕ) (last : Bool) (x : Shape) (ks : List Shape) (a b c : Option (List ℕ)) (r : Result A E) (e : DrawError)
+    → ks ≡ kids x → (left ≡ 0 → ⊥)
+    → Appends a b (entry_of look (front ++ turning_piece look.pieces last) (front ++ passing_piece look.pieces last) x)
+    → AreWritten b c r e (kid_entries look (entries_below look (left - 1)) (front ++ passing_piece look.pieces last) ks) → AreWritten a c r e (item_entries look left front last x)
+item_written look left front last x ks a b c r e ek h k w =
+    let passing = front ++ passing_piece look.pieces last in
+    entry_then a b c r e _ (entries_below look left passing x) k
+    (subst (λ (es : List (List ℕ)). AreWritten b c r e es) (ap (kid_entries look (entries_below look (left - 1)) passing) ek ∙ sym (entries_down look left passing x h)) w)
 
 is_empty-length : {C : Type 0} (xs : List C) → eqb (length xs) 0 ≡ is_empty xs
 is_empty-length [] = refl
 is_empty-length (x ∷ xs) = grind (arith, nat_tests)
 
--- the lines so far, those of one item, and those of the others
-pub kids_step : (look : Look) (below : List ℕ → Shape → List ℕ) (front : List ℕ) (rest others : List Shape) (x : Shape) (last : Bool) (done all : List ℕ)
-    → rest ≡ x ∷ others → last ≡ eqb (length others) 0 → done ++ kid_lines look below front rest ≡ all
-    → (done ++ with_below look below front last x) ++ kid_lines look below front others ≡ all
+-- the entries so far, those of one item, and those of the others
+pub kids_step : (look : Look) (below : List ℕ → Shape → List (List ℕ)) (front : List ℕ) (rest others : List Shape) (x : Shape) (last : Bool) (done all : List (List ℕ))
+    → rest ≡ x ∷ others → last ≡ eqb (length others) 0 → done ++ kid_entries look below front rest ≡ all
+    → (done ++ with_below look below front last x) ++ kid_entries look below front others ≡ all
 kids_step look below front rest others x last done all er el e =
-    append_assoc done (with_below look below front last x) (kid_lines look below front others)
-    ∙ ap (λ l. done ++ (with_below look below front l x ++ kid_lines look below front others)) (el ∙ is_empty-length others)
-    ∙ ap (λ l. done ++ kid_lines look below front l) (sym er) ∙ e
+    append_assoc done (with_below look below front last x) (kid_entries look below front others)
+    ∙ ap (λ l. done ++ (with_below look below front l x ++ kid_entries look below front others)) (el ∙ is_empty-length others)
+    ∙ ap (λ l. done ++ kid_entries look below front l) (sym er) ∙ e
 
 -- an item that isn't drawn whole ends the list
-pub kids_err : (look : Look) (below : List ℕ → Shape → List ℕ) (front : List ℕ) (rest others : List Shape) (x : Shape) (last : Bool) (done all : List ℕ) (a b c : Option (List ℕ))
-    → rest ≡ x ∷ others → last ≡ eqb (length others) 0 → done ++ kid_lines look below front rest ≡ all
-    → Appends a b done → AppendsPart b c (with_below look below front last x) → AppendsPart a c all
-kids_err look below front rest others x last done all a b c er el e h k =
-    subst (λ (y : List ℕ). AppendsPart a c y) (kids_step look below front rest others x last done all er el e)
-    (part_more a c (done ++ with_below look below front last x) (kid_lines look below front others) (part_then a b c done (with_below look below front last x) h k))
+pub kids_err : (look : Look) (below : List ℕ → Shape → List (List ℕ)) (front : List ℕ) (rest others : List Shape) (x : Shape) (last : Bool) (done all : List (List ℕ)) (a b c : Option (List ℕ)) (f : DrawError)
+    → rest ≡ x ∷ others → last ≡ eqb (length others) 0 → done ++ kid_entries look below front rest ≡ all
+    → Appends a b (concat done) → AppendsEntries b c f (with_below look below front last x) → AppendsEntries a c f all
+kids_err look below front rest others x last done all a b c f er el e h k =
+    subst (λ (es : List (List ℕ)). AppendsEntries a c f es) (kids_step look below front rest others x last done all er el e)
+    (entries_more a c f (done ++ with_below look below front last x) (kid_entries look below front others) (entries_then a b c f done (with_below look below front last x) h k))
 
 pub same_len : {C X : Type 0} (f : C → X) (others : List C) (last : Bool) → last ≡ eqb (length others) 0 → last ≡ eqb (length (map f others)) 0
 same_len f others last e = let length_eq : length (map f others) ≡ length others = simp length-map in e ∙ ap (λ n. eqb n 0) (sym length_eq)
 
-pub item_whole : (look : Look) (left : ℕ) (front : List ℕ) (last : Bool) (x : Shape) (p q : List ℕ) (ks : List Shape) (a b c : Option (List ℕ))
-    → p ≡ front ++ turning_piece look.pieces last → q ≡ front ++ passing_piece look.pieces last → ks ≡ kids x → (left ≡ 0 → ⊥)
-    → Appends a b (own_lines look p (front ++ passing_piece look.pieces last) x) → Appends b c (kid_lines look (lines_below look (left - 1)) q ks) → Appends a c (item_lines look left front last x)
-item_whole look left front last x p q ks a b c ep eq ek h k w = item_written {A = ℕ} {E = ℕ} look left front last x p q ks a b c (Ok 0) ep eq ek h k w
+pub item_whole : (look : Look) (left : ℕ) (front : List ℕ) (last : Bool) (x : Shape) (ks : List Shape) (a b c : Option (List ℕ)) → ks ≡ kids x → (left ≡ 0 → ⊥)
+    → Appends a b (entry_of look (front ++ turning_piece look.pieces last) (front ++ passing_piece look.pieces last) x)
+    → Appends b c (concat (kid_entries look (entries_below look (left - 1)) (front ++ passing_piece look.pieces last) ks)) → Appends a c (concat (item_entries look left front last x))
+item_whole look left front last x ks a b c ek h k w = item_written {A = ℕ} {E = ℕ} look left front last x ks a b c (Ok 0) Memory ek h k w
 
 empty_list : {C : Type 0} (ks : List C) (b : Bool) → b ≡ true → b ≡ eqb (length ks) 0 → ks ≡ []
 empty_list [] b h k = refl
@@ -77,9 +77,9 @@ empty_list (x ∷ xs) b h k =
 -- an item with no children
 pub item_alone : {D : Type 0} (look : Look) (left : ℕ) (front : List ℕ) (last : Bool) (x : Shape) (a b : Option (List ℕ)) (shape : D → Shape) (ks : List D) (empty : Bool)
     → empty ≡ true → empty ≡ eqb (length ks) 0 → map shape ks ≡ kids x → (left ≡ 0 → ⊥)
-    → Appends a b (own_lines look (front ++ turning_piece look.pieces last) (front ++ passing_piece look.pieces last) x) → Appends a b (item_lines look left front last x)
+    → Appends a b (entry_of look (front ++ turning_piece look.pieces last) (front ++ passing_piece look.pieces last) x) → Appends a b (concat (item_entries look left front last x))
 item_alone look left front last x a b shape ks empty e1 e2 ek h k =
-    item_whole look left front last x (front ++ turning_piece look.pieces last) (front ++ passing_piece look.pieces last) [] a b b refl refl (sym (ap (map shape) (empty_list ks empty e1 e2)) ∙ ek) h k (appends_nothing b)
+    item_whole look left front last x [] a b b (sym (ap (map shape) (empty_list ks empty e1 e2)) ∙ ek) h k (appends_nothing b)
 
 -- what the buffer holds is an entry: its first bytes, a text with the back codes, and the own bytes, with the same first bytes and another such text before each of their further lines
 pub entry_held : (look : Look) (width : ℕ) (bytes front : List ℕ) (last : Option Bool) (x : Shape)
@@ -116,8 +116,8 @@ take_again n xs ys zs h e =
 
 -- an item at the last level
 pub item_ended : (look : Look) (left : ℕ) (front : List ℕ) (last : Bool) (x : Shape) (a b : Option (List ℕ))
-    → left ≡ 0 → Appends a b (own_lines look (front ++ turning_piece look.pieces last) (front ++ passing_piece look.pieces last) x) → Appends a b (item_lines look left front last x)
-item_ended look zero front last x a b e h = subst (λ (y : List ℕ). Appends a b y) (sym (append-nil (own_lines look (front ++ turning_piece look.pieces last) (front ++ passing_piece look.pieces last) x))) h
+    → left ≡ 0 → Appends a b (entry_of look (front ++ turning_piece look.pieces last) (front ++ passing_piece look.pieces last) x) → Appends a b (concat (item_entries look left front last x))
+item_ended look zero front last x a b e h = subst (λ (y : List ℕ). Appends a b y) (sym (append-nil (entry_of look (front ++ turning_piece look.pieces last) (front ++ passing_piece look.pieces last) x))) h
 item_ended look (suc n) front last x a b e h = absurd (omega (arith, e))
 
 -- an error that is no fault tells none

@@ -3,7 +3,8 @@ use Rattle.std.proofs.Common.{◌≡◌, ℕ, true, List, [], ◌∷◌, ◌++�
 use Rattle.std.proofs.lemmas.Fmt.{decimal_digit}
 use Rattle.ptree.specs.Characters.{utf}
 use Rattle.ptree.specs.Drawing.{Look, look_from, with_inserted, IsDrawing}
-use Rattle.ptree.specs.Lines.{drawn_lines}
+use Rattle.std.specs.List.{concat}
+use Rattle.ptree.specs.Entries.{drawn_entries}
 use Rattle.ptree.specs.Pieces.{pieces_from}
 use Rattle.ptree.specs.Style.{plain_style, style_codes, front_codes}
 use Rattle.ptree.specs.Tree.{none, item, tree, shape_of_tree}
@@ -22,29 +23,29 @@ abbrev a_b : List ℕ
 a_b = 97 ∷ 10 ∷ 98 ∷ []
 
 -- r [a\nb, c]
-two : drawn_lines plain_look 9 (shape_of_tree (tree (114 ∷ []) (item a_b none (item (99 ∷ []) none none))))
+two : concat (drawn_entries plain_look 9 (shape_of_tree (tree (114 ∷ []) (item a_b none (item (99 ∷ []) none none)))))
     ≡ 114 ∷ 10 ∷ 226 ∷ 148 ∷ 156 ∷ 226 ∷ 148 ∷ 128 ∷ 32 ∷ 97 ∷ 10 ∷ 226 ∷ 148 ∷ 130 ∷ 32 ∷ 32 ∷ 58 ∷ 32 ∷ 98 ∷ 10 ∷ 226 ∷ 148 ∷ 148 ∷ 226 ∷ 148 ∷ 128 ∷ 32 ∷ 99 ∷ 10 ∷ []
 unfolding style_codes
 two = refl
 
 -- r [a\nb]
-one : drawn_lines plain_look 9 (shape_of_tree (tree (114 ∷ []) (item a_b none none)))
+one : concat (drawn_entries plain_look 9 (shape_of_tree (tree (114 ∷ []) (item a_b none none))))
     ≡ 114 ∷ 10 ∷ 226 ∷ 148 ∷ 148 ∷ 226 ∷ 148 ∷ 128 ∷ 32 ∷ 97 ∷ 10 ∷ 32 ∷ 32 ∷ 32 ∷ 58 ∷ 32 ∷ 98 ∷ 10 ∷ []
 unfolding style_codes
 one = refl
 
 -- r\ns
-root : drawn_lines plain_look 9 (shape_of_tree (tree (114 ∷ 10 ∷ 115 ∷ []) none)) ≡ 114 ∷ 10 ∷ 58 ∷ 32 ∷ 115 ∷ 10 ∷ []
+root : concat (drawn_entries plain_look 9 (shape_of_tree (tree (114 ∷ 10 ∷ 115 ∷ []) none))) ≡ 114 ∷ 10 ∷ 58 ∷ 32 ∷ 115 ∷ 10 ∷ []
 unfolding style_codes
 root = refl
 
 -- a root of one line feed
-feed : drawn_lines plain_look 9 (shape_of_tree (tree (10 ∷ []) none)) ≡ 10 ∷ 58 ∷ 32 ∷ 10 ∷ []
+feed : concat (drawn_entries plain_look 9 (shape_of_tree (tree (10 ∷ []) none))) ≡ 10 ∷ 58 ∷ 32 ∷ 10 ∷ []
 unfolding style_codes
 feed = refl
 
 -- r [a\n]
-open_end : drawn_lines plain_look 9 (shape_of_tree (tree (114 ∷ []) (item (97 ∷ 10 ∷ []) none none)))
+open_end : concat (drawn_entries plain_look 9 (shape_of_tree (tree (114 ∷ []) (item (97 ∷ 10 ∷ []) none none))))
     ≡ 114 ∷ 10 ∷ 226 ∷ 148 ∷ 148 ∷ 226 ∷ 148 ∷ 128 ∷ 32 ∷ 97 ∷ 10 ∷ 32 ∷ 32 ∷ 32 ∷ 58 ∷ 32 ∷ 10 ∷ []
 unfolding style_codes
 open_end = refl
@@ -64,7 +65,7 @@ styled_root branch leaf =
     ((branch ++ [] ++ reset) ++ with_inserted (branch ++ (58 ∷ 32 ∷ []) ++ reset) (leaf ++ (114 ∷ 10 ∷ 115 ∷ []) ++ reset) ++ 10 ∷ []) ++ []
 
 -- ESC[2m ESC[0m ESC[1m r \n ESC[2m : space ESC[0m s ESC[0m \n
-styled : drawn_lines styled_look 9 (shape_of_tree (tree (114 ∷ 10 ∷ 115 ∷ []) none))
+styled : concat (drawn_entries styled_look 9 (shape_of_tree (tree (114 ∷ 10 ∷ 115 ∷ []) none)))
     ≡ 27 ∷ 91 ∷ 50 ∷ 109 ∷ 27 ∷ 91 ∷ 48 ∷ 109 ∷ 27 ∷ 91 ∷ 49 ∷ 109 ∷ 114 ∷ 10 ∷ 27 ∷ 91 ∷ 50 ∷ 109 ∷ 58 ∷ 32 ∷ 27 ∷ 91 ∷ 48 ∷ 109 ∷ 115 ∷ 27 ∷ 91 ∷ 48 ∷ 109 ∷ 10 ∷ []
 unfolding style_codes
 styled = ap (λ z. styled_root z (front_codes (record plain_style { bold = true }))) dimmed_front ∙ ap (λ z. styled_root (27 ∷ 91 ∷ 50 ∷ 109 ∷ []) z) bold_front

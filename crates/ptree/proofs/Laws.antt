@@ -1,13 +1,13 @@
 -- Laws of drawings.
 use Rattle.std.specs.Prelude.{◌↔◌, slice_get, option_and_then, nat_lt, flat_map}
-use Rattle.std.specs.List.{range_with_len}
+use Rattle.std.specs.List.{concat, range_with_len}
 use Rattle.std.proofs.Common.{◌≡◌, ℕ, zero, suc, ◌≤◌, true, cond, List, [], ◌∷◌, ◌++◌, map, Option, Some, None, length, sym, ◌∙◌, ap, subst, refl, append_assoc, arith}
 use Rattle.std.proofs.lemmas.Bool.Decides.{nat_tests}
 use Rattle.std.proofs.lemmas.List.{append-nil, map-id}
 use Rattle.ptree.specs.Address.{Address, at, is_last}
 use Rattle.ptree.specs.Drawing.{Look, passing_text, entry_from, entry_text, IsDrawing}
 use Rattle.ptree.specs.Laws.{HasOneList, entry_behind}
-use Rattle.ptree.specs.Lines.{is_empty, own_lines, with_below, kid_lines, lines_below, drawn_lines}
+use Rattle.ptree.specs.Entries.{is_empty, entry_of, with_below, kid_entries, entries_below, drawn_entries}
 use Rattle.ptree.specs.Pieces.{turning_piece, passing_piece}
 use Rattle.ptree.specs.Shape.{Shape, child, kids, cut_shape}
 use Rattle.ptree.proofs.Addresses.{one_list, walk, walk_is_list}
@@ -47,47 +47,47 @@ is_empty-map : {X Y : Type 0} (f : X → Y) (xs : List X) → is_empty (map f xs
 is_empty-map f [] = refl
 is_empty-map f (x ∷ xs) = refl
 
--- lines of two lists of children that are drawn alike
-pub kid_lines-map : {C : Type 0} (look : Look) (f g : C → Shape) (below below' : List ℕ → Shape → List ℕ) → ((c : C) → (f c).own [] look.leaf ≡ (g c).own [] look.leaf) → ((front : List ℕ) (c : C) → below' front (f c) ≡ below front (g c))
-    → (front : List ℕ) (cs : List C) → kid_lines look below' front (map f cs) ≡ kid_lines look below front (map g cs)
-kid_lines-map look f g below below' o h front [] = refl
-kid_lines-map look f g below below' o h front (c ∷ cs) =
+-- entries of two lists of children that are drawn alike
+pub kid_entries-map : {C : Type 0} (look : Look) (f g : C → Shape) (below below' : List ℕ → Shape → List (List ℕ)) → ((c : C) → (f c).own [] look.leaf ≡ (g c).own [] look.leaf) → ((front : List ℕ) (c : C) → below' front (f c) ≡ below front (g c))
+    → (front : List ℕ) (cs : List C) → kid_entries look below' front (map f cs) ≡ kid_entries look below front (map g cs)
+kid_entries-map look f g below below' o h front [] = refl
+kid_entries-map look f g below below' o h front (c ∷ cs) =
     let last = is_empty (map g cs) in
     let turned = front ++ turning_piece look.pieces last in
     let passed = front ++ passing_piece look.pieces last in
-    ap (λ l. with_below look below' front l (f c) ++ kid_lines look below' front (map f cs)) (is_empty-map f cs ∙ sym (is_empty-map g cs))
-    ∙ ap (λ t. (entry_from look turned passed t ++ below' passed (f c)) ++ kid_lines look below' front (map f cs)) (o c)
-    ∙ ap (λ t. (own_lines look turned passed (g c) ++ t) ++ kid_lines look below' front (map f cs)) (h passed c)
-    ∙ ap (λ t. with_below look below front last (g c) ++ t) (kid_lines-map look f g below below' o h front cs)
+    ap (λ l. with_below look below' front l (f c) ++ kid_entries look below' front (map f cs)) (is_empty-map f cs ∙ sym (is_empty-map g cs))
+    ∙ ap (λ t. (entry_from look turned passed t ∷ below' passed (f c)) ++ kid_entries look below' front (map f cs)) (o c)
+    ∙ ap (λ t. (entry_of look turned passed (g c) ∷ t) ++ kid_entries look below' front (map f cs)) (h passed c)
+    ∙ ap (λ t. with_below look below front last (g c) ++ t) (kid_entries-map look f g below below' o h front cs)
 
-lines_of_cut : (look : Look) (d e : ℕ) → d ≤ e → (front : List ℕ) (t : Shape) → lines_below look e front (cut_shape d t) ≡ lines_below look d front t
-lines_of_cut look zero zero h front t = refl
-lines_of_cut look zero (suc e) h front t = refl
-lines_of_cut look (suc d) zero h front t = absurd (omega arith)
-lines_of_cut look (suc d) (suc e) h front t =
-    ap (kid_lines look (lines_below look e) front) (kids_of_cut d t)
-    ∙ kid_lines-map look (cut_shape d) (λ x. x) (lines_below look d) (lines_below look e) (λ x. refl) (λ f x. lines_of_cut look d e (omega arith) f x) front (kids t)
-    ∙ ap (kid_lines look (lines_below look d) front) (map-id (kids t))
+entries_of_cut : (look : Look) (d e : ℕ) → d ≤ e → (front : List ℕ) (t : Shape) → entries_below look e front (cut_shape d t) ≡ entries_below look d front t
+entries_of_cut look zero zero h front t = refl
+entries_of_cut look zero (suc e) h front t = refl
+entries_of_cut look (suc d) zero h front t = absurd (omega arith)
+entries_of_cut look (suc d) (suc e) h front t =
+    ap (kid_entries look (entries_below look e) front) (kids_of_cut d t)
+    ∙ kid_entries-map look (cut_shape d) (λ x. x) (entries_below look d) (entries_below look e) (λ x. refl) (λ f x. entries_of_cut look d e (omega arith) f x) front (kids t)
+    ∙ ap (kid_entries look (entries_below look d) front) (map-id (kids t))
 
 -- one list is the address list
 pub the_list : (x : Shape) (d : ℕ) → HasOneList x d
 the_list x d = (walk kids d x, walk_is_list kids d x, λ other h. one_list kids x d other (walk kids d x) h (walk_is_list kids d x))
 
 -- one text is the drawing
-pub one_drawing : (look : Look) (x : Shape) (d : ℕ) (text : List ℕ) → IsDrawing look x d text → text ≡ drawn_lines look d x
+pub one_drawing : (look : Look) (x : Shape) (d : ℕ) (text : List ℕ) → IsDrawing look x d text → text ≡ concat (drawn_entries look d x)
 one_drawing look x d text h = h.2 ∙ ap (flat_map (entry_text look x)) (one_list kids x d h.0 (walk kids d x) h.1 (walk_is_list kids d x)) ∙ join look d x
 
--- shapes whose lines are the same have the same drawings
-pub same_drawings : (look : Look) (x y : Shape) (d e : ℕ) → drawn_lines look d x ≡ drawn_lines look e y → (text : List ℕ) → IsDrawing look x d text ↔ IsDrawing look y e text
+-- shapes with the same entries have the same drawings
+pub same_drawings : (look : Look) (x y : Shape) (d e : ℕ) → drawn_entries look d x ≡ drawn_entries look e y → (text : List ℕ) → IsDrawing look x d text ↔ IsDrawing look y e text
 same_drawings look x y d e h text = (
-  λ k. subst (λ (z : List ℕ). IsDrawing look y e z) (sym (one_drawing look x d text k ∙ h)) (drawn_is_drawing look e y),
-  λ k. subst (λ (z : List ℕ). IsDrawing look x d z) (sym (one_drawing look y e text k ∙ sym h)) (drawn_is_drawing look d x),
+  λ k. subst (λ (z : List ℕ). IsDrawing look y e z) (sym (one_drawing look x d text k ∙ ap concat h)) (drawn_is_drawing look e y),
+  λ k. subst (λ (z : List ℕ). IsDrawing look x d z) (sym (one_drawing look y e text k ∙ ap concat (sym h))) (drawn_is_drawing look d x),
 )
 
 -- the drawings at a depth are those of the cut tree at any greater one
 pub drawing_of_cut : (look : Look) (d e : ℕ) (t : Shape) (text : List ℕ) → d ≤ e → IsDrawing look t d text ↔ IsDrawing look (cut_shape d t) e text
 drawing_of_cut look d e t text h =
-    same_drawings look t (cut_shape d t) d e (sym (ap (λ y. own_lines look [] [] t ++ y) (lines_of_cut look d e h [] t))) text
+    same_drawings look t (cut_shape d t) d e (sym (ap (λ y. entry_of look [] [] t ∷ y) (entries_of_cut look d e h [] t))) text
 
 -- ## Subtree
 

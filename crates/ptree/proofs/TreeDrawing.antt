@@ -2,8 +2,10 @@
 use Rattle.std.specs.Prelude.{◌↔◌}
 use Rattle.std.proofs.Common.{◌≡◌, ℕ, zero, suc, ◌≤◌, Bool, true, false, List, [], ◌∷◌, ◌++◌, map, refl, sym, ap, ◌∙◌, subst, append_assoc, arith}
 use Rattle.std.proofs.lemmas.List.{append-nil}
+use Rattle.std.proofs.lemmas.List.Folds.{concat-append}
+use Rattle.std.specs.List.{concat}
 use Rattle.ptree.specs.Drawing.{Look, entry_from, IsDrawing}
-use Rattle.ptree.specs.Lines.{is_empty, with_below, kid_lines, lines_below, drawn_lines}
+use Rattle.ptree.specs.Entries.{is_empty, with_below, kid_entries, entries_below, drawn_entries}
 use Rattle.ptree.specs.Pieces.{Pieces, turning_piece, passing_piece, passing_all}
 use Rattle.ptree.specs.Shape.{Shape}
 use Rattle.ptree.specs.Spelled.{text_entry}
@@ -37,35 +39,35 @@ bare_shapes : (f : Forest) → is_empty (map shape_of_tree (trees f)) ≡ is_bar
 bare_shapes none = refl
 bare_shapes (item t c r) = refl
 
-lines_of_forest : (look : Look) (d : ℕ) → ((above : List Bool) (t : Tree) → height t.children ≤ d → lines_below look d (passing_all look.pieces above) (shape_of_tree t) ≡ forest_drawing look above t.children)
-    → (above : List Bool) (f : Forest) → height f ≤ suc d → kid_lines look (lines_below look d) (passing_all look.pieces above) (map shape_of_tree (trees f)) ≡ forest_drawing look above f
-lines_of_forest look d ih above none h = refl
-lines_of_forest look d ih above (item t c r) h =
+entries_of_forest : (look : Look) (d : ℕ) → ((above : List Bool) (t : Tree) → height t.children ≤ d → concat (entries_below look d (passing_all look.pieces above) (shape_of_tree t)) ≡ forest_drawing look above t.children)
+    → (above : List Bool) (f : Forest) → height f ≤ suc d → concat (kid_entries look (entries_below look d) (passing_all look.pieces above) (map shape_of_tree (trees f))) ≡ forest_drawing look above f
+entries_of_forest look d ih above none h = refl
+entries_of_forest look d ih above (item t c r) h =
     let p = look.pieces in
     let front : List ℕ = passing_all p above in
     let deep : List Bool = above ++ is_bare r ∷ [] in
     let x : Shape = shape_of_tree (tree t c) in
     let own : List ℕ = painted_text look.leaf t in
-    let others : List ℕ = kid_lines look (lines_below look d) front (map shape_of_tree (trees r)) in
+    let others : List (List ℕ) = kid_entries look (entries_below look d) front (map shape_of_tree (trees r)) in
     let here : List ℕ = entry_from look (front ++ turning_piece p (is_bare r)) (passing_all p deep) own in
-    ap (λ b. with_below look (lines_below look d) front b x ++ others) (bare_shapes r)
-    ∙ (ap (λ q. (entry_from look (front ++ turning_piece p (is_bare r)) q own ++ lines_below look d q x) ++ others) (passing_all_push p above (is_bare r))
-    ∙ (ap (λ z. (here ++ z) ++ others) (ih deep (tree t c) (omega (arith, h)))
-    ∙ (append_assoc here (forest_drawing look deep c) others
-    ∙ ap (λ z. here ++ (forest_drawing look deep c ++ z)) (lines_of_forest look d ih above r (omega (arith, h))))))
+    ap (λ b. concat (with_below look (entries_below look d) front b x ++ others)) (bare_shapes r)
+    ∙ (ap (λ q. entry_from look (front ++ turning_piece p (is_bare r)) q own ++ concat (entries_below look d q x ++ others)) (passing_all_push p above (is_bare r))
+    ∙ (ap (λ z. here ++ z) (concat-append (entries_below look d (passing_all p deep) x) others)
+    ∙ (ap (λ z. here ++ (z ++ concat others)) (ih deep (tree t c) (omega (arith, h)))
+    ∙ ap (λ z. here ++ (forest_drawing look deep c ++ z)) (entries_of_forest look d ih above r (omega (arith, h))))))
 
 no_trees : (look : Look) (above : List Bool) (f : Forest) → height f ≤ 0 → [] ≡ forest_drawing look above f
 no_trees look above none h = refl
 no_trees look above (item t c r) h = absurd (omega (arith, h))
 
-lines_of_tree : (look : Look) (d : ℕ) (above : List Bool) (t : Tree) → height t.children ≤ d → lines_below look d (passing_all look.pieces above) (shape_of_tree t) ≡ forest_drawing look above t.children
-lines_of_tree look zero above t h = no_trees look above t.children h
-lines_of_tree look (suc d) above t h =
-    ap (kid_lines look (lines_below look d) (passing_all look.pieces above)) (sym (kids_of_unfold tree_own tree_kids t))
-    ∙ lines_of_forest look d (lines_of_tree look d) above t.children h
+entries_of_tree : (look : Look) (d : ℕ) (above : List Bool) (t : Tree) → height t.children ≤ d → concat (entries_below look d (passing_all look.pieces above) (shape_of_tree t)) ≡ forest_drawing look above t.children
+entries_of_tree look zero above t h = no_trees look above t.children h
+entries_of_tree look (suc d) above t h =
+    ap (λ ks. concat (kid_entries look (entries_below look d) (passing_all look.pieces above) ks)) (sym (kids_of_unfold tree_own tree_kids t))
+    ∙ entries_of_forest look d (entries_of_tree look d) above t.children h
 
-pub drawn_tree : (look : Look) (depth : ℕ) (t : Tree) → height t.children ≤ depth → drawn_lines look depth (shape_of_tree t) ≡ tree_drawing look t
-drawn_tree look depth t h = ap (λ z. entry_from look [] [] (painted_text look.leaf t.text) ++ z) (lines_of_tree look depth [] t h)
+pub drawn_tree : (look : Look) (depth : ℕ) (t : Tree) → height t.children ≤ depth → concat (drawn_entries look depth (shape_of_tree t)) ≡ tree_drawing look t
+drawn_tree look depth t h = ap (λ z. entry_from look [] [] (painted_text look.leaf t.text) ++ z) (entries_of_tree look depth [] t h)
 
 -- the drawing of a tree by addresses is its drawing by recursion, at a depth that it doesn't exceed
 pub drawing_of_tree : (look : Look) (depth : ℕ) (t : Tree) (x : List ℕ) → height t.children ≤ depth → IsDrawing look (shape_of_tree t) depth x ↔ (x ≡ tree_drawing look t)

@@ -6,7 +6,7 @@ use Rattle.ptree.specs.declared.graph.Graph.{Graph}
 use Rattle.ptree.specs.declared.style.Style.{Style}
 use Rattle.ptree.specs.Drawing.{Look, entry_from, IsDrawing}
 use Rattle.ptree.specs.Graph.{weights_of, edges_of, neighbors_of, node_own, node_shape, node_text, walks}
-use Rattle.ptree.specs.Lines.{own_lines, is_empty, with_below, kid_lines, lines_below, drawn_lines}
+use Rattle.ptree.specs.Entries.{entry_of, is_empty, with_below, kid_entries, entries_below, drawn_entries}
 use Rattle.ptree.specs.Pieces.{passing_piece, turning_piece}
 use Rattle.ptree.specs.Shape.{Shape, kids}
 use Rattle.ptree.specs.Style.{painted_text}
@@ -20,19 +20,19 @@ same_empty : {X : Type 0} (f g : X → Shape) (xs : List X) → is_empty (map f 
 same_empty f g [] = refl
 same_empty f g (x ∷ xs) = refl
 
--- lines of children that two functions give, where both give the same bytes and lines
-kid_lines_alike : {X : Type 0} (look : Look) (below : List ℕ → Shape → List ℕ) (f g : X → Shape) (P : X → Type 0)
+-- entries of children that two functions give, where both give the same bytes and entries
+kid_entries_alike : {X : Type 0} (look : Look) (below : List ℕ → Shape → List (List ℕ)) (f g : X → Shape) (P : X → Type 0)
     → ((x : X) → P x → (f x).own [] look.leaf ≡ (g x).own [] look.leaf) → ((x : X) → P x → (front : List ℕ) → below front (f x) ≡ below front (g x))
-    → (front : List ℕ) (xs : List X) → All P xs → kid_lines look below front (map f xs) ≡ kid_lines look below front (map g xs)
-kid_lines_alike look below f g P o b front [] h = refl
-kid_lines_alike look below f g P o b front (x ∷ xs) h =
+    → (front : List ℕ) (xs : List X) → All P xs → kid_entries look below front (map f xs) ≡ kid_entries look below front (map g xs)
+kid_entries_alike look below f g P o b front [] h = refl
+kid_entries_alike look below f g P o b front (x ∷ xs) h =
     let here = All-head P x xs h in
     let turned = front ++ turning_piece look.pieces (is_empty (map g xs)) in
     let passed = front ++ passing_piece look.pieces (is_empty (map g xs)) in
-    ap (λ l. with_below look below front l (f x) ++ kid_lines look below front (map f xs)) (same_empty f g xs)
-    ∙ ap (λ t. (entry_from look turned passed t ++ below passed (f x)) ++ kid_lines look below front (map f xs)) (o x here)
-    ∙ ap (λ t. (own_lines look turned passed (g x) ++ t) ++ kid_lines look below front (map f xs)) (b x here passed)
-    ∙ ap (λ t. with_below look below front (is_empty (map g xs)) (g x) ++ t) (kid_lines_alike look below f g P o b front xs (All-tail P x xs h))
+    ap (λ l. with_below look below front l (f x) ++ kid_entries look below front (map f xs)) (same_empty f g xs)
+    ∙ ap (λ t. (entry_from look turned passed t ∷ below passed (f x)) ++ kid_entries look below front (map f xs)) (o x here)
+    ∙ ap (λ t. (entry_of look turned passed (g x) ∷ t) ++ kid_entries look below front (map f xs)) (b x here passed)
+    ∙ ap (λ t. with_below look below front (is_empty (map g xs)) (g x) ++ t) (kid_entries_alike look below f g P o b front xs (All-tail P x xs h))
 
 -- an element within a list is there
 within_is_some : {X : Type 0} (xs : List X) (i : ℕ) → i < length xs → slice_get xs i ≡ None → ⊥
@@ -65,20 +65,20 @@ module _ {N : Type 0} (text : N → List ℕ) (g : Graph N) where
       ∙ ap (map shape_of_tree) (sym (trees_of_forest (map (λ u. walks text g u d) below)))
       ∙ kids_of_unfold tree_own tree_kids (walks text g v (suc d))
 
-  lines_of_walks : (look : Look) (d v : ℕ) → v < length (weights_of g) → (front : List ℕ)
-      → lines_below look d front (node_shape text g v) ≡ lines_below look d front (shape_of_walks v d)
-  lines_of_walks look zero v h front = refl
-  lines_of_walks look (suc d) v h front =
-      let lines = kid_lines look (lines_below look d) front in
-      ap lines (sym (kids_of_unfold (node_own text g) (neighbors_of (edges_of g)) v))
-      ∙ kid_lines_alike look (lines_below look d) (node_shape text g) (λ u. shape_of_walks u d) (λ u. u < length (weights_of g))
-      (λ u. own_of_walks look.leaf u d) (lines_of_walks look d) front (neighbors_of (edges_of g) v) (neighbors_below g v)
-      ∙ ap lines (kids_of_walks v d)
+  entries_of_walks : (look : Look) (d v : ℕ) → v < length (weights_of g) → (front : List ℕ)
+      → entries_below look d front (node_shape text g v) ≡ entries_below look d front (shape_of_walks v d)
+  entries_of_walks look zero v h front = refl
+  entries_of_walks look (suc d) v h front =
+      let entries = kid_entries look (entries_below look d) front in
+      ap entries (sym (kids_of_unfold (node_own text g) (neighbors_of (edges_of g)) v))
+      ∙ kid_entries_alike look (entries_below look d) (node_shape text g) (λ u. shape_of_walks u d) (λ u. u < length (weights_of g))
+      (λ u. own_of_walks look.leaf u d) (entries_of_walks look d) front (neighbors_of (edges_of g) v) (neighbors_below g v)
+      ∙ ap entries (kids_of_walks v d)
 
-  drawn_of_walks : (look : Look) (d v : ℕ) → v < length (weights_of g) → drawn_lines look d (node_shape text g v) ≡ drawn_lines look d (shape_of_walks v d)
+  drawn_of_walks : (look : Look) (d v : ℕ) → v < length (weights_of g) → drawn_entries look d (node_shape text g v) ≡ drawn_entries look d (shape_of_walks v d)
   drawn_of_walks look d v h =
-      ap (λ own. entry_from look [] [] own ++ lines_below look d [] (node_shape text g v)) (own_of_walks look.leaf v d h)
-      ∙ ap (λ lines. own_lines look [] [] (shape_of_walks v d) ++ lines) (lines_of_walks look d v h [])
+      ap (λ own. entry_from look [] [] own ∷ entries_below look d [] (node_shape text g v)) (own_of_walks look.leaf v d h)
+      ∙ ap (λ entries. entry_of look [] [] (shape_of_walks v d) ∷ entries) (entries_of_walks look d v h [])
 
   -- byte for byte
   pub drawing_of_walks : (look : Look) (d v : ℕ) → v < length (weights_of g) → (bytes : List ℕ)

@@ -23,7 +23,7 @@ pub mod Writing
 -- what private functions say: of codes, of the engine, of the builder, of graphs and of the reader
 pub mod Codes
 pub mod Looks
-pub mod Lines
+pub mod Entries
 pub mod Rows
 pub mod GraphLinks
 pub mod Flags

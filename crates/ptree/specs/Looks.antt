@@ -4,7 +4,7 @@ use Rattle.ptree.specs.declared.output.look.Look.{Look as HeldLook}
 use Rattle.ptree.specs.declared.read.lines.CodeTexts.{CodeTexts}
 use Rattle.ptree.specs.declared.style.Style.{Style}
 use Rattle.ptree.specs.Drawing.{Look, look_from}
-use Rattle.ptree.specs.Lines.{own_lines}
+use Rattle.ptree.specs.Entries.{entry_of}
 use Rattle.ptree.specs.Pieces.{Pieces, turning_piece, passing_piece, pieces_of}
 use Rattle.ptree.specs.Shape.{Shape}
 use Rattle.ptree.specs.Style.{front_codes, back_codes}
@@ -45,7 +45,7 @@ pub record AreFurtherTexts (look : Look) (root child last_child : List ℕ) : Ty
 
 -- the entry of a root or of a child, behind its parent's passing text
 abbrev pub own_entry : Look → List ℕ → Option Bool → Shape → List ℕ
-own_entry look front last x = own_lines look (front ++ own_piece look.pieces last) (front ++ below_piece look.pieces last) x
+own_entry look front last x = entry_of look (front ++ own_piece look.pieces last) (front ++ below_piece look.pieces last) x
 
 -- two texts are the codes of a style
 pub record HasCodes (c : CodeTexts) (style : Style) : Type 0 where

@@ -1,5 +1,5 @@
 //! Pieces, and the calls that draw.
-ghost use Rattle.ptree.specs.Writing.{HasCause, IsDrawn};
+ghost use Rattle.ptree.specs.Writing.{HasCause, IsDrawn, LeavesWholeEntries};
 ghost use Rattle.ptree.specs.Drawing.{look_of, written_look};
 ghost use Rattle.ptree.specs.Laws.{HasOneList, HasCuts, HasTreeCuts, HasSubtrees, HasOneLineEntries};
 
@@ -30,6 +30,7 @@ where
     T::Child: TreeItem<Child = T::Child> + Drop,
     W: Sink,
     ensures bytes { IsDrawn (look_of config.now output_kind terminal) (T.shape item.now) config.now.depth (W.contents f.old) (W.contents f.new) result }
+    ensures whole { LeavesWholeEntries (look_of config.now output_kind terminal) (T.shape item.now) config.now.depth (W.contents f.old) (W.contents f.new) result }
     ensures cause { HasCause (W.faults f.old) (W.faults f.new) result }
 {
     let plain = Style::default();
@@ -55,6 +56,8 @@ where
     W: Sink,
     // Success appends exactly the drawing, and a refusal a beginning of it.
     ensures bytes { IsDrawn (look_of config.now OutputKind.Stdout terminal) (T.shape item.now) config.now.depth (W.contents out.old) (W.contents out.new) result }
+    // Where memory ran out, what was appended is whole entries.
+    ensures whole { LeavesWholeEntries (look_of config.now OutputKind.Stdout terminal) (T.shape item.now) config.now.depth (W.contents out.old) (W.contents out.new) result }
     ensures cause { HasCause (W.faults out.old) (W.faults out.new) result }
 {
     draw_for(alloc, item, out, OutputKind::Stdout, terminal, config)
@@ -77,6 +80,8 @@ where
     W: Sink,
     // Success appends exactly the drawing, and a refusal a beginning of it.
     ensures bytes { IsDrawn (written_look config.now) (T.shape item.now) config.now.depth (W.contents f.old) (W.contents f.new) result }
+    // Where memory ran out, what was appended is whole entries.
+    ensures whole { LeavesWholeEntries (written_look config.now) (T.shape item.now) config.now.depth (W.contents f.old) (W.contents f.new) result }
     ensures cause { HasCause (W.faults f.old) (W.faults f.new) result }
     // One list of addresses meets the definition, and no other.
     ensures one_list { HasOneList (T.shape item.now) config.now.depth }

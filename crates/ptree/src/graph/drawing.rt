@@ -1,11 +1,11 @@
 //! What is drawn of a graph.
-ghost use Rattle.std.specs.Prelude.{◌≡◌, ◌↔◌, ℕ, ◌<◌, false, List, length, map, IfOk};
+ghost use Rattle.std.specs.Prelude.{◌≡◌, ◌↔◌, ℕ, ◌<◌, List, length, map, IfOk};
 ghost use Rattle.ptree.specs.Children.{children_items};
-ghost use Rattle.ptree.specs.Drawing.{look_of, IsDrawing};
+ghost use Rattle.ptree.specs.Drawing.{written_look, IsDrawing};
 ghost use Rattle.ptree.specs.Graph.{weights_of, node_shape, walks};
 ghost use Rattle.ptree.specs.Style.{painted_text};
 ghost use Rattle.ptree.specs.Tree.{shape_of_tree};
-ghost use Rattle.ptree.specs.Writing.{IsWritten, HasCause, TakesNoMemory, IsDrawn};
+ghost use Rattle.ptree.specs.Writing.{IsWritten, HasCause, TakesNoMemory, IsDrawn, LeavesWholeEntries};
 
 use super::{Graph, NodeIndex};
 use crate::item::{Children, Shaped, TreeItem};
@@ -159,12 +159,13 @@ pub fn write_graph_with<N: Label, W: Sink>(
     f: &mut W,
     config: &PrintConfig,
 ) -> Result<(), DrawError>
-    ensures bytes { IsDrawn (look_of config.now OutputKind.Unknown false) (node_shape N.text graph.now start.0) config.now.depth (W.contents f.old) (W.contents f.new) result }
+    ensures bytes { IsDrawn (written_look config.now) (node_shape N.text graph.now start.0) config.now.depth (W.contents f.old) (W.contents f.new) result }
+    ensures whole { LeavesWholeEntries (written_look config.now) (node_shape N.text graph.now start.0) config.now.depth (W.contents f.old) (W.contents f.new) result }
     ensures cause { HasCause (W.faults f.old) (W.faults f.new) result }
     // The drawings of a node are those of the tree of the walks from it.
     ensures walks { start.0 < length (weights_of graph.now) → (text : List ℕ)
-        → IsDrawing (look_of config.now OutputKind.Unknown false) (node_shape N.text graph.now start.0) config.now.depth text
-        ↔ IsDrawing (look_of config.now OutputKind.Unknown false) (shape_of_tree (walks N.text graph.now start.0 config.now.depth)) config.now.depth text }
+        → IsDrawing (written_look config.now) (node_shape N.text graph.now start.0) config.now.depth text
+        ↔ IsDrawing (written_look config.now) (shape_of_tree (walks N.text graph.now start.0 config.now.depth)) config.now.depth text }
 {
     write_tree_with(alloc, &GraphNode { graph, node: start }, f, config)
 }

@@ -1,10 +1,11 @@
 //! The drawing engine.
-ghost use Rattle.std.specs.Prelude.{◌≡◌, ℕ, Bool, true, false, Some, length, take, drop, ◌≤◌, ◌++◌, IfOk, OnOk, string_bytes, List, map};
+ghost use Rattle.std.specs.Prelude.{◌≡◌, ℕ, Bool, true, false, Some, length, take, drop, ◌≤◌, ◌++◌, IfOk, OnOk, OnErr, Err, string_bytes, List, map};
+ghost use Rattle.std.specs.List.{concat};
 ghost use Rattle.ptree.specs.Drawing.{with_inserted};
-ghost use Rattle.ptree.specs.Lines.{item_lines, kid_lines, lines_below, drawn_lines};
+ghost use Rattle.ptree.specs.Entries.{item_entries, kid_entries, entries_below, drawn_entries};
 ghost use Rattle.ptree.specs.Looks.{look_meant, AreOwnTexts, AreFurtherTexts, own_text, further_text, own_entry};
 ghost use Rattle.ptree.specs.Style.{front_codes};
-ghost use Rattle.ptree.specs.Writing.{IsWritten, HasCause, HasErrorCause};
+ghost use Rattle.ptree.specs.Writing.{AppendsFirst, IsWritten, AreWritten, HasCause, HasErrorCause};
 ghost use Rattle.ptree.specs.declared.style.DrawError.TheVariants.{Memory};
 
 use crate::faults::FaultCount;
@@ -222,6 +223,7 @@ fn draw_entry<C: TreeItem, W: Sink>(
     requires turned { pen.old.line.bytes.items ≡ take width pen.old.line.bytes.items ++ own_text (look_meant brush.now.look.now) last }
     ensures bytes { (front : List ℕ) → take width pen.old.line.bytes.items ≡ front_codes brush.now.look.now.branch.now ++ front
         → IsWritten (W.contents f.old) (W.contents f.new) result (own_entry (look_meant brush.now.look.now) front last (C.shape item.now)) }
+    ensures memory { OnErr result (pen.new.error ≡ Memory → W.contents f.new ≡ W.contents f.old) }
     ensures cause { HasErrorCause (W.faults f.old) (W.faults f.new) pen.new.error }
     ensures error { OnOk result (pen.new.error ≡ Memory) }
     ensures kept { OnOk result (pen.new.line.bytes.items ≡ pen.old.line.bytes.items) }
@@ -255,7 +257,7 @@ fn draw_item<C: TreeItem<Child = C> + Drop, W: Sink>(
     requires width { width ≤ length pen.old.line.bytes.items }
     requires turned { pen.old.line.bytes.items ≡ take width pen.old.line.bytes.items ++ own_text (look_meant brush.now.look.now) (Some is_last) }
     ensures bytes { (front : List ℕ) → take width pen.old.line.bytes.items ≡ front_codes brush.now.look.now.branch.now ++ front
-        → IsWritten (W.contents f.old) (W.contents f.new) result (item_lines (look_meant brush.now.look.now) left front is_last (C.shape item.now)) }
+        → AreWritten (W.contents f.old) (W.contents f.new) result pen.new.error (item_entries (look_meant brush.now.look.now) left front is_last (C.shape item.now)) }
     ensures cause { HasErrorCause (W.faults f.old) (W.faults f.new) pen.new.error }
     ensures error { OnOk result (pen.new.error ≡ Memory) }
     ensures kept { OnOk result (take width pen.new.line.bytes.items ≡ take width pen.old.line.bytes.items) }
@@ -286,8 +288,8 @@ fn draw_children<C: TreeItem<Child = C> + Drop, W: Sink>(
 ) -> Result<(), Stop>
     requires error { pen.old.error ≡ Memory }
     ensures bytes { (front : List ℕ) → pen.old.line.bytes.items ≡ front_codes brush.now.look.now.branch.now ++ front
-        → IsWritten (W.contents f.old) (W.contents f.new) result
-        (let look = look_meant brush.now.look.now in kid_lines look (lines_below look left) front (map C.shape items.now)) }
+        → AreWritten (W.contents f.old) (W.contents f.new) result pen.new.error
+        (let look = look_meant brush.now.look.now in kid_entries look (entries_below look left) front (map C.shape items.now)) }
     ensures cause { HasErrorCause (W.faults f.old) (W.faults f.new) pen.new.error }
     ensures error { OnOk result (pen.new.error ≡ Memory) }
     ensures kept { OnOk result (pen.new.line.bytes.items ≡ pen.old.line.bytes.items) }
@@ -319,7 +321,7 @@ where
     W: Sink,
     requires error { pen.old.error ≡ Memory }
     requires front { pen.old.line.bytes.items ≡ front_codes brush.now.look.now.branch.now }
-    ensures bytes { IsWritten (W.contents f.old) (W.contents f.new) result (drawn_lines (look_meant brush.now.look.now) depth (T.shape item.now)) }
+    ensures bytes { AreWritten (W.contents f.old) (W.contents f.new) result pen.new.error (drawn_entries (look_meant brush.now.look.now) depth (T.shape item.now)) }
     ensures error { OnOk result (pen.new.error ≡ Memory) }
     ensures cause { HasErrorCause (W.faults f.old) (W.faults f.new) pen.new.error }
 {
@@ -346,7 +348,8 @@ where
     T: TreeItem,
     T::Child: TreeItem<Child = T::Child> + Drop,
     W: Sink,
-    ensures bytes { IsWritten (W.contents f.old) (W.contents f.new) result (drawn_lines (look_meant look.now) depth (T.shape item.now)) }
+    ensures bytes { IsWritten (W.contents f.old) (W.contents f.new) result (concat (drawn_entries (look_meant look.now) depth (T.shape item.now))) }
+    ensures whole { result ≡ Err Memory → AppendsFirst (W.contents f.old) (W.contents f.new) (drawn_entries (look_meant look.now) depth (T.shape item.now)) }
     ensures cause { HasCause (W.faults f.old) (W.faults f.new) result }
 {
     let brush = Brush::new(alloc, look)?;

@@ -1,6 +1,7 @@
 use Rattle.std.proofs.Common.{subst}
+use Rattle.std.specs.List.{concat}
 use Rattle.ptree.specs.declared.output.look.Look.{Look as HeldLook}
-use Rattle.ptree.specs.Lines.{drawn_lines}
+use Rattle.ptree.specs.Entries.{drawn_entries}
 use Rattle.ptree.specs.Looks.{look_meant}
 use Rattle.ptree.specs.Writing.{AppendsPart}
 use Rattle.ptree.proofs.Engine.{nothing_yet}
@@ -12,4 +13,4 @@ returns-in_err-pen-clause-bytes g c = written_err _ _ _ _ _ c.from_residual-in_e
 
 pub returns-clause-bytes : goal.returns-clause-bytes
 returns-clause-bytes g c =
-    subst (λ (l : HeldLook). AppendsPart (g.W.Sink.contents c.args.f.now) (g.W.Sink.contents c.draw_root.new.f) (drawn_lines (look_meant l) c.args.depth (g.T.Shaped.shape c.args.item.now))) c.in_ok-brush.ensures c.in-Err.ensures.bytes
+    subst (λ (l : HeldLook). AppendsPart (g.W.Sink.contents c.args.f.now) (g.W.Sink.contents c.draw_root.new.f) (concat (drawn_entries (look_meant l) c.args.depth (g.T.Shaped.shape c.args.item.now)))) c.in_ok-brush.ensures c.in-Err.ensures.bytes.0

@@ -1,0 +1,37 @@
+-- The entries of a drawing by recursion, as the engine's private functions say them. Public contracts say them by addresses.
+use Rattle.std.specs.Prelude.{ℕ, zero, suc, Bool, true, false, List, [], ◌∷◌, ◌++◌}
+use Rattle.ptree.specs.Drawing.{Look, entry_from}
+use Rattle.ptree.specs.Pieces.{turning_piece, passing_piece}
+use Rattle.ptree.specs.Shape.{Shape, kids}
+
+-- whether a list is empty
+abbrev pub is_empty : {X : Type 0} → List X → Bool
+is_empty [] = true
+is_empty (x ∷ xs) = false
+
+-- the entry of x behind this prefix, with this passing text
+abbrev pub entry_of : Look → List ℕ → List ℕ → Shape → List ℕ
+entry_of look prefix passing x = entry_from look prefix passing (x.own [] look.leaf)
+
+-- the entries of an item and, by below, of what is under it, behind its parent's passing text
+abbrev pub with_below : Look → (List ℕ → Shape → List (List ℕ)) → List ℕ → Bool → Shape → List (List ℕ)
+with_below look below front last x =
+    entry_of look (front ++ turning_piece look.pieces last) (front ++ passing_piece look.pieces last) x ∷ below (front ++ passing_piece look.pieces last) x
+
+-- the entries of children
+abbrev pub kid_entries : Look → (List ℕ → Shape → List (List ℕ)) → List ℕ → List Shape → List (List ℕ)
+kid_entries look below front [] = []
+kid_entries look below front (c ∷ cs) = with_below look below front (is_empty cs) c ++ kid_entries look below front cs
+
+-- the entries under x, down to so many levels
+abbrev pub entries_below : Look → ℕ → List ℕ → Shape → List (List ℕ)
+entries_below look zero front x = []
+entries_below look (suc left) front x = kid_entries look (entries_below look left) front (kids x)
+
+-- the entries of an item that isn't the root
+abbrev pub item_entries : Look → ℕ → List ℕ → Bool → Shape → List (List ℕ)
+item_entries look left front last x = with_below look (entries_below look left) front last x
+
+-- the entries of a root and of what is under it
+abbrev pub drawn_entries : Look → ℕ → Shape → List (List ℕ)
+drawn_entries look depth x = entry_of look [] [] x ∷ entries_below look depth [] x
