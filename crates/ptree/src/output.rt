@@ -42,7 +42,8 @@ where
 ///
 /// # Errors
 ///
-/// `Write` or `Zero` where `out` failed, and `Memory`. A beginning of the drawing was written.
+/// `Write` or `Zero` where `out` failed, and `Memory`. A beginning of the drawing was written; where memory ran out,
+/// whole entries.
 pub fn print_tree_with<T, W>(
     alloc: Global,
     item: &T,
@@ -67,7 +68,8 @@ where
 ///
 /// # Errors
 ///
-/// `Write` or `Zero` where `f` failed, and `Memory`. A beginning of the drawing was written.
+/// `Write` or `Zero` where `f` failed, and `Memory`. A beginning of the drawing was written; where memory ran out,
+/// whole entries.
 pub fn write_tree_with<T, W>(
     alloc: Global,
     item: &T,

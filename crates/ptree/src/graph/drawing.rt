@@ -151,7 +151,8 @@ impl<'a, N: Label> TreeItem for GraphNode<'a, N> {
 ///
 /// # Errors
 ///
-/// `Write` or `Zero` where `f` failed, and `Memory`. A beginning of the drawing was written.
+/// `Write` or `Zero` where `f` failed, and `Memory`. A beginning of the drawing was written; where memory ran out,
+/// whole entries.
 pub fn write_graph_with<N: Label, W: Sink>(
     alloc: Global,
     graph: &Graph<N>,
