@@ -317,10 +317,14 @@ fn a_million_lines_of_one_text(rt: HostRuntime) -> Result<(), Fail> {
         root.push_str(": a\n")?;
         child.push_str("   : a\n")?;
     }
-    let tree = leaf(alloc, text.as_str())?;
-    assert_drawn_and_read(&rt, alloc, &tree, &config, root.as_str())?;
-    let tree = over_leaves(alloc, "r", &[text.as_str()])?;
-    assert_drawn_and_read(&rt, alloc, &tree, &config, child.as_str())
+    let root_tree = leaf(alloc, text.as_str())?;
+    let child_tree = over_leaves(alloc, "r", &[text.as_str()])?;
+    for (tree, text) in [(&root_tree, root.as_str()), (&child_tree, child.as_str())] {
+        assert!(rt; drawn(alloc, tree, &config)?.as_slice() == text.as_bytes());
+        let back = read(alloc, text, &config)?.ok_or("no drawing")?;
+        assert!(rt; spelled(alloc, &back)?.as_str() == spelled(alloc, tree)?.as_str());
+    }
+    Ok(())
 }
 
 // A text that runs out of memory once it has written several lines.
