@@ -416,14 +416,15 @@ pub fn put_all<W: Sink>(f: &mut W, bytes: &[u8]) -> Result<(), DrawError>
     // For no bytes nothing is put, and no fault is counted.
     ensures none { bytes.now ≡ [] → IsOk result × (f.new ≡ f.old) }
 {
-    if bytes.is_empty() {
-        return Ok(());
+    let mut rest = bytes;
+    while !rest.is_empty() {
+        match f.put(rest) {
+            Ok(0) => return Err(DrawError::Zero),
+            Ok(n) => rest = &rest[n..],
+            Err(e) => return Err(DrawError::Write(e)),
+        }
     }
-    let mut error = DrawError::Memory;
-    match put_or_stop(f, bytes, &mut error) {
-        Ok(()) => Ok(()),
-        Err(_) => Err(error),
-    }
+    Ok(())
 }
 
 /// The end of a drawing at an error, which stands elsewhere. A result that holds none is small.
@@ -451,19 +452,11 @@ pub(crate) fn put_or_stop<W: Sink>(
     ensures error { OnOk result (error.new ≡ Memory) }
     ensures memory { OnErr result (error.new ≢ Memory) }
 {
-    let mut rest = bytes;
-    while !rest.is_empty() {
-        match f.put(rest) {
-            Ok(0) => {
-                *error = DrawError::Zero;
-                return Err(Stop);
-            }
-            Ok(n) => rest = &rest[n..],
-            Err(e) => {
-                *error = DrawError::Write(e);
-                return Err(Stop);
-            }
+    match put_all(f, bytes) {
+        Ok(()) => Ok(()),
+        Err(e) => {
+            *error = e;
+            Err(Stop)
         }
     }
-    Ok(())
 }

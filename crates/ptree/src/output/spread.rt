@@ -35,7 +35,7 @@ fn holds_line_feed_at(bytes: &[u8], place: usize) -> bool
 }
 
 // The same of fewer than sixteen bytes, or of more behind the first ones.
-#[inline(never)]
+#[inline(always)]
 fn holds_line_feed(bytes: &[u8], start: usize) -> bool
     requires { start ≤ length bytes.now }
     ensures { result ≡ false → HasNoLineFeed (drop start bytes.now) }
