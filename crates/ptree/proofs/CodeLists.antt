@@ -7,7 +7,7 @@ use Rattle.std.proofs.lemmas.Grind.{flat_map-append, take-set_at}
 use Rattle.std.proofs.lemmas.List.Elements.{filter-append}
 use Rattle.std.proofs.lemmas.List.{map-append}
 use Rattle.std.proofs.lemmas.Simd.{map-map}
-use Rattle.ptree.specs.Codes.{joined_codes, reset_behind}
+use Rattle.ptree.specs.Codes.{joined_codes}
 use Rattle.ptree.specs.declared.colors.Side.{Side}
 use Rattle.ptree.specs.declared.colors.Side.TheVariants.{Foreground, Background}
 use Rattle.ptree.specs.declared.style.Color.{Color}
@@ -77,12 +77,12 @@ parameters_of style =
           ∙ ap (λ cs. cs ++ map code back) (sym (map-append code one front)) ∙ sym (map-append code (one ++ front) back),
     )
 
-reset_is : (pss : List (List ℕ)) → reset_behind (joined_codes (map code pss)) ≡ reset_after (map code pss)
+reset_is : (pss : List (List ℕ)) → reset_after (joined_codes (map code pss)) ≡ reset_after (map code pss)
 reset_is [] = refl
 reset_is (ps ∷ pss) = refl
 
 -- there is a reset where there is a code
-pub back_codes_are : (style : Style) → reset_behind (front_codes style) ≡ back_codes style
+pub back_codes_are : (style : Style) → reset_after (front_codes style) ≡ back_codes style
 back_codes_are style =
     let h = parameters_of style in
-    ap (λ cs. reset_behind (joined_codes cs)) h.1 ∙ reset_is h.0 ∙ ap reset_after (sym h.1)
+    ap (λ cs. reset_after (joined_codes cs)) h.1 ∙ reset_is h.0 ∙ ap reset_after (sym h.1)

@@ -5,7 +5,7 @@ use Rattle.std.proofs.lemmas.List.Elements.{All-nil, All-cons, All-head, All-tai
 use Rattle.ptree.specs.Drawing.{Look}
 use Rattle.ptree.specs.Outline.{Line, Steps, last_level}
 use Rattle.ptree.specs.Readable.{IsReadableWith}
-use Rattle.ptree.specs.Spelled.{SpelledItem, line_in, lines_in, IsSpelled, IsNotContinued, text_entry, spelled_text, Spells, HasItem}
+use Rattle.ptree.specs.Spelled.{SpelledItem, line_of_item, lines_of_items, IsSpelled, IsNotContinued, text_entry, spelled_text, Spells, HasItem}
 use Rattle.ptree.proofs.Upward.{above_root}
 use Rattle.ptree.proofs.ItemsOnce.{Stops, lines_once}
 use Rattle.ptree.proofs.Marks.{items_never}
@@ -14,10 +14,10 @@ use Rattle.ptree.proofs.Steps.{Steps-push, last_level-push}
 -- lines were taken from the front of body, the last of them at this level, and rest is left
 pub record Scanned (k : Look) (depth : ℕ) (body rest : List ℕ) (lines : List SpelledItem) (level : ℕ) : Type 0 where
   pub are_spelled : All (IsSpelled k.pieces) lines
-  pub steps : Steps 0 (lines_in lines)
+  pub steps : Steps 0 (lines_of_items lines)
   pub within : All (λ l. l.level ≤ depth) lines
   pub text_is : body ≡ spelled_text k lines ++ rest
-  pub level_is : level ≡ last_level 0 (lines_in lines)
+  pub level_is : level ≡ last_level 0 (lines_of_items lines)
   pub stops : Stops k lines rest
 
 pub scanned_none : (k : Look) (depth : ℕ) (body : List ℕ) → Scanned k depth body body [] 0
@@ -38,15 +38,15 @@ All-push P xs x h here = All-append P xs (x ∷ []) h (All-cons P x [] here (All
 pub scanned_more : (k : Look) (depth : ℕ) (body rest after : List ℕ) (lines : List SpelledItem) (level : ℕ) (l : SpelledItem) → Scanned k depth body rest lines level → HasItem k l after rest
     → l.level ≤ depth → l.level ≤ suc level → Scanned k depth body after (lines ++ l ∷ []) l.level
 scanned_more k depth body rest after lines level l h (is_line, is, stop) deep jump =
-    let pushed : lines_in (lines ++ l ∷ []) ≡ lines_in lines ++ line_in l ∷ [] = map-append line_in lines (l ∷ []) in
+    let pushed : lines_of_items (lines ++ l ∷ []) ≡ lines_of_items lines ++ line_of_item l ∷ [] = map-append line_of_item lines (l ∷ []) in
     let last = h.level_is in
     record {
       are_spelled = All-push (IsSpelled k.pieces) lines l h.are_spelled is_line;
-      steps = subst (λ z. Steps 0 z) (sym pushed) (Steps-push 0 (lines_in lines) (line_in l) h.steps (above_root k.pieces l.level l.pieces is_line.0) (omega (arith, jump, last)));
+      steps = subst (λ z. Steps 0 z) (sym pushed) (Steps-push 0 (lines_of_items lines) (line_of_item l) h.steps (above_root k.pieces l.level l.pieces is_line.0) (omega (arith, jump, last)));
       within = All-push (λ m. m.level ≤ depth) lines l h.within deep;
       text_is = h.text_is ∙ (ap (λ z. spelled_text k lines ++ z) is
           ∙ (sym (append_assoc (spelled_text k lines) (text_entry k l.pieces l.passing l.text) after) ∙ ap (λ z. z ++ after) (sym (spelled_text-push k lines l))));
-      level_is = sym (ap (last_level 0) pushed ∙ last_level-push 0 (lines_in lines) (line_in l));
+      level_is = sym (ap (last_level 0) pushed ∙ last_level-push 0 (lines_of_items lines) (line_of_item l));
       stops = stops_push k lines l after stop;
     }
 
@@ -73,11 +73,11 @@ pub no_lines : (k : Look) (depth highest : ℕ) → IsReadableWith k.pieces k.ma
     → (all : List SpelledItem) → Spells k depth all body → ⊥
 no_lines k depth highest readable body rest lines level h some most none all s =
     let on = lines_once k readable lines all rest h.are_spelled s.are_spelled h.stops (sym h.text_is ∙ s.text_is) in
-    let steps = Steps-behind 0 (lines_in lines) (lines_in on.more) (subst (λ z. Steps 0 z) (ap lines_in on.are ∙ map-append line_in lines on.more) s.steps) in
+    let steps = Steps-behind 0 (lines_of_items lines) (lines_of_items on.more) (subst (λ z. Steps 0 z) (ap lines_of_items on.are ∙ map-append line_of_item lines on.more) s.steps) in
     let within = All-behind (λ l. l.level ≤ depth) lines on.more (subst (λ z. All (λ (l : SpelledItem). l.level ≤ depth) z) on.are s.within) in
-    no_more on.more on.are_spelled on.rest_is (subst (λ n. Steps n (lines_in on.more)) (sym h.level_is) steps) within
+    no_more on.more on.are_spelled on.rest_is (subst (λ n. Steps n (lines_of_items on.more)) (sym h.level_is) steps) within
   where
-    no_more : (more : List SpelledItem) → All (IsSpelled k.pieces) more → rest ≡ spelled_text k more → Steps level (lines_in more) → All (λ l. l.level ≤ depth) more → ⊥
+    no_more : (more : List SpelledItem) → All (IsSpelled k.pieces) more → rest ≡ spelled_text k more → Steps level (lines_of_items more) → All (λ l. l.level ≤ depth) more → ⊥
     no_more [] are e steps within = some e
     no_more (l ∷ more) are e steps within =
         none l (spelled_text k more) (most l.level (All-head (λ m. m.level ≤ depth) l more within) steps.1) (All-head (IsSpelled k.pieces) l more are, e, items_never k readable l.level more (All-tail (IsSpelled k.pieces) l more are))

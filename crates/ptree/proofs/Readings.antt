@@ -7,7 +7,7 @@ use Rattle.ptree.specs.DrawnForm.{IsDrawnForm}
 use Rattle.ptree.specs.Flags.{spelled_by}
 use Rattle.ptree.specs.Outline.{Line, line, outline_at, outline}
 use Rattle.ptree.specs.Readable.{IsReadableWith}
-use Rattle.ptree.specs.Spelled.{SpelledItem, HasRoot, Spells, lines_in}
+use Rattle.ptree.specs.Spelled.{SpelledItem, HasRoot, Spells, lines_of_items}
 use Rattle.ptree.specs.Tree.{Tree, tree_of, shape_of_tree}
 use Rattle.ptree.proofs.ItemsOnce.{root_once}
 use Rattle.ptree.proofs.Laws.{one_drawing}
@@ -28,19 +28,19 @@ no_form_items k depth x root body readable has h t d =
 
 -- nor where their pieces are other ones than their levels give
 pub no_form_flags : (k : Look) (depth : ℕ) (x root body : List ℕ) (items : List SpelledItem) → IsReadableWith k.pieces k.mark → HasRoot k root body x → Spells k depth items body
-    → items ≢ spelled_by k.pieces (lines_in items) → (t : Tree) → IsDrawnForm k depth x t → ⊥
+    → items ≢ spelled_by k.pieces (lines_of_items items) → (t : Tree) → IsDrawnForm k depth x t → ⊥
 no_form_flags k depth x root body items readable has spells other t d =
     let here : Shows k depth root items x = record { body = body; has_root = has; spells = spells } in
     let same = (shows_once k depth depth readable root t.text items (tree_lines k.pieces t) x here (form_shows k readable depth x t d)).1 in
-    other (same ∙ ap (spelled_by k.pieces) (sym (ap lines_in same ∙ lines_by k.pieces (outline_at 1 t.children))))
+    other (same ∙ ap (spelled_by k.pieces) (sym (ap lines_of_items same ∙ lines_by k.pieces (outline_at 1 t.children))))
 
 -- else it is the drawn form of the outline's tree
 pub form_there : (k : Look) (depth : ℕ) (x root body : List ℕ) (items : List SpelledItem) (t : Tree) → HasRoot k root body x → Spells k depth items body
-    → items ≡ spelled_by k.pieces (lines_in items) → outline t ≡ line 0 root ∷ lines_in items → IsDrawnForm k depth x t
+    → items ≡ spelled_by k.pieces (lines_of_items items) → outline t ≡ line 0 root ∷ lines_of_items items → IsDrawnForm k depth x t
 form_there k depth x root body items t has spells right made =
     let firsts : line 0 t.text ≡ line 0 root = cc in
     let text : root ≡ t.text = sym (ap (λ (l : Line). l.text) firsts) in
-    let below : outline_at 1 t.children ≡ lines_in items = cc in
+    let below : outline_at 1 t.children ≡ lines_of_items items = cc in
     let same : items ≡ tree_lines k.pieces t = right ∙ ap (spelled_by k.pieces) (sym below) in
     let here : Shows k depth root items x = record { body = body; has_root = has; spells = spells } in
     shows_form k depth x t (subst (λ z. Shows k depth t.text z x) same (subst (λ z. Shows k depth z items x) text here))

@@ -9,7 +9,7 @@ use Rattle.ptree.specs.Flags.{has_later, last_flags, pieces_by, passing_by, show
 use Rattle.ptree.specs.Outline.{Line, line, outline_at, Steps}
 use Rattle.ptree.specs.Pieces.{Pieces}
 use Rattle.ptree.specs.Readable.{IsReadableWith}
-use Rattle.ptree.specs.Spelled.{has_line_feed, SpelledItem, lines_in, ArePiecesAt, ArePassing, IsShown, IsSpelled, text_entry, spelled_text, Spells, HasRoot}
+use Rattle.ptree.specs.Spelled.{has_line_feed, SpelledItem, lines_of_items, ArePiecesAt, ArePassing, IsShown, IsSpelled, text_entry, spelled_text, Spells, HasRoot}
 use Rattle.ptree.specs.Tree.{none, item, Forest, Tree, height}
 use Rattle.ptree.proofs.LastFlags.{length-last_flags}
 use Rattle.ptree.proofs.Outlines.{same_tree}
@@ -63,12 +63,12 @@ low_height depth n none h = tt
 low_height depth n (item t c r) h =
     (omega arith, low_both depth (outline_at (suc (suc n)) c) (outline_at (suc n) r) (low_height depth (suc n) c (omega arith)) (low_height depth n r (omega arith)))
 
-low_lines : (depth : ℕ) (lines : List SpelledItem) → All (λ l. l.level ≤ depth) lines → Low depth (lines_in lines)
+low_lines : (depth : ℕ) (lines : List SpelledItem) → All (λ l. l.level ≤ depth) lines → Low depth (lines_of_items lines)
 low_lines depth [] h = tt
 low_lines depth (l ∷ lines) h = (All-head (λ m. m.level ≤ depth) l lines h, low_lines depth lines (All-tail (λ m. m.level ≤ depth) l lines h))
 
 -- the lines that were given pieces
-pub lines_by : (p : Pieces) (o : List Line) → lines_in (spelled_by p o) ≡ o
+pub lines_by : (p : Pieces) (o : List Line) → lines_of_items (spelled_by p o) ≡ o
 lines_by p [] = refl
 lines_by p (l ∷ o) = ap (λ z. l ∷ z) (lines_by p o)
 
@@ -148,7 +148,7 @@ same_drawn_form look depth readable x t u h g =
     let p : Pieces = look.pieces in
     let same = shows_once look depth depth readable t.text u.text (tree_lines p t) (tree_lines p u) x (form_shows look readable depth x t h) (form_shows look readable depth x u g) in
     let below : outline_at 1 t.children ≡ outline_at 1 u.children =
-    sym (lines_by p (outline_at 1 t.children)) ∙ (ap lines_in same.1 ∙ lines_by p (outline_at 1 u.children)) in
+    sym (lines_by p (outline_at 1 t.children)) ∙ (ap lines_of_items same.1 ∙ lines_by p (outline_at 1 u.children)) in
     same_tree t u (ap (λ z. line 0 z ∷ outline_at 1 t.children) same.0 ∙ ap (λ z. line 0 u.text ∷ z) below)
 
 -- so the pieces and the mark read in one way

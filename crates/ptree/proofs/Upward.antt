@@ -6,15 +6,15 @@ use Rattle.ptree.specs.Flags.{has_later, last_flags, AreLastFlags, pieces_by, pa
 use Rattle.ptree.specs.Outline.{Line}
 use Rattle.ptree.specs.Pieces.{Pieces, turning_piece, passing_piece, passing_all}
 use Rattle.ptree.specs.Readable.{AreApart, IsReadable}
-use Rattle.ptree.specs.Spelled.{has_line_feed, SpelledItem, spelled_item, line_in, lines_in, ArePiecesAt, ArePassing, IsShown, IsSpelled}
+use Rattle.ptree.specs.Spelled.{has_line_feed, SpelledItem, spelled_item, line_of_item, lines_of_items, ArePiecesAt, ArePassing, IsShown, IsSpelled}
 use Rattle.ptree.specs.Style.{flags}
 use Rattle.ptree.proofs.LastFlags.{length-last_flags, flags_up}
 
 -- the lines at the end of lines with the right pieces have the right pieces
-pub spelled_by_tail : (p : Pieces) (front tail : List SpelledItem) → front ++ tail ≡ spelled_by p (lines_in (front ++ tail)) → tail ≡ spelled_by p (lines_in tail)
+pub spelled_by_tail : (p : Pieces) (front tail : List SpelledItem) → front ++ tail ≡ spelled_by p (lines_of_items (front ++ tail)) → tail ≡ spelled_by p (lines_of_items tail)
 spelled_by_tail p [] tail e = e
 spelled_by_tail p (r ∷ front) tail e =
-    let rest : front ++ tail ≡ spelled_by p (lines_in (front ++ tail)) = cc in
+    let rest : front ++ tail ≡ spelled_by p (lines_of_items (front ++ tail)) = cc in
     spelled_by_tail p front tail rest
 
 -- as far as the lines have been checked, from the last one up: rest is left
@@ -22,8 +22,8 @@ pub record Upward (p : Pieces) (lines rest : List SpelledItem) (flags : List Boo
   pub done : List SpelledItem
   pub are : lines ≡ rest ++ done
   pub spelled : All (IsSpelled p) rest
-  pub flagged : AreLastFlags (lines_in done) flags
-  pub right : done ≡ spelled_by p (lines_in done)
+  pub flagged : AreLastFlags (lines_of_items done) flags
+  pub right : done ≡ spelled_by p (lines_of_items done)
 
 pub upward_none : (p : Pieces) (lines : List SpelledItem) (flags : List Bool) → All (IsSpelled p) lines → flags ≡ [] → Upward p lines lines flags
 upward_none p lines flags h e = record {
@@ -48,15 +48,15 @@ above_root p (suc n) pieces a = omega arith
 pub record Here (p : Pieces) (done : List SpelledItem) (l : SpelledItem) (fitted ancestors : List Bool) (last : Bool) : Type 0 where
   pub up : ℕ
   pub level_is : l.level ≡ suc up
-  pub ancestors_are : ancestors ≡ last_flags (lines_in done) up
-  pub pieces_are : passing_all p ancestors ++ turning_piece p last ≡ pieces_by p (lines_in done) l.level
-  pub passing_are : passing_all p fitted ≡ passing_by p (lines_in done) l.level
+  pub ancestors_are : ancestors ≡ last_flags (lines_of_items done) up
+  pub pieces_are : passing_all p ancestors ++ turning_piece p last ≡ pieces_by p (lines_of_items done) l.level
+  pub passing_are : passing_all p fitted ≡ passing_by p (lines_of_items done) l.level
   pub is_spelled : IsSpelled p l
 
 pub upward_here : (p : Pieces) (lines rest rest' : List SpelledItem) (l : SpelledItem) (flags fitted ancestors : List Bool) (last : Bool) (h : Upward p lines rest flags)
     → rest ≡ rest' ++ l ∷ [] → ((o : List Line) → AreLastFlags o flags → fitted ≡ last_flags o l.level) → fitted ≡ ancestors ++ last ∷ [] → Here p h.done l fitted ancestors last
 upward_here p lines rest rest' l flags fitted ancestors last h e fit popped =
-    let o : List Line = lines_in h.done in
+    let o : List Line = lines_of_items h.done in
     let up : ℕ = l.level - 1 in
     let here = (All-last (IsSpelled p) rest' l (subst (λ z. All (IsSpelled p) z) e h.spelled)).1 in
     let low = above_root p l.level l.pieces here.0 in
@@ -82,7 +82,7 @@ some_passing p h n q low (b ∷ bs, len, is) e = some (passing_piece p b) (turni
 
 -- what the item shows is right where it shows none, or what its level gives
 shown_right : (p : Pieces) → IsReadable p → (o : List Line) (l : SpelledItem) (passing : List ℕ) → 0 < l.level → IsShown p l.level l.passing l.text → passing ≡ passing_by p o l.level
-    → (l.passing ≡ []) ⊎ (l.passing ≡ passing) → l.passing ≡ shown_by p o (line_in l)
+    → (l.passing ≡ []) ⊎ (l.passing ≡ passing) → l.passing ≡ shown_by p o (line_of_item l)
 shown_right p readable o l passing low shown e h = at (has_line_feed l.text) refl h where
   at : (b : Bool) → has_line_feed l.text ≡ b → (l.passing ≡ []) ⊎ (l.passing ≡ passing) → l.passing ≡ cond b (passing_by p o l.level) []
   at false f h = shown.single f
@@ -90,7 +90,7 @@ shown_right p readable o l passing low shown e h = at (has_line_feed l.text) ref
   at true f (inr same) = same ∙ e
 
 -- and wrong where it is neither
-shown_wrong : (p : Pieces) (o : List Line) (l : SpelledItem) (passing : List ℕ) → passing ≡ passing_by p o l.level → (l.passing ≡ [] → ⊥) → (l.passing ≡ passing → ⊥) → l.passing ≢ shown_by p o (line_in l)
+shown_wrong : (p : Pieces) (o : List Line) (l : SpelledItem) (passing : List ℕ) → passing ≡ passing_by p o l.level → (l.passing ≡ [] → ⊥) → (l.passing ≡ passing → ⊥) → l.passing ≢ shown_by p o (line_of_item l)
 shown_wrong p o l passing e none same h = at (has_line_feed l.text) h where
   at : (b : Bool) → l.passing ≡ cond b (passing_by p o l.level) [] → ⊥
   at true h = same (h ∙ sym e)
@@ -100,47 +100,47 @@ pub upward_more : (p : Pieces) → IsReadable p → (lines rest rest' : List Spe
     → rest ≡ rest' ++ l ∷ [] → Here p h.done l fitted ancestors last → l.pieces ≡ passing_all p ancestors ++ turning_piece p last → (l.passing ≡ []) ⊎ (l.passing ≡ passing_all p fitted)
     → flags' ≡ ancestors ++ false ∷ [] → Upward p lines rest' flags'
 upward_more p readable lines rest rest' l flags fitted ancestors flags' last h e here is shown pushed =
-    let o : List Line = lines_in h.done in
+    let o : List Line = lines_of_items h.done in
     let pieces : l.pieces ≡ pieces_by p o l.level = is ∙ here.pieces_are in
     let low = above_root p l.level l.pieces here.is_spelled.0 in
-    let passing : l.passing ≡ shown_by p o (line_in l) = shown_right p readable o l (passing_all p fitted) low here.is_spelled.1 here.passing_are shown in
+    let passing : l.passing ≡ shown_by p o (line_of_item l) = shown_right p readable o l (passing_all p fitted) low here.is_spelled.1 here.passing_are shown in
     record {
       done = l ∷ h.done;
       are = h.are ∙ (ap (λ z. z ++ h.done) e ∙ append_assoc rest' (l ∷ []) h.done);
       spelled = (All-last (IsSpelled p) rest' l (subst (λ z. All (IsSpelled p) z) e h.spelled)).0;
-      flagged = flags_up (line_in l) o here.up flags' here.level_is (pushed ∙ ap (λ z. z ++ false ∷ []) here.ancestors_are);
+      flagged = flags_up (line_of_item l) o here.up flags' here.level_is (pushed ∙ ap (λ z. z ++ false ∷ []) here.ancestors_are);
       right = ap (λ z. spelled_item l.level z l.passing l.text ∷ h.done) pieces
           ∙ (ap (λ z. spelled_item l.level (pieces_by p o l.level) z l.text ∷ h.done) passing
-          ∙ ap (λ z. spelled_item l.level (pieces_by p o l.level) (shown_by p o (line_in l)) l.text ∷ z) h.right);
+          ∙ ap (λ z. spelled_item l.level (pieces_by p o l.level) (shown_by p o (line_of_item l)) l.text ∷ z) h.right);
     }
 
 -- the item above those that were checked has the right pieces where all have
 upward_item : (p : Pieces) (lines rest rest' : List SpelledItem) (l : SpelledItem) (flags : List Bool) (h : Upward p lines rest flags) → rest ≡ rest' ++ l ∷ []
-    → lines ≡ spelled_by p (lines_in lines) → l ≡ spelled_item l.level (pieces_by p (lines_in h.done) l.level) (shown_by p (lines_in h.done) (line_in l)) l.text
+    → lines ≡ spelled_by p (lines_of_items lines) → l ≡ spelled_item l.level (pieces_by p (lines_of_items h.done) l.level) (shown_by p (lines_of_items h.done) (line_of_item l)) l.text
 upward_item p lines rest rest' l flags h e all =
     let are : lines ≡ rest' ++ (l ∷ h.done) = h.are ∙ (ap (λ z. z ++ h.done) e ∙ append_assoc rest' (l ∷ []) h.done) in
-    let tail = spelled_by_tail p rest' (l ∷ h.done) (subst (λ z. z ≡ spelled_by p (lines_in z)) are all) in
+    let tail = spelled_by_tail p rest' (l ∷ h.done) (subst (λ z. z ≡ spelled_by p (lines_of_items z)) are all) in
     cc
 
 pub upward_wrong : (p : Pieces) (lines rest rest' : List SpelledItem) (l : SpelledItem) (flags fitted ancestors : List Bool) (last : Bool) (h : Upward p lines rest flags)
-    → rest ≡ rest' ++ l ∷ [] → Here p h.done l fitted ancestors last → l.pieces ≢ passing_all p ancestors ++ turning_piece p last → lines ≢ spelled_by p (lines_in lines)
+    → rest ≡ rest' ++ l ∷ [] → Here p h.done l fitted ancestors last → l.pieces ≢ passing_all p ancestors ++ turning_piece p last → lines ≢ spelled_by p (lines_of_items lines)
 upward_wrong p lines rest rest' l flags fitted ancestors last h e here other all =
     other (ap (λ (m : SpelledItem). m.pieces) (upward_item p lines rest rest' l flags h e all) ∙ sym here.pieces_are)
 
 pub upward_wrong_passing : (p : Pieces) (lines rest rest' : List SpelledItem) (l : SpelledItem) (flags fitted : List Bool) (h : Upward p lines rest flags)
-    → rest ≡ rest' ++ l ∷ [] → ((o : List Line) → AreLastFlags o flags → fitted ≡ last_flags o l.level) → ((l.passing ≡ []) ⊎ (l.passing ≡ passing_all p fitted) → ⊥) → lines ≢ spelled_by p (lines_in lines)
+    → rest ≡ rest' ++ l ∷ [] → ((o : List Line) → AreLastFlags o flags → fitted ≡ last_flags o l.level) → ((l.passing ≡ []) ⊎ (l.passing ≡ passing_all p fitted) → ⊥) → lines ≢ spelled_by p (lines_of_items lines)
 upward_wrong_passing p lines rest rest' l flags fitted h e fit other all =
-    shown_wrong p (lines_in h.done) l (passing_all p fitted) (ap (passing_all p) (fit (lines_in h.done) h.flagged)) (λ none. other (inl none)) (λ same. other (inr same))
+    shown_wrong p (lines_of_items h.done) l (passing_all p fitted) (ap (passing_all p) (fit (lines_of_items h.done) h.flagged)) (λ none. other (inl none)) (λ same. other (inr same))
     (ap (λ (m : SpelledItem). m.passing) (upward_item p lines rest rest' l flags h e all))
 
 pub upward_empty : (p : Pieces) (lines rest rest' : List SpelledItem) (l : SpelledItem) (flags fitted : List Bool) (h : Upward p lines rest flags)
     → rest ≡ rest' ++ l ∷ [] → ((o : List Line) → AreLastFlags o flags → fitted ≡ last_flags o l.level) → fitted ≡ [] → ⊥
 upward_empty p lines rest rest' l flags fitted h e fit none =
     let low = above_root p l.level l.pieces (All-last (IsSpelled p) rest' l (subst (λ z. All (IsSpelled p) z) e h.spelled)).1.0 in
-    let long = ap length (sym none ∙ fit (lines_in h.done) h.flagged) in
-    omega (arith, low, long, length-last_flags (lines_in h.done) l.level)
+    let long = ap length (sym none ∙ fit (lines_of_items h.done) h.flagged) in
+    omega (arith, low, long, length-last_flags (lines_of_items h.done) l.level)
 
-pub upward_all : (p : Pieces) (lines rest : List SpelledItem) (flags : List Bool) → Upward p lines rest flags → rest ≡ [] → lines ≡ spelled_by p (lines_in lines)
+pub upward_all : (p : Pieces) (lines rest : List SpelledItem) (flags : List Bool) → Upward p lines rest flags → rest ≡ [] → lines ≡ spelled_by p (lines_of_items lines)
 upward_all p lines rest flags h e =
     let are : h.done ≡ lines = sym (h.are ∙ ap (λ z. z ++ h.done) e) in
-    subst (λ z. z ≡ spelled_by p (lines_in z)) are h.right
+    subst (λ z. z ≡ spelled_by p (lines_of_items z)) are h.right

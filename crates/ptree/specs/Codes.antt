@@ -1,5 +1,5 @@
 -- What the functions that gather codes say.
-use Rattle.std.specs.Prelude.{◌≡◌, ⊤, ℕ, ◌+◌, ◌<◌, true, List, [], ◌∷◌, length, slice_index, take, flat_map}
+use Rattle.std.specs.Prelude.{◌≡◌, ⊤, ℕ, ◌+◌, ◌<◌, true, List, length, slice_index, take, flat_map}
 use Rattle.std.specs.Char.{is_ascii_hexdigit}
 use Rattle.ptree.specs.declared.codes.Codes.{Codes}
 use Rattle.ptree.specs.declared.colors.Tone.{Tone}
@@ -24,8 +24,3 @@ gathered_codes c = take c.len c.bytes
 -- codes, one behind the other
 abbrev pub joined_codes : List (List ℕ) → List ℕ
 joined_codes codes = flat_map (λ code. code) codes
-
--- the reset behind these codes, if there are any
-abbrev pub reset_behind : List ℕ → List ℕ
-reset_behind [] = []
-reset_behind (b ∷ front) = 27 ∷ 91 ∷ 48 ∷ 109 ∷ []

@@ -22,11 +22,15 @@ pub record Look : Type 0 where
 abbrev pub look_from : Style → Style → Pieces → List ℕ → Look
 look_from branch leaf pieces mark = record { branch = branch; leaf = leaf; pieces = pieces; mark = mark }
 
--- the look that a configuration gives output of a kind, where standard output is a terminal or not: its styles where that is styled, else plain ones
+-- a style where output is styled, else the plain one
+abbrev pub effective_style : Bool → Style → Style
+effective_style styled style = if styled then style else plain_style
+
+-- the look that a configuration gives output of a kind, where standard output is a terminal or not
 abbrev pub look_of : PrintConfig → OutputKind → Bool → Look
 look_of config kind terminal =
     let styled = is_styled config.styled kind terminal in
-    look_from (if styled then config.branch else plain_style) (if styled then config.leaf else plain_style) (config_pieces config) (mark_of config)
+    look_from (effective_style styled config.branch) (effective_style styled config.leaf) (config_pieces config) (mark_of config)
 
 -- the look that a configuration gives what isn't standard output
 abbrev pub written_look : PrintConfig → Look

@@ -26,11 +26,11 @@ kid_entries look below front (c ∷ cs) = with_below look below front (is_empty 
 -- the entries under x, down to so many levels
 abbrev pub entries_below : Look → ℕ → List ℕ → Shape → List (List ℕ)
 entries_below look zero front x = []
-entries_below look (suc left) front x = kid_entries look (entries_below look left) front (kids x)
+entries_below look (suc levels_left) front x = kid_entries look (entries_below look levels_left) front (kids x)
 
 -- the entries of an item that isn't the root
 abbrev pub item_entries : Look → ℕ → List ℕ → Bool → Shape → List (List ℕ)
-item_entries look left front last x = with_below look (entries_below look left) front last x
+item_entries look levels_left front last x = with_below look (entries_below look levels_left) front last x
 
 -- the entries of a root and of what is under it
 abbrev pub drawn_entries : Look → ℕ → Shape → List (List ℕ)

@@ -23,12 +23,12 @@ abbrev pub spelled_item : ℕ → List ℕ → List ℕ → List ℕ → Spelled
 spelled_item n pieces passing text = record { level = n; pieces = pieces; passing = passing; text = text }
 
 -- the item without its pieces
-abbrev pub line_in : SpelledItem → Line
-line_in i = line i.level i.text
+abbrev pub line_of_item : SpelledItem → Line
+line_of_item i = line i.level i.text
 
 -- the items without their pieces
-abbrev pub lines_in : List SpelledItem → List Line
-lines_in items = map line_in items
+abbrev pub lines_of_items : List SpelledItem → List Line
+lines_of_items items = map line_of_item items
 
 -- passing pieces of either kind, one fewer than the level, and a turning piece of either kind
 abbrev pub ArePiecesAt : Pieces → ℕ → List ℕ → Type 0
@@ -71,7 +71,7 @@ spelled_text look (i ∷ items) = text_entry look i.pieces i.passing i.text ++ s
 -- x is the text of the items below a root, whose levels go down by steps and not below depth
 pub record Spells (look : Look) (depth : ℕ) (items : List SpelledItem) (x : List ℕ) : Type 0 where
   pub are_spelled : All (IsSpelled look.pieces) items
-  pub steps : Steps 0 (lines_in items)
+  pub steps : Steps 0 (lines_of_items items)
   pub within : All (λ i. i.level ≤ depth) items
   pub text_is : x ≡ spelled_text look items
 

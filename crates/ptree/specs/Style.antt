@@ -52,10 +52,10 @@ style_codes style = flag_codes (flags style) ++ side_codes style.foreground Fore
 abbrev pub front_codes : Style → List ℕ
 front_codes style = flat_map (λ code. code) (style_codes style)
 
--- the reset after these codes, if there are any
-abbrev pub reset_after : List (List ℕ) → List ℕ
+-- the reset after these codes, one by one or joined, if there are any
+abbrev pub reset_after : {X : Type 0} → List X → List ℕ
 reset_after [] = []
-reset_after (code ∷ codes) = 27 ∷ 91 ∷ 48 ∷ 109 ∷ []
+reset_after (x ∷ xs) = 27 ∷ 91 ∷ 48 ∷ 109 ∷ []
 
 -- what stands after a painted text
 abbrev pub back_codes : Style → List ℕ

@@ -2,7 +2,7 @@
 ghost use Rattle.std.specs.Prelude.{◌≡◌, ◌+◌, ◌*◌, ◌≤◌, ◌<◌, [], ◌∷◌, ◌++◌, length, IsUtf8, decimal, flat_map, option_to_list};
 ghost use Rattle.ptree.specs.declared.codes.TheConstants.{ROOM};
 ghost use Rattle.ptree.specs.Color.{tone_parameters};
-ghost use Rattle.ptree.specs.Style.{code, flags, flag_codes, color_code, side_codes, front_codes, back_codes};
+ghost use Rattle.ptree.specs.Style.{code, flags, flag_codes, color_code, side_codes, reset_after, front_codes, back_codes};
 
 use crate::colors::{Side, Tone, color_tone};
 use crate::style::{Color, Style};
@@ -20,7 +20,7 @@ pub struct Codes {
 }
 
 impl Codes {
-    ghost use Rattle.ptree.specs.Codes.{IsOfEight, gathered_codes, joined_codes, reset_behind};
+    ghost use Rattle.ptree.specs.Codes.{IsOfEight, gathered_codes, joined_codes};
 
     /// No code yet.
     #[inline(always)]
@@ -36,7 +36,7 @@ impl Codes {
     /// The codes of a style, in order.
     pub fn of(style: &Style) -> Codes
         ensures front { gathered_codes result ≡ front_codes style.now }
-        ensures back { reset_behind (gathered_codes result) ≡ back_codes style.now }
+        ensures back { reset_after (gathered_codes result) ≡ back_codes style.now }
         ensures utf8 { IsUtf8 (gathered_codes result) }
     {
         let mut codes = Codes::none();
@@ -49,7 +49,7 @@ impl Codes {
     pub fn gather(&mut self, style: &Style)
         requires { self.old.len ≡ 0 }
         ensures front { gathered_codes self.new ≡ front_codes style.now }
-        ensures back { reset_behind (gathered_codes self.new) ≡ back_codes style.now }
+        ensures back { reset_after (gathered_codes self.new) ≡ back_codes style.now }
         ensures utf8 { IsUtf8 (gathered_codes self.new) }
     {
         self.push_flags(style);
@@ -74,7 +74,7 @@ impl Codes {
 
     /// What undoes the codes, if there are any.
     pub fn reset(&self) -> &'static str
-        ensures { result.now ≡ reset_behind (gathered_codes self.now) }
+        ensures { result.now ≡ reset_after (gathered_codes self.now) }
     {
         if self.len == 0 { "" } else { "\x1b[0m" }
     }

@@ -14,18 +14,18 @@ status_of NoMemory = 1
 status_of Usage = 2
 
 -- what is told on standard error
-abbrev pub line_of : Ending → List ℕ
-line_of Done = []
-line_of Usage = codes "usage: ptree_cli [--tty] (words ROOT [CHILD..] | json LABEL | toml LABEL | redraw)" ++ 10 ∷ []
-line_of CannotWrite = codes "cannot write" ++ 10 ∷ []
-line_of NoMemory = codes "no memory" ++ 10 ∷ []
+abbrev pub ending_line : Ending → List ℕ
+ending_line Done = []
+ending_line Usage = codes "usage: ptree_cli [--tty] (words ROOT [CHILD..] | json LABEL | toml LABEL | redraw)" ++ 10 ∷ []
+ending_line CannotWrite = codes "cannot write" ++ 10 ∷ []
+ending_line NoMemory = codes "no memory" ++ 10 ∷ []
 
 -- how many faults of standard output it tells
-abbrev pub told_faults : Ending → ℕ
-told_faults Done = 0
-told_faults Usage = 0
-told_faults CannotWrite = 1
-told_faults NoMemory = 0
+abbrev pub ending_faults : Ending → ℕ
+ending_faults Done = 0
+ending_faults Usage = 0
+ending_faults CannotWrite = 1
+ending_faults NoMemory = 0
 
 -- what is asked for was appended where all was done, else a beginning of it, and nothing where nothing is asked for
 abbrev pub EndsWith : Ending → Option Request → Option (List ℕ) → Option (List ℕ) → Type 0

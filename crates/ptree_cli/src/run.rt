@@ -3,7 +3,7 @@ ghost use Rattle.std.specs.Prelude.{◌≡◌, ◌↔◌, ◌+◌, None, map, st
 ghost use Rattle.std.specs.Io.KnownBytes.{Appends};
 ghost use Rattle.ptree.specs.Writing.{AppendsPart};
 ghost use Rattle.ptree_cli.specs.Command.{request_of};
-ghost use Rattle.ptree_cli.specs.Run.{status_of, line_of, told_faults, EndsWith, Tells};
+ghost use Rattle.ptree_cli.specs.Run.{status_of, ending_line, ending_faults, EndsWith, Tells};
 
 use crate::command::Request;
 use ptree::print_config::Sources;
@@ -50,7 +50,7 @@ impl Ending {
 
     /// What is told on standard error.
     pub fn line(self) -> &'static str
-        ensures { result.now ≡ line_of self }
+        ensures { result.now ≡ ending_line self }
     {
         match self {
             Ending::Done => "",
@@ -71,7 +71,7 @@ pub fn tell<E: Sink>(err: &mut E, line: &str)
 // Does what the words ask for, and says how that ended.
 fn perform<W: Sink>(alloc: Global, words: &[String], out: &mut W) -> Ending
     ensures bytes { EndsWith result (request_of (map string_bytes words.now)) (W.contents out.old) (W.contents out.new) }
-    ensures cause { W.faults out.new ≡ W.faults out.old + told_faults result }
+    ensures cause { W.faults out.new ≡ W.faults out.old + ending_faults result }
 {
     let Some(request) = Request::from_words(words) else {
         return Ending::Usage;
@@ -95,8 +95,8 @@ pub fn run<R: Feed, W: Sink, E: Sink>(
     // The call ended so: `out` got the drawing, a beginning of it or nothing, and `err` the line.
     ensures { (end : Ending) × (result ≡ status_of end)
         × EndsWith end (request_of (map string_bytes words.now)) (W.contents out.old) (W.contents out.new)
-        × (W.faults out.new ≡ W.faults out.old + told_faults end)
-        × Tells (E.contents err.old) (E.contents err.new) (E.faults err.old) (E.faults err.new) (line_of end) }
+        × (W.faults out.new ≡ W.faults out.old + ending_faults end)
+        × Tells (E.contents err.old) (E.contents err.new) (E.faults err.old) (E.faults err.new) (ending_line end) }
 {
     let end = perform(alloc, words, out);
     tell(err, end.line());

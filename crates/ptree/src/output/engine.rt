@@ -251,20 +251,20 @@ fn draw_item<C: TreeItem<Child = C> + Drop, W: Sink>(
     brush: &Brush<'_>,
     width: usize,
     is_last: bool,
-    left: u32,
+    levels_left: u32,
 ) -> Result<bool, Stop>
     requires error { pen.old.error ≡ Memory }
     requires width { width ≤ length pen.old.line.bytes.items }
     requires turned { pen.old.line.bytes.items ≡ take width pen.old.line.bytes.items ++ own_text (look_meant brush.now.look.now) (Some is_last) }
     ensures bytes { (front : List ℕ) → take width pen.old.line.bytes.items ≡ front_codes brush.now.look.now.branch.now ++ front
-        → AreWritten (W.contents f.old) (W.contents f.new) result pen.new.error (item_entries (look_meant brush.now.look.now) left front is_last (C.shape item.now)) }
+        → AreWritten (W.contents f.old) (W.contents f.new) result pen.new.error (item_entries (look_meant brush.now.look.now) levels_left front is_last (C.shape item.now)) }
     ensures cause { HasErrorCause (W.faults f.old) (W.faults f.new) pen.new.error }
     ensures error { OnOk result (pen.new.error ≡ Memory) }
     ensures kept { OnOk result (take width pen.new.line.bytes.items ≡ take width pen.old.line.bytes.items) }
     ensures held { IfOk result (λ held. held ≡ true → pen.new.line.bytes.items ≡ pen.old.line.bytes.items) }
 {
     draw_entry(item, f, pen, brush, width, Some(is_last))?;
-    if left == 0 {
+    if levels_left == 0 {
         return Ok(true);
     }
     let children = item.children(brush.alloc)?;
@@ -273,7 +273,7 @@ fn draw_item<C: TreeItem<Child = C> + Drop, W: Sink>(
     }
     pen.line
         .replace_end(width, brush.look.pieces.passing(is_last))?;
-    draw_children(children.as_slice(), f, pen, brush, left - 1)?;
+    draw_children(children.as_slice(), f, pen, brush, levels_left - 1)?;
     Ok(false)
 }
 
@@ -284,12 +284,12 @@ fn draw_children<C: TreeItem<Child = C> + Drop, W: Sink>(
     f: &mut W,
     pen: &mut Pen,
     brush: &Brush<'_>,
-    left: u32,
+    levels_left: u32,
 ) -> Result<(), Stop>
     requires error { pen.old.error ≡ Memory }
     ensures bytes { (front : List ℕ) → pen.old.line.bytes.items ≡ front_codes brush.now.look.now.branch.now ++ front
         → AreWritten (W.contents f.old) (W.contents f.new) result pen.new.error
-        (let look = look_meant brush.now.look.now in kid_entries look (entries_below look left) front (map C.shape items.now)) }
+        (let look = look_meant brush.now.look.now in kid_entries look (entries_below look levels_left) front (map C.shape items.now)) }
     ensures cause { HasErrorCause (W.faults f.old) (W.faults f.new) pen.new.error }
     ensures error { OnOk result (pen.new.error ≡ Memory) }
     ensures kept { OnOk result (pen.new.line.bytes.items ≡ pen.old.line.bytes.items) }
@@ -300,7 +300,7 @@ fn draw_children<C: TreeItem<Child = C> + Drop, W: Sink>(
     while let Some((item, others)) = rest.split_first() {
         let is_last = others.is_empty();
         pen.line.turn(width, brush, is_last, held)?;
-        held = draw_item(item, f, pen, brush, width, is_last, left)?;
+        held = draw_item(item, f, pen, brush, width, is_last, levels_left)?;
         rest = others;
     }
     pen.line.bytes.truncate(width);

@@ -1,6 +1,6 @@
 //! How drawings look.
-ghost use Rattle.std.specs.Prelude.{◌≡◌, Bool, if◌then◌else◌, IfOk};
-ghost use Rattle.ptree.specs.Drawing.{look_of};
+ghost use Rattle.std.specs.Prelude.{◌≡◌, IfOk};
+ghost use Rattle.ptree.specs.Drawing.{effective_style, look_of};
 ghost use Rattle.ptree.specs.Looks.{look_meant};
 ghost use Rattle.ptree.specs.Style.{plain_style};
 
@@ -43,7 +43,8 @@ impl<'a> Look<'a> {
 
 // A style where output is styled, else the plain one.
 fn effective_style<'a>(style: &'a Style, plain: &'a Style, styled: bool) -> &'a Style
-    ensures { result.now ≡ (if styled then style.now else plain.now) }
+    requires { plain.now ≡ plain_style }
+    ensures { result.now ≡ effective_style styled style.now }
 {
     if styled { style } else { plain }
 }

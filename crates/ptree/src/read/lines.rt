@@ -142,9 +142,9 @@ pub(crate) struct Item<'a> {
 
 impl<'a> OutlineLine for Item<'a> {
     ghost use Rattle.ptree.specs.Meant.{item_meant};
-    ghost use Rattle.ptree.specs.Spelled.{line_in};
+    ghost use Rattle.ptree.specs.Spelled.{line_of_item};
 
-    ghost line = { λ i. line_in (item_meant i) };
+    ghost line = { λ i. line_of_item (item_meant i) };
 
     fn level(&self) -> u32 {
         self.level

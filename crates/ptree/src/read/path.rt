@@ -5,7 +5,7 @@ ghost use Rattle.ptree.specs.Meant.{items_meant, IsPath};
 ghost use Rattle.ptree.specs.Outline.{Line};
 ghost use Rattle.ptree.specs.Pieces.{pieces_of};
 ghost use Rattle.ptree.specs.Readable.{IsReadable};
-ghost use Rattle.ptree.specs.Spelled.{IsSpelled, lines_in};
+ghost use Rattle.ptree.specs.Spelled.{IsSpelled, lines_of_items};
 
 use crate::output::indent::Indent;
 use crate::read::lines::{Item, skip};
@@ -94,7 +94,7 @@ pub(crate) fn have_last_flags(
 ) -> Result<bool, AllocError>
     requires readable { IsReadable (pieces_of indent.now) }
     requires spelled { All (IsSpelled (pieces_of indent.now)) (items_meant items.now) }
-    ensures { IfOk result (λ b. IsTrue b ↔ (items_meant items.now ≡ spelled_by (pieces_of indent.now) (lines_in (items_meant items.now)))) }
+    ensures { IfOk result (λ b. IsTrue b ↔ (items_meant items.now ≡ spelled_by (pieces_of indent.now) (lines_of_items (items_meant items.now)))) }
 {
     let mut path = Path {
         flags: Vec::new(alloc),

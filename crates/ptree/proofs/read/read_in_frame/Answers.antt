@@ -1,6 +1,6 @@
 use Rattle.ptree.specs.Looks.{look_meant}
 use Rattle.ptree.specs.Meant.{text_meant, item_meant, items_meant}
-use Rattle.ptree.specs.Spelled.{line_in}
+use Rattle.ptree.specs.Spelled.{line_of_item}
 use Rattle.ptree.specs.Tree.{tree_of}
 use Rattle.ptree.proofs.Readings.{no_form_root, no_form_items, no_form_flags, form_there}
 use Rattle.ptree.proofs.TreeLemmas.{map_twice}
@@ -29,11 +29,11 @@ returns-then-not-branch c =
 pub tree_from_outline-requires : goal.tree_from_outline-requires
 tree_from_outline-requires c =
     let spells = rw c.in-Some-2.is at c.in_ok-items.ensures in
-    record { steps = rw (c.deref-2.ensures.value, map_twice item_meant line_in c.in-Some-2.items.items) spells.steps }
+    record { steps = rw (c.deref-2.ensures.value, map_twice item_meant line_of_item c.in-Some-2.items.items) spells.steps }
 
 pub returns : goal.returns
 returns c =
     let flags = rw c.deref.ensures.value at c.in_ok-have_last_flags.ensures in
     form_there (look_meant c.args.frame.now.look.now) c.args.depth c.args.text.now (text_meant c.in-Some.root.text) c.in-Some.root.rest.now (items_meant c.in-Some-2.items.items) (tree_of c.in_ok-tree.tree)
     (let root = rw c.in-Some.is at c.in_ok-root.ensures in root.0) (rw c.in-Some-2.is at c.in_ok-items.ensures) (flags.0 c.if-not-branch.false)
-    (rw (c.deref-2.ensures.value, c.as_str.ensures, map_twice item_meant line_in c.in-Some-2.items.items) at c.in_ok-tree.ensures)
+    (rw (c.deref-2.ensures.value, c.as_str.ensures, map_twice item_meant line_of_item c.in-Some-2.items.items) at c.in_ok-tree.ensures)

@@ -1,7 +1,8 @@
 use Rattle.std.proofs.Common.{◌≡◌, ◌++◌, take, ap, sym, subst, ◌∙◌}
 use Rattle.std.specs.Prelude.{IsUtf8}
 use Rattle.ptree.specs.declared.colors.Side.TheVariants.{Foreground, Background}
-use Rattle.ptree.specs.Codes.{gathered_codes, joined_codes, reset_behind}
+use Rattle.ptree.specs.Codes.{gathered_codes, joined_codes}
+use Rattle.ptree.specs.Style.{reset_after}
 use Rattle.ptree.specs.Style.{flags, flag_codes, side_codes, front_codes}
 use Rattle.ptree.proofs.CodeLists.{front_codes_are, back_codes_are}
 use Rattle.ptree.proofs.Styles.{IsUtf8-front_codes}
@@ -20,7 +21,7 @@ pub returns-clause-front : goal.returns-clause-front
 returns-clause-front c = front c
 
 pub returns-clause-back : goal.returns-clause-back
-returns-clause-back c = ap reset_behind (front c) ∙ back_codes_are c.args.style.now
+returns-clause-back c = ap reset_after (front c) ∙ back_codes_are c.args.style.now
 
 pub returns-clause-utf8 : goal.returns-clause-utf8
 returns-clause-utf8 c = subst IsUtf8 (sym (front c)) (IsUtf8-front_codes c.args.style.now)

@@ -32,7 +32,7 @@ draw_children-returns-in_err-held-clause-bytes g t c = λ front e.
     let wide : c.len-width.result ≡ length c.args.pen.now.line.bytes.items = omega (arith, c.len-width.ensures, c.args.pen.now.line.bytes.ok.0) in
     let held = take_again c.len-width.result c.loop-item.pen.line.bytes.items _ _ (long_enough _ _ _ inv.kept wide) c.in_ok-turn.ensures ∙ inv.kept ∙ e in
     entries_err _ _ _ _ _ _ c.from_residual-in_err-held.ensures.1
-    (kids_err look (entries_below look c.args.left) front (map g.C.Shaped.shape c.loop-item.rest.now) (map g.C.Shaped.shape c.in-Some.others.now) (g.C.Shaped.shape c.in-Some.item.now) c.is_empty-is_last.result done.0 _ _ _ _ _
+    (kids_err look (entries_below look c.args.levels_left) front (map g.C.Shaped.shape c.loop-item.rest.now) (map g.C.Shaped.shape c.in-Some.others.now) (g.C.Shaped.shape c.in-Some.item.now) c.is_empty-is_last.result done.0 _ _ _ _ _
     (ap (map g.C.Shaped.shape) c.in-Some.ensures.cases.0) (same_len g.C.Shaped.shape c.in-Some.others.now c.is_empty-is_last.result c.is_empty-is_last.ensures) done.1 done.2
     (c.in_err-held.ensures.bytes front held))
 
@@ -45,8 +45,8 @@ draw_children-loop-item-preserved g t c =
       written = λ front e.
           let look = look_meant c.args.brush.now.look.now in
           let done = inv.written front e in (
-            done.0 ++ item_entries look c.args.left front c.is_empty-is_last.result (g.C.Shaped.shape c.in-Some.item.now),
-            kids_step look (entries_below look c.args.left) front (map g.C.Shaped.shape c.loop-item.rest.now) (map g.C.Shaped.shape c.in-Some.others.now) (g.C.Shaped.shape c.in-Some.item.now) c.is_empty-is_last.result done.0 _ (ap (map g.C.Shaped.shape) c.in-Some.ensures.cases.0) (same_len g.C.Shaped.shape c.in-Some.others.now c.is_empty-is_last.result c.is_empty-is_last.ensures) done.1,
+            done.0 ++ item_entries look c.args.levels_left front c.is_empty-is_last.result (g.C.Shaped.shape c.in-Some.item.now),
+            kids_step look (entries_below look c.args.levels_left) front (map g.C.Shaped.shape c.loop-item.rest.now) (map g.C.Shaped.shape c.in-Some.others.now) (g.C.Shaped.shape c.in-Some.item.now) c.is_empty-is_last.result done.0 _ (ap (map g.C.Shaped.shape) c.in-Some.ensures.cases.0) (same_len g.C.Shaped.shape c.in-Some.others.now c.is_empty-is_last.result c.is_empty-is_last.ensures) done.1,
             appends_entries _ _ _ done.0 _ done.2 (c.in_ok-held.ensures.bytes front (kept ∙ inv.kept ∙ e)),
           );
       no_fault = quiet _ _ c.draw_item.new.pen.error c.in_ok-held.ensures.cause c.in_ok-held.ensures.error ∙ inv.no_fault;
@@ -60,33 +60,33 @@ draw_item-returns-in_err-draw_entry-clause-bytes g t c = λ front e.
     let look = look_meant c.args.brush.now.look.now in
     let x = g.C.Shaped.shape c.args.item.now in
     entries_err _ _ _ _ _ _ c.from_residual.ensures.1
-    (item_part look c.args.left front c.args.is_last x _ _ _ (c.in_err-draw_entry.ensures.bytes front e) c.in_err-draw_entry.ensures.memory)
+    (item_part look c.args.levels_left front c.args.is_last x _ _ _ (c.in_err-draw_entry.ensures.bytes front e) c.in_err-draw_entry.ensures.memory)
 
-pub draw_item-returns-then-left-eq0-clause-bytes : goal.draw_item-returns-then-left-eq0-clause-bytes
-draw_item-returns-then-left-eq0-clause-bytes g t c = λ front e.
+pub draw_item-returns-then-levels_left-eq0-clause-bytes : goal.draw_item-returns-then-levels_left-eq0-clause-bytes
+draw_item-returns-then-levels_left-eq0-clause-bytes g t c = λ front e.
     let look = look_meant c.args.brush.now.look.now in
     let x = g.C.Shaped.shape c.args.item.now in
-    item_ended look c.args.left front c.args.is_last x _ _ c.if-left-eq0.true (c.in_ok-draw_entry.ensures.bytes front e)
+    item_ended look c.args.levels_left front c.args.is_last x _ _ c.if-levels_left-eq0.true (c.in_ok-draw_entry.ensures.bytes front e)
 
 pub draw_item-returns-then-is_empty-clause-bytes : goal.draw_item-returns-then-is_empty-clause-bytes
 draw_item-returns-then-is_empty-clause-bytes g t c = λ front e.
     let look = look_meant c.args.brush.now.look.now in
     let x = g.C.Shaped.shape c.args.item.now in
-    item_alone look c.args.left front c.args.is_last x _ _ g.C.Shaped.shape c.as_slice.result.now c.is_empty.result
-    c.if-is_empty.true c.is_empty.ensures (ap (map g.C.Shaped.shape) c.as_slice.ensures ∙ c.in_ok-children.ensures) (λ z. c.if-left-eq0.false z)
+    item_alone look c.args.levels_left front c.args.is_last x _ _ g.C.Shaped.shape c.as_slice.result.now c.is_empty.result
+    c.if-is_empty.true c.is_empty.ensures (ap (map g.C.Shaped.shape) c.as_slice.ensures ∙ c.in_ok-children.ensures) (λ z. c.if-levels_left-eq0.false z)
     (c.in_ok-draw_entry.ensures.bytes front e)
 
 pub draw_item-returns-in_err-children-clause-bytes : goal.draw_item-returns-in_err-children-clause-bytes
 draw_item-returns-in_err-children-clause-bytes g t c = λ front e.
     let look = look_meant c.args.brush.now.look.now in
-    let below = entries_below look c.args.left (front ++ passing_piece look.pieces c.args.is_last) (g.C.Shaped.shape c.args.item.now) in
+    let below = entries_below look c.args.levels_left (front ++ passing_piece look.pieces c.args.is_last) (g.C.Shaped.shape c.args.item.now) in
     entry_then _ _ _ _ _ _ below (c.in_ok-draw_entry.ensures.bytes front e)
     (entries_err _ _ _ _ _ _ c.from_residual-in_err-children.ensures.1 (entries_none _ c.draw_entry.new.pen.error below))
 
 pub draw_item-returns-in_err-replace_end-clause-bytes : goal.draw_item-returns-in_err-replace_end-clause-bytes
 draw_item-returns-in_err-replace_end-clause-bytes g t c = λ front e.
     let look = look_meant c.args.brush.now.look.now in
-    let below = entries_below look c.args.left (front ++ passing_piece look.pieces c.args.is_last) (g.C.Shaped.shape c.args.item.now) in
+    let below = entries_below look c.args.levels_left (front ++ passing_piece look.pieces c.args.is_last) (g.C.Shaped.shape c.args.item.now) in
     entry_then _ _ _ _ _ _ below (c.in_ok-draw_entry.ensures.bytes front e)
     (entries_err _ _ _ _ _ _ c.from_residual-in_err-replace_end.ensures.1 (entries_none _ c.draw_entry.new.pen.error below))
 
@@ -96,8 +96,8 @@ draw_item-returns-in_err-draw_children-clause-bytes g t c = λ front e.
     let x = g.C.Shaped.shape c.args.item.now in
     let held = down_is look front (passing_piece look.pieces c.args.is_last) _ _ _ e (ap (take c.args.width) c.in_ok-draw_entry.ensures.kept)
     (c.in_ok-replace_end.ensures ∙ ap (λ s. take c.args.width c.draw_entry.new.pen.line.bytes.items ++ s) c.passing.ensures) in
-    item_written look c.args.left front c.args.is_last x (map g.C.Shaped.shape c.as_slice-2.result.now) _ _ _ _ _
-    (ap (map g.C.Shaped.shape) c.as_slice-2.ensures ∙ c.in_ok-children.ensures) (λ z. c.if-left-eq0.false z)
+    item_written look c.args.levels_left front c.args.is_last x (map g.C.Shaped.shape c.as_slice-2.result.now) _ _ _ _ _
+    (ap (map g.C.Shaped.shape) c.as_slice-2.ensures ∙ c.in_ok-children.ensures) (λ z. c.if-levels_left-eq0.false z)
     (c.in_ok-draw_entry.ensures.bytes front e)
     (entries_err _ _ _ _ _ _ c.from_residual-in_err-draw_children.ensures.1 (c.in_err-draw_children.ensures.bytes (front ++ passing_piece look.pieces c.args.is_last) held))
 
@@ -107,7 +107,7 @@ draw_item-returns-clause-bytes g t c = λ front e.
     let x = g.C.Shaped.shape c.args.item.now in
     let held = down_is look front (passing_piece look.pieces c.args.is_last) _ _ _ e (ap (take c.args.width) c.in_ok-draw_entry.ensures.kept)
     (c.in_ok-replace_end.ensures ∙ ap (λ s. take c.args.width c.draw_entry.new.pen.line.bytes.items ++ s) c.passing.ensures) in
-    item_whole look c.args.left front c.args.is_last x (map g.C.Shaped.shape c.as_slice-2.result.now) _ _ _
-    (ap (map g.C.Shaped.shape) c.as_slice-2.ensures ∙ c.in_ok-children.ensures) (λ z. c.if-left-eq0.false z)
+    item_whole look c.args.levels_left front c.args.is_last x (map g.C.Shaped.shape c.as_slice-2.result.now) _ _ _
+    (ap (map g.C.Shaped.shape) c.as_slice-2.ensures ∙ c.in_ok-children.ensures) (λ z. c.if-levels_left-eq0.false z)
     (c.in_ok-draw_entry.ensures.bytes front e)
     (c.in_ok-draw_children.ensures.bytes (front ++ passing_piece look.pieces c.args.is_last) held)
