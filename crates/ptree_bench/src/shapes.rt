@@ -10,6 +10,7 @@ pub fn shaped(alloc: Global, shape: &str, items: u32) -> Result<TreeBuilder, All
         "chain" => chain(alloc, &mut builder, items)?,
         "binary" => pairs(alloc, &mut builder, items.checked_ilog2().unwrap_or(0))?,
         "random" => random(alloc, &mut builder, items)?,
+        "notes" => notes(alloc, &mut builder, items)?,
         _ => wide(alloc, &mut builder, items)?,
     }
     Ok(builder)
@@ -17,7 +18,11 @@ pub fn shaped(alloc: Global, shape: &str, items: u32) -> Result<TreeBuilder, All
 
 // Adds an item below the current one, and makes it current.
 fn begin(alloc: Global, builder: &mut TreeBuilder, i: u32) -> Result<(), AllocError> {
-    let text = format!(in alloc; "item {i}")?;
+    begin_with(builder, format!(in alloc; "item {i}")?)
+}
+
+// The same with this text.
+fn begin_with(builder: &mut TreeBuilder, text: String) -> Result<(), AllocError> {
     if builder.level() < u32::MAX {
         builder.begin_child(text)?;
     }
@@ -37,6 +42,16 @@ fn rise(builder: &mut TreeBuilder, level: u32) {
 fn wide(alloc: Global, builder: &mut TreeBuilder, items: u32) -> Result<(), AllocError> {
     for i in 1..items {
         begin(alloc, builder, i)?;
+        rise(builder, 0);
+    }
+    Ok(())
+}
+
+// All items below the root, each with ten line feeds.
+fn notes(alloc: Global, builder: &mut TreeBuilder, items: u32) -> Result<(), AllocError> {
+    for i in 1..items {
+        let line = format!(in alloc; "item {i}\n")?;
+        begin_with(builder, line.as_str().repeat(alloc, 10)?)?;
         rise(builder, 0);
     }
     Ok(())
