@@ -5,12 +5,14 @@ pub mod CodeLists
 pub mod ColorNames
 pub mod CutTrees
 pub mod Decimals
+pub mod DefaultMark
 pub mod Drawn
 pub mod EdgeLists
 pub mod Engine
 pub mod Equality
 pub mod Examples
 pub mod FaultWalks
+pub mod Fronts
 pub mod Inserted
 pub mod ItemsOnce
 pub mod Join
@@ -19,9 +21,11 @@ pub mod Laws
 pub mod Levels
 pub mod LineScans
 pub mod Links
+pub mod MarkScans
 pub mod Marks
 pub mod OutlineAddresses
 pub mod Outlines
+pub mod OwnBytes
 pub mod Painting
 pub mod Paths
 pub mod PieceScans

@@ -3,7 +3,7 @@ use Rattle.std.proofs.lemmas.Bool.{false≢true}
 use Rattle.std.proofs.lemmas.Slice.Eq.{bytes_eq-Decides}
 use Rattle.ptree.specs.Drawing.{with_inserted, continued_prefix}
 use Rattle.ptree.specs.Looks.{look_meant}
-use Rattle.ptree.proofs.Texts.{begun_first, begun_line, own_several, no_own_end, no_own_other}
+use Rattle.ptree.proofs.OwnBytes.{begun_first, begun_line, own_several, no_own_end, no_own_other}
 use Rattle.ptree.proofs.read.lines.read_further_lines.Goals as goal
 
 unnot : (b : Bool) → not b ≡ false → b ≡ true

@@ -1,5 +1,5 @@
 use Rattle.ptree.specs.Looks.{look_meant}
-use Rattle.ptree.proofs.Texts.{no_mark_front, no_mark_level, no_mark_here, no_mark_back, mark_there}
+use Rattle.ptree.proofs.MarkScans.{no_mark_front, no_mark_level, no_mark_here, no_mark_back, mark_there}
 use Rattle.ptree.proofs.read.lines.read_mark.Goals as goal
 
 pub returns-in_default : goal.returns-in_default

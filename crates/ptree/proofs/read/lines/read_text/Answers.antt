@@ -1,7 +1,8 @@
 use Rattle.std.proofs.Common.{◌++◌, ◌∷◌, ap, sym, ◌∙◌, subst, string_bytes}
 use Rattle.ptree.specs.Spelled.{HasOwn, HasText}
 use Rattle.ptree.specs.Looks.{look_meant}
-use Rattle.ptree.proofs.Texts.{no_own_line, own_one, no_text_front, no_text_own, no_text_back, text_there}
+use Rattle.ptree.proofs.OwnBytes.{no_own_line, own_one}
+use Rattle.ptree.proofs.Texts.{no_text_front, no_text_own, no_text_back, text_there}
 use Rattle.ptree.proofs.read.lines.read_text.Goals as goal
 
 pub returns-in_default : goal.returns-in_default
