@@ -91,7 +91,7 @@ drawing_of_cut look d e t text h =
 
 -- ## Subtree
 
--- the text_entry at an address below a is, behind a's passing text, that of what stands at a
+-- the entry at an address below a is, behind a's passing text, that of what stands at a
 pub entry_below : (look : Look) (front : List ℕ) (x y : Shape) (a : Address) (j : ℕ) (r : Address) → at kids x a ≡ Some y
     → entry_behind look front x (a ++ j ∷ r) ≡ entry_behind look (front ++ passing_text look x a) y (j ∷ r)
 entry_below look front x y [] j r h =
