@@ -1,8 +1,8 @@
 -- The steps of the engine, over plain variables.
-use Rattle.std.proofs.Common.{◌≡◌, ℕ, zero, suc, ◌-◌, ◌<◌, ◌≤◌, min, Bool, true, false, eqb, List, [], ◌∷◌, ◌++◌, Option, None, Result, Ok, Err, ◌+◌, length, sym, ◌∙◌, ap, subst, refl, append_assoc, map, take, drop, arith}
+use Rattle.std.proofs.Common.{◌<◌, ◌≡◌, ℕ, zero, suc, ◌-◌, ◌≤◌, min, Bool, true, false, eqb, List, [], ◌∷◌, ◌++◌, Option, None, Result, Ok, Err, ◌+◌, length, sym, ◌∙◌, ap, subst, refl, append_assoc, map, take, drop, arith}
 use Rattle.std.proofs.Math.Seq.{take-append_seam, drop-append_seam}
 use Rattle.std.proofs.lemmas.Bool.Decides.{nat_tests}
-use Rattle.std.proofs.lemmas.List.{length-map, length-take, append-nil, take-append-le, take_all}
+use Rattle.std.proofs.lemmas.List.{length-take, append-nil, take-append-le, take_all}
 use Rattle.std.specs.Prelude.{Some, is_err}
 use Rattle.std.proofs.lemmas.Bool.{false≢true}
 use Rattle.std.specs.Io.KnownBytes.{Appends}
@@ -17,7 +17,7 @@ use Rattle.ptree.specs.Pieces.{turning_piece, passing_piece}
 use Rattle.ptree.specs.Shape.{Shape, kids}
 use Rattle.ptree.specs.Style.{front_codes, back_codes, painted_text}
 use Rattle.ptree.specs.Writing.{AppendsPart, AppendsEntries, IsWritten, AreWritten, told_faults, HasErrorCause}
-use Rattle.ptree.proofs.Written.{appends_nothing, entries_then, entries_more, entry_part, entry_then}
+use Rattle.ptree.proofs.Written.{appends_nothing, appends_entries, entries_then, entries_done, entries_more, entry_then}
 
 pub nothing_yet : (a : Option (List ℕ)) (x : List ℕ) → AppendsPart a a x
 nothing_yet a x = ([], (x, refl), appends_nothing a)
@@ -27,59 +27,72 @@ entries_down look zero front x h = absurd (h refl)
 entries_down look (suc n) front x h =
     let e : n ≡ suc n - 1 = omega arith in ap (λ k. kid_entries look (entries_below look k) front (kids x)) e
 
-pub item_part : (look : Look) (left : ℕ) (front : List ℕ) (last : Bool) (x : Shape) (a b : Option (List ℕ)) (e : DrawError)
-    → AppendsPart a b (entry_of look (front ++ turning_piece look.pieces last) (front ++ passing_piece look.pieces last) x) → (e ≡ Memory → b ≡ a) → AppendsEntries a b e (item_entries look left front last x)
-item_part look left front last x a b e h k = entry_part a b e _ (entries_below look left (front ++ passing_piece look.pieces last) x) h k
-
-pub item_written : {A E : Type 0} (look : Look) (left : ℕ) (front : List ℕ) (last : Bool) (x : Shape) (ks : List Shape) (a b c : Option (List ℕ)) (r : Result A E) (e : DrawError)
-    → ks ≡ kids x → (left ≡ 0 → ⊥)
+pub item_written : {A E : Type 0} (look : Look) (left : ℕ) (front : List ℕ) (last : Bool) (x : Shape) (a b c : Option (List ℕ)) (r : Result A E) (e : DrawError) → (left ≡ 0 → ⊥)
     → Appends a b (entry_of look (front ++ turning_piece look.pieces last) (front ++ passing_piece look.pieces last) x)
-    → AreWritten b c r e (kid_entries look (entries_below look (left - 1)) (front ++ passing_piece look.pieces last) ks) → AreWritten a c r e (item_entries look left front last x)
-item_written look left front last x ks a b c r e ek h k w =
+    → AreWritten b c r e (kid_entries look (entries_below look (left - 1)) (front ++ passing_piece look.pieces last) (kids x)) → AreWritten a c r e (item_entries look left front last x)
+item_written look left front last x a b c r e h k w =
     let passing = front ++ passing_piece look.pieces last in
     entry_then a b c r e _ (entries_below look left passing x) k
-    (subst (λ (es : List (List ℕ)). AreWritten b c r e es) (ap (kid_entries look (entries_below look (left - 1)) passing) ek ∙ sym (entries_down look left passing x h)) w)
+    (subst (λ (es : List (List ℕ)). AreWritten b c r e es) (sym (entries_down look left passing x h)) w)
 
-is_empty-length : {C : Type 0} (xs : List C) → eqb (length xs) 0 ≡ is_empty xs
-is_empty-length [] = refl
-is_empty-length (x ∷ xs) = grind (arith, nat_tests)
+-- the entries of the first of all these children are appended, and those of the rest are still to come
+abbrev pub AreBegun : Look → (List ℕ → Shape → List (List ℕ)) → List ℕ → List Shape → List Shape → Option (List ℕ) → Option (List ℕ) → Type 0
+AreBegun look below front all rest a b = (done : List (List ℕ)) × (done ++ kid_entries look below front rest ≡ kid_entries look below front all) × Appends a b (concat done)
 
--- the entries so far, those of one item, and those of the others
-pub kids_step : (look : Look) (below : List ℕ → Shape → List (List ℕ)) (front : List ℕ) (rest others : List Shape) (x : Shape) (last : Bool) (done all : List (List ℕ))
-    → rest ≡ x ∷ others → last ≡ eqb (length others) 0 → done ++ kid_entries look below front rest ≡ all
-    → (done ++ with_below look below front last x) ++ kid_entries look below front others ≡ all
-kids_step look below front rest others x last done all er el e =
-    append_assoc done (with_below look below front last x) (kid_entries look below front others)
-    ∙ ap (λ l. done ++ (with_below look below front l x ++ kid_entries look below front others)) (el ∙ is_empty-length others)
-    ∙ ap (λ l. done ++ kid_entries look below front l) (sym er) ∙ e
+pub begun_none : (look : Look) (below : List ℕ → Shape → List (List ℕ)) (front : List ℕ) (all rest : List Shape) (a : Option (List ℕ)) → all ≡ rest → AreBegun look below front all rest a a
+begun_none look below front all rest a is = ([], ap (kid_entries look below front) (sym is), appends_nothing a)
 
--- an item that isn't drawn whole ends the list
-pub kids_err : (look : Look) (below : List ℕ → Shape → List (List ℕ)) (front : List ℕ) (rest others : List Shape) (x : Shape) (last : Bool) (done all : List (List ℕ)) (a b c : Option (List ℕ)) (f : DrawError)
-    → rest ≡ x ∷ others → last ≡ eqb (length others) 0 → done ++ kid_entries look below front rest ≡ all
-    → Appends a b (concat done) → AppendsEntries b c f (with_below look below front last x) → AppendsEntries a c f all
-kids_err look below front rest others x last done all a b c f er el e h k =
-    subst (λ (es : List (List ℕ)). AppendsEntries a c f es) (kids_step look below front rest others x last done all er el e)
-    (entries_more a c f (done ++ with_below look below front last x) (kid_entries look below front others) (entries_then a b c f done (with_below look below front last x) h k))
+-- what is appended so far is a beginning
+pub begun_part : (look : Look) (below : List ℕ → Shape → List (List ℕ)) (front : List ℕ) (all rest : List Shape) (a b : Option (List ℕ)) (e : DrawError)
+    → AreBegun look below front all rest a b → AppendsEntries a b e (kid_entries look below front all)
+begun_part look below front all rest a b e h = entries_done a b e h.0 (kid_entries look below front rest) (kid_entries look below front all) h.1 h.2
 
-pub same_len : {C X : Type 0} (f : C → X) (others : List C) (last : Bool) → last ≡ eqb (length others) 0 → last ≡ eqb (length (map f others)) 0
-same_len f others last e = let length_eq : length (map f others) ≡ length others = simp length-map in e ∙ ap (λ n. eqb n 0) (sym length_eq)
+-- the entries of one child, and of those behind it
+next_is : {C : Type 0} (shape : C → Shape) (look : Look) (below : List ℕ → Shape → List (List ℕ)) (front : List ℕ) (rest others : List C) (x : C) (last : Bool) → rest ≡ x ∷ others → last ≡ eqb (length others) 0
+    → with_below look below front last (shape x) ++ kid_entries look below front (map shape others) ≡ kid_entries look below front (map shape rest)
+next_is {C = C} shape look below front rest others x last is end =
+    ap (λ b. with_below look below front b (shape x) ++ kid_entries look below front (map shape others)) (end ∙ ends others) ∙ ap (λ cs. kid_entries look below front (map shape cs)) (sym is)
+  where
+    ends : (cs : List C) → eqb (length cs) 0 ≡ is_empty (map shape cs)
+    ends [] = refl
+    ends (c ∷ cs) = grind (arith, nat_tests)
 
-pub item_whole : (look : Look) (left : ℕ) (front : List ℕ) (last : Bool) (x : Shape) (ks : List Shape) (a b c : Option (List ℕ)) → ks ≡ kids x → (left ≡ 0 → ⊥)
-    → Appends a b (entry_of look (front ++ turning_piece look.pieces last) (front ++ passing_piece look.pieces last) x)
-    → Appends b c (concat (kid_entries look (entries_below look (left - 1)) (front ++ passing_piece look.pieces last) ks)) → Appends a c (concat (item_entries look left front last x))
-item_whole look left front last x ks a b c ek h k w = item_written {A = ℕ} {E = ℕ} look left front last x ks a b c (Ok 0) Memory ek h k w
+-- one child more
+pub begun_then : {C : Type 0} (shape : C → Shape) (look : Look) (below : List ℕ → Shape → List (List ℕ)) (front : List ℕ) (all : List Shape) (rest others : List C) (x : C) (last : Bool) (a b c : Option (List ℕ))
+    → rest ≡ x ∷ others → last ≡ eqb (length others) 0 → AreBegun look below front all (map shape rest) a b → Appends b c (concat (with_below look below front last (shape x)))
+    → AreBegun look below front all (map shape others) a c
+begun_then shape look below front all rest others x last a b c is end h k =
+    let item = with_below look below front last (shape x) in (
+      h.0 ++ item,
+      append_assoc h.0 item (kid_entries look below front (map shape others)) ∙ (ap (λ es. h.0 ++ es) (next_is shape look below front rest others x last is end) ∙ h.1),
+      appends_entries a b c h.0 item h.2 k,
+    )
+
+-- one that isn't drawn whole ends the list
+pub begun_err : {C : Type 0} (shape : C → Shape) (look : Look) (below : List ℕ → Shape → List (List ℕ)) (front : List ℕ) (all : List Shape) (rest others : List C) (x : C) (last : Bool) (a b c : Option (List ℕ)) (e : DrawError)
+    → rest ≡ x ∷ others → last ≡ eqb (length others) 0 → AreBegun look below front all (map shape rest) a b → AppendsEntries b c e (with_below look below front last (shape x))
+    → AppendsEntries a c e (kid_entries look below front all)
+begun_err shape look below front all rest others x last a b c e is end h k =
+    let item = with_below look below front last (shape x) in
+    let behind = kid_entries look below front (map shape others) in
+    subst (λ (es : List (List ℕ)). AppendsEntries a c e es) (ap (λ es. h.0 ++ es) (next_is shape look below front rest others x last is end) ∙ h.1)
+    (entries_then a b c e h.0 (item ++ behind) h.2 (entries_more b c e item behind k))
 
 empty_list : {C : Type 0} (ks : List C) (b : Bool) → b ≡ true → b ≡ eqb (length ks) 0 → ks ≡ []
 empty_list [] b h k = refl
 empty_list (x ∷ xs) b h k =
     let some : eqb (length (x ∷ xs)) 0 ≡ false = grind (arith, nat_tests) in absurd (cc)
 
--- an item with no children
-pub item_alone : {D : Type 0} (look : Look) (left : ℕ) (front : List ℕ) (last : Bool) (x : Shape) (a b : Option (List ℕ)) (shape : D → Shape) (ks : List D) (empty : Bool)
-    → empty ≡ true → empty ≡ eqb (length ks) 0 → map shape ks ≡ kids x → (left ≡ 0 → ⊥)
-    → Appends a b (entry_of look (front ++ turning_piece look.pieces last) (front ++ passing_piece look.pieces last) x) → Appends a b (concat (item_entries look left front last x))
-item_alone look left front last x a b shape ks empty e1 e2 ek h k =
-    item_whole look left front last x [] a b b (sym (ap (map shape) (empty_list ks empty e1 e2)) ∙ ek) h k (appends_nothing b)
+-- an item with no children has nothing below it
+pub none_below : {D : Type 0} (look : Look) (below : List ℕ → Shape → List (List ℕ)) (front : List ℕ) (x : Shape) (a : Option (List ℕ)) (shape : D → Shape) (ks : List D) (empty : Bool)
+    → empty ≡ true → empty ≡ eqb (length ks) 0 → map shape ks ≡ kids x → Appends a a (concat (kid_entries look below front (kids x)))
+none_below look below front x a shape ks empty e1 e2 ek =
+    subst (λ (xs : List Shape). Appends a a (concat (kid_entries look below front xs))) (ap (map shape) (sym (empty_list ks empty e1 e2)) ∙ ek) (appends_nothing a)
+
+-- the entries of an item's children are those below it
+pub all_below : {D A E : Type 0} (look : Look) (below : List ℕ → Shape → List (List ℕ)) (front : List ℕ) (x : Shape) (a b : Option (List ℕ)) (r : Result A E) (e : DrawError) (shape : D → Shape) (ks : List D)
+    → map shape ks ≡ kids x → AreWritten a b r e (kid_entries look below front (map shape ks)) → AreWritten a b r e (kid_entries look below front (kids x))
+all_below look below front x a b r e shape ks is w = subst (λ (xs : List Shape). AreWritten a b r e (kid_entries look below front xs)) is w
 
 -- what the buffer holds is an entry: its first bytes, a text with the back codes, and the own bytes, with the same first bytes and another such text before each of their further lines
 pub entry_held : (look : Look) (width : ℕ) (bytes front : List ℕ) (last : Option Bool) (x : Shape)

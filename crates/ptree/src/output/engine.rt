@@ -1,10 +1,13 @@
 //! The drawing engine.
-ghost use Rattle.std.specs.Prelude.{◌≡◌, ℕ, Bool, true, false, Some, length, take, drop, ◌≤◌, ◌++◌, IfOk, OnOk, OnErr, Err, string_bytes, List, map};
+ghost use Rattle.std.specs.Prelude.{◌≡◌, ℕ, Bool, true, false, Some, length, take, drop, ◌≤◌, ◌++◌, ◌∷◌, [], IfOk, OnOk, OnErr, Err, string_bytes, List, map};
 ghost use Rattle.std.specs.List.{concat};
 ghost use Rattle.ptree.specs.Drawing.{with_inserted};
 ghost use Rattle.ptree.specs.Entries.{item_entries, kid_entries, entries_below, drawn_entries};
 ghost use Rattle.ptree.specs.Looks.{look_meant, AreOwnTexts, AreFurtherTexts, own_text, further_text, own_entry};
+ghost use Rattle.ptree.specs.Pieces.{passing_piece};
+ghost use Rattle.ptree.specs.Shape.{kids};
 ghost use Rattle.ptree.specs.Style.{front_codes};
+ghost use Rattle.ptree.specs.Text.{line_feed};
 ghost use Rattle.ptree.specs.Writing.{AppendsFirst, IsWritten, AreWritten, HasCause, HasErrorCause};
 ghost use Rattle.ptree.specs.declared.style.DrawError.TheVariants.{Memory};
 
@@ -53,6 +56,14 @@ impl LineBuffer {
         self.bytes.extend_from_slice(text.as_bytes())
     }
 
+    // Puts a line feed.
+    #[inline(always)]
+    fn end_line(&mut self) -> Result<(), AllocError>
+        ensures { OnOk result (self.new.bytes.items ≡ self.old.bytes.items ++ line_feed ∷ []) }
+    {
+        self.bytes.extend_from_slice(b"\n")
+    }
+
     // Inserts the first `width` bytes, and what a brush has before further lines, after each line feed of what stands behind the
     // first `start` bytes.
     #[inline(always)]
@@ -91,25 +102,6 @@ impl LineBuffer {
     {
         self.bytes = spread(brush.alloc, &self.bytes, start, width, brush.further(last))?;
         Ok(())
-    }
-
-    // Has an item's turning piece behind the first `width` bytes; `held` says that the regular one stands there.
-    #[inline(always)]
-    fn turn(
-        &mut self,
-        width: usize,
-        brush: &Brush<'_>,
-        is_last: bool,
-        held: bool,
-    ) -> Result<(), AllocError>
-        requires { held ≡ true → self.old.bytes.items ≡ take width self.old.bytes.items ++ own_text (look_meant brush.now.look.now) (Some false) }
-        ensures { OnOk result (self.new.bytes.items ≡ take width self.old.bytes.items ++ own_text (look_meant brush.now.look.now) (Some is_last)) }
-    {
-        if is_last || !held {
-            self.replace_end(width, brush.turn(is_last))
-        } else {
-            Ok(())
-        }
     }
 }
 
@@ -172,10 +164,12 @@ impl<'a> Brush<'a> {
     }
 }
 
-/// The buffer of a drawing, and what ends it. Until another error is told, that is want of memory.
+/// The buffer of a drawing, whether a regular turning piece stands at its end, and what ends the drawing. Until another error is
+/// told, that is want of memory.
 #[derive(Drop)]
 struct Pen {
     line: LineBuffer,
+    turned: bool,
     error: DrawError,
 }
 
@@ -183,6 +177,7 @@ impl Pen {
     // A pen whose buffer holds the branch's front codes.
     fn new(alloc: Global, branch: &Style) -> Result<Pen, AllocError>
         ensures line { IfOk result (λ p. p.line.bytes.items ≡ front_codes branch.now) }
+        ensures turned { IfOk result (λ p. p.turned ≡ false) }
         ensures error { IfOk result (λ p. p.error ≡ Memory) }
     {
         let front = branch.front_text(alloc)?;
@@ -194,15 +189,58 @@ impl Pen {
         };
         Ok(Pen {
             line,
+            turned: false,
             error: DrawError::Memory,
         })
+    }
+
+    // Has an item's turning piece behind the first `width` bytes, where that of the item before may stand.
+    #[inline(always)]
+    fn turn(&mut self, width: usize, brush: &Brush<'_>, is_last: bool) -> Result<(), AllocError>
+        requires { self.old.turned ≡ true → is_last ≡ false
+            → self.old.line.bytes.items ≡ take width self.old.line.bytes.items ++ own_text (look_meant brush.now.look.now) (Some false) }
+        ensures line { OnOk result (self.new.line.bytes.items ≡ take width self.old.line.bytes.items ++ own_text (look_meant brush.now.look.now) (Some is_last)) }
+        ensures error { self.new.error ≡ self.old.error }
+    {
+        if self.turned && !is_last {
+            return Ok(());
+        }
+        self.turned = true;
+        self.line.replace_end(width, brush.turn(is_last))
+    }
+
+    // Has an item's passing piece behind the first `width` bytes, for what is below the item.
+    #[inline(always)]
+    fn pass(&mut self, width: usize, brush: &Brush<'_>, is_last: bool) -> Result<(), AllocError>
+        ensures line { OnOk result (self.new.line.bytes.items ≡ take width self.old.line.bytes.items ++ passing_piece (look_meant brush.now.look.now).pieces is_last) }
+        ensures turned { self.new.turned ≡ false }
+        ensures error { self.new.error ≡ self.old.error }
+    {
+        self.turned = false;
+        self.line
+            .replace_end(width, brush.look.pieces.passing(is_last))
+    }
+
+    // Keeps the first `width` bytes alone.
+    #[inline(always)]
+    fn cut(&mut self, width: usize)
+        ensures line { self.new.line.bytes.items ≡ take width self.old.line.bytes.items }
+        ensures turned { self.new.turned ≡ false }
+        ensures error { self.new.error ≡ self.old.error }
+    {
+        self.line.bytes.truncate(width);
+        self.turned = false;
     }
 
     // What ended the drawing.
     fn into_error(self) -> DrawError
         ensures { result ≡ self.error }
     {
-        let Pen { line: _, error } = self;
+        let Pen {
+            line: _,
+            turned: _,
+            error,
+        } = self;
         error
     }
 }
@@ -227,6 +265,7 @@ fn draw_entry<C: TreeItem, W: Sink>(
     ensures cause { HasErrorCause (W.faults f.old) (W.faults f.new) pen.new.error }
     ensures error { OnOk result (pen.new.error ≡ Memory) }
     ensures kept { OnOk result (pen.new.line.bytes.items ≡ pen.old.line.bytes.items) }
+    ensures turned { pen.new.turned ≡ pen.old.turned }
 {
     let start = pen.line.bytes.len();
     match item.write_self(brush.alloc, &mut pen.line, brush.look.leaf) {
@@ -234,14 +273,14 @@ fn draw_entry<C: TreeItem, W: Sink>(
         Err(_) => return Err(Stop),
     }
     pen.line.continue_lines(start, width, brush, last)?;
-    pen.line.bytes.extend_from_slice(b"\n")?;
+    pen.line.end_line()?;
     put_or_stop(f, pen.line.bytes.as_slice(), &mut pen.error)?;
     pen.line.bytes.truncate(start);
     Ok(())
 }
 
 // Draws an item and what is below it. The first `width` bytes of the buffer are the branch's front codes and the passing text of
-// the item's parent, and behind them is the item's turning piece. The answer says whether that still stands there.
+// the item's parent, and behind them is the item's turning piece.
 #[cycle(draw)]
 #[inline(always)]
 fn draw_item<C: TreeItem<Child = C> + Drop, W: Sink>(
@@ -252,7 +291,7 @@ fn draw_item<C: TreeItem<Child = C> + Drop, W: Sink>(
     width: usize,
     is_last: bool,
     levels_left: u32,
-) -> Result<bool, Stop>
+) -> Result<(), Stop>
     requires error { pen.old.error ≡ Memory }
     requires width { width ≤ length pen.old.line.bytes.items }
     requires turned { pen.old.line.bytes.items ≡ take width pen.old.line.bytes.items ++ own_text (look_meant brush.now.look.now) (Some is_last) }
@@ -261,20 +300,43 @@ fn draw_item<C: TreeItem<Child = C> + Drop, W: Sink>(
     ensures cause { HasErrorCause (W.faults f.old) (W.faults f.new) pen.new.error }
     ensures error { OnOk result (pen.new.error ≡ Memory) }
     ensures kept { OnOk result (take width pen.new.line.bytes.items ≡ take width pen.old.line.bytes.items) }
-    ensures held { IfOk result (λ held. held ≡ true → pen.new.line.bytes.items ≡ pen.old.line.bytes.items) }
+    ensures turned { OnOk result (pen.new.turned ≡ true → pen.new.line.bytes.items ≡ pen.old.line.bytes.items) }
 {
     draw_entry(item, f, pen, brush, width, Some(is_last))?;
     if levels_left == 0 {
-        return Ok(true);
+        return Ok(());
     }
+    draw_below(item, f, pen, brush, width, is_last, levels_left - 1)
+}
+
+// Draws what is below an item, one level and as many more as are left. The buffer is as `draw_item` takes and leaves it.
+#[cycle(draw)]
+#[inline(always)]
+fn draw_below<C: TreeItem<Child = C> + Drop, W: Sink>(
+    item: &C,
+    f: &mut W,
+    pen: &mut Pen,
+    brush: &Brush<'_>,
+    width: usize,
+    is_last: bool,
+    levels_left: u32,
+) -> Result<(), Stop>
+    requires error { pen.old.error ≡ Memory }
+    requires width { width ≤ length pen.old.line.bytes.items }
+    ensures bytes { (front : List ℕ) → take width pen.old.line.bytes.items ≡ front_codes brush.now.look.now.branch.now ++ front
+        → AreWritten (W.contents f.old) (W.contents f.new) result pen.new.error
+        (let look = look_meant brush.now.look.now in kid_entries look (entries_below look levels_left) (front ++ passing_piece look.pieces is_last) (kids (C.shape item.now))) }
+    ensures cause { HasErrorCause (W.faults f.old) (W.faults f.new) pen.new.error }
+    ensures error { OnOk result (pen.new.error ≡ Memory) }
+    ensures kept { OnOk result (take width pen.new.line.bytes.items ≡ take width pen.old.line.bytes.items) }
+    ensures turned { OnOk result (pen.new.turned ≡ true → pen.new.line.bytes.items ≡ pen.old.line.bytes.items) }
+{
     let children = item.children(brush.alloc)?;
     if children.as_slice().is_empty() {
-        return Ok(true);
+        return Ok(());
     }
-    pen.line
-        .replace_end(width, brush.look.pieces.passing(is_last))?;
-    draw_children(children.as_slice(), f, pen, brush, levels_left - 1)?;
-    Ok(false)
+    pen.pass(width, brush, is_last)?;
+    draw_children(children.as_slice(), f, pen, brush, levels_left)
 }
 
 // Draws the children of one item, and what is below them. The buffer holds the branch's front codes and that item's passing text.
@@ -287,23 +349,24 @@ fn draw_children<C: TreeItem<Child = C> + Drop, W: Sink>(
     levels_left: u32,
 ) -> Result<(), Stop>
     requires error { pen.old.error ≡ Memory }
+    requires turned { pen.old.turned ≡ false }
     ensures bytes { (front : List ℕ) → pen.old.line.bytes.items ≡ front_codes brush.now.look.now.branch.now ++ front
         → AreWritten (W.contents f.old) (W.contents f.new) result pen.new.error
         (let look = look_meant brush.now.look.now in kid_entries look (entries_below look levels_left) front (map C.shape items.now)) }
     ensures cause { HasErrorCause (W.faults f.old) (W.faults f.new) pen.new.error }
     ensures error { OnOk result (pen.new.error ≡ Memory) }
     ensures kept { OnOk result (pen.new.line.bytes.items ≡ pen.old.line.bytes.items) }
+    ensures turned { OnOk result (pen.new.turned ≡ false) }
 {
     let width = pen.line.bytes.len();
-    let mut held = false;
     let mut rest = items;
     while let Some((item, others)) = rest.split_first() {
         let is_last = others.is_empty();
-        pen.line.turn(width, brush, is_last, held)?;
-        held = draw_item(item, f, pen, brush, width, is_last, levels_left)?;
+        pen.turn(width, brush, is_last)?;
+        draw_item(item, f, pen, brush, width, is_last, levels_left)?;
         rest = others;
     }
-    pen.line.bytes.truncate(width);
+    pen.cut(width);
     Ok(())
 }
 
@@ -320,6 +383,7 @@ where
     T::Child: TreeItem<Child = T::Child> + Drop,
     W: Sink,
     requires error { pen.old.error ≡ Memory }
+    requires turned { pen.old.turned ≡ false }
     requires front { pen.old.line.bytes.items ≡ front_codes brush.now.look.now.branch.now }
     ensures bytes { AreWritten (W.contents f.old) (W.contents f.new) result pen.new.error (drawn_entries (look_meant brush.now.look.now) depth (T.shape item.now)) }
     ensures error { OnOk result (pen.new.error ≡ Memory) }

@@ -1,29 +1,31 @@
 use Rattle.std.proofs.Common.{Some, ◌≡◌, ℕ, true, false, ◌++◌, List, ◌+◌, ◌*◌, ◌<◌, length, map, take}
-use Rattle.std.specs.Io.KnownBytes.{Appends}
-use Rattle.std.specs.List.{concat}
 use Rattle.ptree.specs.Looks.{look_meant, own_text}
-use Rattle.ptree.specs.Entries.{kid_entries, entries_below}
+use Rattle.ptree.specs.Entries.{entries_below}
 use Rattle.ptree.specs.Style.{front_codes}
 use Rattle.ptree.specs.declared.style.DrawError.TheVariants.{Memory}
+use Rattle.ptree.proofs.Engine.{AreBegun}
 use Rattle.ptree.proofs.output.engine.+draw.Given as goal
 
--- an item takes one step less than its list
+-- an item takes a step more than what is below it, and that one more than its list
 abbrev pub decreases-draw_children : goal.decreases-draw_children
-decreases-draw_children g l = 2 * l.levels_left + 1
+decreases-draw_children g l = 3 * l.levels_left + 1
 
 abbrev pub decreases-draw_item : goal.decreases-draw_item
-decreases-draw_item g l = 2 * l.levels_left
+decreases-draw_item g l = 3 * l.levels_left
 
--- the entries so far, and those of the rest
+abbrev pub decreases-draw_below : goal.decreases-draw_below
+decreases-draw_below g l = 3 * l.levels_left + 2
+
+-- the entries so far
 abbrev pub invariant-draw_children-loop-item : goal.invariant-draw_children-loop-item
 invariant-draw_children-loop-item g l = record {
-  written : (front : List ℕ) → l.fn.pen.line.bytes.items ≡ front_codes l.brush.look.now.branch.now ++ front
-      → (let entries = kid_entries (look_meant l.brush.look.now) (entries_below (look_meant l.brush.look.now) l.levels_left) front in
-      (done : List (List ℕ)) × (done ++ entries (map g.C.Shaped.shape l.rest) ≡ entries (map g.C.Shaped.shape l.items)) × Appends (g.W.Sink.contents l.fn.f) (g.W.Sink.contents l.f) (concat done));
+  begun : (front : List ℕ) → l.fn.pen.line.bytes.items ≡ front_codes l.brush.look.now.branch.now ++ front
+      → (let look = look_meant l.brush.look.now in AreBegun look (entries_below look l.levels_left) front (map g.C.Shaped.shape l.items)
+      (map g.C.Shaped.shape l.rest) (g.W.Sink.contents l.fn.f) (g.W.Sink.contents l.f));
   no_fault : g.W.Sink.faults l.f ≡ g.W.Sink.faults l.fn.f;
   error : l.pen.error ≡ Memory;
   kept : take l.width l.pen.line.bytes.items ≡ l.fn.pen.line.bytes.items;
-  held : l.held ≡ true → 0 < length l.rest → l.pen.line.bytes.items ≡ take l.width l.pen.line.bytes.items ++ own_text (look_meant l.brush.look.now) (Some false);
+  turned : l.pen.turned ≡ true → 0 < length l.rest → l.pen.line.bytes.items ≡ take l.width l.pen.line.bytes.items ++ own_text (look_meant l.brush.look.now) (Some false);
 }
 
 abbrev pub decreases-draw_children-loop-item : goal.decreases-draw_children-loop-item

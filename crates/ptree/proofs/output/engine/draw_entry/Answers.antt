@@ -9,8 +9,8 @@ use Rattle.ptree.proofs.output.engine.draw_entry.Goals as goal
 pub returns-in_err-continue_lines-clause-bytes : goal.returns-in_err-continue_lines-clause-bytes
 returns-in_err-continue_lines-clause-bytes g c = λ front is. written_err _ _ _ _ _ c.from_residual.ensures.1 (nothing_yet _ _)
 
-pub returns-in_err-extend_from_slice-clause-bytes : goal.returns-in_err-extend_from_slice-clause-bytes
-returns-in_err-extend_from_slice-clause-bytes g c = λ front is. written_err _ _ _ _ _ c.from_residual-in_err-extend_from_slice.ensures.1 (nothing_yet _ _)
+pub returns-in_err-end_line-clause-bytes : goal.returns-in_err-end_line-clause-bytes
+returns-in_err-end_line-clause-bytes g c = λ front is. written_err _ _ _ _ _ c.from_residual-in_err-end_line.ensures.1 (nothing_yet _ _)
 
 pub returns-in_err-put_or_stop-clause-bytes : goal.returns-in_err-put_or_stop-clause-bytes
 returns-in_err-put_or_stop-clause-bytes g c = λ front is.
@@ -19,7 +19,7 @@ returns-in_err-put_or_stop-clause-bytes g c = λ front is.
     written_err _ _ _ _ _ c.from_residual-in_err-put_or_stop.ensures.1
     (subst (λ (z : List ℕ). AppendsPart (g.W.Sink.contents c.args.f.now) (g.W.Sink.contents c.put_or_stop.new.f) z)
     (entry_gathered (look_meant c.args.brush.now.look.now) c.args.width c.len-start.result old _ _ _ front c.args.last (g.C.Shaped.shape c.args.item.now) c.requires.turned is
-    c.in-Ok.ensures.bytes wide c.requires.width c.in_ok-continue_lines.ensures (c.as_slice.ensures.value ∙ c.in_ok-extend_from_slice.ensures.items)) c.in_err-put_or_stop.ensures.bytes)
+    c.in-Ok.ensures.bytes wide c.requires.width c.in_ok-continue_lines.ensures (c.as_slice.ensures.value ∙ c.in_ok-end_line.ensures)) c.in_err-put_or_stop.ensures.bytes)
 
 pub returns-clause-bytes : goal.returns-clause-bytes
 returns-clause-bytes g c = λ front is.
@@ -27,4 +27,4 @@ returns-clause-bytes g c = λ front is.
     let wide : c.len-start.result ≡ length old = omega (arith, c.len-start.ensures, c.args.pen.now.line.bytes.ok.0) in
     subst (λ (z : List ℕ). Appends (g.W.Sink.contents c.args.f.now) (g.W.Sink.contents c.put_or_stop.new.f) z)
     (entry_gathered (look_meant c.args.brush.now.look.now) c.args.width c.len-start.result old _ _ _ front c.args.last (g.C.Shaped.shape c.args.item.now) c.requires.turned is
-    c.in-Ok.ensures.bytes wide c.requires.width c.in_ok-continue_lines.ensures (c.as_slice.ensures.value ∙ c.in_ok-extend_from_slice.ensures.items)) c.in_ok-put_or_stop.ensures.bytes
+    c.in-Ok.ensures.bytes wide c.requires.width c.in_ok-continue_lines.ensures (c.as_slice.ensures.value ∙ c.in_ok-end_line.ensures)) c.in_ok-put_or_stop.ensures.bytes
