@@ -23,6 +23,7 @@ pub mod LineScans
 pub mod Links
 pub mod MarkScans
 pub mod Marks
+pub mod Matched
 pub mod OutlineAddresses
 pub mod Outlines
 pub mod OwnBytes

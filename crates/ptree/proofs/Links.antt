@@ -40,9 +40,9 @@ ends_more : (edges : List Edge) (m n : ℕ) → m ≤ n → All (EndsBelow m) ed
 ends_more edges m n h = All-weaker (EndsBelow m) (EndsBelow n) (λ e k. (omega arith, omega arith)) edges
 
 module _ {N : Type 0} where
-  -- a node of this weight, with the number of its newest edge
-  abbrev pub node : N → ℕ → Node N
-  node weight newest = record { weight = weight; newest = newest }
+  -- a node of this weight, with the number of its newest edge, and how many there are
+  abbrev pub node : N → ℕ → ℕ → Node N
+  node weight newest degree = record { weight = weight; newest = newest; degree = degree }
 
   -- a number that is no node's has no newest edge
   pub newest_of_none : (nodes : List (Node N)) (edges : List Edge) (v : ℕ) → IsLinked nodes edges → length nodes ≤ v
@@ -52,10 +52,10 @@ module _ {N : Type 0} where
       newest_from-none (map ends_of edges) v (All-map (λ p. p.0 ≢ v) ends_of edges others)
 
   -- a node more
-  linked-node : (nodes : List (Node N)) (edges : List Edge) (weight : N) → IsLinked nodes edges → IsLinked (nodes ++ node weight 0 ∷ []) edges
+  linked-node : (nodes : List (Node N)) (edges : List Edge) (weight : N) → IsLinked nodes edges → IsLinked (nodes ++ node weight 0 0 ∷ []) edges
   linked-node nodes edges weight l = record {
-    ends = ends_more edges (length nodes) (length (nodes ++ node weight 0 ∷ [])) (omega (arith, length-append nodes (node weight 0 ∷ []))) l.ends;
-    newest = λ v n h. elim (slice_get-push nodes (node weight 0) n v h) [
+    ends = ends_more edges (length nodes) (length (nodes ++ node weight 0 0 ∷ [])) (omega (arith, length-append nodes (node weight 0 0 ∷ []))) l.ends;
+    newest = λ v n h. elim (slice_get-push nodes (node weight 0 0) n v h) [
       | inl k ↦ l.newest v n k
       | inr k ↦ ap (λ (m : Node N). m.newest) (sym k.1) ∙ sym (newest_of_none nodes edges v l (omega (arith, k.0)))
     ];
@@ -64,17 +64,17 @@ module _ {N : Type 0} where
 
   -- the same where the growth may have been refused
   pub linked-node_if : (nodes new : List (Node N)) (edges : List Edge) (weight : N) (grew : Bool) → IsLinked nodes edges
-      → new ≡ (if grew then nodes ++ node weight 0 ∷ [] else nodes) → IsLinked new edges
+      → new ≡ (if grew then nodes ++ node weight 0 0 ∷ [] else nodes) → IsLinked new edges
   linked-node_if nodes new edges weight true l h = subst (λ (ns : List (Node N)). IsLinked ns edges) (sym h) (linked-node nodes edges weight l)
   linked-node_if nodes new edges weight false l h = subst (λ (ns : List (Node N)). IsLinked ns edges) (sym h) l
 
   -- an edge more
-  linked-edge : (nodes : List (Node N)) (edges : List Edge) (source target : ℕ) (n : Node N) → IsLinked nodes edges
+  linked-edge : (nodes : List (Node N)) (edges : List Edge) (source target d : ℕ) (n : Node N) → IsLinked nodes edges
       → source < length nodes → target < length nodes → slice_get nodes source ≡ Some n
-      → IsLinked (set nodes source (node n.weight (suc (length edges)))) (edges ++ edge source target n.newest ∷ [])
-  linked-edge nodes edges source target n l s t h = record {
+      → IsLinked (set nodes source (node n.weight (suc (length edges)) d)) (edges ++ edge source target n.newest ∷ [])
+  linked-edge nodes edges source target d n l s t h = record {
     ends = All-push (EndsBelow (length marked)) edges added (ends_more edges (length nodes) (length marked) (omega (arith, counted)) l.ends) (omega (arith, counted), omega (arith, counted));
-    newest = λ v m k. elim (slice_get-set nodes source (node n.weight (suc (length edges))) m v k) [
+    newest = λ v m k. elim (slice_get-set nodes source (node n.weight (suc (length edges)) d) m v k) [
       | inl other ↦ l.newest v m other.1 ∙ sym (newest_from-push_other pairs (source, target) v (omega (arith, other.0))) ∙ sym (grown v)
       | inr same ↦ ap (λ (x : Node N). x.newest) (sym same.1) ∙ ap suc (sym (length-map edges ends_of)) ∙ sym (newest_from-push_same pairs (source, target) v (sym same.0)) ∙ sym (grown v)
     ];
@@ -93,10 +93,10 @@ module _ {N : Type 0} where
       pairs = map ends_of edges
 
       marked : List (Node N)
-      marked = set nodes source (node n.weight (suc (length edges)))
+      marked = set nodes source (node n.weight (suc (length edges)) d)
 
       counted : length marked ≡ length nodes
-      counted = length-set nodes source (node n.weight (suc (length edges)))
+      counted = length-set nodes source (node n.weight (suc (length edges)) d)
 
       grown : (v : ℕ) → newest_from (map ends_of (edges ++ added ∷ [])) v ≡ newest_from (pairs ++ (source, target) ∷ []) v
       grown v = ap (λ p. newest_from p v) (map-append ends_of edges (added ∷ []))
@@ -108,19 +108,19 @@ module _ {N : Type 0} where
           ∙ ap (λ p. newest_from p v) (take-append-le i pairs ((source, target) ∷ []) (omega (arith, length-map edges ends_of)))
 
   -- the same as the code reads, grows and marks
-  pub linked-edge_by : (nodes : List (Node N)) (edges new : List Edge) (source target count : ℕ) (read written : Node N) (pushed : Bool)
+  pub linked-edge_by : (nodes : List (Node N)) (edges new : List Edge) (source target count d : ℕ) (read written : Node N) (pushed : Bool)
       → IsLinked nodes edges → source < length nodes → target < length nodes
       → read ≡ get_or nodes source read → written ≡ get_or nodes source written → pushed ≡ true → count ≡ suc (length edges)
-      → new ≡ (if pushed then edges ++ edge source target read.newest ∷ [] else edges) → IsLinked (set nodes source (node written.weight count)) new
-  linked-edge_by nodes edges new source target count read written pushed l s t r w p c e =
+      → new ≡ (if pushed then edges ++ edge source target read.newest ∷ [] else edges) → IsLinked (set nodes source (node written.weight count d)) new
+  linked-edge_by nodes edges new source target count d read written pushed l s t r w p c e =
       let first = slice_get_read nodes (length nodes) source read refl s r in
       let second = slice_get_read nodes (length nodes) source written refl s w in
       let same : read ≡ written = cc in
-      let marked = ap (λ (n : Node N). node n.weight (suc (length edges))) same ∙ ap (node written.weight) (sym c) in
+      let marked = ap (λ (n : Node N). node n.weight (suc (length edges)) d) same ∙ ap (λ k. node written.weight k d) (sym c) in
       let grown = sym (e ∙ ap (λ b. if b then edges ++ edge source target read.newest ∷ [] else edges) p) in
-      subst (λ (es : List Edge). IsLinked (set nodes source (node written.weight count)) es) grown
+      subst (λ (es : List Edge). IsLinked (set nodes source (node written.weight count d)) es) grown
       (subst (λ (n : Node N). IsLinked (set nodes source n) (edges ++ edge source target read.newest ∷ [])) marked
-      (linked-edge nodes edges source target read l s t first))
+      (linked-edge nodes edges source target d read l s t first))
 
   -- at the number m of the newest edge from v: its target is the first neighbour, and the others are those that the edges before it give
   pub linked-step : (nodes : List (Node N)) (edges : List Edge) (v m : ℕ) (e : Edge) → IsLinked nodes edges → 0 < m

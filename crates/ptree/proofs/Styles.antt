@@ -1,13 +1,16 @@
 -- Painted texts.
-use Rattle.std.proofs.Common.{◌≡◌, ◌≢◌, ℕ, ◌<◌, List, [], ◌∷◌, ◌++◌, refl, ap, ◌∙◌, arith}
-use Rattle.std.specs.Prelude.{flat_map, IsUtf8}
+use Rattle.std.proofs.Common.{◌≡◌, ◌≢◌, ℕ, ◌<◌, Bool, false, Option, Some, None, List, [], ◌∷◌, ◌++◌, refl, ap, ◌∙◌, arith}
+use Rattle.std.specs.Prelude.{⊤, flat_map, IsUtf8, option_map, option_to_list}
 use Rattle.std.proofs.lemmas.List.{append-nil}
 use Rattle.std.proofs.lemmas.List.Elements.{All-nil, All-cons, All-weaker}
 use Rattle.std.proofs.lemmas.Str.{IsUtf8-from_ascii}
 use Rattle.std.proofs.lemmas.Str.Ascii.{IsAscii-from_all}
 use Rattle.ptree.specs.declared.style.Style.{Style}
 use Rattle.ptree.specs.Text.{HasNoLineFeed}
-use Rattle.ptree.specs.Style.{plain_style, style_codes, reset_after, front_codes, back_codes, painted_text}
+use Rattle.ptree.specs.declared.style.Color.{Color}
+use Rattle.ptree.specs.declared.colors.Side.{Side}
+use Rattle.ptree.specs.declared.colors.Side.TheVariants.{Foreground, Background}
+use Rattle.ptree.specs.Style.{plain_style, code, flags, flag_codes, side_codes, SetsNone, IsPlain, style_codes, reset_after, front_codes, back_codes, painted_text}
 use Rattle.ptree.proofs.CodeBytes.{IsCodeByte, front_is}
 
 -- the plain style has no code
@@ -23,6 +26,29 @@ painted_plain style text h =
 -- as the plain style does
 pub painted_plain_style : (text : List ℕ) → painted_text plain_style text ≡ text
 painted_plain_style text = painted_plain plain_style text plain_codes
+
+-- no flag is set
+abbrev AreUnset : List (Bool × ℕ) → Type 0
+AreUnset [] = ⊤
+AreUnset (f ∷ fs) = (f.0 ≡ false) × AreUnset fs
+
+-- such flags have no codes
+none_set : (fs : List (Bool × ℕ)) → AreUnset fs → flag_codes fs ≡ []
+none_set [] h = refl
+none_set (f ∷ fs) h = ap (λ b. flag_codes ((b, f.1) ∷ fs)) h.0 ∙ none_set fs h.1
+
+-- nor has a colour that sets none
+sets_none : (color : Option Color) (side : Side) → SetsNone color side → side_codes color side ≡ []
+sets_none None side h = refl
+sets_none (Some c) side h = ap (λ o. option_to_list (option_map code o)) h
+
+-- nor a style without any
+pub no_codes : (style : Style) → IsPlain style → style_codes style ≡ []
+unfolding style_codes
+no_codes style h =
+    ap (λ cs. cs ++ side_codes style.foreground Foreground ++ side_codes style.background Background)
+    (none_set (flags style) (h.bold, (h.dimmed, (h.italic, (h.underline, (h.blink, (h.reverse, (h.hidden, (h.strikethrough, tt)))))))))
+    ∙ ap (λ cs. cs ++ side_codes style.background Background) (sets_none style.foreground Foreground h.foreground) ∙ sets_none style.background Background h.background
 
 no_line_feed_reset : (codes : List (List ℕ)) → HasNoLineFeed (reset_after codes)
 no_line_feed_reset [] = All-nil (λ b. b ≢ 10)

@@ -8,6 +8,7 @@ pub mod Counted
 pub mod Drawing
 pub mod DrawnForm
 pub mod Equality
+pub mod Errors
 pub mod Graph
 pub mod HandedBack
 pub mod Laws
@@ -26,6 +27,7 @@ pub mod Looks
 pub mod Entries
 pub mod Rows
 pub mod GraphLinks
+pub mod Matched
 pub mod Flags
 pub mod Meant
 pub mod Spelled

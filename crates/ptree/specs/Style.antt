@@ -1,5 +1,5 @@
 -- Painted texts. Single parameters are those of ECMA-48, SELECT GRAPHIC RENDITION; the order of the codes is this crate's own.
-use Rattle.std.specs.Prelude.{ℕ, Bool, false, List, [], ◌∷◌, ◌++◌, Option, None, map, filter, flat_map, option_map, option_and_then, option_to_list, decimal}
+use Rattle.std.specs.Prelude.{◌≡◌, ℕ, Bool, false, List, [], ◌∷◌, ◌++◌, Option, None, map, filter, flat_map, option_map, option_and_then, option_to_list, decimal}
 use Rattle.std.specs.List.{join_with_byte}
 use Rattle.ptree.specs.declared.style.Color.{Color}
 use Rattle.ptree.specs.declared.style.Style.{Style}
@@ -48,14 +48,35 @@ side_codes color side = option_to_list (option_and_then (λ c. color_code c side
 unfoldable pub style_codes : Style → List (List ℕ)
 style_codes style = flag_codes (flags style) ++ side_codes style.foreground Foreground ++ side_codes style.background Background
 
+-- a colour that isn't set, or that has no code
+abbrev pub SetsNone : Option Color → Side → Type 0
+SetsNone color side = option_and_then (λ c. color_parameters c side) color ≡ None
+
+-- no flag is set, and no colour that has a code
+pub record IsPlain (style : Style) : Type 0 where
+  pub bold : style.bold ≡ false
+  pub dimmed : style.dimmed ≡ false
+  pub italic : style.italic ≡ false
+  pub underline : style.underline ≡ false
+  pub blink : style.blink ≡ false
+  pub reverse : style.reverse ≡ false
+  pub hidden : style.hidden ≡ false
+  pub strikethrough : style.strikethrough ≡ false
+  pub foreground : SetsNone style.foreground Foreground
+  pub background : SetsNone style.background Background
+
 -- what stands before a painted text: the codes
 abbrev pub front_codes : Style → List ℕ
 front_codes style = flat_map (λ code. code) (style_codes style)
 
+-- the code that ends all styles: ESC [0m
+abbrev pub reset_code : List ℕ
+reset_code = 27 ∷ 91 ∷ 48 ∷ 109 ∷ []
+
 -- the reset after these codes, one by one or joined, if there are any
 abbrev pub reset_after : {X : Type 0} → List X → List ℕ
 reset_after [] = []
-reset_after (x ∷ xs) = 27 ∷ 91 ∷ 48 ∷ 109 ∷ []
+reset_after (x ∷ xs) = reset_code
 
 -- what stands after a painted text
 abbrev pub back_codes : Style → List ℕ

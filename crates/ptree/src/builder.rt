@@ -1,12 +1,14 @@
 //! Builds a tree item by item.
 ghost use Rattle.std.specs.Borrow.{sem};
-ghost use Rattle.std.specs.Prelude.{if◌then◌else◌, ◌≡◌, ◌<◌, ◌+◌, ◌++◌, [], ◌∷◌, suc, map, IfOk, OnOk, OnErr, string_bytes};
+ghost use Rattle.std.specs.Prelude.{if◌then◌else◌, ◌≡◌, ◌↔◌, ◌⊎◌, ◌<◌, ◌+◌, ◌++◌, [], ◌∷◌, suc, map, IfOk, OnOk, OnErr, IsErrOf, string_bytes};
 ghost use Rattle.ptree.specs.Outline.{Line, line, outline, IsOutline, Steps};
 ghost use Rattle.ptree.specs.Rows.{IsRow};
 ghost use Rattle.ptree.specs.Tree.{Tree, tree_of};
 
 use crate::item::StringItem;
-use std::alloc::{AllocError, Global};
+use std::alloc::{AllocError, AllocFailed, Global};
+use std::error::Error;
+use std::fmt;
 use std::marker::Model;
 
 /// What means a line of an outline: a level and a text.
@@ -41,6 +43,47 @@ impl OutlineLine for TextLine {
         self.text.as_str()
     }
 }
+
+/// Why an item was not added at a level.
+#[derive(Debug, Clone, Copy, PartialEq, Eq)]
+pub enum AddError {
+    /// No item can follow at the level.
+    Level,
+
+    /// Memory ran out.
+    Memory,
+}
+
+impl From<AllocError> for AddError {
+    ghost use Rattle.ptree.specs.declared.builder.AddError.TheVariants.{Memory};
+
+    ghost from_gives = { λ _ e. e ≡ Memory };
+
+    fn from(_e: AllocError) -> AddError {
+        AddError::Memory
+    }
+}
+
+impl<T: Drop> From<AllocFailed<T>> for AddError {
+    ghost use Rattle.ptree.specs.declared.builder.AddError.TheVariants.{Memory};
+
+    ghost from_gives = { λ _ e. e ≡ Memory };
+
+    fn from(_e: AllocFailed<T>) -> AddError {
+        AddError::Memory
+    }
+}
+
+impl fmt::Display for AddError {
+    fn fmt<W: fmt::Write>(&self, f: &mut fmt::Formatter<W>) -> fmt::Result {
+        match self {
+            AddError::Level => write!(f, "no item can follow at that level"),
+            AddError::Memory => write!(f, "out of memory"),
+        }
+    }
+}
+
+impl Error for AddError {}
 
 /// Builds a tree of texts item by item, in the order in which they are drawn.
 ///
@@ -130,6 +173,28 @@ impl TreeBuilder {
         ensures level { IfOk result (λ b. b.now.level ≡ self.old.level) }
     {
         self.add(text, false)
+    }
+
+    /// Adds an item at a level, and makes it current: a child of the current item, or of an item above that. It serves a loop over
+    /// levels and texts, where each item stands at most one level below the one before it.
+    ///
+    /// # Errors
+    ///
+    /// `Level` where no item can follow at that level: it is 0, which is the root's, or more than one below the current item's.
+    /// `Memory` where memory ran out. The builder stays as it was, and the text is given up.
+    pub fn add_at_level(&mut self, level: u32, text: String) -> Result<(), AddError>
+        ensures outline { OnOk result (self.new.outline ≡ self.old.outline ++ line level (string_bytes text) ∷ []) }
+        ensures level { OnOk result (self.new.level ≡ level) }
+        ensures refused { IsErrOf result AddError.Level ↔ (level ≡ 0) ⊎ (self.old.level + 1 < level) }
+        ensures kept { OnErr result (self.new ≡ self.old) }
+    {
+        if level == 0 || level - 1 > self.level {
+            return Err(AddError::Level);
+        }
+        let line = TextLine { level, text };
+        self.lines.push(line)?;
+        self.level = level;
+        Ok(())
     }
 
     /// The tree so far. The builder goes on, and may build again.

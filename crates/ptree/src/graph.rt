@@ -1,15 +1,41 @@
 //! Graphs, and their nodes as items.
 ghost use Rattle.std.specs.Prelude.{◌≡◌, ◌+◌, ◌-◌, ◌<◌, ◌≤◌, ◌↔◌, IsTrue, [], ◌∷◌, ◌++◌, length, map, All, Any, IfOk, IsOkAnd, IsErrOf, OnOk, OnErr, option_copied, slice_get, vec_len, vec_capacity};
 ghost use Rattle.ptree.specs.GraphLinks.{IsLinked, newest_from};
+ghost use Rattle.ptree.specs.Matched.{AreMatched};
 
 mod drawing;
 
 pub use drawing::{GraphNode, Label, write_graph_with};
-use std::alloc::{AllocError, Global};
+use std::alloc::{AllocError, AllocFailed, Global};
+use std::error::Error;
+use std::fmt;
 
 /// The number of a node, counted from 0 in the order of [`Graph::add_node`].
-#[derive(Debug, Clone, Copy, PartialEq, Eq)]
+#[derive(Debug, Clone, Copy)]
 pub struct NodeIndex(pub usize);
+
+impl PartialEq for NodeIndex {
+    ghost use Rattle.std.proofs.Common.{rules};
+    ghost use Rattle.std.specs.Cmp.Rules.{comparing};
+    ghost use Rattle.std.specs.Prelude.{nat_eq};
+
+    ghost eq = { λ a b. nat_eq a.0 b.0 };
+
+    ghost laws = { Prim.search (comparing, rules) };
+
+    fn eq(&self, other: &NodeIndex) -> bool
+        ensures equality { IsTrue result ↔ (self.now ≡ other.now) }
+    {
+        self.0 == other.0
+    }
+}
+
+impl Eq for NodeIndex {
+    ghost use Rattle.std.proofs.Common.{rules};
+    ghost use Rattle.std.specs.Cmp.Rules.{comparing};
+
+    ghost laws = { Prim.search (comparing, rules) };
+}
 
 /// Why edges were refused.
 #[derive(Debug, Clone, Copy, PartialEq, Eq)]
@@ -31,6 +57,27 @@ impl From<AllocError> for EdgeError {
     }
 }
 
+impl<T: Drop> From<AllocFailed<T>> for EdgeError {
+    ghost use Rattle.ptree.specs.declared.graph.EdgeError.TheVariants.{Memory};
+
+    ghost from_gives = { λ _ e. e ≡ Memory };
+
+    fn from(_e: AllocFailed<T>) -> EdgeError {
+        EdgeError::Memory
+    }
+}
+
+impl fmt::Display for EdgeError {
+    fn fmt<W: fmt::Write>(&self, f: &mut fmt::Formatter<W>) -> fmt::Result {
+        match self {
+            EdgeError::NoNode => write!(f, "an edge of a node that isn't in the graph"),
+            EdgeError::Memory => write!(f, "out of memory"),
+        }
+    }
+}
+
+impl Error for EdgeError {}
+
 /// A directed graph: a list of weights, one for each node, and a list of edges.
 #[derive(Drop)]
 pub struct Graph<N> {
@@ -39,11 +86,12 @@ pub struct Graph<N> {
     ghost linked: { IsLinked nodes.items edges.items },
 }
 
-// A node, and the number of the newest edge from it. Edges are counted from 1, and 0 says that there is none.
+// A node, the number of the newest edge from it, and how many there are. Edges are counted from 1, and 0 says that there is none.
 #[derive(Drop)]
 struct Node<N> {
     weight: N,
     newest: usize,
+    degree: usize,
 }
 
 // An edge, and the number of the next older one from the same source.
@@ -82,7 +130,11 @@ impl<N> Graph<N> {
         ensures edges { edges_of self.new ≡ edges_of self.old }
     {
         let number = self.nodes.len();
-        self.nodes.push(Node { weight, newest: 0 })?;
+        self.nodes.push(Node {
+            weight,
+            newest: 0,
+            degree: 0,
+        })?;
         Ok(NodeIndex(number))
     }
 
@@ -127,14 +179,29 @@ impl<N> Graph<N> {
         // Each of them is a node.
         ensures nodes { All (λ u. u < length (weights_of self.now)) (neighbors_of (edges_of self.now) a.0) }
     {
-        let mut targets = Vec::with_capacity(*self.nodes.allocator(), self.degree(a))?;
+        self.targets(*self.nodes.allocator(), a, NodeIndex)
+    }
+
+    // What is made of the target of each edge from a node, newest edge first.
+    #[inline(always)]
+    fn targets<T: Drop, F: Fn(usize) -> T>(
+        &self,
+        alloc: Global,
+        a: NodeIndex,
+        make: F,
+    ) -> Result<Vec<T>, AllocError>
+        requires { F.IsAlwaysCallable make }
+        ensures made { IfOk result (λ v. AreMatched (F.post make) (neighbors_of (edges_of self.now) a.0) v.items) }
+        ensures no_node { length (weights_of self.now) ≤ a.0 → IsOkAnd result (λ v. v.items ≡ []) }
+    {
+        let mut made = Vec::with_capacity(alloc, self.degree(a))?;
         let mut number = self.newest(a);
         while number > 0 {
             let edge = &self.edges[number - 1];
-            targets.push(NodeIndex(edge.target))?;
+            made.push(make(edge.target))?;
             number = edge.next;
         }
-        Ok(targets)
+        Ok(made)
     }
 
     // Whether an end of some edge is no node.
@@ -163,21 +230,20 @@ impl<N> Graph<N> {
             next,
         };
         self.edges.push(edge).unwrap();
-        self.nodes[source].newest = self.edges.len();
+        let newest = self.edges.len();
+        let node = &mut self.nodes[source];
+        node.newest = newest;
+        node.degree = node.degree.saturating_add(1);
     }
 
-    // How many edges there are from a node.
+    // How many edges there are from a node. It says what room to make, and nothing else.
     fn degree(&self, a: NodeIndex) -> usize
         ensures no_node { length (weights_of self.now) ≤ a.0 → result ≡ 0 }
     {
-        let mut count: usize = 0;
-        let mut number = self.newest(a);
-        while number > 0 {
-            let edge = &self.edges[number - 1];
-            count += 1;
-            number = edge.next;
+        match self.nodes.get(a.0) {
+            Some(node) => node.degree,
+            None => 0,
         }
-        count
     }
 
     // The number of the newest edge from a node, or 0.

@@ -4,13 +4,16 @@ ghost use Rattle.ptree.specs.Characters.{characters_of, static_characters, set_n
 ghost use Rattle.ptree.specs.Config.{IsDefault, is_styled};
 ghost use Rattle.ptree.specs.Equality.{SameConfig};
 ghost use Rattle.ptree.specs.Style.{painted_text};
+ghost use Rattle.ptree.specs.declared.print_config.CharsError.{CharsError};
 ghost use Rattle.ptree.specs.declared.print_config.IndentChars.{IndentChars};
 ghost use Rattle.ptree.specs.declared.print_config.OutputKind.{OutputKind};
 ghost use Rattle.ptree.specs.declared.print_config.PrintConfig.{PrintConfig};
 ghost use Rattle.ptree.specs.declared.print_config.StaticIndentChars.{StaticIndentChars};
 
 use crate::style::Style;
-use std::alloc::{AllocError, Global};
+use std::alloc::{AllocError, AllocFailed, Global};
+use std::error::Error;
+use std::fmt;
 
 /// When output is styled.
 #[derive(Debug, Clone, Copy, PartialEq, Eq)]
@@ -214,6 +217,8 @@ impl IndentChars {
     pub fn from_name(alloc: Global, s: &str) -> Result<IndentChars, CharsError>
         ensures set { IfOk result (λ c. set_named s.now ≡ Some (characters_of c)) }
         ensures unknown { IsErrOf result CharsError.Unknown ↔ (set_named s.now ≡ None) }
+        // `==` of errors holds exactly where they are equal.
+        ensures equality { (a b : CharsError) → IsTrue (⟦<CharsError as PartialEq>⟧.eq a b) ↔ (a ≡ b) }
     {
         let set = match s {
             "utf" => UTF_CHARS,
@@ -247,6 +252,27 @@ impl From<AllocError> for CharsError {
         CharsError::Memory
     }
 }
+
+impl<T: Drop> From<AllocFailed<T>> for CharsError {
+    ghost use Rattle.ptree.specs.declared.print_config.CharsError.TheVariants.{Memory};
+
+    ghost from_gives = { λ _ e. e ≡ Memory };
+
+    fn from(_e: AllocFailed<T>) -> CharsError {
+        CharsError::Memory
+    }
+}
+
+impl fmt::Display for CharsError {
+    fn fmt<W: fmt::Write>(&self, f: &mut fmt::Formatter<W>) -> fmt::Result {
+        match self {
+            CharsError::Unknown => write!(f, "no set of characters has that name"),
+            CharsError::Memory => write!(f, "out of memory"),
+        }
+    }
+}
+
+impl Error for CharsError {}
 
 /// Characters that need no memory, as those that are shipped.
 #[derive(Debug, Clone, Copy, PartialEq, Eq)]

@@ -6,14 +6,15 @@ ghost use Rattle.ptree.specs.Counted.{fault_count, inner_value};
 ghost use Rattle.ptree.specs.declared.style.Color.{Color};
 ghost use Rattle.ptree.specs.declared.style.Style.{Style};
 ghost use Rattle.ptree.specs.Equality.{color_value, SameStyle};
-ghost use Rattle.ptree.specs.Style.{plain_style, style_codes, painted_text, front_codes, back_codes};
+ghost use Rattle.ptree.specs.Style.{IsPlain, plain_style, style_codes, painted_text, front_codes, back_codes};
 ghost use Rattle.ptree.specs.Writing.{IsWritten, put_faults, get_faults, HasCause, HasErrorCause, TakesNoMemory};
 ghost use Rattle.ptree.specs.declared.style.DrawError.TheVariants.{Memory};
 
 use crate::codes::Codes;
 use crate::faults::FaultCount;
-use std::alloc::{AllocError, Global};
-use std::io;
+use std::alloc::{AllocError, AllocFailed, Global};
+use std::error::Error;
+use std::{fmt, io};
 
 /// How a text is painted on a terminal.
 ///
@@ -165,8 +166,8 @@ impl Style {
     /// Memory ran out.
     pub fn paint(&self, alloc: Global, input: &str) -> Result<String, AllocError>
         ensures text { IfOk result (λ text. string_bytes text ≡ painted_text self.now input.now) }
-        // A style that has no code paints a text as itself.
-        ensures plain { style_codes self.now ≡ [] → IfOk result (λ text. string_bytes text ≡ input.now) }
+        // A style with no flag set, and no colour that has a code, paints a text as itself.
+        ensures plain { IsPlain self.now → IfOk result (λ text. string_bytes text ≡ input.now) }
     {
         let codes = Codes::of(self);
         let mut text = String::from_str(alloc, codes.as_str())?;
@@ -288,6 +289,43 @@ impl From<AllocError> for DrawError {
         DrawError::Memory
     }
 }
+
+impl<T: Drop> From<AllocFailed<T>> for DrawError {
+    ghost use Rattle.ptree.specs.declared.style.DrawError.TheVariants.{Memory};
+
+    ghost from_gives = { λ _ e. e ≡ Memory };
+
+    fn from(_e: AllocFailed<T>) -> DrawError {
+        DrawError::Memory
+    }
+}
+
+impl From<DrawError> for io::Error {
+    ghost use Rattle.ptree.specs.Errors.{IsIoError};
+
+    ghost from_gives = { IsIoError };
+
+    /// The writer's own error; that of a write that took nothing; or want of memory.
+    fn from(e: DrawError) -> io::Error {
+        match e {
+            DrawError::Write(e) => e,
+            DrawError::Zero => io::Error::from(io::ErrorKind::WriteZero),
+            DrawError::Memory => io::Error::from(io::ErrorKind::OutOfMemory),
+        }
+    }
+}
+
+impl fmt::Display for DrawError {
+    fn fmt<W: fmt::Write>(&self, f: &mut fmt::Formatter<W>) -> fmt::Result {
+        match self {
+            DrawError::Write(e) => write!(f, "cannot write: {e}"),
+            DrawError::Zero => write!(f, "cannot write: the writer took no bytes"),
+            DrawError::Memory => write!(f, "out of memory"),
+        }
+    }
+}
+
+impl Error for DrawError {}
 
 /// What takes bytes and may fail.
 pub trait Sink {

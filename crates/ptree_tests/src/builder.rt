@@ -2,6 +2,7 @@
 
 use crate::trees::{drawn, long_chain, plain, spelled};
 use ptree::TreeBuilder;
+use ptree::builder::AddError;
 use ptree::print_config::UTF_CHARS;
 use std::alloc::{AllocError, Global};
 use std::process::Abort;
@@ -181,5 +182,66 @@ fn a_long_chain_is_drawn(rt: HostRuntime) -> Result<(), Fail> {
         &plain(alloc, UTF_CHARS, 3, u32::MAX)?,
     )?;
     assert_eq!(rt; str::from_utf8(&bytes)?, text.as_str());
+    Ok(())
+}
+
+#[test]
+fn levels_and_texts(rt: HostRuntime) -> Result<(), Fail> {
+    let alloc = rt.alloc();
+    let mut builder = TreeBuilder::new(alloc, String::from_str(alloc, "r")?);
+    for (level, text) in [(1, "a"), (2, "b"), (3, "c"), (2, "d"), (1, "e"), (2, "f")] {
+        assert!(rt;
+            builder
+                .add_at_level(level, String::from_str(alloc, text)?)
+                .is_ok()
+        );
+        assert_eq!(rt; builder.level(), level);
+    }
+    assert_eq!(rt;
+        spelled(alloc, &builder.build()?)?.as_str(),
+        "r [a [b [c], d], e [f]]"
+    );
+    Ok(())
+}
+
+#[test]
+fn levels_that_cannot_follow(rt: HostRuntime) -> Result<(), Fail> {
+    let alloc = rt.alloc();
+    let mut builder = TreeBuilder::new(alloc, String::from_str(alloc, "r")?);
+    for level in [0, 2, 3, u32::MAX] {
+        let refused = builder.add_at_level(level, String::from_str(alloc, "x")?);
+        assert!(rt; matches!(refused, Err(AddError::Level)));
+    }
+    assert!(rt;
+        builder
+            .add_at_level(1, String::from_str(alloc, "a")?)
+            .is_ok()
+    );
+    for level in [0, 3, u32::MAX] {
+        let refused = builder.add_at_level(level, String::from_str(alloc, "x")?);
+        assert!(rt; matches!(refused, Err(AddError::Level)));
+    }
+    assert_eq!(rt; builder.level(), 1);
+    assert_eq!(rt; spelled(alloc, &builder.build()?)?.as_str(), "r [a]");
+    Ok(())
+}
+
+// Behind an item that was ended, one stands at most one level below the current item.
+#[test]
+fn levels_count_from_the_current_item(rt: HostRuntime) -> Result<(), Fail> {
+    let alloc = rt.alloc();
+    let mut builder = TreeBuilder::new(alloc, String::from_str(alloc, "r")?);
+    begin(&rt, alloc, &mut builder, "a")?;
+    begin(&rt, alloc, &mut builder, "b")?;
+    end(&rt, &mut builder);
+    end(&rt, &mut builder);
+    let refused = builder.add_at_level(2, String::from_str(alloc, "x")?);
+    assert!(rt; matches!(refused, Err(AddError::Level)));
+    assert!(rt;
+        builder
+            .add_at_level(1, String::from_str(alloc, "c")?)
+            .is_ok()
+    );
+    assert_eq!(rt; spelled(alloc, &builder.build()?)?.as_str(), "r [a [b], c]");
     Ok(())
 }

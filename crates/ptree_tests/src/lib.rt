@@ -6,6 +6,8 @@ mod builder;
 #[cfg(test)]
 mod drawing;
 #[cfg(test)]
+mod errors;
+#[cfg(test)]
 mod failing;
 #[cfg(test)]
 mod graph;

@@ -1,8 +1,9 @@
 //! What is drawn of a graph.
-ghost use Rattle.std.specs.Prelude.{◌≡◌, ◌↔◌, ℕ, ◌<◌, List, length, map, IfOk};
+ghost use Rattle.std.specs.Prelude.{◌≡◌, ◌↔◌, ℕ, ◌<◌, List, length, map, All, IfOk};
 ghost use Rattle.ptree.specs.Children.{children_items};
 ghost use Rattle.ptree.specs.Drawing.{written_look, IsDrawing};
-ghost use Rattle.ptree.specs.Graph.{weights_of, node_shape, walks};
+ghost use Rattle.ptree.specs.Graph.{weights_of, edges_of, neighbors_of, node_shape, walks};
+ghost use Rattle.ptree.specs.Shape.{kids};
 ghost use Rattle.ptree.specs.Style.{painted_text};
 ghost use Rattle.ptree.specs.Tree.{shape_of_tree};
 ghost use Rattle.ptree.specs.Writing.{IsWritten, HasCause, TakesNoMemory, IsDrawn, LeavesWholeEntries};
@@ -129,18 +130,22 @@ impl<'a, N: Label> TreeItem for GraphNode<'a, N> {
         }
     }
 
-    /// Makes an item of each neighbour.
-    fn children(&self, alloc: Global) -> Result<Children<'_, GraphNode<'a, N>>, AllocError> {
-        let mut nodes = Vec::with_capacity(alloc, self.graph.degree(self.node))?;
-        let mut number = self.graph.newest(self.node);
-        while number > 0 {
-            let edge = &self.graph.edges[number - 1];
-            nodes.push(GraphNode {
-                graph: self.graph,
-                node: NodeIndex(edge.target),
-            })?;
-            number = edge.next;
-        }
+    /// Makes an item of each neighbour, newest edge first.
+    fn children(&self, alloc: Global) -> Result<Children<'_, GraphNode<'a, N>>, AllocError>
+        ensures shapes { IfOk result (λ c. map (λ x. node_shape N.text x.graph.now x.node.0) (children_items c) ≡ kids (node_shape N.text self.now.graph.now self.now.node.0)) }
+        // They are the neighbours, in the same graph.
+        ensures nodes { IfOk result (λ c. map (λ x. x.node.0) (children_items c) ≡ neighbors_of (edges_of self.now.graph.now) self.now.node.0) }
+        ensures graph { IfOk result (λ c. All (λ x. x.graph.now ≡ self.now.graph.now) (children_items c)) }
+    {
+        let graph = self.graph;
+        let nodes = graph.targets(
+            alloc,
+            self.node,
+            |number| GraphNode {
+                graph,
+                node: NodeIndex(number),
+            },
+        )?;
         Ok(Children::Made(nodes))
     }
 }

@@ -1,0 +1,59 @@
+//! Callers that draw.
+ghost use Rattle.std.specs.Prelude.{◌≡◌, ℕ, ◌++◌, [], ◌∷◌, List, Some, IsOk, IfOk, OnErr};
+ghost use Rattle.ptree.specs.Address.{Address};
+ghost use Rattle.ptree.specs.Drawing.{written_look, IsDrawing, own_at, prefix_text, entry_text};
+ghost use Rattle.ptree.specs.Style.{painted_text};
+ghost use Rattle.ptree.specs.Text.{HasNoLineFeed, line_feed};
+ghost use Rattle.ptree.specs.Tree.{tree_of, shape_of_tree};
+ghost use Rattle.ptree.specs.Writing.{LeavesWholeEntries};
+
+use ptree::item::{StringItem, TreeItem};
+use ptree::output::write_tree_with;
+use ptree::print_config::PrintConfig;
+use ptree::style::{Counted, DrawError, Sink, put_all};
+use std::alloc::Global;
+
+/// The drawing of any item, in memory.
+pub fn drawing_of<T>(alloc: Global, item: &T, config: &PrintConfig) -> Result<Vec<u8>, DrawError>
+where
+    T: TreeItem,
+    T::Child: TreeItem<Child = T::Child> + Drop,
+    ensures { IfOk result (λ v. IsDrawing (written_look config.now) (T.shape item.now) config.now.depth v.items) }
+{
+    let mut out = Counted::new(Vec::new(alloc));
+    write_tree_with(alloc, item, &mut out, config)?;
+    Ok(out.into_inner())
+}
+
+/// Draws to any sink. Where memory runs out, the sink holds whole entries: a reader of it can go on at a line.
+pub fn draw_whole_entries<W: Sink>(
+    alloc: Global,
+    tree: &StringItem,
+    f: &mut W,
+    config: &PrintConfig,
+) -> Result<(), DrawError>
+    ensures { LeavesWholeEntries (written_look config.now) (shape_of_tree (tree_of tree.now)) config.now.depth (W.contents f.old) (W.contents f.new) result }
+{
+    write_tree_with(alloc, tree, f, config)
+}
+
+/// Draws, and knows how the entry of each item looks whose text is one line.
+pub fn draw_one_line_texts<W: Sink>(
+    alloc: Global,
+    tree: &StringItem,
+    f: &mut W,
+    config: &PrintConfig,
+) -> Result<(), DrawError>
+    ensures { let look = written_look config.now in let shape = shape_of_tree (tree_of tree.now) in
+        (a : Address) → HasNoLineFeed (own_at look shape a)
+        → entry_text look shape a ≡ painted_text look.branch (prefix_text look shape a) ++ own_at look shape a ++ line_feed ∷ [] }
+{
+    write_tree_with(alloc, tree, f, config)
+}
+
+/// Puts a text that may be empty. A sink isn't touched for an empty one, so such a call can't fail.
+pub fn put_text<W: Sink>(f: &mut W, text: &str) -> Result<(), DrawError>
+    ensures { text.now ≡ [] → IsOk result × (f.new ≡ f.old) }
+{
+    put_all(f, text.as_bytes())
+}

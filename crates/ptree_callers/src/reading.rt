@@ -1,0 +1,65 @@
+//! Callers that read drawings.
+ghost use Rattle.std.specs.Prelude.{◌≡◌, ◌≤◌, ◌<◌, ◌+◌, false, IfOk, IfSome, IsTrue, IsSomeAnd};
+ghost use Rattle.ptree.specs.DrawnForm.{IsDrawnForm};
+ghost use Rattle.ptree.specs.Drawing.{written_look};
+ghost use Rattle.ptree.specs.Readable.{HasReadablePieces};
+ghost use Rattle.ptree.specs.Tree.{tree_of, height};
+
+use crate::drawing::drawing_of;
+use ptree::item::StringItem;
+use ptree::print_config::{ASCII_CHARS_TICK, IndentChars, PrintConfig};
+use ptree::read::{pieces_readable, read_tree};
+use std::alloc::{AllocError, Global};
+use std::str;
+
+/// Draws a tree and reads it back. Whatever its texts, what comes back is the tree.
+pub fn there_and_back(
+    alloc: Global,
+    tree: &StringItem,
+    config: &PrintConfig,
+) -> Result<Option<StringItem>, AllocError>
+    requires readable { HasReadablePieces config.now }
+    requires within { height (tree_of tree.now).children ≤ config.now.depth }
+    ensures { IfOk result (λ o. IsSomeAnd o (λ t. tree_of t ≡ tree_of tree.now)) }
+{
+    let Ok(drawing) = drawing_of(alloc, tree, config) else {
+        return Err(AllocError);
+    };
+    match str::from_utf8(drawing.as_slice()) {
+        Ok(text) => read_tree(alloc, text, config),
+        Err(_) => Err(AllocError),
+    }
+}
+
+/// Reads where the configuration allows it, and else answers none.
+pub fn read_if_readable(
+    alloc: Global,
+    text: &str,
+    config: &PrintConfig,
+) -> Result<Option<StringItem>, AllocError>
+    ensures { IfOk result (λ o. IfSome o (λ t. IsDrawnForm (written_look config.now) config.now.depth text.now (tree_of t))) }
+{
+    if pieces_readable(alloc, config)? {
+        read_tree(alloc, text, config)
+    } else {
+        Ok(None)
+    }
+}
+
+/// With the set that has ticks no dash is drawn at indent 2, and then the pieces aren't readable.
+pub fn short_ticks(alloc: Global) -> Result<bool, AllocError>
+    ensures { IfOk result (λ b. b ≡ false) }
+{
+    let mut config = PrintConfig::default(alloc)?;
+    config.characters = IndentChars::from_static(alloc, ASCII_CHARS_TICK)?;
+    config.indent = 2;
+    pieces_readable(alloc, &config)
+}
+
+/// The default configuration's pieces are readable.
+pub fn default_is_readable(alloc: Global) -> Result<bool, AllocError>
+    ensures { IfOk result IsTrue }
+{
+    let config = PrintConfig::default(alloc)?;
+    pieces_readable(alloc, &config)
+}
