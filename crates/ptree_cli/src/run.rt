@@ -93,10 +93,12 @@ pub fn run<R: Feed, W: Sink, E: Sink>(
     err: &mut E,
 ) -> u8
     // The call ended so: `out` got the drawing, a beginning of it or nothing, and `err` the line.
-    ensures { (end : Ending) × (result ≡ status_of end)
+    ensures ended { (end : Ending) × (result ≡ status_of end)
         × EndsWith end (request_of (map string_bytes words.now)) (W.contents out.old) (W.contents out.new)
         × (W.faults out.new ≡ W.faults out.old + ending_faults end)
         × Tells (E.contents err.old) (E.contents err.new) (E.faults err.old) (E.faults err.new) (ending_line end) }
+    // No command that is there reads its input.
+    ensures input { _input.new ≡ _input.old }
 {
     let end = perform(alloc, words, out);
     tell(err, end.line());

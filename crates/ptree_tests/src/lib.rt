@@ -4,6 +4,8 @@
 #[cfg(test)]
 mod builder;
 #[cfg(test)]
+mod counted;
+#[cfg(test)]
 mod drawing;
 #[cfg(test)]
 mod errors;
