@@ -1,49 +1,68 @@
-pub mod Addresses
-pub mod BuilderWalks
+-- codes, colours and painted texts
+pub mod Decimals
+pub mod ColorNames
 pub mod CodeBytes
 pub mod CodeLists
-pub mod ColorNames
-pub mod CutTrees
-pub mod Decimals
-pub mod DefaultMark
-pub mod Drawn
-pub mod EdgeLists
-pub mod Engine
+pub mod Styles
+pub mod Painting
 pub mod Equality
-pub mod Examples
-pub mod FaultWalks
-pub mod Fronts
-pub mod Inserted
-pub mod ItemsOnce
+-- trees, outlines and shapes
+pub mod TreeLemmas
+pub mod Outlines
+pub mod OutlineAddresses
+pub mod Steps
+pub mod Rows
+pub mod Unfold
+-- drawings: addresses, entries, and what stands in the sink
+pub mod Addresses
 pub mod Join
-pub mod LastFlags
+pub mod TreeDrawing
+pub mod Inserted
+pub mod Engine
+pub mod Written
+pub mod Drawn
+-- laws of drawings
+pub mod CutTrees
+pub mod Subtrees
 pub mod Laws
-pub mod Levels
+pub mod Examples
+-- pieces and marks that are readable
+pub mod Prefixes
+pub mod Fronts
+pub mod Shipped
+pub mod DefaultMark
+pub mod ReadablePieces
+pub mod TickTrees
+-- reading: what a line shows, which items, and which tree
+pub mod PieceScans
 pub mod LineScans
-pub mod Links
 pub mod MarkScans
 pub mod Marks
-pub mod Matched
-pub mod OutlineAddresses
-pub mod Outlines
 pub mod OwnBytes
-pub mod Painting
-pub mod Paths
-pub mod PieceScans
-pub mod Prefixes
-pub mod ReadablePieces
-pub mod Readings
-pub mod Rows
-pub mod Shipped
-pub mod SpelledForms
-pub mod Steps
-pub mod Styles
-pub mod Subtrees
 pub mod Texts
-pub mod TickTrees
-pub mod TreeDrawing
-pub mod TreeLemmas
-pub mod Unfold
+pub mod ItemsOnce
+pub mod Levels
+pub mod LastFlags
 pub mod Upward
+pub mod Paths
+pub mod SpelledForms
+pub mod Readings
+-- configurations and their sources
+pub mod Digits
+pub mod LastVariables
+pub mod Triples
+pub mod Configurations
+pub mod Loadings
+-- values and documents
+pub mod NumberTexts
+pub mod Values
+pub mod Converted
+pub mod Documents
+-- graphs
+pub mod EdgeLists
+pub mod Links
+pub mod Matched
 pub mod Walks
-pub mod Written
+-- walks by hand
+pub mod BuilderWalks
+pub mod FaultWalks

@@ -1,8 +1,10 @@
 -- The characters that branches are drawn with, and the shipped sets of them, in UTF-8.
-use Rattle.std.specs.Prelude.{◌≡◌, ◌⊎◌, ℕ, List, [], ◌∷◌, Option, Some, None, if◌then◌else◌, codes, string_bytes}
-use Rattle.std.specs.Str.{bytes_eq}
+use Rattle.std.specs.Prelude.{◌≡◌, ◌⊎◌, ℕ, Bool, List, [], ◌∷◌, Option, Some, None, if◌then◌else◌, codes, string_bytes}
+use Rattle.std.specs.Str.{bytes_eq, str_eq_ignore_ascii_case}
 use Rattle.ptree.specs.declared.print_config.IndentChars.{IndentChars}
 use Rattle.ptree.specs.declared.print_config.StaticIndentChars.{StaticIndentChars}
+use Rattle.ptree.specs.declared.print_config.words.Spelling.{Spelling}
+use Rattle.ptree.specs.declared.print_config.words.Spelling.TheVariants.{Exact, AnyCase}
 
 -- the texts that pieces are made of
 pub record Characters : Type 0 where
@@ -100,13 +102,22 @@ IsShippedWithoutTicks c = (c ≡ ascii_plus) ⊎ ((c ≡ utf) ⊎ ((c ≡ utf_do
 abbrev pub IsShipped : Characters → Type 0
 IsShipped c = (c ≡ ascii_tick) ⊎ IsShippedWithoutTicks c
 
+-- a text is this word, in its own spelling or in any ASCII case
+abbrev pub is_spelled : Spelling → List ℕ → List ℕ → Bool
+is_spelled Exact text word = bytes_eq text word
+is_spelled AnyCase text word = str_eq_ignore_ascii_case text word
+
+-- the set of a name
+abbrev pub set_spelled : Spelling → List ℕ → Option Characters
+set_spelled spelling name =
+    if is_spelled spelling name (codes "utf") then Some utf else
+    if is_spelled spelling name (codes "ascii") then Some ascii_tick else
+    if is_spelled spelling name (codes "ascii-tick") then Some ascii_tick else
+    if is_spelled spelling name (codes "ascii-plus") then Some ascii_plus else
+    if is_spelled spelling name (codes "utf-bold") then Some utf_bold else
+    if is_spelled spelling name (codes "utf-dashed") then Some utf_dashed else
+    if is_spelled spelling name (codes "utf-double") then Some utf_double else None
+
 -- the set of a name, exactly as spelled
 abbrev pub set_named : List ℕ → Option Characters
-set_named name =
-    if bytes_eq name (codes "utf") then Some utf else
-    if bytes_eq name (codes "ascii") then Some ascii_tick else
-    if bytes_eq name (codes "ascii-tick") then Some ascii_tick else
-    if bytes_eq name (codes "ascii-plus") then Some ascii_plus else
-    if bytes_eq name (codes "utf-bold") then Some utf_bold else
-    if bytes_eq name (codes "utf-dashed") then Some utf_dashed else
-    if bytes_eq name (codes "utf-double") then Some utf_double else None
+set_named = set_spelled Exact

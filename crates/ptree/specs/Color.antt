@@ -17,11 +17,16 @@ abbrev pub base : Side → ℕ
 base Foreground = 30
 base Background = 40
 
+-- the parameter on a side behind which a number of the terminal's table stands, or red, green and blue
+abbrev pub extended : Side → ℕ
+extended Foreground = 38
+extended Background = 48
+
 -- the parameters that set a tone
 abbrev pub tone_parameters : Side → Tone → List ℕ
 tone_parameters side (Eight k) = (base side + k) ∷ []
-tone_parameters side (Indexed n) = (base side + 8) ∷ 5 ∷ n ∷ []
-tone_parameters side (Direct r g b) = (base side + 8) ∷ 2 ∷ r ∷ g ∷ b ∷ []
+tone_parameters side (Indexed n) = extended side ∷ 5 ∷ n ∷ []
+tone_parameters side (Direct r g b) = extended side ∷ 2 ∷ r ∷ g ∷ b ∷ []
 
 -- the eight words, in the order of their colours
 abbrev pub color_words : List (List ℕ)

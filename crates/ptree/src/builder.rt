@@ -104,9 +104,13 @@ impl Model for TreeBuilder {
 
     ghost Value = { Building };
 
-    ghost view = { λ b. record { outline = line 0 (string_bytes b.text) ∷ map text_line b.lines.items; level = b.level } };
+    ghost view = { λ b. record {
+      outline = line 0 (string_bytes b.text) ∷ map text_line b.lines.items;
+      level = b.level;
+    } };
 
-    ghost invariant = { λ b. Steps 0 (map text_line b.lines.items) × (b.level ≤ last_level 0 (map text_line b.lines.items)) };
+    ghost invariant = { λ b. Steps 0 (map text_line b.lines.items)
+        × (b.level ≤ last_level 0 (map text_line b.lines.items)) };
 }
 
 impl TreeBuilder {
@@ -136,12 +140,14 @@ impl TreeBuilder {
     ///
     /// # Errors
     ///
-    /// Memory ran out. The builder stays as it was, and the text is given up.
+    /// Memory ran out. The builder stays as it was, and the text is dropped.
     pub fn begin_child(&mut self, text: String) -> Result<&mut Self, AllocError>
         requires { self.old.level < u32.MAX }
         ensures* kept { sem 𝓛 (HandsBack self.entry result) }
         ensures same_reference { IfOk result (λ b. b.ghost_name ≡ self.entry.ghost_name) }
-        ensures outline { IfOk result (λ b. b.now.outline ≡ self.old.outline ++ line (self.old.level + 1) (string_bytes text) ∷ []) }
+        ensures outline { IfOk result (λ b.
+            b.now.outline
+            ≡ self.old.outline ++ line (self.old.level + 1) (string_bytes text) ∷ []) }
         ensures level { IfOk result (λ b. b.now.level ≡ self.old.level + 1) }
     {
         self.add(text, true)
@@ -164,12 +170,14 @@ impl TreeBuilder {
     ///
     /// # Errors
     ///
-    /// Memory ran out. The builder stays as it was, and the text is given up.
+    /// Memory ran out. The builder stays as it was, and the text is dropped.
     pub fn add_empty_child(&mut self, text: String) -> Result<&mut Self, AllocError>
         requires { self.old.level < u32.MAX }
         ensures* kept { sem 𝓛 (HandsBack self.entry result) }
         ensures same_reference { IfOk result (λ b. b.ghost_name ≡ self.entry.ghost_name) }
-        ensures outline { IfOk result (λ b. b.now.outline ≡ self.old.outline ++ line (self.old.level + 1) (string_bytes text) ∷ []) }
+        ensures outline { IfOk result (λ b.
+            b.now.outline
+            ≡ self.old.outline ++ line (self.old.level + 1) (string_bytes text) ∷ []) }
         ensures level { IfOk result (λ b. b.now.level ≡ self.old.level) }
     {
         self.add(text, false)
@@ -181,11 +189,13 @@ impl TreeBuilder {
     /// # Errors
     ///
     /// `Level` where no item can follow at that level: it is 0, which is the root's, or more than one below the current item's.
-    /// `Memory` where memory ran out. The builder stays as it was, and the text is given up.
+    /// `Memory` where memory ran out. The builder stays as it was, and the text is dropped.
     pub fn add_at_level(&mut self, level: u32, text: String) -> Result<(), AddError>
-        ensures outline { OnOk result (self.new.outline ≡ self.old.outline ++ line level (string_bytes text) ∷ []) }
+        ensures outline { OnOk result
+            (self.new.outline ≡ self.old.outline ++ line level (string_bytes text) ∷ []) }
         ensures level { OnOk result (self.new.level ≡ level) }
-        ensures refused { IsErrOf result AddError.Level ↔ (level ≡ 0) ⊎ (self.old.level + 1 < level) }
+        ensures refused { IsErrOf result AddError.Level
+            ↔ (level ≡ 0) ⊎ (self.old.level + 1 < level) }
         ensures kept { OnErr result (self.new ≡ self.old) }
     {
         if level == 0 || level - 1 > self.level {
@@ -204,7 +214,8 @@ impl TreeBuilder {
     /// Memory ran out. The builder stays as it was.
     pub fn build(&mut self) -> Result<StringItem, AllocError>
         ensures outline { IfOk result (λ t. IsOutline (tree_of t) self.old.outline) }
-        ensures unique { IfOk result (λ t. (u : Tree) → IsOutline u self.old.outline → u ≡ tree_of t) }
+        ensures unique { IfOk result (λ t.
+            (u : Tree) → IsOutline u self.old.outline → u ≡ tree_of t) }
         ensures kept { self.new ≡ self.old }
     {
         let alloc = *self.lines.allocator();
@@ -216,8 +227,11 @@ impl TreeBuilder {
         requires { self.old.level < u32.MAX }
         ensures* kept { sem 𝓛 (HandsBack self.entry result) }
         ensures same_reference { IfOk result (λ b. b.ghost_name ≡ self.entry.ghost_name) }
-        ensures outline { IfOk result (λ b. b.now.outline ≡ self.old.outline ++ line (self.old.level + 1) (string_bytes text) ∷ []) }
-        ensures level { IfOk result (λ b. b.now.level ≡ (if is_begun then self.old.level + 1 else self.old.level)) }
+        ensures outline { IfOk result (λ b.
+            b.now.outline
+            ≡ self.old.outline ++ line (self.old.level + 1) (string_bytes text) ∷ []) }
+        ensures level { IfOk result (λ b.
+            b.now.level ≡ (if is_begun then self.old.level + 1 else self.old.level)) }
     {
         match self.add_line(text, is_begun) {
             Ok(()) => Ok(self),
@@ -228,8 +242,11 @@ impl TreeBuilder {
     // Takes its memory before it changes anything.
     fn add_line(&mut self, text: String, is_begun: bool) -> Result<(), AllocError>
         requires { self.old.level < u32.MAX }
-        ensures outline { OnOk result (self.new.outline ≡ self.old.outline ++ line (self.old.level + 1) (string_bytes text) ∷ []) }
-        ensures level { OnOk result (self.new.level ≡ (if is_begun then self.old.level + 1 else self.old.level)) }
+        ensures outline { OnOk result
+            (self.new.outline
+            ≡ self.old.outline ++ line (self.old.level + 1) (string_bytes text) ∷ []) }
+        ensures level { OnOk result
+            (self.new.level ≡ (if is_begun then self.old.level + 1 else self.old.level)) }
         ensures kept { OnErr result (self.new ≡ self.old) }
     {
         let level = self.level + 1;

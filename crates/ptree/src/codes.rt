@@ -83,7 +83,8 @@ impl Codes {
     #[inline(always)]
     fn push_flags(&mut self, style: &Style)
         requires { self.old.len + 32 ≤ ROOM }
-        ensures text { gathered_codes self.new ≡ gathered_codes self.old ++ joined_codes (flag_codes (flags style.now)) }
+        ensures text { gathered_codes self.new
+            ≡ gathered_codes self.old ++ joined_codes (flag_codes (flags style.now)) }
         ensures len { self.new.len ≤ self.old.len + 32 }
     {
         self.push_flag(style.bold, 1);
@@ -101,7 +102,8 @@ impl Codes {
     fn push_flag(&mut self, is_set: bool, digit: u8)
         requires digit { digit < 10 }
         requires room { self.old.len + 4 ≤ ROOM }
-        ensures text { gathered_codes self.new ≡ gathered_codes self.old ++ joined_codes (flag_codes ((is_set, digit) ∷ [])) }
+        ensures text { gathered_codes self.new
+            ≡ gathered_codes self.old ++ joined_codes (flag_codes ((is_set, digit) ∷ [])) }
         ensures len { self.new.len ≤ self.old.len + 4 }
     {
         if is_set {
@@ -118,7 +120,8 @@ impl Codes {
     #[inline(always)]
     fn push_side(&mut self, color: &Option<Color>, side: Side)
         requires { self.old.len + 22 ≤ ROOM }
-        ensures text { gathered_codes self.new ≡ gathered_codes self.old ++ joined_codes (side_codes color.now side) }
+        ensures text { gathered_codes self.new
+            ≡ gathered_codes self.old ++ joined_codes (side_codes color.now side) }
         ensures len { self.new.len ≤ self.old.len + 22 }
     {
         if let Some(color) = color {
@@ -130,7 +133,8 @@ impl Codes {
     #[inline(never)]
     fn push_color(&mut self, color: &Color, side: Side)
         requires { self.old.len + 22 ≤ ROOM }
-        ensures text { gathered_codes self.new ≡ gathered_codes self.old ++ joined_codes (option_to_list (color_code color.now side)) }
+        ensures text { gathered_codes self.new
+            ≡ gathered_codes self.old ++ joined_codes (option_to_list (color_code color.now side)) }
         ensures len { self.new.len ≤ self.old.len + 22 }
     {
         if let Some(tone) = color_tone(color) {
@@ -142,14 +146,14 @@ impl Codes {
     fn push_tone(&mut self, tone: Tone, side: Side)
         requires room { self.old.len + 22 ≤ ROOM }
         requires eight { IsOfEight tone }
-        ensures text { gathered_codes self.new ≡ gathered_codes self.old ++ code (tone_parameters side tone) }
+        ensures text { gathered_codes self.new
+            ≡ gathered_codes self.old ++ code (tone_parameters side tone) }
         ensures len { self.new.len ≤ self.old.len + 22 }
     {
-        let base = side.base();
         match tone {
-            Tone::Eight(k) => self.push_code(base + k, &[]),
-            Tone::Indexed(n) => self.push_code(base + 8, &[5, n]),
-            Tone::Direct(r, g, b) => self.push_code(base + 8, &[2, r, g, b]),
+            Tone::Eight(k) => self.push_code(side.base() + k, &[]),
+            Tone::Indexed(n) => self.push_code(side.extended(), &[5, n]),
+            Tone::Direct(r, g, b) => self.push_code(side.extended(), &[2, r, g, b]),
         }
     }
 
@@ -157,7 +161,8 @@ impl Codes {
     #[tactic(auto, using(crate::proofs::Decimals::byte_lengths))]
     fn push_code(&mut self, first: u8, others: &[u8])
         requires { self.old.len + 4 * length others.now + 6 ≤ ROOM }
-        ensures text { gathered_codes self.new ≡ gathered_codes self.old ++ code (first ∷ others.now) }
+        ensures text { gathered_codes self.new
+            ≡ gathered_codes self.old ++ code (first ∷ others.now) }
         ensures len { self.new.len ≤ self.old.len + 4 * length others.now + 6 }
     {
         self.push(27);

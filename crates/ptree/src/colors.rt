@@ -19,7 +19,7 @@ pub enum Side {
 }
 
 impl Side {
-    ghost use Rattle.ptree.specs.Color.{base};
+    ghost use Rattle.ptree.specs.Color.{base, extended};
 
     /// The number of colour 0.
     pub fn base(self) -> u8
@@ -29,6 +29,16 @@ impl Side {
         match self {
             Side::Foreground => 30,
             Side::Background => 40,
+        }
+    }
+
+    /// The parameter behind which a number of the terminal's table stands, or red, green and blue.
+    pub fn extended(self) -> u8
+        ensures { result ≡ extended self }
+    {
+        match self {
+            Side::Foreground => 38,
+            Side::Background => 48,
         }
     }
 }

@@ -5,7 +5,7 @@ ghost use Rattle.ptree.specs.Matched.{AreMatched};
 
 mod drawing;
 
-pub use drawing::{GraphNode, Label, write_graph_with};
+pub use drawing::{GraphNode, Label, print_graph, write_graph_with};
 use std::alloc::{AllocError, AllocFailed, Global};
 use std::error::Error;
 use std::fmt;
@@ -120,7 +120,7 @@ impl<N> Graph<N> {
     ///
     /// # Errors
     ///
-    /// Memory ran out. The graph is as before, and the weight is given up.
+    /// Memory ran out. The graph is as before, and the weight is dropped.
     pub fn add_node(&mut self, weight: N) -> Result<NodeIndex, AllocError>
     where
         N: Drop,
@@ -144,8 +144,10 @@ impl<N> Graph<N> {
     ///
     /// `NoNode`, which is tested first, and `Memory`. The graph is as before.
     pub fn extend_with_edges(&mut self, edges: &[(NodeIndex, NodeIndex)]) -> Result<(), EdgeError>
-        ensures no_node { IsErrOf result EdgeError.NoNode ↔ Any (LacksNode (length (weights_of self.old))) edges.now }
-        ensures ok { OnOk result (edges_of self.new ≡ edges_of self.old ++ map numbers_of edges.now) }
+        ensures no_node { IsErrOf result EdgeError.NoNode
+            ↔ Any (LacksNode (length (weights_of self.old))) edges.now }
+        ensures ok { OnOk result
+            (edges_of self.new ≡ edges_of self.old ++ map numbers_of edges.now) }
         ensures err { OnErr result (edges_of self.new ≡ edges_of self.old) }
         ensures weights { weights_of self.new ≡ weights_of self.old }
     {
@@ -174,10 +176,12 @@ impl<N> Graph<N> {
     ///
     /// Memory ran out.
     pub fn neighbors(&self, a: NodeIndex) -> Result<Vec<NodeIndex>, AllocError>
-        ensures targets { IfOk result (λ v. map (λ b. b.0) v.items ≡ neighbors_of (edges_of self.now) a.0) }
+        ensures targets { IfOk result (λ v.
+            map (λ b. b.0) v.items ≡ neighbors_of (edges_of self.now) a.0) }
         ensures no_node { length (weights_of self.now) ≤ a.0 → IsOkAnd result (λ v. v.items ≡ []) }
         // Each of them is a node.
-        ensures nodes { All (λ u. u < length (weights_of self.now)) (neighbors_of (edges_of self.now) a.0) }
+        ensures nodes { All (λ u. u < length (weights_of self.now))
+            (neighbors_of (edges_of self.now) a.0) }
     {
         self.targets(*self.nodes.allocator(), a, NodeIndex)
     }
@@ -191,7 +195,8 @@ impl<N> Graph<N> {
         make: F,
     ) -> Result<Vec<T>, AllocError>
         requires { F.IsAlwaysCallable make }
-        ensures made { IfOk result (λ v. AreMatched (F.post make) (neighbors_of (edges_of self.now) a.0) v.items) }
+        ensures made { IfOk result (λ v.
+            AreMatched (F.post make) (neighbors_of (edges_of self.now) a.0) v.items) }
         ensures no_node { length (weights_of self.now) ≤ a.0 → IsOkAnd result (λ v. v.items ≡ []) }
     {
         let mut made = Vec::with_capacity(alloc, self.degree(a))?;

@@ -28,7 +28,8 @@ pub trait TreeItem: Shaped {
     ///
     /// `Write` or `Zero` where `f` failed, and `Memory`. A beginning of the contents was written.
     fn write_self<W: Sink>(&self, alloc: Global, f: &mut W, style: &Style) -> Result<(), DrawError>
-        ensures bytes { IsWritten (W.contents f.old) (W.contents f.new) result ((Self.shape self.now).own [] style.now) }
+        ensures bytes { IsWritten (W.contents f.old) (W.contents f.new) result
+            ((Self.shape self.now).own [] style.now) }
         ensures cause { HasCause (W.faults f.old) (W.faults f.new) result };
 
     /// The item's children, in order. A leaf item has none.
@@ -37,7 +38,8 @@ pub trait TreeItem: Shaped {
     ///
     /// Memory ran out.
     fn children(&self, alloc: Global) -> Result<Children<'_, Self::Child>, AllocError>
-        ensures { IfOk result (λ c. map Self.Child.shape (children_items c) ≡ kids (Self.shape self.now)) };
+        ensures { IfOk result
+            (λ c. map Self.Child.shape (children_items c) ≡ kids (Self.shape self.now)) };
 }
 
 /// Children of an item: those that it holds, or ones that were made for the call.
@@ -110,7 +112,8 @@ impl TreeItem for StringItem {
     /// Writes the text, painted. It takes no memory.
     #[inline(always)]
     fn write_self<W: Sink>(&self, _alloc: Global, f: &mut W, style: &Style) -> Result<(), DrawError>
-        ensures bytes { IsWritten (W.contents f.old) (W.contents f.new) result ((shape_of_tree (tree_of self.now)).own [] style.now) }
+        ensures bytes { IsWritten (W.contents f.old) (W.contents f.new) result
+            ((shape_of_tree (tree_of self.now)).own [] style.now) }
         ensures cause { HasCause (W.faults f.old) (W.faults f.new) result }
         ensures memory { TakesNoMemory result }
     {
@@ -119,8 +122,11 @@ impl TreeItem for StringItem {
 
     /// Lends the children. It takes no memory, and succeeds.
     fn children(&self, _alloc: Global) -> Result<Children<'_, StringItem>, AllocError>
-        ensures shapes { IfOk result (λ c. map (λ s. shape_of_tree (tree_of s)) (children_items c) ≡ kids (shape_of_tree (tree_of self.now))) }
-        ensures lent { IsOkAnd result (λ c. children_items c ≡ (out-StringItem self.now).children.items) }
+        ensures shapes { IfOk result (λ c.
+            map (λ s. shape_of_tree (tree_of s)) (children_items c)
+            ≡ kids (shape_of_tree (tree_of self.now))) }
+        ensures lent { IsOkAnd result (λ c.
+            children_items c ≡ (out-StringItem self.now).children.items) }
     {
         Ok(Children::Lent(self.children.as_slice()))
     }

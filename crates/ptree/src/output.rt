@@ -1,4 +1,5 @@
 //! Pieces, and the calls that draw.
+ghost use Rattle.ptree.specs.UnderSources.{UnderSources};
 ghost use Rattle.ptree.specs.Writing.{HasCause, IsDrawn, LeavesWholeEntries};
 ghost use Rattle.ptree.specs.Drawing.{look_of, written_look};
 ghost use Rattle.ptree.specs.Laws.{HasOneList, HasCuts, HasTreeCuts, HasSubtrees, HasOneLineEntries};
@@ -9,7 +10,7 @@ pub(crate) mod look;
 mod spread;
 
 use crate::item::TreeItem;
-use crate::print_config::{OutputKind, PrintConfig};
+use crate::print_config::{OutputKind, PrintConfig, Sources};
 use crate::style::{DrawError, Sink, Style};
 use engine::draw;
 pub use indent::Indent;
@@ -29,13 +30,45 @@ where
     T: TreeItem,
     T::Child: TreeItem<Child = T::Child> + Drop,
     W: Sink,
-    ensures bytes { IsDrawn (look_of config.now output_kind terminal) (T.shape item.now) config.now.depth (W.contents f.old) (W.contents f.new) result }
-    ensures whole { LeavesWholeEntries (look_of config.now output_kind terminal) (T.shape item.now) config.now.depth (W.contents f.old) (W.contents f.new) result }
+    ensures bytes { IsDrawn (look_of config.now output_kind terminal) (T.shape item.now)
+        config.now.depth (W.contents f.old) (W.contents f.new) result }
+    ensures whole { LeavesWholeEntries (look_of config.now output_kind terminal) (T.shape item.now)
+        config.now.depth (W.contents f.old) (W.contents f.new) result }
     ensures cause { HasCause (W.faults f.old) (W.faults f.new) result }
 {
     let plain = Style::default();
     let look = Look::of_config(alloc, config, &plain, output_kind, terminal)?;
     draw(alloc, item, f, &look, config.depth)
+}
+
+/// Draws an item and what is below it to standard output, `terminal` saying whether that is a terminal, under the configuration
+/// that sources mean ([`PrintConfig::from_env`]).
+///
+/// # Errors
+///
+/// `Write` or `Zero` where `out` failed, and `Memory`. A beginning of the drawing was written; where memory ran out,
+/// whole entries.
+pub fn print_tree<T, W>(
+    alloc: Global,
+    item: &T,
+    out: &mut W,
+    terminal: bool,
+    sources: &Sources,
+) -> Result<(), DrawError>
+where
+    T: TreeItem,
+    T::Child: TreeItem<Child = T::Child> + Drop,
+    W: Sink,
+    ensures drawn { UnderSources DrawError.Memory sources.now (W.contents out.old) (W.contents out.new) result
+        (λ config.
+        IsDrawn (look_of config OutputKind.Stdout terminal) (T.shape item.now) config.depth
+        (W.contents out.old) (W.contents out.new) result
+        × LeavesWholeEntries (look_of config OutputKind.Stdout terminal) (T.shape item.now)
+        config.depth (W.contents out.old) (W.contents out.new) result) }
+    ensures cause { HasCause (W.faults out.old) (W.faults out.new) result }
+{
+    let config = PrintConfig::from_env(alloc, sources)?;
+    print_tree_with(alloc, item, out, terminal, &config)
 }
 
 /// Draws an item and what is below it to standard output, `terminal` saying whether that is a terminal.
@@ -56,12 +89,43 @@ where
     T::Child: TreeItem<Child = T::Child> + Drop,
     W: Sink,
     // Success appends exactly the drawing, and a refusal a beginning of it.
-    ensures bytes { IsDrawn (look_of config.now OutputKind.Stdout terminal) (T.shape item.now) config.now.depth (W.contents out.old) (W.contents out.new) result }
+    ensures bytes { IsDrawn (look_of config.now OutputKind.Stdout terminal) (T.shape item.now)
+        config.now.depth (W.contents out.old) (W.contents out.new) result }
     // Where memory ran out, what was appended is whole entries.
-    ensures whole { LeavesWholeEntries (look_of config.now OutputKind.Stdout terminal) (T.shape item.now) config.now.depth (W.contents out.old) (W.contents out.new) result }
+    ensures whole { LeavesWholeEntries (look_of config.now OutputKind.Stdout terminal)
+        (T.shape item.now) config.now.depth (W.contents out.old) (W.contents out.new) result }
     ensures cause { HasCause (W.faults out.old) (W.faults out.new) result }
 {
     draw_for(alloc, item, out, OutputKind::Stdout, terminal, config)
+}
+
+/// Draws an item and what is below it to a writer that isn't standard output, under the configuration that sources mean
+/// ([`PrintConfig::from_env`]).
+///
+/// # Errors
+///
+/// `Write` or `Zero` where `f` failed, and `Memory`. A beginning of the drawing was written; where memory ran out,
+/// whole entries.
+pub fn write_tree<T, W>(
+    alloc: Global,
+    item: &T,
+    f: &mut W,
+    sources: &Sources,
+) -> Result<(), DrawError>
+where
+    T: TreeItem,
+    T::Child: TreeItem<Child = T::Child> + Drop,
+    W: Sink,
+    ensures drawn { UnderSources DrawError.Memory sources.now (W.contents f.old) (W.contents f.new) result
+        (λ config.
+        IsDrawn (written_look config) (T.shape item.now) config.depth (W.contents f.old)
+        (W.contents f.new) result
+        × LeavesWholeEntries (written_look config) (T.shape item.now) config.depth
+        (W.contents f.old) (W.contents f.new) result) }
+    ensures cause { HasCause (W.faults f.old) (W.faults f.new) result }
+{
+    let config = PrintConfig::from_env(alloc, sources)?;
+    write_tree_with(alloc, item, f, &config)
 }
 
 /// Draws an item and what is below it to a writer that isn't standard output.
@@ -81,9 +145,11 @@ where
     T::Child: TreeItem<Child = T::Child> + Drop,
     W: Sink,
     // Success appends exactly the drawing, and a refusal a beginning of it.
-    ensures bytes { IsDrawn (written_look config.now) (T.shape item.now) config.now.depth (W.contents f.old) (W.contents f.new) result }
+    ensures bytes { IsDrawn (written_look config.now) (T.shape item.now) config.now.depth
+        (W.contents f.old) (W.contents f.new) result }
     // Where memory ran out, what was appended is whole entries.
-    ensures whole { LeavesWholeEntries (written_look config.now) (T.shape item.now) config.now.depth (W.contents f.old) (W.contents f.new) result }
+    ensures whole { LeavesWholeEntries (written_look config.now) (T.shape item.now) config.now.depth
+        (W.contents f.old) (W.contents f.new) result }
     ensures cause { HasCause (W.faults f.old) (W.faults f.new) result }
     // One list of addresses meets the definition, and no other.
     ensures one_list { HasOneList (T.shape item.now) config.now.depth }

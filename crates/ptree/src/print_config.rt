@@ -2,7 +2,9 @@
 ghost use Rattle.std.specs.Prelude.{◌≡◌, ◌↔◌, IfOk, IsTrue, IsErrOf, Some, None, string_bytes};
 ghost use Rattle.ptree.specs.Characters.{characters_of, static_characters, set_named};
 ghost use Rattle.ptree.specs.Config.{IsDefault, is_styled};
+ghost use Rattle.ptree.specs.Configuration.{config_value};
 ghost use Rattle.ptree.specs.Equality.{SameConfig};
+ghost use Rattle.ptree.specs.Loading.{meant_by};
 ghost use Rattle.ptree.specs.Style.{painted_text};
 ghost use Rattle.ptree.specs.declared.print_config.CharsError.{CharsError};
 ghost use Rattle.ptree.specs.declared.print_config.IndentChars.{IndentChars};
@@ -10,10 +12,18 @@ ghost use Rattle.ptree.specs.declared.print_config.OutputKind.{OutputKind};
 ghost use Rattle.ptree.specs.declared.print_config.PrintConfig.{PrintConfig};
 ghost use Rattle.ptree.specs.declared.print_config.StaticIndentChars.{StaticIndentChars};
 
+mod fields;
+mod file;
+mod loader;
+mod words;
+
 use crate::style::Style;
+pub use fields::{Field, Part, StyleField};
+pub use loader::{Fault, first_fault, load};
 use std::alloc::{AllocError, AllocFailed, Global};
 use std::error::Error;
 use std::fmt;
+use words::{Spelling, set_spelled};
 
 /// When output is styled.
 #[derive(Debug, Clone, Copy, PartialEq, Eq)]
@@ -67,6 +77,20 @@ pub enum OutputKind {
 }
 
 impl PrintConfig {
+    /// The configuration that sources mean: what [`load`] returns, or the default whole where there is a fault in them.
+    ///
+    /// # Errors
+    ///
+    /// Memory ran out. The default isn't returned for it.
+    pub fn from_env(alloc: Global, sources: &Sources) -> Result<PrintConfig, AllocError>
+        ensures { IfOk result (λ config. config_value config ≡ meant_by sources.now) }
+    {
+        match load(alloc, sources)? {
+            Some(config) => Ok(config),
+            None => Ok(PrintConfig::default(alloc)?),
+        }
+    }
+
     /// The configuration that is used where nothing else is said.
     ///
     /// # Errors
@@ -93,9 +117,12 @@ impl PrintConfig {
     pub fn should_style_output(&self, output_kind: OutputKind, terminal: bool) -> bool
         ensures value { result ≡ is_styled self.now.styled output_kind terminal }
         // `==` of kinds holds exactly at the same one.
-        ensures equality { (other : OutputKind) → IsTrue (⟦<OutputKind as PartialEq>⟧.eq output_kind other) ↔ (output_kind ≡ other) }
+        ensures equality { (other : OutputKind)
+            → IsTrue (⟦<OutputKind as PartialEq>⟧.eq output_kind other) ↔ (output_kind ≡ other) }
         // And so does `==` of when to style.
-        ensures when_equality { (other : StyleWhen) → IsTrue (⟦<StyleWhen as PartialEq>⟧.eq self.now.styled other) ↔ (self.now.styled ≡ other) }
+        ensures when_equality { (other : StyleWhen)
+            → IsTrue (⟦<StyleWhen as PartialEq>⟧.eq self.now.styled other)
+            ↔ (self.now.styled ≡ other) }
     {
         match self.styled {
             StyleWhen::Never => false,
@@ -135,7 +162,8 @@ impl PrintConfig {
     pub fn clone(&self) -> Result<PrintConfig, AllocError>
         ensures value { IfOk result (λ config. SameConfig config self.now) }
         // `==` holds exactly where all fields are equal.
-        ensures equality { (other : PrintConfig) → IsTrue (⟦<PrintConfig as PartialEq>⟧.eq self.now other) ↔ SameConfig self.now other }
+        ensures equality { (other : PrintConfig)
+            → IsTrue (⟦<PrintConfig as PartialEq>⟧.eq self.now other) ↔ SameConfig self.now other }
     {
         Ok(PrintConfig {
             depth: self.depth,
@@ -178,7 +206,9 @@ impl IndentChars {
     pub fn from_static(alloc: Global, s: StaticIndentChars) -> Result<IndentChars, AllocError>
         ensures value { IfOk result (λ c. characters_of c ≡ static_characters s) }
         // `==` of static characters holds exactly where all texts are equal.
-        ensures equality { (other : StaticIndentChars) → IsTrue (⟦<StaticIndentChars as PartialEq>⟧.eq s other) ↔ (static_characters s ≡ static_characters other) }
+        ensures equality { (other : StaticIndentChars)
+            → IsTrue (⟦<StaticIndentChars as PartialEq>⟧.eq s other)
+            ↔ (static_characters s ≡ static_characters other) }
     {
         Ok(IndentChars {
             down_and_right: String::from_str(alloc, s.down_and_right)?,
@@ -197,7 +227,9 @@ impl IndentChars {
     pub fn clone(&self) -> Result<IndentChars, AllocError>
         ensures value { IfOk result (λ c. characters_of c ≡ characters_of self.now) }
         // `==` holds exactly where all texts are equal.
-        ensures equality { (other : IndentChars) → IsTrue (⟦<IndentChars as PartialEq>⟧.eq self.now other) ↔ (characters_of self.now ≡ characters_of other) }
+        ensures equality { (other : IndentChars)
+            → IsTrue (⟦<IndentChars as PartialEq>⟧.eq self.now other)
+            ↔ (characters_of self.now ≡ characters_of other) }
     {
         Ok(IndentChars {
             down_and_right: self.down_and_right.clone()?,
@@ -218,16 +250,11 @@ impl IndentChars {
         ensures set { IfOk result (λ c. set_named s.now ≡ Some (characters_of c)) }
         ensures unknown { IsErrOf result CharsError.Unknown ↔ (set_named s.now ≡ None) }
         // `==` of errors holds exactly where they are equal.
-        ensures equality { (a b : CharsError) → IsTrue (⟦<CharsError as PartialEq>⟧.eq a b) ↔ (a ≡ b) }
+        ensures equality { (a b : CharsError)
+            → IsTrue (⟦<CharsError as PartialEq>⟧.eq a b) ↔ (a ≡ b) }
     {
-        let set = match s {
-            "utf" => UTF_CHARS,
-            "ascii" | "ascii-tick" => ASCII_CHARS_TICK,
-            "ascii-plus" => ASCII_CHARS_PLUS,
-            "utf-bold" => UTF_CHARS_BOLD,
-            "utf-dashed" => UTF_CHARS_DASHED,
-            "utf-double" => UTF_CHARS_DOUBLE,
-            _ => return Err(CharsError::Unknown),
+        let Some(set) = set_spelled(Spelling::Exact, s) else {
+            return Err(CharsError::Unknown);
         };
         Ok(IndentChars::from_static(alloc, set)?)
     }

@@ -32,21 +32,27 @@ use std::alloc::{AllocError, Global};
 /// Memory ran out.
 pub fn pieces_readable(alloc: Global, config: &PrintConfig) -> Result<bool, AllocError>
     ensures exact { IfOk result (λ b. IsTrue b ↔ HasReadablePieces config.now) }
-    // Where the answer is true, no text is the drawing of two trees.
-    ensures unique { IfOk result (λ b. IsTrue b → ReadsOneWay (config_pieces config.now) (mark_of config.now)) }
-    // With the default mark it is the answer of the four pieces for each shipped set: true for those without ticks, and for the
+    // Where the result is true, no text is the drawing of two trees.
+    ensures unique { IfOk result (λ b.
+        IsTrue b → ReadsOneWay (config_pieces config.now) (mark_of config.now)) }
+    // With the default mark it is that of the four pieces for each shipped set: true for those without ticks, and for the
     // one with them exactly where a dash is drawn.
-    ensures marked { mark_of config.now ≡ default_mark → IsShipped (characters_of config.now.characters)
+    ensures marked { mark_of config.now ≡ default_mark
+        → IsShipped (characters_of config.now.characters)
         → IfOk result (λ b. IsTrue b ↔ IsReadable (config_pieces config.now)) }
-    ensures shipped { mark_of config.now ≡ default_mark → IsShippedWithoutTicks (characters_of config.now.characters) → IfOk result IsTrue }
-    ensures tick { mark_of config.now ≡ default_mark → characters_of config.now.characters ≡ ascii_tick
+    ensures shipped { mark_of config.now ≡ default_mark
+        → IsShippedWithoutTicks (characters_of config.now.characters) → IfOk result IsTrue }
+    ensures tick { mark_of config.now ≡ default_mark
+        → characters_of config.now.characters ≡ ascii_tick
         → IfOk result (λ b. IsTrue b ↔ (1 + config.now.padding < config.now.indent)) }
     // Where the pieces of the set with ticks aren't readable, two trees have one drawing: in the second the child's line is a
     // sibling's text.
     ensures twice { characters_of config.now.characters ≡ ascii_tick → 2 ≤ config.now.depth
-        → (written_look config.now).branch ≡ plain_style → (written_look config.now).leaf ≡ plain_style
+        → (written_look config.now).branch ≡ plain_style
+        → (written_look config.now).leaf ≡ plain_style
         → (IsReadable (config_pieces config.now) → ⊥) → (r a b c : List ℕ) → HasNoLineFeed b
-        → DrawAlike (written_look config.now) config.now.depth (nested_tree r a b c) (flat_tree r a ((config_pieces config.now).last_regular ++ b) c) }
+        → DrawAlike (written_look config.now) config.now.depth (nested_tree r a b c)
+        (flat_tree r a ((config_pieces config.now).last_regular ++ b) c) }
 {
     let indent = Indent::from_config(alloc, config)?;
     Ok(indent.is_readable_with(config.continued.as_str()))
@@ -59,8 +65,8 @@ pub fn pieces_readable(alloc: Global, config: &PrintConfig) -> Result<bool, Allo
 /// A line feed is one where the drawing goes on with the mark; a carriage return, U+0085 and U+2028 are characters as any other.
 /// The drawing's last line ends in its line feed.
 ///
-/// The answer is `None` exactly where the text is the drawing of no such tree. Else there is exactly one. Where
-/// [`pieces_readable`] answers false the call can't be made, since a text may then be the drawing of two trees.
+/// The result is `None` exactly where the text is the drawing of no such tree. Else there is exactly one. Where
+/// [`pieces_readable`] returns false the call can't be made, since a text may then be the drawing of two trees.
 ///
 /// # Errors
 ///
@@ -71,14 +77,17 @@ pub fn read_tree(
     config: &PrintConfig,
 ) -> Result<Option<StringItem>, AllocError>
     requires { HasReadablePieces config.now }
-    ensures some { IfOk result (λ o. IfSome o (λ t. IsDrawnForm (written_look config.now) config.now.depth text.now (tree_of t))) }
-    ensures none { IfOk result (λ o. IfNone o ((t : Tree) → IsDrawnForm (written_look config.now) config.now.depth text.now t → ⊥)) }
+    ensures some { IfOk result (λ o. IfSome o (λ t.
+        IsDrawnForm (written_look config.now) config.now.depth text.now (tree_of t))) }
+    ensures none { IfOk result (λ o. IfNone o
+        ((t : Tree) → IsDrawnForm (written_look config.now) config.now.depth text.now t → ⊥)) }
     // What is drawn of a tree reads back as that tree.
     ensures drawn { (t : Tree) → IsDrawnForm (written_look config.now) config.now.depth text.now t
         → IfOk result (λ o. IsSomeAnd o (λ s. tree_of s ≡ t)) }
     // And what is drawn of the tree that was read is the text.
     ensures redrawn { IfOk result (λ o. IfSome o (λ t. (drawing : List ℕ)
-        → IsDrawing (written_look config.now) (shape_of_tree (tree_of t)) config.now.depth drawing → drawing ≡ text.now)) }
+        → IsDrawing (written_look config.now) (shape_of_tree (tree_of t)) config.now.depth drawing
+        → drawing ≡ text.now)) }
 {
     let plain = Style::default();
     let look = Look::of_config(alloc, config, &plain, OutputKind::Unknown, false)?;

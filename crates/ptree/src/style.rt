@@ -122,7 +122,9 @@ impl Color {
     pub fn clone(&self) -> Result<Color, AllocError>
         ensures value { IfOk result (λ color. color_value color ≡ color_value self.now) }
         // `==` holds exactly where variant and fields are equal, a name by its bytes.
-        ensures equality { (other : Color) → IsTrue (⟦<Color as PartialEq>⟧.eq self.now other) ↔ (color_value self.now ≡ color_value other) }
+        ensures equality { (other : Color)
+            → IsTrue (⟦<Color as PartialEq>⟧.eq self.now other)
+            ↔ (color_value self.now ≡ color_value other) }
     {
         Ok(match self {
             Color::Black => Color::Black,
@@ -166,8 +168,11 @@ impl Style {
     /// Memory ran out.
     pub fn paint(&self, alloc: Global, input: &str) -> Result<String, AllocError>
         ensures text { IfOk result (λ text. string_bytes text ≡ painted_text self.now input.now) }
-        // A style with no flag set, and no colour that has a code, paints a text as itself.
-        ensures plain { IsPlain self.now → IfOk result (λ text. string_bytes text ≡ input.now) }
+        // A style without codes paints a text as itself.
+        ensures plain { style_codes self.now ≡ []
+            → IfOk result (λ text. string_bytes text ≡ input.now) }
+        // So does one with no flag set, and no colour that has a code.
+        ensures unset { IsPlain self.now → IfOk result (λ text. string_bytes text ≡ input.now) }
     {
         let codes = Codes::of(self);
         let mut text = String::from_str(alloc, codes.as_str())?;
@@ -183,7 +188,8 @@ impl Style {
     /// `Write` or `Zero` where `f` failed. A beginning of the painted text was written.
     #[inline(always)]
     pub fn write_painted<W: Sink>(&self, f: &mut W, input: &str) -> Result<(), DrawError>
-        ensures bytes { IsWritten (W.contents f.old) (W.contents f.new) result (painted_text self.now input.now) }
+        ensures bytes { IsWritten (W.contents f.old) (W.contents f.new) result
+            (painted_text self.now input.now) }
         ensures cause { HasCause (W.faults f.old) (W.faults f.new) result }
         ensures memory { TakesNoMemory result }
     {
@@ -197,7 +203,8 @@ impl Style {
     // Writes the painted text of any style. It stands apart, since each call pays for the room of the codes.
     #[inline(never)]
     fn write_with_codes<W: Sink>(&self, f: &mut W, input: &str) -> Result<(), DrawError>
-        ensures bytes { IsWritten (W.contents f.old) (W.contents f.new) result (painted_text self.now input.now) }
+        ensures bytes { IsWritten (W.contents f.old) (W.contents f.new) result
+            (painted_text self.now input.now) }
         ensures cause { HasCause (W.faults f.old) (W.faults f.new) result }
         ensures memory { TakesNoMemory result }
     {
@@ -217,7 +224,8 @@ impl Style {
     pub fn clone(&self) -> Result<Style, AllocError>
         ensures value { IfOk result (λ style. SameStyle style self.now) }
         // `==` holds exactly where all fields are equal.
-        ensures equality { (other : Style) → IsTrue (⟦<Style as PartialEq>⟧.eq self.now other) ↔ SameStyle self.now other }
+        ensures equality { (other : Style)
+            → IsTrue (⟦<Style as PartialEq>⟧.eq self.now other) ↔ SameStyle self.now other }
     {
         Ok(Style {
             foreground: self.foreground.as_ref().map(Color::clone).transpose()?,
@@ -270,7 +278,7 @@ impl Style {
 /// have been.
 #[derive(Debug, Drop)]
 pub enum DrawError {
-    /// The sink answered an error. An interruption is one, and is not tried again.
+    /// The sink returned an error. An interruption is one, and is not tried again.
     Write(io::Error),
 
     /// The sink took none of the bytes that it was given.
@@ -305,7 +313,7 @@ impl From<DrawError> for io::Error {
 
     ghost from_gives = { IsIoError };
 
-    /// The writer's own error; that of a write that took nothing; or want of memory.
+    /// The writer's own error; that of a write that took nothing; or out of memory.
     fn from(e: DrawError) -> io::Error {
         match e {
             DrawError::Write(e) => e,
@@ -335,7 +343,7 @@ pub trait Sink {
     /// How often it has failed.
     ghost faults: { Self → ℕ };
 
-    /// Takes a beginning of the bytes, and answers its length, as `std::io::Write::write` does.
+    /// Takes a beginning of the bytes, and returns its length, as `std::io::Write::write` does.
     ///
     /// # Errors
     ///
@@ -354,7 +362,7 @@ pub trait Feed {
     /// How often it has failed.
     ghost faults: { Self → ℕ };
 
-    /// Fills a beginning of the room, and answers its length, as `std::io::Read::read` does.
+    /// Fills a beginning of the room, and returns its length, as `std::io::Read::read` does.
     ///
     /// # Errors
     ///

@@ -78,7 +78,7 @@ impl From<io::Error> for Failure {
     }
 }
 
-// What the calls answered, and how many of them were refused memory.
+// What the calls returned, and how many of them were refused memory.
 #[derive(Drop)]
 struct Trial {
     notes: Vec<u8>,
@@ -86,7 +86,7 @@ struct Trial {
 }
 
 impl Trial {
-    // What a call answers. Where it was refused memory, it is made once more.
+    // What a call returns. Where it was refused memory, it is made once more.
     fn retried<T: Drop, F: FnMut() -> Result<T, Failure>>(
         &mut self,
         mut call: F,
@@ -398,7 +398,7 @@ fn graph_drawn<N: Label>(
     Ok(out.into_inner())
 }
 
-/// Makes each call once more where it was refused memory, and prints what all of them answered and how many were refused.
+/// Makes each call once more where it was refused memory, and prints what all of them returned and how many were refused.
 pub fn make_calls(rt: &HostRuntime) -> io::Result<()> {
     let alloc = rt.alloc();
     let mut trial = Trial {

@@ -5,7 +5,7 @@ ghost use Rattle.ptree.specs.Drawing.{written_look, IsDrawing, own_at, prefix_te
 ghost use Rattle.ptree.specs.Style.{painted_text};
 ghost use Rattle.ptree.specs.Text.{HasNoLineFeed, line_feed};
 ghost use Rattle.ptree.specs.Tree.{tree_of, shape_of_tree};
-ghost use Rattle.ptree.specs.Writing.{LeavesWholeEntries};
+ghost use Rattle.ptree.specs.Writing.{HasCause, IsDrawn, IsWritten, LeavesWholeEntries};
 
 use ptree::item::{StringItem, TreeItem};
 use ptree::output::write_tree_with;
@@ -18,7 +18,8 @@ pub fn drawing_of<T>(alloc: Global, item: &T, config: &PrintConfig) -> Result<Ve
 where
     T: TreeItem,
     T::Child: TreeItem<Child = T::Child> + Drop,
-    ensures { IfOk result (λ v. IsDrawing (written_look config.now) (T.shape item.now) config.now.depth v.items) }
+    ensures { IfOk result (λ v.
+        IsDrawing (written_look config.now) (T.shape item.now) config.now.depth v.items) }
 {
     let mut out = Counted::new(Vec::new(alloc));
     write_tree_with(alloc, item, &mut out, config)?;
@@ -32,7 +33,11 @@ pub fn draw_whole_entries<W: Sink>(
     f: &mut W,
     config: &PrintConfig,
 ) -> Result<(), DrawError>
-    ensures { LeavesWholeEntries (written_look config.now) (shape_of_tree (tree_of tree.now)) config.now.depth (W.contents f.old) (W.contents f.new) result }
+    ensures bytes { IsDrawn (written_look config.now) (shape_of_tree (tree_of tree.now))
+        config.now.depth (W.contents f.old) (W.contents f.new) result }
+    ensures whole { LeavesWholeEntries (written_look config.now) (shape_of_tree (tree_of tree.now))
+        config.now.depth (W.contents f.old) (W.contents f.new) result }
+    ensures cause { HasCause (W.faults f.old) (W.faults f.new) result }
 {
     write_tree_with(alloc, tree, f, config)
 }
@@ -44,16 +49,24 @@ pub fn draw_one_line_texts<W: Sink>(
     f: &mut W,
     config: &PrintConfig,
 ) -> Result<(), DrawError>
-    ensures { let look = written_look config.now in let shape = shape_of_tree (tree_of tree.now) in
+    ensures bytes { IsDrawn (written_look config.now) (shape_of_tree (tree_of tree.now))
+        config.now.depth (W.contents f.old) (W.contents f.new) result }
+    ensures cause { HasCause (W.faults f.old) (W.faults f.new) result }
+    ensures one_line { let look = written_look config.now in
+        let shape = shape_of_tree (tree_of tree.now) in
         (a : Address) → HasNoLineFeed (own_at look shape a)
-        → entry_text look shape a ≡ painted_text look.branch (prefix_text look shape a) ++ own_at look shape a ++ line_feed ∷ [] }
+        → entry_text look shape a
+        ≡ painted_text look.branch (prefix_text look shape a) ++ own_at look shape a
+        ++ line_feed ∷ [] }
 {
     write_tree_with(alloc, tree, f, config)
 }
 
 /// Puts a text that may be empty. A sink isn't touched for an empty one, so such a call can't fail.
 pub fn put_text<W: Sink>(f: &mut W, text: &str) -> Result<(), DrawError>
-    ensures { text.now ≡ [] → IsOk result × (f.new ≡ f.old) }
+    ensures bytes { IsWritten (W.contents f.old) (W.contents f.new) result text.now }
+    ensures cause { HasCause (W.faults f.old) (W.faults f.new) result }
+    ensures none { text.now ≡ [] → IsOk result × (f.new ≡ f.old) }
 {
     put_all(f, text.as_bytes())
 }

@@ -28,7 +28,8 @@ impl Label for Package {
 
 /// What a package needs.
 pub fn needs(graph: &Graph<Package>, which: NodeIndex) -> Result<Vec<NodeIndex>, AllocError>
-    ensures { IfOk result (λ v. map (λ n. n.0) v.items ≡ neighbors_of (edges_of graph.now) which.0) }
+    ensures { IfOk result (λ v.
+        map (λ n. n.0) v.items ≡ neighbors_of (edges_of graph.now) which.0) }
 {
     graph.neighbors(which)
 }

@@ -3,8 +3,10 @@
 #![tactic(auto)]
 
 pub mod building;
+pub mod documents;
 pub mod drawing;
 pub mod graphs;
+pub mod loading;
 pub mod own_types;
 pub mod reading;
 pub mod sinks;

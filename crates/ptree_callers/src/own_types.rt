@@ -75,7 +75,8 @@ pub fn drawing_of_volume(
     volume: &Volume,
     config: &PrintConfig,
 ) -> Result<Vec<u8>, DrawError>
-    ensures { IfOk result (λ v. IsDrawing (written_look config.now) (volume_shape volume.now) config.now.depth v.items) }
+    ensures { IfOk result (λ v.
+        IsDrawing (written_look config.now) (volume_shape volume.now) config.now.depth v.items) }
 {
     drawing_of(alloc, volume, config)
 }

@@ -7,7 +7,7 @@ ghost use Rattle.ptree.specs.Tree.{tree_of, height};
 
 use crate::drawing::drawing_of;
 use ptree::item::StringItem;
-use ptree::print_config::{ASCII_CHARS_TICK, IndentChars, PrintConfig};
+use ptree::print_config::{ASCII_CHARS_TICK, IndentChars, PrintConfig, StaticIndentChars};
 use ptree::read::{pieces_readable, read_tree};
 use std::alloc::{AllocError, Global};
 use std::str;
@@ -31,13 +31,14 @@ pub fn there_and_back(
     }
 }
 
-/// Reads where the configuration allows it, and else answers none.
+/// Reads where the configuration allows it, and else returns none.
 pub fn read_if_readable(
     alloc: Global,
     text: &str,
     config: &PrintConfig,
 ) -> Result<Option<StringItem>, AllocError>
-    ensures { IfOk result (λ o. IfSome o (λ t. IsDrawnForm (written_look config.now) config.now.depth text.now (tree_of t))) }
+    ensures { IfOk result (λ o. IfSome o (λ t.
+        IsDrawnForm (written_look config.now) config.now.depth text.now (tree_of t))) }
 {
     if pieces_readable(alloc, config)? {
         read_tree(alloc, text, config)
@@ -62,4 +63,23 @@ pub fn default_is_readable(alloc: Global) -> Result<bool, AllocError>
 {
     let config = PrintConfig::default(alloc)?;
     pieces_readable(alloc, &config)
+}
+
+// The pieces of `tree`.
+const TREE: StaticIndentChars = StaticIndentChars {
+    down_and_right: "├── ",
+    down: "│\u{a0}\u{a0} ",
+    turn_right: "└── ",
+    right: "",
+    empty: "    ",
+};
+
+/// Reads what `tree --noreport` writes. Indent, padding and characters are constants here, so that the pieces are known to be readable,
+/// and no test is needed.
+pub fn read_listing(alloc: Global, text: &str) -> Result<Option<StringItem>, AllocError> {
+    let mut config = PrintConfig::default(alloc)?;
+    config.indent = 0;
+    config.padding = 0;
+    config.characters = IndentChars::from_static(alloc, TREE)?;
+    read_tree(alloc, text, &config)
 }

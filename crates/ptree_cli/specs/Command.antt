@@ -1,16 +1,14 @@
 -- What the words of a call ask for.
 use Rattle.std.specs.Prelude.{ℕ, Bool, true, false, if◌then◌else◌, List, [], ◌∷◌, map, Option, Some, None, option_map, codes}
 use Rattle.std.specs.Str.{bytes_eq}
-use Rattle.ptree.specs.Drawing.{Look, look_from, IsDrawing}
-use Rattle.ptree.specs.Characters.{utf}
-use Rattle.ptree.specs.Config.{default_mark}
-use Rattle.ptree.specs.Pieces.{pieces_from}
-use Rattle.ptree.specs.Style.{plain_style}
-use Rattle.ptree.specs.Tree.{Tree, none, tree, forest, shape_of_tree}
+use Rattle.ptree.specs.declared.value.document.DocFormat.{DocFormat}
+use Rattle.ptree.specs.declared.value.document.DocFormat.TheVariants.{Toml, Json}
+use Rattle.ptree.specs.Tree.{Tree, none, tree, forest}
 
--- what to do: draw a root over leaves
+-- what to do: draw a root over leaves, or the document that the input holds, under a label
 pub data Command : Type 0 where
   words : (root : List ℕ) (children : List (List ℕ)) → Command
+  document : (format : DocFormat) (label : List ℕ) → Command
 
 -- a command, and whether standard output is a terminal
 pub record Request : Type 0 where
@@ -22,10 +20,18 @@ abbrev pub words_command : List (List ℕ) → Option Command
 words_command [] = None
 words_command (root ∷ children) = Some (words root children)
 
+-- the command of what follows the name of a format: one label
+abbrev pub document_command : DocFormat → List (List ℕ) → Option Command
+document_command format (label ∷ []) = Some (document format label)
+document_command format _ = None
+
 -- the command of words
 abbrev pub command_of : List (List ℕ) → Option Command
 command_of [] = None
-command_of (name ∷ others) = if bytes_eq name (codes "words") then words_command others else None
+command_of (name ∷ others) =
+    if bytes_eq name (codes "words") then words_command others else
+    if bytes_eq name (codes "json") then document_command Json others else
+    if bytes_eq name (codes "toml") then document_command Toml others else None
 
 -- the request of words, a first word `--tty` aside
 abbrev pub request_in : Bool → List (List ℕ) → Option Request
@@ -39,15 +45,3 @@ request_of (first ∷ others) = if bytes_eq first (codes "--tty") then request_i
 -- a root over leaves
 abbrev pub words_tree : List ℕ → List (List ℕ) → Tree
 words_tree root children = tree root (forest (map (λ text. tree text none) children))
-
--- the look of the default configuration on standard output: dimmed branches on a terminal
-abbrev pub default_look : Bool → Look
-default_look terminal = look_from (if terminal then record plain_style { dimmed = true } else plain_style) plain_style (pieces_from utf 3 1) default_mark
-
--- the tree that a command draws
-abbrev pub command_tree : Command → Tree
-command_tree (words root children) = words_tree root children
-
--- the bytes that a request asks for: its tree drawn whole
-abbrev pub IsRequested : Request → List ℕ → Type 0
-IsRequested request bytes = IsDrawing (default_look request.terminal) (shape_of_tree (command_tree request.command)) 4294967295 bytes

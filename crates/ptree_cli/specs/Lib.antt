@@ -1,5 +1,6 @@
 -- what public contracts say
 pub mod Command
 pub mod Run
+pub mod Input
 -- what the program's own types mean
 pub mod Meant

@@ -1,14 +1,11 @@
 //! What the words of a call ask for.
 ghost use Rattle.std.specs.Prelude.{◌≡◌, map, IfOk, MatchOption, None, Some, string_bytes};
 ghost use Rattle.ptree.specs.Tree.{none, tree, tree_of};
-ghost use Rattle.ptree.specs.Writing.{HasCause};
-ghost use Rattle.ptree_cli.specs.Command.{command_of, request_of, words_tree};
-ghost use Rattle.ptree_cli.specs.Meant.{command_meant, request_meant, DrawsRequest};
+ghost use Rattle.ptree_cli.specs.Command.{command_of, words_command, document_command, request_of, words_tree};
+ghost use Rattle.ptree_cli.specs.Meant.{command_meant, request_meant};
 
 use ptree::item::StringItem;
-use ptree::output::print_tree_with;
-use ptree::print_config::PrintConfig;
-use ptree::style::{DrawError, Sink};
+use ptree::value::DocFormat;
 use std::alloc::{AllocError, Global};
 
 /// A command, and whether standard output is a terminal.
@@ -23,6 +20,9 @@ pub struct Request<'a> {
 pub enum Command<'a> {
     /// Draw a root over leaves.
     Words(&'a String, &'a [String]),
+
+    /// Draw the document that the input holds, under a label.
+    Document(DocFormat, &'a String),
 }
 
 impl<'a> Command<'a> {
@@ -34,13 +34,37 @@ impl<'a> Command<'a> {
         let Some((name, others)) = words.split_first() else {
             return None;
         };
-        if name.as_str() != "words" {
-            return None;
+        if name.as_str() == "words" {
+            Command::of_words(others)
+        } else if name.as_str() == "json" {
+            Command::of_document(DocFormat::Json, others)
+        } else if name.as_str() == "toml" {
+            Command::of_document(DocFormat::Toml, others)
+        } else {
+            None
         }
-        let Some((root, children)) = others.split_first() else {
+    }
+
+    // The command of what follows `words`.
+    fn of_words(words: &'a [String]) -> Option<Command<'a>>
+        ensures { MatchOption result (words_command (map string_bytes words.now) ≡ None)
+            (λ c. words_command (map string_bytes words.now) ≡ Some (command_meant c)) }
+    {
+        let Some((root, children)) = words.split_first() else {
             return None;
         };
         Some(Command::Words(root, children))
+    }
+
+    // The command of what follows the name of a format.
+    fn of_document(format: DocFormat, words: &'a [String]) -> Option<Command<'a>>
+        ensures { MatchOption result (document_command format (map string_bytes words.now) ≡ None)
+            (λ c. document_command format (map string_bytes words.now) ≡ Some (command_meant c)) }
+    {
+        match words {
+            [label] => Some(Command::Document(format, label)),
+            _ => None,
+        }
     }
 }
 
@@ -60,20 +84,6 @@ impl<'a> Request<'a> {
         };
         Some(Request { terminal, command })
     }
-
-    /// Does what is asked for, under the default configuration.
-    pub fn draw<W: Sink>(&self, alloc: Global, out: &mut W) -> Result<(), DrawError>
-        ensures bytes { DrawsRequest (request_meant self.now) (W.contents out.old) (W.contents out.new) result }
-        ensures cause { HasCause (W.faults out.old) (W.faults out.new) result }
-    {
-        let config = PrintConfig::default(alloc)?;
-        match self.command {
-            Command::Words(root, children) => {
-                let item = words_item(alloc, root, children)?;
-                print_tree_with(alloc, &item, out, self.terminal, &config)
-            }
-        }
-    }
 }
 
 // A leaf.
@@ -86,9 +96,10 @@ fn leaf(alloc: Global, text: &String) -> Result<StringItem, AllocError>
     })
 }
 
-// A root over leaves.
-fn words_item(alloc: Global, root: &String, words: &[String]) -> Result<StringItem, AllocError>
-    ensures { IfOk result (λ item. tree_of item ≡ words_tree (string_bytes root.now) (map string_bytes words.now)) }
+/// A root over leaves.
+pub fn words_item(alloc: Global, root: &String, words: &[String]) -> Result<StringItem, AllocError>
+    ensures { IfOk result (λ item.
+        tree_of item ≡ words_tree (string_bytes root.now) (map string_bytes words.now)) }
 {
     let mut children = Vec::with_capacity(alloc, words.len())?;
     for word in words {

@@ -2,6 +2,7 @@
 #![tactic(auto)]
 
 mod command;
+mod input;
 mod run;
 #[cfg(test)]
 mod tests;
@@ -20,7 +21,7 @@ fn words(rt: &HostRuntime) -> io::Result<Vec<String>> {
     Ok(words)
 }
 
-// Runs the words over the standard streams, and answers the exit status.
+// Runs the words over the standard streams, and returns the exit status.
 fn run_words(rt: &HostRuntime, words: &[String]) -> io::Result<u8> {
     let alloc = rt.alloc();
     let sources = Sources {

@@ -1,8 +1,8 @@
-//! What `run` answers over readers and writers in memory, and over writers that fail.
+//! What `run` returns over readers and writers in memory, and over writers that fail.
 
 use crate::run::run;
 use ptree::print_config::{FileSource, Sources};
-use ptree::style::Counted;
+use ptree::style::{Counted, Feed};
 use std::alloc::{AllocError, Global};
 use std::io::{self, ErrorKind};
 use std::str;
@@ -39,6 +39,32 @@ fn nothing(alloc: Global) -> Sources {
         file: FileSource::Absent,
         variables: Vec::new(alloc),
     }
+}
+
+// What a call gives: its status, and what standard output and error got.
+#[derive(Drop)]
+struct Ran {
+    status: u8,
+    out: Vec<u8>,
+    err: Vec<u8>,
+}
+
+// Runs words over an input, under sources.
+fn run_over<R: Feed>(
+    alloc: Global,
+    words: &[&str],
+    sources: &Sources,
+    input: &mut R,
+) -> Result<Ran, AllocError> {
+    let words = owned(alloc, words)?;
+    let mut out = Counted::new(Vec::new(alloc));
+    let mut err = Counted::new(Vec::new(alloc));
+    let status = run(alloc, &words, sources, input, &mut out, &mut err);
+    Ok(Ran {
+        status,
+        out: out.into_inner(),
+        err: err.into_inner(),
+    })
 }
 
 #[test]
@@ -78,21 +104,123 @@ fn words_are_drawn_or_refused(rt: HostRuntime) -> Result<(), Fail> {
     ];
     for (words, status, drawn, told) in cases {
         let mut input = Counted::new(io::empty());
-        let mut out = Counted::new(Vec::new(alloc));
-        let mut err = Counted::new(Vec::new(alloc));
-        let words = owned(alloc, words)?;
-        let answer = run(
-            alloc,
-            &words,
-            &nothing(alloc),
-            &mut input,
-            &mut out,
-            &mut err,
-        );
-        assert_eq!(rt; answer, status);
-        assert_eq!(rt; str::from_utf8(&out.into_inner())?, drawn);
-        assert_eq!(rt; str::from_utf8(&err.into_inner())?, told);
+        let got = run_over(alloc, words, &nothing(alloc), &mut input)?;
+        assert_eq!(rt; got.status, status);
+        assert_eq!(rt; str::from_utf8(&got.out)?, drawn);
+        assert_eq!(rt; str::from_utf8(&got.err)?, told);
     }
+    Ok(())
+}
+
+/// Gives some bytes, and then fails or is interrupted.
+#[derive(Drop)]
+struct Halting {
+    bytes: &'static [u8],
+    kind: ErrorKind,
+}
+
+impl io::Read for Halting {
+    fn read(&mut self, buf: &mut [u8]) -> io::Result<usize> {
+        let n = self.bytes.len().min(buf.len());
+        if n == 0 {
+            return Err(io::Error::from(self.kind));
+        }
+        buf[..n].copy_from_slice(&self.bytes[..n]);
+        self.bytes = &self.bytes[n..];
+        Ok(n)
+    }
+}
+
+#[test]
+fn documents_are_drawn_or_refused(rt: HostRuntime) -> Result<(), Fail> {
+    let alloc = rt.alloc();
+    let cases = [
+        (
+            ["json", "j"].as_slice(),
+            b"{\"a\":[1,{\"b\":null}]}".as_slice(),
+            0,
+            "j\n└─ a\n   ├─ 1\n   └─ \n      └─ b = \n",
+            "",
+        ),
+        (
+            ["toml", "t"].as_slice(),
+            b"a = 1".as_slice(),
+            0,
+            "t\n└─ a = 1\n",
+            "",
+        ),
+        (["json", ""].as_slice(), b"\"x\"".as_slice(), 0, "x\n", ""),
+        (
+            ["--tty", "json", "r"].as_slice(),
+            b"[1]".as_slice(),
+            0,
+            "\x1b[2m\x1b[0mr\n\x1b[2m└─ \x1b[0m1\n",
+            "",
+        ),
+        (
+            ["json", "j"].as_slice(),
+            b"\xff".as_slice(),
+            1,
+            "",
+            "cannot read\n",
+        ),
+        (
+            ["json", "j"].as_slice(),
+            b"{".as_slice(),
+            1,
+            "",
+            "bad document\n",
+        ),
+        (
+            ["json", "j"].as_slice(),
+            b"1.5".as_slice(),
+            1,
+            "",
+            "bad document\n",
+        ),
+        (
+            ["toml", "t"].as_slice(),
+            b"a = 1979-05-27".as_slice(),
+            1,
+            "",
+            "bad document\n",
+        ),
+        (["json", "j", "k"].as_slice(), b"1".as_slice(), 2, "", USAGE),
+    ];
+    for (words, input, status, drawn, told) in cases {
+        let got = run_over(alloc, words, &nothing(alloc), &mut Counted::new(input))?;
+        assert_eq!(rt; got.status, status);
+        assert_eq!(rt; str::from_utf8(&got.out)?, drawn);
+        assert_eq!(rt; str::from_utf8(&got.err)?, told);
+    }
+    Ok(())
+}
+
+#[test]
+fn an_input_that_fails_is_told(rt: HostRuntime) -> Result<(), Fail> {
+    let alloc = rt.alloc();
+    for kind in [ErrorKind::BrokenPipe, ErrorKind::Interrupted] {
+        let mut input = Counted::new(Halting { bytes: b"{}", kind });
+        let got = run_over(alloc, &["json", "j"], &nothing(alloc), &mut input)?;
+        assert_eq!(rt; got.status, 1);
+        assert!(rt; got.out.is_empty());
+        assert_eq!(rt; str::from_utf8(&got.err)?, "cannot read\n");
+    }
+    Ok(())
+}
+
+#[test]
+fn words_are_drawn_under_sources(rt: HostRuntime) -> Result<(), Fail> {
+    let alloc = rt.alloc();
+    let mut sources = nothing(alloc);
+    sources.variables.push((
+        String::from_str(alloc, "PTREE_CHARACTERS")?,
+        String::from_str(alloc, "ascii-plus")?,
+    ))?;
+    let mut input = Counted::new(io::empty());
+    let got = run_over(alloc, &["words", "r", "a"], &sources, &mut input)?;
+    assert_eq!(rt; got.status, 0);
+    assert_eq!(rt; str::from_utf8(&got.out)?, "r\n+- a\n");
     Ok(())
 }
 

@@ -1,9 +1,10 @@
 //! What `Counted` asks of its writer or reader: each call once, with all its bytes or room, and nothing else.
 
-use crate::trees::{petgraph, plain};
 use ptree::output::write_tree_with;
 use ptree::print_config::UTF_CHARS;
 use ptree::style::{Counted, DrawError, Feed, Sink, Style, put_all};
+use ptree_fixtures::trees::{petgraph, plain};
+use std::alloc::Global;
 use std::io::{self, ErrorKind, Read, Write};
 use std::test::Fail;
 
@@ -17,6 +18,15 @@ struct Watched {
 }
 
 impl Watched {
+    // One that was asked nothing yet.
+    fn new(alloc: Global, interruptions: usize) -> Watched {
+        Watched {
+            asked: Vec::new(alloc),
+            flushes: 0,
+            interruptions,
+        }
+    }
+
     // Whether this call is interrupted.
     fn is_interrupted(&mut self, len: usize) -> io::Result<bool> {
         self.asked.push(len)?;
@@ -53,33 +63,24 @@ impl Read for Watched {
 #[test]
 fn nothing_is_flushed(rt: HostRuntime) -> Result<(), Fail> {
     let alloc = rt.alloc();
-    let mut out = Counted::new(Watched {
-        asked: Vec::new(alloc),
-        flushes: 0,
-        interruptions: 0,
-    });
+    let mut out = Counted::new(Watched::new(alloc, 0));
     let config = plain(alloc, UTF_CHARS, 4, u32::MAX)?;
     assert!(rt; write_tree_with(alloc, &petgraph(alloc)?, &mut out, &config).is_ok());
     assert!(rt; Style::default().write_painted(&mut out, "text").is_ok());
     assert!(rt; put_all(&mut out, b"bytes").is_ok());
     assert_eq!(rt; out.put(b"more")?, 4);
     let writer = out.into_inner();
-    assert_eq!(rt; writer.asked.len(), 9);
-    assert_eq!(rt; writer.flushes, 0);
+    assert!(rt; writer.asked.len() == 9 && writer.flushes == 0);
     Ok(())
 }
 
 #[test]
 fn a_put_is_one_write(rt: HostRuntime) -> Result<(), Fail> {
     let alloc = rt.alloc();
-    let mut out = Counted::new(Watched {
-        asked: Vec::new(alloc),
-        flushes: 0,
-        interruptions: 0,
-    });
-    assert_eq!(rt; out.put(b"abc")?, 3);
-    assert_eq!(rt; out.put(b"")?, 0);
-    assert_eq!(rt; out.put(b"d")?, 1);
+    let mut out = Counted::new(Watched::new(alloc, 0));
+    for bytes in [b"abc".as_slice(), b"", b"d"] {
+        assert_eq!(rt; out.put(bytes)?, bytes.len());
+    }
     assert_eq!(rt; out.into_inner().asked.as_slice(), [3, 0, 1].as_slice());
     Ok(())
 }
@@ -88,11 +89,7 @@ fn a_put_is_one_write(rt: HostRuntime) -> Result<(), Fail> {
 fn a_get_is_one_read(rt: HostRuntime) -> Result<(), Fail> {
     let alloc = rt.alloc();
     let mut room = [0; 4];
-    let mut feed = Counted::new(Watched {
-        asked: Vec::new(alloc),
-        flushes: 0,
-        interruptions: 0,
-    });
+    let mut feed = Counted::new(Watched::new(alloc, 0));
     assert_eq!(rt; feed.get(&mut room)?, 4);
     assert_eq!(rt; feed.get(&mut [])?, 0);
     assert_eq!(rt; feed.get(&mut room[..1])?, 1);
@@ -102,24 +99,20 @@ fn a_get_is_one_read(rt: HostRuntime) -> Result<(), Fail> {
 }
 
 #[test]
-fn an_interruption_is_not_tried_again(rt: HostRuntime) -> Result<(), Fail> {
+fn an_interrupted_get_is_not_tried_again(rt: HostRuntime) -> Result<(), Fail> {
     let alloc = rt.alloc();
     let mut room = [0; 4];
-    let mut feed = Counted::new(Watched {
-        asked: Vec::new(alloc),
-        flushes: 0,
-        interruptions: 1,
-    });
+    let mut feed = Counted::new(Watched::new(alloc, 1));
     let result = feed.get(&mut room);
     assert!(rt; matches!(&result, Err(e) if e.kind() == ErrorKind::Interrupted));
     assert!(rt; room == [0; 4]);
     assert_eq!(rt; feed.into_inner().asked.as_slice(), [4].as_slice());
+    Ok(())
+}
 
-    let mut out = Counted::new(Watched {
-        asked: Vec::new(alloc),
-        flushes: 0,
-        interruptions: 1,
-    });
+#[test]
+fn an_interrupted_put_is_not_tried_again(rt: HostRuntime) -> Result<(), Fail> {
+    let mut out = Counted::new(Watched::new(rt.alloc(), 1));
     let result = put_all(&mut out, b"abc");
     assert!(rt; matches!(&result, Err(DrawError::Write(e)) if e.kind() == ErrorKind::Interrupted));
     assert_eq!(rt; out.into_inner().asked.as_slice(), [3].as_slice());

@@ -1,15 +1,16 @@
 //! Drawings of trees of texts.
 
-use crate::trees::{drawn, leaf, over, petgraph, plain, printed};
-use ptree::item::{Children, Shaped, StringItem, TreeItem};
 use ptree::output::write_tree_with;
 use ptree::print_config::{
     ASCII_CHARS_PLUS, ASCII_CHARS_TICK, PrintConfig, StyleWhen, UTF_CHARS, UTF_CHARS_BOLD,
     UTF_CHARS_DASHED, UTF_CHARS_DOUBLE,
 };
-use ptree::style::{Counted, DrawError, Sink, Style};
-use std::alloc::{AllocError, Global};
-use std::str;
+use ptree::style::{Counted, DrawError};
+use ptree_fixtures::barren::Barren;
+use ptree_fixtures::expect::{expect_drawn, expect_printed};
+use ptree_fixtures::trees::{drawn, leaf, over, over_leaves, petgraph, plain};
+use std::alloc::Global;
+use std::process::Abort;
 use std::test::Fail;
 
 const PETGRAPH: &str = "\
@@ -24,13 +25,8 @@ petgraph
 #[test]
 fn small_item_output(rt: HostRuntime) -> Result<(), Fail> {
     let alloc = rt.alloc();
-    let bytes = drawn(
-        alloc,
-        &petgraph(alloc)?,
-        &plain(alloc, UTF_CHARS, 4, u32::MAX)?,
-    )?;
-    assert_eq!(rt; str::from_utf8(&bytes)?, PETGRAPH);
-    Ok(())
+    let config = plain(alloc, UTF_CHARS, 4, u32::MAX)?;
+    expect_drawn(alloc, &petgraph(alloc)?, &config, PETGRAPH)
 }
 
 #[test]
@@ -43,8 +39,7 @@ fn levels_past_the_depth_are_left_out(rt: HostRuntime) -> Result<(), Fail> {
         (3, PETGRAPH),
     ];
     for (depth, text) in cases {
-        let bytes = drawn(alloc, &tree, &plain(alloc, UTF_CHARS, 4, depth)?)?;
-        assert_eq!(rt; str::from_utf8(&bytes)?, text, "depth {depth}");
+        expect_drawn(alloc, &tree, &plain(alloc, UTF_CHARS, 4, depth)?, text)?;
     }
     Ok(())
 }
@@ -52,9 +47,8 @@ fn levels_past_the_depth_are_left_out(rt: HostRuntime) -> Result<(), Fail> {
 #[test]
 fn every_set_draws(rt: HostRuntime) -> Result<(), Fail> {
     let alloc = rt.alloc();
-    let below = vec![in alloc; leaf(alloc, "b")?]?;
-    let children = vec![in alloc; over(alloc, "a", below)?, leaf(alloc, "c")?]?;
-    let tree = over(alloc, "r", children)?;
+    let first = over_leaves(alloc, "a", &["b"])?;
+    let tree = over(alloc, "r", vec![in alloc; first, leaf(alloc, "c")?]?)?;
     let cases = [
         (ASCII_CHARS_TICK, "r\n|- a\n|  `- b\n`- c\n"),
         (ASCII_CHARS_PLUS, "r\n+- a\n|  +- b\n+- c\n"),
@@ -64,8 +58,7 @@ fn every_set_draws(rt: HostRuntime) -> Result<(), Fail> {
         (UTF_CHARS_DASHED, "r\n├╌ a\n┆  └╌ b\n└╌ c\n"),
     ];
     for (set, text) in cases {
-        let bytes = drawn(alloc, &tree, &plain(alloc, set, 3, u32::MAX)?)?;
-        assert_eq!(rt; str::from_utf8(&bytes)?, text);
+        expect_drawn(alloc, &tree, &plain(alloc, set, 3, u32::MAX)?, text)?;
     }
     Ok(())
 }
@@ -74,22 +67,15 @@ fn every_set_draws(rt: HostRuntime) -> Result<(), Fail> {
 fn texts_are_written_as_they_are(rt: HostRuntime) -> Result<(), Fail> {
     let alloc = rt.alloc();
     let config = PrintConfig::default(alloc)?;
-    let children = vec![in alloc;
-        leaf(alloc, "")?,
-        leaf(alloc, "└─ b")?,
-        leaf(alloc, "a\rb")?,
-    ]?;
-    let bytes = drawn(alloc, &over(alloc, "r", children)?, &config)?;
-    assert_eq!(rt; str::from_utf8(&bytes)?, "r\n├─ \n├─ └─ b\n└─ a\rb\n");
-    let bytes = drawn(alloc, &leaf(alloc, "")?, &config)?;
-    assert_eq!(rt; str::from_utf8(&bytes)?, "\n");
-    Ok(())
+    let tree = over_leaves(alloc, "r", &["", "└─ b", "a\rb"])?;
+    expect_drawn(alloc, &tree, &config, "r\n├─ \n├─ └─ b\n└─ a\rb\n")?;
+    expect_drawn(alloc, &leaf(alloc, "")?, &config, "\n")
 }
 
 #[test]
 fn styles_are_drawn_where_they_are_asked_for(rt: HostRuntime) -> Result<(), Fail> {
     let alloc = rt.alloc();
-    let tree = over(alloc, "r", vec![in alloc; leaf(alloc, "a")?]?)?;
+    let tree = over_leaves(alloc, "r", &["a"])?;
     let mut config = PrintConfig::default(alloc)?;
     let plain = "r\n└─ a\n";
     let styled = "\x1b[2m\x1b[0mr\n\x1b[2m└─ \x1b[0ma\n";
@@ -100,81 +86,65 @@ fn styles_are_drawn_where_they_are_asked_for(rt: HostRuntime) -> Result<(), Fail
     ];
     for (when, written, on_terminal, elsewhere) in cases {
         config.styled = when;
-        let bytes = drawn(alloc, &tree, &config)?;
-        assert_eq!(rt; str::from_utf8(&bytes)?, written);
-        let bytes = printed(alloc, &tree, true, &config)?;
-        assert_eq!(rt; str::from_utf8(&bytes)?, on_terminal);
-        let bytes = printed(alloc, &tree, false, &config)?;
-        assert_eq!(rt; str::from_utf8(&bytes)?, elsewhere);
+        expect_drawn(alloc, &tree, &config, written)?;
+        expect_printed(alloc, &tree, true, &config, on_terminal)?;
+        expect_printed(alloc, &tree, false, &config, elsewhere)?;
     }
     config.leaf.bold = true;
-    let bytes = drawn(alloc, &leaf(alloc, "r")?, &config)?;
-    assert_eq!(rt; str::from_utf8(&bytes)?, "\x1b[2m\x1b[0m\x1b[1mr\x1b[0m\n");
-    Ok(())
+    let bold = "\x1b[2m\x1b[0m\x1b[1mr\x1b[0m\n";
+    expect_drawn(alloc, &leaf(alloc, "r")?, &config, bold)
 }
 
 #[test]
 fn a_long_chain_is_drawn(rt: HostRuntime) -> Result<(), Fail> {
     let alloc = rt.alloc();
-    let mut chain: StringItem = leaf(alloc, "x")?;
+    let mut chain = leaf(alloc, "x")?;
     for _ in 0..200u8 {
         chain = over(alloc, "x", vec![in alloc; chain]?)?;
     }
-    let bytes = drawn(alloc, &chain, &plain(alloc, ASCII_CHARS_PLUS, 3, u32::MAX)?)?;
+    let text = drawn(alloc, &chain, &plain(alloc, ASCII_CHARS_PLUS, 3, u32::MAX)?)?;
     // The line of level n has 3 * n bytes of pieces, the text and a line feed.
-    assert_eq!(rt; bytes.len(), 3 * 200 * 201 / 2 + 2 * 201);
+    assert_eq!(rt; text.len(), 3 * 200 * 201 / 2 + 2 * 201);
     Ok(())
 }
 
-// An item that has no memory for its children.
-#[derive(Drop)]
-struct Barren {
-    item: StringItem,
-}
-
-impl Shaped for Barren {
-    ghost use Rattle.ptree.specs.Tree.{tree_of, shape_of_tree};
-
-    ghost shape = { λ b. shape_of_tree (tree_of b.item) };
-}
-
-impl TreeItem for Barren {
-    type Child = Barren;
-
-    fn write_self<W: Sink>(
-        &self,
-        alloc: Global,
-        f: &mut W,
-        style: &Style,
-    ) -> Result<(), DrawError> {
-        self.item.write_self(alloc, f, style)
-    }
-
-    fn children(&self, _alloc: Global) -> Result<Children<'_, Barren>, AllocError> {
-        Err(AllocError)
-    }
+// That drawing this far writes the text, and whether it succeeds; else an item had no memory for its children.
+fn assert_drawn_to(
+    rt: &impl Abort,
+    alloc: Global,
+    item: &Barren,
+    depth: u32,
+    text: &str,
+    succeeds: bool,
+) -> Result<(), Fail> {
+    let mut out = Counted::new(Vec::new(alloc));
+    let result = write_tree_with(alloc, item, &mut out, &plain(alloc, UTF_CHARS, 3, depth)?);
+    let right = match &result {
+        Ok(()) => succeeds,
+        Err(DrawError::Memory) => !succeeds,
+        Err(_) => false,
+    };
+    assert!(rt; right, "depth {depth}: {result:?}");
+    assert!(rt;
+        out.into_inner().as_slice() == text.as_bytes(),
+        "depth {depth}"
+    );
+    Ok(())
 }
 
 #[test]
 fn children_not_asked_at_depth(rt: HostRuntime) -> Result<(), Fail> {
     let alloc = rt.alloc();
-    let item = Barren {
-        item: leaf(alloc, "x")?,
+    let barren = Barren {
+        text: String::from_str(alloc, "a")?,
+        below: Vec::new(alloc),
     };
-    for depth in [0, 1] {
-        let mut out = Counted::new(Vec::new(alloc));
-        let result = write_tree_with(alloc, &item, &mut out, &plain(alloc, UTF_CHARS, 3, depth)?);
-        let right = match &result {
-            Ok(()) => depth == 0,
-            Err(DrawError::Memory) => depth == 1,
-            Err(_) => false,
-        };
-        assert!(rt; right, "depth {depth}: {result:?}");
-        assert_eq!(rt;
-            out.into_inner().as_slice(),
-            b"x\n".as_slice(),
-            "depth {depth}"
-        );
-    }
-    Ok(())
+    assert_drawn_to(&rt, alloc, &barren, 0, "a\n", true)?;
+    assert_drawn_to(&rt, alloc, &barren, 1, "a\n", false)?;
+    let tree = Barren {
+        text: String::from_str(alloc, "r")?,
+        below: vec![in alloc; barren]?,
+    };
+    assert_drawn_to(&rt, alloc, &tree, 1, "r\n└─ a\n", true)?;
+    assert_drawn_to(&rt, alloc, &tree, 2, "r\n└─ a\n", false)
 }

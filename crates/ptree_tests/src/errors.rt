@@ -2,56 +2,40 @@
 
 use ptree::builder::AddError;
 use ptree::graph::EdgeError;
-use ptree::item::StringItem;
 use ptree::output::write_tree_with;
 use ptree::print_config::{CharsError, PrintConfig};
 use ptree::style::{Counted, DrawError, put_all};
+use ptree_fixtures::expect::expect_text;
+use ptree_fixtures::trees::leaf;
 use std::alloc::Global;
+use std::fmt::Display;
 use std::io::{self, ErrorKind};
 use std::str;
 use std::test::Fail;
+
+// That an error has this text.
+fn expect_message(alloc: Global, error: &impl Display, wanted: &str) -> Result<(), Fail> {
+    let text = format!(in alloc; "{error}")?;
+    expect_text(text.as_str(), wanted)
+}
 
 #[test]
 fn texts(rt: HostRuntime) -> Result<(), Fail> {
     let alloc = rt.alloc();
     let pipe = DrawError::Write(io::Error::from(ErrorKind::BrokenPipe));
-    assert_eq!(rt;
-        format!(in alloc; "{pipe}")?.as_str(),
-        "cannot write: broken pipe"
-    );
-    assert_eq!(rt;
-        format!(in alloc; "{}", DrawError::Zero)?.as_str(),
-        "cannot write: the writer took no bytes"
-    );
-    assert_eq!(rt;
-        format!(in alloc; "{}", DrawError::Memory)?.as_str(),
-        "out of memory"
-    );
-    assert_eq!(rt;
-        format!(in alloc; "{}", EdgeError::NoNode)?.as_str(),
-        "an edge of a node that isn't in the graph"
-    );
-    assert_eq!(rt;
-        format!(in alloc; "{}", EdgeError::Memory)?.as_str(),
-        "out of memory"
-    );
-    assert_eq!(rt;
-        format!(in alloc; "{}", CharsError::Unknown)?.as_str(),
-        "no set of characters has that name"
-    );
-    assert_eq!(rt;
-        format!(in alloc; "{}", CharsError::Memory)?.as_str(),
-        "out of memory"
-    );
-    assert_eq!(rt;
-        format!(in alloc; "{}", AddError::Level)?.as_str(),
-        "no item can follow at that level"
-    );
-    assert_eq!(rt;
-        format!(in alloc; "{}", AddError::Memory)?.as_str(),
-        "out of memory"
-    );
-    Ok(())
+    expect_message(alloc, &pipe, "cannot write: broken pipe")?;
+    let zero = "cannot write: the writer took no bytes";
+    expect_message(alloc, &DrawError::Zero, zero)?;
+    expect_message(alloc, &DrawError::Memory, "out of memory")?;
+    let no_node = "an edge of a node that isn't in the graph";
+    expect_message(alloc, &EdgeError::NoNode, no_node)?;
+    expect_message(alloc, &EdgeError::Memory, "out of memory")?;
+    let unknown = "no set of characters has that name";
+    expect_message(alloc, &CharsError::Unknown, unknown)?;
+    expect_message(alloc, &CharsError::Memory, "out of memory")?;
+    let level = "no item can follow at that level";
+    expect_message(alloc, &AddError::Level, level)?;
+    expect_message(alloc, &AddError::Memory, "out of memory")
 }
 
 #[test]
@@ -66,12 +50,8 @@ fn as_errors_of_std(rt: HostRuntime) -> Result<(), Fail> {
 // Draws by `?` alone, in a function that returns errors of std.
 fn draw_by_question(alloc: Global, text: &str) -> io::Result<Vec<u8>> {
     let config = PrintConfig::default(alloc)?;
-    let item = StringItem {
-        text: String::from_str(alloc, text)?,
-        children: Vec::new(alloc),
-    };
     let mut out = Counted::new(Vec::new(alloc));
-    write_tree_with(alloc, &item, &mut out, &config)?;
+    write_tree_with(alloc, &leaf(alloc, text)?, &mut out, &config)?;
     put_all(&mut out, b"end\n")?;
     Ok(out.into_inner())
 }
@@ -79,6 +59,5 @@ fn draw_by_question(alloc: Global, text: &str) -> io::Result<Vec<u8>> {
 #[test]
 fn no_error_is_mapped_by_hand(rt: HostRuntime) -> Result<(), Fail> {
     let drawn = draw_by_question(rt.alloc(), "r")?;
-    assert_eq!(rt; str::from_utf8(drawn.as_slice())?, "r\nend\n");
-    Ok(())
+    expect_text(str::from_utf8(drawn.as_slice())?, "r\nend\n")
 }

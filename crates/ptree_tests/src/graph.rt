@@ -1,10 +1,10 @@
 //! Graphs that are drawn, and edges that are refused.
 
-use crate::failing::{Answer, Failing};
 use ptree::graph::{EdgeError, Graph, GraphNode, Label, NodeIndex, write_graph_with};
 use ptree::item::TreeItem;
 use ptree::print_config::{PrintConfig, StyleWhen};
 use ptree::style::{Counted, DrawError, Style};
+use ptree_fixtures::failing::{Answer, Failing};
 use std::alloc::{AllocError, Global};
 use std::io::ErrorKind;
 use std::process::Abort;
@@ -54,9 +54,9 @@ fn assert_drawn<N: Label>(
 fn assert_neighbors<N>(rt: &impl Abort, graph: &Graph<N>, node: usize, numbers: &[usize]) {
     match graph.neighbors(NodeIndex(node)) {
         Ok(neighbors) => {
-            assert_eq!(rt; neighbors.len(), numbers.len());
+            assert!(rt; neighbors.len() == numbers.len());
             for (neighbor, number) in neighbors.iter().zip(numbers) {
-                assert_eq!(rt; neighbor.0, *number);
+                assert!(rt; neighbor.0 == *number);
             }
         }
         Err(_) => assert!(rt; false, "memory"),
@@ -88,14 +88,8 @@ fn draws_a_cycle_down_to_the_depth(rt: HostRuntime) -> Result<(), Fail> {
     let text = "x\n└─ x\n   └─ x\n";
     assert_drawn(&rt, alloc, &alone, 0, &at_depth(alloc, 2)?, text);
     let twice = graph(alloc, &["x"], &[(0, 0), (0, 0)])?;
-    assert_drawn(
-        &rt,
-        alloc,
-        &twice,
-        0,
-        &at_depth(alloc, 1)?,
-        "x\n├─ x\n└─ x\n",
-    );
+    let text = "x\n├─ x\n└─ x\n";
+    assert_drawn(&rt, alloc, &twice, 0, &at_depth(alloc, 1)?, text);
     Ok(())
 }
 
@@ -130,7 +124,7 @@ fn refuses_edges_whole(rt: HostRuntime) -> Result<(), Fail> {
         (none, NodeIndex(18446744073709551615)),
     ] {
         let result = graph.extend_with_edges(&[(x, y), bad]);
-        assert_eq!(rt; result, Err(EdgeError::NoNode));
+        assert!(rt; result == Err(EdgeError::NoNode));
         assert_neighbors(&rt, &graph, 0, &[]);
     }
     graph.extend_with_edges(&[(x, y), (x, y)])?;
@@ -163,7 +157,7 @@ fn draws_labels_of_each_kind(rt: HostRuntime) -> Result<(), Fail> {
     let alloc = rt.alloc();
     let config = PrintConfig::default(alloc)?;
     let mut numbers = Graph::new(alloc);
-    assert_eq!(rt; numbers.add_node(18446744073709551615u64)?, NodeIndex(0));
+    assert!(rt; numbers.add_node(18446744073709551615u64)? == NodeIndex(0));
     assert_drawn(&rt, alloc, &numbers, 0, &config, "18446744073709551615\n");
     let mut texts = Graph::new(alloc);
     let x = texts.add_node(String::from_str(alloc, "x")?)?;
@@ -195,17 +189,15 @@ fn is_an_item(rt: HostRuntime) -> Result<(), Fail> {
     };
     let same = node;
     let copy = node.clone()?;
-    assert_eq!(rt; same.node, copy.node);
+    assert!(rt; same.node == copy.node);
     let mut out = Counted::new(Vec::new(alloc));
     node.write_self(alloc, &mut out, &Style::default())?;
     assert!(rt; out.into_inner().as_slice() == b"x".as_slice());
     let children = copy.children(alloc)?;
-    assert_eq!(rt; children.as_slice().len(), 1);
-    assert_eq!(rt; children.as_slice()[0].node, NodeIndex(1));
-    assert_eq!(rt;
-        graph.node_weight(children.as_slice()[0].node).copied(),
-        Some("y")
-    );
+    assert!(rt; children.as_slice().len() == 1);
+    let child = children.as_slice()[0].node;
+    assert!(rt; child == NodeIndex(1));
+    assert!(rt; graph.node_weight(child).copied() == Some("y"));
     Ok(())
 }
 
@@ -215,7 +207,7 @@ fn ends_at_the_writer_that_errs(rt: HostRuntime) -> Result<(), Fail> {
     let graph = graph(alloc, &["x"], &[(0, 0)])?;
     let whole =
         "x\n└─ x\n   └─ x\n      └─ x\n         └─ x\n            └─ x\n               └─ x\n";
-    assert_eq!(rt; whole.len(), 101);
+    assert!(rt; whole.len() == 101);
     assert_drawn(&rt, alloc, &graph, 0, &at_depth(alloc, 6)?, whole);
     let error = Answer::Error(ErrorKind::StorageFull);
     let mut out = Counted::new(Failing::new(alloc, 100, 100, usize::MAX, error)?);

@@ -17,10 +17,9 @@ pub fn assert_pieces(rt: &impl Abort, indent: &Indent, pieces: [&str; 4]) {
         indent.last_regular_prefix.as_str(),
         indent.last_child_prefix.as_str(),
     ];
-    assert_eq!(rt; found[0], pieces[0]);
-    assert_eq!(rt; found[1], pieces[1]);
-    assert_eq!(rt; found[2], pieces[2]);
-    assert_eq!(rt; found[3], pieces[3]);
+    for (piece, wanted) in found.iter().zip(pieces) {
+        assert_eq!(rt; *piece, wanted);
+    }
 }
 
 fn padded(
@@ -62,29 +61,33 @@ fn indent_from_config(rt: HostRuntime) -> Result<(), Fail> {
 #[test]
 fn indent_from_characters_pad(rt: HostRuntime) -> Result<(), Fail> {
     let alloc = rt.alloc();
-    let indent = padded(alloc, 4, 0, UTF_CHARS)?;
-    assert_pieces(&rt, &indent, ["├───", "│   ", "└───", "    "]);
-    let indent = padded(alloc, 4, 2, UTF_CHARS)?;
-    assert_pieces(&rt, &indent, ["├─  ", "│   ", "└─  ", "    "]);
+    for (padding, pieces) in [
+        (0, ["├───", "│   ", "└───", "    "]),
+        (2, ["├─  ", "│   ", "└─  ", "    "]),
+    ] {
+        assert_pieces(&rt, &padded(alloc, 4, padding, UTF_CHARS)?, pieces);
+    }
     Ok(())
 }
 
 #[test]
 fn a_piece_keeps_its_first_character_and_its_padding(rt: HostRuntime) -> Result<(), Fail> {
     let alloc = rt.alloc();
-    let indent = padded(alloc, 1, 2, UTF_CHARS)?;
-    assert_pieces(&rt, &indent, ["├  ", "│  ", "└  ", "   "]);
-    let indent = padded(alloc, 0, 0, UTF_CHARS)?;
-    assert_pieces(&rt, &indent, ["├", "│", "└", " "]);
+    for (indent, padding, pieces) in [
+        (1, 2, ["├  ", "│  ", "└  ", "   "]),
+        (0, 0, ["├", "│", "└", " "]),
+    ] {
+        assert_pieces(&rt, &padded(alloc, indent, padding, UTF_CHARS)?, pieces);
+    }
     Ok(())
 }
 
 #[test]
 fn a_piece_too_long_is_refused(rt: HostRuntime) -> Result<(), Fail> {
     let alloc = rt.alloc();
-    assert!(rt; padded(alloc, usize::MAX, usize::MAX, UTF_CHARS).is_err());
-    assert!(rt; padded(alloc, usize::MAX, 1, UTF_CHARS).is_err());
-    assert!(rt; padded(alloc, 3, usize::MAX, UTF_CHARS).is_err());
+    for (indent, padding) in [(usize::MAX, usize::MAX), (usize::MAX, 1), (3, usize::MAX)] {
+        assert!(rt; padded(alloc, indent, padding, UTF_CHARS).is_err());
+    }
     Ok(())
 }
 
@@ -108,15 +111,10 @@ fn an_empty_text_is_repeated_at_once(rt: HostRuntime) -> Result<(), Fail> {
 fn sets_by_name(rt: HostRuntime) -> Result<(), Fail> {
     let alloc = rt.alloc();
     let set = IndentChars::from_name(alloc, "ascii-tick")?;
-    assert_eq!(rt; set.turn_right.as_str(), "`");
-    assert_eq!(rt; set.down.as_str(), "|");
+    assert!(rt; set.turn_right.as_str() == "`" && set.down.as_str() == "|");
     for name in ["UTF", "", "utf ", "ascii-double"] {
-        assert!(rt;
-            matches!(
-                &IndentChars::from_name(alloc, name),
-                Err(CharsError::Unknown)
-            )
-        );
+        let found = IndentChars::from_name(alloc, name);
+        assert!(rt; matches!(&found, Err(CharsError::Unknown)), "{name}");
     }
     Ok(())
 }
@@ -125,13 +123,13 @@ fn sets_by_name(rt: HostRuntime) -> Result<(), Fail> {
 fn defaults(rt: HostRuntime) -> Result<(), Fail> {
     let alloc = rt.alloc();
     let config = PrintConfig::default(alloc)?;
-    assert_eq!(rt; config.depth, 4294967295);
-    assert_eq!(rt; config.indent, 3);
-    assert_eq!(rt; config.padding, 1);
-    assert_eq!(rt; config.styled, StyleWhen::Tty);
+    assert!(rt; config.depth == 4294967295);
+    assert!(rt; config.indent == 3);
+    assert!(rt; config.padding == 1);
+    assert!(rt; config.styled == StyleWhen::Tty);
     assert!(rt; config.branch.dimmed && !config.branch.bold);
     assert!(rt; !config.leaf.dimmed && config.leaf.foreground.is_none());
-    assert_eq!(rt; config.continued.as_str(), ": ");
+    assert!(rt; config.continued.as_str() == ": ");
     assert!(rt; Style::default().background.is_none());
     Ok(())
 }

@@ -1,4 +1,5 @@
-//! Tests of `ptree` over its public surface: worked examples, the tests of the original crate, and sinks that fail.
+//! Tests of `ptree` over its public surface: worked examples, the tests of the original crate, and sinks that fail. Reading is tested in
+//! `ptree_reading_tests`, and values, documents and configurations in `ptree_document_tests`.
 #![tactic(auto)]
 
 #[cfg(test)]
@@ -10,24 +11,14 @@ mod drawing;
 #[cfg(test)]
 mod errors;
 #[cfg(test)]
-mod failing;
-#[cfg(test)]
 mod graph;
 #[cfg(test)]
 mod indent;
 #[cfg(test)]
-mod lines;
-#[cfg(test)]
 mod memory;
 #[cfg(test)]
-mod read;
-#[cfg(test)]
 mod readme;
-#[cfg(test)]
-mod real;
 #[cfg(test)]
 mod sinks;
 #[cfg(test)]
 mod style;
-#[cfg(test)]
-mod trees;

@@ -1,13 +1,14 @@
 //! The examples of the README.
 
-use crate::failing::{Answer, Failing};
-use crate::trees::spelled;
 use ptree::TreeBuilder;
 use ptree::graph::{Graph, write_graph_with};
 use ptree::output::write_tree_with;
-use ptree::print_config::{IndentChars, PrintConfig, UTF_CHARS_BOLD};
+use ptree::print_config::{IndentChars, PrintConfig, StaticIndentChars, UTF_CHARS_BOLD};
 use ptree::read::{pieces_readable, read_tree};
 use ptree::style::{Counted, DrawError};
+use ptree::value::{DocFormat, draw_document_with};
+use ptree_fixtures::expect::{expect_drawn, expect_items, expect_text};
+use ptree_fixtures::failing::{Answer, Failing};
 use std::str;
 use std::test::Fail;
 
@@ -25,11 +26,8 @@ fn a_tree_is_built_and_drawn(rt: HostRuntime) -> Result<(), Fail> {
     let mut out = Counted::new(Vec::new(alloc));
     write_tree_with(alloc, &tree, &mut out, &PrintConfig::default(alloc)?)?;
     let drawing = out.into_inner();
-    assert_eq!(rt;
-        str::from_utf8(&drawing)?,
-        "tree\n├─ branch\n│  └─ leaf\n└─ empty branch\n"
-    );
-    Ok(())
+    let text = "tree\n├─ branch\n│  └─ leaf\n└─ empty branch\n";
+    expect_text(str::from_utf8(&drawing)?, text)
 }
 
 #[test]
@@ -41,15 +39,22 @@ fn a_drawing_is_read_back(rt: HostRuntime) -> Result<(), Fail> {
     let text = "tree\n┣━ branch\n┃  ┗━ leaf\n┗━ empty branch\n";
     let tree = read_tree(alloc, text, &config)?.ok_or("no drawing")?;
 
-    let mut out = Counted::new(Vec::new(alloc));
-    write_tree_with(alloc, &tree, &mut out, &config)?;
-    assert_eq!(rt; str::from_utf8(&out.into_inner())?, text);
+    expect_drawn(alloc, &tree, &config, text)?;
     assert!(rt; read_tree(alloc, "tree\n┣━ branch\n", &config)?.is_none());
     Ok(())
 }
 
+const NOTES: &str = "\
+notes
+├─ shopping
+│  : by Friday
+│  └─ bread
+└─ call home
+   : after six
+";
+
 #[test]
-fn notes_are_edited_as_text(rt: HostRuntime) -> Result<(), Fail> {
+fn notes_are_drawn(rt: HostRuntime) -> Result<(), Fail> {
     let alloc = rt.alloc();
     let mut builder = TreeBuilder::new(alloc, String::from_str(alloc, "notes")?);
     builder
@@ -64,30 +69,21 @@ fn notes_are_edited_as_text(rt: HostRuntime) -> Result<(), Fail> {
     write_tree_with(alloc, &notes, &mut out, &config)?;
     let drawing = out.into_inner();
     let text = str::from_utf8(&drawing)?;
+    expect_text(text, NOTES)
+}
+
+#[test]
+fn notes_are_edited_as_text(rt: HostRuntime) -> Result<(), Fail> {
+    let alloc = rt.alloc();
+    let text = NOTES;
+    let config = PrintConfig::default(alloc)?;
     assert!(rt; pieces_readable(alloc, &config)?);
     let edited = text.replace(alloc, "by Friday\n", "by Friday,\n│  : with flowers\n")?;
     let notes = read_tree(alloc, edited.as_str(), &config)?.ok_or("no drawing")?;
     let shopping = notes.children.first().ok_or("no child")?;
-    assert_eq!(rt;
-        shopping.text.as_str(),
-        "shopping\nby Friday,\nwith flowers"
-    );
-
-    assert_eq!(rt;
-        text,
-        "\
-notes
-├─ shopping
-│  : by Friday
-│  └─ bread
-└─ call home
-   : after six
-"
-    );
-    let mut out = Counted::new(Vec::new(alloc));
-    write_tree_with(alloc, &notes, &mut out, &config)?;
-    assert_eq!(rt; str::from_utf8(&out.into_inner())?, edited.as_str());
-    Ok(())
+    let wanted = "shopping\nby Friday,\nwith flowers";
+    expect_text(shopping.text.as_str(), wanted)?;
+    expect_drawn(alloc, &notes, &config, edited.as_str())
 }
 
 // `rich.tree` of Python, each line feed of a label being followed by `: `, and without these marks.
@@ -131,37 +127,40 @@ notes
 ";
 
 #[test]
-fn other_programs_draw_several_lines(rt: HostRuntime) -> Result<(), Fail> {
+fn rich_draws_several_lines(rt: HostRuntime) -> Result<(), Fail> {
     let alloc = rt.alloc();
     let mut config = PrintConfig::default(alloc)?;
     config.indent = 4;
     assert!(rt; pieces_readable(alloc, &config)?);
     let tree = read_tree(alloc, RICH_MARKED, &config)?.ok_or("no drawing")?;
-    assert_eq!(rt;
-        spelled(alloc, &tree)?.as_str(),
-        "notes\nof the week [shopping\nbread\nmilk [later\ncheese, never], call home\nafter six]"
-    );
+    let items =
+        "notes\nof the week [shopping\nbread\nmilk [later\ncheese, never], call home\nafter six]";
+    expect_items(alloc, &tree, items)?;
     assert!(rt; read_tree(alloc, RICH, &config)?.is_none());
     config.continued = String::new(alloc);
     assert!(rt; !pieces_readable(alloc, &config)?);
+    Ok(())
+}
 
+#[test]
+fn termtree_draws_several_lines(rt: HostRuntime) -> Result<(), Fail> {
+    let alloc = rt.alloc();
+    let glyphs = StaticIndentChars {
+        down_and_right: "├── ",
+        down: "│  ",
+        turn_right: "└── ",
+        right: "",
+        empty: "   ",
+    };
+    let mut config = PrintConfig::default(alloc)?;
     config.indent = 0;
     config.padding = 0;
-    config.characters = IndentChars {
-        down_and_right: String::from_str(alloc, "├── ")?,
-        down: String::from_str(alloc, "│  ")?,
-        turn_right: String::from_str(alloc, "└── ")?,
-        right: String::new(alloc),
-        empty: String::from_str(alloc, "   ")?,
-    };
+    config.characters = IndentChars::from_static(alloc, glyphs)?;
     config.continued = String::from_str(alloc, ":")?;
     assert!(rt; pieces_readable(alloc, &config)?);
     let tree = read_tree(alloc, TERMTREE, &config)?.ok_or("no drawing")?;
-    assert_eq!(rt;
-        spelled(alloc, &tree)?.as_str(),
-        "notes [shopping\nbread\nmilk [later\ncheese, never], call home\nafter six]"
-    );
-    Ok(())
+    let items = "notes [shopping\nbread\nmilk [later\ncheese, never], call home\nafter six]";
+    expect_items(alloc, &tree, items)
 }
 
 #[test]
@@ -186,18 +185,9 @@ fn packages_are_a_graph(rt: HostRuntime) -> Result<(), Fail> {
     let mut out = Counted::new(Vec::new(alloc));
     write_graph_with(alloc, &packages, petgraph, &mut out, &config)?;
     let drawing = out.into_inner();
-    assert_eq!(rt;
-        str::from_utf8(&drawing)?,
-        "\
-petgraph
-├── quickcheck
-│   ├── libc
-│   └── rand
-│       └── libc
-└── fixedbitset
-"
-    );
-    Ok(())
+    let text =
+        "petgraph\n├── quickcheck\n│   ├── libc\n│   └── rand\n│       └── libc\n└── fixedbitset\n";
+    expect_text(str::from_utf8(&drawing)?, text)
 }
 
 #[test]
@@ -207,6 +197,29 @@ fn a_full_device_is_told(rt: HostRuntime) -> Result<(), Fail> {
     let mut out = Counted::new(Failing::new(alloc, 8, 2, 1, Answer::Zero)?);
     let result = write_tree_with(alloc, &tree, &mut out, &PrintConfig::default(alloc)?);
     assert!(rt; matches!(&result, Err(DrawError::Zero)));
-    assert_eq!(rt; out.into_inner().taken.as_slice(), b"tr".as_slice());
+    assert!(rt; out.into_inner().taken.as_slice() == b"tr".as_slice());
+    Ok(())
+}
+
+#[test]
+fn a_document_is_drawn(rt: HostRuntime) -> Result<(), Fail> {
+    let alloc = rt.alloc();
+    let text = "{\"name\": \"ptree\", \"authors\": [\"a\", \"b\"], \"edition\": 2021}";
+    let config = PrintConfig::default(alloc)?;
+    let mut out = Counted::new(Vec::new(alloc));
+    draw_document_with(
+        alloc,
+        DocFormat::Json,
+        text,
+        "package",
+        &config,
+        false,
+        &mut out,
+    )?;
+    let drawing = out.into_inner();
+    assert_eq!(rt;
+        str::from_utf8(drawing.as_slice())?,
+        "package\n├─ authors\n│  ├─ a\n│  └─ b\n├─ edition = 2021\n└─ name = ptree\n"
+    );
     Ok(())
 }

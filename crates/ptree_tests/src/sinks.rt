@@ -1,38 +1,61 @@
 //! Writers that take little, that fail, and that take everything, and readers.
 
-use crate::failing::{Answer, Breaking, Failing};
-use crate::trees::{leaf, over, petgraph, plain};
 use ptree::output::write_tree_with;
 use ptree::print_config::UTF_CHARS;
 use ptree::style::{Counted, DrawError, Feed, put_all};
+use ptree_fixtures::expect::expect_text;
+use ptree_fixtures::failing::{Answer, Breaking, Failing};
+use ptree_fixtures::trees::{over_leaves, petgraph, plain};
+use std::alloc::Global;
 use std::io::ErrorKind;
+use std::process::Abort;
 use std::str;
 use std::test::Fail;
+
+// Whether a drawing of `whole` bytes to a writer with so much room may end like this.
+fn is_right(ended: &Result<(), DrawError>, answer: Answer, room: usize, whole: usize) -> bool {
+    match (ended, answer) {
+        (Ok(()), _) => room == whole,
+        (Err(DrawError::Zero), Answer::Zero) => room < whole,
+        (Err(DrawError::Write(e)), Answer::Error(kind)) => room < whole && e.kind() == kind,
+        (Err(DrawError::Write(e)), Answer::Interrupted) => {
+            room < whole && e.kind() == ErrorKind::Interrupted
+        }
+        _ => false,
+    }
+}
+
+// That a writer that fails got a beginning of the drawing, and that its answer is told.
+fn assert_beginning(
+    rt: &impl Abort,
+    alloc: Global,
+    room: usize,
+    most: usize,
+    answer: Answer,
+) -> Result<(), Fail> {
+    let tree = over_leaves(alloc, "r", &["a"])?;
+    let config = plain(alloc, UTF_CHARS, 3, u32::MAX)?;
+    let whole = "r\n└─ a\n".as_bytes();
+    let mut out = Counted::new(Failing::new(alloc, 40, room, most, answer)?);
+    let result = write_tree_with(alloc, &tree, &mut out, &config);
+    let right = is_right(&result, answer, room, whole.len());
+    assert!(rt; right, "{room} {most}: {result:?}");
+    let beginning = whole.get(..room).ok_or("too much room")?;
+    assert!(rt;
+        out.into_inner().taken.as_slice() == beginning,
+        "{room} {most}"
+    );
+    Ok(())
+}
 
 #[test]
 fn a_failing_writer_got_a_beginning(rt: HostRuntime) -> Result<(), Fail> {
     let alloc = rt.alloc();
-    let tree = over(alloc, "r", vec![in alloc; leaf(alloc, "a")?]?)?;
-    let config = plain(alloc, UTF_CHARS, 3, u32::MAX)?;
-    let whole = "r\n└─ a\n".as_bytes();
-    for room in 0..whole.len() + 1 {
+    for room in 0.."r\n└─ a\n".len() + 1 {
         for most in [1, 2, 100] {
             let error = Answer::Error(ErrorKind::StorageFull);
             for answer in [error, Answer::Zero, Answer::Interrupted] {
-                let mut out = Counted::new(Failing::new(alloc, 40, room, most, answer)?);
-                let result = write_tree_with(alloc, &tree, &mut out, &config);
-                let writer = out.into_inner();
-                let right = match (&result, answer) {
-                    (Ok(()), _) => room == whole.len(),
-                    (Err(DrawError::Zero), Answer::Zero) => room < whole.len(),
-                    (Err(DrawError::Write(e)), Answer::Error(kind)) => room < whole.len()
-                        && e.kind() == kind,
-                    (Err(DrawError::Write(e)), Answer::Interrupted) => room < whole.len()
-                        && e.kind() == ErrorKind::Interrupted,
-                    _ => false,
-                };
-                assert!(rt; right, "{room} {most}: {result:?}");
-                assert_eq!(rt; writer.taken.as_slice(), &whole[..room], "{room} {most}");
+                assert_beginning(&rt, alloc, room, most, answer)?;
             }
         }
     }
@@ -47,11 +70,7 @@ fn whole_entries_and_a_part_of_one(rt: HostRuntime) -> Result<(), Fail> {
     let result = write_tree_with(alloc, &petgraph(alloc)?, &mut out, &config);
     assert!(rt; matches!(&result, Err(DrawError::Zero)));
     let writer = out.into_inner();
-    assert_eq!(rt;
-        str::from_utf8(&writer.taken)?,
-        "petgraph\n├── quickcheck\n"
-    );
-    Ok(())
+    expect_text(str::from_utf8(&writer.taken)?, "petgraph\n├── quickcheck\n")
 }
 
 #[test]
@@ -59,7 +78,7 @@ fn nothing_is_asked_for_no_bytes(rt: HostRuntime) -> Result<(), Fail> {
     let alloc = rt.alloc();
     let mut out = Counted::new(Failing::new(alloc, 0, 0, 0, Answer::Zero)?);
     assert!(rt; put_all(&mut out, b"").is_ok());
-    assert_eq!(rt; out.into_inner().calls, 0);
+    assert!(rt; out.into_inner().calls == 0);
     Ok(())
 }
 
@@ -69,7 +88,7 @@ fn an_entry_is_one_put(rt: HostRuntime) -> Result<(), Fail> {
     let config = plain(alloc, UTF_CHARS, 4, u32::MAX)?;
     let mut out = Counted::new(Failing::new(alloc, 119, 119, 119, Answer::Zero)?);
     assert!(rt; write_tree_with(alloc, &petgraph(alloc)?, &mut out, &config).is_ok());
-    assert_eq!(rt; out.into_inner().calls, 6);
+    assert!(rt; out.into_inner().calls == 6);
     Ok(())
 }
 
@@ -77,12 +96,11 @@ fn an_entry_is_one_put(rt: HostRuntime) -> Result<(), Fail> {
 fn a_feed_gives_what_its_reader_gives(rt: HostRuntime) -> Result<(), Fail> {
     let mut room = [0; 4];
     let mut feed = Counted::new(b"abcdef".as_slice());
-    assert_eq!(rt; feed.get(&mut [])?, 0);
-    assert_eq!(rt; feed.get(&mut room)?, 4);
-    assert!(rt; room == *b"abcd");
-    assert_eq!(rt; feed.get(&mut room)?, 2);
-    assert!(rt; room == *b"efcd");
-    assert_eq!(rt; feed.get(&mut room)?, 0);
+    assert!(rt; feed.get(&mut [])? == 0);
+    for (count, bytes) in [(4, *b"abcd"), (2, *b"efcd"), (0, *b"efcd")] {
+        assert_eq!(rt; feed.get(&mut room)?, count);
+        assert!(rt; room == bytes, "{count}");
+    }
     assert!(rt; feed.into_inner().is_empty());
     Ok(())
 }
@@ -96,8 +114,7 @@ fn an_error_of_a_reader_is_passed_on(rt: HostRuntime) -> Result<(), Fail> {
             most: 2,
             error,
         });
-        assert_eq!(rt; feed.get(&mut room)?, 2);
-        assert_eq!(rt; feed.get(&mut room)?, 1);
+        assert!(rt; feed.get(&mut room)? == 2 && feed.get(&mut room)? == 1);
         assert!(rt; room == [b'c', b'b', 0, 0]);
         for _ in 0..2u8 {
             let result = feed.get(&mut room);

@@ -1,17 +1,20 @@
 //! What is drawn of a graph.
 ghost use Rattle.std.specs.Prelude.{◌≡◌, ◌↔◌, ℕ, ◌<◌, List, length, map, All, IfOk};
 ghost use Rattle.ptree.specs.Children.{children_items};
-ghost use Rattle.ptree.specs.Drawing.{written_look, IsDrawing};
+ghost use Rattle.ptree.specs.Drawing.{look_of, written_look, IsDrawing};
 ghost use Rattle.ptree.specs.Graph.{weights_of, edges_of, neighbors_of, node_shape, walks};
 ghost use Rattle.ptree.specs.Shape.{kids};
 ghost use Rattle.ptree.specs.Style.{painted_text};
 ghost use Rattle.ptree.specs.Tree.{shape_of_tree};
+ghost use Rattle.ptree.specs.declared.print_config.OutputKind.{OutputKind};
+ghost use Rattle.ptree.specs.declared.print_config.PrintConfig.{PrintConfig};
+ghost use Rattle.ptree.specs.UnderSources.{UnderSources};
 ghost use Rattle.ptree.specs.Writing.{IsWritten, HasCause, TakesNoMemory, IsDrawn, LeavesWholeEntries};
 
 use super::{Graph, NodeIndex};
 use crate::item::{Children, Shaped, TreeItem};
-use crate::output::write_tree_with;
-use crate::print_config::{OutputKind, PrintConfig};
+use crate::output::{print_tree_with, write_tree_with};
+use crate::print_config::{OutputKind, PrintConfig, Sources};
 use crate::style::{DrawError, Sink, Style};
 use std::alloc::{AllocError, Global};
 
@@ -26,7 +29,8 @@ pub trait Label {
     ///
     /// `Write` or `Zero` where `f` failed, and `Memory`. A beginning of the painted text was written.
     fn write_label<W: Sink>(&self, alloc: Global, f: &mut W, style: &Style) -> Result<(), DrawError>
-        ensures bytes { IsWritten (W.contents f.old) (W.contents f.new) result (painted_text style.now (text self.now)) }
+        ensures bytes { IsWritten (W.contents f.old) (W.contents f.new) result
+            (painted_text style.now (text self.now)) }
         ensures cause { HasCause (W.faults f.old) (W.faults f.new) result };
 }
 
@@ -42,7 +46,8 @@ impl Label for String {
         f: &mut W,
         style: &Style,
     ) -> Result<(), DrawError>
-        ensures bytes { IsWritten (W.contents f.old) (W.contents f.new) result (painted_text style.now (string_bytes self.now)) }
+        ensures bytes { IsWritten (W.contents f.old) (W.contents f.new) result
+            (painted_text style.now (string_bytes self.now)) }
         ensures cause { HasCause (W.faults f.old) (W.faults f.new) result }
         ensures memory { TakesNoMemory result }
     {
@@ -60,7 +65,8 @@ impl Label for &str {
         f: &mut W,
         style: &Style,
     ) -> Result<(), DrawError>
-        ensures bytes { IsWritten (W.contents f.old) (W.contents f.new) result (painted_text style.now self.now.now) }
+        ensures bytes { IsWritten (W.contents f.old) (W.contents f.new) result
+            (painted_text style.now self.now.now) }
         ensures cause { HasCause (W.faults f.old) (W.faults f.new) result }
         ensures memory { TakesNoMemory result }
     {
@@ -132,10 +138,15 @@ impl<'a, N: Label> TreeItem for GraphNode<'a, N> {
 
     /// Makes an item of each neighbour, newest edge first.
     fn children(&self, alloc: Global) -> Result<Children<'_, GraphNode<'a, N>>, AllocError>
-        ensures shapes { IfOk result (λ c. map (λ x. node_shape N.text x.graph.now x.node.0) (children_items c) ≡ kids (node_shape N.text self.now.graph.now self.now.node.0)) }
+        ensures shapes { IfOk result (λ c.
+            map (λ x. node_shape N.text x.graph.now x.node.0) (children_items c)
+            ≡ kids (node_shape N.text self.now.graph.now self.now.node.0)) }
         // They are the neighbours, in the same graph.
-        ensures nodes { IfOk result (λ c. map (λ x. x.node.0) (children_items c) ≡ neighbors_of (edges_of self.now.graph.now) self.now.node.0) }
-        ensures graph { IfOk result (λ c. All (λ x. x.graph.now ≡ self.now.graph.now) (children_items c)) }
+        ensures nodes { IfOk result (λ c.
+            map (λ x. x.node.0) (children_items c)
+            ≡ neighbors_of (edges_of self.now.graph.now) self.now.node.0) }
+        ensures graph { IfOk result (λ c.
+            All (λ x. x.graph.now ≡ self.now.graph.now) (children_items c)) }
     {
         let graph = self.graph;
         let nodes = graph.targets(
@@ -165,13 +176,56 @@ pub fn write_graph_with<N: Label, W: Sink>(
     f: &mut W,
     config: &PrintConfig,
 ) -> Result<(), DrawError>
-    ensures bytes { IsDrawn (written_look config.now) (node_shape N.text graph.now start.0) config.now.depth (W.contents f.old) (W.contents f.new) result }
-    ensures whole { LeavesWholeEntries (written_look config.now) (node_shape N.text graph.now start.0) config.now.depth (W.contents f.old) (W.contents f.new) result }
+    ensures bytes { IsDrawn (written_look config.now) (node_shape N.text graph.now start.0)
+        config.now.depth (W.contents f.old) (W.contents f.new) result }
+    ensures whole { LeavesWholeEntries (written_look config.now)
+        (node_shape N.text graph.now start.0) config.now.depth (W.contents f.old) (W.contents f.new)
+        result }
     ensures cause { HasCause (W.faults f.old) (W.faults f.new) result }
     // The drawings of a node are those of the tree of the walks from it.
     ensures walks { start.0 < length (weights_of graph.now) → (text : List ℕ)
-        → IsDrawing (written_look config.now) (node_shape N.text graph.now start.0) config.now.depth text
-        ↔ IsDrawing (written_look config.now) (shape_of_tree (walks N.text graph.now start.0 config.now.depth)) config.now.depth text }
+        → IsDrawing (written_look config.now) (node_shape N.text graph.now start.0) config.now.depth
+        text
+        ↔ IsDrawing (written_look config.now)
+        (shape_of_tree (walks N.text graph.now start.0 config.now.depth)) config.now.depth
+        text }
 {
     write_tree_with(alloc, &GraphNode { graph, node: start }, f, config)
+}
+
+/// Draws a graph from a start node on to standard output, `terminal` saying whether that is a terminal, under the configuration that
+/// sources mean ([`PrintConfig::from_env`]).
+///
+/// A graph with cycles is bounded by the configuration's depth alone.
+///
+/// # Errors
+///
+/// `Write` or `Zero` where `out` failed, and `Memory`. A beginning of the drawing was written; where memory ran out,
+/// whole entries.
+pub fn print_graph<N: Label, W: Sink>(
+    alloc: Global,
+    graph: &Graph<N>,
+    start: NodeIndex,
+    out: &mut W,
+    terminal: bool,
+    sources: &Sources,
+) -> Result<(), DrawError>
+    ensures drawn { UnderSources DrawError.Memory sources.now (W.contents out.old) (W.contents out.new) result
+        (λ config.
+        IsDrawn (look_of config OutputKind.Stdout terminal) (node_shape N.text graph.now start.0)
+        config.depth (W.contents out.old) (W.contents out.new) result
+        × LeavesWholeEntries (look_of config OutputKind.Stdout terminal)
+        (node_shape N.text graph.now start.0) config.depth (W.contents out.old)
+        (W.contents out.new) result) }
+    ensures cause { HasCause (W.faults out.old) (W.faults out.new) result }
+    // The drawings of a node are those of the tree of the walks from it.
+    ensures walks { start.0 < length (weights_of graph.now) → (config : PrintConfig) (text : List ℕ)
+        → IsDrawing (look_of config OutputKind.Stdout terminal)
+        (node_shape N.text graph.now start.0) config.depth text
+        ↔ IsDrawing (look_of config OutputKind.Stdout terminal)
+        (shape_of_tree (walks N.text graph.now start.0 config.depth)) config.depth text }
+{
+    let config = PrintConfig::from_env(alloc, sources)?;
+    let item = GraphNode { graph, node: start };
+    print_tree_with(alloc, &item, out, terminal, &config)
 }

@@ -77,7 +77,10 @@ impl LineBuffer {
         requires within { width ≤ start }
         requires start { start ≤ length self.old.bytes.items }
         ensures { OnOk result (self.new.bytes.items ≡ take start self.old.bytes.items
-            ++ with_inserted (take width self.old.bytes.items ++ further_text (look_meant brush.now.look.now) last) (drop start self.old.bytes.items)) }
+            ++ with_inserted
+            (take width self.old.bytes.items
+            ++ further_text (look_meant brush.now.look.now) last)
+            (drop start self.old.bytes.items)) }
     {
         if may_hold_line_feed(&self.bytes, start) {
             self.spread(start, width, brush, last)
@@ -98,7 +101,10 @@ impl LineBuffer {
         requires within { width ≤ start }
         requires start { start ≤ length self.old.bytes.items }
         ensures { OnOk result (self.new.bytes.items ≡ take start self.old.bytes.items
-            ++ with_inserted (take width self.old.bytes.items ++ further_text (look_meant brush.now.look.now) last) (drop start self.old.bytes.items)) }
+            ++ with_inserted
+            (take width self.old.bytes.items
+            ++ further_text (look_meant brush.now.look.now) last)
+            (drop start self.old.bytes.items)) }
     {
         self.bytes = spread(brush.alloc, &self.bytes, start, width, brush.further(last))?;
         Ok(())
@@ -116,8 +122,10 @@ struct Brush<'a> {
     root_further: String,
     further: String,
     last_further: String,
-    ghost own_lines: { AreOwnTexts (look_meant look.now) (string_bytes back) (string_bytes regular) (string_bytes last_regular) },
-    ghost further_lines: { AreFurtherTexts (look_meant look.now) (string_bytes root_further) (string_bytes further) (string_bytes last_further) },
+    ghost own_lines: { AreOwnTexts (look_meant look.now) (string_bytes back) (string_bytes regular)
+        (string_bytes last_regular) },
+    ghost further_lines: { AreFurtherTexts (look_meant look.now) (string_bytes root_further)
+        (string_bytes further) (string_bytes last_further) },
 }
 
 impl<'a> Brush<'a> {
@@ -165,7 +173,7 @@ impl<'a> Brush<'a> {
 }
 
 /// The buffer of a drawing, whether a regular turning piece stands at its end, and what ends the drawing. Until another error is
-/// told, that is want of memory.
+/// told, that is out of memory.
 #[derive(Drop)]
 struct Pen {
     line: LineBuffer,
@@ -198,8 +206,13 @@ impl Pen {
     #[inline(always)]
     fn turn(&mut self, width: usize, brush: &Brush<'_>, is_last: bool) -> Result<(), AllocError>
         requires { self.old.turned ≡ true → is_last ≡ false
-            → self.old.line.bytes.items ≡ take width self.old.line.bytes.items ++ own_text (look_meant brush.now.look.now) (Some false) }
-        ensures line { OnOk result (self.new.line.bytes.items ≡ take width self.old.line.bytes.items ++ own_text (look_meant brush.now.look.now) (Some is_last)) }
+            → self.old.line.bytes.items
+            ≡ take width self.old.line.bytes.items
+            ++ own_text (look_meant brush.now.look.now) (Some false) }
+        ensures line { OnOk result
+            (self.new.line.bytes.items
+            ≡ take width self.old.line.bytes.items
+            ++ own_text (look_meant brush.now.look.now) (Some is_last)) }
         ensures error { self.new.error ≡ self.old.error }
     {
         if self.turned && !is_last {
@@ -212,7 +225,10 @@ impl Pen {
     // Has an item's passing piece behind the first `width` bytes, for what is below the item.
     #[inline(always)]
     fn pass(&mut self, width: usize, brush: &Brush<'_>, is_last: bool) -> Result<(), AllocError>
-        ensures line { OnOk result (self.new.line.bytes.items ≡ take width self.old.line.bytes.items ++ passing_piece (look_meant brush.now.look.now).pieces is_last) }
+        ensures line { OnOk result
+            (self.new.line.bytes.items
+            ≡ take width self.old.line.bytes.items
+            ++ passing_piece (look_meant brush.now.look.now).pieces is_last) }
         ensures turned { self.new.turned ≡ false }
         ensures error { self.new.error ≡ self.old.error }
     {
@@ -258,9 +274,12 @@ fn draw_entry<C: TreeItem, W: Sink>(
 ) -> Result<(), Stop>
     requires error { pen.old.error ≡ Memory }
     requires width { width ≤ length pen.old.line.bytes.items }
-    requires turned { pen.old.line.bytes.items ≡ take width pen.old.line.bytes.items ++ own_text (look_meant brush.now.look.now) last }
-    ensures bytes { (front : List ℕ) → take width pen.old.line.bytes.items ≡ front_codes brush.now.look.now.branch.now ++ front
-        → IsWritten (W.contents f.old) (W.contents f.new) result (own_entry (look_meant brush.now.look.now) front last (C.shape item.now)) }
+    requires turned { pen.old.line.bytes.items
+        ≡ take width pen.old.line.bytes.items ++ own_text (look_meant brush.now.look.now) last }
+    ensures bytes { (front : List ℕ)
+        → take width pen.old.line.bytes.items ≡ front_codes brush.now.look.now.branch.now ++ front
+        → IsWritten (W.contents f.old) (W.contents f.new) result
+        (own_entry (look_meant brush.now.look.now) front last (C.shape item.now)) }
     ensures memory { OnErr result (pen.new.error ≡ Memory → W.contents f.new ≡ W.contents f.old) }
     ensures cause { HasErrorCause (W.faults f.old) (W.faults f.new) pen.new.error }
     ensures error { OnOk result (pen.new.error ≡ Memory) }
@@ -294,13 +313,20 @@ fn draw_item<C: TreeItem<Child = C> + Drop, W: Sink>(
 ) -> Result<(), Stop>
     requires error { pen.old.error ≡ Memory }
     requires width { width ≤ length pen.old.line.bytes.items }
-    requires turned { pen.old.line.bytes.items ≡ take width pen.old.line.bytes.items ++ own_text (look_meant brush.now.look.now) (Some is_last) }
-    ensures bytes { (front : List ℕ) → take width pen.old.line.bytes.items ≡ front_codes brush.now.look.now.branch.now ++ front
-        → AreWritten (W.contents f.old) (W.contents f.new) result pen.new.error (item_entries (look_meant brush.now.look.now) levels_left front is_last (C.shape item.now)) }
+    requires turned { pen.old.line.bytes.items
+        ≡ take width pen.old.line.bytes.items
+        ++ own_text (look_meant brush.now.look.now) (Some is_last) }
+    ensures bytes { (front : List ℕ)
+        → take width pen.old.line.bytes.items ≡ front_codes brush.now.look.now.branch.now ++ front
+        → AreWritten (W.contents f.old) (W.contents f.new) result pen.new.error
+        (item_entries (look_meant brush.now.look.now) levels_left front is_last
+        (C.shape item.now)) }
     ensures cause { HasErrorCause (W.faults f.old) (W.faults f.new) pen.new.error }
     ensures error { OnOk result (pen.new.error ≡ Memory) }
-    ensures kept { OnOk result (take width pen.new.line.bytes.items ≡ take width pen.old.line.bytes.items) }
-    ensures turned { OnOk result (pen.new.turned ≡ true → pen.new.line.bytes.items ≡ pen.old.line.bytes.items) }
+    ensures kept { OnOk result
+        (take width pen.new.line.bytes.items ≡ take width pen.old.line.bytes.items) }
+    ensures turned { OnOk result
+        (pen.new.turned ≡ true → pen.new.line.bytes.items ≡ pen.old.line.bytes.items) }
 {
     draw_entry(item, f, pen, brush, width, Some(is_last))?;
     if levels_left == 0 {
@@ -323,13 +349,18 @@ fn draw_below<C: TreeItem<Child = C> + Drop, W: Sink>(
 ) -> Result<(), Stop>
     requires error { pen.old.error ≡ Memory }
     requires width { width ≤ length pen.old.line.bytes.items }
-    ensures bytes { (front : List ℕ) → take width pen.old.line.bytes.items ≡ front_codes brush.now.look.now.branch.now ++ front
+    ensures bytes { (front : List ℕ)
+        → take width pen.old.line.bytes.items ≡ front_codes brush.now.look.now.branch.now ++ front
         → AreWritten (W.contents f.old) (W.contents f.new) result pen.new.error
-        (let look = look_meant brush.now.look.now in kid_entries look (entries_below look levels_left) (front ++ passing_piece look.pieces is_last) (kids (C.shape item.now))) }
+        (let look = look_meant brush.now.look.now in kid_entries look
+        (entries_below look levels_left) (front ++ passing_piece look.pieces is_last)
+        (kids (C.shape item.now))) }
     ensures cause { HasErrorCause (W.faults f.old) (W.faults f.new) pen.new.error }
     ensures error { OnOk result (pen.new.error ≡ Memory) }
-    ensures kept { OnOk result (take width pen.new.line.bytes.items ≡ take width pen.old.line.bytes.items) }
-    ensures turned { OnOk result (pen.new.turned ≡ true → pen.new.line.bytes.items ≡ pen.old.line.bytes.items) }
+    ensures kept { OnOk result
+        (take width pen.new.line.bytes.items ≡ take width pen.old.line.bytes.items) }
+    ensures turned { OnOk result
+        (pen.new.turned ≡ true → pen.new.line.bytes.items ≡ pen.old.line.bytes.items) }
 {
     let children = item.children(brush.alloc)?;
     if children.as_slice().is_empty() {
@@ -350,9 +381,11 @@ fn draw_children<C: TreeItem<Child = C> + Drop, W: Sink>(
 ) -> Result<(), Stop>
     requires error { pen.old.error ≡ Memory }
     requires turned { pen.old.turned ≡ false }
-    ensures bytes { (front : List ℕ) → pen.old.line.bytes.items ≡ front_codes brush.now.look.now.branch.now ++ front
+    ensures bytes { (front : List ℕ)
+        → pen.old.line.bytes.items ≡ front_codes brush.now.look.now.branch.now ++ front
         → AreWritten (W.contents f.old) (W.contents f.new) result pen.new.error
-        (let look = look_meant brush.now.look.now in kid_entries look (entries_below look levels_left) front (map C.shape items.now)) }
+        (let look = look_meant brush.now.look.now in kid_entries look
+        (entries_below look levels_left) front (map C.shape items.now)) }
     ensures cause { HasErrorCause (W.faults f.old) (W.faults f.new) pen.new.error }
     ensures error { OnOk result (pen.new.error ≡ Memory) }
     ensures kept { OnOk result (pen.new.line.bytes.items ≡ pen.old.line.bytes.items) }
@@ -385,7 +418,8 @@ where
     requires error { pen.old.error ≡ Memory }
     requires turned { pen.old.turned ≡ false }
     requires front { pen.old.line.bytes.items ≡ front_codes brush.now.look.now.branch.now }
-    ensures bytes { AreWritten (W.contents f.old) (W.contents f.new) result pen.new.error (drawn_entries (look_meant brush.now.look.now) depth (T.shape item.now)) }
+    ensures bytes { AreWritten (W.contents f.old) (W.contents f.new) result pen.new.error
+        (drawn_entries (look_meant brush.now.look.now) depth (T.shape item.now)) }
     ensures error { OnOk result (pen.new.error ≡ Memory) }
     ensures cause { HasErrorCause (W.faults f.old) (W.faults f.new) pen.new.error }
 {
@@ -412,8 +446,11 @@ where
     T: TreeItem,
     T::Child: TreeItem<Child = T::Child> + Drop,
     W: Sink,
-    ensures bytes { IsWritten (W.contents f.old) (W.contents f.new) result (concat (drawn_entries (look_meant look.now) depth (T.shape item.now))) }
-    ensures whole { result ≡ Err Memory → AppendsFirst (W.contents f.old) (W.contents f.new) (drawn_entries (look_meant look.now) depth (T.shape item.now)) }
+    ensures bytes { IsWritten (W.contents f.old) (W.contents f.new) result
+        (concat (drawn_entries (look_meant look.now) depth (T.shape item.now))) }
+    ensures whole { result ≡ Err Memory
+        → AppendsFirst (W.contents f.old) (W.contents f.new)
+        (drawn_entries (look_meant look.now) depth (T.shape item.now)) }
     ensures cause { HasCause (W.faults f.old) (W.faults f.new) result }
 {
     let brush = Brush::new(alloc, look)?;

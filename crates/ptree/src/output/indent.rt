@@ -51,7 +51,8 @@ impl Indent {
         indent_size: usize,
         characters: &IndentChars,
     ) -> Result<Indent, AllocError>
-        ensures { IfOk result (λ i. pieces_of i ≡ pieces_from (characters_of characters.now) indent_size 1) }
+        ensures { IfOk result (λ i.
+            pieces_of i ≡ pieces_from (characters_of characters.now) indent_size 1) }
     {
         Indent::from_characters_and_padding(alloc, indent_size, 1, characters)
     }
@@ -69,7 +70,8 @@ impl Indent {
         padding: usize,
         characters: &IndentChars,
     ) -> Result<Indent, AllocError>
-        ensures { IfOk result (λ i. pieces_of i ≡ pieces_from (characters_of characters.now) indent_size padding) }
+        ensures { IfOk result (λ i.
+            pieces_of i ≡ pieces_from (characters_of characters.now) indent_size padding) }
     {
         let n = indent_size.saturating_sub(padding).saturating_sub(1);
         let right_pad = characters.right.as_str().repeat(alloc, n)?;
@@ -117,7 +119,10 @@ impl Indent {
 
     // Whether the mark neither begins nor is begun by a piece.
     fn is_mark_apart(&self, mark: &str) -> bool
-        ensures { IsTrue result ↔ ((last : Bool) → AreApart mark.now (turning_piece (pieces_of self.now) last) × AreApart mark.now (passing_piece (pieces_of self.now) last)) }
+        ensures { IsTrue result
+            ↔ ((last : Bool)
+            → AreApart mark.now (turning_piece (pieces_of self.now) last)
+            × AreApart mark.now (passing_piece (pieces_of self.now) last)) }
     {
         is_apart_from(mark, self.turning(false), self.passing(false))
             && is_apart_from(mark, self.turning(true), self.passing(true))
@@ -125,7 +130,10 @@ impl Indent {
 
     // Whether no piece holds a line feed.
     fn is_one_line(&self) -> bool
-        ensures { IsTrue result ↔ ((last : Bool) → HasNoLineFeed (turning_piece (pieces_of self.now) last) × HasNoLineFeed (passing_piece (pieces_of self.now) last)) }
+        ensures { IsTrue result
+            ↔ ((last : Bool)
+            → HasNoLineFeed (turning_piece (pieces_of self.now) last)
+            × HasNoLineFeed (passing_piece (pieces_of self.now) last)) }
     {
         are_one_line(self.turning(false), self.turning(true))
             && are_one_line(self.passing(false), self.passing(true))
@@ -133,7 +141,10 @@ impl Indent {
 
     // Whether no turning piece begins a passing one, nor the reverse.
     fn has_kinds_apart(&self) -> bool
-        ensures { IsTrue result ↔ ((a b : Bool) → AreApart (turning_piece (pieces_of self.now) a) (passing_piece (pieces_of self.now) b)) }
+        ensures { IsTrue result
+            ↔ ((a b : Bool)
+            → AreApart (turning_piece (pieces_of self.now) a)
+            (passing_piece (pieces_of self.now) b)) }
     {
         let (child, last_child) = (self.passing(false), self.passing(true));
         is_apart_from(self.turning(false), child, last_child)
@@ -142,8 +153,11 @@ impl Indent {
 
     // Whether of each kind the two pieces are equal, or neither begins the other.
     fn has_pairs_apart(&self) -> bool
-        ensures { IsTrue result ↔ (AreEqualOrApart (turning_piece (pieces_of self.now) false) (turning_piece (pieces_of self.now) true)
-            × AreEqualOrApart (passing_piece (pieces_of self.now) false) (passing_piece (pieces_of self.now) true)) }
+        ensures { IsTrue result
+            ↔ (AreEqualOrApart (turning_piece (pieces_of self.now) false)
+            (turning_piece (pieces_of self.now) true)
+            × AreEqualOrApart (passing_piece (pieces_of self.now) false)
+            (passing_piece (pieces_of self.now) true)) }
     {
         are_equal_or_apart(self.turning(false), self.turning(true))
             && are_equal_or_apart(self.passing(false), self.passing(true))

@@ -6,7 +6,7 @@ ghost use Rattle.ptree.specs.Text.{HasNoLineFeed, line_feed};
 use std::alloc::{AllocError, Global};
 use std::simd::prelude::*;
 
-/// Whether a line feed may stand behind the first `start` bytes: never where the answer is false. The bytes are looked at by
+/// Whether a line feed may stand behind the first `start` bytes: never where the result is false. The bytes are looked at by
 /// sixteen, some of the first ones among them.
 #[inline(always)]
 pub(crate) fn may_hold_line_feed(bytes: &[u8], start: usize) -> bool
@@ -26,7 +26,8 @@ pub(crate) fn may_hold_line_feed(bytes: &[u8], start: usize) -> bool
 #[inline(always)]
 fn holds_line_feed_at(bytes: &[u8], place: usize) -> bool
     requires { place + 16 ≤ length bytes.now }
-    ensures { result ≡ false → (k : ℕ) → place ≤ k → k < place + 16 → slice_index bytes.now k ≢ line_feed }
+    ensures { result ≡ false → (k : ℕ) → place ≤ k → k < place + 16
+        → slice_index bytes.now k ≢ line_feed }
 {
     u8x16::from_slice(&bytes[place..])
         .simd_eq(u8x16::splat(b'\n'))
@@ -71,7 +72,10 @@ pub(crate) fn spread(
 ) -> Result<Vec<u8>, AllocError>
     requires within { width ≤ start }
     requires start { start ≤ length bytes.now }
-    ensures { IfOk result (λ v. v.items ≡ take start bytes.now ++ with_inserted (take width bytes.now ++ further.now) (drop start bytes.now)) }
+    ensures { IfOk result (λ v.
+        v.items
+        ≡ take start bytes.now
+        ++ with_inserted (take width bytes.now ++ further.now) (drop start bytes.now)) }
 {
     let mut out = Vec::new(alloc);
     out.extend_from_slice(&bytes[..start])?;

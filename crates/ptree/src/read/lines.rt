@@ -7,7 +7,7 @@ ghost use Rattle.ptree.specs.Pieces.{Pieces, pieces_of, turning_piece, passing_p
 ghost use Rattle.ptree.specs.Readable.{IsReadable, IsReadableWith};
 ghost use Rattle.ptree.specs.Spelled.{SpelledItem, ArePassing, Passed, HasItemPieces, IsNotContinued, HasOwn, HasText, HasItem, HasRoot, Spells};
 ghost use Rattle.ptree.specs.Style.{front_codes, back_codes};
-ghost use Rattle.ptree.specs.Text.{HasNoLineFeed};
+ghost use Rattle.ptree.specs.Text.{HasNoLineFeed, line_feed};
 
 use crate::builder::OutlineLine;
 use crate::output::indent::Indent;
@@ -58,7 +58,8 @@ impl<'a> Frame<'a> {
     // What follows the codes before a prefix.
     fn skip_branch_front<'b>(&self, text: &'b str) -> Option<&'b str>
         ensures { let codes = front_codes self.now.look.now.branch.now in
-            MatchOption result ((rest : List ℕ) → text.now ≢ codes ++ rest) (λ r. text.now ≡ codes ++ r.now) }
+            MatchOption result ((rest : List ℕ) → text.now ≢ codes ++ rest)
+            (λ r. text.now ≡ codes ++ r.now) }
     {
         skip(text, self.branch.front.as_str())
     }
@@ -66,7 +67,8 @@ impl<'a> Frame<'a> {
     // What follows the codes behind a prefix.
     fn skip_branch_back<'b>(&self, text: &'b str) -> Option<&'b str>
         ensures { let codes = back_codes self.now.look.now.branch.now in
-            MatchOption result ((rest : List ℕ) → text.now ≢ codes ++ rest) (λ r. text.now ≡ codes ++ r.now) }
+            MatchOption result ((rest : List ℕ) → text.now ≢ codes ++ rest)
+            (λ r. text.now ≡ codes ++ r.now) }
     {
         skip(text, self.branch.back.as_str())
     }
@@ -74,7 +76,8 @@ impl<'a> Frame<'a> {
     // What follows the codes before a text.
     fn skip_leaf_front<'b>(&self, text: &'b str) -> Option<&'b str>
         ensures { let codes = front_codes self.now.look.now.leaf.now in
-            MatchOption result ((rest : List ℕ) → text.now ≢ codes ++ rest) (λ r. text.now ≡ codes ++ r.now) }
+            MatchOption result ((rest : List ℕ) → text.now ≢ codes ++ rest)
+            (λ r. text.now ≡ codes ++ r.now) }
     {
         skip(text, self.leaf.front.as_str())
     }
@@ -82,7 +85,8 @@ impl<'a> Frame<'a> {
     // What precedes the codes behind a text of one line.
     fn drop_leaf_back<'b>(&self, line: &'b str) -> Option<&'b str>
         ensures { let codes = back_codes self.now.look.now.leaf.now in
-            MatchOption result ((text : List ℕ) → line.now ≢ text ++ codes) (λ r. line.now ≡ r.now ++ codes) }
+            MatchOption result ((text : List ℕ) → line.now ≢ text ++ codes)
+            (λ r. line.now ≡ r.now ++ codes) }
     {
         without_back(line, self.leaf.back.as_str())
     }
@@ -90,7 +94,8 @@ impl<'a> Frame<'a> {
     // What precedes the codes behind a text of several lines, in the same memory.
     fn drop_leaf_back_of(&self, lines: String) -> Option<String>
         ensures { let codes = back_codes self.now.look.now.leaf.now in
-            MatchOption result ((text : List ℕ) → string_bytes lines ≢ text ++ codes) (λ r. string_bytes lines ≡ string_bytes r ++ codes) }
+            MatchOption result ((text : List ℕ) → string_bytes lines ≢ text ++ codes)
+            (λ r. string_bytes lines ≡ string_bytes r ++ codes) }
     {
         string_without_back(lines, self.leaf.back.as_str())
     }
@@ -182,7 +187,8 @@ pub(crate) struct Read<'a> {
 /// What follows a front. Most often there are no codes, so an empty one is tried first.
 #[inline(always)]
 pub(crate) fn skip<'a>(text: &'a str, front: &str) -> Option<&'a str>
-    ensures { MatchOption result ((rest : List ℕ) → text.now ≢ front.now ++ rest) (λ r. text.now ≡ front.now ++ r.now) }
+    ensures { MatchOption result ((rest : List ℕ) → text.now ≢ front.now ++ rest)
+        (λ r. text.now ≡ front.now ++ r.now) }
 {
     if front.is_empty() {
         return Some(text);
@@ -193,7 +199,8 @@ pub(crate) fn skip<'a>(text: &'a str, front: &str) -> Option<&'a str>
 // What precedes a back. Most often there are no codes, so an empty one is tried first.
 #[inline(always)]
 fn without_back<'a>(text: &'a str, back: &str) -> Option<&'a str>
-    ensures { MatchOption result ((front : List ℕ) → text.now ≢ front ++ back.now) (λ r. text.now ≡ r.now ++ back.now) }
+    ensures { MatchOption result ((front : List ℕ) → text.now ≢ front ++ back.now)
+        (λ r. text.now ≡ r.now ++ back.now) }
 {
     if back.is_empty() {
         return Some(text);
@@ -203,7 +210,8 @@ fn without_back<'a>(text: &'a str, back: &str) -> Option<&'a str>
 
 // What precedes a back, in the same memory.
 fn string_without_back(text: String, back: &str) -> Option<String>
-    ensures { MatchOption result ((front : List ℕ) → string_bytes text ≢ front ++ back.now) (λ r. string_bytes text ≡ string_bytes r ++ back.now) }
+    ensures { MatchOption result ((front : List ℕ) → string_bytes text ≢ front ++ back.now)
+        (λ r. string_bytes text ≡ string_bytes r ++ back.now) }
 {
     let mut text = text;
     let Some(front) = without_back(text.as_str(), back) else {
@@ -225,7 +233,8 @@ fn without_end<'a>(text: &'a str, end: &str) -> &'a str
 // What follows a passing piece of either kind.
 fn skip_passing<'a>(text: &'a str, indent: &Indent) -> Option<&'a str>
     ensures { MatchOption result
-        ((last : Bool) (rest : List ℕ) → text.now ≢ passing_piece (pieces_of indent.now) last ++ rest)
+        ((last : Bool) (rest : List ℕ)
+        → text.now ≢ passing_piece (pieces_of indent.now) last ++ rest)
         (λ r. (last : Bool) × (text.now ≡ passing_piece (pieces_of indent.now) last ++ r.now)) }
 {
     match skip(text, indent.passing(false)) {
@@ -237,7 +246,8 @@ fn skip_passing<'a>(text: &'a str, indent: &Indent) -> Option<&'a str>
 // What follows a turning piece of either kind.
 fn skip_turning<'a>(text: &'a str, indent: &Indent) -> Option<&'a str>
     ensures { MatchOption result
-        ((last : Bool) (rest : List ℕ) → text.now ≢ turning_piece (pieces_of indent.now) last ++ rest)
+        ((last : Bool) (rest : List ℕ)
+        → text.now ≢ turning_piece (pieces_of indent.now) last ++ rest)
         (λ r. (last : Bool) × (text.now ≡ turning_piece (pieces_of indent.now) last ++ r.now)) }
 {
     match skip(text, indent.turning(false)) {
@@ -249,7 +259,8 @@ fn skip_turning<'a>(text: &'a str, indent: &Indent) -> Option<&'a str>
 // How many passing pieces were taken from the front, and what follows them: those of the line above where they stand there
 // too, as they do but where a line stands higher than the one above it.
 fn skip_same<'a>(text: &'a str, above: Passing<'_>) -> (u32, &'a str)
-    ensures passed { (p : Pieces) → ArePassing p above.entry.count above.entry.pieces.now → Passed p text.now result.1.now result.0 }
+    ensures passed { (p : Pieces) → ArePassing p above.entry.count above.entry.pieces.now
+        → Passed p text.now result.1.now result.0 }
     ensures few { result.0 ≤ above.entry.count }
 {
     match skip(text, above.pieces) {
@@ -260,7 +271,8 @@ fn skip_same<'a>(text: &'a str, above: Passing<'_>) -> (u32, &'a str)
 
 // The first line, and what follows its line feed.
 fn read_line(text: &str) -> Option<(&str, &str)>
-    ensures { MatchOption result (HasNoLineFeed text.now) (λ r. HasNoLineFeed r.0.now × (text.now ≡ r.0.now ++ 10 ∷ r.1.now)) }
+    ensures { MatchOption result (HasNoLineFeed text.now)
+        (λ r. HasNoLineFeed r.0.now × (text.now ≡ r.0.now ++ line_feed ∷ r.1.now)) }
 {
     text.split_once('\n')
 }
@@ -277,7 +289,8 @@ fn skip_all_passing<'a>(
     requires few { above.count ≤ level }
     ensures passed { Passed (pieces_of indent.now) text.now result.1.now result.0 }
     ensures few { result.0 ≤ level }
-    ensures no_more { result.0 < level → (last : Bool) (z : List ℕ) → result.1.now ≢ passing_piece (pieces_of indent.now) last ++ z }
+    ensures no_more { result.0 < level → (last : Bool) (z : List ℕ)
+        → result.1.now ≢ passing_piece (pieces_of indent.now) last ++ z }
 {
     let (mut count, mut rest) = skip_same(text, above);
     while count < level {
@@ -328,7 +341,8 @@ fn read_mark<'a>(
     requires ahead { IsAhead (look_meant frame.now.look.now) level input.now ahead }
     ensures { let look = look_meant frame.now.look.now in MatchOption result
         (IsNotContinued look level input.now)
-        (λ r. ArePassing look.pieces level r.0.now × (input.now ≡ continued_prefix look r.0.now ++ r.1.now)) }
+        (λ r. ArePassing look.pieces level r.0.now
+        × (input.now ≡ continued_prefix look r.0.now ++ r.1.now)) }
 {
     let Some(front) = ahead else {
         return None;
@@ -357,15 +371,18 @@ fn read_further_lines<'a>(
     above: Passing<'_>,
     level: u32,
 ) -> Result<Option<(String, &'a str, Option<Ahead<'a>>)>, AllocError>
-    requires readable { let look = look_meant frame.now.look.now in IsReadableWith look.pieces look.mark }
+    requires readable { let look = look_meant frame.now.look.now in
+        IsReadableWith look.pieces look.mark }
     requires above { ArePassing (pieces_of frame.now.look.now.pieces) above.count above.pieces.now }
     requires few { above.count ≤ level }
     requires first { HasNoLineFeed first.now }
     requires pieces { ArePassing (pieces_of frame.now.look.now.pieces) level pieces.now }
     ensures { IfOk result (λ o. let look = look_meant frame.now.look.now in
-        let x = first.now ++ 10 ∷ (continued_prefix look pieces.now ++ input.now) in MatchOption o
+        let x = first.now
+        ++ line_feed ∷ (continued_prefix look pieces.now ++ input.now) in MatchOption o
         ((own passing rest : List ℕ) → HasOwn look level own passing rest x → ⊥)
-        (λ r. HasOwn look level (string_bytes r.0) pieces.now r.1.now x × IsAhead look level r.1.now r.2)) }
+        (λ r. HasOwn look level (string_bytes r.0) pieces.now r.1.now x
+        × IsAhead look level r.1.now r.2)) }
 {
     let mut text = String::from_str(alloc, first)?;
     let mut rest = input;
@@ -393,12 +410,14 @@ fn read_text<'a>(
     above: Passing<'_>,
     level: u32,
 ) -> Result<Option<Read<'a>>, AllocError>
-    requires readable { let look = look_meant frame.now.look.now in IsReadableWith look.pieces look.mark }
+    requires readable { let look = look_meant frame.now.look.now in
+        IsReadableWith look.pieces look.mark }
     requires above { ArePassing (pieces_of frame.now.look.now.pieces) above.count above.pieces.now }
     requires few { above.count ≤ level }
     ensures { IfOk result (λ o. let look = look_meant frame.now.look.now in MatchOption o
         ((text passing rest : List ℕ) → HasText look level text passing rest input.now → ⊥)
-        (λ r. HasText look level (text_meant r.text) (passing_meant r.text) r.rest.now input.now × IsAhead look level r.rest.now r.ahead)) }
+        (λ r. HasText look level (text_meant r.text) (passing_meant r.text) r.rest.now input.now
+        × IsAhead look level r.rest.now r.ahead)) }
 {
     let Some(own) = frame.skip_leaf_front(input) else {
         return Ok(None);
@@ -436,7 +455,8 @@ pub(crate) fn read_root<'a>(
     requires { let look = look_meant frame.now.look.now in IsReadableWith look.pieces look.mark }
     ensures { IfOk result (λ o. let look = look_meant frame.now.look.now in MatchOption o
         ((root rest : List ℕ) → HasRoot look root rest input.now → ⊥)
-        (λ r. HasRoot look (text_meant r.text) r.rest.now input.now × IsAhead look 0 r.rest.now r.ahead)) }
+        (λ r. HasRoot look (text_meant r.text) r.rest.now input.now
+        × IsAhead look 0 r.rest.now r.ahead)) }
 {
     let Some(open) = frame.skip_branch_front(input) else {
         return Ok(None);
@@ -496,12 +516,14 @@ fn read_item<'a>(
     level: u32,
     highest: u32,
 ) -> Result<Option<(Item<'a>, &'a str, Option<Ahead<'a>>)>, AllocError>
-    requires readable { let look = look_meant frame.now.look.now in IsReadableWith look.pieces look.mark }
+    requires readable { let look = look_meant frame.now.look.now in
+        IsReadableWith look.pieces look.mark }
     requires ahead { IsAhead (look_meant frame.now.look.now) level input.now ahead }
     requires highest { highest ≤ level + 1 }
     ensures { IfOk result (λ o. let look = look_meant frame.now.look.now in MatchOption o
         ((r : SpelledItem) (rest : List ℕ) → r.level ≤ highest → HasItem look r rest input.now → ⊥)
-        (λ r. (r.0.level ≤ highest) × HasItem look (item_meant r.0) r.1.now input.now × IsAhead look r.0.level r.1.now r.2)) }
+        (λ r. (r.0.level ≤ highest) × HasItem look (item_meant r.0) r.1.now input.now
+        × IsAhead look r.0.level r.1.now r.2)) }
 {
     let Some((above, pieces, start)) = read_pieces(input, ahead, frame, level, highest) else {
         return Ok(None);
@@ -527,7 +549,8 @@ pub(crate) fn read_items<'a>(
     frame: &Frame<'_>,
     depth: u32,
 ) -> Result<Option<Vec<Item<'a>>>, AllocError>
-    requires readable { let look = look_meant frame.now.look.now in IsReadableWith look.pieces look.mark }
+    requires readable { let look = look_meant frame.now.look.now in
+        IsReadableWith look.pieces look.mark }
     requires ahead { IsAhead (look_meant frame.now.look.now) 0 body.now ahead }
     ensures { IfOk result (λ o. let look = look_meant frame.now.look.now in MatchOption o
         ((items : List SpelledItem) → Spells look depth items body.now → ⊥)

@@ -33,7 +33,8 @@ impl Path {
     // One level less, and the flag that stood there.
     fn pop(&mut self, indent: &Indent) -> Option<bool>
         requires { IsPath (pieces_of indent.now) self.old }
-        ensures flags { MatchOption result (self.old.flags.items ≡ []) (λ is_last. self.old.flags.items ≡ self.new.flags.items ++ is_last ∷ []) }
+        ensures flags { MatchOption result (self.old.flags.items ≡ [])
+            (λ is_last. self.old.flags.items ≡ self.new.flags.items ++ is_last ∷ []) }
         ensures path { IsPath (pieces_of indent.now) self.new }
     {
         let Some(is_last) = self.flags.pop() else {
@@ -58,7 +59,9 @@ impl Path {
     // Levels down to this one. Below those that are noted each item is a last child.
     fn resize(&mut self, indent: &Indent, level: usize) -> Result<(), AllocError>
         requires { IsPath (pieces_of indent.now) self.old }
-        ensures flags { OnOk result ((o : List Line) → AreLastFlags o self.old.flags.items → self.new.flags.items ≡ last_flags o level) }
+        ensures flags { OnOk result
+            ((o : List Line) → AreLastFlags o self.old.flags.items
+            → self.new.flags.items ≡ last_flags o level) }
         ensures path { OnOk result (IsPath (pieces_of indent.now) self.new) }
     {
         self.cut(indent, level);
@@ -94,7 +97,10 @@ pub(crate) fn have_last_flags(
 ) -> Result<bool, AllocError>
     requires readable { IsReadable (pieces_of indent.now) }
     requires spelled { All (IsSpelled (pieces_of indent.now)) (items_meant items.now) }
-    ensures { IfOk result (λ b. IsTrue b ↔ (items_meant items.now ≡ spelled_by (pieces_of indent.now) (lines_of_items (items_meant items.now)))) }
+    ensures { IfOk result (λ b.
+        IsTrue b
+        ↔ (items_meant items.now
+        ≡ spelled_by (pieces_of indent.now) (lines_of_items (items_meant items.now)))) }
 {
     let mut path = Path {
         flags: Vec::new(alloc),

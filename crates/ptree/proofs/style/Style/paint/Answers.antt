@@ -3,7 +3,7 @@ use Rattle.ptree.specs.Style.{painted_text}
 use Rattle.ptree.proofs.Styles.{no_codes, painted_plain}
 use Rattle.ptree.proofs.style.Style.paint.Goals as goal
 
-pub returns-clause-plain : goal.returns-clause-plain
-returns-clause-plain c = λ plain.
+pub returns-clause-unset : goal.returns-clause-unset
+returns-clause-unset c = λ unset.
     let text : string_bytes c.push_str-2.new.self ≡ painted_text c.args.self.now c.args.input.now = search rules in
-    text ∙ painted_plain c.args.self.now c.args.input.now (no_codes c.args.self.now plain)
+    text ∙ painted_plain c.args.self.now c.args.input.now (no_codes c.args.self.now unset)

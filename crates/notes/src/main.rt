@@ -1,0 +1,51 @@
+//! Draws notes on standard output and into a file, and reads the file's drawing back.
+#![tactic(auto)]
+
+use ptree::TreeBuilder;
+use ptree::item::StringItem;
+use ptree::output::{print_tree_with, write_tree_with};
+use ptree::print_config::PrintConfig;
+use ptree::read::read_tree;
+use ptree::style::Counted;
+use std::alloc::{AllocError, Global};
+use std::env;
+use std::fs::{self, File};
+use std::io::{self, ErrorKind, IsTerminal};
+
+fn notes(alloc: Global) -> Result<StringItem, AllocError> {
+    let mut builder = TreeBuilder::new(alloc, String::from_str(alloc, "notes")?);
+    builder
+        .begin_child(String::from_str(alloc, "shopping\nby Friday")?)?
+        .add_empty_child(String::from_str(alloc, "bread")?)?
+        .end_child();
+    builder.add_empty_child(String::from_str(alloc, "call home")?)?;
+    builder.build()
+}
+
+// The tree that was drawn under the default configuration, whose pieces are known to be readable.
+fn read(alloc: Global, text: &str) -> Result<Option<StringItem>, AllocError> {
+    let config = PrintConfig::default(alloc)?;
+    read_tree(alloc, text, &config)
+}
+
+fn main(rt: HostRuntime) -> io::Result<()> {
+    let alloc = rt.alloc();
+    let Some(path) = env::args(&rt)?.nth(1) else {
+        return Err(io::Error::from(ErrorKind::InvalidInput));
+    };
+    let notes = notes(alloc)?;
+    let config = PrintConfig::default(alloc)?;
+
+    let terminal = rt.stdout().is_terminal();
+    let mut out = Counted::new(rt.stdout());
+    print_tree_with(alloc, &notes, &mut out, terminal, &config)?;
+
+    let mut file = Counted::new(File::create(&rt, path.as_str())?);
+    write_tree_with(alloc, &notes, &mut file, &config)?;
+
+    let text = fs::read_to_string(&rt, path.as_str())?;
+    match read(alloc, text.as_str())? {
+        Some(read) => println!(rt; "read back: {} notes", read.children.len()),
+        None => println!(rt; "{path} holds no drawing"),
+    }
+}

@@ -1,0 +1,92 @@
+-- Values, their texts and their children.
+use Rattle.std.proofs.Common.{◌≡◌, ◌≢◌, ◌∙◌, ap, refl, rules, ℕ, Box, Vec, Global, Some, true, false, List, [], ◌∷◌, ◌++◌, map}
+use Rattle.std.specs.Prelude.{codes}
+use Rattle.std.proofs.lemmas.Bool.{false≢true}
+use Rattle.ptree.specs.Data as d
+use Rattle.ptree.specs.Data.{Data, value_text, is_list, item_pairs, entry_pair, entry_pairs, value_pairs, Pair, pair_text, pair_own, pair_below, pair_shape}
+use Rattle.ptree.specs.Shape.{kids}
+use Rattle.ptree.proofs.TreeLemmas.{map_twice}
+use Rattle.ptree.proofs.Unfold.{kids_of_unfold}
+use Rattle.ptree.specs.Value.{data_of, items_meant, entries_meant}
+use Rattle.ptree.specs.declared.value.Value.{Value, Option, Map, the_lemmas}
+
+pub data_of-Some : (b : Box Value Global) → data_of (Option (Some b)) ≡ d.something (data_of b.value)
+data_of-Some b = search (rules, the_lemmas)
+
+pub data_of-Map : (v : Vec (Value × Value) Global) → data_of (Map v) ≡ d.map (entries_meant v.items)
+data_of-Map v = search (rules, the_lemmas)
+
+-- the pairs of the elements
+pub item_pairs-meant : (vs : List Value) → item_pairs (items_meant vs) ≡ map (λ v. ([], data_of v)) vs
+item_pairs-meant [] = refl
+item_pairs-meant (v ∷ vs) = rw (item_pairs-meant vs) refl
+
+-- the pairs of the entries
+pub entry_pairs-meant : (es : List (Value × Value)) → entry_pairs (entries_meant es) ≡ map (λ e. entry_pair (data_of e.0) (data_of e.1)) es
+entry_pairs-meant [] = refl
+entry_pairs-meant (e ∷ es) = rw (entry_pairs-meant es) refl
+
+-- what is below an entry is what is below its value, which only a list or a map has
+pub entry_pair-below : (key value : Data) → value_pairs (entry_pair key value).1 ≡ value_pairs value
+entry_pair-below key (d.boolean b) = refl
+entry_pair-below key (d.u8 n) = refl
+entry_pair-below key (d.u16 n) = refl
+entry_pair-below key (d.u32 n) = refl
+entry_pair-below key (d.u64 n) = refl
+entry_pair-below key (d.i8 z) = refl
+entry_pair-below key (d.i16 z) = refl
+entry_pair-below key (d.i32 z) = refl
+entry_pair-below key (d.i64 z) = refl
+entry_pair-below key (d.character c) = refl
+entry_pair-below key (d.string s) = refl
+entry_pair-below key d.unit = refl
+entry_pair-below key d.nothing = refl
+entry_pair-below key (d.something x) = refl
+entry_pair-below key (d.newtype x) = refl
+entry_pair-below key (d.seq xs) = refl
+entry_pair-below key (d.map es) = refl
+entry_pair-below key (d.bytes bs) = refl
+
+-- a list has no text
+list_text : (value : Data) → is_list value ≡ true → value_text value ≡ []
+list_text (d.seq xs) h = refl
+list_text (d.map es) h = refl
+list_text (d.boolean _) h = absurd (false≢true h)
+list_text (d.u8 _) h = absurd (false≢true h)
+list_text (d.u16 _) h = absurd (false≢true h)
+list_text (d.u32 _) h = absurd (false≢true h)
+list_text (d.u64 _) h = absurd (false≢true h)
+list_text (d.i8 _) h = absurd (false≢true h)
+list_text (d.i16 _) h = absurd (false≢true h)
+list_text (d.i32 _) h = absurd (false≢true h)
+list_text (d.i64 _) h = absurd (false≢true h)
+list_text (d.character _) h = absurd (false≢true h)
+list_text (d.string _) h = absurd (false≢true h)
+list_text d.unit h = absurd (false≢true h)
+list_text d.nothing h = absurd (false≢true h)
+list_text (d.something _) h = absurd (false≢true h)
+list_text (d.newtype _) h = absurd (false≢true h)
+list_text (d.bytes _) h = absurd (false≢true h)
+
+-- the text of a list or a map under its key is the key
+pub entry_pair-list : (key value : Data) → is_list value ≡ true → pair_text (entry_pair key value) ≡ value_text key
+entry_pair-list key value h = rw h (labelled (value_text key) (list_text value h))
+  where
+    labelled : (label : List ℕ) → value_text value ≡ [] → pair_text (label, value) ≡ label
+    labelled [] e = e
+    labelled (c ∷ label) e = refl
+
+-- the text of a simple value with its key
+pub entry_pair-simple : (key value : Data) → is_list value ≡ false → pair_text (entry_pair key value) ≡ value_text key ++ codes " = " ++ value_text value
+entry_pair-simple key value h = rw h refl
+
+pub empty_label : (label : List ℕ) (value : Data) → label ≡ [] → pair_text (label, value) ≡ value_text value
+empty_label label value e = rw e refl
+
+pub some_label : (label : List ℕ) (value : Data) → label ≢ [] → pair_text (label, value) ≡ label
+some_label [] value h = absurd (h refl)
+some_label (c ∷ label) value h = refl
+
+-- the children's shapes, where these are the children
+pub kids_of_pair : {X : Type 0} (f : X → Pair) (p : Pair) (xs : List X) → map f xs ≡ value_pairs p.1 → map (λ x. pair_shape (f x)) xs ≡ kids (pair_shape p)
+kids_of_pair f p xs h = map_twice f pair_shape xs ∙ ap (map pair_shape) h ∙ kids_of_unfold pair_own pair_below p

@@ -1,0 +1,13 @@
+use Rattle.ptree.specs.Document.{document}
+use Rattle.ptree.specs.Drawing.{look_of}
+use Rattle.ptree.specs.declared.print_config.OutputKind.TheVariants.{Stdout}
+use Rattle.ptree.proofs.Documents.{nothing_drawn, no_entries}
+use Rattle.ptree.proofs.value.document.draw_document_with.Goals as goal
+
+pub returns-in_err-value-clause-bytes : goal.returns-in_err-value-clause-bytes
+returns-in_err-value-clause-bytes g c =
+    nothing_drawn _ (document c.args.format c.args.text.now) (look_of c.args.config.now Stdout c.args.terminal) c.args.label.now c.args.config.now.depth _ c.from_residual.result c.from_residual.ensures.1
+
+pub returns-in_err-value-clause-whole : goal.returns-in_err-value-clause-whole
+returns-in_err-value-clause-whole g c =
+    no_entries _ (document c.args.format c.args.text.now) (look_of c.args.config.now Stdout c.args.terminal) c.args.label.now c.args.config.now.depth _

@@ -1,0 +1,13 @@
+use Rattle.std.proofs.Common.{◌+◌, ◌≡◌, ◌<◌, ◌++◌, drop, length, decimal}
+use Rattle.ptree.proofs.value.text.write_digits.Given as goal
+
+-- the digits that are left, and behind them those that stand there
+abbrev pub invariant-loop-left : goal.invariant-loop-left
+invariant-loop-left l = record {
+  digits : decimal l.n ≡ decimal l.left ++ drop (l.start + 1) l.room;
+  start : l.start < 20;
+  room : length l.room ≡ 20;
+}
+
+abbrev pub decreases-loop-left : goal.decreases-loop-left
+decreases-loop-left l = l.left

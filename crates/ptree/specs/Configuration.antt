@@ -1,0 +1,81 @@
+-- What a configuration holds, texts by their bytes.
+use Rattle.std.specs.Prelude.{◌⊎◌, ℕ, Bool, true, List, Option, option_map}
+use Rattle.ptree.specs.declared.print_config.PrintConfig.{PrintConfig}
+use Rattle.ptree.specs.declared.print_config.StyleWhen.{StyleWhen}
+use Rattle.ptree.specs.declared.print_config.StyleWhen.TheVariants.{Tty}
+use Rattle.ptree.specs.declared.style.Color.{Color}
+use Rattle.ptree.specs.declared.style.Style.{Style}
+use Rattle.ptree.specs.Characters.{Characters, characters_of, utf}
+use Rattle.ptree.specs.Config.{default_mark}
+use Rattle.ptree.specs.Equality.{color_value}
+use Rattle.ptree.specs.Pieces.{mark_of}
+use Rattle.ptree.specs.Style.{plain_style}
+
+-- a style, names of colours by their bytes
+pub record StyleValue : Type 0 where
+  pub foreground : Option (Color ⊎ List ℕ)
+  pub background : Option (Color ⊎ List ℕ)
+  pub bold : Bool
+  pub dimmed : Bool
+  pub italic : Bool
+  pub underline : Bool
+  pub blink : Bool
+  pub reverse : Bool
+  pub hidden : Bool
+  pub strikethrough : Bool
+
+-- what a style holds
+abbrev pub style_value : Style → StyleValue
+style_value style = record {
+  foreground = option_map color_value style.foreground;
+  background = option_map color_value style.background;
+  bold = style.bold;
+  dimmed = style.dimmed;
+  italic = style.italic;
+  underline = style.underline;
+  blink = style.blink;
+  reverse = style.reverse;
+  hidden = style.hidden;
+  strikethrough = style.strikethrough;
+}
+
+-- a configuration, texts by their bytes
+pub record Configuration : Type 0 where
+  pub depth : ℕ
+  pub indent : ℕ
+  pub padding : ℕ
+  pub styled : StyleWhen
+  pub characters : Characters
+  pub branch : StyleValue
+  pub leaf : StyleValue
+  pub continued : List ℕ
+
+-- what a configuration holds
+abbrev pub config_value : PrintConfig → Configuration
+config_value config = record {
+  depth = config.depth;
+  indent = config.indent;
+  padding = config.padding;
+  styled = config.styled;
+  characters = characters_of config.characters;
+  branch = style_value config.branch;
+  leaf = style_value config.leaf;
+  continued = mark_of config;
+}
+
+-- no colour and no flag
+abbrev pub plain_value : StyleValue
+plain_value = style_value plain_style
+
+-- the default
+abbrev pub default_configuration : Configuration
+default_configuration = record {
+  depth = 4294967295;
+  indent = 3;
+  padding = 1;
+  styled = Tty;
+  characters = utf;
+  branch = record plain_value { dimmed = true };
+  leaf = plain_value;
+  continued = default_mark;
+}

@@ -1,0 +1,107 @@
+-- Values as plain data, their texts and their children.
+use Rattle.std.specs.Prelude.{ℕ, ℤ, Bool, true, false, if◌then◌else◌, List, [], ◌∷◌, ◌++◌, codes, decimal, encode_utf8}
+use Rattle.std.specs.Fmt.{signed_decimal}
+use Rattle.ptree.specs.declared.style.Style.{Style}
+use Rattle.ptree.specs.Shape.{Shape, unfolded_shape}
+use Rattle.ptree.specs.Style.{painted_text}
+
+-- A value, whatever its place in memory: texts and bytes are lists of bytes, and a character is its code point.
+mutual
+  pub data Data : Type 0 where
+    boolean : Bool → Data
+    u8 : ℕ → Data
+    u16 : ℕ → Data
+    u32 : ℕ → Data
+    u64 : ℕ → Data
+    i8 : ℤ → Data
+    i16 : ℤ → Data
+    i32 : ℤ → Data
+    i64 : ℤ → Data
+    character : ℕ → Data
+    string : List ℕ → Data
+    unit : Data
+    nothing : Data
+    something : Data → Data
+    newtype : Data → Data
+    seq : Items → Data
+    map : Entries → Data
+    bytes : List ℕ → Data
+
+  -- the elements of a list, in order
+  pub data Items : Type 0 where
+    no_items : Items
+    item : Data → Items → Items
+
+  -- the keys and values of a map, in order
+  pub data Entries : Type 0 where
+    no_entries : Entries
+    entry : (key value : Data) → Entries → Entries
+
+-- A value's text. Numbers are decimal; what has no case of its own has the empty text.
+abbrev pub value_text : Data → List ℕ
+value_text (boolean b) = if b then codes "true" else codes "false"
+value_text (u8 n) = decimal n
+value_text (u16 n) = decimal n
+value_text (u32 n) = decimal n
+value_text (u64 n) = decimal n
+value_text (i8 z) = signed_decimal z
+value_text (i16 z) = signed_decimal z
+value_text (i32 z) = signed_decimal z
+value_text (i64 z) = signed_decimal z
+value_text (character c) = encode_utf8 c
+value_text (string s) = s
+value_text (something x) = value_text x
+value_text (newtype x) = value_text x
+value_text _ = []
+
+-- a list or a map
+abbrev pub is_list : Data → Bool
+is_list (seq xs) = true
+is_list (map es) = true
+is_list _ = false
+
+-- a label and a value
+abbrev pub Pair : Type 0
+Pair = List ℕ × Data
+
+-- each element of a list, without a label
+abbrev pub item_pairs : Items → List Pair
+item_pairs no_items = []
+item_pairs (item x xs) = ([], x) ∷ item_pairs xs
+
+-- a list or a map with its key as the label; any other value as the text `key = value`
+abbrev pub entry_pair : Data → Data → Pair
+entry_pair key value =
+    if is_list value then (value_text key, value) else ([], string (value_text key ++ codes " = " ++ value_text value))
+
+-- each entry of a map
+abbrev pub entry_pairs : Entries → List Pair
+entry_pairs no_entries = []
+entry_pairs (entry key value es) = entry_pair key value ∷ entry_pairs es
+
+-- the children of a value, which only a list or a map has
+abbrev pub value_pairs : Data → List Pair
+value_pairs (seq xs) = item_pairs xs
+value_pairs (map es) = entry_pairs es
+value_pairs _ = []
+
+-- a pair's text: the label, and the value's text where the label is empty
+abbrev pub pair_text : Pair → List ℕ
+pair_text ([], value) = value_text value
+pair_text (c ∷ label, value) = c ∷ label
+
+-- a pair's text, painted
+abbrev pub pair_own : Pair → Style → List ℕ
+pair_own p style = painted_text style (pair_text p)
+
+-- the children of a pair's value
+abbrev pub pair_below : Pair → List Pair
+pair_below p = value_pairs p.1
+
+-- a label and a value as an item's meaning
+abbrev pub pair_shape : Pair → Shape
+pair_shape p = unfolded_shape pair_own pair_below p
+
+-- a value as an item's meaning: that of the value under an empty label
+abbrev pub value_shape : Data → Shape
+value_shape value = pair_shape ([], value)

@@ -1,0 +1,45 @@
+-- What documents are, and how a call that draws one ends.
+use Rattle.std.specs.Prelude.{◌≡◌, ◌⊎◌, ℕ, ◌+◌, List, Option, Some, None, option_map, Result, Ok, Err}
+use Rattle.serde_json.specs.Read.{read}
+use Rattle.toml.specs.Data.{table}
+use Rattle.toml.specs.Parse.{parse_document}
+use Rattle.ptree.specs.declared.style.DrawError.TheVariants.{Memory}
+use Rattle.ptree.specs.declared.value.convert.ConvertError.TheVariants as convert
+use Rattle.ptree.specs.declared.value.convert.ConvertError.{ConvertError}
+use Rattle.ptree.specs.declared.value.document.DocError.{DocError}
+use Rattle.ptree.specs.declared.value.document.DocError.TheVariants.{Syntax, Float, Date, Draw}
+use Rattle.ptree.specs.declared.value.document.DocFormat.{DocFormat}
+use Rattle.ptree.specs.declared.value.document.DocFormat.TheVariants.{Toml, Json}
+use Rattle.ptree.specs.Convert.{json_conversion, toml_conversion}
+use Rattle.ptree.specs.Data.{Data}
+use Rattle.ptree.specs.Writing.{told_faults}
+
+-- a conversion's refusal as that of a document
+abbrev pub document_error : ConvertError → DocError
+document_error convert.Float = Float
+document_error convert.Date = Date
+document_error convert.Memory = Draw Memory
+
+-- the value or the refusal of what was read, and `Syntax` where nothing was
+abbrev pub outcome_of : Option (Result Data ConvertError) → Result Data DocError
+outcome_of None = Err Syntax
+outcome_of (Some (Ok v)) = Ok v
+outcome_of (Some (Err e)) = Err (document_error e)
+
+-- what a text is as a document: a value, or why it is refused, by what `serde_json` and `toml` say is read of a text
+abbrev pub document : DocFormat → List ℕ → Result Data DocError
+document Json text = outcome_of (option_map json_conversion (read text))
+document Toml text = outcome_of (option_map (λ ms. toml_conversion (table ms)) (parse_document text))
+
+-- an error tells why the document is refused, or that memory ran out
+abbrev pub IsRefusal : Result Data DocError → DocError → Type 0
+IsRefusal document e = (document ≡ Err e) ⊎ (e ≡ Draw Memory)
+
+-- how many faults of the sink a result tells
+abbrev pub told_document_faults : {A : Type 0} → Result A DocError → ℕ
+told_document_faults (Err (Draw e)) = told_faults {A = Unit {0}} (Err e)
+told_document_faults _ = 0
+
+-- the count of faults rose by one exactly where a fault is told
+abbrev pub HasDocumentCause : {A : Type 0} → ℕ → ℕ → Result A DocError → Type 0
+HasDocumentCause old new result = new ≡ old + told_document_faults result

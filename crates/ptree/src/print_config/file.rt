@@ -1,0 +1,260 @@
+//! The document of a configuration file, in either format.
+ghost use Rattle.std.specs.Prelude.{◌≡◌, option_map, option_copied, is_some, IfOk};
+ghost use Rattle.ptree.specs.Equality.{color_value};
+ghost use Rattle.ptree.specs.File.{get, is_table, as_whole, as_text, as_flag, is_null, whole_node, when_node, as_triple, json_triple, toml_triple, color_numbers, color_node};
+ghost use Rattle.ptree.specs.Lent.{node_view, document_view};
+ghost use Rattle.ptree.specs.Sources.{document, json_document, toml_document};
+ghost use Rattle.serde_json.specs.View.{items_view as json_items};
+ghost use Rattle.toml.specs.View.{items_view as toml_items};
+
+use crate::print_config::words::{Spelling, when_spelled};
+use crate::print_config::{FileSource, StyleWhen};
+use crate::style::Color;
+use std::alloc::{AllocError, Global};
+
+// The document of a file.
+#[derive(Drop)]
+pub(crate) enum Document {
+    Json(serde_json::Value),
+    Toml(toml::Value),
+}
+
+impl Document {
+    // The document of a file, if it has one.
+    pub(crate) fn read(alloc: Global, file: &FileSource) -> Result<Option<Document>, AllocError>
+        ensures { IfOk result (λ read. option_map document_view read ≡ document file.now) }
+    {
+        match file {
+            FileSource::Absent | FileSource::Unreadable => Ok(None),
+            FileSource::Toml(text) => read_toml(alloc, text.as_str()),
+            FileSource::Json(text) => read_json(alloc, text.as_str()),
+        }
+    }
+
+    // Its top.
+    pub(crate) fn top(&self) -> Node<'_>
+        ensures { node_view result ≡ document_view self.now }
+    {
+        match self {
+            Document::Json(value) => Node::Json(value),
+            Document::Toml(value) => Node::Toml(value),
+        }
+    }
+}
+
+// The document of a text in TOML.
+fn read_toml(alloc: Global, text: &str) -> Result<Option<Document>, AllocError>
+    ensures { IfOk result (λ read. option_map document_view read ≡ toml_document text.now) }
+{
+    match toml::table_from_str(alloc, text) {
+        Ok(table) => Ok(Some(Document::Toml(toml::Value::Table(table)))),
+        Err(e) => if e.is_memory() {
+            Err(AllocError)
+        } else {
+            Ok(None)
+        },
+    }
+}
+
+// The document of a text in JSON.
+fn read_json(alloc: Global, text: &str) -> Result<Option<Document>, AllocError>
+    ensures { IfOk result (λ read. option_map document_view read ≡ json_document text.now) }
+{
+    match serde_json::Value::from_str(alloc, text) {
+        Ok(value) => if value.is_object() {
+            Ok(Some(Document::Json(value)))
+        } else {
+            Ok(None)
+        },
+        Err(e) => if e.is_memory() {
+            Err(AllocError)
+        } else {
+            Ok(None)
+        },
+    }
+}
+
+// A value in a document.
+#[derive(Clone, Copy)]
+pub(crate) enum Node<'a> {
+    Json(&'a serde_json::Value),
+    Toml(&'a toml::Value),
+}
+
+impl<'a> Node<'a> {
+    // The value at a key, where this is a table that has it.
+    pub(crate) fn get(self, key: &str) -> Option<Node<'a>>
+        ensures { option_map node_view result ≡ get key.now (node_view self.entry) }
+    {
+        match self {
+            Node::Json(value) => match value.get(key) {
+                Some(found) => Some(Node::Json(found)),
+                None => None,
+            },
+            Node::Toml(value) => match value.get(key) {
+                Some(found) => Some(Node::Toml(found)),
+                None => None,
+            },
+        }
+    }
+
+    // Whether it is a table or an object.
+    pub(crate) fn is_table(self) -> bool
+        ensures { result ≡ is_table (node_view self.entry) }
+    {
+        match self {
+            Node::Json(value) => value.is_object(),
+            Node::Toml(value) => value.is_table(),
+        }
+    }
+
+    // Whether it is null.
+    pub(crate) fn is_null(self) -> bool
+        ensures { result ≡ is_null (node_view self.entry) }
+    {
+        match self {
+            Node::Json(value) => value.is_null(),
+            Node::Toml(_) => false,
+        }
+    }
+
+    // The text that it is.
+    pub(crate) fn text(self) -> Option<&'a str>
+        ensures { option_copied result ≡ as_text (node_view self.entry) }
+    {
+        match self {
+            Node::Json(value) => value.as_str(),
+            Node::Toml(value) => value.as_str(),
+        }
+    }
+
+    // True or false.
+    pub(crate) fn flag(self) -> Option<bool>
+        ensures { result ≡ as_flag (node_view self.entry) }
+    {
+        match self {
+            Node::Json(value) => value.as_bool(),
+            Node::Toml(value) => value.as_bool(),
+        }
+    }
+
+    // The whole number that it is, where that is at most `greatest`.
+    pub(crate) fn whole(self, greatest: u64) -> Option<u64>
+        ensures { result ≡ whole_node greatest (node_view self.entry) }
+    {
+        match self.number() {
+            Some(n) if n <= greatest => Some(n),
+            _ => None,
+        }
+    }
+
+    // The whole number that it is, where that isn't negative.
+    fn number(self) -> Option<u64>
+        ensures { result ≡ as_whole (node_view self.entry) }
+    {
+        match self {
+            Node::Json(value) => value.as_u64(),
+            Node::Toml(value) => match value.as_integer() {
+                Some(n) => if n >= 0 { Some(n as u64) } else { None },
+                None => None,
+            },
+        }
+    }
+
+    // When to style.
+    pub(crate) fn when(self) -> Option<StyleWhen>
+        ensures { result ≡ when_node (node_view self.entry) }
+    {
+        match self.text() {
+            Some(text) => when_spelled(Spelling::Exact, text),
+            None => None,
+        }
+    }
+
+    // The byte that it is.
+    fn byte(self) -> Option<u8>
+        ensures { result ≡ whole_node 255 (node_view self.entry) }
+    {
+        match self.whole(255) {
+            Some(n) => Some(n as u8),
+            None => None,
+        }
+    }
+
+    // The three bytes of a list.
+    fn triple(self) -> Option<(u8, u8, u8)>
+        ensures { result ≡ as_triple (node_view self.entry) }
+    {
+        match self {
+            Node::Json(value) => match value.as_array() {
+                Some(items) => json_triple(items.as_slice()),
+                None => None,
+            },
+            Node::Toml(value) => match value.as_array() {
+                Some(items) => toml_triple(items.as_slice()),
+                None => None,
+            },
+        }
+    }
+
+    // The colour of its numbers.
+    fn color_numbers(self) -> Option<Color>
+        ensures { result ≡ color_numbers (node_view self.entry) }
+    {
+        if let Some(n) = self.byte() {
+            return Some(Color::Fixed(n));
+        }
+        match self.triple() {
+            Some((r, g, b)) => Some(Color::RGB(r, g, b)),
+            None => None,
+        }
+    }
+
+    // Whether it is a colour.
+    pub(crate) fn is_color(self) -> bool
+        ensures { result ≡ is_some (color_node (node_view self.entry)) }
+    {
+        self.text().is_some() || self.byte().is_some() || self.triple().is_some()
+    }
+
+    // The colour that it is: the name of a text, or the colour of numbers.
+    pub(crate) fn color(self, alloc: Global) -> Result<Option<Color>, AllocError>
+        ensures { IfOk result (λ color.
+            option_map color_value color ≡ color_node (node_view self.entry)) }
+    {
+        if let Some(text) = self.text() {
+            return Ok(Some(Color::Named(String::from_str(alloc, text)?)));
+        }
+        Ok(self.color_numbers())
+    }
+}
+
+// A list of exactly three bytes, in JSON.
+fn json_triple(items: &[serde_json::Value]) -> Option<(u8, u8, u8)>
+    ensures { result ≡ json_triple (json_items items.now) }
+{
+    if let [r, g, b] = items {
+        Some((
+            Node::Json(r).byte()?,
+            Node::Json(g).byte()?,
+            Node::Json(b).byte()?,
+        ))
+    } else {
+        None
+    }
+}
+
+// And in TOML.
+fn toml_triple(items: &[toml::Value]) -> Option<(u8, u8, u8)>
+    ensures { result ≡ toml_triple (toml_items items.now) }
+{
+    if let [r, g, b] = items {
+        Some((
+            Node::Toml(r).byte()?,
+            Node::Toml(g).byte()?,
+            Node::Toml(b).byte()?,
+        ))
+    } else {
+        None
+    }
+}

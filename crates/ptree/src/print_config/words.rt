@@ -1,0 +1,134 @@
+//! What the texts of sources say: words, numbers and colours.
+ghost use Rattle.std.specs.Prelude.{◌≡◌, option_map, IfOk};
+ghost use Rattle.std.specs.Str.{str_eq_ignore_ascii_case, all_ascii_digits};
+ghost use Rattle.ptree.specs.Characters.{static_characters, is_spelled, set_spelled};
+ghost use Rattle.ptree.specs.Equality.{color_value};
+ghost use Rattle.ptree.specs.Words.{when_spelled, flag_text, number_text, color_text};
+
+use crate::print_config::{
+    ASCII_CHARS_PLUS, ASCII_CHARS_TICK, StaticIndentChars, StyleWhen, UTF_CHARS, UTF_CHARS_BOLD,
+    UTF_CHARS_DASHED, UTF_CHARS_DOUBLE,
+};
+use crate::style::Color;
+use std::alloc::{AllocError, Global};
+
+// How closely a word has to be spelled.
+#[derive(Clone, Copy)]
+pub(crate) enum Spelling {
+    // As it stands.
+    Exact,
+
+    // In any ASCII case.
+    AnyCase,
+}
+
+impl Spelling {
+    // Whether the text is this word.
+    fn is(self, text: &str, word: &str) -> bool
+        ensures { result ≡ is_spelled self text.now word.now }
+    {
+        match self {
+            Spelling::Exact => text == word,
+            Spelling::AnyCase => is_word(text, word),
+        }
+    }
+}
+
+// The shipped set of a name.
+pub(crate) fn set_spelled(spelling: Spelling, text: &str) -> Option<StaticIndentChars>
+    ensures { option_map static_characters result ≡ set_spelled spelling text.now }
+{
+    if spelling.is(text, "utf") {
+        Some(UTF_CHARS)
+    } else if spelling.is(text, "ascii") || spelling.is(text, "ascii-tick") {
+        Some(ASCII_CHARS_TICK)
+    } else if spelling.is(text, "ascii-plus") {
+        Some(ASCII_CHARS_PLUS)
+    } else if spelling.is(text, "utf-bold") {
+        Some(UTF_CHARS_BOLD)
+    } else if spelling.is(text, "utf-dashed") {
+        Some(UTF_CHARS_DASHED)
+    } else if spelling.is(text, "utf-double") {
+        Some(UTF_CHARS_DOUBLE)
+    } else {
+        None
+    }
+}
+
+// When to style, by its word.
+pub(crate) fn when_spelled(spelling: Spelling, text: &str) -> Option<StyleWhen>
+    ensures { result ≡ when_spelled spelling text.now }
+{
+    if spelling.is(text, "never") {
+        Some(StyleWhen::Never)
+    } else if spelling.is(text, "always") {
+        Some(StyleWhen::Always)
+    } else if spelling.is(text, "tty") {
+        Some(StyleWhen::Tty)
+    } else {
+        None
+    }
+}
+
+// True or false, by a word in any ASCII case.
+pub(crate) fn flag_text(text: &str) -> Option<bool>
+    ensures { result ≡ flag_text text.now }
+{
+    if is_word(text, "1") || is_word(text, "true") || is_word(text, "on") || is_word(text, "yes") {
+        Some(true)
+    } else if is_word(text, "0")
+        || is_word(text, "false")
+        || is_word(text, "off")
+        || is_word(text, "no")
+    {
+        Some(false)
+    } else {
+        None
+    }
+}
+
+// Whether the text is this word, in any ASCII case.
+pub(crate) fn is_word(text: &str, word: &str) -> bool
+    ensures { result ≡ str_eq_ignore_ascii_case text.now word.now }
+{
+    text.eq_ignore_ascii_case(word)
+}
+
+// The number of one or more ASCII digits, where it is at most `greatest`.
+pub(crate) fn number_text(greatest: u64, text: &str) -> Option<u64>
+    ensures { result ≡ number_text greatest text.now }
+{
+    if text.len() == 0 || !is_all_digits(text) {
+        return None;
+    }
+    match text.parse::<u64>() {
+        Ok(n) => if n <= greatest { Some(n) } else { None },
+        Err(_) => None,
+    }
+}
+
+// Whether each byte is an ASCII digit.
+fn is_all_digits(text: &str) -> bool
+    ensures { result ≡ all_ascii_digits text.now }
+{
+    for b in text.as_bytes() {
+        if !b.is_ascii_digit() {
+            return false;
+        }
+    }
+    true
+}
+
+// The colour that a variable says: a number of one to three digits, or else a name.
+pub(crate) fn color_text(alloc: Global, text: &str) -> Result<Color, AllocError>
+    ensures { IfOk result (λ color. color_value color ≡ color_text text.now) }
+{
+    if text.len() <= 3 {
+        if let Some(n) = number_text(255, text) {
+            return Ok(Color::Fixed(n as u8));
+        }
+    }
+    let mut name = String::from_str(alloc, text)?;
+    name.make_ascii_lowercase();
+    Ok(Color::Named(name))
+}

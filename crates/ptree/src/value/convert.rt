@@ -1,0 +1,53 @@
+//! Why a document's value gives no value.
+ghost use Rattle.std.specs.Prelude.{◌≡◌};
+
+use std::alloc::{AllocError, AllocFailed};
+use std::error::Error;
+use std::fmt;
+
+/// Why a value of a document could not be converted.
+///
+/// The whole value is walked first: lists in order, and maps by ascending keys, which are compared by the bytes of their UTF-8.
+#[derive(Debug, Clone, Copy, PartialEq, Eq)]
+pub enum ConvertError {
+    /// A float stands in it, before any date.
+    Float,
+
+    /// A date or a time stands in it, before any float.
+    Date,
+
+    /// Memory ran out.
+    Memory,
+}
+
+impl From<AllocError> for ConvertError {
+    ghost use Rattle.ptree.specs.declared.value.convert.ConvertError.TheVariants.{Memory};
+
+    ghost from_gives = { λ _ e. e ≡ Memory };
+
+    fn from(_e: AllocError) -> ConvertError {
+        ConvertError::Memory
+    }
+}
+
+impl<T: Drop> From<AllocFailed<T>> for ConvertError {
+    ghost use Rattle.ptree.specs.declared.value.convert.ConvertError.TheVariants.{Memory};
+
+    ghost from_gives = { λ _ e. e ≡ Memory };
+
+    fn from(_e: AllocFailed<T>) -> ConvertError {
+        ConvertError::Memory
+    }
+}
+
+impl fmt::Display for ConvertError {
+    fn fmt<W: fmt::Write>(&self, f: &mut fmt::Formatter<W>) -> fmt::Result {
+        match self {
+            ConvertError::Float => write!(f, "a float, which is not drawn"),
+            ConvertError::Date => write!(f, "a date or a time, which is not drawn"),
+            ConvertError::Memory => write!(f, "out of memory"),
+        }
+    }
+}
+
+impl Error for ConvertError {}

@@ -1,0 +1,213 @@
+//! Documents.
+ghost use Rattle.std.specs.Prelude.{◌≡◌, Ok, Err, IfOk, IfErr, IsErrAnd, IsErrOf};
+ghost use Rattle.ptree.specs.Data.{pair_shape};
+ghost use Rattle.ptree.specs.Document.{document, document_error, IsRefusal, HasDocumentCause};
+ghost use Rattle.ptree.specs.Drawing.{look_of};
+ghost use Rattle.ptree.specs.UnderSources.{UnderSources};
+ghost use Rattle.ptree.specs.Value.{data_of};
+ghost use Rattle.ptree.specs.Writing.{IsDrawn, AppendsWholeEntries};
+
+use super::node::Node;
+use super::{ConvertError, Value};
+use crate::output::print_tree_with;
+use crate::print_config::{OutputKind, PrintConfig, Sources};
+use crate::style::{DrawError, Sink};
+use std::alloc::{AllocError, AllocFailed, Global};
+use std::error::Error;
+use std::fmt;
+
+/// What a text is read as.
+#[derive(Debug, Clone, Copy, PartialEq, Eq)]
+pub enum DocFormat {
+    /// TOML, by the crate `toml`.
+    Toml,
+
+    /// JSON, by the crate `serde_json`.
+    Json,
+}
+
+/// Why a document was not drawn whole.
+#[derive(Debug, Drop)]
+pub enum DocError {
+    /// The text is no document of its format.
+    Syntax,
+
+    /// A float stands in the document, before any date.
+    Float,
+
+    /// A date or a time stands in the document, before any float.
+    Date,
+
+    /// Drawing failed, or memory ran out.
+    Draw(DrawError),
+}
+
+impl From<ConvertError> for DocError {
+    ghost from_gives = { λ e told. told ≡ document_error e };
+
+    fn from(e: ConvertError) -> DocError {
+        match e {
+            ConvertError::Float => DocError::Float,
+            ConvertError::Date => DocError::Date,
+            ConvertError::Memory => DocError::Draw(DrawError::Memory),
+        }
+    }
+}
+
+impl From<DrawError> for DocError {
+    ghost use Rattle.ptree.specs.declared.value.document.DocError.TheVariants.{Draw};
+
+    ghost from_gives = { λ e told. told ≡ Draw e };
+
+    fn from(e: DrawError) -> DocError {
+        DocError::Draw(e)
+    }
+}
+
+impl From<AllocError> for DocError {
+    ghost use Rattle.ptree.specs.declared.style.DrawError.TheVariants.{Memory};
+    ghost use Rattle.ptree.specs.declared.value.document.DocError.TheVariants.{Draw};
+
+    ghost from_gives = { λ _ told. told ≡ Draw Memory };
+
+    fn from(_e: AllocError) -> DocError {
+        DocError::Draw(DrawError::Memory)
+    }
+}
+
+impl<T: Drop> From<AllocFailed<T>> for DocError {
+    ghost use Rattle.ptree.specs.declared.style.DrawError.TheVariants.{Memory};
+    ghost use Rattle.ptree.specs.declared.value.document.DocError.TheVariants.{Draw};
+
+    ghost from_gives = { λ _ told. told ≡ Draw Memory };
+
+    fn from(_e: AllocFailed<T>) -> DocError {
+        DocError::Draw(DrawError::Memory)
+    }
+}
+
+impl fmt::Display for DocError {
+    fn fmt<W: fmt::Write>(&self, f: &mut fmt::Formatter<W>) -> fmt::Result {
+        match self {
+            DocError::Syntax => write!(f, "no document of its format"),
+            DocError::Float => write!(f, "{}", ConvertError::Float),
+            DocError::Date => write!(f, "{}", ConvertError::Date),
+            DocError::Draw(e) => write!(f, "{e}"),
+        }
+    }
+}
+
+impl Error for DocError {}
+
+/// Draws a document under a label to standard output, `terminal` saying whether that is a terminal, under the configuration that
+/// sources mean ([`PrintConfig::from_env`]).
+///
+/// It is read and drawn as by [`draw_document_with`].
+///
+/// # Errors
+///
+/// Those of [`draw_document_with`], with the same left in `out`.
+pub fn draw_document<W: Sink>(
+    alloc: Global,
+    format: DocFormat,
+    text: &str,
+    label: &str,
+    sources: &Sources,
+    terminal: bool,
+    out: &mut W,
+) -> Result<(), DocError>
+    ensures syntax { IsErrOf result DocError.Syntax
+        → document format text.now ≡ Err DocError.Syntax }
+    ensures float { IsErrOf result DocError.Float → document format text.now ≡ Err DocError.Float }
+    ensures date { IsErrOf result DocError.Date → document format text.now ≡ Err DocError.Date }
+    ensures refused { IfErr (document format text.now) (λ _.
+        IsErrAnd result (IsRefusal (document format text.now)) × (out.new ≡ out.old)) }
+    // Any other is drawn; where memory ran out, what was appended is whole entries.
+    ensures drawn { IfOk (document format text.now) (λ v.
+        UnderSources (DocError.Draw DrawError.Memory) sources.now (W.contents out.old)
+        (W.contents out.new) result (λ config.
+        IsDrawn (look_of config OutputKind.Stdout terminal) (pair_shape (label.now, v))
+        config.depth (W.contents out.old) (W.contents out.new) result
+        × (IsErrOf result (DocError.Draw DrawError.Memory)
+        → AppendsWholeEntries (look_of config OutputKind.Stdout terminal)
+        (pair_shape (label.now, v)) config.depth (W.contents out.old) (W.contents out.new)))) }
+    ensures cause { HasDocumentCause (W.faults out.old) (W.faults out.new) result }
+{
+    let config = PrintConfig::from_env(alloc, sources)?;
+    draw_document_with(alloc, format, text, label, &config, terminal, out)
+}
+
+/// Draws a document under a label to standard output, `terminal` saying whether that is a terminal.
+///
+/// The drawing is that of the pair of the label and the document's value; where the label is empty, the root's text is that of the
+/// value. The document is copied once, as a [`Value`], and no text is made for an entry.
+///
+/// # Errors
+///
+/// `Syntax`, `Float` and `Date` where the document is refused; then nothing was written. `Draw` where `out` failed, and a beginning of
+/// the drawing was written, and where memory ran out, which leaves whole entries.
+pub fn draw_document_with<W: Sink>(
+    alloc: Global,
+    format: DocFormat,
+    text: &str,
+    label: &str,
+    config: &PrintConfig,
+    terminal: bool,
+    out: &mut W,
+) -> Result<(), DocError>
+    // Each of these names comes only where it is the document's.
+    ensures syntax { IsErrOf result DocError.Syntax
+        → document format text.now ≡ Err DocError.Syntax }
+    ensures float { IsErrOf result DocError.Float → document format text.now ≡ Err DocError.Float }
+    ensures date { IsErrOf result DocError.Date → document format text.now ≡ Err DocError.Date }
+    // A document that is refused ends so, or in out of memory, and leaves the sink alone.
+    ensures refused { IfErr (document format text.now)
+        (λ _. IsErrAnd result (IsRefusal (document format text.now)) × (out.new ≡ out.old)) }
+    // Any other is drawn.
+    ensures bytes { IfOk (document format text.now)
+        (λ v. IsDrawn (look_of config.now OutputKind.Stdout terminal) (pair_shape (label.now, v))
+        config.now.depth (W.contents out.old) (W.contents out.new) result) }
+    // Where memory ran out, what was appended is whole entries.
+    ensures whole { IfOk (document format text.now) (λ v. IsErrOf result (DocError.Draw DrawError.Memory) →
+        AppendsWholeEntries (look_of config.now OutputKind.Stdout terminal)
+        (pair_shape (label.now, v)) config.now.depth (W.contents out.old)
+        (W.contents out.new)) }
+    ensures cause { HasDocumentCause (W.faults out.old) (W.faults out.new) result }
+{
+    let value = read_document(alloc, format, text)?;
+    print_tree_with(alloc, &Node::Labelled(label, &value), out, terminal, config)?;
+    Ok(())
+}
+
+// The value of a document.
+fn read_document(alloc: Global, format: DocFormat, text: &str) -> Result<Value, DocError>
+    ensures value { IfOk result (λ v. document format text.now ≡ Ok (data_of v)) }
+    ensures refused { IfErr result (IsRefusal (document format text.now)) }
+{
+    match format {
+        DocFormat::Toml => read_toml(alloc, text),
+        DocFormat::Json => read_json(alloc, text),
+    }
+}
+
+fn read_json(alloc: Global, text: &str) -> Result<Value, DocError>
+    ensures value { IfOk result (λ v. document DocFormat.Json text.now ≡ Ok (data_of v)) }
+    ensures refused { IfErr result (IsRefusal (document DocFormat.Json text.now)) }
+{
+    match serde_json::Value::from_str(alloc, text) {
+        Ok(v) => Ok(Value::from_json(alloc, &v)?),
+        Err(e) if e.is_memory() => Err(DocError::Draw(DrawError::Memory)),
+        Err(_) => Err(DocError::Syntax),
+    }
+}
+
+fn read_toml(alloc: Global, text: &str) -> Result<Value, DocError>
+    ensures value { IfOk result (λ v. document DocFormat.Toml text.now ≡ Ok (data_of v)) }
+    ensures refused { IfErr result (IsRefusal (document DocFormat.Toml text.now)) }
+{
+    match toml::table_from_str(alloc, text) {
+        Ok(table) => Ok(Value::from_toml(alloc, &toml::Value::Table(table))?),
+        Err(e) if e.is_memory() => Err(DocError::Draw(DrawError::Memory)),
+        Err(_) => Err(DocError::Syntax),
+    }
+}

@@ -1,0 +1,123 @@
+//! Values from JSON.
+ghost use Rattle.serde_json.specs.View.{view, items_view, members_view};
+ghost use Rattle.serde_json.specs.Written.{has_float, items_have_float, members_have_float};
+ghost use Rattle.std.specs.Prelude.{◌≡◌, ◌↔◌, false, Ok, Err, IfOk, IsErrOf};
+ghost use Rattle.ptree.specs.Convert.{json_data, json_items, json_entries, json_conversion};
+ghost use Rattle.ptree.specs.Value.{data_of, items_meant, entries_meant};
+
+use super::{ConvertError, Value};
+use serde_json::Map;
+use std::alloc::{AllocError, Global};
+
+impl Value {
+    /// The value of a JSON value. Null is `Unit`. A number is `U64` where it fits, else `I64`, and else it is a float. An object is a
+    /// `Map` with keys of `String`, ascending.
+    ///
+    /// # Errors
+    ///
+    /// `Float` where a float stands in it, and `Memory`.
+    pub fn from_json(alloc: Global, v: &serde_json::Value) -> Result<Value, ConvertError>
+        ensures value { IfOk result (λ value. json_conversion (view v.now) ≡ Ok (data_of value)) }
+        ensures float { IsErrOf result ConvertError.Float
+            ↔ (json_conversion (view v.now) ≡ Err ConvertError.Float) }
+        ensures date { IsErrOf result ConvertError.Date → ⊥ }
+    {
+        if has_float(v) {
+            return Err(ConvertError::Float);
+        }
+        Ok(value_of(alloc, v)?)
+    }
+}
+
+// Whether a float stands in it. It takes no memory.
+#[cycle(walk)]
+fn has_float(v: &serde_json::Value) -> bool
+    ensures { result ≡ has_float (view v.now) }
+{
+    match v {
+        serde_json::Value::Null => false,
+        serde_json::Value::Bool(_) => false,
+        serde_json::Value::Number(n) => n.is_f64(),
+        serde_json::Value::String(_) => false,
+        serde_json::Value::Array(items) => items_have_float(items),
+        serde_json::Value::Object(members) => members_have_float(members),
+    }
+}
+
+#[cycle(walk)]
+fn items_have_float(items: &Vec<serde_json::Value>) -> bool
+    ensures { result ≡ items_have_float (items_view items.now.items) }
+{
+    for item in items {
+        if has_float(item) {
+            return true;
+        }
+    }
+    false
+}
+
+#[cycle(walk)]
+fn members_have_float(members: &Map<String, serde_json::Value>) -> bool
+    ensures { result ≡ members_have_float (members_view members.now.entries) }
+{
+    for (_, member) in members.iter() {
+        if has_float(member) {
+            return true;
+        }
+    }
+    false
+}
+
+// The value of one without a float.
+#[cycle(convert)]
+fn value_of(alloc: Global, v: &serde_json::Value) -> Result<Value, AllocError>
+    requires { has_float (view v.now) ≡ false }
+    ensures { IfOk result (λ value. data_of value ≡ json_data (view v.now)) }
+{
+    match v {
+        serde_json::Value::Null => Ok(Value::Unit),
+        serde_json::Value::Bool(b) => Ok(Value::Bool(*b)),
+        serde_json::Value::Number(n) => {
+            if let Some(n) = n.as_u64() {
+                return Ok(Value::U64(n));
+            }
+            if let Some(n) = n.as_i64() {
+                return Ok(Value::I64(n));
+            }
+            unreachable!()
+        }
+        serde_json::Value::String(text) => Ok(Value::String(text.clone()?)),
+        serde_json::Value::Array(items) => Ok(Value::Seq(values_of(alloc, items)?)),
+        serde_json::Value::Object(members) => Ok(Value::Map(entries_of(alloc, members)?)),
+    }
+}
+
+#[cycle(convert)]
+fn values_of(alloc: Global, items: &Vec<serde_json::Value>) -> Result<Vec<Value>, AllocError>
+    requires { items_have_float (items_view items.now.items) ≡ false }
+    ensures { IfOk result (λ values.
+        items_meant values.items ≡ json_items (items_view items.now.items)) }
+{
+    let mut values = Vec::with_capacity(alloc, items.len())?;
+    for item in items {
+        values.push(value_of(alloc, item)?)?;
+    }
+    Ok(values)
+}
+
+#[cycle(convert)]
+fn entries_of(
+    alloc: Global,
+    members: &Map<String, serde_json::Value>,
+) -> Result<Vec<(Value, Value)>, AllocError>
+    requires { members_have_float (members_view members.now.entries) ≡ false }
+    ensures { IfOk result (λ entries.
+        entries_meant entries.items ≡ json_entries (members_view members.now.entries)) }
+{
+    let mut entries = Vec::with_capacity(alloc, members.len())?;
+    for (key, member) in members.iter() {
+        let key = Value::String(key.clone()?);
+        entries.push((key, value_of(alloc, member)?))?;
+    }
+    Ok(entries)
+}

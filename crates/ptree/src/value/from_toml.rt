@@ -1,0 +1,114 @@
+//! Values from TOML.
+ghost use Rattle.toml.specs.View.{view, items_view, members_view};
+ghost use Rattle.std.specs.Prelude.{◌≡◌, ◌↔◌, None, Ok, Err, IfOk, IsErrOf};
+ghost use Rattle.ptree.specs.Convert.{toml_fault, toml_item_fault, toml_member_fault, toml_data, toml_items, toml_entries, toml_conversion};
+ghost use Rattle.ptree.specs.Value.{data_of, items_meant, entries_meant};
+
+use super::{ConvertError, Value};
+use std::alloc::{AllocError, Global};
+use toml::Table;
+
+impl Value {
+    /// The value of a TOML value. A whole number is `I64`. A table is a `Map` with keys of `String`, ascending.
+    ///
+    /// # Errors
+    ///
+    /// `Float` where a float stands in it before any date, `Date` where a date or a time stands in it before any float, and
+    /// `Memory`.
+    pub fn from_toml(alloc: Global, v: &toml::Value) -> Result<Value, ConvertError>
+        ensures value { IfOk result (λ value. toml_conversion (view v.now) ≡ Ok (data_of value)) }
+        ensures float { IsErrOf result ConvertError.Float
+            ↔ (toml_conversion (view v.now) ≡ Err ConvertError.Float) }
+        ensures date { IsErrOf result ConvertError.Date
+            ↔ (toml_conversion (view v.now) ≡ Err ConvertError.Date) }
+    {
+        if let Some(fault) = fault_of(v) {
+            return Err(fault);
+        }
+        Ok(value_of(alloc, v)?)
+    }
+}
+
+// The first float or date. It takes no memory.
+#[cycle(walk)]
+fn fault_of(v: &toml::Value) -> Option<ConvertError>
+    ensures { result ≡ toml_fault (view v.now) }
+{
+    match v {
+        toml::Value::String(_) => None,
+        toml::Value::Integer(_) => None,
+        toml::Value::Float(_) => Some(ConvertError::Float),
+        toml::Value::Boolean(_) => None,
+        toml::Value::Datetime(_) => Some(ConvertError::Date),
+        toml::Value::Array(items) => fault_of_items(items),
+        toml::Value::Table(members) => fault_of_members(members),
+    }
+}
+
+#[cycle(walk)]
+fn fault_of_items(items: &Vec<toml::Value>) -> Option<ConvertError>
+    ensures { result ≡ toml_item_fault (items_view items.now.items) }
+{
+    for item in items {
+        if let Some(fault) = fault_of(item) {
+            return Some(fault);
+        }
+    }
+    None
+}
+
+#[cycle(walk)]
+fn fault_of_members(members: &Table) -> Option<ConvertError>
+    ensures { result ≡ toml_member_fault (members_view members.now.entries) }
+{
+    for (_, member) in members.iter() {
+        if let Some(fault) = fault_of(member) {
+            return Some(fault);
+        }
+    }
+    None
+}
+
+// The value of one without a float or a date.
+#[cycle(convert)]
+fn value_of(alloc: Global, v: &toml::Value) -> Result<Value, AllocError>
+    requires { toml_fault (view v.now) ≡ None }
+    ensures { IfOk result (λ value. data_of value ≡ toml_data (view v.now)) }
+{
+    match v {
+        toml::Value::String(text) => Ok(Value::String(text.clone()?)),
+        toml::Value::Integer(n) => Ok(Value::I64(*n)),
+        toml::Value::Float(_) => unreachable!(),
+        toml::Value::Boolean(b) => Ok(Value::Bool(*b)),
+        toml::Value::Datetime(_) => unreachable!(),
+        toml::Value::Array(items) => Ok(Value::Seq(values_of(alloc, items)?)),
+        toml::Value::Table(members) => Ok(Value::Map(entries_of(alloc, members)?)),
+    }
+}
+
+#[cycle(convert)]
+fn values_of(alloc: Global, items: &Vec<toml::Value>) -> Result<Vec<Value>, AllocError>
+    requires { toml_item_fault (items_view items.now.items) ≡ None }
+    ensures { IfOk result (λ values.
+        items_meant values.items ≡ toml_items (items_view items.now.items)) }
+{
+    let mut values = Vec::with_capacity(alloc, items.len())?;
+    for item in items {
+        values.push(value_of(alloc, item)?)?;
+    }
+    Ok(values)
+}
+
+#[cycle(convert)]
+fn entries_of(alloc: Global, members: &Table) -> Result<Vec<(Value, Value)>, AllocError>
+    requires { toml_member_fault (members_view members.now.entries) ≡ None }
+    ensures { IfOk result (λ entries.
+        entries_meant entries.items ≡ toml_entries (members_view members.now.entries)) }
+{
+    let mut entries = Vec::with_capacity(alloc, members.len())?;
+    for (key, member) in members.iter() {
+        let key = Value::String(key.clone()?);
+        entries.push((key, value_of(alloc, member)?))?;
+    }
+    Ok(entries)
+}

@@ -1,0 +1,55 @@
+//! Callers that draw values and documents.
+ghost use Rattle.std.specs.Prelude.{◌≡◌, false, Ok, Err, IfOk, IsTrue};
+ghost use Rattle.ptree.specs.Data.{Data, pair_shape, value_shape};
+ghost use Rattle.ptree.specs.Document.{document};
+ghost use Rattle.ptree.specs.Drawing.{look_of, written_look, IsDrawing};
+ghost use Rattle.ptree.specs.Value.{data_of};
+
+use crate::drawing::drawing_of;
+use ptree::print_config::{OutputKind, PrintConfig};
+use ptree::style::{Counted, DrawError, Sink};
+use ptree::value::{DocError, DocFormat, Value, draw_document_with};
+use std::alloc::Global;
+
+/// The drawing of a document, in memory. Where there is one, the document has a value, and the drawing is that of the label and it.
+pub fn drawing_of_document(
+    alloc: Global,
+    format: DocFormat,
+    text: &str,
+    label: &str,
+    config: &PrintConfig,
+) -> Result<Vec<u8>, DocError>
+    ensures { IfOk result (λ drawn. (v : Data) × (document format text.now ≡ Ok v)
+        × IsDrawing (look_of config.now OutputKind.Stdout false) (pair_shape (label.now, v)) config.now.depth drawn.items) }
+{
+    let mut out = Counted::new(Vec::new(alloc));
+    draw_document_with(alloc, format, text, label, config, false, &mut out)?;
+    Ok(out.into_inner())
+}
+
+/// Draws a document, or says that it is none that can be drawn, and then it has written nothing.
+pub fn is_bad_document<W: Sink>(
+    alloc: Global,
+    text: &str,
+    config: &PrintConfig,
+    out: &mut W,
+) -> bool
+    ensures { IsTrue result → (e : DocError) × (document DocFormat.Json text.now ≡ Err e) × (out.new ≡ out.old) }
+{
+    match draw_document_with(alloc, DocFormat::Json, text, "", config, false, out) {
+        Err(DocError::Syntax | DocError::Float | DocError::Date) => true,
+        Ok(()) | Err(DocError::Draw(_)) => false,
+    }
+}
+
+/// The drawing of a value and that of its copy are the same.
+pub fn drawing_of_copy(
+    alloc: Global,
+    value: &Value,
+    config: &PrintConfig,
+) -> Result<Vec<u8>, DrawError>
+    ensures { IfOk result (λ drawn. IsDrawing (written_look config.now) (value_shape (data_of value.now)) config.now.depth drawn.items) }
+{
+    let copy = value.clone()?;
+    drawing_of(alloc, &copy, config)
+}

@@ -1,0 +1,1015 @@
+//! Configurations of files and variables.
+
+use ptree::TreeBuilder;
+use ptree::graph::{Graph, print_graph};
+use ptree::item::StringItem;
+use ptree::output::{print_tree, print_tree_with, write_tree};
+use ptree::print_config::{
+    ASCII_CHARS_PLUS, ASCII_CHARS_TICK, Fault, Field, FileSource, IndentChars, Part, PrintConfig,
+    Sources, StaticIndentChars, StyleField, StyleWhen, UTF_CHARS, UTF_CHARS_BOLD, UTF_CHARS_DASHED,
+    UTF_CHARS_DOUBLE, first_fault, load,
+};
+use ptree::style::{Color, Counted, DrawError, Style};
+use std::alloc::{AllocError, Global};
+use std::process::Abort;
+use std::str;
+use std::test::Fail;
+
+// A file to load.
+#[derive(Clone, Copy)]
+enum File {
+    Absent,
+    Unreadable,
+    Toml(&'static str),
+    Json(&'static str),
+}
+
+fn sources(alloc: Global, file: File, variables: &[(&str, &str)]) -> Result<Sources, AllocError> {
+    let mut list = Vec::new(alloc);
+    for (name, value) in variables {
+        list.push((
+            String::from_str(alloc, name)?,
+            String::from_str(alloc, value)?,
+        ))?;
+    }
+    Ok(Sources {
+        file: match file {
+            File::Absent => FileSource::Absent,
+            File::Unreadable => FileSource::Unreadable,
+            File::Toml(text) => FileSource::Toml(String::from_str(alloc, text)?),
+            File::Json(text) => FileSource::Json(String::from_str(alloc, text)?),
+        },
+        variables: list,
+    })
+}
+
+// These sources have no fault, and give this configuration.
+fn gives(
+    rt: &impl Abort,
+    alloc: Global,
+    file: File,
+    variables: &[(&str, &str)],
+    name: &str,
+    config: &PrintConfig,
+) -> Result<(), AllocError> {
+    let sources = sources(alloc, file, variables)?;
+    let fault = first_fault(alloc, &sources)?;
+    assert!(rt; fault.is_none(), "a fault in {name}");
+    match load(alloc, &sources)? {
+        Some(loaded) => assert!(rt; loaded == *config, "{name}"),
+        None => assert!(rt; false, "nothing is loaded of {name}"),
+    }
+    assert!(rt;
+        PrintConfig::from_env(alloc, &sources)? == *config,
+        "from_env of {name}"
+    );
+    Ok(())
+}
+
+// The first fault in these sources is this one, and they give the default.
+fn is_faulty(
+    rt: &impl Abort,
+    alloc: Global,
+    file: File,
+    variables: &[(&str, &str)],
+    name: &str,
+    fault: Fault,
+) -> Result<(), AllocError> {
+    let sources = sources(alloc, file, variables)?;
+    assert!(rt;
+        first_fault(alloc, &sources)? == Some(fault),
+        "the fault in {name}"
+    );
+    assert!(rt; load(alloc, &sources)?.is_none(), "{name} is loaded");
+    let default = PrintConfig::default(alloc)?;
+    assert!(rt;
+        PrintConfig::from_env(alloc, &sources)? == default,
+        "from_env of {name}"
+    );
+    Ok(())
+}
+
+fn named(alloc: Global, name: &str) -> Result<Option<Color>, AllocError> {
+    Ok(Some(Color::Named(String::from_str(alloc, name)?)))
+}
+
+// The default with another foreground of leaves.
+fn leaves_in(alloc: Global, color: Option<Color>) -> Result<PrintConfig, AllocError> {
+    let mut config = PrintConfig::default(alloc)?;
+    config.leaf.foreground = color;
+    Ok(config)
+}
+
+// The default with other characters.
+fn drawn_with(alloc: Global, set: StaticIndentChars) -> Result<PrintConfig, AllocError> {
+    let mut config = PrintConfig::default(alloc)?;
+    config.characters = IndentChars::from_static(alloc, set)?;
+    Ok(config)
+}
+
+// The default with another depth.
+fn down_to(alloc: Global, depth: u32) -> Result<PrintConfig, AllocError> {
+    let mut config = PrintConfig::default(alloc)?;
+    config.depth = depth;
+    Ok(config)
+}
+
+// The default with branches that aren't dimmed.
+fn undimmed(alloc: Global) -> Result<PrintConfig, AllocError> {
+    let mut config = PrintConfig::default(alloc)?;
+    config.branch.dimmed = false;
+    Ok(config)
+}
+
+#[test]
+fn the_last_variable_wins_over_the_file(rt: HostRuntime) -> Result<(), Fail> {
+    let alloc = rt.alloc();
+    let mut config = down_to(alloc, 5)?;
+    config.branch = Style::default();
+    config.branch.foreground = named(alloc, "red")?;
+    let file = File::Json("{\"branch\":{\"foreground\":\"red\"}}");
+    gives(
+        &rt,
+        alloc,
+        file,
+        &[("PTREE_DEPTH", "4"), ("ptree_depth", "5")],
+        "branch, depth",
+        &config,
+    )?;
+    gives(
+        &rt,
+        alloc,
+        File::Json("{\"depth\":7}"),
+        &[("Ptree_Depth", "5")],
+        "both",
+        &down_to(alloc, 5)?,
+    )?;
+    gives(
+        &rt,
+        alloc,
+        File::Absent,
+        &[("PTREE_DEPTH", "x"), ("PTREE_DEPTH", "5")],
+        "again",
+        &down_to(alloc, 5)?,
+    )?;
+    let fault = Fault::Variable(Field::Depth);
+    is_faulty(
+        &rt,
+        alloc,
+        File::Absent,
+        &[("PTREE_DEPTH", "4x")],
+        "4x",
+        fault,
+    )?;
+    is_faulty(
+        &rt,
+        alloc,
+        File::Absent,
+        &[("PTREE_DEPTH", "5"), ("PTREE_DEPTH", "x")],
+        "x",
+        fault,
+    )?;
+    Ok(())
+}
+
+#[test]
+fn load_env(rt: HostRuntime) -> Result<(), Fail> {
+    let alloc = rt.alloc();
+    let file = File::Toml("indent = 5\n[leaf]\nforeground = \"green\"\n");
+    let variables = [
+        ("PTREE_LEAF_BACKGROUND", "steelblue"),
+        ("PTREE_LEAF_BOLD", "true"),
+        ("PTREE_DEPTH", "4"),
+    ];
+    let mut config = down_to(alloc, 4)?;
+    config.indent = 5;
+    config.leaf.foreground = named(alloc, "green")?;
+    config.leaf.background = named(alloc, "steelblue")?;
+    config.leaf.bold = true;
+    gives(&rt, alloc, file, &variables, "file and variables", &config)?;
+    Ok(())
+}
+
+#[test]
+fn load_toml_config_file(rt: HostRuntime) -> Result<(), Fail> {
+    let alloc = rt.alloc();
+    let file = File::Toml(
+        "indent = 5\n\n[leaf]\nforeground = \"green\"\nbackground = \"steelblue\"\n",
+    );
+    let mut config = PrintConfig::default(alloc)?;
+    config.indent = 5;
+    config.leaf.foreground = named(alloc, "green")?;
+    config.leaf.background = named(alloc, "steelblue")?;
+    gives(&rt, alloc, file, &[], "the file", &config)?;
+    Ok(())
+}
+
+#[test]
+fn style_from_toml(rt: HostRuntime) -> Result<(), Fail> {
+    let alloc = rt.alloc();
+    let file = File::Toml(
+        "[leaf]\nforeground = \"#102030\"\nbackground = 3\ndimmed = true\nbold = true\n",
+    );
+    let mut config = PrintConfig::default(alloc)?;
+    config.leaf.foreground = named(alloc, "#102030")?;
+    config.leaf.background = Some(Color::Fixed(3));
+    config.leaf.dimmed = true;
+    config.leaf.bold = true;
+    gives(&rt, alloc, file, &[], "the file", &config)?;
+    Ok(())
+}
+
+#[test]
+fn color_from_toml(rt: HostRuntime) -> Result<(), Fail> {
+    let alloc = rt.alloc();
+    let cases = [
+        ("[leaf]\nforeground = \"red\"", "\x1b[31mx\x1b[0m"),
+        ("[leaf]\nforeground = \"green\"", "\x1b[32mx\x1b[0m"),
+        ("[leaf]\nforeground = 10", "\x1b[38;5;10mx\x1b[0m"),
+        ("[leaf]\nforeground = 110", "\x1b[38;5;110mx\x1b[0m"),
+        (
+            "[leaf]\nforeground = [10, 20, 30]",
+            "\x1b[38;2;10;20;30mx\x1b[0m",
+        ),
+        (
+            "[leaf]\nforeground = \"maroon\"",
+            "\x1b[38;2;128;0;0mx\x1b[0m",
+        ),
+        (
+            "[leaf]\nforeground = \"steelblue\"",
+            "\x1b[38;2;70;130;180mx\x1b[0m",
+        ),
+        (
+            "[leaf]\nforeground = \"#4682B4\"",
+            "\x1b[38;2;70;130;180mx\x1b[0m",
+        ),
+    ];
+    for (text, painted) in cases {
+        let sources = sources(alloc, File::Toml(text), &[])?;
+        let config = load(alloc, &sources)?.ok_or("a fault")?;
+        assert_eq!(rt; config.paint_leaf(alloc, "x")?.as_str(), painted, "{text}");
+    }
+    Ok(())
+}
+
+#[test]
+fn characters_by_name_and_by_table(rt: HostRuntime) -> Result<(), Fail> {
+    let alloc = rt.alloc();
+    let cases = [
+        ("characters = \"ascii\"", ASCII_CHARS_TICK),
+        ("characters = \"ascii-tick\"", ASCII_CHARS_TICK),
+        ("characters = \"ascii-plus\"", ASCII_CHARS_PLUS),
+        ("characters = \"utf\"", UTF_CHARS),
+        ("characters = \"utf-double\"", UTF_CHARS_DOUBLE),
+        ("characters = \"utf-bold\"", UTF_CHARS_BOLD),
+        ("characters = \"utf-dashed\"", UTF_CHARS_DASHED),
+        (
+            "[characters]\ndown_and_right = \"|\"\ndown = \"|\"\nturn_right = \"`\"\nright = \"-\"\nempty = \" \"\n",
+            ASCII_CHARS_TICK,
+        ),
+        ("[characters]\n", UTF_CHARS),
+    ];
+    for (text, set) in cases {
+        gives(
+            &rt,
+            alloc,
+            File::Toml(text),
+            &[],
+            text,
+            &drawn_with(alloc, set)?,
+        )?;
+    }
+    Ok(())
+}
+
+#[test]
+fn single_characters_stand_over_a_set(rt: HostRuntime) -> Result<(), Fail> {
+    let alloc = rt.alloc();
+    let bold = File::Toml("characters = \"utf-bold\"");
+    let table = File::Json("{\"characters\":{\"right\":\"~\",\"down\":\"!\",\"x\":1}}");
+    let mut config = drawn_with(alloc, ASCII_CHARS_TICK)?;
+    config.characters.right = String::from_str(alloc, "=")?;
+    let variables = [
+        ("PTREE_CHARACTERS", "ASCII"),
+        ("PTREE_CHARACTERS_RIGHT", "="),
+    ];
+    gives(
+        &rt,
+        alloc,
+        bold,
+        &variables,
+        "a set and one character",
+        &config,
+    )?;
+    gives(&rt, alloc, table, &variables, "over a table", &config)?;
+
+    let mut config = PrintConfig::default(alloc)?;
+    config.characters.right = String::from_str(alloc, "=")?;
+    config.characters.down = String::from_str(alloc, "!")?;
+    gives(
+        &rt,
+        alloc,
+        table,
+        &[("PTREE_CHARACTERS_RIGHT", "=")],
+        "over one of a table",
+        &config,
+    )?;
+
+    let mut config = drawn_with(alloc, UTF_CHARS_BOLD)?;
+    config.characters.empty = String::new(alloc);
+    gives(
+        &rt,
+        alloc,
+        bold,
+        &[("ptree_characters_empty", "")],
+        "over a named set",
+        &config,
+    )?;
+    is_faulty(
+        &rt,
+        alloc,
+        File::Json("{\"characters\":{\"turn_right\":1}}"),
+        &[("PTREE_CHARACTERS", "utf")],
+        "a table that a variable overrides",
+        Fault::Key(Field::TurnRight),
+    )?;
+    Ok(())
+}
+
+#[test]
+fn a_file_is_absent_unreadable_or_faulty(rt: HostRuntime) -> Result<(), Fail> {
+    let alloc = rt.alloc();
+    let default = PrintConfig::default(alloc)?;
+    let depth = [("PTREE_DEPTH", "4")];
+    gives(
+        &rt,
+        alloc,
+        File::Absent,
+        &depth,
+        "no file",
+        &down_to(alloc, 4)?,
+    )?;
+    is_faulty(
+        &rt,
+        alloc,
+        File::Unreadable,
+        &depth,
+        "no text",
+        Fault::Unreadable,
+    )?;
+    gives(&rt, alloc, File::Absent, &[], "no sources", &default)?;
+    gives(
+        &rt,
+        alloc,
+        File::Toml(""),
+        &[],
+        "an empty text in TOML",
+        &default,
+    )?;
+    let cases = [
+        File::Json(""),
+        File::Json("[]"),
+        File::Json("1"),
+        File::Json("{\"depth\":1"),
+        File::Toml("[branch]\nforeground = red\n"),
+        File::Toml("depth = 1\ndepth = 1\n"),
+    ];
+    for file in cases {
+        is_faulty(&rt, alloc, file, &depth, "no document", Fault::Syntax)?;
+    }
+    Ok(())
+}
+
+#[test]
+fn branches_are_dimmed_where_nothing_is_said_of_them(rt: HostRuntime) -> Result<(), Fail> {
+    let alloc = rt.alloc();
+    let default = PrintConfig::default(alloc)?;
+    let undimmed = undimmed(alloc)?;
+    let mut reversed = PrintConfig::default(alloc)?;
+    reversed.branch.reverse = true;
+    gives(
+        &rt,
+        alloc,
+        File::Absent,
+        &[("PTREE_BRANCH_BOLD", "off")],
+        "a flag",
+        &undimmed,
+    )?;
+    gives(
+        &rt,
+        alloc,
+        File::Absent,
+        &[("PTREE_BRANCH", "1")],
+        "no field",
+        &default,
+    )?;
+    gives(
+        &rt,
+        alloc,
+        File::Absent,
+        &[("PTREE_BRANCH_X", "1")],
+        "no field of branch",
+        &default,
+    )?;
+    gives(
+        &rt,
+        alloc,
+        File::Absent,
+        &[("PTREE_LEAF_BOLD", "off")],
+        "leaves",
+        &default,
+    )?;
+    gives(
+        &rt,
+        alloc,
+        File::Toml("[branch]\n"),
+        &[],
+        "an empty table",
+        &undimmed,
+    )?;
+    gives(
+        &rt,
+        alloc,
+        File::Toml("[Branch]\n"),
+        &[],
+        "another key",
+        &default,
+    )?;
+    gives(
+        &rt,
+        alloc,
+        File::Toml("[leaf]\n"),
+        &[],
+        "a table of leaves",
+        &default,
+    )?;
+    gives(
+        &rt,
+        alloc,
+        File::Toml("[branch]\ndimmed = true"),
+        &[],
+        "a dimmed table",
+        &default,
+    )?;
+    gives(
+        &rt,
+        alloc,
+        File::Toml("[branch]\ndimmed = true\nreverse = true"),
+        &[],
+        "reversed",
+        &reversed,
+    )?;
+    gives(
+        &rt,
+        alloc,
+        File::Toml("[branch]\ndimmed = false"),
+        &[("PTREE_BRANCH_DIMMED", "on")],
+        "a variable",
+        &default,
+    )?;
+    Ok(())
+}
+
+#[test]
+fn single_variables(rt: HostRuntime) -> Result<(), Fail> {
+    let alloc = rt.alloc();
+    let mut config = PrintConfig::default(alloc)?;
+    config.indent = 7;
+    gives(
+        &rt,
+        alloc,
+        File::Absent,
+        &[("PTREE_INDENT", "007")],
+        "007",
+        &config,
+    )?;
+    let mut config = PrintConfig::default(alloc)?;
+    config.padding = usize::MAX;
+    gives(
+        &rt,
+        alloc,
+        File::Absent,
+        &[("PTREE_PADDING", "18446744073709551615")],
+        "padding",
+        &config,
+    )?;
+    gives(
+        &rt,
+        alloc,
+        File::Absent,
+        &[("PTREE_DEPTH", "4294967295")],
+        "depth",
+        &PrintConfig::default(alloc)?,
+    )?;
+    gives(
+        &rt,
+        alloc,
+        File::Absent,
+        &[("PTREE_CHARACTERS", "UTF")],
+        "UTF",
+        &PrintConfig::default(alloc)?,
+    )?;
+    let cases = [
+        ("PTREE_INDENT", "", Field::Indent),
+        ("PTREE_INDENT", "+1", Field::Indent),
+        ("PTREE_INDENT", " 1", Field::Indent),
+        ("PTREE_INDENT", "1.0", Field::Indent),
+        ("PTREE_PADDING", "18446744073709551616", Field::Padding),
+        ("PTREE_DEPTH", "4294967296", Field::Depth),
+        ("PTREE_STYLED", "", Field::Styled),
+        ("PTREE_STYLED", "yes", Field::Styled),
+        ("PTREE_CHARACTERS", "ascii ", Field::Characters),
+        (
+            "PTREE_LEAF_BOLD",
+            "y",
+            Field::Paint(Part::Leaf, StyleField::Bold),
+        ),
+        (
+            "PTREE_BRANCH_HIDDEN",
+            "2",
+            Field::Paint(Part::Branch, StyleField::Hidden),
+        ),
+    ];
+    for (name, value, field) in cases {
+        is_faulty(
+            &rt,
+            alloc,
+            File::Absent,
+            &[(name, value)],
+            name,
+            Fault::Variable(field),
+        )?;
+    }
+    Ok(())
+}
+
+#[test]
+fn colors_of_variables(rt: HostRuntime) -> Result<(), Fail> {
+    let alloc = rt.alloc();
+    let cases = [
+        ("007", Some(Color::Fixed(7))),
+        ("255", Some(Color::Fixed(255))),
+        ("0007", named(alloc, "0007")?),
+        ("256", named(alloc, "256")?),
+        (" 1", named(alloc, " 1")?),
+        ("Red", named(alloc, "red")?),
+        ("#4682B4", named(alloc, "#4682b4")?),
+        ("", named(alloc, "")?),
+    ];
+    for (value, color) in cases {
+        gives(
+            &rt,
+            alloc,
+            File::Absent,
+            &[("PTREE_LEAF_FOREGROUND", value)],
+            value,
+            &leaves_in(alloc, color)?,
+        )?;
+    }
+    Ok(())
+}
+
+#[test]
+fn words_of_variables(rt: HostRuntime) -> Result<(), Fail> {
+    let alloc = rt.alloc();
+    let cases = [
+        ("1", true),
+        ("TRUE", true),
+        ("On", true),
+        ("yes", true),
+        ("0", false),
+        ("False", false),
+        ("oFF", false),
+        ("no", false),
+    ];
+    for (value, italic) in cases {
+        let mut config = PrintConfig::default(alloc)?;
+        config.leaf.italic = italic;
+        gives(
+            &rt,
+            alloc,
+            File::Absent,
+            &[("PTREE_LEAF_ITALIC", value)],
+            value,
+            &config,
+        )?;
+    }
+    let cases = [
+        ("NEVER", StyleWhen::Never),
+        ("always", StyleWhen::Always),
+        ("tTy", StyleWhen::Tty),
+    ];
+    for (value, styled) in cases {
+        let mut config = PrintConfig::default(alloc)?;
+        config.styled = styled;
+        gives(
+            &rt,
+            alloc,
+            File::Absent,
+            &[("PTREE_STYLED", value)],
+            value,
+            &config,
+        )?;
+    }
+    let mut config = PrintConfig::default(alloc)?;
+    config.continued = String::from_str(alloc, " +\n")?;
+    gives(
+        &rt,
+        alloc,
+        File::Absent,
+        &[("PTREE_CONTINUED", " +\n")],
+        "a mark",
+        &config,
+    )?;
+    Ok(())
+}
+
+#[test]
+fn single_files_in_json(rt: HostRuntime) -> Result<(), Fail> {
+    let alloc = rt.alloc();
+    let default = PrintConfig::default(alloc)?;
+    let cases = [
+        ("{\"depth\":4294967295,\"x\":[]}", &default),
+        ("{\"leaf\":{\"foreground\":null}}", &default),
+        ("{\"leaf\":{\"x\":1,\"Bold\":1}}", &default),
+        ("{\"Depth\":\"x\"}", &default),
+        ("{\"depth\":\"x\",\"depth\":4294967295}", &default),
+        (
+            "{\"indent\":3,\"padding\":1,\"styled\":\"tty\",\"continued\":\": \"}",
+            &default,
+        ),
+    ];
+    for (text, config) in cases {
+        gives(&rt, alloc, File::Json(text), &[], text, config)?;
+    }
+    let cases = [
+        ("{\"depth\":-1}", Field::Depth),
+        ("{\"depth\":4294967296}", Field::Depth),
+        ("{\"depth\":1e2}", Field::Depth),
+        ("{\"depth\":-0}", Field::Depth),
+        ("{\"depth\":null}", Field::Depth),
+        ("{\"depth\":\"4\"}", Field::Depth),
+        ("{\"padding\":true}", Field::Padding),
+        ("{\"indent\":18446744073709551616}", Field::Indent),
+        ("{\"styled\":\"Never\"}", Field::Styled),
+        ("{\"characters\":\"UTF\"}", Field::Characters),
+        ("{\"characters\":[]}", Field::Characters),
+        ("{\"characters\":{\"down\":null}}", Field::Down),
+        ("{\"continued\":1}", Field::Continued),
+        (
+            "{\"leaf\":{\"foreground\":[1,2]}}",
+            Field::Paint(Part::Leaf, StyleField::Foreground),
+        ),
+        (
+            "{\"leaf\":{\"background\":256}}",
+            Field::Paint(Part::Leaf, StyleField::Background),
+        ),
+        (
+            "{\"branch\":{\"background\":[1,2,256]}}",
+            Field::Paint(Part::Branch, StyleField::Background),
+        ),
+        (
+            "{\"branch\":{\"blink\":1}}",
+            Field::Paint(Part::Branch, StyleField::Blink),
+        ),
+    ];
+    for (text, field) in cases {
+        is_faulty(&rt, alloc, File::Json(text), &[], text, Fault::Key(field))?;
+    }
+    is_faulty(
+        &rt,
+        alloc,
+        File::Json("{\"leaf\":null}"),
+        &[],
+        "no leaf",
+        Fault::Table(Part::Leaf),
+    )?;
+    is_faulty(
+        &rt,
+        alloc,
+        File::Json("{\"branch\":[]}"),
+        &[],
+        "a list",
+        Fault::Table(Part::Branch),
+    )?;
+    is_faulty(
+        &rt,
+        alloc,
+        File::Json("{\"depth\":\"4\"}"),
+        &[("PTREE_DEPTH", "4")],
+        "a key that a variable overrides",
+        Fault::Key(Field::Depth),
+    )?;
+    let red = leaves_in(alloc, named(alloc, "Red")?)?;
+    gives(
+        &rt,
+        alloc,
+        File::Json("{\"leaf\":{\"foreground\":\"Red\"}}"),
+        &[],
+        "Red",
+        &red,
+    )?;
+    let seven = leaves_in(alloc, named(alloc, "7")?)?;
+    gives(
+        &rt,
+        alloc,
+        File::Json("{\"leaf\":{\"foreground\":\"7\"}}"),
+        &[],
+        "a text",
+        &seven,
+    )?;
+    let three = leaves_in(alloc, Some(Color::RGB(1, 2, 255)))?;
+    gives(
+        &rt,
+        alloc,
+        File::Json("{\"leaf\":{\"foreground\":[1,2,255]}}"),
+        &[],
+        "three bytes",
+        &three,
+    )?;
+    Ok(())
+}
+
+#[test]
+fn the_first_fault_is_named(rt: HostRuntime) -> Result<(), Fail> {
+    let alloc = rt.alloc();
+    let file = File::Json("{\"depth\":-1,\"leaf\":1}");
+    let bad = [
+        ("PTREE_INDENT", "x"),
+        ("PTREE_DEPTH", "x"),
+        ("PTREE_CONTINUED", "x"),
+    ];
+    is_faulty(&rt, alloc, File::Json("{"), &bad, "a text", Fault::Syntax)?;
+    is_faulty(&rt, alloc, file, &bad, "a table", Fault::Table(Part::Leaf))?;
+    let file = File::Json("{\"depth\":-1,\"leaf\":{\"bold\":1}}");
+    is_faulty(
+        &rt,
+        alloc,
+        file,
+        &bad,
+        "a variable",
+        Fault::Variable(Field::Depth),
+    )?;
+    is_faulty(
+        &rt,
+        alloc,
+        file,
+        &[("PTREE_INDENT", "x")],
+        "a key",
+        Fault::Key(Field::Depth),
+    )?;
+    let file = File::Json("{\"leaf\":{\"bold\":1}}");
+    let bold = Field::Paint(Part::Leaf, StyleField::Bold);
+    is_faulty(&rt, alloc, file, &[], "a key in a table", Fault::Key(bold))?;
+
+    let texts = [
+        (Fault::Unreadable, "the file couldn't be read"),
+        (Fault::Syntax, "the file is no document of its format"),
+        (
+            Fault::Table(Part::Branch),
+            "the file's key branch is no table",
+        ),
+        (
+            Fault::Variable(Field::Depth),
+            "the variable PTREE_DEPTH isn't a whole number up to 4294967295",
+        ),
+        (
+            Fault::Variable(Field::Styled),
+            "the variable PTREE_STYLED isn't never, always or tty",
+        ),
+        (
+            Fault::Key(Field::Characters),
+            "the file's key characters isn't a set of characters",
+        ),
+        (
+            Fault::Key(Field::TurnRight),
+            "the file's key characters.turn_right isn't a text",
+        ),
+        (
+            Fault::Key(bold),
+            "the file's key leaf.bold isn't true or false",
+        ),
+        (
+            Fault::Key(Field::Paint(Part::Branch, StyleField::Foreground)),
+            "the file's key branch.foreground isn't a colour",
+        ),
+    ];
+    for (fault, text) in texts {
+        assert_eq!(rt; format!(in alloc; "{fault}")?.as_str(), text);
+    }
+    Ok(())
+}
+
+// r [a], where a is under r.
+fn small(alloc: Global) -> Result<StringItem, AllocError> {
+    let mut builder = TreeBuilder::new(alloc, String::from_str(alloc, "r")?);
+    builder.add_empty_child(String::from_str(alloc, "a")?)?;
+    builder.build()
+}
+
+// What `write_tree` writes.
+fn written(alloc: Global, tree: &StringItem, sources: &Sources) -> Result<Vec<u8>, DrawError> {
+    let mut out = Counted::new(Vec::new(alloc));
+    write_tree(alloc, tree, &mut out, sources)?;
+    Ok(out.into_inner())
+}
+
+#[test]
+fn drawings_heed_sources(rt: HostRuntime) -> Result<(), Fail> {
+    let alloc = rt.alloc();
+    let tree = small(alloc)?;
+    let two = StringItem {
+        text: String::from_str(alloc, "r\ns")?,
+        children: Vec::new(alloc),
+    };
+    let cases = [
+        (&tree, "", "", "r\n└─ a\n"),
+        (
+            &tree,
+            "PTREE_STYLED",
+            "ALWAYS",
+            "\x1b[2m\x1b[0mr\n\x1b[2m└─ \x1b[0ma\n",
+        ),
+        (&tree, "PTREE_DEPTH", "0", "r\n"),
+        (&tree, "PTREE_CHARACTERS", "ascii-plus", "r\n+- a\n"),
+        (&tree, "PTREE_INDENT", "x", "r\n└─ a\n"),
+        (&two, "PTREE_CONTINUED", "", "r\ns\n"),
+        (&two, "PTREE_CONTINUED", "> ", "r\n> s\n"),
+    ];
+    for (tree, name, value, text) in cases {
+        let sources = sources(alloc, File::Absent, &[(name, value)])?;
+        let bytes = written(alloc, tree, &sources)?;
+        assert_eq!(rt; str::from_utf8(&bytes)?, text, "{name}={value}");
+    }
+    Ok(())
+}
+
+// The examples of the library's text.
+#[test]
+fn a_tree_is_printed(rt: HostRuntime) -> Result<(), Fail> {
+    let alloc = rt.alloc();
+    let none = sources(alloc, File::Absent, &[])?;
+    let mut builder = TreeBuilder::new(alloc, String::from_str(alloc, "tree")?);
+    builder
+        .begin_child(String::from_str(alloc, "branch")?)?
+        .add_empty_child(String::from_str(alloc, "leaf")?)?
+        .end_child();
+    builder.add_empty_child(String::from_str(alloc, "empty branch")?)?;
+    let tree = builder.build()?;
+    let mut out = Counted::new(Vec::new(alloc));
+    print_tree(alloc, &tree, &mut out, false, &none)?;
+    assert_eq!(rt;
+        str::from_utf8(&out.into_inner())?,
+        "tree\n├─ branch\n│  └─ leaf\n└─ empty branch\n"
+    );
+
+    let mut builder = TreeBuilder::new(alloc, String::from_str(alloc, "tree")?);
+    builder.add_empty_child(String::from_str(alloc, "empty branch")?)?;
+    let tree = builder.build()?;
+    assert_eq!(rt;
+        str::from_utf8(&written(alloc, &tree, &none)?)?,
+        "tree\n└─ empty branch\n"
+    );
+
+    let mut config = drawn_with(alloc, UTF_CHARS_BOLD)?;
+    config.indent = 4;
+    config.branch.foreground = Some(Color::Red);
+    config.branch.background = Some(Color::Yellow);
+    config.leaf.bold = true;
+    let mut out = Counted::new(Vec::new(alloc));
+    print_tree_with(alloc, &tree, &mut out, true, &config)?;
+    assert_eq!(rt;
+        str::from_utf8(&out.into_inner())?,
+        "\x1b[2m\x1b[31m\x1b[43m\x1b[0m\x1b[1mtree\x1b[0m\n\x1b[2m\x1b[31m\x1b[43m┗━━ \x1b[0m\x1b[1mempty branch\x1b[0m\n"
+    );
+    Ok(())
+}
+
+#[test]
+fn a_graph_is_printed(rt: HostRuntime) -> Result<(), Fail> {
+    let alloc = rt.alloc();
+    let mut graph = Graph::new(alloc);
+    let x = graph.add_node(String::from_str(alloc, "x")?)?;
+    let y = graph.add_node(String::from_str(alloc, "y")?)?;
+    graph.extend_with_edges(&[(x, y)])?;
+    let cases = [
+        (false, "x\n└─ y\n"),
+        (true, "\x1b[2m\x1b[0mx\n\x1b[2m└─ \x1b[0my\n"),
+    ];
+    for (terminal, text) in cases {
+        let none = sources(alloc, File::Absent, &[])?;
+        let mut out = Counted::new(Vec::new(alloc));
+        print_graph(alloc, &graph, x, &mut out, terminal, &none)?;
+        assert_eq!(rt; str::from_utf8(&out.into_inner())?, text);
+    }
+    Ok(())
+}
+
+// The file with every key, as the documents have it.
+const TOML: &str = "\
+depth = 4
+indent = 4
+padding = 1
+styled = \"always\"
+continued = \"> \"
+
+[characters]
+down_and_right = \"┣\"
+down = \"┃\"
+turn_right = \"┗\"
+right = \"━\"
+empty = \" \"
+
+[branch]
+foreground = \"steelblue\"
+background = 0
+bold = false
+dimmed = true
+italic = false
+underline = false
+blink = false
+reverse = false
+hidden = false
+strikethrough = false
+
+[leaf]
+foreground = [70, 130, 180]
+background = \"#102030\"
+bold = true
+dimmed = false
+italic = true
+underline = true
+blink = true
+reverse = true
+hidden = true
+strikethrough = true
+";
+
+// The same.
+const JSON: &str = "\
+{
+  \"depth\": 4,
+  \"indent\": 4,
+  \"padding\": 1,
+  \"styled\": \"always\",
+  \"continued\": \"> \",
+  \"characters\": {
+    \"down_and_right\": \"┣\",
+    \"down\": \"┃\",
+    \"turn_right\": \"┗\",
+    \"right\": \"━\",
+    \"empty\": \" \"
+  },
+  \"branch\": {
+    \"foreground\": \"steelblue\",
+    \"background\": 0,
+    \"bold\": false,
+    \"dimmed\": true,
+    \"italic\": false,
+    \"underline\": false,
+    \"blink\": false,
+    \"reverse\": false,
+    \"hidden\": false,
+    \"strikethrough\": false
+  },
+  \"leaf\": {
+    \"foreground\": [70, 130, 180],
+    \"background\": \"#102030\",
+    \"bold\": true,
+    \"dimmed\": false,
+    \"italic\": true,
+    \"underline\": true,
+    \"blink\": true,
+    \"reverse\": true,
+    \"hidden\": true,
+    \"strikethrough\": true
+  }
+}
+";
+
+#[test]
+fn a_file_with_every_key(rt: HostRuntime) -> Result<(), Fail> {
+    let alloc = rt.alloc();
+    let mut config = drawn_with(alloc, UTF_CHARS_BOLD)?;
+    config.depth = 4;
+    config.indent = 4;
+    config.styled = StyleWhen::Always;
+    config.continued = String::from_str(alloc, "> ")?;
+    config.branch.foreground = named(alloc, "steelblue")?;
+    config.branch.background = Some(Color::Fixed(0));
+    config.leaf = Style {
+        foreground: Some(Color::RGB(70, 130, 180)),
+        background: named(alloc, "#102030")?,
+        bold: true,
+        dimmed: false,
+        italic: true,
+        underline: true,
+        blink: true,
+        reverse: true,
+        hidden: true,
+        strikethrough: true,
+    };
+    gives(&rt, alloc, File::Toml(TOML), &[], "TOML", &config)?;
+    gives(&rt, alloc, File::Json(JSON), &[], "JSON", &config)?;
+    Ok(())
+}

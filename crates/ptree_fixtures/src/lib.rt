@@ -1,0 +1,8 @@
+//! What several tests of `ptree` use: trees and configurations, what a test expects, writers and readers that fail, and an item that has
+//! no memory for its children.
+#![tactic(auto)]
+
+pub mod barren;
+pub mod expect;
+pub mod failing;
+pub mod trees;
