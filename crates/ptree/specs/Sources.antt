@@ -1,6 +1,5 @@
 -- What a configuration is loaded from: variables, and the document of a file.
 use Rattle.std.specs.Prelude.{ℕ, List, map, reverse, find, if◌then◌else◌, Option, Some, None, option_map, option_and_then, string_bytes, String}
-use Rattle.std.specs.Str.{str_eq_ignore_ascii_case}
 use Rattle.std.specs.declared.alloc.Global.{Global}
 use Rattle.serde_json.specs.Read.{read}
 use Rattle.toml.specs.Data as t
@@ -9,6 +8,9 @@ use Rattle.ptree.specs.declared.print_config.FileSource.{FileSource}
 use Rattle.ptree.specs.declared.print_config.FileSource.TheVariants.{Absent, Unreadable, Toml, Json}
 use Rattle.ptree.specs.declared.print_config.Sources.{Sources}
 use Rattle.ptree.specs.declared.print_config.fields.Field.{Field}
+use Rattle.ptree.specs.declared.print_config.words.Spelling.{Spelling}
+use Rattle.ptree.specs.declared.print_config.words.Spelling.TheVariants.{AnyCase}
+use Rattle.ptree.specs.Characters.{is_spelled}
 use Rattle.ptree.specs.Fields.{variable_name, field_key, table_key}
 use Rattle.ptree.specs.File.{Node, json, toml, get, is_table}
 
@@ -20,9 +22,9 @@ Variables = List (List ℕ × List ℕ)
 abbrev pub variables_of : List (String Global × String Global) → Variables
 variables_of variables = map (λ v. (string_bytes v.0, string_bytes v.1)) variables
 
--- the value of the last variable of a name, in any ASCII case
-unfoldable pub last_value : List ℕ → Variables → Option (List ℕ)
-last_value name variables = option_map (λ v. v.1) (find (λ v. str_eq_ignore_ascii_case v.0 name) (reverse variables))
+-- the value of the last variable of a name
+unfoldable pub last_value : Spelling → List ℕ → Variables → Option (List ℕ)
+last_value spelling name variables = option_map (λ v. v.1) (find (λ v. is_spelled spelling v.0 name) (reverse variables))
 
 -- a document whose top is a table
 abbrev pub table_or_none : Node → Option Node
@@ -54,7 +56,7 @@ given_by sources = record { variables = variables_of sources.variables.items; do
 
 -- the text of a field's variable
 unfoldable pub variable : Given → Field → Option (List ℕ)
-variable given field = last_value (variable_name field) given.variables
+variable given field = last_value AnyCase (variable_name field) given.variables
 
 -- the top of the document, or the table in it that has this key
 unfoldable pub table_at : Given → Option (List ℕ) → Option Node

@@ -19,11 +19,12 @@ mod words;
 
 use crate::style::Style;
 pub use fields::{Field, Part, StyleField};
-pub use loader::{Fault, first_fault, load};
+pub use loader::{Fault, first_fault, last_value, load};
 use std::alloc::{AllocError, AllocFailed, Global};
 use std::error::Error;
 use std::fmt;
-use words::{Spelling, set_spelled};
+pub use words::Spelling;
+use words::set_spelled;
 
 /// When output is styled.
 #[derive(Debug, Clone, Copy, PartialEq, Eq)]

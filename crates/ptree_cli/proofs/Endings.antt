@@ -15,14 +15,13 @@ use Rattle.ptree.specs.Data.{Data, pair_shape}
 use Rattle.ptree.specs.Document as of
 use Rattle.ptree.specs.Document.{IsRefusal, told_document_faults}
 use Rattle.ptree.specs.Drawing.{look_of}
-use Rattle.ptree.specs.Shape.{Shape}
 use Rattle.ptree.specs.Tree.{shape_of_tree}
 use Rattle.ptree.specs.UnderSources.{UnderSources}
-use Rattle.ptree.specs.Writing.{IsDrawn}
+use Rattle.ptree.specs.Writing.{told_faults, IsDrawn}
 use Rattle.ptree_cli.specs.Command.{words, document, words_tree}
 use Rattle.ptree_cli.specs.Input.{ReadsAll}
 use Rattle.ptree_cli.specs.Meant.{drawing_ending, document_ending}
-use Rattle.ptree_cli.specs.Run.{EndsWith}
+use Rattle.ptree_cli.specs.Run.{ending_faults, EndsWith}
 
 -- what stays has nothing appended
 pub stays : (old new : Option (List ℕ)) → new ≡ old → Appends old new []
@@ -35,21 +34,23 @@ pub under_left : {A E : Type 0} (memory : E) (sources : Sources) (old new : Opti
 under_left memory sources old new result P Q (inl h) = inl (h.0, h.1, h.2.0)
 under_left memory sources old new result P Q (inr h) = inr h
 
+-- an end tells the faults that the drawing met
+pub told_ending : {A : Type 0} (result : Result A DrawError) → told_faults result ≡ ending_faults (drawing_ending result)
+told_ending (Ok x) = refl
+told_ending (Err (Write e)) = refl
+told_ending (Err Zero) = refl
+told_ending (Err Memory) = refl
+
 -- the drawing of a tree of words
-pub words_end : {A : Type 0} (sources : Sources) (terminal : Bool) (root : List ℕ) (children : List (List ℕ)) (x : Shape) (result : Result A DrawError) (old new : Option (List ℕ))
-    → x ≡ shape_of_tree (words_tree root children)
-    → UnderSources Memory sources old new result (λ config. IsDrawn (look_of config Stdout terminal) x config.depth old new result)
+pub words_end : {A : Type 0} (sources : Sources) (terminal : Bool) (root : List ℕ) (children : List (List ℕ)) (result : Result A DrawError) (old new : Option (List ℕ))
+    → UnderSources Memory sources old new result (λ config. IsDrawn (look_of config Stdout terminal) (shape_of_tree (words_tree root children)) config.depth old new result)
     → (before after : Option (List ℕ)) → EndsWith sources (Some (record { terminal = terminal; command = words root children })) (drawing_ending result)
     (record { input = before; output = old }) (record { input = after; output = new })
-words_end sources terminal root children x (Ok u) old new e (inl h) before after =
-    ([], refl, h.2.0, (x, e, h.0, h.1, h.2.1), h.2.2)
-words_end sources terminal root children x (Err (Write w)) old new e (inl h) before after =
-    ([], refl, h.2.0, (x, e, h.0, h.1, h.2.1), h.2.2)
-words_end sources terminal root children x (Err Zero) old new e (inl h) before after =
-    ([], refl, h.2.0, (x, e, h.0, h.1, h.2.1), h.2.2)
-words_end sources terminal root children x (Err Memory) old new e (inl h) before after =
-    inr ([], refl, h.2.0, (x, e, h.0, h.1, h.2.1), h.2.2)
-words_end sources terminal root children x result old new e (inr h) before after =
+words_end sources terminal root children (Ok u) old new (inl h) before after = ([], refl, h.2.0, (h.0, h.1, h.2.1), h.2.2)
+words_end sources terminal root children (Err (Write w)) old new (inl h) before after = ([], refl, h.2.0, (h.0, h.1, h.2.1), h.2.2)
+words_end sources terminal root children (Err Zero) old new (inl h) before after = ([], refl, h.2.0, (h.0, h.1, h.2.1), h.2.2)
+words_end sources terminal root children (Err Memory) old new (inl h) before after = inr ([], refl, h.2.0, (h.0, h.1, h.2.1), h.2.2)
+words_end sources terminal root children result old new (inr h) before after =
     subst (λ r. EndsWith sources (Some (record { terminal = terminal; command = words root children })) (drawing_ending r)
     (record { input = before; output = old }) (record { input = after; output = new })) (sym h.0) (inl (stays old new h.1))
 
@@ -64,13 +65,13 @@ pub document_end : {A S : Type 0} (contents : S → Option (List ℕ)) (faults :
     → EndsWith sources (Some (record { terminal = terminal; command = document format label })) (document_ending result)
     (record { input = before; output = contents old }) (record { input = after; output = contents new })
 document_end contents faults sources terminal format label text (Ok u) before after old new reads s f d (Ok v) e refused (inl h) told =
-    (text, reads, h.2.0, (pair_shape (label, v), (v, e, refl), h.0, h.1, h.2.1), h.2.2)
+    (text, reads, h.2.0, (v, e, (h.0, h.1, h.2.1)), h.2.2)
 document_end contents faults sources terminal format label text (Err (Draw (Write w))) before after old new reads s f d (Ok v) e refused (inl h) told =
-    (text, reads, h.2.0, (pair_shape (label, v), (v, e, refl), h.0, h.1, h.2.1), h.2.2)
+    (text, reads, h.2.0, (v, e, (h.0, h.1, h.2.1)), h.2.2)
 document_end contents faults sources terminal format label text (Err (Draw Zero)) before after old new reads s f d (Ok v) e refused (inl h) told =
-    (text, reads, h.2.0, (pair_shape (label, v), (v, e, refl), h.0, h.1, h.2.1), h.2.2)
+    (text, reads, h.2.0, (v, e, (h.0, h.1, h.2.1)), h.2.2)
 document_end contents faults sources terminal format label text (Err (Draw Memory)) before after old new reads s f d (Ok v) e refused (inl h) told =
-    inr (text, reads, h.2.0, (pair_shape (label, v), (v, e, refl), h.0, h.1, h.2.1), h.2.2)
+    inr (text, reads, h.2.0, (v, e, (h.0, h.1, h.2.1)), h.2.2)
 document_end contents faults sources terminal format label text (Err Syntax) before after old new reads s f d (Ok v) e refused drawn told =
     let bad = sym e ∙ s refl in let no : ⊥ = cc bad in absurd no
 document_end contents faults sources terminal format label text (Err Float) before after old new reads s f d (Ok v) e refused drawn told =

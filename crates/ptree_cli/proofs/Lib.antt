@@ -1,3 +1,4 @@
 pub mod Leaves
 pub mod Inputs
 pub mod Endings
+pub mod Redraws

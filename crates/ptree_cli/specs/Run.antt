@@ -1,5 +1,5 @@
 -- How a call ends.
-use Rattle.std.specs.Prelude.{◌≡◌, ◌⊎◌, ⊤, ℕ, ◌+◌, List, [], ◌∷◌, ◌++◌, Option, Some, None, Ok, IsErr, IsUtf8, codes}
+use Rattle.std.specs.Prelude.{◌≡◌, ◌⊎◌, ⊤, ℕ, Bool, ◌+◌, List, [], ◌∷◌, ◌++◌, Option, Some, None, Ok, IsErr, IsUtf8, codes}
 use Rattle.std.specs.Io.KnownBytes.{Appends}
 use Rattle.ptree.specs.declared.print_config.OutputKind.TheVariants.{Stdout}
 use Rattle.ptree.specs.declared.print_config.PrintConfig.{PrintConfig}
@@ -7,15 +7,18 @@ use Rattle.ptree.specs.declared.print_config.Sources.{Sources}
 use Rattle.ptree.specs.Configuration.{config_value}
 use Rattle.ptree.specs.Data.{Data, pair_shape}
 use Rattle.ptree.specs.Document as of
-use Rattle.ptree.specs.Drawing.{look_of, IsDrawing}
+use Rattle.ptree.specs.Drawing.{look_of, written_look, IsDrawing}
+use Rattle.ptree.specs.DrawnForm.{IsDrawnForm}
 use Rattle.ptree.specs.Loading.{meant_by}
+use Rattle.ptree.specs.Readable.{HasReadablePieces}
 use Rattle.ptree.specs.Shape.{Shape}
-use Rattle.ptree.specs.Tree.{shape_of_tree}
+use Rattle.ptree.specs.Tree.{Tree, shape_of_tree}
 use Rattle.ptree.specs.Writing.{AppendsPart}
-use Rattle.ptree_cli.specs.Command.{Command, words, document, words_tree, Request}
+use Rattle.ptree_cli.specs.Command.{Command, words, document, redraw, words_tree, Request}
 use Rattle.ptree_cli.specs.Input.{ReadsAll}
-use Rattle.ptree_cli.specs.declared.run.Ending.{Ending}
-use Rattle.ptree_cli.specs.declared.run.Ending.TheVariants.{Done, Usage, CannotRead, BadDocument, CannotWrite, NoMemory}
+use Rattle.ptree_cli.specs.Redraw.{plus_look, plus_depth, IsDrawnFormOfNone}
+use Rattle.ptree_cli.specs.declared.ending.Ending.{Ending}
+use Rattle.ptree_cli.specs.declared.ending.Ending.TheVariants.{Done, Usage, PiecesNotReadable, CannotRead, BadDocument, NotADrawing, CannotWrite, NoMemory}
 
 -- the exit status
 abbrev pub status_of : Ending → ℕ
@@ -27,8 +30,10 @@ status_of _ = 1
 abbrev pub ending_line : Ending → List ℕ
 ending_line Done = []
 ending_line Usage = codes "usage: ptree_cli [--tty] (words ROOT [CHILD..] | json LABEL | toml LABEL | redraw)" ++ 10 ∷ []
+ending_line PiecesNotReadable = codes "pieces not readable" ++ 10 ∷ []
 ending_line CannotRead = codes "cannot read" ++ 10 ∷ []
 ending_line BadDocument = codes "bad document" ++ 10 ∷ []
+ending_line NotADrawing = codes "not a drawing" ++ 10 ∷ []
 ending_line CannotWrite = codes "cannot write" ++ 10 ∷ []
 ending_line NoMemory = codes "no memory" ++ 10 ∷ []
 
@@ -46,46 +51,65 @@ pub record Streams : Type 0 where
 abbrev pub Reads : Command → Option (List ℕ) → Option (List ℕ) → List ℕ → Type 0
 Reads (words root children) old new text = text ≡ []
 Reads (document format label) old new text = ReadsAll old new text
+Reads redraw old new text = ReadsAll old new text
+
+-- this holds of a configuration that sources mean
+abbrev pub Meant : Sources → (PrintConfig → Type 0) → Type 0
+Meant sources P = (config : PrintConfig) × (config_value config ≡ meant_by sources) × P config
+
+-- the drawing for standard output, under sources
+abbrev pub IsPrinted : Sources → Bool → Shape → List ℕ → Type 0
+IsPrinted sources terminal x bytes = Meant sources (λ config. IsDrawing (look_of config Stdout terminal) x config.depth bytes)
 
 -- what a command draws of the text that it reads
-abbrev pub Draws : Command → List ℕ → Shape → Type 0
-Draws (words root children) text x = x ≡ shape_of_tree (words_tree root children)
-Draws (document format label) text x = (v : Data) × (of.document format text ≡ Ok v) × (x ≡ pair_shape (label, v))
-
--- the drawing that a request asks for, under a configuration that the sources mean
-abbrev pub IsRequested : Sources → Request → List ℕ → List ℕ → Type 0
-IsRequested sources request text bytes =
-    (x : Shape) × Draws request.command text x
-    × (config : PrintConfig) × (config_value config ≡ meant_by sources)
-    × IsDrawing (look_of config Stdout request.terminal) x config.depth bytes
+abbrev pub IsRequested : Sources → Bool → Command → List ℕ → List ℕ → Type 0
+IsRequested sources terminal (words root children) text bytes = IsPrinted sources terminal (shape_of_tree (words_tree root children)) bytes
+IsRequested sources terminal (document format label) text bytes =
+    (v : Data) × (of.document format text ≡ Ok v) × IsPrinted sources terminal (pair_shape (label, v)) bytes
+IsRequested sources terminal redraw text bytes =
+    (t : Tree) × Meant sources (λ config. IsDrawnForm (written_look config) config.depth text t)
+    × IsDrawing plus_look (shape_of_tree t) plus_depth bytes
 
 -- a text was read, and what is asked for of it stands in this relation to standard output
-abbrev pub Answers : Sources → Request → Streams → Streams → (Option (List ℕ) → Option (List ℕ) → List ℕ → Type 0) → Type 0
-Answers sources request old new Grows =
-    (text : List ℕ) × Reads request.command old.input new.input text
-    × (bytes : List ℕ) × IsRequested sources request text bytes × Grows old.output new.output bytes
+abbrev pub DrawsRequest : Sources → Request → Streams → Streams → (Option (List ℕ) → Option (List ℕ) → List ℕ → Type 0) → Type 0
+DrawsRequest sources r old new Grows =
+    (text : List ℕ) × Reads r.command old.input new.input text
+    × (bytes : List ℕ) × IsRequested sources r.terminal r.command text bytes × Grows old.output new.output bytes
 
 -- the command reads its input
 abbrev pub HasInput : Command → Type 0
 HasInput (words root children) = ⊥
 HasInput (document format label) = ⊤
+HasInput redraw = ⊤
 
--- the command refuses this text
-abbrev pub Refuses : Command → List ℕ → Type 0
-Refuses (words root children) text = ⊥
-Refuses (document format label) text = IsErr (of.document format text)
+-- the text is no document of the command's format, or one that isn't drawn
+abbrev pub IsBadDocument : Command → List ℕ → Type 0
+IsBadDocument (words root children) text = ⊥
+IsBadDocument (document format label) text = IsErr (of.document format text)
+IsBadDocument redraw text = ⊥
+
+-- the command reads drawings, and by the configuration that sources mean it can't
+abbrev pub HasNoReadablePieces : Sources → Command → Type 0
+HasNoReadablePieces sources command = (command ≡ redraw) × Meant sources (λ config. HasReadablePieces config → ⊥)
+
+-- the command reads drawings, and the text is none under the configuration that sources mean
+abbrev pub IsNoDrawing : Sources → Command → List ℕ → Type 0
+IsNoDrawing sources command text = (command ≡ redraw) × Meant sources (λ config. IsDrawnFormOfNone (written_look config) config.depth text)
 
 -- The call ended so. What is asked for was appended where all was done, and a beginning of it where standard output failed; nothing where
 -- the words have no known form, or the input isn't there or is refused; and nothing or a beginning where memory ran out.
 abbrev pub EndsWith : Sources → Option Request → Ending → Streams → Streams → Type 0
 EndsWith sources None end old new = (end ≡ Usage) × Appends old.output new.output []
-EndsWith sources (Some r) Done old new = Answers sources r old new Appends
+EndsWith sources (Some r) Done old new = DrawsRequest sources r old new Appends
 EndsWith sources (Some r) Usage old new = ⊥
+EndsWith sources (Some r) PiecesNotReadable old new = HasNoReadablePieces sources r.command × Appends old.output new.output []
 EndsWith sources (Some r) CannotRead old new = HasInput r.command × Appends old.output new.output []
 EndsWith sources (Some r) BadDocument old new =
-    (text : List ℕ) × Reads r.command old.input new.input text × Refuses r.command text × Appends old.output new.output []
-EndsWith sources (Some r) CannotWrite old new = Answers sources r old new AppendsPart
-EndsWith sources (Some r) NoMemory old new = Appends old.output new.output [] ⊎ Answers sources r old new AppendsPart
+    (text : List ℕ) × Reads r.command old.input new.input text × IsBadDocument r.command text × Appends old.output new.output []
+EndsWith sources (Some r) NotADrawing old new =
+    (text : List ℕ) × Reads r.command old.input new.input text × IsNoDrawing sources r.command text × Appends old.output new.output []
+EndsWith sources (Some r) CannotWrite old new = DrawsRequest sources r old new AppendsPart
+EndsWith sources (Some r) NoMemory old new = Appends old.output new.output [] ⊎ DrawsRequest sources r old new AppendsPart
 
 -- the input's count of faults rose by one, or its bytes aren't UTF-8, where it can't be read; else the count stays
 abbrev pub HasReadCause : Ending → Option (List ℕ) → Option (List ℕ) → ℕ → ℕ → Type 0

@@ -1,37 +1,42 @@
 //! Draws trees from the command line.
 #![tactic(auto)]
 
+mod candidates;
 mod command;
+mod ending;
+mod gather;
 mod input;
+mod paths;
+mod redraw;
 mod run;
 #[cfg(test)]
 mod tests;
 
-use ptree::print_config::{FileSource, Sources};
+use candidates::candidates;
+use ending::{CANNOT_WRITE, NO_MEMORY, USAGE};
+use gather::{file_source, variables, words};
+use ptree::print_config::Sources;
 use ptree::style::Counted;
-use run::{CANNOT_WRITE, NO_MEMORY, USAGE, run, tell};
+use run::{run, tell};
 use std::alloc::AllocError;
-use std::env;
 use std::io::{self, BufWriter, ErrorKind, Write};
 use std::process::ExitCode;
 
-// The arguments, without the program's name; an error where one isn't UTF-8 or memory ran out.
-fn words(rt: &HostRuntime) -> io::Result<Vec<String>> {
-    let words = env::args(rt)?.skip(1).collect(rt.alloc())?;
-    Ok(words)
+// The variables, and the file that they lead to.
+fn sources(rt: &HostRuntime) -> Result<Sources, AllocError> {
+    let variables = variables(rt, rt.alloc())?;
+    let candidates = candidates(rt.alloc(), &variables)?;
+    let file = file_source(rt, rt.alloc(), &candidates)?;
+    Ok(Sources { file, variables })
 }
 
 // Runs the words over the standard streams, and returns the exit status.
 fn run_words(rt: &HostRuntime, words: &[String]) -> io::Result<u8> {
-    let alloc = rt.alloc();
-    let sources = Sources {
-        file: FileSource::Absent,
-        variables: Vec::new(alloc),
-    };
+    let sources = sources(rt)?;
     let mut input = Counted::new(rt.stdin());
-    let mut out = Counted::new(BufWriter::new(alloc, io::writer(rt))?);
+    let mut out = Counted::new(BufWriter::new(rt.alloc(), io::writer(rt))?);
     let mut err = Counted::new(rt.stderr());
-    let status = run(alloc, words, &sources, &mut input, &mut out, &mut err);
+    let status = run(rt.alloc(), words, &sources, &mut input, &mut out, &mut err);
     if status == 0 && out.into_inner().flush().is_err() {
         tell(&mut err, CANNOT_WRITE);
         return Ok(1);

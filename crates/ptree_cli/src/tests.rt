@@ -1,5 +1,6 @@
 //! What `run` returns over readers and writers in memory, and over writers that fail.
 
+use crate::candidates::candidates;
 use crate::run::run;
 use ptree::print_config::{FileSource, Sources};
 use ptree::style::{Counted, Feed};
@@ -100,6 +101,7 @@ fn words_are_drawn_or_refused(rt: HostRuntime) -> Result<(), Fail> {
         ([].as_slice(), 2, "", USAGE),
         (["words"].as_slice(), 2, "", USAGE),
         (["json"].as_slice(), 2, "", USAGE),
+        (["redraw", "r"].as_slice(), 2, "", USAGE),
         (["--tty"].as_slice(), 2, "", USAGE),
     ];
     for (words, status, drawn, told) in cases {
@@ -209,14 +211,142 @@ fn an_input_that_fails_is_told(rt: HostRuntime) -> Result<(), Fail> {
     Ok(())
 }
 
+// Sources of these variables alone.
+fn variables(alloc: Global, pairs: &[(&str, &str)]) -> Result<Sources, AllocError> {
+    let mut sources = nothing(alloc);
+    for (name, value) in pairs {
+        sources.variables.push((
+            String::from_str(alloc, name)?,
+            String::from_str(alloc, value)?,
+        ))?;
+    }
+    Ok(sources)
+}
+
+#[test]
+fn drawings_are_drawn_anew_or_refused(rt: HostRuntime) -> Result<(), Fail> {
+    let alloc = rt.alloc();
+    let ascii = [("PTREE_CHARACTERS", "ascii")].as_slice();
+    let narrow = [("PTREE_CHARACTERS", "ascii"), ("PTREE_INDENT", "2")].as_slice();
+    let no_mark = [("PTREE_CONTINUED", "")].as_slice();
+    let bad = [("PTREE_CHARACTERS", "ascii"), ("PTREE_DEPTH", "x")].as_slice();
+    let regular = "r\n├─ a\n│  └─ b\n└─ c\n";
+    let redrawn = "r\n+- a\n|  +- b\n+- c\n";
+    let cases = [
+        ([].as_slice(), regular, 0, redrawn, ""),
+        (ascii, "r\n|- a\n|  `- b\n`- c\n", 0, redrawn, ""),
+        (ascii, regular, 1, "", "not a drawing\n"),
+        (bad, regular, 0, redrawn, ""),
+        (
+            [].as_slice(),
+            "r\n├─ a\n│  : b\n└─ c\n",
+            0,
+            "r\n+- a\n|  : b\n+- c\n",
+            "",
+        ),
+        ([].as_slice(), "x", 1, "", "not a drawing\n"),
+        ([].as_slice(), "", 1, "", "not a drawing\n"),
+        (narrow, "x\n", 1, "", "pieces not readable\n"),
+        (no_mark, "x\n", 1, "", "pieces not readable\n"),
+    ];
+    for (pairs, input, status, drawn, told) in cases {
+        let sources = variables(alloc, pairs)?;
+        let mut input = Counted::new(input.as_bytes());
+        let got = run_over(alloc, &["redraw"], &sources, &mut input)?;
+        assert_eq!(rt; got.status, status);
+        assert_eq!(rt; str::from_utf8(&got.out)?, drawn);
+        assert_eq!(rt; str::from_utf8(&got.err)?, told);
+    }
+    Ok(())
+}
+
+#[test]
+fn pieces_are_tested_before_the_input_is_read(rt: HostRuntime) -> Result<(), Fail> {
+    let alloc = rt.alloc();
+    let sources = variables(alloc, &[("PTREE_CONTINUED", "")])?;
+    let mut input = Counted::new(Halting {
+        bytes: b"",
+        kind: ErrorKind::BrokenPipe,
+    });
+    let got = run_over(alloc, &["redraw"], &sources, &mut input)?;
+    assert_eq!(rt; str::from_utf8(&got.err)?, "pieces not readable\n");
+    let got = run_over(alloc, &["redraw"], &nothing(alloc), &mut input)?;
+    assert_eq!(rt; str::from_utf8(&got.err)?, "cannot read\n");
+    Ok(())
+}
+
+// Whether these variables lead to these paths.
+fn lead_to(
+    alloc: Global,
+    pairs: &[(&str, &str)],
+    named: bool,
+    paths: &[&str],
+) -> Result<bool, AllocError> {
+    let found = candidates(alloc, &variables(alloc, pairs)?.variables)?;
+    Ok(found.named == named && found.paths == owned(alloc, paths)?)
+}
+
+#[test]
+fn the_file_is_looked_for_where_variables_say(rt: HostRuntime) -> Result<(), Fail> {
+    let alloc = rt.alloc();
+    let in_home = ["/h/.config/ptree.toml", "/h/.config/ptree.json"].as_slice();
+    let cases = [
+        ([].as_slice(), false, [].as_slice()),
+        ([("HOME", "/h")].as_slice(), false, in_home),
+        ([("HOME", "")].as_slice(), false, [].as_slice()),
+        ([("Home", "/h")].as_slice(), false, [].as_slice()),
+        ([("HOME", "/g"), ("HOME", "/h")].as_slice(), false, in_home),
+        (
+            [("HOME", "/h"), ("XDG_CONFIG_HOME", "/x")].as_slice(),
+            false,
+            ["/x/ptree.toml", "/x/ptree.json"].as_slice(),
+        ),
+        (
+            [("HOME", "/h"), ("XDG_CONFIG_HOME", "x")].as_slice(),
+            false,
+            in_home,
+        ),
+        (
+            [("HOME", "/h"), ("XDG_CONFIG_HOME", "")].as_slice(),
+            false,
+            in_home,
+        ),
+        (
+            [("HOME", "/h"), ("PTREE_CONFIG", "/a/b")].as_slice(),
+            true,
+            ["/a/b.toml", "/a/b.json"].as_slice(),
+        ),
+        (
+            [("PTREE_CONFIG", "a.json")].as_slice(),
+            true,
+            ["a.json"].as_slice(),
+        ),
+        (
+            [("PTREE_CONFIG", ".toml")].as_slice(),
+            true,
+            [".toml"].as_slice(),
+        ),
+        (
+            [("PTREE_CONFIG", "")].as_slice(),
+            true,
+            [".toml", ".json"].as_slice(),
+        ),
+        (
+            [("PTREE_CONFIG", "a.JSON")].as_slice(),
+            true,
+            ["a.JSON.toml", "a.JSON.json"].as_slice(),
+        ),
+    ];
+    for (pairs, named, paths) in cases {
+        assert!(rt; lead_to(alloc, pairs, named, paths)?);
+    }
+    Ok(())
+}
+
 #[test]
 fn words_are_drawn_under_sources(rt: HostRuntime) -> Result<(), Fail> {
     let alloc = rt.alloc();
-    let mut sources = nothing(alloc);
-    sources.variables.push((
-        String::from_str(alloc, "PTREE_CHARACTERS")?,
-        String::from_str(alloc, "ascii-plus")?,
-    ))?;
+    let sources = variables(alloc, &[("PTREE_CHARACTERS", "ascii-plus")])?;
     let mut input = Counted::new(io::empty());
     let got = run_over(alloc, &["words", "r", "a"], &sources, &mut input)?;
     assert_eq!(rt; got.status, 0);

@@ -13,7 +13,7 @@ ghost use Rattle.ptree.specs.declared.print_config.fields.Field.{Field};
 use crate::print_config::fields::{FIELDS, Field, Kind, Part, STYLE_FIELDS, StyleField};
 use crate::print_config::file::{Document, Node};
 use crate::print_config::words::{
-    Spelling, color_text, flag_text, is_word, number_text, set_spelled, when_spelled,
+    Spelling, color_text, flag_text, number_text, set_spelled, when_spelled,
 };
 use crate::print_config::{
     FileSource, IndentChars, PrintConfig, Sources, StaticIndentChars, StyleWhen, UTF_CHARS,
@@ -169,7 +169,7 @@ impl<'a> Given<'a> {
     fn variable(&self, field: Field) -> Option<&'a str>
         ensures { option_copied result ≡ variable (given_view self.now) field }
     {
-        last_value(field.variable(), self.variables)
+        last_value(Spelling::AnyCase, field.variable(), self.variables)
     }
 
     // The top of the document, or the table in it that has this key.
@@ -428,12 +428,16 @@ impl<'a> LentChars<'a> {
     }
 }
 
-// The value of the last variable of a name, in any ASCII case.
-fn last_value<'a>(name: &str, variables: &'a [(String, String)]) -> Option<&'a str>
-    ensures { option_copied result ≡ last_value name.now (variables_of variables.now) }
+/// The value of the last variable of a name.
+pub fn last_value<'a>(
+    spelling: Spelling,
+    name: &str,
+    variables: &'a [(String, String)],
+) -> Option<&'a str>
+    ensures { option_copied result ≡ last_value spelling name.now (variables_of variables.now) }
 {
     for variable in variables.iter().rev() {
-        if is_word(variable.0.as_str(), name) {
+        if spelling.is(variable.0.as_str(), name) {
             return Some(variable.1.as_str());
         }
     }

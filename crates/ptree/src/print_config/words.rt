@@ -12,19 +12,19 @@ use crate::print_config::{
 use crate::style::Color;
 use std::alloc::{AllocError, Global};
 
-// How closely a word has to be spelled.
-#[derive(Clone, Copy)]
-pub(crate) enum Spelling {
-    // As it stands.
+/// How closely a word or a name has to be spelled.
+#[derive(Debug, Clone, Copy, PartialEq, Eq)]
+pub enum Spelling {
+    /// As it stands.
     Exact,
 
-    // In any ASCII case.
+    /// In any ASCII case.
     AnyCase,
 }
 
 impl Spelling {
     // Whether the text is this word.
-    fn is(self, text: &str, word: &str) -> bool
+    pub(crate) fn is(self, text: &str, word: &str) -> bool
         ensures { result ≡ is_spelled self text.now word.now }
     {
         match self {

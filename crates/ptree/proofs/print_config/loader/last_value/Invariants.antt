@@ -8,4 +8,4 @@ abbrev pub invariant-loop-variable : goal.invariant-loop-variable
 invariant-loop-variable l =
     (goal.iterator-loop-variable).can_next l.variable-iterator
     × (goal.iterator-loop-variable).is_finite l.variable-iterator
-    × (last_value l.name (variables_of l.variables) ≡ last_value l.name (variables_of (iter_rest (rev_source l.variable-iterator))))
+    × (last_value l.spelling l.name (variables_of l.variables) ≡ last_value l.spelling l.name (variables_of (iter_rest (rev_source l.variable-iterator))))
