@@ -2,12 +2,10 @@
 use Rattle.std.specs.Prelude.{◌≡◌, ◌⊎◌, ⊤, ℕ, ◌+◌, List, [], ◌∷◌, ◌++◌, Option, Some, None, Ok, IsErr, IsUtf8, codes}
 use Rattle.std.specs.Io.KnownBytes.{Appends}
 use Rattle.ptree.specs.declared.print_config.OutputKind.TheVariants.{Stdout}
-use Rattle.ptree.specs.declared.print_config.PrintConfig.{PrintConfig}
 use Rattle.ptree.specs.declared.print_config.Sources.{Sources}
-use Rattle.ptree.specs.Configuration.{config_value}
 use Rattle.ptree.specs.Data.{Data, pair_shape}
 use Rattle.ptree.specs.Document as of
-use Rattle.ptree.specs.Drawing.{look_of, IsDrawing}
+use Rattle.ptree.specs.Drawing.{look_by, IsDrawing}
 use Rattle.ptree.specs.Loading.{meant_by}
 use Rattle.ptree.specs.Shape.{Shape}
 use Rattle.ptree.specs.Tree.{shape_of_tree}
@@ -52,12 +50,11 @@ abbrev pub Draws : Command → List ℕ → Shape → Type 0
 Draws (words root children) text x = x ≡ shape_of_tree (words_tree root children)
 Draws (document format label) text x = (v : Data) × (of.document format text ≡ Ok v) × (x ≡ pair_shape (label, v))
 
--- the drawing that a request asks for, under a configuration that the sources mean
+-- the drawing that a request asks for, which what the sources mean gives
 abbrev pub IsRequested : Sources → Request → List ℕ → List ℕ → Type 0
 IsRequested sources request text bytes =
-    (x : Shape) × Draws request.command text x
-    × (config : PrintConfig) × (config_value config ≡ meant_by sources)
-    × IsDrawing (look_of config Stdout request.terminal) x config.depth bytes
+    let meant = meant_by sources in
+    (x : Shape) × Draws request.command text x × IsDrawing (look_by meant Stdout request.terminal) x meant.depth bytes
 
 -- a text was read, and what is asked for of it stands in this relation to standard output
 abbrev pub Answers : Sources → Request → Streams → Streams → (Option (List ℕ) → Option (List ℕ) → List ℕ → Type 0) → Type 0
