@@ -4,9 +4,8 @@ use Rattle.std.specs.Prelude.{All, nat_lt, ◌==◌, if◌then◌else◌, decima
 use Rattle.std.specs.Fmt.{digits, digits_onto, digit_glyph}
 use Rattle.std.specs.List.{join_with_byte}
 use Rattle.std.proofs.lemmas.List.Elements.{All-nil, All-cons, All-append}
-use Rattle.ptree.specs.declared.style.Style.{Style}
 use Rattle.ptree.specs.Codes.{joined_codes}
-use Rattle.ptree.specs.Style.{code, front_codes}
+use Rattle.ptree.specs.Style.{StyleValue, code, front_codes}
 use Rattle.ptree.proofs.CodeLists.{parameters_of}
 
 -- ASCII, and behind the line feed
@@ -58,7 +57,7 @@ codes_are : (pss : List (List ℕ)) → AreCodeBytes (joined_codes (map code pss
 codes_are [] = empty
 codes_are (ps ∷ pss) = both (code ps) _ (code_is ps) (codes_are pss)
 
-pub front_is : (style : Style) → AreCodeBytes (front_codes style)
+pub front_is : (style : StyleValue) → AreCodeBytes (front_codes style)
 front_is style =
     let h = parameters_of style in
     subst (λ cs. AreCodeBytes (joined_codes cs)) (sym h.1) (codes_are h.0)

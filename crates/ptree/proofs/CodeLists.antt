@@ -10,10 +10,8 @@ use Rattle.std.proofs.lemmas.Simd.{map-map}
 use Rattle.ptree.specs.Codes.{joined_codes}
 use Rattle.ptree.specs.declared.colors.Side.{Side}
 use Rattle.ptree.specs.declared.colors.Side.TheVariants.{Foreground, Background}
-use Rattle.ptree.specs.declared.style.Color.{Color}
-use Rattle.ptree.specs.declared.style.Style.{Style}
-use Rattle.ptree.specs.Color.{color_parameters}
-use Rattle.ptree.specs.Style.{code, flags, flag_codes, side_codes, style_codes, front_codes, reset_after, back_codes}
+use Rattle.ptree.specs.Color.{ColorValue, color_parameters}
+use Rattle.ptree.specs.Style.{StyleValue, code, flags, flag_codes, side_codes, style_codes, front_codes, reset_after, back_codes}
 
 flag_codes-append : (xs ys : List (Bool × ℕ)) → joined_codes (flag_codes (xs ++ ys)) ≡ joined_codes (flag_codes xs) ++ joined_codes (flag_codes ys)
 flag_codes-append xs ys =
@@ -48,7 +46,7 @@ flag_set bytes at digit b t small room =
     pieces old d = simp append_assoc
 
 -- what stands before a painted text, piece by piece
-pub front_codes_are : (style : Style) → front_codes style ≡ (joined_codes (flag_codes (flags style)) ++ joined_codes (side_codes style.foreground Foreground)) ++ joined_codes (side_codes style.background Background)
+pub front_codes_are : (style : StyleValue) → front_codes style ≡ (joined_codes (flag_codes (flags style)) ++ joined_codes (side_codes style.foreground Foreground)) ++ joined_codes (side_codes style.background Background)
 unfolding style_codes
 front_codes_are style =
     flat_map-append (λ c. c) (flag_codes (flags style) ++ side_codes style.foreground Foreground) (side_codes style.background Background)
@@ -58,12 +56,12 @@ one_code : (o : Option (List ℕ)) → option_to_list (option_map code o) ≡ ma
 one_code None = refl
 one_code (Some ns) = refl
 
-side_code : (color : Option Color) (side : Side) → side_codes color side ≡ map code (option_to_list (option_and_then (λ c. color_parameters c side) color))
+side_code : (color : Option ColorValue) (side : Side) → side_codes color side ≡ map code (option_to_list (option_and_then (λ c. color_parameters c side) color))
 side_code None side = refl
 side_code (Some color) side = one_code (color_parameters color side)
 
 -- each code of a style is one of some parameters
-pub parameters_of : (style : Style) → (pss : List (List ℕ)) × (style_codes style ≡ map code pss)
+pub parameters_of : (style : StyleValue) → (pss : List (List ℕ)) × (style_codes style ≡ map code pss)
 unfolding style_codes
 parameters_of style =
     let set = filter (λ (flag : Bool × ℕ). flag.0) (flags style) in
@@ -82,7 +80,7 @@ reset_is [] = refl
 reset_is (ps ∷ pss) = refl
 
 -- there is a reset where there is a code
-pub back_codes_are : (style : Style) → reset_after (front_codes style) ≡ back_codes style
+pub back_codes_are : (style : StyleValue) → reset_after (front_codes style) ≡ back_codes style
 back_codes_are style =
     let h = parameters_of style in
     ap (λ cs. reset_after (joined_codes cs)) h.1 ∙ reset_is h.0 ∙ ap reset_after (sym h.1)

@@ -1,43 +1,43 @@
--- Values of documents beside the values that are made of them.
-use Rattle.std.proofs.Common.{◌≡◌, refl, rules, Global, String, List, [], ◌∷◌, map, string_bytes}
-use Rattle.serde_json.specs.View as j
-use Rattle.serde_json.specs.declared.value.Value.{Value as JsonValue}
-use Rattle.toml.specs.View as t
-use Rattle.toml.specs.declared.value.Value.{Value as TomlValue}
-use Rattle.ptree.specs.Convert.{json_data, json_items, json_entries, toml_data, toml_items, toml_entries}
-use Rattle.ptree.specs.Data.{Data, string}
-use Rattle.ptree.specs.Value.{data_of, items_of, entries_of}
-use Rattle.ptree.specs.declared.value.Value.{String as StringValue, the_lemmas}
+-- Values of a document, of either format, beside the values that are made of them.
+use Rattle.std.proofs.Common.{◌≡◌, ◌∙◌, ap, sym, Global, String, List, [], ◌∷◌, ◌++◌, append_assoc, map, string_bytes}
+use Rattle.std.proofs.lemmas.List.{map-append}
+use Rattle.ptree.specs.Data.{Data, Items, no_items, item, Entries, no_entries, entry, string}
+use Rattle.ptree.specs.Value.{data_of, items_of, entries_of, entry_meant}
+use Rattle.ptree.specs.declared.value.Value.{Value}
 
-pub data_of-String : (s : String Global) → data_of (StringValue s) ≡ string (string_bytes s)
-data_of-String s = search (rules, the_lemmas)
+-- a key and its value
+abbrev pub Member : Type 0 → Type 0
+Member V = String Global × V
 
--- a member of an object, and what it becomes
-abbrev pub JsonEntry : Type 0
-JsonEntry = String Global × JsonValue
+-- what it becomes, where values become these data
+abbrev pub member_data : {V : Type 0} → (V → Data) → Member V → Data × Data
+member_data meant m = (string (string_bytes m.0), meant m.1)
 
-abbrev pub json_entry : JsonEntry → Data × Data
-json_entry e = (string (string_bytes e.0), json_data (j.view e.1))
+-- some of all are left, and entries were made of the others
+abbrev pub AreMade : {V : Type 0} → (V → Data) → (all left : List (Member V)) → List (Value × Value) → Type 0
+AreMade meant all left made = (done : List (Member _)) × ((all ≡ done ++ left) × (map entry_meant made ≡ map (member_data meant) done))
 
-pub json_items-view : (vs : List JsonValue) → json_items (j.items_view vs) ≡ items_of (map (λ v. json_data (j.view v)) vs)
-json_items-view [] = refl
-json_items-view (v ∷ vs) = rw (json_items-view vs) refl
+-- one more
+pub made_more : {V : Type 0} (meant : V → Data) (all left rest : List (Member V)) (m : Member V) (made more : List (Value × Value)) (value : Value)
+    → AreMade meant all left made → left ≡ m ∷ rest → data_of value ≡ meant m.1 → map entry_meant more ≡ map entry_meant made ++ (string (string_bytes m.0), data_of value) ∷ []
+    → AreMade meant all rest more
+made_more meant all left rest m made more value h steps is e = (
+  h.0 ++ m ∷ [],
+  (
+    h.1.0 ∙ ap (λ ms. h.0 ++ ms) steps ∙ sym (append_assoc h.0 (m ∷ []) rest),
+    e ∙ ap (λ d. map entry_meant made ++ (string (string_bytes m.0), d) ∷ []) is ∙ ap (λ es. es ++ member_data meant m ∷ []) h.1.1 ∙ sym (map-append (member_data meant) h.0 (m ∷ [])),
+  ),
+)
 
-pub json_entries-view : (es : List JsonEntry) → json_entries (j.members_view es) ≡ entries_of (map json_entry es)
-json_entries-view [] = refl
-json_entries-view (e ∷ es) = rw (json_entries-view es) refl
+-- a list that is gone over value by value
+pub items_made : {V : Type 0} (meant : V → Data) (items : List V → Items) → items [] ≡ no_items → ((v : V) (vs : List V) → items (v ∷ vs) ≡ item (meant v) (items vs))
+    → (vs : List V) → items_of (map meant vs) ≡ items vs
+items_made meant items none more [] = sym none
+items_made meant items none more (v ∷ vs) = ap (item (meant v)) (items_made meant items none more vs) ∙ sym (more v vs)
 
--- a member of a table, and what it becomes
-abbrev pub TomlEntry : Type 0
-TomlEntry = String Global × TomlValue
-
-abbrev pub toml_entry : TomlEntry → Data × Data
-toml_entry e = (string (string_bytes e.0), toml_data (t.view e.1))
-
-pub toml_items-view : (vs : List TomlValue) → toml_items (t.items_view vs) ≡ items_of (map (λ v. toml_data (t.view v)) vs)
-toml_items-view [] = refl
-toml_items-view (v ∷ vs) = rw (toml_items-view vs) refl
-
-pub toml_entries-view : (es : List TomlEntry) → toml_entries (t.members_view es) ≡ entries_of (map toml_entry es)
-toml_entries-view [] = refl
-toml_entries-view (e ∷ es) = rw (toml_entries-view es) refl
+-- and members
+pub entries_made : {V : Type 0} (meant : V → Data) (entries : List (Member V) → Entries) → entries [] ≡ no_entries
+    → ((m : Member V) (ms : List (Member V)) → entries (m ∷ ms) ≡ entry (string (string_bytes m.0)) (meant m.1) (entries ms))
+    → (ms : List (Member V)) → entries_of (map (member_data meant) ms) ≡ entries ms
+entries_made meant entries none more [] = sym none
+entries_made meant entries none more (m ∷ ms) = ap (entry (string (string_bytes m.0)) (meant m.1)) (entries_made meant entries none more ms) ∙ sym (more m ms)

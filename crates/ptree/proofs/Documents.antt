@@ -35,8 +35,3 @@ pub no_entries : {F : Type 0} (P : Type 0) (document : Result Data F) (look : Lo
     → IfOk document (λ v. P → AppendsWholeEntries look (pair_shape (label, v)) depth a a)
 no_entries P (Ok v) look label depth a = λ h. whole_nothing {A = Unit {0}} look (pair_shape (label, v)) depth a (Err Memory) refl
 no_entries P (Err e) look label depth a = tt
-
--- two facts of a value that is there
-pub ok_both : {X Y : Type 0} (o : Result X Y) (P Q : X → Type 0) → IfOk o P → IfOk o Q → IfOk o (λ x. P x × Q x)
-ok_both (Ok x) P Q p q = (p, q)
-ok_both (Err e) P Q p q = tt

@@ -18,7 +18,8 @@ use Rattle.ptree.specs.contracts.style.StylePartialEq.TheImpl as style_impl
 use Rattle.ptree.specs.contracts.print_config.IndentCharsPartialEq.TheImpl as characters_impl
 use Rattle.ptree.specs.contracts.print_config.PrintConfigPartialEq.TheImpl as config_impl
 use Rattle.ptree.specs.Characters.{characters_of}
-use Rattle.ptree.specs.Equality.{color_value, SameStyle, SameConfig}
+use Rattle.ptree.specs.Color.{color_value}
+use Rattle.ptree.specs.Equality.{SameStyle, SameConfig}
 
 both : {P Q : Type 0} (x y : Bool) → IsTrue x ↔ P → IsTrue y ↔ Q → IsTrue (x && y) ↔ (P × Q)
 both x y p q = (λ h. (p.0 (and_parts x y h).0, q.0 (and_parts x y h).1), λ h. and_from x y (p.1 h.0) (q.1 h.1))

@@ -6,17 +6,17 @@ use Rattle.ptree.specs.Drawing.{Look, look_from, with_inserted, IsDrawing}
 use Rattle.std.specs.List.{concat}
 use Rattle.ptree.specs.Entries.{drawn_entries}
 use Rattle.ptree.specs.Pieces.{pieces_from}
-use Rattle.ptree.specs.Style.{plain_style, style_codes, front_codes}
+use Rattle.ptree.specs.Style.{plain_value, style_codes, front_codes}
 use Rattle.ptree.specs.Tree.{none, item, tree, shape_of_tree}
 use Rattle.ptree.proofs.Join.{drawn_is_drawing}
 
 -- the default look, unstyled, the mark being a colon and a space
 abbrev plain_look : Look
-plain_look = look_from plain_style plain_style (pieces_from utf 3 1) (58 ∷ 32 ∷ [])
+plain_look = look_from plain_value plain_value (pieces_from utf 3 1) (58 ∷ 32 ∷ [])
 
 -- the default look, styled, with bold leaves
 abbrev styled_look : Look
-styled_look = look_from (record plain_style { dimmed = true }) (record plain_style { bold = true }) (pieces_from utf 3 1) (58 ∷ 32 ∷ [])
+styled_look = look_from (record plain_value { dimmed = true }) (record plain_value { bold = true }) (pieces_from utf 3 1) (58 ∷ 32 ∷ [])
 
 -- a, line feed, b
 abbrev a_b : List ℕ
@@ -50,11 +50,11 @@ open_end : concat (drawn_entries plain_look 9 (shape_of_tree (tree (114 ∷ []) 
 unfolding style_codes
 open_end = refl
 
-dimmed_front : front_codes (record plain_style { dimmed = true }) ≡ 27 ∷ 91 ∷ 50 ∷ 109 ∷ []
+dimmed_front : front_codes (record plain_value { dimmed = true }) ≡ 27 ∷ 91 ∷ 50 ∷ 109 ∷ []
 unfolding style_codes
 dimmed_front = ap (λ d. (27 ∷ 91 ∷ d ++ 109 ∷ []) ++ []) (decimal_digit 2 (omega arith))
 
-bold_front : front_codes (record plain_style { bold = true }) ≡ 27 ∷ 91 ∷ 49 ∷ 109 ∷ []
+bold_front : front_codes (record plain_value { bold = true }) ≡ 27 ∷ 91 ∷ 49 ∷ 109 ∷ []
 unfolding style_codes
 bold_front = ap (λ d. (27 ∷ 91 ∷ d ++ 109 ∷ []) ++ []) (decimal_digit 1 (omega arith))
 
@@ -68,7 +68,7 @@ styled_root branch leaf =
 styled : concat (drawn_entries styled_look 9 (shape_of_tree (tree (114 ∷ 10 ∷ 115 ∷ []) none)))
     ≡ 27 ∷ 91 ∷ 50 ∷ 109 ∷ 27 ∷ 91 ∷ 48 ∷ 109 ∷ 27 ∷ 91 ∷ 49 ∷ 109 ∷ 114 ∷ 10 ∷ 27 ∷ 91 ∷ 50 ∷ 109 ∷ 58 ∷ 32 ∷ 27 ∷ 91 ∷ 48 ∷ 109 ∷ 115 ∷ 27 ∷ 91 ∷ 48 ∷ 109 ∷ 10 ∷ []
 unfolding style_codes
-styled = ap (λ z. styled_root z (front_codes (record plain_style { bold = true }))) dimmed_front ∙ ap (λ z. styled_root (27 ∷ 91 ∷ 50 ∷ 109 ∷ []) z) bold_front
+styled = ap (λ z. styled_root z (front_codes (record plain_value { bold = true }))) dimmed_front ∙ ap (λ z. styled_root (27 ∷ 91 ∷ 50 ∷ 109 ∷ []) z) bold_front
 
 -- and so by addresses
 by_addresses : IsDrawing plain_look (shape_of_tree (tree (114 ∷ 10 ∷ 115 ∷ []) none)) 9 (114 ∷ 10 ∷ 58 ∷ 32 ∷ 115 ∷ 10 ∷ [])

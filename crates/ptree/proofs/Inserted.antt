@@ -5,9 +5,8 @@ use Rattle.std.proofs.lemmas.Grind.{flat_map-append}
 use Rattle.std.proofs.lemmas.List.{take_more, flat_map_more, get_or_default, get_or-drop}
 use Rattle.std.proofs.lemmas.List.Elements.{All-nil, All-cons, All-head, All-tail}
 use Rattle.ptree.specs.Drawing.{Look, with_inserted, entry_from}
-use Rattle.ptree.specs.declared.style.Style.{Style}
 use Rattle.ptree.specs.Spelled.{has_line_feed}
-use Rattle.ptree.specs.Style.{front_codes, back_codes, painted_text}
+use Rattle.ptree.specs.Style.{StyleValue, front_codes, back_codes, painted_text}
 use Rattle.ptree.specs.Text.{HasNoLineFeed}
 use Rattle.ptree.proofs.Styles.{no_line_feed_front, no_line_feed_back}
 
@@ -69,7 +68,7 @@ feed_back [] b h = no_feed b h
 feed_back (x ∷ a) b h = ap (λ z. cond (eqb x 10) true z) (feed_back a b h)
 
 -- codes hold no line feed
-pub feed_painted : (style : Style) (text : List ℕ) → has_line_feed (painted_text style text) ≡ has_line_feed text
+pub feed_painted : (style : StyleValue) (text : List ℕ) → has_line_feed (painted_text style text) ≡ has_line_feed text
 feed_painted style text =
     feed_back (front_codes style ++ text) (back_codes style) (no_line_feed_back style) ∙ feed_front (front_codes style) text (no_line_feed_front style)
 

@@ -4,9 +4,10 @@ use Rattle.std.specs.Prelude.{codes}
 use Rattle.serde_json.proofs.OnLiterals.{serde_json_on_literals}
 use Rattle.toml.proofs.OnLiterals.{toml_on_literals}
 use Rattle.ptree.specs.Characters.{ascii_tick}
-use Rattle.ptree.specs.Configuration.{Configuration, plain_value, default_configuration}
+use Rattle.ptree.specs.Configuration.{Configuration, default_configuration}
 use Rattle.ptree.specs.File.{Node}
 use Rattle.ptree.specs.Loading.{characters, style_of, configuration, fault_in}
+use Rattle.ptree.specs.Style.{plain_value}
 use Rattle.ptree.specs.Sources.{Variables, Given, toml_document, json_document, last_value, variable, table_at, node}
 use Rattle.ptree.specs.declared.print_config.fields.Field.TheVariants.{Depth}
 use Rattle.ptree.specs.declared.print_config.loader.Fault.TheVariants as fault

@@ -5,27 +5,26 @@ use Rattle.std.proofs.lemmas.List.{append-nil}
 use Rattle.std.proofs.lemmas.List.Elements.{All-nil, All-cons, All-weaker}
 use Rattle.std.proofs.lemmas.Str.{IsUtf8-from_ascii}
 use Rattle.std.proofs.lemmas.Str.Ascii.{IsAscii-from_all}
-use Rattle.ptree.specs.declared.style.Style.{Style}
 use Rattle.ptree.specs.Text.{HasNoLineFeed}
-use Rattle.ptree.specs.declared.style.Color.{Color}
+use Rattle.ptree.specs.Color.{ColorValue}
 use Rattle.ptree.specs.declared.colors.Side.{Side}
 use Rattle.ptree.specs.declared.colors.Side.TheVariants.{Foreground, Background}
-use Rattle.ptree.specs.Style.{plain_style, code, flags, flag_codes, side_codes, SetsNone, IsPlain, style_codes, reset_after, front_codes, back_codes, painted_text}
+use Rattle.ptree.specs.Style.{StyleValue, plain_value, code, flags, flag_codes, side_codes, SetsNone, IsPlain, style_codes, reset_after, front_codes, back_codes, painted_text}
 use Rattle.ptree.proofs.CodeBytes.{IsCodeByte, front_is}
 
 -- the plain style has no code
-pub plain_codes : style_codes plain_style ≡ []
+pub plain_codes : style_codes plain_value ≡ []
 unfolding style_codes
 plain_codes = refl
 
 -- a style that has no code paints a text as itself
-pub painted_plain : (style : Style) (text : List ℕ) → style_codes style ≡ [] → painted_text style text ≡ text
+pub painted_plain : (style : StyleValue) (text : List ℕ) → style_codes style ≡ [] → painted_text style text ≡ text
 painted_plain style text h =
     ap (λ codes. flat_map (λ code. code) codes ++ text ++ reset_after codes) h ∙ append-nil text
 
 -- as the plain style does
-pub painted_plain_style : (text : List ℕ) → painted_text plain_style text ≡ text
-painted_plain_style text = painted_plain plain_style text plain_codes
+pub painted_plain_style : (text : List ℕ) → painted_text plain_value text ≡ text
+painted_plain_style text = painted_plain plain_value text plain_codes
 
 -- no flag is set
 abbrev AreUnset : List (Bool × ℕ) → Type 0
@@ -38,12 +37,12 @@ none_set [] h = refl
 none_set (f ∷ fs) h = ap (λ b. flag_codes ((b, f.1) ∷ fs)) h.0 ∙ none_set fs h.1
 
 -- nor has a colour that sets none
-sets_none : (color : Option Color) (side : Side) → SetsNone color side → side_codes color side ≡ []
+sets_none : (color : Option ColorValue) (side : Side) → SetsNone color side → side_codes color side ≡ []
 sets_none None side h = refl
 sets_none (Some c) side h = ap (λ o. option_to_list (option_map code o)) h
 
 -- nor a style without any
-pub no_codes : (style : Style) → IsPlain style → style_codes style ≡ []
+pub no_codes : (style : StyleValue) → IsPlain style → style_codes style ≡ []
 unfolding style_codes
 no_codes style h =
     ap (λ cs. cs ++ side_codes style.foreground Foreground ++ side_codes style.background Background)
@@ -56,14 +55,14 @@ no_line_feed_reset (code ∷ codes) =
     All-cons (λ b. b ≢ 10) 27 (91 ∷ 48 ∷ 109 ∷ []) (omega arith) (All-cons (λ b. b ≢ 10) 91 (48 ∷ 109 ∷ []) (omega arith) (All-cons (λ b. b ≢ 10) 48 (109 ∷ []) (omega arith) (All-cons (λ b. b ≢ 10) 109 [] (omega arith) (All-nil (λ b. b ≢ 10)))))
 
 -- what stands after a painted text is of one line
-pub no_line_feed_back : (style : Style) → HasNoLineFeed (back_codes style)
+pub no_line_feed_back : (style : StyleValue) → HasNoLineFeed (back_codes style)
 no_line_feed_back style = no_line_feed_reset (style_codes style)
 
 -- and what stands before it
-pub no_line_feed_front : (style : Style) → HasNoLineFeed (front_codes style)
+pub no_line_feed_front : (style : StyleValue) → HasNoLineFeed (front_codes style)
 no_line_feed_front style = All-weaker IsCodeByte (λ b. b ≢ 10) (λ b h. omega arith) (front_codes style) (front_is style)
 
 -- codes are text
-pub IsUtf8-front_codes : (style : Style) → IsUtf8 (front_codes style)
+pub IsUtf8-front_codes : (style : StyleValue) → IsUtf8 (front_codes style)
 IsUtf8-front_codes style =
     IsUtf8-from_ascii (front_codes style) (IsAscii-from_all (front_codes style) (All-weaker IsCodeByte (λ b. b < 128) (λ b h. h.0) (front_codes style) (front_is style)))

@@ -6,7 +6,7 @@ use Rattle.ptree.specs.Drawing.{Look, with_inserted, continued_prefix}
 use Rattle.ptree.specs.DrawnForm.{nested_tree, flat_tree, DrawAlike}
 use Rattle.ptree.specs.Outline.{line}
 use Rattle.ptree.specs.Spelled.{text_entry}
-use Rattle.ptree.specs.Style.{plain_style, style_codes, painted_text}
+use Rattle.ptree.specs.Style.{plain_value, style_codes, painted_text}
 use Rattle.ptree.specs.Text.{HasNoLineFeed}
 use Rattle.ptree.specs.Tree.{Tree}
 use Rattle.ptree.proofs.Styles.{painted_plain, plain_codes}
@@ -42,7 +42,7 @@ one_drawing_of_both k same f g r a b c one piece =
     moved : (x y z : List ℕ) → ((x ++ []) ++ y) ++ z ++ 10 ∷ [] ≡ x ++ (y ++ z) ++ 10 ∷ []
     moved x y z = ap (λ w. (w ++ y) ++ z ++ 10 ∷ []) (append-nil x) ∙ ap (λ w. w ++ 10 ∷ []) (append_assoc x y z)
 
-pub tick_twice : (k : Look) (depth : ℕ) → k.pieces.regular ≡ k.pieces.child → k.branch ≡ plain_style → k.leaf ≡ plain_style → 2 ≤ depth → HasNoLineFeed k.pieces.last_regular → (r a b c : List ℕ) → HasNoLineFeed b
+pub tick_twice : (k : Look) (depth : ℕ) → k.pieces.regular ≡ k.pieces.child → k.branch ≡ plain_value → k.leaf ≡ plain_value → 2 ≤ depth → HasNoLineFeed k.pieces.last_regular → (r a b c : List ℕ) → HasNoLineFeed b
     → DrawAlike k depth (nested_tree r a b c) (flat_tree r a (k.pieces.last_regular ++ b) c)
 tick_twice k depth same e f deep piece r a b c line =
     let t : Tree = nested_tree r a b c in

@@ -3,13 +3,12 @@ use Rattle.std.specs.Prelude.{◌↔◌, slice_get, option_map, unwrap_or, All}
 use Rattle.std.proofs.Common.{◌≡◌, ℕ, zero, suc, ◌<◌, List, [], ◌∷◌, ◌++◌, map, Option, Some, None, length, sym, ◌∙◌, ap, refl, arith}
 use Rattle.std.proofs.lemmas.List.Elements.{All-head, All-tail}
 use Rattle.ptree.specs.declared.graph.Graph.{Graph}
-use Rattle.ptree.specs.declared.style.Style.{Style}
 use Rattle.ptree.specs.Drawing.{Look, entry_from, IsDrawing}
 use Rattle.ptree.specs.Graph.{weights_of, edges_of, neighbors_of, node_own, node_shape, node_text, walks}
 use Rattle.ptree.specs.Entries.{entry_of, is_empty, with_below, kid_entries, entries_below, drawn_entries}
 use Rattle.ptree.specs.Pieces.{passing_piece, turning_piece}
 use Rattle.ptree.specs.Shape.{Shape, kids}
-use Rattle.ptree.specs.Style.{painted_text}
+use Rattle.ptree.specs.Style.{StyleValue, painted_text}
 use Rattle.ptree.specs.Tree.{tree_own, tree_kids, shape_of_tree}
 use Rattle.ptree.proofs.Laws.{same_drawings}
 use Rattle.ptree.proofs.Links.{neighbors_below}
@@ -49,12 +48,12 @@ module _ {N : Type 0} (text : N → List ℕ) (g : Graph N) where
   text_of_walks v zero = refl
   text_of_walks v (suc d) = refl
 
-  painted_some : (style : Style) (o : Option N) → (o ≡ None → ⊥)
+  painted_some : (style : StyleValue) (o : Option N) → (o ≡ None → ⊥)
       → unwrap_or (option_map (λ w. painted_text style (text w)) o) [] ≡ painted_text style (unwrap_or (option_map text o) [])
   painted_some style None h = absurd (h refl)
   painted_some style (Some w) h = refl
 
-  own_of_walks : (style : Style) (v d : ℕ) → v < length (weights_of g) → (node_shape text g v).own [] style ≡ (shape_of_walks v d).own [] style
+  own_of_walks : (style : StyleValue) (v d : ℕ) → v < length (weights_of g) → (node_shape text g v).own [] style ≡ (shape_of_walks v d).own [] style
   own_of_walks style v d h =
       painted_some style (slice_get (weights_of g) v) (within_is_some (weights_of g) v h) ∙ ap (painted_text style) (sym (text_of_walks v d))
 

@@ -1,6 +1,7 @@
 -- Colours: the parameters of their codes, and the names that are known. Single parameters are those of ECMA-48, SELECT GRAPHIC
 -- RENDITION; the forms with 38 and 48 are xterm's, and the rules for names are this crate's own.
-use Rattle.std.specs.Prelude.{ℕ, ◌+◌, ◌*◌, ◌==◌, ◌&&◌, Bool, if◌then◌else◌, List, [], ◌∷◌, Option, Some, None, option_map, codes, length, drop, slice_index, position, find, bytes_eq, string_bytes}
+use Rattle.std.specs.Prelude.{◌⊎◌, ℕ, ◌+◌, ◌*◌, ◌==◌, ◌&&◌, Bool, if◌then◌else◌, List, [], ◌∷◌, Option, Some, None, option_map, codes, length, drop, slice_index, position, find, bytes_eq, string_bytes}
+use Rattle.std.proofs.Common.{inl, inr}
 use Rattle.std.specs.Char.{digit_value, is_ascii_hexdigit}
 use Rattle.std.specs.List.{list_all}
 use Rattle.std.specs.Option.{option_or}
@@ -11,6 +12,15 @@ use Rattle.ptree.specs.declared.colors.Tone.{Tone}
 use Rattle.ptree.specs.declared.colors.Tone.TheVariants.{Eight, Indexed, Direct}
 use Rattle.ptree.specs.declared.style.Color.{Color}
 use Rattle.ptree.specs.declared.style.Color.TheVariants.{Black, Red, Green, Yellow, Blue, Purple, Cyan, White, Fixed, RGB, Named}
+
+-- a colour, or the bytes of a name
+abbrev pub ColorValue : Type 0
+ColorValue = Color ⊎ List ℕ
+
+-- what a colour holds
+abbrev pub color_value : Color → ColorValue
+color_value (Named name) = inr (string_bytes name)
+color_value color = inl color
 
 -- the parameter of colour 0 on a side
 abbrev pub base : Side → ℕ
@@ -79,19 +89,20 @@ unfoldable pub named_tone : List ℕ → Option Tone
 named_tone name = option_or (word_tone name) (option_or (hex_tone name) (table_tone name))
 
 -- the tone of a colour, which an unknown name hasn't
-abbrev pub tone_of : Color → Option Tone
-tone_of Black = Some (Eight 0)
-tone_of Red = Some (Eight 1)
-tone_of Green = Some (Eight 2)
-tone_of Yellow = Some (Eight 3)
-tone_of Blue = Some (Eight 4)
-tone_of Purple = Some (Eight 5)
-tone_of Cyan = Some (Eight 6)
-tone_of White = Some (Eight 7)
-tone_of (Fixed n) = Some (Indexed n)
-tone_of (RGB r g b) = Some (Direct r g b)
-tone_of (Named name) = named_tone (string_bytes name)
+abbrev pub tone_of : ColorValue → Option Tone
+tone_of (inl Black) = Some (Eight 0)
+tone_of (inl Red) = Some (Eight 1)
+tone_of (inl Green) = Some (Eight 2)
+tone_of (inl Yellow) = Some (Eight 3)
+tone_of (inl Blue) = Some (Eight 4)
+tone_of (inl Purple) = Some (Eight 5)
+tone_of (inl Cyan) = Some (Eight 6)
+tone_of (inl White) = Some (Eight 7)
+tone_of (inl (Fixed n)) = Some (Indexed n)
+tone_of (inl (RGB r g b)) = Some (Direct r g b)
+tone_of (inl (Named name)) = named_tone (string_bytes name)
+tone_of (inr name) = named_tone name
 
 -- the parameters that set a colour on a side, if it has a tone
-abbrev pub color_parameters : Color → Side → Option (List ℕ)
+abbrev pub color_parameters : ColorValue → Side → Option (List ℕ)
 color_parameters color side = option_map (tone_parameters side) (tone_of color)

@@ -1,43 +1,12 @@
 -- What a configuration holds, texts by their bytes.
-use Rattle.std.specs.Prelude.{◌⊎◌, ℕ, Bool, true, List, Option, option_map}
+use Rattle.std.specs.Prelude.{ℕ, true, List}
 use Rattle.ptree.specs.declared.print_config.PrintConfig.{PrintConfig}
 use Rattle.ptree.specs.declared.print_config.StyleWhen.{StyleWhen}
 use Rattle.ptree.specs.declared.print_config.StyleWhen.TheVariants.{Tty}
-use Rattle.ptree.specs.declared.style.Color.{Color}
-use Rattle.ptree.specs.declared.style.Style.{Style}
 use Rattle.ptree.specs.Characters.{Characters, characters_of, utf}
 use Rattle.ptree.specs.Config.{default_mark}
-use Rattle.ptree.specs.Equality.{color_value}
 use Rattle.ptree.specs.Pieces.{mark_of}
-use Rattle.ptree.specs.Style.{plain_style}
-
--- a style, names of colours by their bytes
-pub record StyleValue : Type 0 where
-  pub foreground : Option (Color ⊎ List ℕ)
-  pub background : Option (Color ⊎ List ℕ)
-  pub bold : Bool
-  pub dimmed : Bool
-  pub italic : Bool
-  pub underline : Bool
-  pub blink : Bool
-  pub reverse : Bool
-  pub hidden : Bool
-  pub strikethrough : Bool
-
--- what a style holds
-abbrev pub style_value : Style → StyleValue
-style_value style = record {
-  foreground = option_map color_value style.foreground;
-  background = option_map color_value style.background;
-  bold = style.bold;
-  dimmed = style.dimmed;
-  italic = style.italic;
-  underline = style.underline;
-  blink = style.blink;
-  reverse = style.reverse;
-  hidden = style.hidden;
-  strikethrough = style.strikethrough;
-}
+use Rattle.ptree.specs.Style.{StyleValue, style_value, plain_value}
 
 -- a configuration, texts by their bytes
 pub record Configuration : Type 0 where
@@ -62,10 +31,6 @@ config_value config = record {
   leaf = style_value config.leaf;
   continued = mark_of config;
 }
-
--- no colour and no flag
-abbrev pub plain_value : StyleValue
-plain_value = style_value plain_style
 
 -- the default
 abbrev pub default_configuration : Configuration

@@ -1,9 +1,8 @@
 -- Values as plain data, their texts and their children.
 use Rattle.std.specs.Prelude.{ℕ, ℤ, Bool, true, false, if◌then◌else◌, List, [], ◌∷◌, ◌++◌, codes, decimal, encode_utf8}
 use Rattle.std.specs.Fmt.{signed_decimal}
-use Rattle.ptree.specs.declared.style.Style.{Style}
 use Rattle.ptree.specs.Shape.{Shape, unfolded_shape}
-use Rattle.ptree.specs.Style.{painted_text}
+use Rattle.ptree.specs.Style.{StyleValue, painted_text}
 
 -- A value, whatever its place in memory: texts and bytes are lists of bytes, and a character is its code point.
 mutual
@@ -91,7 +90,7 @@ pair_text ([], value) = value_text value
 pair_text (c ∷ label, value) = c ∷ label
 
 -- a pair's text, painted
-abbrev pub pair_own : Pair → Style → List ℕ
+abbrev pub pair_own : Pair → StyleValue → List ℕ
 pair_own p style = painted_text style (pair_text p)
 
 -- the children of a pair's value

@@ -3,34 +3,38 @@ use Rattle.std.specs.Prelude.{◌≡◌, ℕ, Bool, false, if◌then◌else◌, 
 use Rattle.ptree.specs.declared.print_config.OutputKind.{OutputKind}
 use Rattle.ptree.specs.declared.print_config.OutputKind.TheVariants.{Unknown}
 use Rattle.ptree.specs.declared.print_config.PrintConfig.{PrintConfig}
-use Rattle.ptree.specs.declared.style.Style.{Style}
 use Rattle.ptree.specs.Address.{Address, at, IsAddressList, is_last, beginnings, parent}
 use Rattle.ptree.specs.Config.{is_styled}
-use Rattle.ptree.specs.Pieces.{Pieces, passing_piece, turning_piece, config_pieces, mark_of}
+use Rattle.ptree.specs.Configuration.{Configuration, config_value}
+use Rattle.ptree.specs.Pieces.{Pieces, passing_piece, turning_piece, pieces_from}
 use Rattle.ptree.specs.Shape.{Shape, kids}
-use Rattle.ptree.specs.Style.{plain_style, painted_text}
+use Rattle.ptree.specs.Style.{StyleValue, plain_value, painted_text}
 use Rattle.ptree.specs.Text.{line_feed}
 
 -- how a drawing looks: the effective styles, the pieces, and the mark before an item's further lines
 pub record Look : Type 0 where
-  pub branch : Style
-  pub leaf : Style
+  pub branch : StyleValue
+  pub leaf : StyleValue
   pub pieces : Pieces
   pub mark : List ℕ
 
 -- the look of two styles, pieces and a mark
-abbrev pub look_from : Style → Style → Pieces → List ℕ → Look
+abbrev pub look_from : StyleValue → StyleValue → Pieces → List ℕ → Look
 look_from branch leaf pieces mark = record { branch = branch; leaf = leaf; pieces = pieces; mark = mark }
 
 -- a style where output is styled, else the plain one
-abbrev pub effective_style : Bool → Style → Style
-effective_style styled style = if styled then style else plain_style
+abbrev pub effective_style : Bool → StyleValue → StyleValue
+effective_style styled style = if styled then style else plain_value
 
--- the look that a configuration gives output of a kind, where standard output is a terminal or not
+-- the look that what a configuration holds gives output of a kind, where standard output is a terminal or not
+abbrev pub look_by : Configuration → OutputKind → Bool → Look
+look_by value kind terminal =
+    let styled = is_styled value.styled kind terminal in
+    look_from (effective_style styled value.branch) (effective_style styled value.leaf) (pieces_from value.characters value.indent value.padding) value.continued
+
+-- the look that a configuration gives
 abbrev pub look_of : PrintConfig → OutputKind → Bool → Look
-look_of config kind terminal =
-    let styled = is_styled config.styled kind terminal in
-    look_from (effective_style styled config.branch) (effective_style styled config.leaf) (config_pieces config) (mark_of config)
+look_of config = look_by (config_value config)
 
 -- the look that a configuration gives what isn't standard output
 abbrev pub written_look : PrintConfig → Look

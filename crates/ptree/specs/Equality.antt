@@ -1,17 +1,10 @@
 -- When values that hold texts are equal: texts by their bytes, wherever these lie.
-use Rattle.std.specs.Prelude.{◌≡◌, ◌⊎◌, List, ℕ, option_map, string_bytes}
-use Rattle.std.proofs.Common.{inl, inr}
-use Rattle.ptree.specs.declared.style.Color.{Color}
-use Rattle.ptree.specs.declared.style.Color.TheVariants.{Named}
+use Rattle.std.specs.Prelude.{◌≡◌, option_map}
 use Rattle.ptree.specs.declared.style.Style.{Style}
 use Rattle.ptree.specs.declared.print_config.PrintConfig.{PrintConfig}
 use Rattle.ptree.specs.Characters.{characters_of}
+use Rattle.ptree.specs.Color.{color_value}
 use Rattle.ptree.specs.Pieces.{mark_of}
-
--- a colour, or the bytes of its name
-abbrev pub color_value : Color → Color ⊎ List ℕ
-color_value (Named name) = inr (string_bytes name)
-color_value color = inl color
 
 -- all fields are equal
 pub record SameStyle (a b : Style) : Type 0 where

@@ -1,5 +1,5 @@
 -- What the values of a file say, in either format.
-use Rattle.std.specs.Prelude.{◌⊎◌, ℕ, ℤ, pos, negsuc, Bool, false, if◌then◌else◌, List, Option, Some, None, is_some, option_map, option_and_then, unwrap_or, codes, nat_le}
+use Rattle.std.specs.Prelude.{ℕ, ℤ, pos, negsuc, Bool, false, if◌then◌else◌, List, Option, Some, None, is_some, option_map, option_and_then, unwrap_or, codes, nat_le}
 use Rattle.std.proofs.Common.{inl, inr}
 use Rattle.std.specs.Option.{option_or}
 use Rattle.serde_json.specs.Data as j
@@ -10,6 +10,7 @@ use Rattle.ptree.specs.declared.print_config.words.Spelling.TheVariants.{Exact}
 use Rattle.ptree.specs.declared.style.Color.{Color}
 use Rattle.ptree.specs.declared.style.Color.TheVariants.{Fixed, RGB}
 use Rattle.ptree.specs.Characters.{Characters, set_spelled, utf}
+use Rattle.ptree.specs.Color.{ColorValue}
 use Rattle.ptree.specs.Words.{when_spelled}
 
 -- a value in a file
@@ -111,5 +112,5 @@ abbrev pub color_numbers : Node → Option Color
 color_numbers node = option_or (option_map Fixed (whole_node 255 node)) (option_map (λ t. RGB t.0 t.1 t.2) (as_triple node))
 
 -- a text is a name, and numbers are a colour
-abbrev pub color_node : Node → Option (Color ⊎ List ℕ)
+abbrev pub color_node : Node → Option ColorValue
 color_node node = option_or (option_map inr (as_text node)) (option_map inl (color_numbers node))

@@ -2,10 +2,9 @@
 use Rattle.std.specs.Prelude.{ℕ, zero, suc, ◌≤◌, ◌==◌, ◌⊎◌, List, [], map, reverse, filter, slice_get, option_map, unwrap_or}
 use Rattle.ptree.specs.declared.graph.Graph.{Graph}
 use Rattle.ptree.specs.declared.graph.NodeIndex.{NodeIndex}
-use Rattle.ptree.specs.declared.style.Style.{Style}
 use Rattle.ptree.specs.GraphLinks.{ends_of}
 use Rattle.ptree.specs.Shape.{Shape, unfolded_shape}
-use Rattle.ptree.specs.Style.{painted_text}
+use Rattle.ptree.specs.Style.{StyleValue, painted_text}
 use Rattle.ptree.specs.Tree.{Tree, tree, none, forest}
 
 -- the weights, by the numbers of their nodes
@@ -29,7 +28,7 @@ abbrev pub neighbors_of : List (ℕ × ℕ) → ℕ → List ℕ
 neighbors_of edges v = map (λ e. e.1) (filter (λ e. e.0 == v) (reverse edges))
 
 -- what a node writes: its weight's text, painted, and nothing where there is no such node
-abbrev pub node_own : {N : Type 0} → (N → List ℕ) → Graph N → ℕ → Style → List ℕ
+abbrev pub node_own : {N : Type 0} → (N → List ℕ) → Graph N → ℕ → StyleValue → List ℕ
 node_own text g v style = unwrap_or (option_map (λ w. painted_text style (text w)) (slice_get (weights_of g) v)) []
 
 -- a node as an item's meaning, which goes on for ever where the graph has a cycle

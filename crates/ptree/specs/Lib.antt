@@ -29,7 +29,6 @@ pub mod Text
 pub mod Tree
 pub mod TreeBuilder
 pub mod Value
-pub mod UnderSources
 pub mod Words
 pub mod Writing
 -- what private functions say: of codes, of the engine, of the builder, of graphs and of the reader

@@ -1,5 +1,5 @@
 -- The configuration of sources, and the first fault in them.
-use Rattle.std.specs.Prelude.{◌⊎◌, ℕ, ◌&&◌, ◌||◌, Bool, true, false, not, if◌then◌else◌, List, [], ◌∷◌, map, Option, Some, None, is_some, is_none, option_and_then, unwrap_or}
+use Rattle.std.specs.Prelude.{◌≡◌, ℕ, ◌&&◌, ◌||◌, Bool, true, false, not, if◌then◌else◌, List, [], ◌∷◌, map, Option, Some, None, is_some, is_none, option_and_then, unwrap_or}
 use Rattle.std.specs.List.{list_any}
 use Rattle.std.specs.Option.{option_or}
 use Rattle.ptree.specs.declared.print_config.FileSource.{FileSource}
@@ -16,11 +16,12 @@ use Rattle.ptree.specs.declared.print_config.fields.StyleField.TheVariants.{Fore
 use Rattle.ptree.specs.declared.print_config.fields.TheConstants.{FIELDS, STYLE_FIELDS}
 use Rattle.ptree.specs.declared.print_config.loader.Fault.{Fault}
 use Rattle.ptree.specs.declared.print_config.loader.Fault.TheVariants as fault
-use Rattle.ptree.specs.declared.style.Color as style
 use Rattle.ptree.specs.Characters.{Characters, set_spelled, utf}
-use Rattle.ptree.specs.Configuration.{StyleValue, Configuration, default_configuration}
+use Rattle.ptree.specs.Color.{ColorValue}
+use Rattle.ptree.specs.Configuration.{Configuration, default_configuration}
 use Rattle.ptree.specs.Fields.{part_key, kind_of}
 use Rattle.ptree.specs.File.{Node, is_table, is_null, as_text, as_flag, whole_node, when_node, set_node, color_node}
+use Rattle.ptree.specs.Style.{StyleValue}
 use Rattle.ptree.specs.Sources.{Given, given_by, document, variable, table_at, node}
 use Rattle.ptree.specs.declared.print_config.words.Spelling.TheVariants.{AnyCase}
 use Rattle.ptree.specs.Words.{when_spelled, flag_text, number_text, color_text}
@@ -46,7 +47,7 @@ abbrev pub text : Given → Field → Option (List ℕ)
 text = look_up Some as_text
 
 -- a field that takes a colour
-abbrev pub color : Given → Field → Option (style.Color ⊎ List ℕ)
+abbrev pub color : Given → Field → Option ColorValue
 color = look_up (λ value. Some (color_text value)) color_node
 
 -- a field that takes true or false
@@ -167,3 +168,8 @@ config_of sources = unless_fault (first_fault sources) (configuration (given_by 
 -- the configuration that sources mean: where there is a fault in them, the default whole
 abbrev pub meant_by : Sources → Configuration
 meant_by sources = unwrap_or (config_of sources) default_configuration
+
+-- there is no file, and no variable of a field
+pub record SayNothing (sources : Sources) : Type 0 where
+  pub file : sources.file ≡ Absent
+  pub variables : (field : Field) → variable (given_by sources) field ≡ None

@@ -2,16 +2,15 @@
 use Rattle.std.specs.Prelude.{◌≡◌, ℕ, Bool, true, false, Option, Some, None, List, [], ◌++◌, string_bytes}
 use Rattle.ptree.specs.declared.output.look.Look.{Look as HeldLook}
 use Rattle.ptree.specs.declared.read.lines.CodeTexts.{CodeTexts}
-use Rattle.ptree.specs.declared.style.Style.{Style}
 use Rattle.ptree.specs.Drawing.{Look, look_from}
 use Rattle.ptree.specs.Entries.{entry_of}
 use Rattle.ptree.specs.Pieces.{Pieces, turning_piece, passing_piece, pieces_of}
 use Rattle.ptree.specs.Shape.{Shape}
-use Rattle.ptree.specs.Style.{front_codes, back_codes}
+use Rattle.ptree.specs.Style.{StyleValue, style_value, front_codes, back_codes}
 
 -- the look that the code holds
 abbrev pub look_meant : HeldLook → Look
-look_meant l = look_from l.branch.now l.leaf.now (pieces_of l.pieces) l.mark.now
+look_meant l = look_from (style_value l.branch.now) (style_value l.leaf.now) (pieces_of l.pieces) l.mark.now
 
 -- the piece on the own line of a root (none) or of a child, by whether that is last
 abbrev pub own_piece : Pieces → Option Bool → List ℕ
@@ -48,6 +47,6 @@ abbrev pub own_entry : Look → List ℕ → Option Bool → Shape → List ℕ
 own_entry look front last x = entry_of look (front ++ own_piece look.pieces last) (front ++ below_piece look.pieces last) x
 
 -- two texts are the codes of a style
-pub record HasCodes (c : CodeTexts) (style : Style) : Type 0 where
+pub record HasCodes (c : CodeTexts) (style : StyleValue) : Type 0 where
   pub front : string_bytes c.front ≡ front_codes style
   pub back : string_bytes c.back ≡ back_codes style

@@ -1,11 +1,38 @@
 -- Painted texts. Single parameters are those of ECMA-48, SELECT GRAPHIC RENDITION; the order of the codes is this crate's own.
 use Rattle.std.specs.Prelude.{◌≡◌, ℕ, Bool, false, List, [], ◌∷◌, ◌++◌, Option, None, map, filter, flat_map, option_map, option_and_then, option_to_list, decimal}
 use Rattle.std.specs.List.{join_with_byte}
-use Rattle.ptree.specs.declared.style.Color.{Color}
 use Rattle.ptree.specs.declared.style.Style.{Style}
 use Rattle.ptree.specs.declared.colors.Side.{Side}
 use Rattle.ptree.specs.declared.colors.Side.TheVariants.{Foreground, Background}
-use Rattle.ptree.specs.Color.{color_parameters}
+use Rattle.ptree.specs.Color.{ColorValue, color_value, color_parameters}
+
+-- a style, names of colours by their bytes
+pub record StyleValue : Type 0 where
+  pub foreground : Option ColorValue
+  pub background : Option ColorValue
+  pub bold : Bool
+  pub dimmed : Bool
+  pub italic : Bool
+  pub underline : Bool
+  pub blink : Bool
+  pub reverse : Bool
+  pub hidden : Bool
+  pub strikethrough : Bool
+
+-- what a style holds
+abbrev pub style_value : Style → StyleValue
+style_value style = record {
+  foreground = option_map color_value style.foreground;
+  background = option_map color_value style.background;
+  bold = style.bold;
+  dimmed = style.dimmed;
+  italic = style.italic;
+  underline = style.underline;
+  blink = style.blink;
+  reverse = style.reverse;
+  hidden = style.hidden;
+  strikethrough = style.strikethrough;
+}
 
 -- no colour and no flag
 abbrev pub plain_style : Style
@@ -22,12 +49,16 @@ plain_style = record {
   strikethrough = false;
 }
 
+-- what the plain style holds
+abbrev pub plain_value : StyleValue
+plain_value = style_value plain_style
+
 -- ESC [, the parameters in decimal with `;` between them, and m
 abbrev pub code : List ℕ → List ℕ
 code parameters = 27 ∷ 91 ∷ join_with_byte 59 (map decimal parameters) ++ 109 ∷ []
 
 -- the flags and their parameters, in order
-abbrev pub flags : Style → List (Bool × ℕ)
+abbrev pub flags : StyleValue → List (Bool × ℕ)
 flags style =
     (style.bold, 1) ∷ (style.dimmed, 2) ∷ (style.italic, 3) ∷ (style.underline, 4)
     ∷ (style.blink, 5) ∷ (style.reverse, 7) ∷ (style.hidden, 8) ∷ (style.strikethrough, 9) ∷ []
@@ -37,23 +68,23 @@ abbrev pub flag_codes : List (Bool × ℕ) → List (List ℕ)
 flag_codes flags = map (λ flag. code (flag.1 ∷ [])) (filter (λ flag. flag.0) flags)
 
 -- the code that sets a colour on a side, which an unknown name hasn't
-abbrev pub color_code : Color → Side → Option (List ℕ)
+abbrev pub color_code : ColorValue → Side → Option (List ℕ)
 color_code color side = option_map code (color_parameters color side)
 
 -- the code that sets a side, if there is one
-abbrev pub side_codes : Option Color → Side → List (List ℕ)
+abbrev pub side_codes : Option ColorValue → Side → List (List ℕ)
 side_codes color side = option_to_list (option_and_then (λ c. color_code c side) color)
 
 -- the codes of a style, in order
-unfoldable pub style_codes : Style → List (List ℕ)
+unfoldable pub style_codes : StyleValue → List (List ℕ)
 style_codes style = flag_codes (flags style) ++ side_codes style.foreground Foreground ++ side_codes style.background Background
 
 -- a colour that isn't set, or that has no code
-abbrev pub SetsNone : Option Color → Side → Type 0
+abbrev pub SetsNone : Option ColorValue → Side → Type 0
 SetsNone color side = option_and_then (λ c. color_parameters c side) color ≡ None
 
 -- no flag is set, and no colour that has a code
-pub record IsPlain (style : Style) : Type 0 where
+pub record IsPlain (style : StyleValue) : Type 0 where
   pub bold : style.bold ≡ false
   pub dimmed : style.dimmed ≡ false
   pub italic : style.italic ≡ false
@@ -66,7 +97,7 @@ pub record IsPlain (style : Style) : Type 0 where
   pub background : SetsNone style.background Background
 
 -- what stands before a painted text: the codes
-abbrev pub front_codes : Style → List ℕ
+abbrev pub front_codes : StyleValue → List ℕ
 front_codes style = flat_map (λ code. code) (style_codes style)
 
 -- the code that ends all styles: ESC [0m
@@ -79,9 +110,9 @@ reset_after [] = []
 reset_after (x ∷ xs) = reset_code
 
 -- what stands after a painted text
-abbrev pub back_codes : Style → List ℕ
+abbrev pub back_codes : StyleValue → List ℕ
 back_codes style = reset_after (style_codes style)
 
 -- the codes, the text and the reset; the text alone where there is no code
-abbrev pub painted_text : Style → List ℕ → List ℕ
+abbrev pub painted_text : StyleValue → List ℕ → List ℕ
 painted_text style text = front_codes style ++ text ++ back_codes style

@@ -1,11 +1,10 @@
 -- Finite trees of texts.
 use Rattle.std.specs.Prelude.{ℕ, zero, suc, max, List, [], ◌∷◌, string_bytes}
-use Rattle.ptree.specs.declared.style.Style.{Style}
 use Rattle.ptree.specs.declared.item.StringItem.{StringItem}
 use Rattle.ptree.specs.declared.item.StringItem.TheOpen.{StringItem-F}
 use Rattle.ptree.specs.declared.item.StringItem.TheFolds.{fold-StringItem}
 use Rattle.ptree.specs.Shape.{Shape, unfolded_shape}
-use Rattle.ptree.specs.Style.{painted_text}
+use Rattle.ptree.specs.Style.{StyleValue, painted_text}
 
 -- Trees side by side: none, or a text with what is below it, and then the trees after it.
 pub data Forest : Type 0 where
@@ -59,7 +58,7 @@ abbrev pub tree_of : StringItem → Tree
 tree_of = fold-StringItem Tree tree_step
 
 -- the own bytes of a tree as an item: its text, painted
-abbrev pub tree_own : Tree → Style → List ℕ
+abbrev pub tree_own : Tree → StyleValue → List ℕ
 tree_own t style = painted_text style t.text
 
 -- a tree as an item's meaning

@@ -1,5 +1,5 @@
 -- What the texts of sources say: words, numbers and colours.
-use Rattle.std.specs.Prelude.{◌⊎◌, ℕ, ◌&&◌, Bool, true, false, if◌then◌else◌, List, [], ◌∷◌, Option, Some, None, codes, length, nat_lt, nat_le}
+use Rattle.std.specs.Prelude.{ℕ, ◌&&◌, Bool, true, false, if◌then◌else◌, List, [], ◌∷◌, Option, Some, None, codes, length, nat_lt, nat_le}
 use Rattle.std.proofs.Common.{inl, inr}
 use Rattle.std.specs.List.{list_any}
 use Rattle.std.specs.Str.{str_eq_ignore_ascii_case, str_to_ascii_lowercase, all_ascii_digits}
@@ -7,9 +7,9 @@ use Rattle.std.specs.Str.Parse.{digits_value}
 use Rattle.ptree.specs.declared.print_config.words.Spelling.{Spelling}
 use Rattle.ptree.specs.declared.print_config.StyleWhen.{StyleWhen}
 use Rattle.ptree.specs.declared.print_config.StyleWhen.TheVariants.{Never, Always, Tty}
-use Rattle.ptree.specs.declared.style.Color.{Color}
 use Rattle.ptree.specs.declared.style.Color.TheVariants.{Fixed}
 use Rattle.ptree.specs.Characters.{is_spelled}
+use Rattle.ptree.specs.Color.{ColorValue}
 
 -- when to style, by its word
 abbrev pub when_spelled : Spelling → List ℕ → Option StyleWhen
@@ -34,10 +34,10 @@ number_text greatest text =
     if nat_lt 0 (length text) && (all_ascii_digits text && nat_le (digits_value 10 text) greatest) then Some (digits_value 10 text) else None
 
 -- the colour of a number, or else of a name in lower case
-abbrev pub color_or_name : Option ℕ → List ℕ → Color ⊎ List ℕ
+abbrev pub color_or_name : Option ℕ → List ℕ → ColorValue
 color_or_name (Some n) text = inl (Fixed n)
 color_or_name None text = inr (str_to_ascii_lowercase text)
 
 -- one to three digits of at most 255 are a number, and any other text is a name
-abbrev pub color_text : List ℕ → Color ⊎ List ℕ
+abbrev pub color_text : List ℕ → ColorValue
 color_text text = color_or_name (if nat_le (length text) 3 then number_text 255 text else None) text

@@ -1,8 +1,8 @@
 //! The codes of a style, gathered without memory.
-ghost use Rattle.std.specs.Prelude.{◌≡◌, ◌+◌, ◌*◌, ◌≤◌, ◌<◌, [], ◌∷◌, ◌++◌, length, IsUtf8, decimal, flat_map, option_to_list};
+ghost use Rattle.std.specs.Prelude.{◌≡◌, ◌+◌, ◌*◌, ◌≤◌, ◌<◌, [], ◌∷◌, ◌++◌, length, IsUtf8, decimal, flat_map, option_map, option_to_list};
 ghost use Rattle.ptree.specs.declared.codes.TheConstants.{ROOM};
-ghost use Rattle.ptree.specs.Color.{tone_parameters};
-ghost use Rattle.ptree.specs.Style.{code, flags, flag_codes, color_code, side_codes, reset_after, front_codes, back_codes};
+ghost use Rattle.ptree.specs.Color.{color_value, tone_parameters};
+ghost use Rattle.ptree.specs.Style.{style_value, code, flags, flag_codes, color_code, side_codes, reset_after, front_codes, back_codes};
 
 use crate::colors::{Side, Tone, color_tone};
 use crate::style::{Color, Style};
@@ -35,8 +35,8 @@ impl Codes {
 
     /// The codes of a style, in order.
     pub fn of(style: &Style) -> Codes
-        ensures front { gathered_codes result ≡ front_codes style.now }
-        ensures back { reset_after (gathered_codes result) ≡ back_codes style.now }
+        ensures front { gathered_codes result ≡ front_codes (style_value style.now) }
+        ensures back { reset_after (gathered_codes result) ≡ back_codes (style_value style.now) }
         ensures utf8 { IsUtf8 (gathered_codes result) }
     {
         let mut codes = Codes::none();
@@ -48,8 +48,8 @@ impl Codes {
     #[inline(always)]
     pub fn gather(&mut self, style: &Style)
         requires { self.old.len ≡ 0 }
-        ensures front { gathered_codes self.new ≡ front_codes style.now }
-        ensures back { reset_after (gathered_codes self.new) ≡ back_codes style.now }
+        ensures front { gathered_codes self.new ≡ front_codes (style_value style.now) }
+        ensures back { reset_after (gathered_codes self.new) ≡ back_codes (style_value style.now) }
         ensures utf8 { IsUtf8 (gathered_codes self.new) }
     {
         self.push_flags(style);
@@ -84,7 +84,7 @@ impl Codes {
     fn push_flags(&mut self, style: &Style)
         requires { self.old.len + 32 ≤ ROOM }
         ensures text { gathered_codes self.new
-            ≡ gathered_codes self.old ++ joined_codes (flag_codes (flags style.now)) }
+            ≡ gathered_codes self.old ++ joined_codes (flag_codes (flags (style_value style.now))) }
         ensures len { self.new.len ≤ self.old.len + 32 }
     {
         self.push_flag(style.bold, 1);
@@ -121,7 +121,7 @@ impl Codes {
     fn push_side(&mut self, color: &Option<Color>, side: Side)
         requires { self.old.len + 22 ≤ ROOM }
         ensures text { gathered_codes self.new
-            ≡ gathered_codes self.old ++ joined_codes (side_codes color.now side) }
+            ≡ gathered_codes self.old ++ joined_codes (side_codes (option_map color_value color.now) side) }
         ensures len { self.new.len ≤ self.old.len + 22 }
     {
         if let Some(color) = color {
@@ -134,7 +134,7 @@ impl Codes {
     fn push_color(&mut self, color: &Color, side: Side)
         requires { self.old.len + 22 ≤ ROOM }
         ensures text { gathered_codes self.new
-            ≡ gathered_codes self.old ++ joined_codes (option_to_list (color_code color.now side)) }
+            ≡ gathered_codes self.old ++ joined_codes (option_to_list (color_code (color_value color.now) side)) }
         ensures len { self.new.len ≤ self.old.len + 22 }
     {
         if let Some(tone) = color_tone(color) {

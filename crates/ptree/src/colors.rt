@@ -4,7 +4,7 @@ ghost use Rattle.std.specs.List.{list_all};
 ghost use Rattle.std.specs.Str.{str_eq_ignore_ascii_case};
 ghost use Rattle.std.specs.Char.{digit_value, is_ascii_hexdigit};
 ghost use Rattle.ptree.specs.Codes.{IsOfEight, HasHexDigits};
-ghost use Rattle.ptree.specs.Color.{is_hex_name, named_tone, word_tone, hex_tone, hex_byte, table_tone, tone_of};
+ghost use Rattle.ptree.specs.Color.{is_hex_name, named_tone, word_tone, hex_tone, hex_byte, table_tone, color_value, tone_of};
 
 use crate::style::Color;
 
@@ -85,7 +85,7 @@ const NAMED_COLORS: [(&str, u8, u8, u8); 18] = [
 
 /// The tone of a colour, which an unknown name hasn't.
 pub fn color_tone(color: &Color) -> Option<Tone>
-    ensures value { result ≡ tone_of color.now }
+    ensures value { result ≡ tone_of (color_value color.now) }
     ensures eight { IfSome result IsOfEight }
 {
     Some(match color {

@@ -2,6 +2,7 @@
 ghost use Rattle.std.specs.Prelude.{◌≡◌, [], map, IfOk, IsOkAnd};
 ghost use Rattle.ptree.specs.Children.{children_items};
 ghost use Rattle.ptree.specs.Shape.{Shape, kids};
+ghost use Rattle.ptree.specs.Style.{style_value};
 ghost use Rattle.ptree.specs.Writing.{IsWritten, HasCause, TakesNoMemory};
 
 use crate::style::{DrawError, Sink, Style};
@@ -29,7 +30,7 @@ pub trait TreeItem: Shaped {
     /// `Write` or `Zero` where `f` failed, and `Memory`. A beginning of the contents was written.
     fn write_self<W: Sink>(&self, alloc: Global, f: &mut W, style: &Style) -> Result<(), DrawError>
         ensures bytes { IsWritten (W.contents f.old) (W.contents f.new) result
-            ((Self.shape self.now).own [] style.now) }
+            ((Self.shape self.now).own [] (style_value style.now)) }
         ensures cause { HasCause (W.faults f.old) (W.faults f.new) result };
 
     /// The item's children, in order. A leaf item has none.
@@ -113,7 +114,7 @@ impl TreeItem for StringItem {
     #[inline(always)]
     fn write_self<W: Sink>(&self, _alloc: Global, f: &mut W, style: &Style) -> Result<(), DrawError>
         ensures bytes { IsWritten (W.contents f.old) (W.contents f.new) result
-            ((shape_of_tree (tree_of self.now)).own [] style.now) }
+            ((shape_of_tree (tree_of self.now)).own [] (style_value style.now)) }
         ensures cause { HasCause (W.faults f.old) (W.faults f.new) result }
         ensures memory { TakesNoMemory result }
     {

@@ -1,7 +1,8 @@
 //! Pieces, and the calls that draw.
-ghost use Rattle.ptree.specs.UnderSources.{UnderSources};
+ghost use Rattle.std.specs.Prelude.{false};
+ghost use Rattle.ptree.specs.Loading.{meant_by};
 ghost use Rattle.ptree.specs.Writing.{HasCause, IsDrawn, LeavesWholeEntries};
-ghost use Rattle.ptree.specs.Drawing.{look_of, written_look};
+ghost use Rattle.ptree.specs.Drawing.{look_by, look_of, written_look};
 ghost use Rattle.ptree.specs.Laws.{HasOneList, HasCuts, HasTreeCuts, HasSubtrees, HasOneLineEntries};
 
 pub(crate) mod engine;
@@ -59,12 +60,14 @@ where
     T: TreeItem,
     T::Child: TreeItem<Child = T::Child> + Drop,
     W: Sink,
-    ensures drawn { UnderSources DrawError.Memory sources.now (W.contents out.old) (W.contents out.new) result
-        (λ config.
-        IsDrawn (look_of config OutputKind.Stdout terminal) (T.shape item.now) config.depth
-        (W.contents out.old) (W.contents out.new) result
-        × LeavesWholeEntries (look_of config OutputKind.Stdout terminal) (T.shape item.now)
-        config.depth (W.contents out.old) (W.contents out.new) result) }
+    // What the sources mean gives the drawing. Success appends exactly it, and a refusal a beginning of it.
+    ensures bytes { let meant = meant_by sources.now in
+        IsDrawn (look_by meant OutputKind.Stdout terminal) (T.shape item.now) meant.depth
+        (W.contents out.old) (W.contents out.new) result }
+    // Where memory ran out, what was appended is whole entries.
+    ensures whole { let meant = meant_by sources.now in
+        LeavesWholeEntries (look_by meant OutputKind.Stdout terminal) (T.shape item.now) meant.depth
+        (W.contents out.old) (W.contents out.new) result }
     ensures cause { HasCause (W.faults out.old) (W.faults out.new) result }
 {
     let config = PrintConfig::from_env(alloc, sources)?;
@@ -116,12 +119,14 @@ where
     T: TreeItem,
     T::Child: TreeItem<Child = T::Child> + Drop,
     W: Sink,
-    ensures drawn { UnderSources DrawError.Memory sources.now (W.contents f.old) (W.contents f.new) result
-        (λ config.
-        IsDrawn (written_look config) (T.shape item.now) config.depth (W.contents f.old)
-        (W.contents f.new) result
-        × LeavesWholeEntries (written_look config) (T.shape item.now) config.depth
-        (W.contents f.old) (W.contents f.new) result) }
+    // What the sources mean gives the drawing. Success appends exactly it, and a refusal a beginning of it.
+    ensures bytes { let meant = meant_by sources.now in
+        IsDrawn (look_by meant OutputKind.Unknown false) (T.shape item.now) meant.depth
+        (W.contents f.old) (W.contents f.new) result }
+    // Where memory ran out, what was appended is whole entries.
+    ensures whole { let meant = meant_by sources.now in
+        LeavesWholeEntries (look_by meant OutputKind.Unknown false) (T.shape item.now) meant.depth
+        (W.contents f.old) (W.contents f.new) result }
     ensures cause { HasCause (W.faults f.old) (W.faults f.new) result }
 {
     let config = PrintConfig::from_env(alloc, sources)?;

@@ -2,10 +2,10 @@
 ghost use Rattle.std.specs.Prelude.{◌≡◌, ◌↔◌, IfOk, IsTrue, IsErrOf, Some, None, string_bytes};
 ghost use Rattle.ptree.specs.Characters.{characters_of, static_characters, set_named};
 ghost use Rattle.ptree.specs.Config.{IsDefault, is_styled};
-ghost use Rattle.ptree.specs.Configuration.{config_value};
+ghost use Rattle.ptree.specs.Configuration.{config_value, default_configuration};
 ghost use Rattle.ptree.specs.Equality.{SameConfig};
-ghost use Rattle.ptree.specs.Loading.{meant_by};
-ghost use Rattle.ptree.specs.Style.{painted_text};
+ghost use Rattle.ptree.specs.Loading.{SayNothing, meant_by};
+ghost use Rattle.ptree.specs.Style.{style_value, painted_text};
 ghost use Rattle.ptree.specs.declared.print_config.CharsError.{CharsError};
 ghost use Rattle.ptree.specs.declared.print_config.IndentChars.{IndentChars};
 ghost use Rattle.ptree.specs.declared.print_config.OutputKind.{OutputKind};
@@ -83,8 +83,11 @@ impl PrintConfig {
     /// # Errors
     ///
     /// Memory ran out. The default isn't returned for it.
+    #[tactic(auto, using(crate::proofs::Configurations::nothing_meant))]
     pub fn from_env(alloc: Global, sources: &Sources) -> Result<PrintConfig, AllocError>
-        ensures { IfOk result (λ config. config_value config ≡ meant_by sources.now) }
+        ensures value { IfOk result (λ config. config_value config ≡ meant_by sources.now) }
+        // Where there is no file, and no variable of a field, they mean the default.
+        ensures nothing { SayNothing sources.now → meant_by sources.now ≡ default_configuration }
     {
         match load(alloc, sources)? {
             Some(config) => Ok(config),
@@ -98,7 +101,8 @@ impl PrintConfig {
     ///
     /// Memory ran out.
     pub fn default(alloc: Global) -> Result<PrintConfig, AllocError>
-        ensures { IfOk result IsDefault }
+        ensures fields { IfOk result IsDefault }
+        ensures value { IfOk result (λ config. config_value config ≡ default_configuration) }
     {
         let mut branch = Style::default();
         branch.dimmed = true;
@@ -138,7 +142,7 @@ impl PrintConfig {
     ///
     /// Memory ran out.
     pub fn paint_branch(&self, alloc: Global, input: &str) -> Result<String, AllocError>
-        ensures { IfOk result (λ text. string_bytes text ≡ painted_text self.now.branch input.now) }
+        ensures { IfOk result (λ text. string_bytes text ≡ painted_text (style_value self.now.branch) input.now) }
     {
         self.branch.paint(alloc, input)
     }
@@ -149,7 +153,7 @@ impl PrintConfig {
     ///
     /// Memory ran out.
     pub fn paint_leaf(&self, alloc: Global, input: &str) -> Result<String, AllocError>
-        ensures { IfOk result (λ text. string_bytes text ≡ painted_text self.now.leaf input.now) }
+        ensures { IfOk result (λ text. string_bytes text ≡ painted_text (style_value self.now.leaf) input.now) }
     {
         self.leaf.paint(alloc, input)
     }

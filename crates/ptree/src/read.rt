@@ -7,7 +7,7 @@ ghost use Rattle.ptree.specs.DrawnForm.{IsDrawnForm, ReadsOneWay, DrawAlike, nes
 ghost use Rattle.ptree.specs.Looks.{look_meant};
 ghost use Rattle.ptree.specs.Pieces.{config_pieces, mark_of};
 ghost use Rattle.ptree.specs.Readable.{IsReadable, IsReadableWith, HasReadablePieces};
-ghost use Rattle.ptree.specs.Style.{plain_style};
+ghost use Rattle.ptree.specs.Style.{plain_value};
 ghost use Rattle.ptree.specs.Text.{HasNoLineFeed};
 ghost use Rattle.ptree.specs.Tree.{Tree, tree_of, shape_of_tree};
 
@@ -48,8 +48,8 @@ pub fn pieces_readable(alloc: Global, config: &PrintConfig) -> Result<bool, Allo
     // Where the pieces of the set with ticks aren't readable, two trees have one drawing: in the second the child's line is a
     // sibling's text.
     ensures twice { characters_of config.now.characters ≡ ascii_tick → 2 ≤ config.now.depth
-        → (written_look config.now).branch ≡ plain_style
-        → (written_look config.now).leaf ≡ plain_style
+        → (written_look config.now).branch ≡ plain_value
+        → (written_look config.now).leaf ≡ plain_value
         → (IsReadable (config_pieces config.now) → ⊥) → (r a b c : List ℕ) → HasNoLineFeed b
         → DrawAlike (written_look config.now) config.now.depth (nested_tree r a b c)
         (flat_tree r a ((config_pieces config.now).last_regular ++ b) c) }

@@ -5,8 +5,9 @@ ghost use Rattle.std.specs.Prelude.{◌≡◌, ◌≢◌, ◌↔◌, ℕ, ◌+�
 ghost use Rattle.ptree.specs.Counted.{fault_count, inner_value};
 ghost use Rattle.ptree.specs.declared.style.Color.{Color};
 ghost use Rattle.ptree.specs.declared.style.Style.{Style};
-ghost use Rattle.ptree.specs.Equality.{color_value, SameStyle};
-ghost use Rattle.ptree.specs.Style.{IsPlain, plain_style, style_codes, painted_text, front_codes, back_codes};
+ghost use Rattle.ptree.specs.Equality.{SameStyle};
+ghost use Rattle.ptree.specs.Color.{color_value};
+ghost use Rattle.ptree.specs.Style.{style_value, IsPlain, plain_style, style_codes, painted_text, front_codes, back_codes};
 ghost use Rattle.ptree.specs.Writing.{IsWritten, put_faults, get_faults, HasCause, HasErrorCause, TakesNoMemory};
 ghost use Rattle.ptree.specs.declared.style.DrawError.TheVariants.{Memory};
 
@@ -167,12 +168,12 @@ impl Style {
     ///
     /// Memory ran out.
     pub fn paint(&self, alloc: Global, input: &str) -> Result<String, AllocError>
-        ensures text { IfOk result (λ text. string_bytes text ≡ painted_text self.now input.now) }
+        ensures text { IfOk result (λ text. string_bytes text ≡ painted_text (style_value self.now) input.now) }
         // A style without codes paints a text as itself.
-        ensures plain { style_codes self.now ≡ []
+        ensures plain { style_codes (style_value self.now) ≡ []
             → IfOk result (λ text. string_bytes text ≡ input.now) }
         // So does one with no flag set, and no colour that has a code.
-        ensures unset { IsPlain self.now → IfOk result (λ text. string_bytes text ≡ input.now) }
+        ensures unset { IsPlain (style_value self.now) → IfOk result (λ text. string_bytes text ≡ input.now) }
     {
         let codes = Codes::of(self);
         let mut text = String::from_str(alloc, codes.as_str())?;
@@ -189,7 +190,7 @@ impl Style {
     #[inline(always)]
     pub fn write_painted<W: Sink>(&self, f: &mut W, input: &str) -> Result<(), DrawError>
         ensures bytes { IsWritten (W.contents f.old) (W.contents f.new) result
-            (painted_text self.now input.now) }
+            (painted_text (style_value self.now) input.now) }
         ensures cause { HasCause (W.faults f.old) (W.faults f.new) result }
         ensures memory { TakesNoMemory result }
     {
@@ -204,7 +205,7 @@ impl Style {
     #[inline(never)]
     fn write_with_codes<W: Sink>(&self, f: &mut W, input: &str) -> Result<(), DrawError>
         ensures bytes { IsWritten (W.contents f.old) (W.contents f.new) result
-            (painted_text self.now input.now) }
+            (painted_text (style_value self.now) input.now) }
         ensures cause { HasCause (W.faults f.old) (W.faults f.new) result }
         ensures memory { TakesNoMemory result }
     {
@@ -244,7 +245,7 @@ impl Style {
     // Whether there is no flag and no colour.
     #[inline(always)]
     fn is_plain(&self) -> bool
-        ensures { IsTrue result → style_codes self.now ≡ [] }
+        ensures { IsTrue result → style_codes (style_value self.now) ≡ [] }
     {
         if self.bold | self.dimmed | self.italic | self.underline {
             return false;
@@ -257,7 +258,7 @@ impl Style {
 
     /// What stands before a painted text.
     pub(crate) fn front_text(&self, alloc: Global) -> Result<String, AllocError>
-        ensures { IfOk result (λ text. string_bytes text ≡ front_codes self.now) }
+        ensures { IfOk result (λ text. string_bytes text ≡ front_codes (style_value self.now)) }
     {
         let codes = Codes::of(self);
         String::from_str(alloc, codes.as_str())
@@ -265,7 +266,7 @@ impl Style {
 
     /// What stands after a painted text.
     pub(crate) fn back_text(&self, alloc: Global) -> Result<String, AllocError>
-        ensures { IfOk result (λ text. string_bytes text ≡ back_codes self.now) }
+        ensures { IfOk result (λ text. string_bytes text ≡ back_codes (style_value self.now)) }
     {
         let codes = Codes::of(self);
         String::from_str(alloc, codes.reset())

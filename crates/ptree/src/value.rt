@@ -3,6 +3,7 @@ ghost use Rattle.std.specs.Prelude.{◌≡◌, [], map, IfOk};
 ghost use Rattle.ptree.specs.Children.{children_items};
 ghost use Rattle.ptree.specs.Data.{is_list, item_pairs, entry_pair, entry_pairs, value_pairs, pair_shape, value_shape};
 ghost use Rattle.ptree.specs.Shape.{kids};
+ghost use Rattle.ptree.specs.Style.{style_value};
 ghost use Rattle.ptree.specs.Value.{data_of, items_meant, entries_meant, pair_of};
 ghost use Rattle.ptree.specs.Writing.{IsWritten, HasCause, TakesNoMemory};
 
@@ -174,7 +175,7 @@ impl TreeItem for Value {
     /// Writes the value's text, painted. It takes no memory.
     fn write_self<W: Sink>(&self, alloc: Global, f: &mut W, style: &Style) -> Result<(), DrawError>
         ensures bytes { IsWritten (W.contents f.old) (W.contents f.new) result
-            ((value_shape (data_of self.now)).own [] style.now) }
+            ((value_shape (data_of self.now)).own [] (style_value style.now)) }
         ensures cause { HasCause (W.faults f.old) (W.faults f.new) result }
         ensures memory { TakesNoMemory result }
     {
@@ -206,7 +207,7 @@ impl TreeItem for (String, Value) {
     /// Writes the label, or where it is empty the value's text, painted. It takes no memory.
     fn write_self<W: Sink>(&self, alloc: Global, f: &mut W, style: &Style) -> Result<(), DrawError>
         ensures bytes { IsWritten (W.contents f.old) (W.contents f.new) result
-            ((pair_shape (pair_of self.now)).own [] style.now) }
+            ((pair_shape (pair_of self.now)).own [] (style_value style.now)) }
         ensures cause { HasCause (W.faults f.old) (W.faults f.new) result }
         ensures memory { TakesNoMemory result }
     {

@@ -3,12 +3,11 @@ use Rattle.std.specs.Prelude.{ℕ, List, [], ◌∷◌, string_bytes, map, lengt
 use Rattle.ptree.specs.Address.{Address}
 use Rattle.ptree_callers.specs.declared.own_types.Volume.{Volume}
 use Rattle.ptree_callers.specs.declared.own_types.Folder.{Folder, out-Folder}
-use Rattle.ptree.specs.declared.style.Style.{Style}
 use Rattle.ptree.specs.Shape.{Shape, unfolded_shape}
-use Rattle.ptree.specs.Style.{painted_text}
+use Rattle.ptree.specs.Style.{StyleValue, painted_text}
 
 -- a folder's name, painted
-abbrev pub folder_own : Folder → Style → List ℕ
+abbrev pub folder_own : Folder → StyleValue → List ℕ
 folder_own f style = painted_text style (string_bytes (out-Folder f).name)
 
 -- the folders in a folder
@@ -20,7 +19,7 @@ abbrev pub folder_shape : Folder → Shape
 folder_shape f = unfolded_shape folder_own folder_parts f
 
 -- own bytes over the shapes of children, at each address
-abbrev pub over_own : (Style → List ℕ) → List Shape → Address → Style → List ℕ
+abbrev pub over_own : (StyleValue → List ℕ) → List Shape → Address → StyleValue → List ℕ
 over_own own cs [] style = own style
 over_own own cs (i ∷ a) style = unwrap_or (option_map (λ c. c.own a style) (slice_get cs i)) []
 
@@ -30,7 +29,7 @@ over_count cs [] = length cs
 over_count cs (i ∷ a) = unwrap_or (option_map (λ c. c.count a) (slice_get cs i)) 0
 
 -- own bytes over children
-abbrev pub over_shape : (Style → List ℕ) → List Shape → Shape
+abbrev pub over_shape : (StyleValue → List ℕ) → List Shape → Shape
 over_shape own cs = record { own = over_own own cs; count = over_count cs }
 
 -- a volume as an item: its title, painted, over its folders

@@ -1,13 +1,14 @@
 //! Callers that load configurations.
-ghost use Rattle.std.specs.Prelude.{◌≡◌, Some, None, IfOk, MatchResult};
+ghost use Rattle.std.specs.Prelude.{◌≡◌, false, Some, None, IfOk, MatchResult};
 ghost use Rattle.ptree.specs.Configuration.{config_value, default_configuration};
-ghost use Rattle.ptree.specs.Drawing.{IsDrawing, written_look};
-ghost use Rattle.ptree.specs.Loading.{config_of, meant_by};
-ghost use Rattle.ptree.specs.declared.print_config.PrintConfig.{PrintConfig};
+ghost use Rattle.ptree.specs.Drawing.{IsDrawing, look_by, look_of};
+ghost use Rattle.ptree.specs.Loading.{SayNothing, config_of, meant_by};
+ghost use Rattle.ptree.specs.declared.print_config.OutputKind.{OutputKind};
 
+use crate::drawing::drawing_of;
 use ptree::item::TreeItem;
 use ptree::output::write_tree;
-use ptree::print_config::{Fault, FileSource, PrintConfig, Sources, first_fault};
+use ptree::print_config::{Fault, FileSource, OutputKind, PrintConfig, Sources, first_fault};
 use ptree::style::{Counted, DrawError};
 use std::alloc::{AllocError, Global};
 
@@ -37,15 +38,45 @@ pub fn load_nothing(alloc: Global) -> Result<PrintConfig, AllocError>
     PrintConfig::from_env(alloc, &sources)
 }
 
-/// The drawing of any item under sources, in memory: it is one under a configuration that holds what the sources mean.
+/// The drawing of any item under sources, in memory: what the sources mean gives it.
 pub fn drawing_under<T>(alloc: Global, item: &T, sources: &Sources) -> Result<Vec<u8>, DrawError>
 where
     T: TreeItem,
     T::Child: TreeItem<Child = T::Child> + Drop,
-    ensures { IfOk result (λ v. (config : PrintConfig) × (config_value config ≡ meant_by sources.now)
-        × IsDrawing (written_look config) (T.shape item.now) config.depth v.items) }
+    ensures { IfOk result (λ v. let meant = meant_by sources.now in
+        IsDrawing (look_by meant OutputKind.Unknown false) (T.shape item.now) meant.depth v.items) }
 {
     let mut out = Counted::new(Vec::new(alloc));
     write_tree(alloc, item, &mut out, sources)?;
     Ok(out.into_inner())
+}
+
+/// The drawing of any item where there is no file, and no variable of a field: the default gives it, and every level is drawn that there
+/// can be.
+pub fn drawing_unset<T>(alloc: Global, item: &T, sources: &Sources) -> Result<Vec<u8>, DrawError>
+where
+    T: TreeItem,
+    T::Child: TreeItem<Child = T::Child> + Drop,
+    requires { SayNothing sources.now }
+    ensures { IfOk result (λ v.
+        IsDrawing (look_by default_configuration OutputKind.Unknown false) (T.shape item.now) 4294967295 v.items) }
+{
+    drawing_of(alloc, item, &PrintConfig::from_env(alloc, sources)?)
+}
+
+/// Two configurations that hold the same give one drawing, wherever their texts lie.
+pub fn drawing_of_same<T>(
+    alloc: Global,
+    item: &T,
+    config: &PrintConfig,
+    other: &PrintConfig,
+) -> Result<Vec<u8>, DrawError>
+where
+    T: TreeItem,
+    T::Child: TreeItem<Child = T::Child> + Drop,
+    requires { config_value config.now ≡ config_value other.now }
+    ensures { IfOk result (λ v.
+        IsDrawing (look_of other.now OutputKind.Unknown false) (T.shape item.now) other.now.depth v.items) }
+{
+    drawing_of(alloc, item, config)
 }

@@ -2,21 +2,18 @@
 use Rattle.std.specs.Prelude.{◌≡◌, ◌⊎◌, ⊤, ℕ, Bool, ◌+◌, List, [], ◌∷◌, ◌++◌, Option, Some, None, Ok, IsErr, IsUtf8, codes}
 use Rattle.std.specs.Io.KnownBytes.{Appends}
 use Rattle.ptree.specs.declared.print_config.OutputKind.TheVariants.{Stdout}
-use Rattle.ptree.specs.declared.print_config.PrintConfig.{PrintConfig}
 use Rattle.ptree.specs.declared.print_config.Sources.{Sources}
-use Rattle.ptree.specs.Configuration.{config_value}
 use Rattle.ptree.specs.Data.{Data, pair_shape}
 use Rattle.ptree.specs.Document as of
-use Rattle.ptree.specs.Drawing.{look_of, written_look, IsDrawing}
-use Rattle.ptree.specs.DrawnForm.{IsDrawnForm}
+use Rattle.ptree.specs.Drawing.{look_by, IsDrawing}
 use Rattle.ptree.specs.Loading.{meant_by}
-use Rattle.ptree.specs.Readable.{HasReadablePieces}
+use Rattle.ptree.specs.Readable.{IsReadableWith}
 use Rattle.ptree.specs.Shape.{Shape}
 use Rattle.ptree.specs.Tree.{Tree, shape_of_tree}
 use Rattle.ptree.specs.Writing.{AppendsPart}
 use Rattle.ptree_cli.specs.Command.{Command, words, document, redraw, words_tree, Request}
 use Rattle.ptree_cli.specs.Input.{ReadsAll}
-use Rattle.ptree_cli.specs.Redraw.{plus_look, plus_depth, IsDrawnFormOfNone}
+use Rattle.ptree_cli.specs.Redraw.{plus_look, plus_depth, read_look, IsDrawingRead}
 use Rattle.ptree_cli.specs.declared.ending.Ending.{Ending}
 use Rattle.ptree_cli.specs.declared.ending.Ending.TheVariants.{Done, Usage, PiecesNotReadable, CannotRead, BadDocument, NotADrawing, CannotWrite, NoMemory}
 
@@ -53,13 +50,9 @@ Reads (words root children) old new text = text ≡ []
 Reads (document format label) old new text = ReadsAll old new text
 Reads redraw old new text = ReadsAll old new text
 
--- this holds of a configuration that sources mean
-abbrev pub Meant : Sources → (PrintConfig → Type 0) → Type 0
-Meant sources P = (config : PrintConfig) × (config_value config ≡ meant_by sources) × P config
-
--- the drawing for standard output, under sources
+-- the drawing for standard output, under what the sources mean
 abbrev pub IsPrinted : Sources → Bool → Shape → List ℕ → Type 0
-IsPrinted sources terminal x bytes = Meant sources (λ config. IsDrawing (look_of config Stdout terminal) x config.depth bytes)
+IsPrinted sources terminal x bytes = let meant = meant_by sources in IsDrawing (look_by meant Stdout terminal) x meant.depth bytes
 
 -- what a command draws of the text that it reads
 abbrev pub IsRequested : Sources → Bool → Command → List ℕ → List ℕ → Type 0
@@ -67,8 +60,7 @@ IsRequested sources terminal (words root children) text bytes = IsPrinted source
 IsRequested sources terminal (document format label) text bytes =
     (v : Data) × (of.document format text ≡ Ok v) × IsPrinted sources terminal (pair_shape (label, v)) bytes
 IsRequested sources terminal redraw text bytes =
-    (t : Tree) × Meant sources (λ config. IsDrawnForm (written_look config) config.depth text t)
-    × IsDrawing plus_look (shape_of_tree t) plus_depth bytes
+    (t : Tree) × IsDrawingRead sources text t × IsDrawing plus_look (shape_of_tree t) plus_depth bytes
 
 -- a text was read, and what is asked for of it stands in this relation to standard output
 abbrev pub DrawsRequest : Sources → Request → Streams → Streams → (Option (List ℕ) → Option (List ℕ) → List ℕ → Type 0) → Type 0
@@ -88,13 +80,13 @@ IsBadDocument (words root children) text = ⊥
 IsBadDocument (document format label) text = IsErr (of.document format text)
 IsBadDocument redraw text = ⊥
 
--- the command reads drawings, and by the configuration that sources mean it can't
+-- the command reads drawings, and by what the sources mean it can't
 abbrev pub HasNoReadablePieces : Sources → Command → Type 0
-HasNoReadablePieces sources command = (command ≡ redraw) × Meant sources (λ config. HasReadablePieces config → ⊥)
+HasNoReadablePieces sources command = (command ≡ redraw) × (let look = read_look sources in IsReadableWith look.pieces look.mark → ⊥)
 
--- the command reads drawings, and the text is none under the configuration that sources mean
+-- the command reads drawings, and the text is none
 abbrev pub IsNoDrawing : Sources → Command → List ℕ → Type 0
-IsNoDrawing sources command text = (command ≡ redraw) × Meant sources (λ config. IsDrawnFormOfNone (written_look config) config.depth text)
+IsNoDrawing sources command text = (command ≡ redraw) × ((t : Tree) → IsDrawingRead sources text t → ⊥)
 
 -- The call ended so. What is asked for was appended where all was done, and a beginning of it where standard output failed; nothing where
 -- the words have no known form, or the input isn't there or is refused; and nothing or a beginning where memory ran out.

@@ -1,12 +1,11 @@
 -- What an item means that has no memory for its children.
 use Rattle.std.specs.Prelude.{ℕ, List, string_bytes}
 use Rattle.ptree_fixtures.specs.declared.barren.Barren.{Barren, out-Barren}
-use Rattle.ptree.specs.declared.style.Style.{Style}
 use Rattle.ptree.specs.Shape.{Shape, unfolded_shape}
-use Rattle.ptree.specs.Style.{painted_text}
+use Rattle.ptree.specs.Style.{StyleValue, painted_text}
 
 -- an item's text, painted
-abbrev pub barren_own : Barren → Style → List ℕ
+abbrev pub barren_own : Barren → StyleValue → List ℕ
 barren_own b style = painted_text style (string_bytes (out-Barren b).text)
 
 -- the items below an item

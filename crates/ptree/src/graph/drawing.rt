@@ -1,14 +1,13 @@
 //! What is drawn of a graph.
 ghost use Rattle.std.specs.Prelude.{◌≡◌, ◌↔◌, ℕ, ◌<◌, List, length, map, All, IfOk};
 ghost use Rattle.ptree.specs.Children.{children_items};
-ghost use Rattle.ptree.specs.Drawing.{look_of, written_look, IsDrawing};
+ghost use Rattle.ptree.specs.Drawing.{look_by, written_look, IsDrawing};
 ghost use Rattle.ptree.specs.Graph.{weights_of, edges_of, neighbors_of, node_shape, walks};
+ghost use Rattle.ptree.specs.Loading.{meant_by};
 ghost use Rattle.ptree.specs.Shape.{kids};
-ghost use Rattle.ptree.specs.Style.{painted_text};
+ghost use Rattle.ptree.specs.Style.{style_value, painted_text};
 ghost use Rattle.ptree.specs.Tree.{shape_of_tree};
 ghost use Rattle.ptree.specs.declared.print_config.OutputKind.{OutputKind};
-ghost use Rattle.ptree.specs.declared.print_config.PrintConfig.{PrintConfig};
-ghost use Rattle.ptree.specs.UnderSources.{UnderSources};
 ghost use Rattle.ptree.specs.Writing.{IsWritten, HasCause, TakesNoMemory, IsDrawn, LeavesWholeEntries};
 
 use super::{Graph, NodeIndex};
@@ -30,7 +29,7 @@ pub trait Label {
     /// `Write` or `Zero` where `f` failed, and `Memory`. A beginning of the painted text was written.
     fn write_label<W: Sink>(&self, alloc: Global, f: &mut W, style: &Style) -> Result<(), DrawError>
         ensures bytes { IsWritten (W.contents f.old) (W.contents f.new) result
-            (painted_text style.now (text self.now)) }
+            (painted_text (style_value style.now) (text self.now)) }
         ensures cause { HasCause (W.faults f.old) (W.faults f.new) result };
 }
 
@@ -47,7 +46,7 @@ impl Label for String {
         style: &Style,
     ) -> Result<(), DrawError>
         ensures bytes { IsWritten (W.contents f.old) (W.contents f.new) result
-            (painted_text style.now (string_bytes self.now)) }
+            (painted_text (style_value style.now) (string_bytes self.now)) }
         ensures cause { HasCause (W.faults f.old) (W.faults f.new) result }
         ensures memory { TakesNoMemory result }
     {
@@ -66,7 +65,7 @@ impl Label for &str {
         style: &Style,
     ) -> Result<(), DrawError>
         ensures bytes { IsWritten (W.contents f.old) (W.contents f.new) result
-            (painted_text style.now self.now.now) }
+            (painted_text (style_value style.now) self.now.now) }
         ensures cause { HasCause (W.faults f.old) (W.faults f.new) result }
         ensures memory { TakesNoMemory result }
     {
@@ -210,20 +209,21 @@ pub fn print_graph<N: Label, W: Sink>(
     terminal: bool,
     sources: &Sources,
 ) -> Result<(), DrawError>
-    ensures drawn { UnderSources DrawError.Memory sources.now (W.contents out.old) (W.contents out.new) result
-        (λ config.
-        IsDrawn (look_of config OutputKind.Stdout terminal) (node_shape N.text graph.now start.0)
-        config.depth (W.contents out.old) (W.contents out.new) result
-        × LeavesWholeEntries (look_of config OutputKind.Stdout terminal)
-        (node_shape N.text graph.now start.0) config.depth (W.contents out.old)
-        (W.contents out.new) result) }
+    ensures bytes { let meant = meant_by sources.now in
+        IsDrawn (look_by meant OutputKind.Stdout terminal) (node_shape N.text graph.now start.0)
+        meant.depth (W.contents out.old) (W.contents out.new) result }
+    ensures whole { let meant = meant_by sources.now in
+        LeavesWholeEntries (look_by meant OutputKind.Stdout terminal)
+        (node_shape N.text graph.now start.0) meant.depth (W.contents out.old) (W.contents out.new)
+        result }
     ensures cause { HasCause (W.faults out.old) (W.faults out.new) result }
     // The drawings of a node are those of the tree of the walks from it.
-    ensures walks { start.0 < length (weights_of graph.now) → (config : PrintConfig) (text : List ℕ)
-        → IsDrawing (look_of config OutputKind.Stdout terminal)
-        (node_shape N.text graph.now start.0) config.depth text
-        ↔ IsDrawing (look_of config OutputKind.Stdout terminal)
-        (shape_of_tree (walks N.text graph.now start.0 config.depth)) config.depth text }
+    ensures walks { let meant = meant_by sources.now in
+        let look = look_by meant OutputKind.Stdout terminal in
+        start.0 < length (weights_of graph.now) → (text : List ℕ)
+        → IsDrawing look (node_shape N.text graph.now start.0) meant.depth text
+        ↔ IsDrawing look (shape_of_tree (walks N.text graph.now start.0 meant.depth)) meant.depth
+        text }
 {
     let config = PrintConfig::from_env(alloc, sources)?;
     let item = GraphNode { graph, node: start };

@@ -2,7 +2,7 @@
 ghost use Rattle.std.specs.Prelude.{◌≡◌, IfOk};
 ghost use Rattle.ptree.specs.Drawing.{effective_style, look_of};
 ghost use Rattle.ptree.specs.Looks.{look_meant};
-ghost use Rattle.ptree.specs.Style.{plain_style};
+ghost use Rattle.ptree.specs.Style.{plain_style, style_value};
 
 use crate::output::indent::Indent;
 use crate::print_config::{OutputKind, PrintConfig};
@@ -44,7 +44,7 @@ impl<'a> Look<'a> {
 // A style where output is styled, else the plain one.
 fn effective_style<'a>(style: &'a Style, plain: &'a Style, styled: bool) -> &'a Style
     requires { plain.now ≡ plain_style }
-    ensures { result.now ≡ effective_style styled style.now }
+    ensures { style_value result.now ≡ effective_style styled (style_value style.now) }
 {
     if styled { style } else { plain }
 }

@@ -1,6 +1,6 @@
 //! The document of a configuration file, in either format.
 ghost use Rattle.std.specs.Prelude.{◌≡◌, option_map, option_copied, is_some, IfOk};
-ghost use Rattle.ptree.specs.Equality.{color_value};
+ghost use Rattle.ptree.specs.Color.{color_value};
 ghost use Rattle.ptree.specs.File.{get, is_table, as_whole, as_text, as_flag, is_null, whole_node, when_node, as_triple, json_triple, toml_triple, color_numbers, color_node};
 ghost use Rattle.ptree.specs.Lent.{node_view, document_view};
 ghost use Rattle.ptree.specs.Sources.{document, json_document, toml_document};

@@ -2,11 +2,12 @@
 ghost use Rattle.std.specs.Prelude.{◌≡◌, map, option_map, option_copied, unwrap_or, is_some, string_bytes, IfOk};
 ghost use Rattle.std.specs.List.{list_any};
 ghost use Rattle.ptree.specs.Characters.{characters_of, static_characters};
-ghost use Rattle.ptree.specs.Configuration.{config_value, style_value};
-ghost use Rattle.ptree.specs.Equality.{color_value};
+ghost use Rattle.ptree.specs.Configuration.{config_value};
+ghost use Rattle.ptree.specs.Color.{color_value};
 ghost use Rattle.ptree.specs.File.{set_node, characters_in, text_at};
 ghost use Rattle.ptree.specs.Lent.{document_view, node_view, given_view, lent_characters};
 ghost use Rattle.ptree.specs.Loading.{whole, when, set, text, color, flag, characters, is_dimmed, style_of, configuration, text_fits, node_fits, field_fault, table_fault, file_fault, first_of, fault_in, first_fault, config_of};
+ghost use Rattle.ptree.specs.Style.{style_value};
 ghost use Rattle.ptree.specs.Sources.{variables_of, last_value, document, given_by, variable, table_at, node};
 ghost use Rattle.ptree.specs.declared.print_config.fields.Field.{Field};
 

@@ -2,7 +2,7 @@
 ghost use Rattle.std.specs.Prelude.{◌≡◌, option_map, IfOk};
 ghost use Rattle.std.specs.Str.{str_eq_ignore_ascii_case, all_ascii_digits};
 ghost use Rattle.ptree.specs.Characters.{static_characters, is_spelled, set_spelled};
-ghost use Rattle.ptree.specs.Equality.{color_value};
+ghost use Rattle.ptree.specs.Color.{color_value};
 ghost use Rattle.ptree.specs.Words.{when_spelled, flag_text, number_text, color_text};
 
 use crate::print_config::{

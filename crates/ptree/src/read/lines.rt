@@ -6,7 +6,7 @@ ghost use Rattle.ptree.specs.Meant.{text_meant, passing_meant, item_meant, items
 ghost use Rattle.ptree.specs.Pieces.{Pieces, pieces_of, turning_piece, passing_piece};
 ghost use Rattle.ptree.specs.Readable.{IsReadable, IsReadableWith};
 ghost use Rattle.ptree.specs.Spelled.{SpelledItem, ArePassing, Passed, HasItemPieces, IsNotContinued, HasOwn, HasText, HasItem, HasRoot, Spells};
-ghost use Rattle.ptree.specs.Style.{front_codes, back_codes};
+ghost use Rattle.ptree.specs.Style.{style_value, front_codes, back_codes};
 ghost use Rattle.ptree.specs.Text.{HasNoLineFeed, line_feed};
 
 use crate::builder::OutlineLine;
@@ -25,7 +25,7 @@ pub(crate) struct CodeTexts {
 impl CodeTexts {
     // The codes of a style.
     fn of_style(alloc: Global, style: &Style) -> Result<CodeTexts, AllocError>
-        ensures { IfOk result (λ c. HasCodes c style.now) }
+        ensures { IfOk result (λ c. HasCodes c (style_value style.now)) }
     {
         Ok(CodeTexts {
             front: style.front_text(alloc)?,
@@ -40,7 +40,7 @@ pub(crate) struct Frame<'a> {
     pub(crate) look: &'a Look<'a>,
     branch: CodeTexts,
     leaf: CodeTexts,
-    ghost codes: { HasCodes branch look.now.branch.now × HasCodes leaf look.now.leaf.now },
+    ghost codes: { HasCodes branch (style_value look.now.branch.now) × HasCodes leaf (style_value look.now.leaf.now) },
 }
 
 impl<'a> Frame<'a> {
@@ -57,7 +57,7 @@ impl<'a> Frame<'a> {
 
     // What follows the codes before a prefix.
     fn skip_branch_front<'b>(&self, text: &'b str) -> Option<&'b str>
-        ensures { let codes = front_codes self.now.look.now.branch.now in
+        ensures { let codes = front_codes (style_value self.now.look.now.branch.now) in
             MatchOption result ((rest : List ℕ) → text.now ≢ codes ++ rest)
             (λ r. text.now ≡ codes ++ r.now) }
     {
@@ -66,7 +66,7 @@ impl<'a> Frame<'a> {
 
     // What follows the codes behind a prefix.
     fn skip_branch_back<'b>(&self, text: &'b str) -> Option<&'b str>
-        ensures { let codes = back_codes self.now.look.now.branch.now in
+        ensures { let codes = back_codes (style_value self.now.look.now.branch.now) in
             MatchOption result ((rest : List ℕ) → text.now ≢ codes ++ rest)
             (λ r. text.now ≡ codes ++ r.now) }
     {
@@ -75,7 +75,7 @@ impl<'a> Frame<'a> {
 
     // What follows the codes before a text.
     fn skip_leaf_front<'b>(&self, text: &'b str) -> Option<&'b str>
-        ensures { let codes = front_codes self.now.look.now.leaf.now in
+        ensures { let codes = front_codes (style_value self.now.look.now.leaf.now) in
             MatchOption result ((rest : List ℕ) → text.now ≢ codes ++ rest)
             (λ r. text.now ≡ codes ++ r.now) }
     {
@@ -84,7 +84,7 @@ impl<'a> Frame<'a> {
 
     // What precedes the codes behind a text of one line.
     fn drop_leaf_back<'b>(&self, line: &'b str) -> Option<&'b str>
-        ensures { let codes = back_codes self.now.look.now.leaf.now in
+        ensures { let codes = back_codes (style_value self.now.look.now.leaf.now) in
             MatchOption result ((text : List ℕ) → line.now ≢ text ++ codes)
             (λ r. line.now ≡ r.now ++ codes) }
     {
@@ -93,7 +93,7 @@ impl<'a> Frame<'a> {
 
     // What precedes the codes behind a text of several lines, in the same memory.
     fn drop_leaf_back_of(&self, lines: String) -> Option<String>
-        ensures { let codes = back_codes self.now.look.now.leaf.now in
+        ensures { let codes = back_codes (style_value self.now.look.now.leaf.now) in
             MatchOption result ((text : List ℕ) → string_bytes lines ≢ text ++ codes)
             (λ r. string_bytes lines ≡ string_bytes r ++ codes) }
     {

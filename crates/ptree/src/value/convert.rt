@@ -1,6 +1,9 @@
-//! Why a document's value gives no value.
-ghost use Rattle.std.specs.Prelude.{◌≡◌};
+//! What both conversions share: an entry, and why a document's value gives no value.
+ghost use Rattle.std.specs.Prelude.{◌≡◌, [], ◌∷◌, ◌++◌, map, OnOk, string_bytes};
+ghost use Rattle.ptree.specs.Data.{string};
+ghost use Rattle.ptree.specs.Value.{data_of, entry_meant};
 
+use super::Value;
 use std::alloc::{AllocError, AllocFailed};
 use std::error::Error;
 use std::fmt;
@@ -51,3 +54,16 @@ impl fmt::Display for ConvertError {
 }
 
 impl Error for ConvertError {}
+
+// Puts a value under a key of its own.
+pub(super) fn push_entry(
+    entries: &mut Vec<(Value, Value)>,
+    key: &String,
+    value: Value,
+) -> Result<(), AllocError>
+    ensures { OnOk result (map entry_meant entries.new.items
+        ≡ map entry_meant entries.old.items ++ (string (string_bytes key.now), data_of value) ∷ []) }
+{
+    entries.push((Value::String(key.clone()?), value))?;
+    Ok(())
+}

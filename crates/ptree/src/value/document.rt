@@ -2,8 +2,8 @@
 ghost use Rattle.std.specs.Prelude.{◌≡◌, Ok, Err, IfOk, IfErr, IsErrAnd, IsErrOf};
 ghost use Rattle.ptree.specs.Data.{pair_shape};
 ghost use Rattle.ptree.specs.Document.{document, document_error, IsRefusal, HasDocumentCause};
-ghost use Rattle.ptree.specs.Drawing.{look_of};
-ghost use Rattle.ptree.specs.UnderSources.{UnderSources};
+ghost use Rattle.ptree.specs.Drawing.{look_by, look_of};
+ghost use Rattle.ptree.specs.Loading.{meant_by};
 ghost use Rattle.ptree.specs.Value.{data_of};
 ghost use Rattle.ptree.specs.Writing.{IsDrawn, AppendsWholeEntries};
 
@@ -122,15 +122,16 @@ pub fn draw_document<W: Sink>(
     ensures date { IsErrOf result DocError.Date → document format text.now ≡ Err DocError.Date }
     ensures refused { IfErr (document format text.now) (λ _.
         IsErrAnd result (IsRefusal (document format text.now)) × (out.new ≡ out.old)) }
-    // Any other is drawn; where memory ran out, what was appended is whole entries.
-    ensures drawn { IfOk (document format text.now) (λ v.
-        UnderSources (DocError.Draw DrawError.Memory) sources.now (W.contents out.old)
-        (W.contents out.new) result (λ config.
-        IsDrawn (look_of config OutputKind.Stdout terminal) (pair_shape (label.now, v))
-        config.depth (W.contents out.old) (W.contents out.new) result
-        × (IsErrOf result (DocError.Draw DrawError.Memory)
-        → AppendsWholeEntries (look_of config OutputKind.Stdout terminal)
-        (pair_shape (label.now, v)) config.depth (W.contents out.old) (W.contents out.new)))) }
+    // Any other is drawn, by what the sources mean.
+    ensures bytes { let meant = meant_by sources.now in
+        IfOk (document format text.now)
+        (λ v. IsDrawn (look_by meant OutputKind.Stdout terminal) (pair_shape (label.now, v))
+        meant.depth (W.contents out.old) (W.contents out.new) result) }
+    // Where memory ran out, what was appended is whole entries.
+    ensures whole { let meant = meant_by sources.now in
+        IfOk (document format text.now) (λ v. IsErrOf result (DocError.Draw DrawError.Memory) →
+        AppendsWholeEntries (look_by meant OutputKind.Stdout terminal)
+        (pair_shape (label.now, v)) meant.depth (W.contents out.old) (W.contents out.new)) }
     ensures cause { HasDocumentCause (W.faults out.old) (W.faults out.new) result }
 {
     let config = PrintConfig::from_env(alloc, sources)?;

@@ -5,6 +5,7 @@ ghost use Rattle.std.specs.Prelude.{◌≡◌, ◌↔◌, false, Ok, Err, IfOk, 
 ghost use Rattle.ptree.specs.Convert.{json_data, json_items, json_entries, json_conversion};
 ghost use Rattle.ptree.specs.Value.{data_of, items_meant, entries_meant};
 
+use super::convert::push_entry;
 use super::{ConvertError, Value};
 use serde_json::Map;
 use std::alloc::{AllocError, Global};
@@ -116,8 +117,7 @@ fn entries_of(
 {
     let mut entries = Vec::with_capacity(alloc, members.len())?;
     for (key, member) in members.iter() {
-        let key = Value::String(key.clone()?);
-        entries.push((key, value_of(alloc, member)?))?;
+        push_entry(&mut entries, key, value_of(alloc, member)?)?;
     }
     Ok(entries)
 }

@@ -4,6 +4,7 @@ ghost use Rattle.std.specs.Prelude.{◌≡◌, ◌↔◌, None, Ok, Err, IfOk, I
 ghost use Rattle.ptree.specs.Convert.{toml_fault, toml_item_fault, toml_member_fault, toml_data, toml_items, toml_entries, toml_conversion};
 ghost use Rattle.ptree.specs.Value.{data_of, items_meant, entries_meant};
 
+use super::convert::push_entry;
 use super::{ConvertError, Value};
 use std::alloc::{AllocError, Global};
 use toml::Table;
@@ -107,8 +108,7 @@ fn entries_of(alloc: Global, members: &Table) -> Result<Vec<(Value, Value)>, All
 {
     let mut entries = Vec::with_capacity(alloc, members.len())?;
     for (key, member) in members.iter() {
-        let key = Value::String(key.clone()?);
-        entries.push((key, value_of(alloc, member)?))?;
+        push_entry(&mut entries, key, value_of(alloc, member)?)?;
     }
     Ok(entries)
 }

@@ -2,7 +2,7 @@
 ghost use Rattle.std.specs.Prelude.{◌≡◌, ◌++◌, [], codes, map, IfOk};
 ghost use Rattle.ptree.specs.Data.{item_pairs, entry_pairs, value_pairs, pair_shape};
 ghost use Rattle.ptree.specs.Nodes.{pair_of_node};
-ghost use Rattle.ptree.specs.Style.{painted_text};
+ghost use Rattle.ptree.specs.Style.{style_value, painted_text};
 ghost use Rattle.ptree.specs.Value.{data_of, items_meant, entries_meant};
 ghost use Rattle.ptree.specs.Writing.{IsWritten, HasCause, TakesNoMemory};
 
@@ -33,7 +33,7 @@ impl<'a> TreeItem for Node<'a> {
     /// Writes the text, painted. It takes no memory.
     fn write_self<W: Sink>(&self, _alloc: Global, f: &mut W, style: &Style) -> Result<(), DrawError>
         ensures bytes { IsWritten (W.contents f.old) (W.contents f.new) result
-            ((pair_shape (pair_of_node self.now)).own [] style.now) }
+            ((pair_shape (pair_of_node self.now)).own [] (style_value style.now)) }
         ensures cause { HasCause (W.faults f.old) (W.faults f.new) result }
         ensures memory { TakesNoMemory result }
     {
@@ -109,7 +109,7 @@ fn entry_nodes<'a>(
 // Writes `key = value`, painted.
 fn write_entry<W: Sink>(f: &mut W, style: &Style, key: &str, value: &str) -> Result<(), DrawError>
     ensures bytes { IsWritten (W.contents f.old) (W.contents f.new) result
-        (painted_text style.now (key.now ++ codes " = " ++ value.now)) }
+        (painted_text (style_value style.now) (key.now ++ codes " = " ++ value.now)) }
     ensures cause { HasCause (W.faults f.old) (W.faults f.new) result }
     ensures memory { TakesNoMemory result }
 {

@@ -1,5 +1,18 @@
-use Rattle.std.proofs.Common.{inl}
+use Rattle.std.proofs.Common.{false, sym}
+use Rattle.ptree.specs.declared.print_config.OutputKind.TheVariants.{Unknown}
+use Rattle.ptree.specs.Drawing.{look_by}
+use Rattle.ptree.specs.Loading.{meant_by}
+use Rattle.ptree.proofs.Drawn.{drawn_nothing, whole_nothing}
 use Rattle.ptree.proofs.output.write_tree.Goals as goal
 
-pub returns-clause-drawn : goal.returns-clause-drawn
-returns-clause-drawn g c = inl (c.in_ok-config.config, c.in_ok-config.ensures, (c.write_tree_with.ensures.bytes, c.write_tree_with.ensures.whole))
+pub returns-clause-bytes : goal.returns-clause-bytes
+returns-clause-bytes g c = rw (sym c.in_ok-config.ensures.value) c.write_tree_with.ensures.bytes
+
+pub returns-clause-whole : goal.returns-clause-whole
+returns-clause-whole g c = rw (sym c.in_ok-config.ensures.value) c.write_tree_with.ensures.whole
+
+pub returns-in_err-config-clause-bytes : goal.returns-in_err-config-clause-bytes
+returns-in_err-config-clause-bytes g c = drawn_nothing _ (look_by (meant_by c.args.sources.now) Unknown false) _ _ _ _ c.from_residual.ensures.1
+
+pub returns-in_err-config-clause-whole : goal.returns-in_err-config-clause-whole
+returns-in_err-config-clause-whole g c = let meant = meant_by c.args.sources.now in whole_nothing (look_by meant Unknown false) (g.T.Shaped.shape c.args.item.now) meant.depth _ _

@@ -12,4 +12,4 @@ unfolding characters style_of configuration fault_in last_value variable table_a
 meant variables e = rw e refl
 
 pub returns : goal.returns
-returns c = IfOk-weaker c.from_env.result _ _ (λ config h. h ∙ meant _ (ap variables_of c.new.ensures.items)) c.from_env.ensures
+returns c = IfOk-weaker c.from_env.result _ _ (λ config h. h ∙ meant _ (ap variables_of c.new.ensures.items)) c.from_env.ensures.value

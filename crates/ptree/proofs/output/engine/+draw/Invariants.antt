@@ -19,7 +19,7 @@ decreases-draw_below g l = 3 * l.levels_left + 2
 -- the entries so far
 abbrev pub invariant-draw_children-loop-item : goal.invariant-draw_children-loop-item
 invariant-draw_children-loop-item g l = record {
-  begun : (front : List ℕ) → l.fn.pen.line.bytes.items ≡ front_codes l.brush.look.now.branch.now ++ front
+  begun : (front : List ℕ) → l.fn.pen.line.bytes.items ≡ front_codes (look_meant l.brush.look.now).branch ++ front
       → (let look = look_meant l.brush.look.now in AreBegun look (entries_below look l.levels_left) front (map g.C.Shaped.shape l.items)
       (map g.C.Shaped.shape l.rest) (g.W.Sink.contents l.fn.f) (g.W.Sink.contents l.f));
   no_fault : g.W.Sink.faults l.f ≡ g.W.Sink.faults l.fn.f;

@@ -1,9 +1,23 @@
-use Rattle.std.proofs.Common.{inl}
-use Rattle.std.proofs.lemmas.Result.{IfOk-weaker}
+use Rattle.std.proofs.Common.{sym}
+use Rattle.ptree.specs.declared.print_config.OutputKind.TheVariants.{Stdout}
 use Rattle.ptree.specs.Document.{document}
-use Rattle.ptree.proofs.Documents.{ok_both}
+use Rattle.ptree.specs.Drawing.{look_by}
+use Rattle.ptree.specs.Loading.{meant_by}
+use Rattle.ptree.proofs.Documents.{nothing_drawn, no_entries}
 use Rattle.ptree.proofs.value.document.draw_document.Goals as goal
 
-pub returns-clause-drawn : goal.returns-clause-drawn
-returns-clause-drawn g c =
-    IfOk-weaker (document c.args.format c.args.text.now) _ _ (λ v drawn. inl (c.in_ok-config.config, c.in_ok-config.ensures, drawn)) (ok_both (document c.args.format c.args.text.now) _ _ c.draw_document_with.ensures.bytes c.draw_document_with.ensures.whole)
+pub returns-clause-bytes : goal.returns-clause-bytes
+returns-clause-bytes g c = rw (sym c.in_ok-config.ensures.value) c.draw_document_with.ensures.bytes
+
+pub returns-clause-whole : goal.returns-clause-whole
+returns-clause-whole g c = rw (sym c.in_ok-config.ensures.value) c.draw_document_with.ensures.whole
+
+pub returns-in_err-config-clause-bytes : goal.returns-in_err-config-clause-bytes
+returns-in_err-config-clause-bytes g c =
+    let meant = meant_by c.args.sources.now in
+    nothing_drawn _ (document c.args.format c.args.text.now) (look_by meant Stdout c.args.terminal) c.args.label.now meant.depth _ c.from_residual.result c.from_residual.ensures.1
+
+pub returns-in_err-config-clause-whole : goal.returns-in_err-config-clause-whole
+returns-in_err-config-clause-whole g c =
+    let meant = meant_by c.args.sources.now in
+    no_entries _ (document c.args.format c.args.text.now) (look_by meant Stdout c.args.terminal) c.args.label.now meant.depth _

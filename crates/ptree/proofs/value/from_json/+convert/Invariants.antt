@@ -1,9 +1,9 @@
-use Rattle.std.proofs.Common.{◌≡◌, List, false, ◌++◌, map, take, drop}
+use Rattle.std.proofs.Common.{◌≡◌, false, map, take, drop}
 use Rattle.serde_json.specs.View.{view, items_view, members_view}
 use Rattle.serde_json.specs.Written.{items_have_float, members_have_float}
 use Rattle.ptree.specs.Convert.{json_data}
-use Rattle.ptree.specs.Value.{data_of, entry_meant}
-use Rattle.ptree.proofs.Converted.{JsonEntry, json_entry}
+use Rattle.ptree.specs.Value.{data_of}
+use Rattle.ptree.proofs.Converted.{AreMade}
 use Rattle.ptree.proofs.value.from_json.+convert.Given as goal
 
 abbrev pub invariant-values_of-loop-item : goal.invariant-values_of-loop-item
@@ -16,4 +16,4 @@ invariant-entries_of-loop-key l =
     (goal.iterator-entries_of-loop-key).can_next l.key-iterator ×
     (goal.iterator-entries_of-loop-key).is_finite l.key-iterator ×
     (members_have_float (members_view l.key-iterator) ≡ false) ×
-    ((done : List JsonEntry) × ((l.members.entries ≡ done ++ l.key-iterator) × (map entry_meant l.entries.items ≡ map json_entry done)))
+    AreMade (λ v. json_data (view v)) l.members.entries l.key-iterator l.entries.items

@@ -1,44 +1,27 @@
-use Rattle.std.proofs.Common.{rules, ◌≡◌, ◌∷◌, [], ◌++◌, map, None, sym, ap, ◌∙◌, append_assoc, string_bytes}
-use Rattle.std.proofs.lemmas.List.{map-append, take_all}
-use Rattle.toml.specs.View.{view, members_view}
-use Rattle.ptree.specs.Convert.{toml_member_fault, toml_data}
-use Rattle.ptree.specs.Data.{string}
+use Rattle.std.proofs.Common.{rules, ◌≡◌, map, None, refl, ap, ◌∙◌}
+use Rattle.std.proofs.lemmas.List.{take_all}
+use Rattle.toml.specs.View.{view, items_view, members_view}
+use Rattle.ptree.specs.Convert.{toml_member_fault, toml_data, toml_items, toml_entries}
 use Rattle.ptree.specs.Value.{data_of, entry_meant, items_of, entries_of}
-use Rattle.ptree.specs.declared.value.Value.{String}
-use Rattle.ptree.proofs.Converted.{data_of-String, TomlEntry, toml_entry, toml_items-view, toml_entries-view}
+use Rattle.ptree.proofs.Converted.{member_data, made_more, items_made, entries_made}
 use Rattle.ptree.proofs.value.from_toml.+convert.Goals as goal
 
 pub values_of-returns : goal.values_of-returns
 values_of-returns t c =
     let all : map data_of c.loop-item.values.items ≡ map (λ v. toml_data (view v)) c.args.items.now.items =
     c.loop-item.invariant.0 ∙ ap (map (λ v. toml_data (view v))) (take_all c.loop-item.item-index c.deref-item-items.result.now c.loop-item-test.false ∙ c.deref-item-items.ensures.value) in
-    ap items_of all ∙ sym (toml_items-view c.args.items.now.items)
+    ap items_of all ∙ items_made (λ v. toml_data (view v)) (λ vs. toml_items (items_view vs)) refl (λ v vs. refl) c.args.items.now.items
 
 pub entries_of-loop-key-preserved : goal.entries_of-loop-key-preserved
 entries_of-loop-key-preserved t c =
     let l = c.loop-key in
-    let done = l.invariant.3.0 in
-    let e : TomlEntry = (c.in-Some.key.now, c.in-Some.member.now) in
     let left = c.next.new.self in
-    let all : c.args.members.now.entries ≡ done ++ e ∷ left = l.invariant.3.1.0 ∙ ap (λ es. done ++ es) c.in-Some.ensures.steps in
     let later : toml_member_fault (members_view left) ≡ None = search rules in
-    let named : string_bytes c.in_ok-clone.field-0 ≡ string_bytes e.0 = search rules in
-    let pair : entry_meant (String c.in_ok-clone.field-0, c.in_ok-value_of.field-0) ≡ toml_entry e =
-    ap (λ d. (d, data_of c.in_ok-value_of.field-0)) (data_of-String c.in_ok-clone.field-0)
-    ∙ ap (λ s. (string s, data_of c.in_ok-value_of.field-0)) named ∙ ap (λ d. (string (string_bytes e.0), d)) c.in_ok-value_of.ensures in (
-      tt,
-      tt,
-      later,
-      (
-        done ++ e ∷ [],
-        (
-          all ∙ sym (append_assoc done (e ∷ []) left),
-          rw c.in_ok-push.ensures.items (rw (map-append entry_meant l.entries.items, map-append toml_entry done (e ∷ []), l.invariant.3.1.1) (ap (λ p. map toml_entry done ++ p ∷ []) pair)),
-        ),
-      ),
-    )
+    let made = made_more (λ v. toml_data (view v)) c.args.members.now.entries l.key-iterator left (c.in-Some.key.now, c.in-Some.member.now) l.entries.items _ _
+    l.invariant.3 c.in-Some.ensures.steps c.in_ok-value_of.ensures c.in_ok-push_entry.ensures in
+    (tt, tt, later, made)
 
 pub entries_of-returns : goal.entries_of-returns
 entries_of-returns t c =
-    let all : map entry_meant c.loop-key.entries.items ≡ map toml_entry c.args.members.now.entries = search rules in
-    ap entries_of all ∙ sym (toml_entries-view c.args.members.now.entries)
+    let all : map entry_meant c.loop-key.entries.items ≡ map (member_data (λ v. toml_data (view v))) c.args.members.now.entries = search rules in
+    ap entries_of all ∙ entries_made (λ v. toml_data (view v)) (λ ms. toml_entries (members_view ms)) refl (λ m ms. refl) c.args.members.now.entries

@@ -1,8 +1,8 @@
-use Rattle.std.proofs.Common.{◌≡◌, List, None, ◌++◌, map, take, drop}
+use Rattle.std.proofs.Common.{◌≡◌, None, map, take, drop}
 use Rattle.toml.specs.View.{view, items_view, members_view}
 use Rattle.ptree.specs.Convert.{toml_item_fault, toml_member_fault, toml_data}
-use Rattle.ptree.specs.Value.{data_of, entry_meant}
-use Rattle.ptree.proofs.Converted.{TomlEntry, toml_entry}
+use Rattle.ptree.specs.Value.{data_of}
+use Rattle.ptree.proofs.Converted.{AreMade}
 use Rattle.ptree.proofs.value.from_toml.+convert.Given as goal
 
 abbrev pub invariant-values_of-loop-item : goal.invariant-values_of-loop-item
@@ -15,4 +15,4 @@ invariant-entries_of-loop-key l =
     (goal.iterator-entries_of-loop-key).can_next l.key-iterator ×
     (goal.iterator-entries_of-loop-key).is_finite l.key-iterator ×
     (toml_member_fault (members_view l.key-iterator) ≡ None) ×
-    ((done : List TomlEntry) × ((l.members.entries ≡ done ++ l.key-iterator) × (map entry_meant l.entries.items ≡ map toml_entry done)))
+    AreMade (λ v. toml_data (view v)) l.members.entries l.key-iterator l.entries.items
