@@ -42,13 +42,11 @@ where
     draw(alloc, item, f, &look, config.depth)
 }
 
-/// Draws an item and what is below it to standard output, `terminal` saying whether that is a terminal, under the configuration
-/// that sources mean ([`PrintConfig::from_env`]).
+/// Draws as [`print_tree_with`], under the configuration that sources mean ([`PrintConfig::from_env`]).
 ///
 /// # Errors
 ///
-/// `Write` or `Zero` where `out` failed, and `Memory`. A beginning of the drawing was written; where memory ran out,
-/// whole entries.
+/// Those of [`print_tree_with`].
 pub fn print_tree<T, W>(
     alloc: Global,
     item: &T,
@@ -74,12 +72,11 @@ where
     print_tree_with(alloc, item, out, terminal, &config)
 }
 
-/// Draws an item and what is below it to standard output, `terminal` saying whether that is a terminal.
+/// Draws as [`write_tree_with`], but to standard output, `terminal` saying whether that is a terminal.
 ///
 /// # Errors
 ///
-/// `Write` or `Zero` where `out` failed, and `Memory`. A beginning of the drawing was written; where memory ran out,
-/// whole entries.
+/// Those of [`write_tree_with`].
 pub fn print_tree_with<T, W>(
     alloc: Global,
     item: &T,
@@ -102,13 +99,11 @@ where
     draw_for(alloc, item, out, OutputKind::Stdout, terminal, config)
 }
 
-/// Draws an item and what is below it to a writer that isn't standard output, under the configuration that sources mean
-/// ([`PrintConfig::from_env`]).
+/// Draws as [`write_tree_with`], under the configuration that sources mean ([`PrintConfig::from_env`]).
 ///
 /// # Errors
 ///
-/// `Write` or `Zero` where `f` failed, and `Memory`. A beginning of the drawing was written; where memory ran out,
-/// whole entries.
+/// Those of [`write_tree_with`].
 pub fn write_tree<T, W>(
     alloc: Global,
     item: &T,

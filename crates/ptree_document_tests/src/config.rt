@@ -11,12 +11,11 @@ use ptree::print_config::{
 };
 use ptree::style::{Color, Counted, DrawError, Style};
 use std::alloc::{AllocError, Global};
-use std::process::Abort;
 use std::str;
 use std::test::Fail;
 
 // A file to load.
-#[derive(Clone, Copy)]
+#[derive(Debug, Clone, Copy)]
 enum File {
     Absent,
     Unreadable,
@@ -43,50 +42,42 @@ fn sources(alloc: Global, file: File, variables: &[(&str, &str)]) -> Result<Sour
     })
 }
 
-// These sources have no fault, and give this configuration.
+// That these sources have no fault, and give this configuration.
 fn gives(
-    rt: &impl Abort,
     alloc: Global,
     file: File,
     variables: &[(&str, &str)],
-    name: &str,
     config: &PrintConfig,
-) -> Result<(), AllocError> {
+) -> Result<(), Fail> {
     let sources = sources(alloc, file, variables)?;
     let fault = first_fault(alloc, &sources)?;
-    assert!(rt; fault.is_none(), "a fault in {name}");
-    match load(alloc, &sources)? {
-        Some(loaded) => assert!(rt; loaded == *config, "{name}"),
-        None => assert!(rt; false, "nothing is loaded of {name}"),
+    let loaded = load(alloc, &sources)?;
+    let meant = PrintConfig::from_env(alloc, &sources)?;
+    let is_loaded = match &loaded {
+        Some(loaded) => *loaded == *config,
+        None => false,
+    };
+    if fault.is_none() && is_loaded && meant == *config {
+        return Ok(());
     }
-    assert!(rt;
-        PrintConfig::from_env(alloc, &sources)? == *config,
-        "from_env of {name}"
-    );
-    Ok(())
+    Err(Fail::new(format_args!("{file:?} {variables:?} give {fault:?}, {loaded:?} and {meant:?}")))
 }
 
-// The first fault in these sources is this one, and they give the default.
+// That the first fault in these sources is this one, and that they give the default.
 fn is_faulty(
-    rt: &impl Abort,
     alloc: Global,
     file: File,
     variables: &[(&str, &str)],
-    name: &str,
     fault: Fault,
-) -> Result<(), AllocError> {
+) -> Result<(), Fail> {
     let sources = sources(alloc, file, variables)?;
-    assert!(rt;
-        first_fault(alloc, &sources)? == Some(fault),
-        "the fault in {name}"
-    );
-    assert!(rt; load(alloc, &sources)?.is_none(), "{name} is loaded");
-    let default = PrintConfig::default(alloc)?;
-    assert!(rt;
-        PrintConfig::from_env(alloc, &sources)? == default,
-        "from_env of {name}"
-    );
-    Ok(())
+    let found = first_fault(alloc, &sources)?;
+    let loaded = load(alloc, &sources)?;
+    let meant = PrintConfig::from_env(alloc, &sources)?;
+    if found == Some(fault) && loaded.is_none() && meant == PrintConfig::default(alloc)? {
+        return Ok(());
+    }
+    Err(Fail::new(format_args!("{file:?} {variables:?} give {found:?}, {loaded:?} and {meant:?}")))
 }
 
 fn named(alloc: Global, name: &str) -> Result<Option<Color>, AllocError> {
@@ -129,47 +120,19 @@ fn the_last_variable_wins_over_the_file(rt: HostRuntime) -> Result<(), Fail> {
     config.branch.foreground = named(alloc, "red")?;
     let file = File::Json("{\"branch\":{\"foreground\":\"red\"}}");
     gives(
-        &rt,
         alloc,
         file,
         &[("PTREE_DEPTH", "4"), ("ptree_depth", "5")],
-        "branch, depth",
         &config,
     )?;
-    gives(
-        &rt,
-        alloc,
-        File::Json("{\"depth\":7}"),
-        &[("Ptree_Depth", "5")],
-        "both",
-        &down_to(alloc, 5)?,
-    )?;
-    gives(
-        &rt,
-        alloc,
-        File::Absent,
-        &[("PTREE_DEPTH", "x"), ("PTREE_DEPTH", "5")],
-        "again",
-        &down_to(alloc, 5)?,
-    )?;
+    let five = down_to(alloc, 5)?;
+    let file = File::Json("{\"depth\":7}");
+    gives(alloc, file, &[("Ptree_Depth", "5")], &five)?;
     let fault = Fault::Variable(Field::Depth);
-    is_faulty(
-        &rt,
-        alloc,
-        File::Absent,
-        &[("PTREE_DEPTH", "4x")],
-        "4x",
-        fault,
-    )?;
-    is_faulty(
-        &rt,
-        alloc,
-        File::Absent,
-        &[("PTREE_DEPTH", "5"), ("PTREE_DEPTH", "x")],
-        "x",
-        fault,
-    )?;
-    Ok(())
+    is_faulty(alloc, File::Absent, &[("PTREE_DEPTH", "4x")], fault)?;
+    let (good, bad) = (("PTREE_DEPTH", "5"), ("PTREE_DEPTH", "x"));
+    gives(alloc, File::Absent, &[bad, good], &five)?;
+    is_faulty(alloc, File::Absent, &[good, bad], fault)
 }
 
 #[test]
@@ -186,8 +149,7 @@ fn load_env(rt: HostRuntime) -> Result<(), Fail> {
     config.leaf.foreground = named(alloc, "green")?;
     config.leaf.background = named(alloc, "steelblue")?;
     config.leaf.bold = true;
-    gives(&rt, alloc, file, &variables, "file and variables", &config)?;
-    Ok(())
+    gives(alloc, file, &variables, &config)
 }
 
 #[test]
@@ -200,8 +162,7 @@ fn load_toml_config_file(rt: HostRuntime) -> Result<(), Fail> {
     config.indent = 5;
     config.leaf.foreground = named(alloc, "green")?;
     config.leaf.background = named(alloc, "steelblue")?;
-    gives(&rt, alloc, file, &[], "the file", &config)?;
-    Ok(())
+    gives(alloc, file, &[], &config)
 }
 
 #[test]
@@ -215,8 +176,7 @@ fn style_from_toml(rt: HostRuntime) -> Result<(), Fail> {
     config.leaf.background = Some(Color::Fixed(3));
     config.leaf.dimmed = true;
     config.leaf.bold = true;
-    gives(&rt, alloc, file, &[], "the file", &config)?;
-    Ok(())
+    gives(alloc, file, &[], &config)
 }
 
 #[test]
@@ -270,14 +230,7 @@ fn characters_by_name_and_by_table(rt: HostRuntime) -> Result<(), Fail> {
         ("[characters]\n", UTF_CHARS),
     ];
     for (text, set) in cases {
-        gives(
-            &rt,
-            alloc,
-            File::Toml(text),
-            &[],
-            text,
-            &drawn_with(alloc, set)?,
-        )?;
+        gives(alloc, File::Toml(text), &[], &drawn_with(alloc, set)?)?;
     }
     Ok(())
 }
@@ -293,47 +246,23 @@ fn single_characters_stand_over_a_set(rt: HostRuntime) -> Result<(), Fail> {
         ("PTREE_CHARACTERS", "ASCII"),
         ("PTREE_CHARACTERS_RIGHT", "="),
     ];
-    gives(
-        &rt,
-        alloc,
-        bold,
-        &variables,
-        "a set and one character",
-        &config,
-    )?;
-    gives(&rt, alloc, table, &variables, "over a table", &config)?;
+    gives(alloc, bold, &variables, &config)?;
+    gives(alloc, table, &variables, &config)?;
 
     let mut config = PrintConfig::default(alloc)?;
     config.characters.right = String::from_str(alloc, "=")?;
     config.characters.down = String::from_str(alloc, "!")?;
-    gives(
-        &rt,
-        alloc,
-        table,
-        &[("PTREE_CHARACTERS_RIGHT", "=")],
-        "over one of a table",
-        &config,
-    )?;
+    gives(alloc, table, &[("PTREE_CHARACTERS_RIGHT", "=")], &config)?;
 
     let mut config = drawn_with(alloc, UTF_CHARS_BOLD)?;
     config.characters.empty = String::new(alloc);
-    gives(
-        &rt,
-        alloc,
-        bold,
-        &[("ptree_characters_empty", "")],
-        "over a named set",
-        &config,
-    )?;
+    gives(alloc, bold, &[("ptree_characters_empty", "")], &config)?;
     is_faulty(
-        &rt,
         alloc,
         File::Json("{\"characters\":{\"turn_right\":1}}"),
         &[("PTREE_CHARACTERS", "utf")],
-        "a table that a variable overrides",
         Fault::Key(Field::TurnRight),
-    )?;
-    Ok(())
+    )
 }
 
 #[test]
@@ -341,31 +270,10 @@ fn a_file_is_absent_unreadable_or_faulty(rt: HostRuntime) -> Result<(), Fail> {
     let alloc = rt.alloc();
     let default = PrintConfig::default(alloc)?;
     let depth = [("PTREE_DEPTH", "4")];
-    gives(
-        &rt,
-        alloc,
-        File::Absent,
-        &depth,
-        "no file",
-        &down_to(alloc, 4)?,
-    )?;
-    is_faulty(
-        &rt,
-        alloc,
-        File::Unreadable,
-        &depth,
-        "no text",
-        Fault::Unreadable,
-    )?;
-    gives(&rt, alloc, File::Absent, &[], "no sources", &default)?;
-    gives(
-        &rt,
-        alloc,
-        File::Toml(""),
-        &[],
-        "an empty text in TOML",
-        &default,
-    )?;
+    gives(alloc, File::Absent, &depth, &down_to(alloc, 4)?)?;
+    is_faulty(alloc, File::Unreadable, &depth, Fault::Unreadable)?;
+    gives(alloc, File::Absent, &[], &default)?;
+    gives(alloc, File::Toml(""), &[], &default)?;
     let cases = [
         File::Json(""),
         File::Json("[]"),
@@ -375,7 +283,7 @@ fn a_file_is_absent_unreadable_or_faulty(rt: HostRuntime) -> Result<(), Fail> {
         File::Toml("depth = 1\ndepth = 1\n"),
     ];
     for file in cases {
-        is_faulty(&rt, alloc, file, &depth, "no document", Fault::Syntax)?;
+        is_faulty(alloc, file, &depth, Fault::Syntax)?;
     }
     Ok(())
 }
@@ -387,128 +295,50 @@ fn branches_are_dimmed_where_nothing_is_said_of_them(rt: HostRuntime) -> Result<
     let undimmed = undimmed(alloc)?;
     let mut reversed = PrintConfig::default(alloc)?;
     reversed.branch.reverse = true;
-    gives(
-        &rt,
-        alloc,
-        File::Absent,
-        &[("PTREE_BRANCH_BOLD", "off")],
-        "a flag",
-        &undimmed,
-    )?;
-    gives(
-        &rt,
-        alloc,
-        File::Absent,
-        &[("PTREE_BRANCH", "1")],
-        "no field",
-        &default,
-    )?;
-    gives(
-        &rt,
-        alloc,
-        File::Absent,
-        &[("PTREE_BRANCH_X", "1")],
-        "no field of branch",
-        &default,
-    )?;
-    gives(
-        &rt,
-        alloc,
-        File::Absent,
-        &[("PTREE_LEAF_BOLD", "off")],
-        "leaves",
-        &default,
-    )?;
-    gives(
-        &rt,
-        alloc,
-        File::Toml("[branch]\n"),
-        &[],
-        "an empty table",
-        &undimmed,
-    )?;
-    gives(
-        &rt,
-        alloc,
-        File::Toml("[Branch]\n"),
-        &[],
-        "another key",
-        &default,
-    )?;
-    gives(
-        &rt,
-        alloc,
-        File::Toml("[leaf]\n"),
-        &[],
-        "a table of leaves",
-        &default,
-    )?;
-    gives(
-        &rt,
-        alloc,
-        File::Toml("[branch]\ndimmed = true"),
-        &[],
-        "a dimmed table",
-        &default,
-    )?;
-    gives(
-        &rt,
-        alloc,
-        File::Toml("[branch]\ndimmed = true\nreverse = true"),
-        &[],
-        "reversed",
-        &reversed,
-    )?;
-    gives(
-        &rt,
-        alloc,
-        File::Toml("[branch]\ndimmed = false"),
-        &[("PTREE_BRANCH_DIMMED", "on")],
-        "a variable",
-        &default,
-    )?;
+    let none = ("", "");
+    let cases = [
+        (File::Absent, ("PTREE_BRANCH_BOLD", "off"), &undimmed),
+        (File::Absent, ("PTREE_BRANCH", "1"), &default),
+        (File::Absent, ("PTREE_BRANCH_X", "1"), &default),
+        (File::Absent, ("PTREE_LEAF_BOLD", "off"), &default),
+        (File::Toml("[branch]\n"), none, &undimmed),
+        (File::Toml("[Branch]\n"), none, &default),
+        (File::Toml("[leaf]\n"), none, &default),
+        (File::Toml("[branch]\ndimmed = true"), none, &default),
+        (
+            File::Toml("[branch]\ndimmed = true\nreverse = true"),
+            none,
+            &reversed,
+        ),
+        (
+            File::Toml("[branch]\ndimmed = false"),
+            ("PTREE_BRANCH_DIMMED", "on"),
+            &default,
+        ),
+    ];
+    for (file, variable, config) in cases {
+        gives(alloc, file, &[variable], config)?;
+    }
     Ok(())
 }
 
 #[test]
 fn single_variables(rt: HostRuntime) -> Result<(), Fail> {
     let alloc = rt.alloc();
-    let mut config = PrintConfig::default(alloc)?;
-    config.indent = 7;
-    gives(
-        &rt,
-        alloc,
-        File::Absent,
-        &[("PTREE_INDENT", "007")],
-        "007",
-        &config,
-    )?;
-    let mut config = PrintConfig::default(alloc)?;
-    config.padding = usize::MAX;
-    gives(
-        &rt,
-        alloc,
-        File::Absent,
-        &[("PTREE_PADDING", "18446744073709551615")],
-        "padding",
-        &config,
-    )?;
-    gives(
-        &rt,
-        alloc,
-        File::Absent,
-        &[("PTREE_DEPTH", "4294967295")],
-        "depth",
-        &PrintConfig::default(alloc)?,
-    )?;
-    gives(
-        &rt,
-        alloc,
-        File::Absent,
-        &[("PTREE_CHARACTERS", "UTF")],
-        "UTF",
-        &PrintConfig::default(alloc)?,
-    )?;
+    let default = PrintConfig::default(alloc)?;
+    let mut indented = PrintConfig::default(alloc)?;
+    indented.indent = 7;
+    let mut padded = PrintConfig::default(alloc)?;
+    padded.padding = usize::MAX;
+    let cases = [
+        ("PTREE_INDENT", "007", &indented),
+        ("PTREE_PADDING", "18446744073709551615", &padded),
+        ("PTREE_DEPTH", "4294967295", &default),
+        ("PTREE_CHARACTERS", "UTF", &default),
+    ];
+    for (name, value, config) in cases {
+        gives(alloc, File::Absent, &[(name, value)], config)?;
+    }
     let cases = [
         ("PTREE_INDENT", "", Field::Indent),
         ("PTREE_INDENT", "+1", Field::Indent),
@@ -532,11 +362,9 @@ fn single_variables(rt: HostRuntime) -> Result<(), Fail> {
     ];
     for (name, value, field) in cases {
         is_faulty(
-            &rt,
             alloc,
             File::Absent,
             &[(name, value)],
-            name,
             Fault::Variable(field),
         )?;
     }
@@ -558,11 +386,9 @@ fn colors_of_variables(rt: HostRuntime) -> Result<(), Fail> {
     ];
     for (value, color) in cases {
         gives(
-            &rt,
             alloc,
             File::Absent,
             &[("PTREE_LEAF_FOREGROUND", value)],
-            value,
             &leaves_in(alloc, color)?,
         )?;
     }
@@ -586,11 +412,9 @@ fn words_of_variables(rt: HostRuntime) -> Result<(), Fail> {
         let mut config = PrintConfig::default(alloc)?;
         config.leaf.italic = italic;
         gives(
-            &rt,
             alloc,
             File::Absent,
             &[("PTREE_LEAF_ITALIC", value)],
-            value,
             &config,
         )?;
     }
@@ -602,26 +426,11 @@ fn words_of_variables(rt: HostRuntime) -> Result<(), Fail> {
     for (value, styled) in cases {
         let mut config = PrintConfig::default(alloc)?;
         config.styled = styled;
-        gives(
-            &rt,
-            alloc,
-            File::Absent,
-            &[("PTREE_STYLED", value)],
-            value,
-            &config,
-        )?;
+        gives(alloc, File::Absent, &[("PTREE_STYLED", value)], &config)?;
     }
     let mut config = PrintConfig::default(alloc)?;
     config.continued = String::from_str(alloc, " +\n")?;
-    gives(
-        &rt,
-        alloc,
-        File::Absent,
-        &[("PTREE_CONTINUED", " +\n")],
-        "a mark",
-        &config,
-    )?;
-    Ok(())
+    gives(alloc, File::Absent, &[("PTREE_CONTINUED", " +\n")], &config)
 }
 
 #[test]
@@ -640,7 +449,7 @@ fn single_files_in_json(rt: HostRuntime) -> Result<(), Fail> {
         ),
     ];
     for (text, config) in cases {
-        gives(&rt, alloc, File::Json(text), &[], text, config)?;
+        gives(alloc, File::Json(text), &[], config)?;
     }
     let cases = [
         ("{\"depth\":-1}", Field::Depth),
@@ -674,59 +483,33 @@ fn single_files_in_json(rt: HostRuntime) -> Result<(), Fail> {
         ),
     ];
     for (text, field) in cases {
-        is_faulty(&rt, alloc, File::Json(text), &[], text, Fault::Key(field))?;
+        is_faulty(alloc, File::Json(text), &[], Fault::Key(field))?;
     }
+    let cases = [
+        ("{\"leaf\":null}", Fault::Table(Part::Leaf)),
+        ("{\"branch\":[]}", Fault::Table(Part::Branch)),
+    ];
+    for (text, fault) in cases {
+        is_faulty(alloc, File::Json(text), &[], fault)?;
+    }
+    let four = [("PTREE_DEPTH", "4")];
     is_faulty(
-        &rt,
-        alloc,
-        File::Json("{\"leaf\":null}"),
-        &[],
-        "no leaf",
-        Fault::Table(Part::Leaf),
-    )?;
-    is_faulty(
-        &rt,
-        alloc,
-        File::Json("{\"branch\":[]}"),
-        &[],
-        "a list",
-        Fault::Table(Part::Branch),
-    )?;
-    is_faulty(
-        &rt,
         alloc,
         File::Json("{\"depth\":\"4\"}"),
-        &[("PTREE_DEPTH", "4")],
-        "a key that a variable overrides",
+        &four,
         Fault::Key(Field::Depth),
     )?;
-    let red = leaves_in(alloc, named(alloc, "Red")?)?;
-    gives(
-        &rt,
-        alloc,
-        File::Json("{\"leaf\":{\"foreground\":\"Red\"}}"),
-        &[],
-        "Red",
-        &red,
-    )?;
-    let seven = leaves_in(alloc, named(alloc, "7")?)?;
-    gives(
-        &rt,
-        alloc,
-        File::Json("{\"leaf\":{\"foreground\":\"7\"}}"),
-        &[],
-        "a text",
-        &seven,
-    )?;
-    let three = leaves_in(alloc, Some(Color::RGB(1, 2, 255)))?;
-    gives(
-        &rt,
-        alloc,
-        File::Json("{\"leaf\":{\"foreground\":[1,2,255]}}"),
-        &[],
-        "three bytes",
-        &three,
-    )?;
+    let cases = [
+        ("{\"leaf\":{\"foreground\":\"Red\"}}", named(alloc, "Red")?),
+        ("{\"leaf\":{\"foreground\":\"7\"}}", named(alloc, "7")?),
+        (
+            "{\"leaf\":{\"foreground\":[1,2,255]}}",
+            Some(Color::RGB(1, 2, 255)),
+        ),
+    ];
+    for (text, color) in cases {
+        gives(alloc, File::Json(text), &[], &leaves_in(alloc, color)?)?;
+    }
     Ok(())
 }
 
@@ -739,28 +522,19 @@ fn the_first_fault_is_named(rt: HostRuntime) -> Result<(), Fail> {
         ("PTREE_DEPTH", "x"),
         ("PTREE_CONTINUED", "x"),
     ];
-    is_faulty(&rt, alloc, File::Json("{"), &bad, "a text", Fault::Syntax)?;
-    is_faulty(&rt, alloc, file, &bad, "a table", Fault::Table(Part::Leaf))?;
+    is_faulty(alloc, File::Json("{"), &bad, Fault::Syntax)?;
+    is_faulty(alloc, file, &bad, Fault::Table(Part::Leaf))?;
     let file = File::Json("{\"depth\":-1,\"leaf\":{\"bold\":1}}");
+    is_faulty(alloc, file, &bad, Fault::Variable(Field::Depth))?;
     is_faulty(
-        &rt,
-        alloc,
-        file,
-        &bad,
-        "a variable",
-        Fault::Variable(Field::Depth),
-    )?;
-    is_faulty(
-        &rt,
         alloc,
         file,
         &[("PTREE_INDENT", "x")],
-        "a key",
         Fault::Key(Field::Depth),
     )?;
     let file = File::Json("{\"leaf\":{\"bold\":1}}");
     let bold = Field::Paint(Part::Leaf, StyleField::Bold);
-    is_faulty(&rt, alloc, file, &[], "a key in a table", Fault::Key(bold))?;
+    is_faulty(alloc, file, &[], Fault::Key(bold))?;
 
     let texts = [
         (Fault::Unreadable, "the file couldn't be read"),
@@ -1009,7 +783,6 @@ fn a_file_with_every_key(rt: HostRuntime) -> Result<(), Fail> {
         hidden: true,
         strikethrough: true,
     };
-    gives(&rt, alloc, File::Toml(TOML), &[], "TOML", &config)?;
-    gives(&rt, alloc, File::Json(JSON), &[], "JSON", &config)?;
-    Ok(())
+    gives(alloc, File::Toml(TOML), &[], &config)?;
+    gives(alloc, File::Json(JSON), &[], &config)
 }

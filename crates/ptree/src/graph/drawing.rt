@@ -192,15 +192,12 @@ pub fn write_graph_with<N: Label, W: Sink>(
     write_tree_with(alloc, &GraphNode { graph, node: start }, f, config)
 }
 
-/// Draws a graph from a start node on to standard output, `terminal` saying whether that is a terminal, under the configuration that
+/// Draws as [`write_graph_with`], but to standard output, `terminal` saying whether that is a terminal, and under the configuration that
 /// sources mean ([`PrintConfig::from_env`]).
-///
-/// A graph with cycles is bounded by the configuration's depth alone.
 ///
 /// # Errors
 ///
-/// `Write` or `Zero` where `out` failed, and `Memory`. A beginning of the drawing was written; where memory ran out,
-/// whole entries.
+/// Those of [`write_graph_with`].
 pub fn print_graph<N: Label, W: Sink>(
     alloc: Global,
     graph: &Graph<N>,

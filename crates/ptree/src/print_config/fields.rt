@@ -202,8 +202,7 @@ impl Field {
             Field::TurnRight => "PTREE_CHARACTERS_TURN_RIGHT",
             Field::Right => "PTREE_CHARACTERS_RIGHT",
             Field::Empty => "PTREE_CHARACTERS_EMPTY",
-            Field::Paint(Part::Branch, field) => branch_variable(field),
-            Field::Paint(Part::Leaf, field) => leaf_variable(field),
+            Field::Paint(part, field) => style_variable(part, field),
             Field::Continued => "PTREE_CONTINUED",
         }
     }
@@ -279,38 +278,24 @@ fn style_key(field: StyleField) -> &'static str
     }
 }
 
-// The variable of a field of the style of branches.
-fn branch_variable(field: StyleField) -> &'static str
-    ensures { result.now ≡ variable_name (Field.Paint Part.Branch field) }
+// The variable of a field of the style of a part.
+fn style_variable(part: Part, field: StyleField) -> &'static str
+    ensures { result.now ≡ variable_name (Field.Paint part field) }
 {
-    match field {
-        StyleField::Foreground => "PTREE_BRANCH_FOREGROUND",
-        StyleField::Background => "PTREE_BRANCH_BACKGROUND",
-        StyleField::Bold => "PTREE_BRANCH_BOLD",
-        StyleField::Dimmed => "PTREE_BRANCH_DIMMED",
-        StyleField::Italic => "PTREE_BRANCH_ITALIC",
-        StyleField::Underline => "PTREE_BRANCH_UNDERLINE",
-        StyleField::Blink => "PTREE_BRANCH_BLINK",
-        StyleField::Reverse => "PTREE_BRANCH_REVERSE",
-        StyleField::Hidden => "PTREE_BRANCH_HIDDEN",
-        StyleField::Strikethrough => "PTREE_BRANCH_STRIKETHROUGH",
-    }
-}
-
-// The variable of a field of the style of leaves.
-fn leaf_variable(field: StyleField) -> &'static str
-    ensures { result.now ≡ variable_name (Field.Paint Part.Leaf field) }
-{
-    match field {
-        StyleField::Foreground => "PTREE_LEAF_FOREGROUND",
-        StyleField::Background => "PTREE_LEAF_BACKGROUND",
-        StyleField::Bold => "PTREE_LEAF_BOLD",
-        StyleField::Dimmed => "PTREE_LEAF_DIMMED",
-        StyleField::Italic => "PTREE_LEAF_ITALIC",
-        StyleField::Underline => "PTREE_LEAF_UNDERLINE",
-        StyleField::Blink => "PTREE_LEAF_BLINK",
-        StyleField::Reverse => "PTREE_LEAF_REVERSE",
-        StyleField::Hidden => "PTREE_LEAF_HIDDEN",
-        StyleField::Strikethrough => "PTREE_LEAF_STRIKETHROUGH",
+    let (branch, leaf) = match field {
+        StyleField::Foreground => ("PTREE_BRANCH_FOREGROUND", "PTREE_LEAF_FOREGROUND"),
+        StyleField::Background => ("PTREE_BRANCH_BACKGROUND", "PTREE_LEAF_BACKGROUND"),
+        StyleField::Bold => ("PTREE_BRANCH_BOLD", "PTREE_LEAF_BOLD"),
+        StyleField::Dimmed => ("PTREE_BRANCH_DIMMED", "PTREE_LEAF_DIMMED"),
+        StyleField::Italic => ("PTREE_BRANCH_ITALIC", "PTREE_LEAF_ITALIC"),
+        StyleField::Underline => ("PTREE_BRANCH_UNDERLINE", "PTREE_LEAF_UNDERLINE"),
+        StyleField::Blink => ("PTREE_BRANCH_BLINK", "PTREE_LEAF_BLINK"),
+        StyleField::Reverse => ("PTREE_BRANCH_REVERSE", "PTREE_LEAF_REVERSE"),
+        StyleField::Hidden => ("PTREE_BRANCH_HIDDEN", "PTREE_LEAF_HIDDEN"),
+        StyleField::Strikethrough => ("PTREE_BRANCH_STRIKETHROUGH", "PTREE_LEAF_STRIKETHROUGH"),
+    };
+    match part {
+        Part::Branch => branch,
+        Part::Leaf => leaf,
     }
 }
