@@ -1,7 +1,9 @@
-/* Preloaded into a program, it refuses the Nth of its requests for memory (malloc and realloc), N being in REFUSE. */
+/* Preloaded into a program, it refuses the Nth of its requests for memory (malloc and realloc), N being in REFUSE. Where there is
+   an Nth, a byte is written to descriptor 9. */
 #define _GNU_SOURCE
 #include <dlfcn.h>
 #include <stdlib.h>
+#include <unistd.h>
 
 static long left = -1;
 
@@ -10,7 +12,9 @@ static int is_refused(void) {
         const char *n = getenv("REFUSE");
         left = n ? atol(n) : 0;
     }
-    return left > 0 && --left == 0;
+    if (left == 0 || --left > 0) return 0;
+    (void)!write(9, "r", 1);
+    return 1;
 }
 
 void *malloc(size_t size) {

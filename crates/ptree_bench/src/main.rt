@@ -1,11 +1,13 @@
 //! Measures the library: `ptree_bench TASK SHAPE ITEMS TIMES`. The tasks are in the `README.md` of `bench/`.
 #![tactic(auto)]
 
+mod documents;
 mod gallery;
 mod graphs;
 mod refusals;
 mod shapes;
 
+use documents::{draw_json, load_all};
 use gallery::draw_gallery;
 use graphs::draw_graph;
 use ptree::TreeBuilder;
@@ -157,6 +159,18 @@ fn main(rt: HostRuntime) -> io::Result<()> {
     }
     if task.name.as_str() == "refusals" {
         return make_calls(&rt);
+    }
+    if task.name.as_str() == "env" {
+        return load_all(&rt, task.times);
+    }
+    if task.name.starts_with("json") {
+        return draw_json(
+            &rt,
+            task.name.as_str(),
+            task.shape.as_str(),
+            task.items,
+            task.times,
+        );
     }
     if task.name.as_str() == "graph" {
         return draw_graph(&rt, &task.shape, task.items, task.times);

@@ -1,14 +1,16 @@
 //! Calls of the library that take memory, each made once more where it was refused.
 
 use ptree::TreeBuilder;
-use ptree::graph::{EdgeError, Graph, Label, NodeIndex, write_graph_with};
-use ptree::item::StringItem;
-use ptree::output::{Indent, write_tree_with};
+use ptree::graph::{EdgeError, Graph, Label, NodeIndex, print_graph, write_graph_with};
+use ptree::item::{StringItem, TreeItem};
+use ptree::output::{Indent, print_tree, write_tree, write_tree_with};
 use ptree::print_config::{
-    CharsError, IndentChars, PrintConfig, StyleWhen, UTF_CHARS_BOLD, UTF_CHARS_DOUBLE,
+    CharsError, FileSource, IndentChars, PrintConfig, Sources, StyleWhen, UTF_CHARS_BOLD,
+    UTF_CHARS_DOUBLE, first_fault, load,
 };
 use ptree::read::{pieces_readable, read_tree};
 use ptree::style::{Color, Counted, DrawError, Style};
+use ptree::value::{ConvertError, DocError, DocFormat, Value, draw_document, draw_document_with};
 use std::alloc::{AllocError, Global};
 use std::io::{self, Write};
 
@@ -30,6 +32,54 @@ const ENTRIES: [&str; 4] = [
     "├─ a\n│  : b\n",
     "│  └─ c\n│     : \n│     : d\n",
     "└─ e\n   : f\n",
+];
+
+// A document in JSON, and its drawing under the label `j`, by its entries.
+const JSON: &str = "{\"b\\nc\":\"d\\ne\",\"a\":[1,{\"b\":null}],\"n\":-5}";
+
+const JSON_ENTRIES: [&str; 7] = [
+    "j\n",
+    "├─ a\n",
+    "│  ├─ 1\n",
+    "│  └─ \n",
+    "│     └─ b = \n",
+    "├─ b\n│  : c = d\n│  : e\n",
+    "└─ n = -5\n",
+];
+
+// The same of a document in TOML, with indent 4.
+const TOML: &str = "toml = [\"yaml\", [\"json\"]]\ndepth = 3\n[set]\n\"\" = \"utf\"\n";
+
+const TOML_ENTRIES: [&str; 8] = [
+    "j\n",
+    "├── depth = 3\n",
+    "├── set\n",
+    "│   └──  = utf\n",
+    "└── toml\n",
+    "    ├── yaml\n",
+    "    └── \n",
+    "        └── json\n",
+];
+
+// A file with a name, a text, a colour and a table, and the variable that is set beside it.
+const FILE: &str = "\
+styled = \"always\"
+indent = 4
+characters = { right = \"~\" }
+continued = \"> \"
+leaf = { foreground = \"red\", background = [1, 2, 3] }
+";
+
+const VARIABLE: (&str, &str) = ("ptree_branch_background", "Navy");
+
+// A file with a fault.
+const FAULTY: &str = "indent = 4\ncharacters = { right = 1 }\n";
+
+// What is drawn of a tree and of a graph under the file and the variable, by its entries.
+const SOURCE_ENTRIES: [&str; 3] = [
+    "\x1b[48;2;0;0;128m\x1b[0m\x1b[31m\x1b[48;2;1;2;3mr\n\x1b[48;2;0;0;128m> \x1b[0ms\x1b[0m\n",
+    "\x1b[48;2;0;0;128m├~~ \x1b[0m\x1b[31m\x1b[48;2;1;2;3ma\x1b[0m\n",
+    "\x1b[48;2;0;0;128m└~~ \x1b[0m\x1b[31m\x1b[48;2;1;2;3mb\x1b[0m\n",
 ];
 
 // Why a call failed.
@@ -72,6 +122,44 @@ impl From<DrawError> for Failure {
     }
 }
 
+impl From<DocError> for Failure {
+    fn from(e: DocError) -> Failure {
+        match e {
+            DocError::Draw(e) => Failure::from(e),
+            DocError::Syntax | DocError::Float | DocError::Date => Failure::Other,
+        }
+    }
+}
+
+impl From<ConvertError> for Failure {
+    fn from(e: ConvertError) -> Failure {
+        match e {
+            ConvertError::Memory => Failure::Memory,
+            ConvertError::Float | ConvertError::Date => Failure::Other,
+        }
+    }
+}
+
+impl From<serde_json::Error> for Failure {
+    fn from(e: serde_json::Error) -> Failure {
+        if e.is_memory() {
+            Failure::Memory
+        } else {
+            Failure::Other
+        }
+    }
+}
+
+impl From<toml::de::Error> for Failure {
+    fn from(e: toml::de::Error) -> Failure {
+        if e.is_memory() {
+            Failure::Memory
+        } else {
+            Failure::Other
+        }
+    }
+}
+
 impl From<io::Error> for Failure {
     fn from(_e: io::Error) -> Failure {
         Failure::Other
@@ -108,14 +196,18 @@ impl Trial {
         Ok(())
     }
 
-    // Notes what is drawn of a tree.
-    fn note_drawing(
+    // Notes what is drawn of an item.
+    fn note_drawing<T>(
         &mut self,
         alloc: Global,
-        tree: &StringItem,
+        item: &T,
         config: &PrintConfig,
-    ) -> Result<(), Failure> {
-        let drawing = self.retried(|| drawn(alloc, tree, config))?;
+    ) -> Result<(), Failure>
+    where
+        T: TreeItem,
+        T::Child: TreeItem<Child = T::Child> + Drop,
+    {
+        let drawing = self.retried(|| drawn(alloc, item, config))?;
         self.notes.extend_from_slice(&drawing)?;
         Ok(())
     }
@@ -282,6 +374,79 @@ impl Trial {
         self.note(leaf.as_str())
     }
 
+    // Notes what is drawn of a value, of its copy, and of the two under a label.
+    fn note_value(
+        &mut self,
+        alloc: Global,
+        value: Value,
+        config: &PrintConfig,
+    ) -> Result<(), Failure> {
+        let copy = self.retried(|| Ok(value.clone()?))?;
+        self.note_drawing(alloc, &copy, config)?;
+        let label = self.retried(|| Ok(String::from_str(alloc, "label")?))?;
+        self.note_drawing(alloc, &(label, value), config)
+    }
+
+    // The calls of values.
+    fn call_values(&mut self, alloc: Global, config: &PrintConfig) -> Result<(), Failure> {
+        let boxed = self.retried(|| Ok(boxed(alloc)?))?;
+        self.note_value(alloc, boxed, config)?;
+        let parsed = self.retried(|| Ok(serde_json::Value::from_str(alloc, JSON)?))?;
+        let value = self.retried(|| Ok(Value::from_json(alloc, &parsed)?))?;
+        self.note_value(alloc, value, config)?;
+        let table = self.retried(|| Ok(toml::table_from_str(alloc, TOML)?))?;
+        let parsed = toml::Value::Table(table);
+        let value = self.retried(|| Ok(Value::from_toml(alloc, &parsed)?))?;
+        self.note_value(alloc, value, config)
+    }
+
+    // The calls of documents.
+    fn call_documents(&mut self, alloc: Global, config: &PrintConfig) -> Result<(), Failure> {
+        let drawing = self.retried(|| json_drawn(alloc, config))?;
+        self.notes.extend_from_slice(&drawing)?;
+        let sources = self.retried(|| Ok(sources(alloc, "", ("PTREE_INDENT", "4"))?))?;
+        let drawing = self.retried(|| toml_drawn(alloc, &sources))?;
+        self.notes.extend_from_slice(&drawing)?;
+        Ok(())
+    }
+
+    // Notes what is loaded of sources, their first fault, and what `from_env` returns.
+    fn note_loaded(&mut self, alloc: Global, sources: &Sources) -> Result<(), Failure> {
+        let tree = self.retried(|| Ok(small(alloc)?))?;
+        match self.retried(|| Ok(load(alloc, sources)?))? {
+            Some(config) => self.note_drawing(alloc, &tree, &config)?,
+            None => self.note("nothing is loaded")?,
+        }
+        match self.retried(|| Ok(first_fault(alloc, sources)?))? {
+            Some(fault) => writeln!(self.notes, "{fault}")?,
+            None => self.note("no fault")?,
+        }
+        let config = self.retried(|| Ok(PrintConfig::from_env(alloc, sources)?))?;
+        self.note_drawing(alloc, &tree, &config)
+    }
+
+    // The calls that draw under sources.
+    fn call_under(&mut self, alloc: Global, sources: &Sources) -> Result<(), Failure> {
+        let tree = self.retried(|| Ok(small(alloc)?))?;
+        let graph = self.retried(|| small_graph(alloc))?;
+        let written = self.retried(|| tree_written(alloc, &tree, sources))?;
+        self.notes.extend_from_slice(&written)?;
+        let printed = self.retried(|| tree_printed(alloc, &tree, sources))?;
+        self.notes.extend_from_slice(&printed)?;
+        let printed = self.retried(|| graph_printed(alloc, &graph, sources))?;
+        self.notes.extend_from_slice(&printed)?;
+        Ok(())
+    }
+
+    // The calls of configurations that are loaded.
+    fn call_loader(&mut self, alloc: Global) -> Result<(), Failure> {
+        let faulty = self.retried(|| Ok(sources(alloc, FAULTY, VARIABLE)?))?;
+        self.note_loaded(alloc, &faulty)?;
+        let good = self.retried(|| Ok(sources(alloc, FILE, VARIABLE)?))?;
+        self.note_loaded(alloc, &good)?;
+        self.call_under(alloc, &good)
+    }
+
     // All the calls.
     fn call_all(&mut self, alloc: Global) -> Result<(), Failure> {
         let mut plain = self.retried(|| Ok(PrintConfig::default(alloc)?))?;
@@ -296,7 +461,10 @@ impl Trial {
         self.call_graph(alloc, &plain)?;
         self.call_numbers(alloc, &plain)?;
         self.call_reader(alloc, &plain)?;
-        self.call_lines(alloc, &plain)
+        self.call_lines(alloc, &plain)?;
+        self.call_values(alloc, &plain)?;
+        self.call_documents(alloc, &plain)?;
+        self.call_loader(alloc)
     }
 }
 
@@ -352,10 +520,10 @@ fn read(alloc: Global, text: &str, config: &PrintConfig) -> Result<Option<String
     Ok(read_tree(alloc, text, config)?)
 }
 
-// Whether the bytes are the first entries of texts of several lines, each of them whole.
-fn are_entries(bytes: &[u8]) -> bool {
+// Whether the bytes are the first of these entries, each of them whole.
+fn are_entries(bytes: &[u8], entries: &[&str]) -> bool {
     let mut rest = bytes;
-    for entry in ENTRIES {
+    for entry in entries {
         let Some(others) = rest.strip_prefix(entry.as_bytes()) else {
             break;
         };
@@ -364,7 +532,25 @@ fn are_entries(bytes: &[u8]) -> bool {
     rest.is_empty()
 }
 
-// What is drawn of the tree of texts of several lines. Where memory is refused, whole entries have to be all that was written.
+// What a call has written. Where memory was refused, whole entries have to be all of it.
+fn entries_written<E>(
+    out: Counted<Vec<u8>>,
+    ended: Result<(), E>,
+    entries: &[&str],
+) -> Result<Vec<u8>, Failure>
+where
+    Failure: From<E>,
+    E: Drop,
+{
+    let written = out.into_inner();
+    if !are_entries(&written, entries) {
+        return Err(Failure::Other);
+    }
+    ended?;
+    Ok(written)
+}
+
+// What is drawn of the tree of texts of several lines.
 fn entries_drawn(
     alloc: Global,
     tree: &StringItem,
@@ -372,18 +558,101 @@ fn entries_drawn(
 ) -> Result<Vec<u8>, Failure> {
     let mut out = Counted::new(Vec::with_capacity(alloc, SHEET)?);
     let result = write_tree_with(alloc, tree, &mut out, config);
-    let written = out.into_inner();
-    if !are_entries(&written) {
-        return Err(Failure::Other);
-    }
-    result?;
-    Ok(written)
+    entries_written(out, result, &ENTRIES)
 }
 
-// What is drawn of a tree.
-fn drawn(alloc: Global, tree: &StringItem, config: &PrintConfig) -> Result<Vec<u8>, Failure> {
+// What is drawn of the document in JSON.
+fn json_drawn(alloc: Global, config: &PrintConfig) -> Result<Vec<u8>, Failure> {
     let mut out = Counted::new(Vec::with_capacity(alloc, SHEET)?);
-    write_tree_with(alloc, tree, &mut out, config)?;
+    let result = draw_document_with(alloc, DocFormat::Json, JSON, "j", config, false, &mut out);
+    entries_written(out, result, &JSON_ENTRIES)
+}
+
+// What is drawn of the document in TOML under sources.
+fn toml_drawn(alloc: Global, sources: &Sources) -> Result<Vec<u8>, Failure> {
+    let mut out = Counted::new(Vec::with_capacity(alloc, SHEET)?);
+    let result = draw_document(alloc, DocFormat::Toml, TOML, "j", sources, false, &mut out);
+    entries_written(out, result, &TOML_ENTRIES)
+}
+
+// What `write_tree` writes.
+fn tree_written(alloc: Global, tree: &StringItem, sources: &Sources) -> Result<Vec<u8>, Failure> {
+    let mut out = Counted::new(Vec::with_capacity(alloc, SHEET)?);
+    let result = write_tree(alloc, tree, &mut out, sources);
+    entries_written(out, result, &SOURCE_ENTRIES)
+}
+
+// What `print_tree` writes.
+fn tree_printed(alloc: Global, tree: &StringItem, sources: &Sources) -> Result<Vec<u8>, Failure> {
+    let mut out = Counted::new(Vec::with_capacity(alloc, SHEET)?);
+    let result = print_tree(alloc, tree, &mut out, false, sources);
+    entries_written(out, result, &SOURCE_ENTRIES)
+}
+
+// What `print_graph` writes.
+fn graph_printed(
+    alloc: Global,
+    graph: &Graph<&str>,
+    sources: &Sources,
+) -> Result<Vec<u8>, Failure> {
+    let mut out = Counted::new(Vec::with_capacity(alloc, SHEET)?);
+    let result = print_graph(alloc, graph, NodeIndex(0), &mut out, false, sources);
+    entries_written(out, result, &SOURCE_ENTRIES)
+}
+
+// Sources with a file in TOML and one variable.
+fn sources(alloc: Global, file: &str, (name, value): (&str, &str)) -> Result<Sources, AllocError> {
+    let mut variables = Vec::new(alloc);
+    variables.push((
+        String::from_str(alloc, name)?,
+        String::from_str(alloc, value)?,
+    ))?;
+    Ok(Sources {
+        file: FileSource::Toml(String::from_str(alloc, file)?),
+        variables,
+    })
+}
+
+// A value of kinds that no document has.
+fn boxed(alloc: Global) -> Result<Value, AllocError> {
+    let bytes = Value::Bytes(Vec::from_slice(alloc, b"b")?);
+    let text = Value::String(String::from_str(alloc, "text")?);
+    let text = Value::Option(Some(Box::new(alloc, text)?));
+    let mut entries = Vec::new(alloc);
+    entries.push((text, bytes))?;
+    entries.push((
+        Value::Char('c'),
+        Value::Newtype(Box::new(alloc, Value::U8(1))?),
+    ))?;
+    Ok(Value::Map(entries))
+}
+
+// r [a, b], the text of r in two lines.
+fn small(alloc: Global) -> Result<StringItem, AllocError> {
+    let mut builder = TreeBuilder::new(alloc, String::from_str(alloc, "r\ns")?);
+    builder.add_empty_child(String::from_str(alloc, "a")?)?;
+    builder.add_empty_child(String::from_str(alloc, "b")?)?;
+    builder.build()
+}
+
+// The same as a graph.
+fn small_graph(alloc: Global) -> Result<Graph<&'static str>, Failure> {
+    let mut graph = Graph::new(alloc);
+    let r = graph.add_node("r\ns")?;
+    let a = graph.add_node("a")?;
+    let b = graph.add_node("b")?;
+    graph.extend_with_edges(&[(r, b), (r, a)])?;
+    Ok(graph)
+}
+
+// What is drawn of an item.
+fn drawn<T>(alloc: Global, item: &T, config: &PrintConfig) -> Result<Vec<u8>, Failure>
+where
+    T: TreeItem,
+    T::Child: TreeItem<Child = T::Child> + Drop,
+{
+    let mut out = Counted::new(Vec::with_capacity(alloc, SHEET)?);
+    write_tree_with(alloc, item, &mut out, config)?;
     Ok(out.into_inner())
 }
 

@@ -281,6 +281,9 @@ fn a_file_is_absent_unreadable_or_faulty(rt: HostRuntime) -> Result<(), Fail> {
         File::Json("{\"depth\":1"),
         File::Toml("[branch]\nforeground = red\n"),
         File::Toml("depth = 1\ndepth = 1\n"),
+        File::Toml("padding = 9223372036854775808"),
+        File::Json("\u{feff}{}"),
+        File::Json("{\"x\":1e999}"),
     ];
     for file in cases {
         is_faulty(alloc, file, &depth, Fault::Syntax)?;
@@ -339,6 +342,14 @@ fn single_variables(rt: HostRuntime) -> Result<(), Fail> {
     for (name, value, config) in cases {
         gives(alloc, File::Absent, &[(name, value)], config)?;
     }
+    for name in [
+        "PTREE_CONFIG",
+        "PTREE_\u{17f}TYLED",
+        " PTREE_DEPTH",
+        "DEPTH",
+    ] {
+        gives(alloc, File::Absent, &[(name, "x")], &default)?;
+    }
     let cases = [
         ("PTREE_INDENT", "", Field::Indent),
         ("PTREE_INDENT", "+1", Field::Indent),
@@ -348,6 +359,8 @@ fn single_variables(rt: HostRuntime) -> Result<(), Fail> {
         ("PTREE_DEPTH", "4294967296", Field::Depth),
         ("PTREE_STYLED", "", Field::Styled),
         ("PTREE_STYLED", "yes", Field::Styled),
+        ("PTREE_STYLED", "alway\u{17f}", Field::Styled),
+        ("PTREE_DEPTH", "\u{661}", Field::Depth),
         ("PTREE_CHARACTERS", "ascii ", Field::Characters),
         (
             "PTREE_LEAF_BOLD",
@@ -437,6 +450,8 @@ fn words_of_variables(rt: HostRuntime) -> Result<(), Fail> {
 fn single_files_in_json(rt: HostRuntime) -> Result<(), Fail> {
     let alloc = rt.alloc();
     let default = PrintConfig::default(alloc)?;
+    let mut widest = PrintConfig::default(alloc)?;
+    widest.indent = usize::MAX;
     let cases = [
         ("{\"depth\":4294967295,\"x\":[]}", &default),
         ("{\"leaf\":{\"foreground\":null}}", &default),
@@ -447,6 +462,11 @@ fn single_files_in_json(rt: HostRuntime) -> Result<(), Fail> {
             "{\"indent\":3,\"padding\":1,\"styled\":\"tty\",\"continued\":\": \"}",
             &default,
         ),
+        (
+            "{\"x\":1.5,\"leaf\":{\"y\":-0},\"characters\":{\"z\":1e2}}",
+            &default,
+        ),
+        ("{\"indent\":18446744073709551615}", &widest),
     ];
     for (text, config) in cases {
         gives(alloc, File::Json(text), &[], config)?;
@@ -481,6 +501,14 @@ fn single_files_in_json(rt: HostRuntime) -> Result<(), Fail> {
             "{\"branch\":{\"blink\":1}}",
             Field::Paint(Part::Branch, StyleField::Blink),
         ),
+        (
+            "{\"leaf\":{\"bold\":null}}",
+            Field::Paint(Part::Leaf, StyleField::Bold),
+        ),
+        (
+            "{\"leaf\":{\"foreground\":[1,2,3,4]}}",
+            Field::Paint(Part::Leaf, StyleField::Foreground),
+        ),
     ];
     for (text, field) in cases {
         is_faulty(alloc, File::Json(text), &[], Fault::Key(field))?;
@@ -509,6 +537,58 @@ fn single_files_in_json(rt: HostRuntime) -> Result<(), Fail> {
     ];
     for (text, color) in cases {
         gives(alloc, File::Json(text), &[], &leaves_in(alloc, color)?)?;
+    }
+    Ok(())
+}
+
+#[test]
+fn single_files_in_toml(rt: HostRuntime) -> Result<(), Fail> {
+    let alloc = rt.alloc();
+    let default = PrintConfig::default(alloc)?;
+    let mut widest = PrintConfig::default(alloc)?;
+    widest.indent = 9223372036854775807;
+    let cases = [
+        (
+            "x = 1.5\n[leaf]\ny = 1979-05-27\n[characters]\nz = inf",
+            &default,
+        ),
+        ("\u{feff}depth = 0xFFFFFFFF", &default),
+        ("leaf.bold = false\ncharacters.right = '─'", &default),
+        ("[[x]]\nleaf = 1", &default),
+        ("indent = 9223372036854775807", &widest),
+    ];
+    for (text, config) in cases {
+        gives(alloc, File::Toml(text), &[], config)?;
+    }
+    let cases = [
+        ("depth = -1", Fault::Key(Field::Depth)),
+        ("depth = 4294967296", Fault::Key(Field::Depth)),
+        ("depth = 1.0", Fault::Key(Field::Depth)),
+        ("padding = 1979-05-27", Fault::Key(Field::Padding)),
+        ("styled = true", Fault::Key(Field::Styled)),
+        ("styled = \"TTY\"", Fault::Key(Field::Styled)),
+        ("[[characters]]", Fault::Key(Field::Characters)),
+        ("characters.empty = 0", Fault::Key(Field::Empty)),
+        ("[[leaf]]", Fault::Table(Part::Leaf)),
+        (
+            "leaf.foreground = [1, 2, -1]",
+            Fault::Key(Field::Paint(Part::Leaf, StyleField::Foreground)),
+        ),
+        (
+            "branch.foreground = []",
+            Fault::Key(Field::Paint(Part::Branch, StyleField::Foreground)),
+        ),
+        (
+            "branch.background = 1.0",
+            Fault::Key(Field::Paint(Part::Branch, StyleField::Background)),
+        ),
+        (
+            "leaf.italic = \"on\"",
+            Fault::Key(Field::Paint(Part::Leaf, StyleField::Italic)),
+        ),
+    ];
+    for (text, fault) in cases {
+        is_faulty(alloc, File::Toml(text), &[], fault)?;
     }
     Ok(())
 }
@@ -761,8 +841,43 @@ const JSON: &str = "\
 }
 ";
 
+// The same in variables, where no colour is a list of three bytes.
+const VARIABLES: [(&str, &str); 31] = [
+    ("PTREE_DEPTH", "4"),
+    ("PTREE_INDENT", "4"),
+    ("PTREE_PADDING", "1"),
+    ("PTREE_STYLED", "always"),
+    ("PTREE_CHARACTERS", "ascii"),
+    ("PTREE_CHARACTERS_DOWN_AND_RIGHT", "┣"),
+    ("PTREE_CHARACTERS_DOWN", "┃"),
+    ("PTREE_CHARACTERS_TURN_RIGHT", "┗"),
+    ("PTREE_CHARACTERS_RIGHT", "━"),
+    ("PTREE_CHARACTERS_EMPTY", " "),
+    ("PTREE_BRANCH_FOREGROUND", "steelblue"),
+    ("PTREE_BRANCH_BACKGROUND", "0"),
+    ("PTREE_BRANCH_BOLD", "0"),
+    ("PTREE_BRANCH_DIMMED", "1"),
+    ("PTREE_BRANCH_ITALIC", "0"),
+    ("PTREE_BRANCH_UNDERLINE", "0"),
+    ("PTREE_BRANCH_BLINK", "0"),
+    ("PTREE_BRANCH_REVERSE", "0"),
+    ("PTREE_BRANCH_HIDDEN", "0"),
+    ("PTREE_BRANCH_STRIKETHROUGH", "0"),
+    ("PTREE_LEAF_FOREGROUND", "#4682B4"),
+    ("PTREE_LEAF_BACKGROUND", "#102030"),
+    ("PTREE_LEAF_BOLD", "1"),
+    ("PTREE_LEAF_DIMMED", "0"),
+    ("PTREE_LEAF_ITALIC", "1"),
+    ("PTREE_LEAF_UNDERLINE", "1"),
+    ("PTREE_LEAF_BLINK", "1"),
+    ("PTREE_LEAF_REVERSE", "1"),
+    ("PTREE_LEAF_HIDDEN", "1"),
+    ("PTREE_LEAF_STRIKETHROUGH", "1"),
+    ("PTREE_CONTINUED", "> "),
+];
+
 #[test]
-fn a_file_with_every_key(rt: HostRuntime) -> Result<(), Fail> {
+fn every_key_and_every_variable(rt: HostRuntime) -> Result<(), Fail> {
     let alloc = rt.alloc();
     let mut config = drawn_with(alloc, UTF_CHARS_BOLD)?;
     config.depth = 4;
@@ -784,5 +899,9 @@ fn a_file_with_every_key(rt: HostRuntime) -> Result<(), Fail> {
         strikethrough: true,
     };
     gives(alloc, File::Toml(TOML), &[], &config)?;
-    gives(alloc, File::Json(JSON), &[], &config)
+    gives(alloc, File::Json(JSON), &[], &config)?;
+    config.leaf.foreground = named(alloc, "#4682b4")?;
+    gives(alloc, File::Absent, &VARIABLES, &config)?;
+    let other = File::Toml("depth = 9\ncharacters = 'utf'\nbranch.bold = true\ncontinued = ''");
+    gives(alloc, other, &VARIABLES, &config)
 }

@@ -57,16 +57,30 @@ fn assert_refused(
     Ok(())
 }
 
-// A JSON text of so many lists, the innermost empty.
-fn nested(alloc: Global, lists: usize) -> Result<String, AllocError> {
-    let mut text = String::new(alloc);
-    for _ in 0..lists {
-        text.push('[')?;
-    }
-    for _ in 0..lists {
-        text.push(']')?;
-    }
+// A text so many times, then another, and a third as often as the first.
+fn nested(
+    alloc: Global,
+    levels: usize,
+    (open, inner, close): (&str, &str, &str),
+) -> Result<String, AllocError> {
+    let mut text = open.repeat(alloc, levels)?;
+    text.push_str(inner)?;
+    text.push_str(close.repeat(alloc, levels)?.as_str())?;
     Ok(text)
+}
+
+// A chain of so many items with this text, behind a front of blanks.
+fn chain(alloc: Global, front: &str, text: &str, levels: usize) -> Result<String, AllocError> {
+    let mut drawing = String::new(alloc);
+    let mut blanks = String::from_str(alloc, front)?;
+    for _ in 0..levels {
+        drawing.push_str(blanks.as_str())?;
+        drawing.push_str("└─ ")?;
+        drawing.push_str(text)?;
+        drawing.push('\n')?;
+        blanks.push_str("   ")?;
+    }
+    Ok(drawing)
 }
 
 #[test]
@@ -97,6 +111,22 @@ fn draws_json(rt: HostRuntime) -> Result<(), Fail> {
         ("18446744073709551615", "", "18446744073709551615\n"),
         ("-9223372036854775808", "", "-9223372036854775808\n"),
         ("\"\\ud83c\\udf33\"", "", "🌳\n"),
+        ("\"\\u0000\\t\\/\"", "", "\0\t/\n"),
+        (
+            "[9223372036854775808]",
+            "j\nk",
+            "j\n: k\n└─ 9223372036854775808\n",
+        ),
+        (
+            "[\"a\\n\\nb\",\"\\r\\n\"]",
+            "\n",
+            "\n: \n├─ a\n│  : \n│  : b\n└─ \r\n   : \n",
+        ),
+        (
+            "{\"a\":[[\"b\\nc\"],{\"d\":[]}],\"e\":0}",
+            "j",
+            "j\n├─ a\n│  ├─ \n│  │  └─ b\n│  │     : c\n│  └─ \n│     └─ d\n└─ e = 0\n",
+        ),
     ] {
         assert_document(&rt, alloc, DocFormat::Json, text, label, drawing)?;
     }
@@ -123,6 +153,18 @@ fn keys_of_json_ascend_and_the_last_of_equal_ones_counts(rt: HostRuntime) -> Res
             "j\n├─ \u{1} = 2\n├─ a\"b = 1\n└─ c\n   : d\n   └─ true\n",
         ),
         ("{\"c\\nd\":\"x\\n\"}", "j\n└─ c\n   : d = x\n   : \n"),
+        (
+            "{\"a\":{\"b\":1,\"b\":2},\"a\":{\"c\":3}}",
+            "j\n└─ a\n   └─ c = 3\n",
+        ),
+        (
+            "{\"ab\":1,\"a\":2,\"a!\":3,\"\\ud800\\udc00\":4,\"\\uffff\":5}",
+            "j\n├─ a = 2\n├─ a! = 3\n├─ ab = 1\n├─ \u{ffff} = 5\n└─ \u{10000} = 4\n",
+        ),
+        (
+            "{\" = \":\" = \",\"\\n\":\"\"}",
+            "j\n├─ \n│  :  = \n└─  =  =  = \n",
+        ),
     ] {
         assert_document(&rt, alloc, DocFormat::Json, text, "j", drawing)?;
     }
@@ -167,6 +209,31 @@ d
         ),
         ("a = [[], {}, '']", "d\n└─ a\n   ├─ \n   ├─ \n   └─ \n"),
         ("\"\" = [1]\nb = 2", "d\n├─ \n│  └─ 1\n└─ b = 2\n"),
+        (
+            "b = [-0, +5, 0o17, 0b11, 1_000]\na = 9223372036854775807",
+            "d\n├─ a = 9223372036854775807\n└─ b\n   ├─ 0\n   ├─ 5\n   ├─ 15\n   ├─ 3\n   └─ 1000\n",
+        ),
+        (
+            "\"a\\nb\".'c.\"d' = true\n\"a\\nb\".\"\\u0001\" = ''",
+            "d\n└─ a\n   : b\n   ├─ \u{1} = \n   └─ c.\"d = true\n",
+        ),
+        (
+            "[[x]]\n[[x.y]]\nz = 1\n[[x.y]]\n[[x]]",
+            "d\n└─ x\n   ├─ \n   │  └─ y\n   │     ├─ \n   │     │  └─ z = 1\n   │     └─ \n   └─ \n",
+        ),
+        (
+            "[b]\n[a.c]\n[a]\nd = 1",
+            "d\n├─ a\n│  ├─ c\n│  └─ d = 1\n└─ b\n",
+        ),
+        (
+            "a = \"\"\"\nx \\\n   y\"\"\"\nb = '''\nx\\\ny\n'''",
+            "d\n├─ a = x y\n└─ b = x\\\n   : y\n   : \n",
+        ),
+        ("a = \"\"\"x\r\ny\"\"\"\r\n", "d\n└─ a = x\r\n   : y\n"),
+        (
+            "a = {\n  b = \"\\e\\x41\", # a comment\n}",
+            "d\n└─ a\n   └─ b = \x1bA\n",
+        ),
     ] {
         assert_document(&rt, alloc, DocFormat::Toml, text, "d", drawing)?;
     }
@@ -183,6 +250,14 @@ fn refuses_json(rt: HostRuntime) -> Result<(), Fail> {
         ("\u{feff}1", "syntax"),
         ("\"\\ud800\"", "syntax"),
         ("\"\\udc00\\ud800\"", "syntax"),
+        ("{\"\\udfff\":1}", "syntax"),
+        ("\"\\x41\"", "syntax"),
+        ("\"a\tb\"", "syntax"),
+        ("[1,]", "syntax"),
+        ("{1:2}", "syntax"),
+        ("NaN", "syntax"),
+        ("+1", "syntax"),
+        ("1.", "syntax"),
         ("\"a\nb\"", "syntax"),
         ("01", "syntax"),
         ("1e999", "syntax"),
@@ -192,6 +267,9 @@ fn refuses_json(rt: HostRuntime) -> Result<(), Fail> {
         ("-9223372036854775809", "float"),
         ("-0", "float"),
         ("1e2", "float"),
+        ("1e-999", "float"),
+        ("[-0.0]", "float"),
+        ("{\"b\":\"x\",\"a\":[{\"c\":0.5}]}", "float"),
     ] {
         assert_refused(&rt, alloc, DocFormat::Json, text, refusal)?;
     }
@@ -215,8 +293,24 @@ f = 1.5
         ("a = [1, { c = 07:32:00, b = 1.0 }]", "float"),
         ("a = 1979-05-27T07:32:00Z", "date"),
         ("a = inf", "float"),
+        ("a = -nan", "float"),
+        ("a = 1e2", "float"),
+        ("a = 07:32:00", "date"),
+        ("a = 07:32", "date"),
+        ("a = 1979-05-27 07:32:00.999", "date"),
+        ("[[b]]\nc = 1979-05-27\n[a]\nd.e = 0.5", "float"),
         ("a = 1\na = 2", "syntax"),
         ("a = 9223372036854775808", "syntax"),
+        ("a = -9223372036854775809", "syntax"),
+        ("a = 1e999", "syntax"),
+        ("[a]\n[a]", "syntax"),
+        ("a.b = 1\n[a]", "syntax"),
+        ("a = {}\na.b = 1", "syntax"),
+        ("a = []\n[[a]]", "syntax"),
+        ("a = 'x\ny'", "syntax"),
+        ("a = \"\\ud800\"", "syntax"),
+        ("a = 1979-02-30", "syntax"),
+        ("1979-05-27", "syntax"),
         ("[branch]\nforeground = red", "syntax"),
         ("a", "syntax"),
         ("\u{feff}\u{feff}a = 1", "syntax"),
@@ -229,49 +323,54 @@ f = 1.5
 #[test]
 fn json_nests_to_127(rt: HostRuntime) -> Result<(), Fail> {
     let alloc = rt.alloc();
-    let mut drawing = String::from_str(alloc, "j\n")?;
-    let mut blanks = String::new(alloc);
-    for _ in 0..126u32 {
-        drawing.push_str(blanks.as_str())?;
-        drawing.push_str("└─ \n")?;
-        blanks.push_str("   ")?;
+    let lists = ("[", "", "]");
+    let maps = ("{\"k\":", "{}", "}");
+    let both = ("[{\"k\":", "[]", "}]");
+    for (parts, levels, under, text) in [(lists, 127, 126, ""), (maps, 126, 126, "k")] {
+        let drawing = format!(in alloc; "j\n{}", chain(alloc, "", text, under)?)?;
+        assert_document(
+            &rt,
+            alloc,
+            DocFormat::Json,
+            nested(alloc, levels, parts)?.as_str(),
+            "j",
+            drawing.as_str(),
+        )?;
     }
-    assert_eq!(rt; blanks.len(), 378);
-    let text = nested(alloc, 127)?;
-    assert_document(
-        &rt,
-        alloc,
-        DocFormat::Json,
-        text.as_str(),
-        "j",
-        drawing.as_str(),
-    )?;
-    let text = nested(alloc, 128)?;
-    assert_refused(&rt, alloc, DocFormat::Json, text.as_str(), "syntax")?;
+    for (parts, levels) in [(lists, 128), (maps, 127), (both, 64)] {
+        let text = nested(alloc, levels, parts)?;
+        assert_refused(&rt, alloc, DocFormat::Json, text.as_str(), "syntax")?;
+    }
     Ok(())
 }
 
 #[test]
 fn toml_nests_to_80(rt: HostRuntime) -> Result<(), Fail> {
     let alloc = rt.alloc();
-    let text = format!(in alloc; "a = {}", nested(alloc, 80)?)?;
-    let mut drawing = String::from_str(alloc, "d\n└─ a\n")?;
-    let mut blanks = String::from_str(alloc, "   ")?;
-    for _ in 0..79u32 {
-        drawing.push_str(blanks.as_str())?;
-        drawing.push_str("└─ \n")?;
-        blanks.push_str("   ")?;
+    let lists = ("[", "", "]");
+    let maps = ("{ k = ", "{}", " }");
+    let keys = ("k.", "k = []", "");
+    for (front, parts, levels, first, text, under) in [
+        ("a = ", lists, 80, "a", "", 79),
+        ("a = ", maps, 79, "a", "k", 79),
+        ("", keys, 79, "k", "k", 79),
+    ] {
+        let document = format!(in alloc; "{front}{}", nested(alloc, levels, parts)?)?;
+        let chain = chain(alloc, "   ", text, under)?;
+        let drawing = format!(in alloc; "d\n└─ {first}\n{chain}")?;
+        assert_document(
+            &rt,
+            alloc,
+            DocFormat::Toml,
+            document.as_str(),
+            "d",
+            drawing.as_str(),
+        )?;
     }
-    assert_document(
-        &rt,
-        alloc,
-        DocFormat::Toml,
-        text.as_str(),
-        "d",
-        drawing.as_str(),
-    )?;
-    let text = format!(in alloc; "a = {}", nested(alloc, 81)?)?;
-    assert_refused(&rt, alloc, DocFormat::Toml, text.as_str(), "syntax")?;
+    for (front, parts, levels) in [("a = ", lists, 81), ("a = ", maps, 80), ("", keys, 80)] {
+        let text = format!(in alloc; "{front}{}", nested(alloc, levels, parts)?)?;
+        assert_refused(&rt, alloc, DocFormat::Toml, text.as_str(), "syntax")?;
+    }
     Ok(())
 }
 

@@ -1,0 +1,257 @@
+//! Made documents, and a configuration of all variables and a file, with the time of each step.
+
+use ptree::print_config::{FileSource, PrintConfig, Sources};
+use ptree::style::Counted;
+use ptree::value::{DocFormat, Value, draw_document_with};
+use std::alloc::{AllocError, Global};
+use std::io::{self, BufWriter, ErrorKind, Write};
+use std::time::Instant;
+
+// How many maps stand in one another in a part of a deep document.
+const LEVELS: usize = 100;
+
+// A part of a deep document: the front and the end of each level, and what is innermost.
+const FRONT: &str = "{\"a\":1,\"b\":";
+
+const INNERMOST: &str = "\"c\"";
+
+const END: &str = "}";
+
+// How many values a record has, and a part of a deep document.
+const RECORD_VALUES: u64 = 11;
+
+const DEEP_VALUES: u64 = 201;
+
+// What std calls a step that failed.
+fn failed<E: Drop>(_e: E) -> io::Error {
+    io::Error::from(ErrorKind::Other)
+}
+
+// A list of so many parts, in JSON. A part is a record with a list, a map and a list in that, or else deep.
+fn document(alloc: Global, shape: &str, parts: u32) -> Result<String, AllocError> {
+    let mut deep = FRONT.repeat(alloc, LEVELS)?;
+    deep.push_str(INNERMOST)?;
+    deep.push_str(END.repeat(alloc, LEVELS)?.as_str())?;
+    let mut text = String::from_str(alloc, "[")?;
+    for i in 0..parts {
+        if i > 0 {
+            text.push(',')?;
+        }
+        match shape {
+            "records" => text.push_str(format!(in alloc;
+                "{{\"id\":{i},\"name\":\"record {i}\",\"tags\":[\"tree\",\"text\"],\"place\":{{\"city\":\"Maribor\",\"at\":[{i},-7]}}}}"
+            )?.as_str())?,
+            _ => text.push_str(deep.as_str())?,
+        }
+    }
+    text.push(']')?;
+    Ok(text)
+}
+
+// How many values such a document has.
+fn values(shape: &str, parts: u32) -> u64 {
+    let each = match shape {
+        "records" => RECORD_VALUES,
+        _ => DEEP_VALUES,
+    };
+    u64::from(parts).saturating_mul(each).saturating_add(1)
+}
+
+// Reads a document as `serde_json` does, and lets it go, so many times.
+fn parse(alloc: Global, text: &str, times: u32) -> io::Result<()> {
+    for _ in 0..times {
+        serde_json::Value::from_str(alloc, text).map_err(failed)?;
+    }
+    Ok(())
+}
+
+// Converts what was read, and lets it go, so many times.
+fn convert(alloc: Global, parsed: &serde_json::Value, times: u32) -> io::Result<()> {
+    for _ in 0..times {
+        Value::from_json(alloc, parsed).map_err(failed)?;
+    }
+    Ok(())
+}
+
+// Draws a document to standard output, so many times.
+fn draw_out(rt: &HostRuntime, text: &str, times: u32) -> io::Result<()> {
+    let alloc = rt.alloc();
+    let config = PrintConfig::default(alloc)?;
+    let mut out = Counted::new(BufWriter::new(alloc, io::writer(rt))?);
+    for _ in 0..times {
+        draw_document_with(alloc, DocFormat::Json, text, "j", &config, false, &mut out).map_err(
+            failed,
+        )?;
+    }
+    out.into_inner().flush()
+}
+
+// Draws a document into memory, and returns it with the time.
+fn draw_in(rt: &HostRuntime, text: &str, room: Vec<u8>) -> io::Result<(Vec<u8>, u128)> {
+    let alloc = rt.alloc();
+    let config = PrintConfig::default(alloc)?;
+    let mut out = Counted::new(room);
+    let start = Instant::now(rt)?;
+    draw_document_with(alloc, DocFormat::Json, text, "j", &config, false, &mut out).map_err(
+        failed,
+    )?;
+    let drawing = start.elapsed(rt)?.as_nanos();
+    Ok((out.into_inner(), drawing))
+}
+
+// Times the reading of a document alone, the conversion of what was read, and the drawing, which does both before.
+fn time_steps(rt: &HostRuntime, text: &str, values: u64, times: u32) -> io::Result<()> {
+    let alloc = rt.alloc();
+    let parsed = serde_json::Value::from_str(alloc, text).map_err(failed)?;
+    let (mut room, _) = draw_in(rt, text, Vec::new(alloc))?;
+    println!(rt;
+        "{} bytes, {values} values, {} bytes drawn",
+        text.len(),
+        room.len()
+    )?;
+    for _ in 0..times {
+        let start = Instant::now(rt)?;
+        parse(alloc, text, 1)?;
+        let parsing = start.elapsed(rt)?.as_nanos();
+        let start = Instant::now(rt)?;
+        convert(alloc, &parsed, 1)?;
+        let converting = start.elapsed(rt)?.as_nanos();
+        room.clear();
+        let (drawn, drawing) = draw_in(rt, text, room)?;
+        room = drawn;
+        println!(rt;
+            "parsed in {parsing} ns, converted in {converting} ns, drawn in {drawing} ns"
+        )?;
+    }
+    Ok(())
+}
+
+/// Times the steps of a made document, or makes one of them, to be measured for its instructions and its memory.
+pub fn draw_json(
+    rt: &HostRuntime,
+    step: &str,
+    shape: &str,
+    parts: u32,
+    times: u32,
+) -> io::Result<()> {
+    let alloc = rt.alloc();
+    let text = document(alloc, shape, parts)?;
+    match step {
+        "json-parse" => parse(alloc, text.as_str(), times),
+        "json-convert" => {
+            let parsed = serde_json::Value::from_str(alloc, text.as_str()).map_err(failed)?;
+            convert(alloc, &parsed, times)
+        }
+        "json-draw" => draw_out(rt, text.as_str(), times),
+        _ => time_steps(rt, text.as_str(), values(shape, parts), times),
+    }
+}
+
+// A file with every key.
+const FILE: &str = "\
+depth = 4
+indent = 4
+padding = 1
+styled = \"always\"
+continued = \"> \"
+
+[characters]
+down_and_right = \"┣\"
+down = \"┃\"
+turn_right = \"┗\"
+right = \"━\"
+empty = \" \"
+
+[branch]
+foreground = \"steelblue\"
+background = 0
+bold = false
+dimmed = true
+italic = false
+underline = false
+blink = false
+reverse = false
+hidden = false
+strikethrough = false
+
+[leaf]
+foreground = [70, 130, 180]
+background = \"#102030\"
+bold = true
+dimmed = false
+italic = true
+underline = true
+blink = true
+reverse = true
+hidden = true
+strikethrough = true
+";
+
+// All variables but the flags.
+const VARIABLES: [(&str, &str); 15] = [
+    ("PTREE_DEPTH", "4"),
+    ("PTREE_INDENT", "4"),
+    ("PTREE_PADDING", "1"),
+    ("PTREE_STYLED", "always"),
+    ("PTREE_CONTINUED", "> "),
+    ("PTREE_CHARACTERS", "ascii"),
+    ("PTREE_CHARACTERS_DOWN_AND_RIGHT", "┣"),
+    ("PTREE_CHARACTERS_DOWN", "┃"),
+    ("PTREE_CHARACTERS_TURN_RIGHT", "┗"),
+    ("PTREE_CHARACTERS_RIGHT", "━"),
+    ("PTREE_CHARACTERS_EMPTY", " "),
+    ("PTREE_BRANCH_FOREGROUND", "steelblue"),
+    ("PTREE_BRANCH_BACKGROUND", "0"),
+    ("PTREE_LEAF_FOREGROUND", "#4682b4"),
+    ("PTREE_LEAF_BACKGROUND", "#102030"),
+];
+
+// The flags of branches and of leaves, by the ends of their variables.
+const FLAGS: [&str; 8] = [
+    "BOLD",
+    "DIMMED",
+    "ITALIC",
+    "UNDERLINE",
+    "BLINK",
+    "REVERSE",
+    "HIDDEN",
+    "STRIKETHROUGH",
+];
+
+// A file with every key and all 31 variables.
+fn sources(alloc: Global) -> Result<Sources, AllocError> {
+    let mut variables = Vec::new(alloc);
+    for (name, value) in VARIABLES {
+        variables.push((
+            String::from_str(alloc, name)?,
+            String::from_str(alloc, value)?,
+        ))?;
+    }
+    for flag in FLAGS {
+        for part in ["BRANCH", "LEAF"] {
+            variables.push((
+                format!(in alloc; "PTREE_{part}_{flag}")?,
+                String::from_str(alloc, "on")?,
+            ))?;
+        }
+    }
+    Ok(Sources {
+        file: FileSource::Toml(String::from_str(alloc, FILE)?),
+        variables,
+    })
+}
+
+/// Loads a configuration of all sources, with the time of each loading.
+pub fn load_all(rt: &HostRuntime, times: u32) -> io::Result<()> {
+    let alloc = rt.alloc();
+    let sources = sources(alloc)?;
+    let variables = sources.variables.len();
+    for _ in 0..times {
+        let start = Instant::now(rt)?;
+        let config = PrintConfig::from_env(alloc, &sources)?;
+        let loading = start.elapsed(rt)?.as_nanos();
+        let depth = config.depth;
+        println!(rt; "{variables} variables, loaded in {loading} ns: depth {depth}")?;
+    }
+    Ok(())
+}
