@@ -1,7 +1,14 @@
 -- Values of a document, of either format, beside the values that are made of them.
-use Rattle.std.proofs.Common.{◌≡◌, ◌∙◌, ap, sym, Global, String, List, [], ◌∷◌, ◌++◌, append_assoc, map, string_bytes}
+use Rattle.std.proofs.Common.{◌≡◌, ◌∙◌, ap, sym, subst, nat_cmp, Less, Global, String, List, [], ◌∷◌, ◌++◌, append_assoc, map, string_bytes}
+use Rattle.std.specs.Prelude.{All}
+use Rattle.std.specs.Cmp.Lexicographic.{slice_cmp}
+use Rattle.std.specs.List.{AllByRecursion}
+use Rattle.std.specs.List.Sorted.{IsStrictlySortedBy}
+use Rattle.std.specs.Map.{keys_of}
+use Rattle.std.specs.String.{string_cmp}
 use Rattle.std.proofs.lemmas.List.{map-append}
-use Rattle.ptree.specs.Data.{Data, Items, no_items, item, Entries, no_entries, entry, string}
+use Rattle.std.proofs.lemmas.List.Elements.{All-push, All-head, All-tail}
+use Rattle.ptree.specs.Data.{Data, Items, no_items, item, Entries, no_entries, entry, string, KeysAscend, ItemsAscend, ValuesAscend, key_texts}
 use Rattle.ptree.specs.Value.{data_of, items_of, entries_of, entry_meant}
 use Rattle.ptree.specs.declared.value.Value.{Value}
 
@@ -15,17 +22,21 @@ member_data meant m = (string (string_bytes m.0), meant m.1)
 
 -- some of all are left, and entries were made of the others
 abbrev pub AreMade : {V : Type 0} → (V → Data) → (all left : List (Member V)) → List (Value × Value) → Type 0
-AreMade meant all left made = (done : List (Member _)) × ((all ≡ done ++ left) × (map entry_meant made ≡ map (member_data meant) done))
+AreMade meant all left made =
+    (done : List (Member _)) × ((all ≡ done ++ left) × ((map entry_meant made ≡ map (member_data meant) done) × All (λ m. KeysAscend (meant m.1)) done))
 
 -- one more
 pub made_more : {V : Type 0} (meant : V → Data) (all left rest : List (Member V)) (m : Member V) (made more : List (Value × Value)) (value : Value)
-    → AreMade meant all left made → left ≡ m ∷ rest → data_of value ≡ meant m.1 → map entry_meant more ≡ map entry_meant made ++ (string (string_bytes m.0), data_of value) ∷ []
+    → AreMade meant all left made → left ≡ m ∷ rest → data_of value ≡ meant m.1 → KeysAscend (data_of value) → map entry_meant more ≡ map entry_meant made ++ (string (string_bytes m.0), data_of value) ∷ []
     → AreMade meant all rest more
-made_more meant all left rest m made more value h steps is e = (
+made_more meant all left rest m made more value h steps is keys e = (
   h.0 ++ m ∷ [],
   (
     h.1.0 ∙ ap (λ ms. h.0 ++ ms) steps ∙ sym (append_assoc h.0 (m ∷ []) rest),
-    e ∙ ap (λ d. map entry_meant made ++ (string (string_bytes m.0), d) ∷ []) is ∙ ap (λ es. es ++ member_data meant m ∷ []) h.1.1 ∙ sym (map-append (member_data meant) h.0 (m ∷ [])),
+    (
+      e ∙ ap (λ d. map entry_meant made ++ (string (string_bytes m.0), d) ∷ []) is ∙ ap (λ es. es ++ member_data meant m ∷ []) h.1.1.0 ∙ sym (map-append (member_data meant) h.0 (m ∷ [])),
+      All-push (λ m. KeysAscend (meant m.1)) h.0 m h.1.1.1 (subst KeysAscend is keys),
+    ),
   ),
 )
 
@@ -41,3 +52,25 @@ pub entries_made : {V : Type 0} (meant : V → Data) (entries : List (Member V) 
     → (ms : List (Member V)) → entries_of (map (member_data meant) ms) ≡ entries ms
 entries_made meant entries none more [] = sym none
 entries_made meant entries none more (m ∷ ms) = ap (entry (string (string_bytes m.0)) (meant m.1)) (entries_made meant entries none more ms) ∙ sym (more m ms)
+
+-- items whose keys ascend
+pub items_ascend : (ds : List Data) → All KeysAscend ds → ItemsAscend (items_of ds)
+items_ascend [] h = tt
+items_ascend (d ∷ ds) h = (All-head KeysAscend d ds h, items_ascend ds (All-tail KeysAscend d ds h))
+
+-- members whose values' keys ascend
+pub values_ascend : {V : Type 0} (meant : V → Data) (ms : List (Member V)) → All (λ m. KeysAscend (meant m.1)) ms → ValuesAscend (entries_of (map (member_data meant) ms))
+values_ascend meant [] h = tt
+values_ascend meant (m ∷ ms) h = (All-head (λ m. KeysAscend (meant m.1)) m ms h, values_ascend meant ms (All-tail (λ m. KeysAscend (meant m.1)) m ms h))
+
+key_below : {V : Type 0} (meant : V → Data) (k : String Global) (ms : List (Member V)) → AllByRecursion (λ l. string_cmp k l ≡ Less) (keys_of ms)
+    → AllByRecursion (λ l. slice_cmp nat_cmp (string_bytes k) l ≡ Less) (key_texts (entries_of (map (member_data meant) ms)))
+key_below meant k [] h = tt
+key_below meant k (m ∷ ms) h = (h.0, key_below meant k ms h.1)
+
+-- members whose keys ascend
+pub keys_ascend : {V : Type 0} (meant : V → Data) (ms : List (Member V)) → IsStrictlySortedBy string_cmp (keys_of ms)
+    → IsStrictlySortedBy (slice_cmp nat_cmp) (key_texts (entries_of (map (member_data meant) ms)))
+unfolding IsStrictlySortedBy
+keys_ascend meant [] h = tt
+keys_ascend meant (m ∷ ms) h = (key_below meant m.0 ms h.0, keys_ascend meant ms h.1)

@@ -1,6 +1,9 @@
 -- Values as plain data, their texts and their children.
-use Rattle.std.specs.Prelude.{ℕ, ℤ, Bool, true, false, if◌then◌else◌, List, [], ◌∷◌, ◌++◌, codes, decimal, encode_utf8}
+use Rattle.std.specs.Prelude.{⊤, ℕ, ℤ, Bool, true, false, if◌then◌else◌, List, [], ◌∷◌, ◌++◌, codes, decimal, encode_utf8}
+use Rattle.std.specs.List.Sorted.{IsStrictlySortedBy}
+use Rattle.std.specs.Cmp.Lexicographic.{slice_cmp}
 use Rattle.std.specs.Fmt.{signed_decimal}
+use Rattle.std.specs.Ordering.{nat_cmp}
 use Rattle.ptree.specs.Shape.{Shape, unfolded_shape}
 use Rattle.ptree.specs.Style.{StyleValue, painted_text}
 
@@ -52,6 +55,28 @@ value_text (string s) = s
 value_text (something x) = value_text x
 value_text (newtype x) = value_text x
 value_text _ = []
+
+-- the texts of a map's keys
+abbrev pub key_texts : Entries → List (List ℕ)
+key_texts no_entries = []
+key_texts (entry key value es) = value_text key ∷ key_texts es
+
+-- the keys of each map within ascend, by the bytes of their texts, and none stands twice
+abbrev mutual
+  pub KeysAscend : Data → Type 0
+  KeysAscend (something x) = KeysAscend x
+  KeysAscend (newtype x) = KeysAscend x
+  KeysAscend (seq xs) = ItemsAscend xs
+  KeysAscend (map es) = IsStrictlySortedBy (slice_cmp nat_cmp) (key_texts es) × ValuesAscend es
+  KeysAscend _ = ⊤
+
+  pub ItemsAscend : Items → Type 0
+  ItemsAscend no_items = ⊤
+  ItemsAscend (item x xs) = KeysAscend x × ItemsAscend xs
+
+  pub ValuesAscend : Entries → Type 0
+  ValuesAscend no_entries = ⊤
+  ValuesAscend (entry key value es) = KeysAscend value × ValuesAscend es
 
 -- a list or a map
 abbrev pub is_list : Data → Bool

@@ -1,6 +1,6 @@
 //! Documents.
 ghost use Rattle.std.specs.Prelude.{◌≡◌, Ok, Err, IfOk, IfErr, IsErrAnd, IsErrOf};
-ghost use Rattle.ptree.specs.Data.{pair_shape};
+ghost use Rattle.ptree.specs.Data.{KeysAscend, pair_shape};
 ghost use Rattle.ptree.specs.Document.{document, document_error, IsRefusal, HasDocumentCause};
 ghost use Rattle.ptree.specs.Drawing.{look_by, look_of};
 ghost use Rattle.ptree.specs.Loading.{meant_by};
@@ -127,6 +127,7 @@ pub fn draw_document<W: Sink>(
         IfOk (document format text.now)
         (λ v. IsDrawn (look_by meant OutputKind.Stdout terminal) (pair_shape (label.now, v))
         meant.depth (W.contents out.old) (W.contents out.new) result) }
+    ensures keys { IfOk result (λ _. IfOk (document format text.now) KeysAscend) }
     // Where memory ran out, what was appended is whole entries.
     ensures whole { let meant = meant_by sources.now in
         IfOk (document format text.now) (λ v. IsErrOf result (DocError.Draw DrawError.Memory) →
@@ -168,6 +169,8 @@ pub fn draw_document_with<W: Sink>(
     ensures bytes { IfOk (document format text.now)
         (λ v. IsDrawn (look_of config.now OutputKind.Stdout terminal) (pair_shape (label.now, v))
         config.now.depth (W.contents out.old) (W.contents out.new) result) }
+    // In each table of what was drawn whole the keys ascend, and none stands twice.
+    ensures keys { IfOk result (λ _. IfOk (document format text.now) KeysAscend) }
     // Where memory ran out, what was appended is whole entries.
     ensures whole { IfOk (document format text.now) (λ v. IsErrOf result (DocError.Draw DrawError.Memory) →
         AppendsWholeEntries (look_of config.now OutputKind.Stdout terminal)
@@ -183,6 +186,7 @@ pub fn draw_document_with<W: Sink>(
 // The value of a document.
 fn read_document(alloc: Global, format: DocFormat, text: &str) -> Result<Value, DocError>
     ensures value { IfOk result (λ v. document format text.now ≡ Ok (data_of v)) }
+    ensures keys { IfOk result (λ v. KeysAscend (data_of v)) }
     ensures refused { IfErr result (IsRefusal (document format text.now)) }
 {
     match format {
@@ -193,6 +197,7 @@ fn read_document(alloc: Global, format: DocFormat, text: &str) -> Result<Value, 
 
 fn read_json(alloc: Global, text: &str) -> Result<Value, DocError>
     ensures value { IfOk result (λ v. document DocFormat.Json text.now ≡ Ok (data_of v)) }
+    ensures keys { IfOk result (λ v. KeysAscend (data_of v)) }
     ensures refused { IfErr result (IsRefusal (document DocFormat.Json text.now)) }
 {
     match serde_json::Value::from_str(alloc, text) {
@@ -204,6 +209,7 @@ fn read_json(alloc: Global, text: &str) -> Result<Value, DocError>
 
 fn read_toml(alloc: Global, text: &str) -> Result<Value, DocError>
     ensures value { IfOk result (λ v. document DocFormat.Toml text.now ≡ Ok (data_of v)) }
+    ensures keys { IfOk result (λ v. KeysAscend (data_of v)) }
     ensures refused { IfErr result (IsRefusal (document DocFormat.Toml text.now)) }
 {
     match toml::table_from_str(alloc, text) {

@@ -3,6 +3,7 @@ ghost use Rattle.serde_json.specs.View.{view, items_view, members_view};
 ghost use Rattle.serde_json.specs.Written.{has_float, items_have_float, members_have_float};
 ghost use Rattle.std.specs.Prelude.{◌≡◌, ◌↔◌, false, Ok, Err, IfOk, IsErrOf};
 ghost use Rattle.ptree.specs.Convert.{json_data, json_items, json_entries, json_conversion};
+ghost use Rattle.ptree.specs.Data.{KeysAscend, ItemsAscend, map};
 ghost use Rattle.ptree.specs.Value.{data_of, items_meant, entries_meant};
 
 use super::convert::push_entry;
@@ -19,6 +20,8 @@ impl Value {
     /// `Float` where a float stands in it, and `Memory`.
     pub fn from_json(alloc: Global, v: &serde_json::Value) -> Result<Value, ConvertError>
         ensures value { IfOk result (λ value. json_conversion (view v.now) ≡ Ok (data_of value)) }
+        // The keys of each map within ascend.
+        ensures keys { IfOk result (λ value. KeysAscend (data_of value)) }
         ensures float { IsErrOf result ConvertError.Float
             ↔ (json_conversion (view v.now) ≡ Err ConvertError.Float) }
         ensures date { IsErrOf result ConvertError.Date → ⊥ }
@@ -73,7 +76,8 @@ fn members_have_float(members: &Map<String, serde_json::Value>) -> bool
 #[cycle(convert)]
 fn value_of(alloc: Global, v: &serde_json::Value) -> Result<Value, AllocError>
     requires { has_float (view v.now) ≡ false }
-    ensures { IfOk result (λ value. data_of value ≡ json_data (view v.now)) }
+    ensures value { IfOk result (λ value. data_of value ≡ json_data (view v.now)) }
+    ensures keys { IfOk result (λ value. KeysAscend (data_of value)) }
 {
     match v {
         serde_json::Value::Null => Ok(Value::Unit),
@@ -96,8 +100,9 @@ fn value_of(alloc: Global, v: &serde_json::Value) -> Result<Value, AllocError>
 #[cycle(convert)]
 fn values_of(alloc: Global, items: &Vec<serde_json::Value>) -> Result<Vec<Value>, AllocError>
     requires { items_have_float (items_view items.now.items) ≡ false }
-    ensures { IfOk result (λ values.
+    ensures value { IfOk result (λ values.
         items_meant values.items ≡ json_items (items_view items.now.items)) }
+    ensures keys { IfOk result (λ values. ItemsAscend (items_meant values.items)) }
 {
     let mut values = Vec::with_capacity(alloc, items.len())?;
     for item in items {
@@ -112,8 +117,9 @@ fn entries_of(
     members: &Map<String, serde_json::Value>,
 ) -> Result<Vec<(Value, Value)>, AllocError>
     requires { members_have_float (members_view members.now.entries) ≡ false }
-    ensures { IfOk result (λ entries.
+    ensures value { IfOk result (λ entries.
         entries_meant entries.items ≡ json_entries (members_view members.now.entries)) }
+    ensures keys { IfOk result (λ entries. KeysAscend (map (entries_meant entries.items))) }
 {
     let mut entries = Vec::with_capacity(alloc, members.len())?;
     for (key, member) in members.iter() {

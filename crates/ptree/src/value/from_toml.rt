@@ -2,6 +2,7 @@
 ghost use Rattle.toml.specs.View.{view, items_view, members_view};
 ghost use Rattle.std.specs.Prelude.{◌≡◌, ◌↔◌, None, Ok, Err, IfOk, IsErrOf};
 ghost use Rattle.ptree.specs.Convert.{toml_fault, toml_item_fault, toml_member_fault, toml_data, toml_items, toml_entries, toml_conversion};
+ghost use Rattle.ptree.specs.Data.{KeysAscend, ItemsAscend, map};
 ghost use Rattle.ptree.specs.Value.{data_of, items_meant, entries_meant};
 
 use super::convert::push_entry;
@@ -18,6 +19,8 @@ impl Value {
     /// `Memory`.
     pub fn from_toml(alloc: Global, v: &toml::Value) -> Result<Value, ConvertError>
         ensures value { IfOk result (λ value. toml_conversion (view v.now) ≡ Ok (data_of value)) }
+        // The keys of each map within ascend.
+        ensures keys { IfOk result (λ value. KeysAscend (data_of value)) }
         ensures float { IsErrOf result ConvertError.Float
             ↔ (toml_conversion (view v.now) ≡ Err ConvertError.Float) }
         ensures date { IsErrOf result ConvertError.Date
@@ -74,7 +77,8 @@ fn fault_of_members(members: &Table) -> Option<ConvertError>
 #[cycle(convert)]
 fn value_of(alloc: Global, v: &toml::Value) -> Result<Value, AllocError>
     requires { toml_fault (view v.now) ≡ None }
-    ensures { IfOk result (λ value. data_of value ≡ toml_data (view v.now)) }
+    ensures value { IfOk result (λ value. data_of value ≡ toml_data (view v.now)) }
+    ensures keys { IfOk result (λ value. KeysAscend (data_of value)) }
 {
     match v {
         toml::Value::String(text) => Ok(Value::String(text.clone()?)),
@@ -90,8 +94,9 @@ fn value_of(alloc: Global, v: &toml::Value) -> Result<Value, AllocError>
 #[cycle(convert)]
 fn values_of(alloc: Global, items: &Vec<toml::Value>) -> Result<Vec<Value>, AllocError>
     requires { toml_item_fault (items_view items.now.items) ≡ None }
-    ensures { IfOk result (λ values.
+    ensures value { IfOk result (λ values.
         items_meant values.items ≡ toml_items (items_view items.now.items)) }
+    ensures keys { IfOk result (λ values. ItemsAscend (items_meant values.items)) }
 {
     let mut values = Vec::with_capacity(alloc, items.len())?;
     for item in items {
@@ -103,8 +108,9 @@ fn values_of(alloc: Global, items: &Vec<toml::Value>) -> Result<Vec<Value>, Allo
 #[cycle(convert)]
 fn entries_of(alloc: Global, members: &Table) -> Result<Vec<(Value, Value)>, AllocError>
     requires { toml_member_fault (members_view members.now.entries) ≡ None }
-    ensures { IfOk result (λ entries.
+    ensures value { IfOk result (λ entries.
         entries_meant entries.items ≡ toml_entries (members_view members.now.entries)) }
+    ensures keys { IfOk result (λ entries. KeysAscend (map (entries_meant entries.items))) }
 {
     let mut entries = Vec::with_capacity(alloc, members.len())?;
     for (key, member) in members.iter() {

@@ -1,6 +1,8 @@
 use Rattle.std.proofs.Common.{◌≡◌, None, map, take, drop}
+use Rattle.std.specs.Prelude.{All}
 use Rattle.toml.specs.View.{view, items_view, members_view}
 use Rattle.ptree.specs.Convert.{toml_item_fault, toml_member_fault, toml_data}
+use Rattle.ptree.specs.Data.{KeysAscend}
 use Rattle.ptree.specs.Value.{data_of}
 use Rattle.ptree.proofs.Converted.{AreMade}
 use Rattle.ptree.proofs.value.from_toml.+convert.Given as goal
@@ -8,6 +10,7 @@ use Rattle.ptree.proofs.value.from_toml.+convert.Given as goal
 abbrev pub invariant-values_of-loop-item : goal.invariant-values_of-loop-item
 invariant-values_of-loop-item l =
     (map data_of l.values.items ≡ map (λ v. toml_data (view v)) (take l.item-index l.item-items)) ×
+    All KeysAscend (map data_of l.values.items) ×
     (toml_item_fault (items_view (drop l.item-index l.item-items)) ≡ None)
 
 abbrev pub invariant-entries_of-loop-key : goal.invariant-entries_of-loop-key
