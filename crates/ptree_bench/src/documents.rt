@@ -2,7 +2,7 @@
 
 use ptree::print_config::{FileSource, PrintConfig, Sources};
 use ptree::style::Counted;
-use ptree::value::{DocFormat, Value, draw_document_with};
+use ptree::value::{DocFormat, draw_document_with};
 use std::alloc::{AllocError, Global};
 use std::io::{self, BufWriter, ErrorKind, Write};
 use std::time::Instant;
@@ -65,18 +65,11 @@ fn parse(alloc: Global, text: &str, times: u32) -> io::Result<()> {
     Ok(())
 }
 
-// Converts what was read, and lets it go, so many times.
-fn convert(alloc: Global, parsed: &serde_json::Value, times: u32) -> io::Result<()> {
-    for _ in 0..times {
-        Value::from_json(alloc, parsed).map_err(failed)?;
-    }
-    Ok(())
-}
-
-// Draws a document to standard output, so many times.
-fn draw_out(rt: &HostRuntime, text: &str, times: u32) -> io::Result<()> {
+// Draws a document down to a level to standard output, so many times.
+fn draw_out(rt: &HostRuntime, text: &str, depth: u32, times: u32) -> io::Result<()> {
     let alloc = rt.alloc();
-    let config = PrintConfig::default(alloc)?;
+    let mut config = PrintConfig::default(alloc)?;
+    config.depth = depth;
     let mut out = Counted::new(BufWriter::new(alloc, io::writer(rt))?);
     for _ in 0..times {
         draw_document_with(alloc, DocFormat::Json, text, "j", &config, false, &mut out).map_err(
@@ -86,10 +79,17 @@ fn draw_out(rt: &HostRuntime, text: &str, times: u32) -> io::Result<()> {
     out.into_inner().flush()
 }
 
-// Draws a document into memory, and returns it with the time.
-fn draw_in(rt: &HostRuntime, text: &str, room: Vec<u8>) -> io::Result<(Vec<u8>, u128)> {
+// Draws a document down to a level into memory, and returns it with the time.
+fn draw_in(
+    rt: &HostRuntime,
+    text: &str,
+    depth: u32,
+    mut room: Vec<u8>,
+) -> io::Result<(Vec<u8>, u128)> {
     let alloc = rt.alloc();
-    let config = PrintConfig::default(alloc)?;
+    let mut config = PrintConfig::default(alloc)?;
+    config.depth = depth;
+    room.clear();
     let mut out = Counted::new(room);
     let start = Instant::now(rt)?;
     draw_document_with(alloc, DocFormat::Json, text, "j", &config, false, &mut out).map_err(
@@ -99,11 +99,10 @@ fn draw_in(rt: &HostRuntime, text: &str, room: Vec<u8>) -> io::Result<(Vec<u8>, 
     Ok((out.into_inner(), drawing))
 }
 
-// Times the reading of a document alone, the conversion of what was read, and the drawing, which does both before.
+// Times the reading of a document alone, the drawing of its root, for which it is read and converted, and that of all of it.
 fn time_steps(rt: &HostRuntime, text: &str, values: u64, times: u32) -> io::Result<()> {
     let alloc = rt.alloc();
-    let parsed = serde_json::Value::from_str(alloc, text).map_err(failed)?;
-    let (mut room, _) = draw_in(rt, text, Vec::new(alloc))?;
+    let (mut room, _) = draw_in(rt, text, u32::MAX, Vec::new(alloc))?;
     println!(rt;
         "{} bytes, {values} values, {} bytes drawn",
         text.len(),
@@ -113,20 +112,17 @@ fn time_steps(rt: &HostRuntime, text: &str, values: u64, times: u32) -> io::Resu
         let start = Instant::now(rt)?;
         parse(alloc, text, 1)?;
         let parsing = start.elapsed(rt)?.as_nanos();
-        let start = Instant::now(rt)?;
-        convert(alloc, &parsed, 1)?;
-        let converting = start.elapsed(rt)?.as_nanos();
-        room.clear();
-        let (drawn, drawing) = draw_in(rt, text, room)?;
+        let (root, converting) = draw_in(rt, text, 0, room)?;
+        let (drawn, drawing) = draw_in(rt, text, u32::MAX, root)?;
         room = drawn;
         println!(rt;
-            "parsed in {parsing} ns, converted in {converting} ns, drawn in {drawing} ns"
+            "parsed in {parsing} ns, the root drawn in {converting} ns, all in {drawing} ns"
         )?;
     }
     Ok(())
 }
 
-/// Times the steps of a made document, or makes one of them, to be measured for its instructions and its memory.
+/// Times the steps of drawing a made document, or makes one of them, to be measured for its instructions and its memory.
 pub fn draw_json(
     rt: &HostRuntime,
     step: &str,
@@ -138,11 +134,8 @@ pub fn draw_json(
     let text = document(alloc, shape, parts)?;
     match step {
         "json-parse" => parse(alloc, text.as_str(), times),
-        "json-convert" => {
-            let parsed = serde_json::Value::from_str(alloc, text.as_str()).map_err(failed)?;
-            convert(alloc, &parsed, times)
-        }
-        "json-draw" => draw_out(rt, text.as_str(), times),
+        "json-root" => draw_out(rt, text.as_str(), 0, times),
+        "json-draw" => draw_out(rt, text.as_str(), u32::MAX, times),
         _ => time_steps(rt, text.as_str(), values(shape, parts), times),
     }
 }

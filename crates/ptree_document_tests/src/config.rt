@@ -2,14 +2,14 @@
 
 use ptree::TreeBuilder;
 use ptree::graph::{Graph, print_graph};
-use ptree::item::StringItem;
+use ptree::item::{Children, Shaped, StringItem, TreeItem};
 use ptree::output::{print_tree, print_tree_with, write_tree};
 use ptree::print_config::{
     ASCII_CHARS_PLUS, ASCII_CHARS_TICK, Fault, Field, FileSource, IndentChars, Part, PrintConfig,
     Sources, StaticIndentChars, StyleField, StyleWhen, UTF_CHARS, UTF_CHARS_BOLD, UTF_CHARS_DASHED,
     UTF_CHARS_DOUBLE, first_fault, load,
 };
-use ptree::style::{Color, Counted, DrawError, Style};
+use ptree::style::{Color, Counted, DrawError, Sink, Style};
 use std::alloc::{AllocError, Global};
 use std::str;
 use std::test::Fail;
@@ -698,6 +698,35 @@ fn drawings_heed_sources(rt: HostRuntime) -> Result<(), Fail> {
     Ok(())
 }
 
+// An item of a type of its own, without children.
+#[derive(Drop)]
+struct MyTree;
+
+impl Shaped for MyTree {
+    ghost use Rattle.std.specs.Prelude.{[], codes};
+    ghost use Rattle.ptree.specs.Shape.{unfolded_shape};
+    ghost use Rattle.ptree.specs.Style.{painted_text};
+
+    ghost shape = { unfolded_shape (λ _ style. painted_text style (codes "My custom tree")) (λ _. []) };
+}
+
+impl TreeItem for MyTree {
+    type Child = MyTree;
+
+    fn write_self<W: Sink>(
+        &self,
+        _alloc: Global,
+        f: &mut W,
+        style: &Style,
+    ) -> Result<(), DrawError> {
+        style.write_painted(f, "My custom tree")
+    }
+
+    fn children(&self, alloc: Global) -> Result<Children<'_, MyTree>, AllocError> {
+        Ok(Children::Made(Vec::new(alloc)))
+    }
+}
+
 // The examples of the library's text.
 #[test]
 fn a_tree_is_printed(rt: HostRuntime) -> Result<(), Fail> {
@@ -724,6 +753,10 @@ fn a_tree_is_printed(rt: HostRuntime) -> Result<(), Fail> {
         str::from_utf8(&written(alloc, &tree, &none)?)?,
         "tree\n└─ empty branch\n"
     );
+
+    let mut out = Counted::new(Vec::new(alloc));
+    print_tree(alloc, &MyTree, &mut out, false, &none)?;
+    assert_eq!(rt; str::from_utf8(&out.into_inner())?, "My custom tree\n");
 
     let mut config = drawn_with(alloc, UTF_CHARS_BOLD)?;
     config.indent = 4;
