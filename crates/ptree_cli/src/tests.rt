@@ -166,6 +166,14 @@ fn documents_are_drawn_or_refused(rt: HostRuntime) -> Result<(), Fail> {
             "",
             "cannot read\n",
         ),
+        // The input ends inside a character.
+        (
+            ["json", "j"].as_slice(),
+            b"\"\xe2\x94".as_slice(),
+            1,
+            "",
+            "cannot read\n",
+        ),
         (
             ["json", "j"].as_slice(),
             b"{".as_slice(),
