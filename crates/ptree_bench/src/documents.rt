@@ -3,6 +3,7 @@
 use ptree::print_config::{FileSource, PrintConfig, Sources};
 use ptree::style::Counted;
 use ptree::value::{DocFormat, draw_document_with};
+use ptree_fixtures::full::{FULL_TOML, FULL_VARIABLES};
 use std::alloc::{AllocError, Global};
 use std::io::{self, BufWriter, ErrorKind, Write};
 use std::time::Instant;
@@ -140,96 +141,17 @@ pub fn draw_json(
     }
 }
 
-// A file with every key.
-const FILE: &str = "\
-depth = 4
-indent = 4
-padding = 1
-styled = \"always\"
-continued = \"> \"
-
-[characters]
-down_and_right = \"┣\"
-down = \"┃\"
-turn_right = \"┗\"
-right = \"━\"
-empty = \" \"
-
-[branch]
-foreground = \"steelblue\"
-background = 0
-bold = false
-dimmed = true
-italic = false
-underline = false
-blink = false
-reverse = false
-hidden = false
-strikethrough = false
-
-[leaf]
-foreground = [70, 130, 180]
-background = \"#102030\"
-bold = true
-dimmed = false
-italic = true
-underline = true
-blink = true
-reverse = true
-hidden = true
-strikethrough = true
-";
-
-// All variables but the flags.
-const VARIABLES: [(&str, &str); 15] = [
-    ("PTREE_DEPTH", "4"),
-    ("PTREE_INDENT", "4"),
-    ("PTREE_PADDING", "1"),
-    ("PTREE_STYLED", "always"),
-    ("PTREE_CONTINUED", "> "),
-    ("PTREE_CHARACTERS", "ascii"),
-    ("PTREE_CHARACTERS_DOWN_AND_RIGHT", "┣"),
-    ("PTREE_CHARACTERS_DOWN", "┃"),
-    ("PTREE_CHARACTERS_TURN_RIGHT", "┗"),
-    ("PTREE_CHARACTERS_RIGHT", "━"),
-    ("PTREE_CHARACTERS_EMPTY", " "),
-    ("PTREE_BRANCH_FOREGROUND", "steelblue"),
-    ("PTREE_BRANCH_BACKGROUND", "0"),
-    ("PTREE_LEAF_FOREGROUND", "#4682b4"),
-    ("PTREE_LEAF_BACKGROUND", "#102030"),
-];
-
-// The flags of branches and of leaves, by the ends of their variables.
-const FLAGS: [&str; 8] = [
-    "BOLD",
-    "DIMMED",
-    "ITALIC",
-    "UNDERLINE",
-    "BLINK",
-    "REVERSE",
-    "HIDDEN",
-    "STRIKETHROUGH",
-];
-
 // A file with every key and all 31 variables.
 fn sources(alloc: Global) -> Result<Sources, AllocError> {
     let mut variables = Vec::new(alloc);
-    for (name, value) in VARIABLES {
+    for (name, value) in FULL_VARIABLES {
         variables.push((
             String::from_str(alloc, name)?,
             String::from_str(alloc, value)?,
         ))?;
     }
-    for flag in FLAGS {
-        for part in ["BRANCH", "LEAF"] {
-            variables.push((
-                format!(in alloc; "PTREE_{part}_{flag}")?,
-                String::from_str(alloc, "on")?,
-            ))?;
-        }
-    }
     Ok(Sources {
-        file: FileSource::Toml(String::from_str(alloc, FILE)?),
+        file: FileSource::Toml(String::from_str(alloc, FULL_TOML)?),
         variables,
     })
 }

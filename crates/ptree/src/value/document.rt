@@ -1,6 +1,6 @@
 //! Documents.
-ghost use Rattle.std.specs.Prelude.{◌≡◌, Ok, Err, IfOk, IfErr, IsErrAnd, IsErrOf};
-ghost use Rattle.ptree.specs.Data.{KeysAscend, pair_shape};
+ghost use Rattle.std.specs.Prelude.{◌≡◌, Ok, Err, IfOk, IfErr, IsOk, IsErrAnd, IsErrOf};
+ghost use Rattle.ptree.specs.Data.{Data, KeysAscend, pair_shape};
 ghost use Rattle.ptree.specs.Document.{document, document_error, IsRefusal, HasDocumentCause};
 ghost use Rattle.ptree.specs.Drawing.{look_by, look_of};
 ghost use Rattle.ptree.specs.Loading.{meant_by};
@@ -127,7 +127,7 @@ pub fn draw_document<W: Sink>(
         IfOk (document format text.now)
         (λ v. IsDrawn (look_by meant OutputKind.Stdout terminal) (pair_shape (label.now, v))
         meant.depth (W.contents out.old) (W.contents out.new) result) }
-    ensures keys { IfOk result (λ _. IfOk (document format text.now) KeysAscend) }
+    ensures keys { (v : Data) → document format text.now ≡ Ok v → IsOk result → KeysAscend v }
     // Where memory ran out, what was appended is whole entries.
     ensures whole { let meant = meant_by sources.now in
         IfOk (document format text.now) (λ v. IsErrOf result (DocError.Draw DrawError.Memory) →
@@ -170,7 +170,7 @@ pub fn draw_document_with<W: Sink>(
         (λ v. IsDrawn (look_of config.now OutputKind.Stdout terminal) (pair_shape (label.now, v))
         config.now.depth (W.contents out.old) (W.contents out.new) result) }
     // In each table of what was drawn whole the keys ascend, and none stands twice.
-    ensures keys { IfOk result (λ _. IfOk (document format text.now) KeysAscend) }
+    ensures keys { (v : Data) → document format text.now ≡ Ok v → IsOk result → KeysAscend v }
     // Where memory ran out, what was appended is whole entries.
     ensures whole { IfOk (document format text.now) (λ v. IsErrOf result (DocError.Draw DrawError.Memory) →
         AppendsWholeEntries (look_of config.now OutputKind.Stdout terminal)
