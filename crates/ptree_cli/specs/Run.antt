@@ -9,6 +9,7 @@ use Rattle.ptree.specs.Drawing.{look_by, IsDrawing}
 use Rattle.ptree.specs.Loading.{meant_by}
 use Rattle.ptree.specs.Readable.{IsReadableWith}
 use Rattle.ptree.specs.Shape.{Shape}
+use Rattle.ptree.specs.Text.{line_feed}
 use Rattle.ptree.specs.Tree.{Tree, shape_of_tree}
 use Rattle.ptree.specs.Writing.{AppendsPart}
 use Rattle.ptree_cli.specs.Command.{Command, words, document, redraw, words_tree, Request}
@@ -26,13 +27,13 @@ status_of _ = 1
 -- what is told on standard error
 abbrev pub ending_line : Ending → List ℕ
 ending_line Done = []
-ending_line Usage = codes "usage: ptree_cli [--tty] (words ROOT [CHILD..] | json LABEL | toml LABEL | redraw)" ++ 10 ∷ []
-ending_line PiecesNotReadable = codes "pieces not readable" ++ 10 ∷ []
-ending_line CannotRead = codes "cannot read" ++ 10 ∷ []
-ending_line BadDocument = codes "bad document" ++ 10 ∷ []
-ending_line NotADrawing = codes "not a drawing" ++ 10 ∷ []
-ending_line CannotWrite = codes "cannot write" ++ 10 ∷ []
-ending_line NoMemory = codes "no memory" ++ 10 ∷ []
+ending_line Usage = codes "usage: ptree_cli [--tty] (words ROOT [CHILD..] | json LABEL | toml LABEL | redraw)" ++ line_feed ∷ []
+ending_line PiecesNotReadable = codes "pieces not readable" ++ line_feed ∷ []
+ending_line CannotRead = codes "cannot read" ++ line_feed ∷ []
+ending_line BadDocument = codes "bad document" ++ line_feed ∷ []
+ending_line NotADrawing = codes "not a drawing" ++ line_feed ∷ []
+ending_line CannotWrite = codes "cannot write" ++ line_feed ∷ []
+ending_line NoMemory = codes "no memory" ++ line_feed ∷ []
 
 -- how many faults of standard output it tells
 abbrev pub ending_faults : Ending → ℕ
