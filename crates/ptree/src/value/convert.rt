@@ -56,6 +56,7 @@ impl fmt::Display for ConvertError {
 impl Error for ConvertError {}
 
 // Puts a value under a key of its own.
+#[inline(always)]
 pub(super) fn push_entry(
     entries: &mut Vec<(Value, Value)>,
     key: &String,
