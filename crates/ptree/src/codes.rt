@@ -121,7 +121,8 @@ impl Codes {
     fn push_side(&mut self, color: &Option<Color>, side: Side)
         requires { self.old.len + 22 ≤ ROOM }
         ensures text { gathered_codes self.new
-            ≡ gathered_codes self.old ++ joined_codes (side_codes (option_map color_value color.now) side) }
+            ≡ gathered_codes self.old
+            ++ joined_codes (side_codes (option_map color_value color.now) side) }
         ensures len { self.new.len ≤ self.old.len + 22 }
     {
         if let Some(color) = color {
@@ -134,7 +135,8 @@ impl Codes {
     fn push_color(&mut self, color: &Color, side: Side)
         requires { self.old.len + 22 ≤ ROOM }
         ensures text { gathered_codes self.new
-            ≡ gathered_codes self.old ++ joined_codes (option_to_list (color_code (color_value color.now) side)) }
+            ≡ gathered_codes self.old
+            ++ joined_codes (option_to_list (color_code (color_value color.now) side)) }
         ensures len { self.new.len ≤ self.old.len + 22 }
     {
         if let Some(tone) = color_tone(color) {

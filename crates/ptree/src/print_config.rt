@@ -142,7 +142,8 @@ impl PrintConfig {
     ///
     /// Memory ran out.
     pub fn paint_branch(&self, alloc: Global, input: &str) -> Result<String, AllocError>
-        ensures { IfOk result (λ text. string_bytes text ≡ painted_text (style_value self.now.branch) input.now) }
+        ensures { IfOk result (λ text.
+            string_bytes text ≡ painted_text (style_value self.now.branch) input.now) }
     {
         self.branch.paint(alloc, input)
     }
@@ -153,7 +154,8 @@ impl PrintConfig {
     ///
     /// Memory ran out.
     pub fn paint_leaf(&self, alloc: Global, input: &str) -> Result<String, AllocError>
-        ensures { IfOk result (λ text. string_bytes text ≡ painted_text (style_value self.now.leaf) input.now) }
+        ensures { IfOk result (λ text.
+            string_bytes text ≡ painted_text (style_value self.now.leaf) input.now) }
     {
         self.leaf.paint(alloc, input)
     }

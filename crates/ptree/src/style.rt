@@ -168,12 +168,14 @@ impl Style {
     ///
     /// Memory ran out.
     pub fn paint(&self, alloc: Global, input: &str) -> Result<String, AllocError>
-        ensures text { IfOk result (λ text. string_bytes text ≡ painted_text (style_value self.now) input.now) }
+        ensures text { IfOk result (λ text.
+            string_bytes text ≡ painted_text (style_value self.now) input.now) }
         // A style without codes paints a text as itself.
         ensures plain { style_codes (style_value self.now) ≡ []
             → IfOk result (λ text. string_bytes text ≡ input.now) }
         // So does one with no flag set, and no colour that has a code.
-        ensures unset { IsPlain (style_value self.now) → IfOk result (λ text. string_bytes text ≡ input.now) }
+        ensures unset { IsPlain (style_value self.now)
+            → IfOk result (λ text. string_bytes text ≡ input.now) }
     {
         let codes = Codes::of(self);
         let mut text = String::from_str(alloc, codes.as_str())?;

@@ -20,7 +20,8 @@ pub fn drawing_of_document(
     config: &PrintConfig,
 ) -> Result<Vec<u8>, DocError>
     ensures { IfOk result (λ drawn. (v : Data) × (document format text.now ≡ Ok v)
-        × IsDrawing (look_of config.now OutputKind.Stdout false) (pair_shape (label.now, v)) config.now.depth drawn.items) }
+        × IsDrawing (look_of config.now OutputKind.Stdout false) (pair_shape (label.now, v))
+        config.now.depth drawn.items) }
 {
     let mut out = Counted::new(Vec::new(alloc));
     draw_document_with(alloc, format, text, label, config, false, &mut out)?;
@@ -34,7 +35,8 @@ pub fn is_bad_document<W: Sink>(
     config: &PrintConfig,
     out: &mut W,
 ) -> bool
-    ensures { IsTrue result → (e : DocError) × (document DocFormat.Json text.now ≡ Err e) × (out.new ≡ out.old) }
+    ensures { IsTrue result → (e : DocError) × (document DocFormat.Json text.now ≡ Err e)
+        × (out.new ≡ out.old) }
 {
     match draw_document_with(alloc, DocFormat::Json, text, "", config, false, out) {
         Err(DocError::Syntax | DocError::Float | DocError::Date) => true,
@@ -48,7 +50,8 @@ pub fn drawing_of_copy(
     value: &Value,
     config: &PrintConfig,
 ) -> Result<Vec<u8>, DrawError>
-    ensures { IfOk result (λ drawn. IsDrawing (written_look config.now) (value_shape (data_of value.now)) config.now.depth drawn.items) }
+    ensures { IfOk result (λ drawn.
+        IsDrawing (written_look config.now) (value_shape (data_of value.now)) config.now.depth drawn.items) }
 {
     let copy = value.clone()?;
     drawing_of(alloc, &copy, config)

@@ -59,7 +59,8 @@ where
     T::Child: TreeItem<Child = T::Child> + Drop,
     requires { SayNothing sources.now }
     ensures { IfOk result (λ v.
-        IsDrawing (look_by default_configuration OutputKind.Unknown false) (T.shape item.now) 4294967295 v.items) }
+        IsDrawing (look_by default_configuration OutputKind.Unknown false) (T.shape item.now)
+        4294967295 v.items) }
 {
     drawing_of(alloc, item, &PrintConfig::from_env(alloc, sources)?)
 }
@@ -76,7 +77,8 @@ where
     T::Child: TreeItem<Child = T::Child> + Drop,
     requires { config_value config.now ≡ config_value other.now }
     ensures { IfOk result (λ v.
-        IsDrawing (look_of other.now OutputKind.Unknown false) (T.shape item.now) other.now.depth v.items) }
+        IsDrawing (look_of other.now OutputKind.Unknown false) (T.shape item.now) other.now.depth
+        v.items) }
 {
     drawing_of(alloc, item, config)
 }

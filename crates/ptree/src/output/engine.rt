@@ -184,7 +184,8 @@ struct Pen {
 impl Pen {
     // A pen whose buffer holds the branch's front codes.
     fn new(alloc: Global, branch: &Style) -> Result<Pen, AllocError>
-        ensures line { IfOk result (λ p. p.line.bytes.items ≡ front_codes (style_value branch.now)) }
+        ensures line { IfOk result (λ p.
+            p.line.bytes.items ≡ front_codes (style_value branch.now)) }
         ensures turned { IfOk result (λ p. p.turned ≡ false) }
         ensures error { IfOk result (λ p. p.error ≡ Memory) }
     {
@@ -277,7 +278,8 @@ fn draw_entry<C: TreeItem, W: Sink>(
     requires turned { pen.old.line.bytes.items
         ≡ take width pen.old.line.bytes.items ++ own_text (look_meant brush.now.look.now) last }
     ensures bytes { (front : List ℕ)
-        → take width pen.old.line.bytes.items ≡ front_codes (look_meant brush.now.look.now).branch ++ front
+        → take width pen.old.line.bytes.items
+        ≡ front_codes (look_meant brush.now.look.now).branch ++ front
         → IsWritten (W.contents f.old) (W.contents f.new) result
         (own_entry (look_meant brush.now.look.now) front last (C.shape item.now)) }
     ensures memory { OnErr result (pen.new.error ≡ Memory → W.contents f.new ≡ W.contents f.old) }
@@ -317,7 +319,8 @@ fn draw_item<C: TreeItem<Child = C> + Drop, W: Sink>(
         ≡ take width pen.old.line.bytes.items
         ++ own_text (look_meant brush.now.look.now) (Some is_last) }
     ensures bytes { (front : List ℕ)
-        → take width pen.old.line.bytes.items ≡ front_codes (look_meant brush.now.look.now).branch ++ front
+        → take width pen.old.line.bytes.items
+        ≡ front_codes (look_meant brush.now.look.now).branch ++ front
         → AreWritten (W.contents f.old) (W.contents f.new) result pen.new.error
         (item_entries (look_meant brush.now.look.now) levels_left front is_last
         (C.shape item.now)) }
@@ -350,7 +353,8 @@ fn draw_below<C: TreeItem<Child = C> + Drop, W: Sink>(
     requires error { pen.old.error ≡ Memory }
     requires width { width ≤ length pen.old.line.bytes.items }
     ensures bytes { (front : List ℕ)
-        → take width pen.old.line.bytes.items ≡ front_codes (look_meant brush.now.look.now).branch ++ front
+        → take width pen.old.line.bytes.items
+        ≡ front_codes (look_meant brush.now.look.now).branch ++ front
         → AreWritten (W.contents f.old) (W.contents f.new) result pen.new.error
         (let look = look_meant brush.now.look.now in kid_entries look
         (entries_below look levels_left) (front ++ passing_piece look.pieces is_last)

@@ -40,7 +40,8 @@ pub(crate) struct Frame<'a> {
     pub(crate) look: &'a Look<'a>,
     branch: CodeTexts,
     leaf: CodeTexts,
-    ghost codes: { HasCodes branch (style_value look.now.branch.now) × HasCodes leaf (style_value look.now.leaf.now) },
+    ghost codes: { HasCodes branch (style_value look.now.branch.now)
+        × HasCodes leaf (style_value look.now.leaf.now) },
 }
 
 impl<'a> Frame<'a> {

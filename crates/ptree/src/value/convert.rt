@@ -63,7 +63,8 @@ pub(super) fn push_entry(
     value: Value,
 ) -> Result<(), AllocError>
     ensures { OnOk result (map entry_meant entries.new.items
-        ≡ map entry_meant entries.old.items ++ (string (string_bytes key.now), data_of value) ∷ []) }
+        ≡ map entry_meant entries.old.items
+        ++ (string (string_bytes key.now), data_of value) ∷ []) }
 {
     entries.push((Value::String(key.clone()?), value))?;
     Ok(())

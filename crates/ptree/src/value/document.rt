@@ -172,7 +172,8 @@ pub fn draw_document_with<W: Sink>(
     // In each table of what was drawn whole the keys ascend, and none stands twice.
     ensures keys { (v : Data) → document format text.now ≡ Ok v → IsOk result → KeysAscend v }
     // Where memory ran out, what was appended is whole entries.
-    ensures whole { IfOk (document format text.now) (λ v. IsErrOf result (DocError.Draw DrawError.Memory) →
+    ensures whole { IfOk (document format text.now) (λ v.
+        IsErrOf result (DocError.Draw DrawError.Memory) →
         AppendsWholeEntries (look_of config.now OutputKind.Stdout terminal)
         (pair_shape (label.now, v)) config.now.depth (W.contents out.old)
         (W.contents out.new)) }
