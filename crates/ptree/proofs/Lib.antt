@@ -5,7 +5,6 @@ pub mod CodeBytes
 pub mod CodeLists
 pub mod Styles
 pub mod Painting
-pub mod Equality
 -- trees, outlines and shapes
 pub mod TreeLemmas
 pub mod Outlines

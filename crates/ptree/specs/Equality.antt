@@ -1,31 +1,48 @@
--- When values that hold texts are equal: texts by their bytes, wherever these lie.
-use Rattle.std.specs.Prelude.{◌≡◌, option_map}
-use Rattle.ptree.specs.declared.style.Style.{Style}
+-- The tests that `==` computes: all fields are equal, texts by their bytes, wherever these lie.
+use Rattle.std.specs.Prelude.{Bool, true, false, ◌&&◌, ◌==◌, string_bytes}
+use Rattle.std.specs.Option.{option_eq}
+use Rattle.std.specs.Str.{bytes_eq}
+use mathlib.Core.Bool.{beq}
+use denote.Enum.Bare.{sameb}
 use Rattle.ptree.specs.declared.print_config.PrintConfig.{PrintConfig}
-use Rattle.ptree.specs.Characters.{characters_of}
-use Rattle.ptree.specs.Color.{color_value}
+use Rattle.ptree.specs.declared.style.Color.{Color}
+use Rattle.ptree.specs.declared.style.Color.TheVariants.{Black, Red, Green, Yellow, Blue, Purple, Cyan, White, Fixed, RGB, Named}
+use Rattle.ptree.specs.declared.style.Style.{Style}
+use Rattle.ptree.specs.contracts.print_config.StyleWhen.{the_type}
+use Rattle.ptree.specs.Characters.{Characters, characters_of}
 use Rattle.ptree.specs.Pieces.{mark_of}
 
--- all fields are equal
-pub record SameStyle (a b : Style) : Type 0 where
-  pub foreground : option_map color_value a.foreground ≡ option_map color_value b.foreground
-  pub background : option_map color_value a.background ≡ option_map color_value b.background
-  pub bold : a.bold ≡ b.bold
-  pub dimmed : a.dimmed ≡ b.dimmed
-  pub italic : a.italic ≡ b.italic
-  pub underline : a.underline ≡ b.underline
-  pub blink : a.blink ≡ b.blink
-  pub reverse : a.reverse ≡ b.reverse
-  pub hidden : a.hidden ≡ b.hidden
-  pub strikethrough : a.strikethrough ≡ b.strikethrough
+-- the same characters
+abbrev pub same_characters : Characters → Characters → Bool
+same_characters a b =
+    bytes_eq a.down_and_right b.down_and_right && bytes_eq a.down b.down && bytes_eq a.turn_right b.turn_right
+    && bytes_eq a.right b.right && bytes_eq a.empty b.empty
 
--- all fields are equal
-pub record SameConfig (a b : PrintConfig) : Type 0 where
-  pub depth : a.depth ≡ b.depth
-  pub indent : a.indent ≡ b.indent
-  pub padding : a.padding ≡ b.padding
-  pub styled : a.styled ≡ b.styled
-  pub characters : characters_of a.characters ≡ characters_of b.characters
-  pub branch : SameStyle a.branch b.branch
-  pub leaf : SameStyle a.leaf b.leaf
-  pub continued : mark_of a ≡ mark_of b
+-- the same colour
+abbrev pub same_color : Color → Color → Bool
+same_color (Named a) (Named b) = bytes_eq (string_bytes a) (string_bytes b)
+same_color (Fixed m) (Fixed n) = m == n
+same_color (RGB r g b) (RGB x y z) = r == x && g == y && b == z
+same_color Black Black = true
+same_color Red Red = true
+same_color Green Green = true
+same_color Yellow Yellow = true
+same_color Blue Blue = true
+same_color Purple Purple = true
+same_color Cyan Cyan = true
+same_color White White = true
+same_color _ _ = false
+
+-- the same style
+abbrev pub same_style : Style → Style → Bool
+same_style a b =
+    option_eq same_color a.foreground b.foreground && option_eq same_color a.background b.background && beq a.bold b.bold
+    && beq a.dimmed b.dimmed && beq a.italic b.italic && beq a.underline b.underline && beq a.blink b.blink
+    && beq a.reverse b.reverse && beq a.hidden b.hidden && beq a.strikethrough b.strikethrough
+
+-- the same configuration
+abbrev pub same_config : PrintConfig → PrintConfig → Bool
+same_config a b =
+    a.depth == b.depth && a.indent == b.indent && a.padding == b.padding && sameb the_type a.styled b.styled
+    && same_characters (characters_of a.characters) (characters_of b.characters) && same_style a.branch b.branch
+    && same_style a.leaf b.leaf && bytes_eq (mark_of a) (mark_of b)

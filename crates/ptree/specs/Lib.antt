@@ -12,6 +12,7 @@ pub mod Document
 pub mod Drawing
 pub mod DrawnForm
 pub mod Equality
+pub mod Equivalence
 pub mod Errors
 pub mod Fields
 pub mod File

@@ -3,7 +3,6 @@ ghost use Rattle.std.specs.Prelude.{◌≡◌, ◌↔◌, IfOk, IsTrue, IsErrOf,
 ghost use Rattle.ptree.specs.Characters.{characters_of, static_characters, set_named};
 ghost use Rattle.ptree.specs.Config.{IsDefault, is_styled};
 ghost use Rattle.ptree.specs.Configuration.{config_value, default_configuration};
-ghost use Rattle.ptree.specs.Equality.{SameConfig};
 ghost use Rattle.ptree.specs.Loading.{SayNothing, meant_by};
 ghost use Rattle.ptree.specs.Style.{style_value, painted_text};
 ghost use Rattle.ptree.specs.declared.print_config.CharsError.{CharsError};
@@ -27,7 +26,7 @@ pub use words::Spelling;
 use words::set_spelled;
 
 /// When output is styled.
-#[derive(Debug, Clone, Copy, PartialEq, Eq)]
+#[derive(Debug, Clone, Copy)]
 pub enum StyleWhen {
     /// No output is styled.
     Never,
@@ -39,8 +38,32 @@ pub enum StyleWhen {
     Tty,
 }
 
+impl PartialEq for StyleWhen {
+    ghost use Rattle.std.proofs.Common.{rules};
+    ghost use Rattle.std.specs.Cmp.Rules.{comparing};
+    ghost use denote.Enum.Bare.{sameb};
+    ghost use Rattle.ptree.specs.contracts.print_config.StyleWhen.{the_type};
+
+    ghost eq = { sameb the_type };
+
+    ghost laws = { Prim.search (comparing, rules) };
+
+    fn eq(&self, other: &StyleWhen) -> bool
+        ensures equality { IsTrue result ↔ (self.now ≡ other.now) }
+    {
+        *self as u8 == *other as u8
+    }
+}
+
+impl Eq for StyleWhen {
+    ghost use Rattle.std.proofs.Common.{rules};
+    ghost use Rattle.std.specs.Cmp.Rules.{comparing};
+
+    ghost laws = { Prim.search (comparing, rules) };
+}
+
 /// How a tree is drawn.
-#[derive(Debug, PartialEq, Drop)]
+#[derive(Debug, Drop)]
 pub struct PrintConfig {
     /// The greatest level that is drawn; the root has level 0. The default is 4294967295, the greatest there is.
     pub depth: u32,
@@ -67,14 +90,80 @@ pub struct PrintConfig {
     pub continued: String,
 }
 
+impl PartialEq for PrintConfig {
+    ghost use Rattle.std.specs.Cmp.{partial_equiv_from_equiv};
+    ghost use Rattle.ptree.specs.Equivalence.{config_equivalence};
+    ghost use Rattle.ptree.specs.Equality.{same_config};
+
+    ghost eq = { same_config };
+
+    ghost laws = { partial_equiv_from_equiv config_equivalence };
+
+    #[tactic(auto, using(crate::specs::Equivalence::config_decided))]
+    fn eq(&self, other: &PrintConfig) -> bool
+        ensures value { result ≡ same_config self.now other.now }
+        ensures equality { IsTrue result ↔ (config_value self.now ≡ config_value other.now) }
+    {
+        (
+            &self.depth,
+            &self.indent,
+            &self.padding,
+            &self.styled,
+            &self.characters,
+            &self.branch,
+            &self.leaf,
+            &self.continued,
+        ) == (
+            &other.depth,
+            &other.indent,
+            &other.padding,
+            &other.styled,
+            &other.characters,
+            &other.branch,
+            &other.leaf,
+            &other.continued,
+        )
+    }
+}
+
+impl Eq for PrintConfig {
+    ghost use Rattle.ptree.specs.Equivalence.{config_equivalence};
+
+    ghost laws = { config_equivalence };
+}
+
 /// What a writer stands for. Standard output is a kind of its own, since one can ask whether it is a terminal.
-#[derive(Debug, Clone, Copy, PartialEq, Eq)]
+#[derive(Debug, Clone, Copy)]
 pub enum OutputKind {
     /// What the program writes to its user.
     Stdout,
 
     /// Anything else, as a file or a text.
     Unknown,
+}
+
+impl PartialEq for OutputKind {
+    ghost use Rattle.std.proofs.Common.{rules};
+    ghost use Rattle.std.specs.Cmp.Rules.{comparing};
+    ghost use denote.Enum.Bare.{sameb};
+    ghost use Rattle.ptree.specs.contracts.print_config.OutputKind.{the_type};
+
+    ghost eq = { sameb the_type };
+
+    ghost laws = { Prim.search (comparing, rules) };
+
+    fn eq(&self, other: &OutputKind) -> bool
+        ensures equality { IsTrue result ↔ (self.now ≡ other.now) }
+    {
+        *self as u8 == *other as u8
+    }
+}
+
+impl Eq for OutputKind {
+    ghost use Rattle.std.proofs.Common.{rules};
+    ghost use Rattle.std.specs.Cmp.Rules.{comparing};
+
+    ghost laws = { Prim.search (comparing, rules) };
 }
 
 impl PrintConfig {
@@ -120,14 +209,7 @@ impl PrintConfig {
 
     /// Whether output of a kind is styled, `terminal` saying whether standard output is a terminal.
     pub fn should_style_output(&self, output_kind: OutputKind, terminal: bool) -> bool
-        ensures value { result ≡ is_styled self.now.styled output_kind terminal }
-        // `==` of kinds holds exactly at the same one.
-        ensures equality { (other : OutputKind)
-            → IsTrue (⟦<OutputKind as PartialEq>⟧.eq output_kind other) ↔ (output_kind ≡ other) }
-        // And so does `==` of when to style.
-        ensures when_equality { (other : StyleWhen)
-            → IsTrue (⟦<StyleWhen as PartialEq>⟧.eq self.now.styled other)
-            ↔ (self.now.styled ≡ other) }
+        ensures { result ≡ is_styled self.now.styled output_kind terminal }
     {
         match self.styled {
             StyleWhen::Never => false,
@@ -165,12 +247,8 @@ impl PrintConfig {
     /// # Errors
     ///
     /// Memory ran out.
-    #[tactic(auto, using(crate::proofs::Equality::config_equality))]
     pub fn clone(&self) -> Result<PrintConfig, AllocError>
-        ensures value { IfOk result (λ config. SameConfig config self.now) }
-        // `==` holds exactly where all fields are equal.
-        ensures equality { (other : PrintConfig)
-            → IsTrue (⟦<PrintConfig as PartialEq>⟧.eq self.now other) ↔ SameConfig self.now other }
+        ensures { IfOk result (λ config. config_value config ≡ config_value self.now) }
     {
         Ok(PrintConfig {
             depth: self.depth,
@@ -186,7 +264,7 @@ impl PrintConfig {
 }
 
 /// The characters that branches are drawn with. Each may be any text, an empty one too.
-#[derive(Debug, PartialEq, Eq, Drop)]
+#[derive(Debug, Drop)]
 pub struct IndentChars {
     /// Points down and right (`├`).
     pub down_and_right: String,
@@ -204,6 +282,34 @@ pub struct IndentChars {
     pub empty: String,
 }
 
+impl PartialEq for IndentChars {
+    ghost use Rattle.std.specs.Cmp.{partial_equiv_from_equiv};
+    ghost use Rattle.std.specs.Ordering.{on};
+    ghost use Rattle.ptree.specs.Equivalence.{characters_equivalence};
+    ghost use Rattle.ptree.specs.Equality.{same_characters};
+
+    ghost eq = { on characters_of same_characters };
+
+    ghost laws = { partial_equiv_from_equiv (characters_equivalence characters_of) };
+
+    fn eq(&self, other: &IndentChars) -> bool
+        ensures value { result ≡ on characters_of same_characters self.now other.now }
+        ensures equality { IsTrue result ↔ (characters_of self.now ≡ characters_of other.now) }
+    {
+        self.down_and_right == other.down_and_right
+            && self.down == other.down
+            && self.turn_right == other.turn_right
+            && self.right == other.right
+            && self.empty == other.empty
+    }
+}
+
+impl Eq for IndentChars {
+    ghost use Rattle.ptree.specs.Equivalence.{characters_equivalence};
+
+    ghost laws = { characters_equivalence characters_of };
+}
+
 impl IndentChars {
     /// The characters of a shipped set, or of one of your own.
     ///
@@ -211,11 +317,7 @@ impl IndentChars {
     ///
     /// Memory ran out.
     pub fn from_static(alloc: Global, s: StaticIndentChars) -> Result<IndentChars, AllocError>
-        ensures value { IfOk result (λ c. characters_of c ≡ static_characters s) }
-        // `==` of static characters holds exactly where all texts are equal.
-        ensures equality { (other : StaticIndentChars)
-            → IsTrue (⟦<StaticIndentChars as PartialEq>⟧.eq s other)
-            ↔ (static_characters s ≡ static_characters other) }
+        ensures { IfOk result (λ c. characters_of c ≡ static_characters s) }
     {
         Ok(IndentChars {
             down_and_right: String::from_str(alloc, s.down_and_right)?,
@@ -232,11 +334,7 @@ impl IndentChars {
     ///
     /// Memory ran out.
     pub fn clone(&self) -> Result<IndentChars, AllocError>
-        ensures value { IfOk result (λ c. characters_of c ≡ characters_of self.now) }
-        // `==` holds exactly where all texts are equal.
-        ensures equality { (other : IndentChars)
-            → IsTrue (⟦<IndentChars as PartialEq>⟧.eq self.now other)
-            ↔ (characters_of self.now ≡ characters_of other) }
+        ensures { IfOk result (λ c. characters_of c ≡ characters_of self.now) }
     {
         Ok(IndentChars {
             down_and_right: self.down_and_right.clone()?,
@@ -256,9 +354,6 @@ impl IndentChars {
     pub fn from_name(alloc: Global, s: &str) -> Result<IndentChars, CharsError>
         ensures set { IfOk result (λ c. set_named s.now ≡ Some (characters_of c)) }
         ensures unknown { IsErrOf result CharsError.Unknown ↔ (set_named s.now ≡ None) }
-        // `==` of errors holds exactly where they are equal.
-        ensures equality { (a b : CharsError)
-            → IsTrue (⟦<CharsError as PartialEq>⟧.eq a b) ↔ (a ≡ b) }
     {
         let Some(set) = set_spelled(Spelling::Exact, s) else {
             return Err(CharsError::Unknown);
@@ -268,13 +363,37 @@ impl IndentChars {
 }
 
 /// Why no set was made from a name.
-#[derive(Debug, Clone, Copy, PartialEq, Eq)]
+#[derive(Debug, Clone, Copy)]
 pub enum CharsError {
     /// No shipped set has that name.
     Unknown,
 
     /// Memory ran out.
     Memory,
+}
+
+impl PartialEq for CharsError {
+    ghost use Rattle.std.proofs.Common.{rules};
+    ghost use Rattle.std.specs.Cmp.Rules.{comparing};
+    ghost use denote.Enum.Bare.{sameb};
+    ghost use Rattle.ptree.specs.contracts.print_config.CharsError.{the_type};
+
+    ghost eq = { sameb the_type };
+
+    ghost laws = { Prim.search (comparing, rules) };
+
+    fn eq(&self, other: &CharsError) -> bool
+        ensures equality { IsTrue result ↔ (self.now ≡ other.now) }
+    {
+        *self as u8 == *other as u8
+    }
+}
+
+impl Eq for CharsError {
+    ghost use Rattle.std.proofs.Common.{rules};
+    ghost use Rattle.std.specs.Cmp.Rules.{comparing};
+
+    ghost laws = { Prim.search (comparing, rules) };
 }
 
 impl From<AllocError> for CharsError {
@@ -309,7 +428,7 @@ impl fmt::Display for CharsError {
 impl Error for CharsError {}
 
 /// Characters that need no memory, as those that are shipped.
-#[derive(Debug, Clone, Copy, PartialEq, Eq)]
+#[derive(Debug, Clone, Copy)]
 pub struct StaticIndentChars {
     /// Points down and right (`├`).
     pub down_and_right: &'static str,
@@ -325,6 +444,34 @@ pub struct StaticIndentChars {
 
     /// Stands for nothing (` `).
     pub empty: &'static str,
+}
+
+impl PartialEq for StaticIndentChars {
+    ghost use Rattle.std.specs.Cmp.{partial_equiv_from_equiv};
+    ghost use Rattle.std.specs.Ordering.{on};
+    ghost use Rattle.ptree.specs.Equivalence.{characters_equivalence};
+    ghost use Rattle.ptree.specs.Equality.{same_characters};
+
+    ghost eq = { on static_characters same_characters };
+
+    ghost laws = { partial_equiv_from_equiv (characters_equivalence static_characters) };
+
+    fn eq(&self, other: &StaticIndentChars) -> bool
+        ensures value { result ≡ on static_characters same_characters self.now other.now }
+        ensures equality { IsTrue result ↔ (static_characters self.now ≡ static_characters other.now) }
+    {
+        self.down_and_right == other.down_and_right
+            && self.down == other.down
+            && self.turn_right == other.turn_right
+            && self.right == other.right
+            && self.empty == other.empty
+    }
+}
+
+impl Eq for StaticIndentChars {
+    ghost use Rattle.ptree.specs.Equivalence.{characters_equivalence};
+
+    ghost laws = { characters_equivalence static_characters };
 }
 
 /// ASCII characters, with a tick for turning right, as `tree --charset=ascii` draws.

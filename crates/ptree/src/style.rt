@@ -5,7 +5,6 @@ ghost use Rattle.std.specs.Prelude.{◌≡◌, ◌≢◌, ◌↔◌, ℕ, ◌+�
 ghost use Rattle.ptree.specs.Counted.{fault_count, inner_value};
 ghost use Rattle.ptree.specs.declared.style.Color.{Color};
 ghost use Rattle.ptree.specs.declared.style.Style.{Style};
-ghost use Rattle.ptree.specs.Equality.{SameStyle};
 ghost use Rattle.ptree.specs.Color.{color_value};
 ghost use Rattle.ptree.specs.Style.{style_value, IsPlain, plain_style, style_codes, painted_text, front_codes, back_codes};
 ghost use Rattle.ptree.specs.Writing.{IsWritten, put_faults, get_faults, HasCause, HasErrorCause, TakesNoMemory};
@@ -25,7 +24,7 @@ use std::{fmt, io};
 /// RENDITION.
 ///
 /// Unlike the original crate, this one paints blink, reverse, hidden and strikethrough too.
-#[derive(Debug, PartialEq, Eq, Drop)]
+#[derive(Debug, Drop)]
 pub struct Style {
     /// The colour of the text; with none it stays as it is.
     pub foreground: Option<Color>,
@@ -58,11 +57,55 @@ pub struct Style {
     pub strikethrough: bool,
 }
 
+impl PartialEq for Style {
+    ghost use Rattle.std.specs.Cmp.{partial_equiv_from_equiv};
+    ghost use Rattle.ptree.specs.Equivalence.{style_equivalence};
+    ghost use Rattle.ptree.specs.Equality.{same_style};
+
+    ghost eq = { same_style };
+
+    ghost laws = { partial_equiv_from_equiv style_equivalence };
+
+    #[tactic(auto, using(crate::specs::Equivalence::style_decided))]
+    fn eq(&self, other: &Style) -> bool
+        ensures value { result ≡ same_style self.now other.now }
+        ensures equality { IsTrue result ↔ (style_value self.now ≡ style_value other.now) }
+    {
+        self.has_fields_of(other)
+    }
+}
+
+impl Eq for Style {
+    ghost use Rattle.ptree.specs.Equivalence.{style_equivalence};
+
+    ghost laws = { style_equivalence };
+}
+
+impl Style {
+    ghost use Rattle.ptree.specs.Equality.{same_style};
+
+    // Whether all fields are equal.
+    fn has_fields_of(&self, other: &Style) -> bool
+        ensures { result ≡ same_style self.now other.now }
+    {
+        self.foreground == other.foreground
+            && self.background == other.background
+            && self.bold == other.bold
+            && self.dimmed == other.dimmed
+            && self.italic == other.italic
+            && self.underline == other.underline
+            && self.blink == other.blink
+            && self.reverse == other.reverse
+            && self.hidden == other.hidden
+            && self.strikethrough == other.strikethrough
+    }
+}
+
 /// A colour, of a text or of what is behind it.
 ///
 /// The codes of the eight colours are those of ECMA-48; those of a table's number and of three bytes are xterm's. `==` compares
 /// names by their bytes. Neither it nor painting to a [`Sink`] takes memory.
-#[derive(Debug, PartialEq, Eq, Drop)]
+#[derive(Debug, Drop)]
 pub enum Color {
     /// Colour 0 (foreground code 30, background code 40). It is the default.
     ///
@@ -107,6 +150,42 @@ pub enum Color {
     Named(String),
 }
 
+impl PartialEq for Color {
+    ghost use Rattle.std.specs.Cmp.{partial_equiv_from_equiv};
+    ghost use Rattle.ptree.specs.Equivalence.{color_equivalence};
+    ghost use Rattle.ptree.specs.Equality.{same_color};
+
+    ghost eq = { same_color };
+
+    ghost laws = { partial_equiv_from_equiv color_equivalence };
+
+    fn eq(&self, other: &Color) -> bool
+        ensures value { result ≡ same_color self.now other.now }
+        ensures equality { IsTrue result ↔ (color_value self.now ≡ color_value other.now) }
+    {
+        match (self, other) {
+            (Color::Fixed(m), Color::Fixed(n)) => m == n,
+            (Color::RGB(r, g, b), Color::RGB(x, y, z)) => r == x && g == y && b == z,
+            (Color::Named(name), Color::Named(other)) => name == other,
+            (Color::Black, Color::Black)
+            | (Color::Red, Color::Red)
+            | (Color::Green, Color::Green)
+            | (Color::Yellow, Color::Yellow)
+            | (Color::Blue, Color::Blue)
+            | (Color::Purple, Color::Purple)
+            | (Color::Cyan, Color::Cyan)
+            | (Color::White, Color::White) => true,
+            _ => false,
+        }
+    }
+}
+
+impl Eq for Color {
+    ghost use Rattle.ptree.specs.Equivalence.{color_equivalence};
+
+    ghost laws = { color_equivalence };
+}
+
 impl Color {
     /// Colour 0 of the eight.
     pub fn default() -> Color
@@ -121,11 +200,7 @@ impl Color {
     ///
     /// Memory ran out.
     pub fn clone(&self) -> Result<Color, AllocError>
-        ensures value { IfOk result (λ color. color_value color ≡ color_value self.now) }
-        // `==` holds exactly where variant and fields are equal, a name by its bytes.
-        ensures equality { (other : Color)
-            → IsTrue (⟦<Color as PartialEq>⟧.eq self.now other)
-            ↔ (color_value self.now ≡ color_value other) }
+        ensures { IfOk result (λ color. color_value color ≡ color_value self.now) }
     {
         Ok(match self {
             Color::Black => Color::Black,
@@ -223,12 +298,8 @@ impl Style {
     /// # Errors
     ///
     /// Memory ran out.
-    #[tactic(auto, using(crate::proofs::Equality::style_equality))]
     pub fn clone(&self) -> Result<Style, AllocError>
-        ensures value { IfOk result (λ style. SameStyle style self.now) }
-        // `==` holds exactly where all fields are equal.
-        ensures equality { (other : Style)
-            → IsTrue (⟦<Style as PartialEq>⟧.eq self.now other) ↔ SameStyle self.now other }
+        ensures { IfOk result (λ style. style_value style ≡ style_value self.now) }
     {
         Ok(Style {
             foreground: self.foreground.as_ref().map(Color::clone).transpose()?,

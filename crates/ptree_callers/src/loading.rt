@@ -1,5 +1,5 @@
 //! Callers that load configurations.
-ghost use Rattle.std.specs.Prelude.{◌≡◌, false, Some, None, IfOk, MatchResult};
+ghost use Rattle.std.specs.Prelude.{◌≡◌, ◌↔◌, false, Some, None, IfOk, IsTrue, MatchResult};
 ghost use Rattle.ptree.specs.Configuration.{config_value, default_configuration};
 ghost use Rattle.ptree.specs.Drawing.{IsDrawing, look_by, look_of};
 ghost use Rattle.ptree.specs.Loading.{SayNothing, config_of, meant_by};
@@ -81,4 +81,12 @@ where
         v.items) }
 {
     drawing_of(alloc, item, config)
+}
+
+/// Whether a configuration holds what the default does.
+pub fn is_default(alloc: Global, config: &PrintConfig) -> Result<bool, AllocError>
+    ensures { IfOk result (λ is_it.
+        IsTrue is_it ↔ (config_value config.now ≡ default_configuration)) }
+{
+    Ok(*config == PrintConfig::default(alloc)?)
 }

@@ -1,0 +1,109 @@
+-- The tests of `Equality` decide whether two values are equal, so they are equivalences. (Proofs, since `impl`s cite them.)
+use Rattle.std.proofs.Common.{◌≡◌, ◌↔◌, ◌∙◌, ◌&&◌, ◌==◌, ℕ, Bool, true, false, Option, Some, None, rules, ap, sym, refl, eq-eqb, eqb-true}
+use Rattle.std.specs.Prelude.{IsTrue, List, option_map}
+use Rattle.std.specs.Cmp.{IsEquivalence, both_ways}
+use Rattle.std.specs.Ordering.{on}
+use Rattle.std.specs.Str.{bytes_eq}
+use Rattle.std.proofs.lemmas.Slice.Eq.{bytes_eq-Decides}
+use Rattle.std.specs.Option.{option_eq}
+use Rattle.std.proofs.lemmas.Bool.{and_parts, and_from}
+use mathlib.Core.Bool.{beq}
+use denote.Enum.Bare.{sameb}
+use Rattle.ptree.specs.declared.print_config.PrintConfig.{PrintConfig}
+use Rattle.ptree.specs.declared.print_config.StyleWhen.{StyleWhen}
+use Rattle.ptree.specs.declared.style.Color.{Color}
+use Rattle.ptree.specs.declared.style.Style.{Style}
+use Rattle.ptree.specs.contracts.print_config.StyleWhen.{the_type}
+use Rattle.ptree.specs.Characters.{Characters, characters_of}
+use Rattle.ptree.specs.Color.{color_value}
+use Rattle.ptree.specs.Configuration.{config_value}
+use Rattle.ptree.specs.Equality.{same_characters, same_color, same_style, same_config}
+use Rattle.ptree.specs.Pieces.{mark_of}
+use Rattle.ptree.specs.Style.{style_value}
+
+both : {P Q : Type 0} {x y : Bool} → IsTrue x ↔ P → IsTrue y ↔ Q → IsTrue (x && y) ↔ (P × Q)
+both {x = x} {y = y} p q = (λ h. (p.0 (and_parts x y h).0, q.0 (and_parts x y h).1), λ h. and_from x y (p.1 h.0) (q.1 h.1))
+
+bools : (a b : Bool) → IsTrue (beq a b) ↔ (a ≡ b)
+bools true true = (λ _. refl, λ _. refl)
+bools true false = (λ h. sym h, λ h. sym h)
+bools false true = (λ h. h, λ h. h)
+bools false false = (λ _. refl, λ _. refl)
+
+numbers : (a b : ℕ) → IsTrue (a == b) ↔ (a ≡ b)
+numbers a b = (λ h. eqb-true a b h, λ h. eq-eqb a b h)
+
+texts : (a b : List ℕ) → IsTrue (bytes_eq a b) ↔ (a ≡ b)
+texts a b = let decides = bytes_eq-Decides a b in (λ h. decides.0 h, λ h. decides.1 h)
+
+whens : (a b : StyleWhen) → IsTrue (sameb the_type a b) ↔ (a ≡ b)
+whens a b = search rules
+
+color_decided : (a b : Color) → IsTrue (same_color a b) ↔ (color_value a ≡ color_value b)
+color_decided a b = search rules
+
+sides : (a b : Option Color) → IsTrue (option_eq same_color a b) ↔ (option_map color_value a ≡ option_map color_value b)
+sides None None = (λ _. refl, λ _. refl)
+sides None (Some b) = (λ h. cc, λ h. cc)
+sides (Some a) None = (λ h. cc, λ h. cc)
+sides (Some a) (Some b) = (λ h. ap Some ((color_decided a b).0 h), λ h. (color_decided a b).1 cc)
+
+characters_decided : (a b : Characters) → IsTrue (same_characters a b) ↔ (a ≡ b)
+characters_decided a b = search rules
+
+pub style_decided : (a b : Style) → IsTrue (same_style a b) ↔ (style_value a ≡ style_value b)
+style_decided a b =
+    let h = both (both (both (both (both (both (both (both (both (sides a.foreground b.foreground) (sides a.background b.background)) (bools a.bold b.bold)) (bools a.dimmed b.dimmed)) (bools a.italic b.italic)) (bools a.underline b.underline)) (bools a.blink b.blink)) (bools a.reverse b.reverse)) (bools a.hidden b.hidden)) (bools a.strikethrough b.strikethrough) in (
+      λ e. let p = h.0 e in λ i. record {
+        foreground = p.0.0.0.0.0.0.0.0.0 i;
+        background = p.0.0.0.0.0.0.0.0.1 i;
+        bold = p.0.0.0.0.0.0.0.1 i;
+        dimmed = p.0.0.0.0.0.0.1 i;
+        italic = p.0.0.0.0.0.1 i;
+        underline = p.0.0.0.0.1 i;
+        blink = p.0.0.0.1 i;
+        reverse = p.0.0.1 i;
+        hidden = p.0.1 i;
+        strikethrough = p.1 i;
+      },
+      λ e. h.1 (((((((((ap (λ v. v.foreground) e, ap (λ v. v.background) e), ap (λ v. v.bold) e), ap (λ v. v.dimmed) e), ap (λ v. v.italic) e), ap (λ v. v.underline) e), ap (λ v. v.blink) e), ap (λ v. v.reverse) e), ap (λ v. v.hidden) e), ap (λ v. v.strikethrough) e),
+    )
+
+pub config_decided : (a b : PrintConfig) → IsTrue (same_config a b) ↔ (config_value a ≡ config_value b)
+config_decided a b =
+    let h = both (both (both (both (both (both (both (numbers a.depth b.depth) (numbers a.indent b.indent)) (numbers a.padding b.padding)) (whens a.styled b.styled)) (characters_decided (characters_of a.characters) (characters_of b.characters))) (style_decided a.branch b.branch)) (style_decided a.leaf b.leaf)) (texts (mark_of a) (mark_of b)) in (
+      λ e. let p = h.0 e in λ i. record {
+        depth = p.0.0.0.0.0.0.0 i;
+        indent = p.0.0.0.0.0.0.1 i;
+        padding = p.0.0.0.0.0.1 i;
+        styled = p.0.0.0.0.1 i;
+        characters = p.0.0.0.1 i;
+        branch = p.0.0.1 i;
+        leaf = p.0.1 i;
+        continued = p.1 i;
+      },
+      λ e. h.1 (((((((ap (λ v. v.depth) e, ap (λ v. v.indent) e), ap (λ v. v.padding) e), ap (λ v. v.styled) e), ap (λ v. v.characters) e), ap (λ v. v.branch) e), ap (λ v. v.leaf) e), ap (λ v. v.continued) e),
+    )
+
+-- a test that decides whether two values hold the same is an equivalence
+equivalence : {X V : Type 0} (value : X → V) (same : X → X → Bool) → ((a b : X) → IsTrue (same a b) ↔ (value a ≡ value b)) → IsEquivalence same
+equivalence value same decided =
+    record {
+      refl = λ a. (decided a a).1 refl;
+      symm = λ a b. both_ways (same a b) (same b a) (λ h. (decided b a).1 (sym ((decided a b).0 h))) (λ h. (decided a b).1 (sym ((decided b a).0 h)));
+      congr = λ a b c h. both_ways (same a c) (same b c)
+          (λ g. (decided b c).1 (sym ((decided a b).0 h) ∙ (decided a c).0 g)) (λ g. (decided a c).1 ((decided a b).0 h ∙ (decided b c).0 g));
+    }
+
+-- `==` of characters, under what they hold
+pub characters_equivalence : {X : Type 0} (value : X → Characters) → IsEquivalence (on value same_characters)
+characters_equivalence value = equivalence value (on value same_characters) (λ a b. characters_decided (value a) (value b))
+
+pub color_equivalence : IsEquivalence same_color
+color_equivalence = equivalence color_value same_color color_decided
+
+pub style_equivalence : IsEquivalence same_style
+style_equivalence = equivalence style_value same_style style_decided
+
+pub config_equivalence : IsEquivalence same_config
+config_equivalence = equivalence config_value same_config config_decided
