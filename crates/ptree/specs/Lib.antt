@@ -17,6 +17,7 @@ pub mod Fields
 pub mod File
 pub mod Graph
 pub mod HandedBack
+pub mod Item
 pub mod Laws
 pub mod Loading
 pub mod Outline
