@@ -22,6 +22,7 @@ pub mod Laws
 pub mod Loading
 pub mod Outline
 pub mod Pieces
+pub mod Preset
 pub mod Readable
 pub mod Shape
 pub mod Sources

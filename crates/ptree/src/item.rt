@@ -8,6 +8,7 @@ ghost use Rattle.ptree.specs.Writing.{IsWritten, HasCause, TakesNoMemory};
 mod lent;
 mod made;
 mod root;
+mod tree;
 
 use crate::style::{DrawError, Sink, Style};
 pub use lent::LentItem;
