@@ -30,6 +30,7 @@ pub mod Prefixes
 pub mod Fronts
 pub mod Shipped
 pub mod DefaultMark
+pub mod Programs
 pub mod ReadablePieces
 pub mod TickTrees
 -- reading: what a line shows, which items, and which tree

@@ -18,10 +18,12 @@ pub mod Fields
 pub mod File
 pub mod Graph
 pub mod HandedBack
+pub mod Item
 pub mod Laws
 pub mod Loading
 pub mod Outline
 pub mod Pieces
+pub mod Preset
 pub mod Readable
 pub mod Shape
 pub mod Sources

@@ -5,10 +5,22 @@ ghost use Rattle.ptree.specs.Shape.{Shape, kids};
 ghost use Rattle.ptree.specs.Style.{style_value};
 ghost use Rattle.ptree.specs.Writing.{IsWritten, HasCause, TakesNoMemory};
 
+mod lent;
+mod made;
+mod root;
+mod tree;
+
 use crate::style::{DrawError, Sink, Style};
+pub use lent::LentItem;
+pub use made::{MadeItem, Text};
+pub use root::Root;
 use std::alloc::{AllocError, Global};
 
 /// What means a labelled tree, which may go on for ever.
+///
+/// Where the children are of the type itself, the meaning is `unfolded_shape` of `specs/Shape.antt`, and `kids_of_unfold` of
+/// `proofs/Unfold.antt` shows what [`TreeItem::children`] owes. Over children of another type it is `over_shape`, and the lemma is
+/// `kids_of_over`. All four are there for callers.
 pub trait Shaped {
     /// Its own bytes under each style, and its children, and so on below.
     ghost shape: { Self → Shape };
@@ -16,7 +28,8 @@ pub trait Shaped {
 
 /// An item of a tree: what is written for it, and the items below it.
 ///
-/// Both are functions of what the item holds.
+/// Both are functions of what the item holds. A [`LentItem`] or a [`MadeItem`] is one without a proof: such a type names its text and
+/// its children. [`Root`] is a text over items of any type.
 pub trait TreeItem: Shaped {
     /// What the children are: items of this type, or of another.
     type Child: Shaped;

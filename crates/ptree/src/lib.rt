@@ -22,6 +22,7 @@ mod faults;
 pub mod graph;
 pub mod item;
 pub mod output;
+pub mod presets;
 pub mod print_config;
 pub mod read;
 pub mod style;

@@ -1,8 +1,9 @@
 //! Pieces, and the calls that draw.
-ghost use Rattle.std.specs.Prelude.{false};
+ghost use Rattle.std.specs.Prelude.{false, List, ℕ, IfOk, IfSome, IfNone, string_bytes};
+ghost use Rattle.std.specs.Str.{IsUtf8};
 ghost use Rattle.ptree.specs.Loading.{meant_by};
 ghost use Rattle.ptree.specs.Writing.{HasCause, IsDrawn, LeavesWholeEntries};
-ghost use Rattle.ptree.specs.Drawing.{look_by, look_of, written_look};
+ghost use Rattle.ptree.specs.Drawing.{look_by, look_of, written_look, IsDrawing};
 ghost use Rattle.ptree.specs.Laws.{HasOneList, HasCuts, HasTreeCuts, HasSubtrees, HasOneLineEntries};
 
 pub(crate) mod engine;
@@ -12,11 +13,11 @@ mod spread;
 
 use crate::item::TreeItem;
 use crate::print_config::{OutputKind, PrintConfig, Sources};
-use crate::style::{DrawError, Sink, Style};
+use crate::style::{Counted, DrawError, Sink, Style};
 use engine::draw;
 pub use indent::Indent;
 use look::Look;
-use std::alloc::Global;
+use std::alloc::{AllocError, Global};
 
 // Draws for output of a kind, `terminal` saying whether standard output is a terminal.
 fn draw_for<T, W>(
@@ -163,4 +164,52 @@ where
     ensures one_line { HasOneLineEntries (written_look config.now) (T.shape item.now) }
 {
     draw_for(alloc, item, f, OutputKind::Unknown, false, config)
+}
+
+/// The drawing of an item, as [`write_tree_with`] draws it.
+///
+/// # Errors
+///
+/// Memory ran out.
+pub fn tree_bytes<T>(alloc: Global, item: &T, config: &PrintConfig) -> Result<Vec<u8>, AllocError>
+where
+    T: TreeItem,
+    T::Child: TreeItem<Child = T::Child> + Drop,
+    ensures { IfOk result (λ v.
+        IsDrawing (written_look config.now) (T.shape item.now) config.now.depth v.items) }
+{
+    let mut out = Counted::new(Vec::new(alloc));
+    // A vector fails only where memory ran out.
+    match write_tree_with(alloc, item, &mut out, config) {
+        Ok(()) => Ok(out.into_inner()),
+        Err(_) => Err(AllocError),
+    }
+}
+
+/// The drawing of an item as a text, as [`write_tree_with`] draws it.
+///
+/// The result is `None` where the drawing is no UTF-8, which takes an item that writes other bytes than UTF-8.
+///
+/// # Errors
+///
+/// Memory ran out.
+pub fn tree_text<T>(
+    alloc: Global,
+    item: &T,
+    config: &PrintConfig,
+) -> Result<Option<String>, AllocError>
+where
+    T: TreeItem,
+    T::Child: TreeItem<Child = T::Child> + Drop,
+    ensures some { IfOk result (λ o. IfSome o (λ s.
+        IsDrawing (written_look config.now) (T.shape item.now) config.now.depth (string_bytes s))) }
+    ensures none { IfOk result (λ o. IfNone o ((drawing : List ℕ)
+        → IsDrawing (written_look config.now) (T.shape item.now) config.now.depth drawing
+        → IsUtf8 drawing → ⊥)) }
+{
+    let bytes = tree_bytes(alloc, item, config)?;
+    match String::from_utf8(bytes) {
+        Ok(text) => Ok(Some(text)),
+        Err(_) => Ok(None),
+    }
 }

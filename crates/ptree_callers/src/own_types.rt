@@ -1,12 +1,13 @@
 //! Items of a caller's own types.
-ghost use Rattle.std.specs.Prelude.{IfOk};
+ghost use Rattle.std.specs.Prelude.{IfOk, map, string_bytes};
 ghost use Rattle.ptree.specs.Drawing.{written_look, IsDrawing};
-ghost use Rattle.ptree_callers.specs.Folder.{volume_shape};
+ghost use Rattle.ptree.specs.Item.{root_shape};
+ghost use Rattle.ptree_callers.specs.OwnTypes.{folder_shape, halved_shape};
 
 use crate::drawing::drawing_of;
-use ptree::item::{Children, Shaped, TreeItem};
+use ptree::item::{Children, LentItem, MadeItem, Root, Text};
 use ptree::print_config::PrintConfig;
-use ptree::style::{DrawError, Sink, Style};
+use ptree::style::DrawError;
 use std::alloc::{AllocError, Global};
 
 /// A folder of folders.
@@ -16,26 +17,20 @@ pub struct Folder {
     pub folders: Vec<Folder>,
 }
 
-impl Shaped for Folder {
-    ghost use Rattle.ptree_callers.specs.Folder.{folder_shape};
+impl LentItem for Folder {
+    ghost use Rattle.std.specs.Prelude.{string_bytes};
+    ghost use Rattle.ptree_callers.specs.declared.own_types.Folder.{out-Folder};
 
-    ghost shape = { folder_shape };
-}
+    ghost text_of = { λ f. string_bytes (out-Folder f).name };
 
-impl TreeItem for Folder {
-    type Child = Folder;
+    ghost below_of = { λ f. (out-Folder f).folders.items };
 
-    fn write_self<W: Sink>(
-        &self,
-        _alloc: Global,
-        f: &mut W,
-        style: &Style,
-    ) -> Result<(), DrawError> {
-        style.write_painted(f, self.name.as_str())
+    fn text(&self) -> &str {
+        self.name.as_str()
     }
 
-    fn children(&self, _alloc: Global) -> Result<Children<'_, Folder>, AllocError> {
-        Ok(Children::Lent(self.folders.as_slice()))
+    fn below(&self) -> &[Folder] {
+        self.folders.as_slice()
     }
 }
 
@@ -46,26 +41,32 @@ pub struct Volume {
     pub folders: Vec<Folder>,
 }
 
-impl Shaped for Volume {
-    ghost use Rattle.ptree_callers.specs.Folder.{volume_shape};
+/// A list of so many elements that is sorted by merging, over its two halves.
+#[derive(Debug, Clone, Copy)]
+pub struct Halved(pub u32);
 
-    ghost shape = { volume_shape };
-}
+impl MadeItem for Halved {
+    ghost use Rattle.std.specs.Prelude.{ℕ, [], ◌∷◌, ◌/◌, ◌-◌, nat_lt, if◌then◌else◌, decimal};
 
-impl TreeItem for Volume {
-    type Child = Folder;
+    ghost Seen = { ℕ };
 
-    fn write_self<W: Sink>(
-        &self,
-        _alloc: Global,
-        f: &mut W,
-        style: &Style,
-    ) -> Result<(), DrawError> {
-        style.write_painted(f, self.title.as_str())
+    ghost seen = { λ h. h.0 };
+
+    ghost text_of = { decimal };
+
+    ghost below_of = { λ n. if nat_lt n 2 then [] else n / 2 ∷ (n - n / 2) ∷ [] };
+
+    fn text(&self, alloc: Global) -> Result<Text<'_>, AllocError> {
+        Ok(Text::Made(self.0.to_string(alloc)?))
     }
 
-    fn children(&self, _alloc: Global) -> Result<Children<'_, Folder>, AllocError> {
-        Ok(Children::Lent(self.folders.as_slice()))
+    fn below(&self, alloc: Global) -> Result<Children<'_, Halved>, AllocError> {
+        let len = self.0;
+        if len < 2 {
+            return Ok(Children::Lent(&[]));
+        }
+        let halves = vec![in alloc; Halved(len / 2), Halved(len - len / 2)]?;
+        Ok(Children::Made(halves))
     }
 }
 
@@ -75,8 +76,37 @@ pub fn drawing_of_volume(
     volume: &Volume,
     config: &PrintConfig,
 ) -> Result<Vec<u8>, DrawError>
-    ensures { IfOk result (λ v.
-        IsDrawing (written_look config.now) (volume_shape volume.now) config.now.depth v.items) }
+    ensures { IfOk result (λ v. IsDrawing (written_look config.now)
+        (root_shape (string_bytes volume.now.title) (map folder_shape volume.now.folders.items))
+        config.now.depth v.items) }
 {
-    drawing_of(alloc, volume, config)
+    let root = Root {
+        text: volume.title.as_str(),
+        children: volume.folders.as_slice(),
+    };
+    drawing_of(alloc, &root, config)
+}
+
+/// The drawing of a folder: of its own name and folders.
+pub fn drawing_of_folder(
+    alloc: Global,
+    folder: &Folder,
+    config: &PrintConfig,
+) -> Result<Vec<u8>, DrawError>
+    ensures { IfOk result (λ v.
+        IsDrawing (written_look config.now) (folder_shape folder.now) config.now.depth v.items) }
+{
+    drawing_of(alloc, folder, config)
+}
+
+/// The drawing of a list that is halved: of its length's digits, down to single elements.
+pub fn drawing_of_halved(
+    alloc: Global,
+    halved: Halved,
+    config: &PrintConfig,
+) -> Result<Vec<u8>, DrawError>
+    ensures { IfOk result (λ v.
+        IsDrawing (written_look config.now) (halved_shape halved.0) config.now.depth v.items) }
+{
+    drawing_of(alloc, &halved, config)
 }

@@ -1,6 +1,5 @@
 //! An item that has no memory for its children.
-use ptree::item::{Children, Shaped, TreeItem};
-use ptree::style::{DrawError, Sink, Style};
+use ptree::item::{Children, MadeItem, Text};
 use std::alloc::{AllocError, Global};
 
 /// An item that runs out of memory where it is asked for its children and has none.
@@ -10,25 +9,23 @@ pub struct Barren {
     pub below: Vec<Barren>,
 }
 
-impl Shaped for Barren {
-    ghost use Rattle.ptree_fixtures.specs.Barren.{barren_shape};
+impl MadeItem for Barren {
+    ghost use Rattle.std.specs.Prelude.{string_bytes};
+    ghost use Rattle.ptree_fixtures.specs.declared.barren.Barren.{Barren, out-Barren};
 
-    ghost shape = { barren_shape };
-}
+    ghost Seen = { Barren };
 
-impl TreeItem for Barren {
-    type Child = Barren;
+    ghost seen = { λ b. b };
 
-    fn write_self<W: Sink>(
-        &self,
-        _alloc: Global,
-        f: &mut W,
-        style: &Style,
-    ) -> Result<(), DrawError> {
-        style.write_painted(f, self.text.as_str())
+    ghost text_of = { λ b. string_bytes (out-Barren b).text };
+
+    ghost below_of = { λ b. (out-Barren b).below.items };
+
+    fn text(&self, _alloc: Global) -> Result<Text<'_>, AllocError> {
+        Ok(Text::Lent(self.text.as_str()))
     }
 
-    fn children(&self, _alloc: Global) -> Result<Children<'_, Barren>, AllocError> {
+    fn below(&self, _alloc: Global) -> Result<Children<'_, Barren>, AllocError> {
         if self.below.is_empty() {
             return Err(AllocError);
         }

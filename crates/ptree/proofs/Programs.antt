@@ -1,0 +1,36 @@
+-- The pieces that other programs draw with are readable.
+use Rattle.std.proofs.Common.{rules, ℕ, ◌+◌, ◌<◌, refl, inl, inr, arith}
+use Rattle.ptree.specs.Config.{default_mark}
+use Rattle.ptree.specs.Characters.{ascii_tick, utf}
+use Rattle.ptree.specs.Configuration.{Configuration}
+use Rattle.ptree.specs.Pieces.{pieces_from}
+use Rattle.ptree.specs.Preset.{preset_value}
+use Rattle.ptree.specs.Readable.{IsReadableWith}
+use Rattle.ptree.specs.declared.presets.Preset.{Preset}
+use Rattle.ptree.specs.declared.presets.Preset.TheVariants.{Tree, TreeAscii, CargoTree, CargoTreeAscii, Findmnt, FindmntAscii, Sqlite, Maven, Clang, Ps}
+use Rattle.ptree.proofs.DefaultMark.{default_mark_readable}
+use Rattle.ptree.proofs.Shipped.{shipped_readable, tick_readable}
+
+-- its pieces and its mark are readable
+abbrev pub IsReadableValue : Configuration → Type 0
+IsReadableValue v = IsReadableWith (pieces_from v.characters v.indent v.padding) v.continued
+
+utf_readable : (indent padding : ℕ) → IsReadableWith (pieces_from utf indent padding) default_mark
+utf_readable indent padding =
+    default_mark_readable utf (inr (inr (inl refl))) indent padding (shipped_readable utf (inr (inl refl)) indent padding)
+
+ticks_readable : (indent padding : ℕ) → 1 + padding < indent → IsReadableWith (pieces_from ascii_tick indent padding) default_mark
+ticks_readable indent padding dash =
+    default_mark_readable ascii_tick (inl refl) indent padding ((tick_readable indent padding).1 dash)
+
+pub preset_readable : (p : Preset) → IsReadableValue (preset_value p)
+preset_readable Tree = search (rules)
+preset_readable TreeAscii = ticks_readable 4 1 (omega arith)
+preset_readable CargoTree = utf_readable 4 1
+preset_readable CargoTreeAscii = ticks_readable 4 1 (omega arith)
+preset_readable Findmnt = utf_readable 2 0
+preset_readable FindmntAscii = ticks_readable 2 0 (omega arith)
+preset_readable Sqlite = ticks_readable 3 0 (omega arith)
+preset_readable Maven = utf_readable 3 1
+preset_readable Clang = ticks_readable 2 0 (omega arith)
+preset_readable Ps = search (rules)

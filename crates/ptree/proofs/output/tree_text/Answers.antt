@@ -1,0 +1,12 @@
+use Rattle.std.proofs.Common.{◌∙◌, sym, subst}
+use Rattle.std.proofs.lemmas.Bool.{false≢true}
+use Rattle.std.specs.Str.{IsUtf8}
+use Rattle.ptree.specs.Drawing.{written_look}
+use Rattle.ptree.proofs.Laws.{one_drawing}
+use Rattle.ptree.proofs.output.tree_text.Goals as goal
+
+pub returns-clause-none : goal.returns-clause-none
+returns-clause-none g c =
+    let config = c.args.config.now in
+    let same = one_drawing (written_look config) (g.T.Shaped.shape c.args.item.now) config.depth in
+    λ drawing drawn utf8. false≢true (c.in-Err.ensures.succeeds (subst IsUtf8 (same drawing drawn ∙ sym (same c.in_ok-bytes.bytes.items c.in_ok-bytes.ensures)) utf8))

@@ -1,0 +1,40 @@
+//! A root over items of another type.
+ghost use Rattle.std.specs.Prelude.{map};
+ghost use Rattle.ptree.specs.Item.{root_shape};
+
+use crate::item::{Children, Shaped, TreeItem};
+use crate::style::{DrawError, Sink, Style};
+use std::alloc::{AllocError, Global};
+
+/// A text over items of any type.
+#[derive(Debug, Drop)]
+pub struct Root<'a, C> {
+    /// The root's own text, which is written painted.
+    pub text: &'a str,
+
+    /// The items below it, in order.
+    pub children: &'a [C],
+}
+
+impl<C: Shaped> Shaped for Root<'_, C> {
+    ghost shape = { λ r. root_shape r.text.now (map C.shape r.children.now) };
+}
+
+impl<C: Shaped> TreeItem for Root<'_, C> {
+    type Child = C;
+
+    /// Writes the text, painted. It takes no memory.
+    fn write_self<W: Sink>(
+        &self,
+        _alloc: Global,
+        f: &mut W,
+        style: &Style,
+    ) -> Result<(), DrawError> {
+        style.write_painted(f, self.text)
+    }
+
+    /// Lends the children. It takes no memory, and succeeds.
+    fn children(&self, _alloc: Global) -> Result<Children<'_, C>, AllocError> {
+        Ok(Children::Lent(self.children))
+    }
+}

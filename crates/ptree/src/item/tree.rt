@@ -1,0 +1,73 @@
+//! Makes trees of texts, and goes over them.
+ghost use Rattle.std.specs.Prelude.{◌≡◌, ◌++◌, ◌∷◌, map, suc, IfOk, OnOk};
+ghost use Rattle.ptree.specs.Outline.{subtrees, subtrees_at};
+ghost use Rattle.ptree.specs.Tree.{tree, none, forest, tree_of};
+
+use crate::item::StringItem;
+use std::alloc::{AllocError, Global};
+
+impl StringItem {
+    /// A leaf of a text.
+    ///
+    /// # Errors
+    ///
+    /// Memory ran out.
+    pub fn leaf(alloc: Global, text: &str) -> Result<StringItem, AllocError>
+        ensures { IfOk result (λ s. tree_of s ≡ tree text.now none) }
+    {
+        StringItem::new(alloc, text, Vec::new(alloc))
+    }
+
+    /// A text over items, which are its children in order.
+    ///
+    /// # Errors
+    ///
+    /// Memory ran out.
+    pub fn new(
+        alloc: Global,
+        text: &str,
+        children: Vec<StringItem>,
+    ) -> Result<StringItem, AllocError>
+        ensures { IfOk result (λ s.
+            tree_of s ≡ tree text.now (forest (map tree_of children.items))) }
+    {
+        Ok(StringItem {
+            text: String::from_str(alloc, text)?,
+            children,
+        })
+    }
+
+    /// The item itself and all items below it, in the order in which they are drawn, each with its level. The item's own level is 0.
+    ///
+    /// # Errors
+    ///
+    /// Memory ran out, or a level exceeds 4294967295.
+    pub fn items(&self, alloc: Global) -> Result<Vec<(u32, &StringItem)>, AllocError>
+        ensures { IfOk result (λ v.
+            map (λ p. (p.0, tree_of p.1.now)) v.items ≡ subtrees (tree_of self.now)) }
+    {
+        let mut items = Vec::new(alloc);
+        push_items(self, 0, &mut items)?;
+        Ok(items)
+    }
+}
+
+// Adds an item at a level, and all items below it.
+fn push_items<'a>(
+    item: &'a StringItem,
+    level: u32,
+    items: &mut Vec<(u32, &'a StringItem)>,
+) -> Result<(), AllocError>
+    ensures { OnOk result (map (λ p. (p.0, tree_of p.1.now)) items.new.items
+        ≡ map (λ p. (p.0, tree_of p.1.now)) items.old.items
+        ++ (level, tree_of item.now) ∷ subtrees_at (suc level) (tree_of item.now).children) }
+{
+    items.push((level, item))?;
+    for child in &item.children {
+        let Some(below) = level.checked_add(1) else {
+            return Err(AllocError);
+        };
+        push_items(child, below, items)?;
+    }
+    Ok(())
+}

@@ -1,0 +1,97 @@
+//! What other programs draw with.
+ghost use Rattle.std.specs.Prelude.{◌≡◌, IfOk};
+ghost use Rattle.ptree.specs.Characters.{static_characters};
+ghost use Rattle.ptree.specs.Configuration.{config_value};
+ghost use Rattle.ptree.specs.Preset.{drawn_with, preset_value};
+ghost use Rattle.ptree.specs.Readable.{HasReadablePieces};
+
+use crate::print_config::{
+    ASCII_CHARS_TICK, IndentChars, PrintConfig, StaticIndentChars, UTF_CHARS,
+};
+use std::alloc::{AllocError, Global};
+
+/// A program that draws trees.
+#[derive(Debug, Clone, Copy)]
+pub enum Preset {
+    /// `tree --noreport`, which puts two no-break spaces and a space behind its bars.
+    Tree,
+
+    /// `tree --noreport --charset=ascii`.
+    TreeAscii,
+
+    /// `cargo tree --no-dedupe`.
+    CargoTree,
+
+    /// `cargo tree --no-dedupe --charset ascii`.
+    CargoTreeAscii,
+
+    /// `findmnt -n -o TARGET`.
+    Findmnt,
+
+    /// `findmnt -n -o TARGET --ascii`.
+    FindmntAscii,
+
+    /// `explain query plan` of `sqlite3`.
+    Sqlite,
+
+    /// `mvn dependency:tree -Dtokens=extended`.
+    Maven,
+
+    /// `clang -Xclang -ast-dump`.
+    Clang,
+
+    /// `ps --forest -o args=`, which turns the last child like the others.
+    Ps,
+}
+
+const TREE_CHARS: StaticIndentChars = StaticIndentChars {
+    down_and_right: "├── ",
+    down: "│\u{a0}\u{a0} ",
+    turn_right: "└── ",
+    right: "",
+    empty: "    ",
+};
+
+const PS_CHARS: StaticIndentChars = StaticIndentChars {
+    down_and_right: " \\_ ",
+    down: " |  ",
+    turn_right: " \\_ ",
+    right: "",
+    empty: "    ",
+};
+
+impl Preset {
+    // The characters, the indent and the padding.
+    fn pieces(self) -> (StaticIndentChars, usize, usize)
+        ensures { drawn_with (static_characters result.0) result.1 result.2 ≡ preset_value self }
+    {
+        match self {
+            Preset::Tree => (TREE_CHARS, 0, 0),
+            Preset::Ps => (PS_CHARS, 0, 0),
+            Preset::CargoTree => (UTF_CHARS, 4, 1),
+            Preset::TreeAscii | Preset::CargoTreeAscii => (ASCII_CHARS_TICK, 4, 1),
+            Preset::Findmnt => (UTF_CHARS, 2, 0),
+            Preset::FindmntAscii | Preset::Clang => (ASCII_CHARS_TICK, 2, 0),
+            Preset::Sqlite => (ASCII_CHARS_TICK, 3, 0),
+            Preset::Maven => (UTF_CHARS, 3, 1),
+        }
+    }
+
+    /// The default configuration, but with the program's characters, indent and padding. Its pieces are readable, so
+    /// [`read_tree`](crate::read::read_tree) takes it.
+    ///
+    /// # Errors
+    ///
+    /// Memory ran out.
+    pub fn config(self, alloc: Global) -> Result<PrintConfig, AllocError>
+        ensures value { IfOk result (λ config. config_value config ≡ preset_value self) }
+        ensures readable { IfOk result HasReadablePieces }
+    {
+        let (characters, indent, padding) = self.pieces();
+        let mut config = PrintConfig::default(alloc)?;
+        config.characters = IndentChars::from_static(alloc, characters)?;
+        config.indent = indent;
+        config.padding = padding;
+        Ok(config)
+    }
+}
