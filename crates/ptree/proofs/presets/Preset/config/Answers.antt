@@ -9,7 +9,7 @@ pub returns-clause-value : goal.returns-clause-value
 returns-clause-value c =
     let drawn = c.pieces-indent.result in
     ap (λ (v : Configuration). record v { characters = characters_of c.in_ok-config-2.field-0; indent = drawn.1; padding = drawn.2 }) c.in_ok-config.ensures.value
-    ∙ ap (λ z. drawn_with z drawn.1 drawn.2) c.in_ok-config-2.ensures.value ∙ c.pieces-indent.ensures
+    ∙ ap (λ z. drawn_with z drawn.1 drawn.2) c.in_ok-config-2.ensures ∙ c.pieces-indent.ensures
 
 pub returns-clause-readable : goal.returns-clause-readable
 returns-clause-readable c = subst IsReadableValue (sym (returns-clause-value c)) (preset_readable c.args.self)
