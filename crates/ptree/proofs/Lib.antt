@@ -8,6 +8,7 @@ pub mod Painting
 pub mod Equality
 -- trees, outlines and shapes
 pub mod TreeLemmas
+pub mod SameTrees
 pub mod Outlines
 pub mod OutlineAddresses
 pub mod Steps

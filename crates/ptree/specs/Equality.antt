@@ -1,10 +1,12 @@
 -- When values that hold texts are equal: texts by their bytes, wherever these lie.
-use Rattle.std.specs.Prelude.{◌≡◌, option_map}
+use Rattle.std.specs.Prelude.{◌≡◌, Bool, true, false, ◌&&◌, option_map}
+use Rattle.std.specs.Str.{bytes_eq}
 use Rattle.ptree.specs.declared.style.Style.{Style}
 use Rattle.ptree.specs.declared.print_config.PrintConfig.{PrintConfig}
 use Rattle.ptree.specs.Characters.{characters_of}
 use Rattle.ptree.specs.Color.{color_value}
 use Rattle.ptree.specs.Pieces.{mark_of}
+use Rattle.ptree.specs.Tree.{Forest, none, item, Tree}
 
 -- all fields are equal
 pub record SameStyle (a b : Style) : Type 0 where
@@ -29,3 +31,14 @@ pub record SameConfig (a b : PrintConfig) : Type 0 where
   pub branch : SameStyle a.branch b.branch
   pub leaf : SameStyle a.leaf b.leaf
   pub continued : mark_of a ≡ mark_of b
+
+-- whether trees side by side have equal texts, and equal children, in order
+abbrev pub is_same_forest : Forest → Forest → Bool
+is_same_forest none none = true
+is_same_forest none (item u d s) = false
+is_same_forest (item t c r) none = false
+is_same_forest (item t c r) (item u d s) = bytes_eq t u && (is_same_forest c d && is_same_forest r s)
+
+-- whether two trees are equal
+abbrev pub is_same_tree : Tree → Tree → Bool
+is_same_tree t u = bytes_eq t.text u.text && is_same_forest t.children u.children
