@@ -7,6 +7,7 @@ pub mod Styles
 pub mod Painting
 -- trees, outlines and shapes
 pub mod TreeLemmas
+pub mod SameTrees
 pub mod Outlines
 pub mod OutlineAddresses
 pub mod Steps

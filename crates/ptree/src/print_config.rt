@@ -492,7 +492,8 @@ pub const ASCII_CHARS_PLUS: StaticIndentChars = StaticIndentChars {
     empty: " ",
 };
 
-/// Regular box-drawing characters, as `tree` draws.
+/// Regular box-drawing characters, as `tree` draws; but behind its bars `tree` puts no-break spaces
+/// ([`Preset::Tree`](crate::presets::Preset::Tree)).
 pub const UTF_CHARS: StaticIndentChars = StaticIndentChars {
     down_and_right: "├",
     down: "│",

@@ -1,10 +1,13 @@
 //! Callers that build trees.
-ghost use Rattle.std.specs.Prelude.{◌≡◌, ◌≤◌, ◌<◌, ◌+◌, ◌++◌, [], ◌∷◌, max, IsTrue, IsFalse, OnOk, OnErr, IsErrOf, string_bytes};
-ghost use Rattle.ptree.specs.Outline.{line};
+ghost use Rattle.std.specs.Prelude.{◌≡◌, ◌≤◌, ◌<◌, ◌+◌, ◌++◌, [], ◌∷◌, max, IsTrue, IsFalse, OnOk, OnErr, IsErrOf, IfOk, length, string_bytes};
+ghost use Rattle.ptree.specs.Outline.{line, subtrees};
+ghost use Rattle.ptree.specs.Tree.{tree, none, forest, tree_of};
 ghost use Rattle.ptree.specs.declared.builder.AddError.{AddError};
 
 use ptree::TreeBuilder;
 use ptree::builder::AddError;
+use ptree::item::StringItem;
+use std::alloc::{AllocError, Global};
 
 /// Adds an item, or says that it couldn't and leaves the builder as it was.
 pub fn added(builder: &mut TreeBuilder, level: u32, text: String) -> bool
@@ -26,4 +29,35 @@ pub fn add_sibling(builder: &mut TreeBuilder, text: String) -> Result<(), AddErr
 {
     let level = builder.level().max(1);
     builder.add_at_level(level, text)
+}
+
+/// A text over two leaves.
+pub fn over_two(
+    alloc: Global,
+    text: &str,
+    first: &str,
+    second: &str,
+) -> Result<StringItem, AllocError>
+    ensures { IfOk result (λ s. tree_of s
+        ≡ tree text.now (forest (tree first.now none ∷ tree second.now none ∷ []))) }
+{
+    let first = StringItem::leaf(alloc, first)?;
+    let second = StringItem::leaf(alloc, second)?;
+    StringItem::new(alloc, text, vec![in alloc; first, second]?)
+}
+
+/// How many items a tree has.
+pub fn count_items(alloc: Global, tree: &StringItem) -> Result<usize, AllocError>
+    ensures { IfOk result (λ n. n ≡ length (subtrees (tree_of tree.now))) }
+{
+    let items = tree.items(alloc)?;
+    Ok(items.len())
+}
+
+/// A copy equals what it was made of.
+pub fn equals_its_copy(tree: &StringItem) -> Result<bool, AllocError>
+    ensures { IfOk result IsTrue }
+{
+    let copy = tree.clone()?;
+    Ok(copy.equals(tree))
 }

@@ -1,16 +1,18 @@
 //! Callers that read drawings.
 ghost use Rattle.std.specs.Prelude.{◌≡◌, ◌≤◌, ◌<◌, ◌+◌, false, IfOk, IfSome, IsTrue, IsSomeAnd};
 ghost use Rattle.ptree.specs.DrawnForm.{IsDrawnForm};
-ghost use Rattle.ptree.specs.Drawing.{written_look};
+ghost use Rattle.ptree.specs.Drawing.{look_by, written_look};
+ghost use Rattle.ptree.specs.Preset.{preset_value};
 ghost use Rattle.ptree.specs.Readable.{HasReadablePieces};
 ghost use Rattle.ptree.specs.Tree.{tree_of, height};
+ghost use Rattle.ptree.specs.declared.print_config.OutputKind.{OutputKind};
 
-use crate::drawing::drawing_of;
 use ptree::item::StringItem;
+use ptree::output::tree_text;
+use ptree::presets::Preset;
 use ptree::print_config::{ASCII_CHARS_TICK, IndentChars, PrintConfig, StaticIndentChars};
 use ptree::read::{pieces_readable, read_tree};
 use std::alloc::{AllocError, Global};
-use std::str;
 
 /// Draws a tree and reads it back. Whatever its texts, what comes back is the tree.
 pub fn there_and_back(
@@ -22,13 +24,10 @@ pub fn there_and_back(
     requires within { height (tree_of tree.now).children ≤ config.now.depth }
     ensures { IfOk result (λ o. IsSomeAnd o (λ t. tree_of t ≡ tree_of tree.now)) }
 {
-    let Ok(drawing) = drawing_of(alloc, tree, config) else {
+    let Some(drawing) = tree_text(alloc, tree, config)? else {
         return Err(AllocError);
     };
-    match str::from_utf8(drawing.as_slice()) {
-        Ok(text) => read_tree(alloc, text, config),
-        Err(_) => Err(AllocError),
-    }
+    read_tree(alloc, drawing.as_str(), config)
 }
 
 /// Reads where the configuration allows it, and else returns none.
@@ -81,5 +80,19 @@ pub fn read_listing(alloc: Global, text: &str) -> Result<Option<StringItem>, All
     config.indent = 0;
     config.padding = 0;
     config.characters = IndentChars::from_static(alloc, TREE)?;
+    read_tree(alloc, text, &config)
+}
+
+/// Reads what a program wrote. The pieces are readable, whichever program it is.
+pub fn read_output(
+    alloc: Global,
+    text: &str,
+    program: Preset,
+) -> Result<Option<StringItem>, AllocError>
+    ensures { let value = preset_value program in
+        IfOk result (λ o. IfSome o (λ t.
+        IsDrawnForm (look_by value OutputKind.Unknown false) value.depth text.now (tree_of t))) }
+{
+    let config = program.config(alloc)?;
     read_tree(alloc, text, &config)
 }

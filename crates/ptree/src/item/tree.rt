@@ -1,5 +1,6 @@
 //! Makes trees of texts, and goes over them.
-ghost use Rattle.std.specs.Prelude.{◌≡◌, ◌++◌, ◌∷◌, map, suc, IfOk, OnOk};
+ghost use Rattle.std.specs.Prelude.{◌≡◌, ◌↔◌, ◌++◌, ◌∷◌, map, suc, IfOk, IsTrue, OnOk};
+ghost use Rattle.ptree.specs.Equality.{same_tree};
 ghost use Rattle.ptree.specs.Outline.{subtrees, subtrees_at};
 ghost use Rattle.ptree.specs.Tree.{tree, none, forest, tree_of};
 
@@ -37,6 +38,14 @@ impl StringItem {
         })
     }
 
+    /// Whether two trees are equal: their texts by their bytes, and their children in order.
+    #[tactic(auto, using(crate::proofs::SameTrees::tree_test))]
+    pub fn equals(&self, other: &StringItem) -> bool
+        ensures { IsTrue result ↔ (tree_of self.now ≡ tree_of other.now) }
+    {
+        is_same(self, other)
+    }
+
     /// The item itself and all items below it, in the order in which they are drawn, each with its level. The item's own level is 0.
     ///
     /// # Errors
@@ -70,4 +79,24 @@ fn push_items<'a>(
         push_items(child, below, items)?;
     }
     Ok(())
+}
+
+// Whether two trees are equal.
+fn is_same(a: &StringItem, b: &StringItem) -> bool
+    ensures { result ≡ same_tree (tree_of a.now) (tree_of b.now) }
+{
+    if a.text != b.text {
+        return false;
+    }
+    let mut rest = b.children.as_slice();
+    for child in &a.children {
+        let Some((first, others)) = rest.split_first() else {
+            return false;
+        };
+        if !is_same(child, first) {
+            return false;
+        }
+        rest = others;
+    }
+    rest.is_empty()
 }
