@@ -1,5 +1,6 @@
 //! A writer that takes so many bytes, and a reader that gives so many, and then fails.
 
+use ptree::style::DrawError;
 use std::alloc::{AllocError, Global};
 use std::io::{self, ErrorKind, Read, Write};
 
@@ -11,6 +12,21 @@ pub enum Answer {
 
     /// An interruption, once; from then on it takes everything.
     Interrupted,
+}
+
+impl Answer {
+    /// Whether a drawing of `whole` bytes to a writer with so much room may end like this.
+    pub fn ends(self, ended: &Result<(), DrawError>, room: usize, whole: usize) -> bool {
+        match (ended, self) {
+            (Ok(()), _) => room >= whole,
+            (Err(DrawError::Zero), Answer::Zero) => room < whole,
+            (Err(DrawError::Write(e)), Answer::Error(kind)) => room < whole && e.kind() == kind,
+            (Err(DrawError::Write(e)), Answer::Interrupted) => {
+                room < whole && e.kind() == ErrorKind::Interrupted
+            }
+            _ => false,
+        }
+    }
 }
 
 /// Takes `room` bytes in all, at most `most` a call, and then gives its answer.

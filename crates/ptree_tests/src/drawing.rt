@@ -2,13 +2,13 @@
 
 use ptree::output::write_tree_with;
 use ptree::print_config::{
-    ASCII_CHARS_PLUS, ASCII_CHARS_TICK, PrintConfig, StyleWhen, UTF_CHARS, UTF_CHARS_BOLD,
-    UTF_CHARS_DASHED, UTF_CHARS_DOUBLE,
+    ASCII_CHARS_PLUS, ASCII_CHARS_TICK, PrintConfig, StaticIndentChars, StyleWhen, UTF_CHARS,
+    UTF_CHARS_BOLD, UTF_CHARS_DASHED, UTF_CHARS_DOUBLE,
 };
 use ptree::style::{Counted, DrawError};
 use ptree_fixtures::barren::Barren;
 use ptree_fixtures::expect::{expect_drawn, expect_printed};
-use ptree_fixtures::trees::{drawn, leaf, over, over_leaves, petgraph, plain};
+use ptree_fixtures::trees::{drawn, leaf, over, over_leaves, petgraph, plain, set_of};
 use std::alloc::Global;
 use std::process::Abort;
 use std::test::Fail;
@@ -59,6 +59,50 @@ fn every_set_draws(rt: HostRuntime) -> Result<(), Fail> {
     ];
     for (set, text) in cases {
         expect_drawn(alloc, &tree, &plain(alloc, set, 3, u32::MAX)?, text)?;
+    }
+    Ok(())
+}
+
+#[test]
+fn characters_may_be_empty_long_or_a_line_feed(rt: HostRuntime) -> Result<(), Fail> {
+    let alloc = rt.alloc();
+    let same = |text| StaticIndentChars {
+        down_and_right: text,
+        down: text,
+        turn_right: text,
+        right: text,
+        empty: text,
+    };
+    let mut broken = UTF_CHARS;
+    broken.down_and_right = "\n";
+    let chain = over(
+        alloc,
+        "r",
+        vec![in alloc; over_leaves(alloc, "a", &["b"])?]?,
+    )?;
+    let pair = over_leaves(alloc, "r", &["a", "b"])?;
+    let cases = [
+        (same(""), 3, 1, &chain, "r\na\nb\n"),
+        (same("x"), 3, 1, &chain, "r\nxxxa\nxxxxxxb\n"),
+        (broken, 0, 0, &pair, "r\n\na\n└b\n"),
+    ];
+    for (characters, indent, padding, tree, text) in cases {
+        let config = set_of(alloc, characters, indent, padding)?;
+        expect_drawn(alloc, tree, &config, text)?;
+    }
+    Ok(())
+}
+
+#[test]
+fn nothing_is_written_before_a_piece_that_is_too_long(rt: HostRuntime) -> Result<(), Fail> {
+    let alloc = rt.alloc();
+    let tree = over_leaves(alloc, "r", &["a"])?;
+    for (indent, padding) in [(usize::MAX, 1), (3, usize::MAX)] {
+        let config = set_of(alloc, UTF_CHARS, indent, padding)?;
+        let mut out = Counted::new(Vec::new(alloc));
+        let result = write_tree_with(alloc, &tree, &mut out, &config);
+        assert!(rt; matches!(&result, Err(DrawError::Memory)));
+        assert!(rt; out.into_inner().is_empty());
     }
     Ok(())
 }

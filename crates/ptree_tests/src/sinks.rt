@@ -12,19 +12,6 @@ use std::process::Abort;
 use std::str;
 use std::test::Fail;
 
-// Whether a drawing of `whole` bytes to a writer with so much room may end like this.
-fn is_right(ended: &Result<(), DrawError>, answer: Answer, room: usize, whole: usize) -> bool {
-    match (ended, answer) {
-        (Ok(()), _) => room == whole,
-        (Err(DrawError::Zero), Answer::Zero) => room < whole,
-        (Err(DrawError::Write(e)), Answer::Error(kind)) => room < whole && e.kind() == kind,
-        (Err(DrawError::Write(e)), Answer::Interrupted) => {
-            room < whole && e.kind() == ErrorKind::Interrupted
-        }
-        _ => false,
-    }
-}
-
 // That a writer that fails got a beginning of the drawing, and that its answer is told.
 fn assert_beginning(
     rt: &impl Abort,
@@ -38,7 +25,7 @@ fn assert_beginning(
     let whole = "r\n└─ a\n".as_bytes();
     let mut out = Counted::new(Failing::new(alloc, 40, room, most, answer)?);
     let result = write_tree_with(alloc, &tree, &mut out, &config);
-    let right = is_right(&result, answer, room, whole.len());
+    let right = answer.ends(&result, room, whole.len());
     assert!(rt; right, "{room} {most}: {result:?}");
     let beginning = whole.get(..room).ok_or("too much room")?;
     assert!(rt;
