@@ -1,16 +1,9 @@
-<<<<<<< HEAD
 -- The tests that `==` computes: all fields are equal, texts by their bytes, wherever these lie.
 use Rattle.std.specs.Prelude.{Bool, true, false, ◌&&◌, ◌==◌, string_bytes}
 use Rattle.std.specs.Option.{option_eq}
 use Rattle.std.specs.Str.{bytes_eq}
 use mathlib.Core.Bool.{beq}
 use denote.Enum.Bare.{sameb}
-=======
--- When values that hold texts are equal: texts by their bytes, wherever these lie.
-use Rattle.std.specs.Prelude.{◌≡◌, Bool, true, false, ◌&&◌, option_map}
-use Rattle.std.specs.Str.{bytes_eq}
-use Rattle.ptree.specs.declared.style.Style.{Style}
->>>>>>> 9f46b846648be783fa3f3529d0555a5fc3ea6269
 use Rattle.ptree.specs.declared.print_config.PrintConfig.{PrintConfig}
 use Rattle.ptree.specs.declared.style.Color.{Color}
 use Rattle.ptree.specs.declared.style.Color.TheVariants.{Black, Red, Green, Yellow, Blue, Purple, Cyan, White, Fixed, RGB, Named}
@@ -26,7 +19,6 @@ same_characters a b =
     bytes_eq a.down_and_right b.down_and_right && bytes_eq a.down b.down && bytes_eq a.turn_right b.turn_right
     && bytes_eq a.right b.right && bytes_eq a.empty b.empty
 
-<<<<<<< HEAD
 -- the same colour
 abbrev pub same_color : Color → Color → Bool
 same_color (Named a) (Named b) = bytes_eq (string_bytes a) (string_bytes b)
@@ -55,26 +47,14 @@ same_config a b =
     a.depth == b.depth && a.indent == b.indent && a.padding == b.padding && sameb the_type a.styled b.styled
     && same_characters (characters_of a.characters) (characters_of b.characters) && same_style a.branch b.branch
     && same_style a.leaf b.leaf && bytes_eq (mark_of a) (mark_of b)
-=======
--- all fields are equal
-pub record SameConfig (a b : PrintConfig) : Type 0 where
-  pub depth : a.depth ≡ b.depth
-  pub indent : a.indent ≡ b.indent
-  pub padding : a.padding ≡ b.padding
-  pub styled : a.styled ≡ b.styled
-  pub characters : characters_of a.characters ≡ characters_of b.characters
-  pub branch : SameStyle a.branch b.branch
-  pub leaf : SameStyle a.leaf b.leaf
-  pub continued : mark_of a ≡ mark_of b
 
--- whether trees side by side have equal texts, and equal children, in order
+-- the same trees side by side
 abbrev pub same_forest : Forest → Forest → Bool
 same_forest none none = true
 same_forest none (item u d s) = false
 same_forest (item t c r) none = false
 same_forest (item t c r) (item u d s) = bytes_eq t u && (same_forest c d && same_forest r s)
 
--- whether two trees are equal
+-- the same tree
 abbrev pub same_tree : Tree → Tree → Bool
 same_tree t u = bytes_eq t.text u.text && same_forest t.children u.children
->>>>>>> 9f46b846648be783fa3f3529d0555a5fc3ea6269
