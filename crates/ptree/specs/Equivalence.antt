@@ -6,7 +6,9 @@ use Rattle.std.specs.Ordering.{on}
 use Rattle.std.specs.Str.{bytes_eq}
 use Rattle.std.proofs.lemmas.Slice.Eq.{bytes_eq-Decides}
 use Rattle.std.specs.Option.{option_eq}
-use Rattle.std.proofs.lemmas.Bool.{and_parts, and_from}
+use Rattle.std.proofs.lemmas.Bool.{and_parts, and_from, false≢true}
+use Rattle.std.proofs.lemmas.Bool.Decides.{Decides-and}
+use Rattle.std.specs.Bool.{Decides}
 use mathlib.Core.Bool.{beq}
 use denote.Enum.Bare.{sameb}
 use Rattle.ptree.specs.declared.print_config.PrintConfig.{PrintConfig}
@@ -17,9 +19,10 @@ use Rattle.ptree.specs.contracts.print_config.StyleWhen.{the_type}
 use Rattle.ptree.specs.Characters.{Characters, characters_of}
 use Rattle.ptree.specs.Color.{color_value}
 use Rattle.ptree.specs.Configuration.{config_value}
-use Rattle.ptree.specs.Equality.{same_characters, same_color, same_style, same_config}
+use Rattle.ptree.specs.Equality.{same_characters, same_color, same_style, same_config, same_forest, same_tree}
 use Rattle.ptree.specs.Pieces.{mark_of}
 use Rattle.ptree.specs.Style.{style_value}
+use Rattle.ptree.specs.Tree.{Forest, none, item, Tree, tree, tree_of}
 
 both : {P Q : Type 0} {x y : Bool} → IsTrue x ↔ P → IsTrue y ↔ Q → IsTrue (x && y) ↔ (P × Q)
 both {x = x} {y = y} p q = (λ h. (p.0 (and_parts x y h).0, q.0 (and_parts x y h).1), λ h. and_from x y (p.1 h.0) (q.1 h.1))
@@ -85,6 +88,24 @@ config_decided a b =
       λ e. h.1 (((((((ap (λ v. v.depth) e, ap (λ v. v.indent) e), ap (λ v. v.padding) e), ap (λ v. v.styled) e), ap (λ v. v.characters) e), ap (λ v. v.branch) e), ap (λ v. v.leaf) e), ap (λ v. v.continued) e),
     )
 
+forest_decided : (f g : Forest) → Decides (same_forest f g) (f ≡ g)
+forest_decided none none = (λ e. refl, λ e. refl)
+forest_decided none (item u d s) = (λ e. absurd (false≢true e), λ e. absurd cc)
+forest_decided (item t c r) none = (λ e. absurd (false≢true e), λ e. absurd cc)
+forest_decided (item t c r) (item u d s) =
+    let parts = Decides-and (bytes_eq t u) (same_forest c d && same_forest r s) (bytes_eq-Decides t u)
+    (Decides-and (same_forest c d) (same_forest r s) (forest_decided c d) (forest_decided r s)) in (
+      λ e. let p = parts.0 e in let texts = p.0 in let children = p.1.0 in let rests = p.1.1 in cc,
+      λ e. let texts : t ≡ u = cc in let children : c ≡ d = cc in let rests : r ≡ s = cc in parts.1 (texts, (children, rests)),
+    )
+
+pub tree_decided : (t u : Tree) → Decides (same_tree t u) (t ≡ u)
+tree_decided t u =
+    let parts = Decides-and (bytes_eq t.text u.text) (same_forest t.children u.children) (bytes_eq-Decides t.text u.text) (forest_decided t.children u.children) in (
+      λ e. let p = parts.0 e in ap (λ z. tree z t.children) p.0 ∙ ap (λ z. tree u.text z) p.1,
+      λ e. parts.1 (ap (λ (z : Tree). z.text) e, ap (λ (z : Tree). z.children) e),
+    )
+
 -- a test that decides whether two values hold the same is an equivalence
 equivalence : {X V : Type 0} (value : X → V) (same : X → X → Bool) → ((a b : X) → IsTrue (same a b) ↔ (value a ≡ value b)) → IsEquivalence same
 equivalence value same decided =
@@ -107,3 +128,6 @@ style_equivalence = equivalence style_value same_style style_decided
 
 pub config_equivalence : IsEquivalence same_config
 config_equivalence = equivalence config_value same_config config_decided
+
+pub tree_equivalence : IsEquivalence (on tree_of same_tree)
+tree_equivalence = equivalence tree_of (on tree_of same_tree) (λ a b. tree_decided (tree_of a) (tree_of b))

@@ -59,5 +59,5 @@ pub fn equals_its_copy(tree: &StringItem) -> Result<bool, AllocError>
     ensures { IfOk result IsTrue }
 {
     let copy = tree.clone()?;
-    Ok(copy.equals(tree))
+    Ok(copy == *tree)
 }

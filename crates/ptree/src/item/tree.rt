@@ -38,14 +38,6 @@ impl StringItem {
         })
     }
 
-    /// Whether two trees are equal: their texts by their bytes, and their children in order.
-    #[tactic(auto, using(crate::proofs::SameTrees::tree_test))]
-    pub fn equals(&self, other: &StringItem) -> bool
-        ensures { IsTrue result ↔ (tree_of self.now ≡ tree_of other.now) }
-    {
-        is_same(self, other)
-    }
-
     /// The item itself and all items below it, in the order in which they are drawn, each with its level. The item's own level is 0.
     ///
     /// # Errors
@@ -59,6 +51,31 @@ impl StringItem {
         push_items(self, 0, &mut items)?;
         Ok(items)
     }
+}
+
+impl PartialEq for StringItem {
+    ghost use Rattle.std.specs.Cmp.{partial_equiv_from_equiv};
+    ghost use Rattle.std.specs.Ordering.{on};
+    ghost use Rattle.ptree.specs.Equivalence.{tree_equivalence};
+
+    ghost eq = { on tree_of same_tree };
+
+    ghost laws = { partial_equiv_from_equiv tree_equivalence };
+
+    /// Whether the trees are equal: the texts by their bytes, and the children in order. It takes no memory.
+    #[tactic(auto, using(crate::specs::Equivalence::tree_decided))]
+    fn eq(&self, other: &StringItem) -> bool
+        ensures value { result ≡ same_tree (tree_of self.now) (tree_of other.now) }
+        ensures equality { IsTrue result ↔ (tree_of self.now ≡ tree_of other.now) }
+    {
+        is_same(self, other)
+    }
+}
+
+impl Eq for StringItem {
+    ghost use Rattle.ptree.specs.Equivalence.{tree_equivalence};
+
+    ghost laws = { tree_equivalence };
 }
 
 // Adds an item at a level, and all items below it.
