@@ -1,42 +1,21 @@
 //! What other programs drew, as they wrote it, and how it is read.
 
-use ptree::print_config::{
-    ASCII_CHARS_TICK, IndentChars, PrintConfig, StaticIndentChars, StyleWhen, UTF_CHARS,
-};
+use ptree::presets::Preset;
+use ptree::print_config::PrintConfig;
 use ptree::read::{pieces_readable, read_tree};
 use ptree_fixtures::expect::expect_drawn;
 use ptree_fixtures::trees::count_items;
-use std::alloc::{AllocError, Global};
+use std::alloc::Global;
 use std::process::Abort;
 use std::test::Fail;
 
-// A program's output, and the settings under which it is a drawing.
+// A program's output.
 #[derive(Clone, Copy)]
 struct Output {
     text: &'static str,
-    set: StaticIndentChars,
-    indent: usize,
-    padding: usize,
+    program: Preset,
     items: usize,
 }
-
-// `tree` puts no-break spaces behind its bars.
-const TREE_CHARS: StaticIndentChars = StaticIndentChars {
-    down_and_right: "├── ",
-    down: "│\u{a0}\u{a0} ",
-    turn_right: "└── ",
-    right: "",
-    empty: "    ",
-};
-
-// `ps` turns the last child like the others.
-const PS_CHARS: StaticIndentChars = StaticIndentChars {
-    down_and_right: " \\_ ",
-    down: " |  ",
-    turn_right: " \\_ ",
-    right: "",
-    empty: "    ",
-};
 
 // `tree --noreport`
 const TREE: &str = "\
@@ -265,85 +244,55 @@ fn outputs() -> [Output; 10] {
     [
         Output {
             text: TREE,
-            set: TREE_CHARS,
-            indent: 0,
-            padding: 0,
+            program: Preset::Tree,
             items: 17,
         },
         Output {
             text: TREE_ASCII,
-            set: ASCII_CHARS_TICK,
-            indent: 4,
-            padding: 1,
+            program: Preset::TreeAscii,
             items: 17,
         },
         Output {
             text: CARGO_TREE,
-            set: UTF_CHARS,
-            indent: 4,
-            padding: 1,
+            program: Preset::CargoTree,
             items: 8,
         },
         Output {
             text: FINDMNT,
-            set: UTF_CHARS,
-            indent: 2,
-            padding: 0,
+            program: Preset::Findmnt,
             items: 20,
         },
         Output {
             text: SQLITE_PLAN,
-            set: ASCII_CHARS_TICK,
-            indent: 3,
-            padding: 0,
+            program: Preset::Sqlite,
             items: 10,
         },
         Output {
             text: MVN_TREE,
-            set: UTF_CHARS,
-            indent: 3,
-            padding: 1,
+            program: Preset::Maven,
             items: 35,
         },
         Output {
             text: CLANG_AST,
-            set: ASCII_CHARS_TICK,
-            indent: 2,
-            padding: 0,
+            program: Preset::Clang,
             items: 42,
         },
         Output {
             text: CARGO_TREE_ASCII,
-            set: ASCII_CHARS_TICK,
-            indent: 4,
-            padding: 1,
+            program: Preset::CargoTreeAscii,
             items: 6,
         },
         Output {
             text: FINDMNT_ASCII,
-            set: ASCII_CHARS_TICK,
-            indent: 2,
-            padding: 0,
+            program: Preset::FindmntAscii,
             items: 20,
         },
         Output {
             text: PS_FOREST,
-            set: PS_CHARS,
-            indent: 0,
-            padding: 0,
+            program: Preset::Ps,
             items: 7,
         },
     ]
-}
-
-// The settings of an output.
-fn settings(alloc: Global, output: &Output) -> Result<PrintConfig, AllocError> {
-    let mut config = PrintConfig::default(alloc)?;
-    config.styled = StyleWhen::Never;
-    config.indent = output.indent;
-    config.padding = output.padding;
-    config.characters = IndentChars::from_static(alloc, output.set)?;
-    Ok(config)
 }
 
 // Whether a text is a drawing; if so, drawing what was read gives the text.
@@ -365,7 +314,7 @@ fn is_drawing(
 fn outputs_of_programs_read_back(rt: HostRuntime) -> Result<(), Fail> {
     let alloc = rt.alloc();
     for output in outputs() {
-        let config = settings(alloc, &output)?;
+        let config = output.program.config(alloc)?;
         assert!(rt; pieces_readable(alloc, &config)?);
         let tree = read_tree(alloc, output.text, &config)?.ok_or("no drawing")?;
         assert!(rt; count_items(&tree) == output.items);
@@ -421,7 +370,7 @@ fn lost(alloc: Global, text: &str, line: &str) -> Result<[String; 3], Fail> {
 fn lost_lines_are_told_or_leave_a_drawing(rt: HostRuntime) -> Result<(), Fail> {
     let alloc = rt.alloc();
     for (output, (line, no_root, no_line, no_last)) in outputs().iter().zip(LOST) {
-        let config = settings(alloc, output)?;
+        let config = output.program.config(alloc)?;
         let texts = lost(alloc, output.text, line)?;
         for (text, is_left) in texts.iter().zip([no_root, no_line, no_last]) {
             let found = is_drawing(&rt, alloc, text.as_str(), &config)?;
@@ -473,7 +422,7 @@ fn assert_drawings(
     texts: &[String],
     are_drawings: bool,
 ) -> Result<(), Fail> {
-    let config = settings(alloc, output)?;
+    let config = output.program.config(alloc)?;
     for text in texts {
         let found = is_drawing(rt, alloc, text.as_str(), &config)?;
         assert!(rt; found == are_drawings, "{text}");

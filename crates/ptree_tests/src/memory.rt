@@ -3,8 +3,8 @@
 use crate::indent::assert_pieces;
 use ptree::TreeBuilder;
 use ptree::graph::{Graph, GraphNode, Label, NodeIndex, write_graph_with};
-use ptree::item::TreeItem;
-use ptree::output::Indent;
+use ptree::item::{StringItem, TreeItem};
+use ptree::output::{Indent, tree_bytes, tree_text};
 use ptree::print_config::{ASCII_CHARS_PLUS, IndentChars, PrintConfig, StyleWhen, UTF_CHARS};
 use ptree::read::{pieces_readable, read_tree};
 use ptree::style::{Color, Counted, Style};
@@ -49,6 +49,23 @@ fn item_succeeds_with_memory(rt: HostRuntime) -> Result<(), Fail> {
     let children = item.children(alloc)?;
     assert!(rt; children.as_slice().len() == 1);
     expect_text(children.as_slice()[0].text.as_str(), "a")
+}
+
+#[test]
+fn trees_of_texts_succeed_with_memory(rt: HostRuntime) -> Result<(), Fail> {
+    let alloc = rt.alloc();
+    let leaves = vec![in alloc;
+        StringItem::leaf(alloc, "bread")?,
+        StringItem::leaf(alloc, "milk")?,
+    ]?;
+    let tree = StringItem::new(alloc, "shopping", leaves)?;
+    expect_items(alloc, &tree, "shopping [bread, milk]")?;
+    assert!(rt; tree.items(alloc)?.len() == 3);
+    let config = plain(alloc, UTF_CHARS, 3, 4294967295)?;
+    let text = tree_text(alloc, &tree, &config)?.ok_or("no text")?;
+    expect_text(text.as_str(), "shopping\n├─ bread\n└─ milk\n")?;
+    let bytes = tree_bytes(alloc, &tree, &config)?;
+    expect_text(str::from_utf8(&bytes)?, text.as_str())
 }
 
 #[test]

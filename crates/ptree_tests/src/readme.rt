@@ -2,13 +2,16 @@
 
 use ptree::TreeBuilder;
 use ptree::graph::{Graph, write_graph_with};
-use ptree::output::write_tree_with;
+use ptree::item::{Root, TreeItem};
+use ptree::output::{tree_text, write_tree_with};
 use ptree::print_config::{IndentChars, PrintConfig, StaticIndentChars, UTF_CHARS_BOLD};
 use ptree::read::{pieces_readable, read_tree};
 use ptree::style::{Counted, DrawError};
 use ptree::value::{DocFormat, draw_document_with};
+use ptree_callers::own_types::{Folder, Halved};
 use ptree_fixtures::expect::{expect_drawn, expect_items, expect_text};
 use ptree_fixtures::failing::{Answer, Failing};
+use std::alloc::{AllocError, Global};
 use std::str;
 use std::test::Fail;
 
@@ -222,4 +225,47 @@ fn a_document_is_drawn(rt: HostRuntime) -> Result<(), Fail> {
         "package\n├─ authors\n│  ├─ a\n│  └─ b\n├─ edition = 2021\n└─ name = ptree\n"
     );
     Ok(())
+}
+
+const HALVES: &str = "\
+5
+├─ 2
+│  ├─ 1
+│  └─ 1
+└─ 3
+   ├─ 1
+   └─ 2
+      ├─ 1
+      └─ 1
+";
+
+// That this is the drawing of an item under the default configuration.
+fn expect_default<T>(alloc: Global, item: &T, wanted: &str) -> Result<(), Fail>
+where
+    T: TreeItem,
+    T::Child: TreeItem<Child = T::Child> + Drop,
+{
+    let config = PrintConfig::default(alloc)?;
+    let text = tree_text(alloc, item, &config)?.ok_or("no text")?;
+    expect_text(text.as_str(), wanted)
+}
+
+// A folder without folders in it.
+fn empty_folder(alloc: Global, name: &str) -> Result<Folder, AllocError> {
+    Ok(Folder {
+        name: String::from_str(alloc, name)?,
+        folders: Vec::new(alloc),
+    })
+}
+
+#[test]
+fn own_types_are_drawn(rt: HostRuntime) -> Result<(), Fail> {
+    let alloc = rt.alloc();
+    expect_default(alloc, &Halved(5), HALVES)?;
+    let folders = vec![in alloc; empty_folder(alloc, "bin")?, empty_folder(alloc, "etc")?]?;
+    let root = Root {
+        text: "disk",
+        children: folders.as_slice(),
+    };
+    expect_default(alloc, &root, "disk\n├─ bin\n└─ etc\n")
 }
