@@ -5,11 +5,11 @@ ghost use Rattle.ptree.specs.Document.{document};
 ghost use Rattle.ptree.specs.Drawing.{look_of, written_look, IsDrawing};
 ghost use Rattle.ptree.specs.Value.{data_of};
 
-use crate::drawing::drawing_of;
+use ptree::output::tree_bytes;
 use ptree::print_config::{OutputKind, PrintConfig};
-use ptree::style::{Counted, DrawError, Sink};
+use ptree::style::{Counted, Sink};
 use ptree::value::{DocError, DocFormat, Value, draw_document_with};
-use std::alloc::Global;
+use std::alloc::{AllocError, Global};
 
 /// The drawing of a document, in memory. Where there is one, the document has a value, and the drawing is that of the label and it.
 pub fn drawing_of_document(
@@ -49,10 +49,10 @@ pub fn drawing_of_copy(
     alloc: Global,
     value: &Value,
     config: &PrintConfig,
-) -> Result<Vec<u8>, DrawError>
+) -> Result<Vec<u8>, AllocError>
     ensures { IfOk result (λ drawn.
         IsDrawing (written_look config.now) (value_shape (data_of value.now)) config.now.depth drawn.items) }
 {
     let copy = value.clone()?;
-    drawing_of(alloc, &copy, config)
+    tree_bytes(alloc, &copy, config)
 }

@@ -1,30 +1,17 @@
 //! Callers that draw.
-ghost use Rattle.std.specs.Prelude.{◌≡◌, ℕ, ◌++◌, [], ◌∷◌, List, Some, IsOk, IfOk, OnErr};
+ghost use Rattle.std.specs.Prelude.{◌≡◌, ℕ, ◌++◌, [], ◌∷◌, List, IsOk};
 ghost use Rattle.ptree.specs.Address.{Address};
-ghost use Rattle.ptree.specs.Drawing.{written_look, IsDrawing, own_at, prefix_text, entry_text};
+ghost use Rattle.ptree.specs.Drawing.{written_look, own_at, prefix_text, entry_text};
 ghost use Rattle.ptree.specs.Style.{painted_text};
 ghost use Rattle.ptree.specs.Text.{HasNoLineFeed, line_feed};
 ghost use Rattle.ptree.specs.Tree.{tree_of, shape_of_tree};
 ghost use Rattle.ptree.specs.Writing.{HasCause, IsDrawn, IsWritten, LeavesWholeEntries};
 
-use ptree::item::{StringItem, TreeItem};
+use ptree::item::StringItem;
 use ptree::output::write_tree_with;
 use ptree::print_config::PrintConfig;
-use ptree::style::{Counted, DrawError, Sink, put_all};
+use ptree::style::{DrawError, Sink, put_all};
 use std::alloc::Global;
-
-/// The drawing of any item, in memory.
-pub fn drawing_of<T>(alloc: Global, item: &T, config: &PrintConfig) -> Result<Vec<u8>, DrawError>
-where
-    T: TreeItem,
-    T::Child: TreeItem<Child = T::Child> + Drop,
-    ensures { IfOk result (λ v.
-        IsDrawing (written_look config.now) (T.shape item.now) config.now.depth v.items) }
-{
-    let mut out = Counted::new(Vec::new(alloc));
-    write_tree_with(alloc, item, &mut out, config)?;
-    Ok(out.into_inner())
-}
 
 /// Draws to any sink. Where memory runs out, the sink holds whole entries: a reader of it can go on at a line.
 pub fn draw_whole_entries<W: Sink>(

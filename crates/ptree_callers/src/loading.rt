@@ -5,9 +5,8 @@ ghost use Rattle.ptree.specs.Drawing.{IsDrawing, look_by, look_of};
 ghost use Rattle.ptree.specs.Loading.{SayNothing, config_of, meant_by};
 ghost use Rattle.ptree.specs.declared.print_config.OutputKind.{OutputKind};
 
-use crate::drawing::drawing_of;
 use ptree::item::TreeItem;
-use ptree::output::write_tree;
+use ptree::output::{tree_bytes, write_tree};
 use ptree::print_config::{Fault, FileSource, OutputKind, PrintConfig, Sources, first_fault};
 use ptree::style::{Counted, DrawError};
 use std::alloc::{AllocError, Global};
@@ -53,7 +52,7 @@ where
 
 /// The drawing of any item where there is no file, and no variable of a field: the default gives it, and every level is drawn that there
 /// can be.
-pub fn drawing_unset<T>(alloc: Global, item: &T, sources: &Sources) -> Result<Vec<u8>, DrawError>
+pub fn drawing_unset<T>(alloc: Global, item: &T, sources: &Sources) -> Result<Vec<u8>, AllocError>
 where
     T: TreeItem,
     T::Child: TreeItem<Child = T::Child> + Drop,
@@ -62,7 +61,7 @@ where
         IsDrawing (look_by default_configuration OutputKind.Unknown false) (T.shape item.now)
         4294967295 v.items) }
 {
-    drawing_of(alloc, item, &PrintConfig::from_env(alloc, sources)?)
+    tree_bytes(alloc, item, &PrintConfig::from_env(alloc, sources)?)
 }
 
 /// Two configurations that hold the same give one drawing, wherever their texts lie.
@@ -71,7 +70,7 @@ pub fn drawing_of_same<T>(
     item: &T,
     config: &PrintConfig,
     other: &PrintConfig,
-) -> Result<Vec<u8>, DrawError>
+) -> Result<Vec<u8>, AllocError>
 where
     T: TreeItem,
     T::Child: TreeItem<Child = T::Child> + Drop,
@@ -80,7 +79,7 @@ where
         IsDrawing (look_of other.now OutputKind.Unknown false) (T.shape item.now) other.now.depth
         v.items) }
 {
-    drawing_of(alloc, item, config)
+    tree_bytes(alloc, item, config)
 }
 
 /// Whether a configuration holds what the default does.

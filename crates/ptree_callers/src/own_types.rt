@@ -4,10 +4,9 @@ ghost use Rattle.ptree.specs.Drawing.{written_look, IsDrawing};
 ghost use Rattle.ptree.specs.Item.{root_shape};
 ghost use Rattle.ptree_callers.specs.OwnTypes.{folder_shape, halved_shape};
 
-use crate::drawing::drawing_of;
 use ptree::item::{Children, LentItem, MadeItem, Root, Text};
+use ptree::output::tree_bytes;
 use ptree::print_config::PrintConfig;
-use ptree::style::DrawError;
 use std::alloc::{AllocError, Global};
 
 /// A folder of folders.
@@ -75,7 +74,7 @@ pub fn drawing_of_volume(
     alloc: Global,
     volume: &Volume,
     config: &PrintConfig,
-) -> Result<Vec<u8>, DrawError>
+) -> Result<Vec<u8>, AllocError>
     ensures { IfOk result (λ v. IsDrawing (written_look config.now)
         (root_shape (string_bytes volume.now.title) (map folder_shape volume.now.folders.items))
         config.now.depth v.items) }
@@ -84,7 +83,7 @@ pub fn drawing_of_volume(
         text: volume.title.as_str(),
         children: volume.folders.as_slice(),
     };
-    drawing_of(alloc, &root, config)
+    tree_bytes(alloc, &root, config)
 }
 
 /// The drawing of a folder: of its own name and folders.
@@ -92,11 +91,11 @@ pub fn drawing_of_folder(
     alloc: Global,
     folder: &Folder,
     config: &PrintConfig,
-) -> Result<Vec<u8>, DrawError>
+) -> Result<Vec<u8>, AllocError>
     ensures { IfOk result (λ v.
         IsDrawing (written_look config.now) (folder_shape folder.now) config.now.depth v.items) }
 {
-    drawing_of(alloc, folder, config)
+    tree_bytes(alloc, folder, config)
 }
 
 /// The drawing of a list that is halved: of its length's digits, down to single elements.
@@ -104,9 +103,9 @@ pub fn drawing_of_halved(
     alloc: Global,
     halved: Halved,
     config: &PrintConfig,
-) -> Result<Vec<u8>, DrawError>
+) -> Result<Vec<u8>, AllocError>
     ensures { IfOk result (λ v.
         IsDrawing (written_look config.now) (halved_shape halved.0) config.now.depth v.items) }
 {
-    drawing_of(alloc, &halved, config)
+    tree_bytes(alloc, &halved, config)
 }
