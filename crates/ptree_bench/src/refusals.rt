@@ -1,5 +1,7 @@
 //! Calls of the library that take memory, each made once more where it was refused.
 
+mod rows;
+
 use ptree::TreeBuilder;
 use ptree::graph::{EdgeError, Graph, Label, NodeIndex, print_graph, write_graph_with};
 use ptree::item::{StringItem, TreeItem};
@@ -464,7 +466,8 @@ impl Trial {
         self.call_lines(alloc, &plain)?;
         self.call_values(alloc, &plain)?;
         self.call_documents(alloc, &plain)?;
-        self.call_loader(alloc)
+        self.call_loader(alloc)?;
+        self.call_rows(alloc)
     }
 }
 

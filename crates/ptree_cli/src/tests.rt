@@ -206,15 +206,32 @@ fn documents_are_drawn_or_refused(rt: HostRuntime) -> Result<(), Fail> {
     Ok(())
 }
 
+// That nothing is drawn of an input that fails or is interrupted after any number of its bytes, and that this is told.
+fn expect_unread(alloc: Global, words: &[&str], text: &'static str) -> Result<(), Fail> {
+    for len in 0..text.len() + 1 {
+        let bytes = text.as_bytes().get(..len).ok_or("no front")?;
+        for kind in [ErrorKind::BrokenPipe, ErrorKind::Interrupted] {
+            let mut input = Counted::new(Halting { bytes, kind });
+            let got = run_over(alloc, words, &nothing(alloc), &mut input)?;
+            let told = got.err.as_slice() == b"cannot read\n".as_slice();
+            if got.status != 1 || !got.out.is_empty() || !told {
+                return Err(Fail::new(format_args!("{text:?} after {len} bytes")));
+            }
+        }
+    }
+    Ok(())
+}
+
 #[test]
-fn an_input_that_fails_is_told(rt: HostRuntime) -> Result<(), Fail> {
+fn an_input_that_fails_at_any_byte_is_told(rt: HostRuntime) -> Result<(), Fail> {
     let alloc = rt.alloc();
-    for kind in [ErrorKind::BrokenPipe, ErrorKind::Interrupted] {
-        let mut input = Counted::new(Halting { bytes: b"{}", kind });
-        let got = run_over(alloc, &["json", "j"], &nothing(alloc), &mut input)?;
-        assert_eq!(rt; got.status, 1);
-        assert!(rt; got.out.is_empty());
-        assert_eq!(rt; str::from_utf8(&got.err)?, "cannot read\n");
+    let cases = [
+        (["json", "j"].as_slice(), "{\"a\":[1,{\"b\":null}]}"),
+        (["toml", "t"].as_slice(), "a = [1, \"é\"]\n[b]\n"),
+        (["redraw"].as_slice(), "r\n├─ a\n│  : b\n└─ c\n"),
+    ];
+    for (words, text) in cases {
+        expect_unread(alloc, words, text)?;
     }
     Ok(())
 }
@@ -266,6 +283,43 @@ fn drawings_are_drawn_anew_or_refused(rt: HostRuntime) -> Result<(), Fail> {
         assert_eq!(rt; str::from_utf8(&got.err)?, told);
     }
     Ok(())
+}
+
+// That an input that ends after one of these numbers of its bytes is drawn, and that one that ends elsewhere is refused by this line.
+fn expect_drawn_fronts(
+    alloc: Global,
+    words: &[&str],
+    text: &str,
+    ends: &[usize],
+    line: &str,
+) -> Result<(), Fail> {
+    let sources = variables(alloc, &[("PTREE_CHARACTERS", "ascii-plus")])?;
+    for len in 0..text.len() + 1 {
+        let front = text.as_bytes().get(..len).ok_or("no front")?;
+        let got = run_over(alloc, words, &sources, &mut Counted::new(front))?;
+        let right = if ends.contains(&len) {
+            got.status == 0 && got.err.is_empty()
+        } else {
+            got.status == 1 && got.out.is_empty() && got.err.as_slice() == line.as_bytes()
+        };
+        if !right {
+            return Err(Fail::new(format_args!("{text:?} to {len} bytes")));
+        }
+    }
+    Ok(())
+}
+
+#[test]
+fn an_input_that_ends_early_is_refused_or_another_one(rt: HostRuntime) -> Result<(), Fail> {
+    let alloc = rt.alloc();
+    let drawing = "r\n+- a\n|  +- b\n+- c\n";
+    let ends = [2, 7, 20].as_slice();
+    expect_drawn_fronts(alloc, &["redraw"], drawing, ends, "not a drawing\n")?;
+    let json = "{\"a\":[1,{\"b\":null}]}";
+    expect_drawn_fronts(alloc, &["json", "j"], json, &[20], "bad document\n")?;
+    let toml = "ab = 12\nc = []";
+    let ends = [0, 6, 7, 8, 14].as_slice();
+    expect_drawn_fronts(alloc, &["toml", "t"], toml, ends, "bad document\n")
 }
 
 #[test]
@@ -359,6 +413,77 @@ fn words_are_drawn_under_sources(rt: HostRuntime) -> Result<(), Fail> {
     let got = run_over(alloc, &["words", "r", "a"], &sources, &mut input)?;
     assert_eq!(rt; got.status, 0);
     assert_eq!(rt; str::from_utf8(&got.out)?, "r\n+- a\n");
+    Ok(())
+}
+
+// That a root over a leaf is drawn so on a terminal under a file and variables, with plus signs where nothing is wrong with them.
+fn expect_words(
+    alloc: Global,
+    file: FileSource,
+    pairs: &[(&str, &str)],
+    drawn: &str,
+) -> Result<(), Fail> {
+    let mut sources = variables(alloc, pairs)?;
+    sources.file = file;
+    let words = ["--tty", "words", "r", "a"];
+    let got = run_over(alloc, &words, &sources, &mut Counted::new(io::empty()))?;
+    if got.status != 0 || got.out.as_slice() != drawn.as_bytes() {
+        let found = str::from_utf8(&got.out)?;
+        return Err(Fail::new(format_args!("{pairs:?}: {found:?}")));
+    }
+    Ok(())
+}
+
+const DEFAULT: &str = "\x1b[2m\x1b[0mr\n\x1b[2m└─ \x1b[0ma\n";
+
+const PLUS: &str = "\x1b[2m\x1b[0mr\n\x1b[2m+- \x1b[0ma\n";
+
+#[test]
+fn a_bad_variable_undoes_all_of_them(rt: HostRuntime) -> Result<(), Fail> {
+    let wide = "\x1b[2m\x1b[0mr\n\x1b[2m+----- \x1b[0ma\n";
+    let table = "\x1b[2m\x1b[0m\x1b[38;5;7mr\x1b[0m\n\x1b[2m+- \x1b[0m\x1b[38;5;7ma\x1b[0m\n";
+    let red = "\x1b[2m\x1b[0m\x1b[31mr\x1b[0m\n\x1b[2m+- \x1b[0m\x1b[31ma\x1b[0m\n";
+    let cases = [
+        ("PTREE_INDENT", "007", wide),
+        ("PTREE_INDENT", "", DEFAULT),
+        ("PTREE_PADDING", "18446744073709551616", DEFAULT),
+        ("PTREE_LEAF_BOLD", "y", DEFAULT),
+        ("PTREE_LEAF_FOREGROUND", "007", table),
+        ("PTREE_LEAF_FOREGROUND", "256", PLUS),
+        ("PTREE_LEAF_FOREGROUND", "Red", red),
+        ("PTREE_LEAF_FOREGROUND", "", PLUS),
+        ("PTREE_CHARACTERS", "UTF", DEFAULT),
+    ];
+    for (name, value, drawn) in cases {
+        let pairs = [("PTREE_CHARACTERS", "ascii-plus"), (name, value)];
+        expect_words(rt.alloc(), FileSource::Absent, &pairs, drawn)?;
+    }
+    Ok(())
+}
+
+#[test]
+fn a_bad_file_undoes_the_variables(rt: HostRuntime) -> Result<(), Fail> {
+    let alloc = rt.alloc();
+    let red =
+        "\x1b[2m\x1b[0m\x1b[38;2;255;0;0mr\x1b[0m\n\x1b[2m+- \x1b[0m\x1b[38;2;255;0;0ma\x1b[0m\n";
+    let cases = [
+        ("[]", DEFAULT),
+        ("{\"depth\":-1}", DEFAULT),
+        ("{\"depth\":4294967296}", DEFAULT),
+        ("{\"leaf\":null}", DEFAULT),
+        ("{\"leaf\":{\"foreground\":[1,2]}}", DEFAULT),
+        ("{\"styled\":\"Never\"}", DEFAULT),
+        ("{\"characters\":\"UTF\"}", DEFAULT),
+        ("{\"depth\":4294967295,\"x\":[]}", PLUS),
+        ("{\"leaf\":{\"foreground\":null}}", PLUS),
+        ("{\"leaf\":{\"foreground\":\"Red\"}}", red),
+        ("{\"depth\":\"4\"}", DEFAULT),
+    ];
+    for (text, drawn) in cases {
+        let file = FileSource::Json(String::from_str(alloc, text)?);
+        let pairs = [("PTREE_CHARACTERS", "ascii-plus"), ("PTREE_DEPTH", "4")];
+        expect_words(alloc, file, &pairs, drawn)?;
+    }
     Ok(())
 }
 

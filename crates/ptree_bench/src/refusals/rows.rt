@@ -1,0 +1,172 @@
+//! Calls whose answers are written here, each made once more where it was refused memory.
+
+use super::{Failure, SHEET, Trial, begin_child, drawn, end, graph_drawn, read};
+use ptree::TreeBuilder;
+use ptree::graph::{EdgeError, Graph, NodeIndex};
+use ptree::item::StringItem;
+use ptree::print_config::{
+    ASCII_CHARS_PLUS, ASCII_CHARS_TICK, FileSource, PrintConfig, Sources, StyleWhen, UTF_CHARS,
+    load,
+};
+use ptree::read::pieces_readable;
+use ptree::style::{Color, Counted, Style};
+use ptree::value::{DocFormat, draw_document};
+use ptree_fixtures::trees::{leaf, over, over_leaves, petgraph, plain};
+use std::alloc::{AllocError, Global};
+
+// That an answer is the right one.
+fn expect(holds: bool) -> Result<(), Failure> {
+    if holds { Ok(()) } else { Err(Failure::Other) }
+}
+
+// Sources of a file and variables.
+fn sources(alloc: Global, file: FileSource, pairs: &[(&str, &str)]) -> Result<Sources, AllocError> {
+    let mut variables = Vec::new(alloc);
+    for (name, value) in pairs {
+        variables.push((
+            String::from_str(alloc, name)?,
+            String::from_str(alloc, value)?,
+        ))?;
+    }
+    Ok(Sources { file, variables })
+}
+
+// r [a [b], c].
+fn branched(alloc: Global) -> Result<StringItem, AllocError> {
+    let a = over_leaves(alloc, "a", &["b"])?;
+    over(alloc, "r", vec![in alloc; a, leaf(alloc, "c")?]?)
+}
+
+// What is drawn of a document in JSON under the default configuration.
+fn document_drawn(alloc: Global, text: &str) -> Result<Vec<u8>, Failure> {
+    let nothing = sources(alloc, FileSource::Absent, &[])?;
+    let mut out = Counted::new(Vec::with_capacity(alloc, SHEET)?);
+    draw_document(alloc, DocFormat::Json, text, "j", &nothing, false, &mut out)?;
+    Ok(out.into_inner())
+}
+
+impl Trial {
+    // That a tree's drawing is this text.
+    fn expect_drawn(
+        &mut self,
+        alloc: Global,
+        tree: &StringItem,
+        config: &PrintConfig,
+        text: &str,
+    ) -> Result<(), Failure> {
+        let drawing = self.retried(|| drawn(alloc, tree, config))?;
+        expect(drawing.as_slice() == text.as_bytes())
+    }
+
+    // The drawing of a tree, its reading, and a set whose pieces can't be told apart.
+    fn call_trees(&mut self, alloc: Global) -> Result<(), Failure> {
+        let wide = self.retried(|| Ok(plain(alloc, UTF_CHARS, 4, u32::MAX)?))?;
+        let tree = self.retried(|| Ok(petgraph(alloc)?))?;
+        let text =
+            "petgraph\n├── quickcheck\n│   ├── libc\n│   └── rand\n│       └── libc\n└── fixedbitset\n";
+        self.expect_drawn(alloc, &tree, &wide, text)?;
+        let plus = self.retried(|| Ok(plain(alloc, ASCII_CHARS_PLUS, 3, u32::MAX)?))?;
+        let text = "r\n+- a\n|  +- b\n+- c\n";
+        let Some(read) = self.retried(|| read(alloc, text, &plus))? else {
+            return Err(Failure::Other);
+        };
+        self.expect_drawn(alloc, &read, &plus, text)?;
+        let tick = self.retried(|| Ok(plain(alloc, ASCII_CHARS_TICK, 2, u32::MAX)?))?;
+        expect(!self.retried(|| Ok(pieces_readable(alloc, &tick)?))?)?;
+        let tree = self.retried(|| Ok(branched(alloc)?))?;
+        self.expect_drawn(alloc, &tree, &tick, "r\n| a\n| ` b\n` c\n")
+    }
+
+    // A painted text, and a drawn document.
+    fn call_texts(&mut self, alloc: Global) -> Result<(), Failure> {
+        let mut style = Style::default();
+        style.bold = true;
+        style.foreground = Some(Color::Red);
+        style.background = Some(Color::Fixed(3));
+        let painted = self.retried(|| Ok(style.paint(alloc, "x")?))?;
+        expect(painted.as_str() == "\x1b[1m\x1b[31m\x1b[48;5;3mx\x1b[0m")?;
+        let drawing = self.retried(|| document_drawn(alloc, "{\"a\":[1,{\"b\":null}]}"))?;
+        let text = "j\n└─ a\n   ├─ 1\n   └─ \n      └─ b = \n";
+        expect(drawing.as_slice() == text.as_bytes())
+    }
+
+    // A graph with a cycle; edges that are refused for want of a node leave it as it was.
+    fn call_cycle(&mut self, alloc: Global) -> Result<(), Failure> {
+        let mut config = self.retried(|| Ok(PrintConfig::default(alloc)?))?;
+        config.depth = 3;
+        let mut graph = Graph::new(alloc);
+        let x = self.retried(|| Ok(graph.add_node("x")?))?;
+        let y = self.retried(|| Ok(graph.add_node("y")?))?;
+        let refused = graph.extend_with_edges(&[(x, y), (x, NodeIndex(2))]);
+        expect(refused == Err(EdgeError::NoNode))?;
+        self.retried(|| Ok(graph.extend_with_edges(&[(x, y), (y, x)])?))?;
+        let drawing = self.retried(|| graph_drawn(alloc, &graph, &config))?;
+        expect(drawing.as_slice() == "x\n└─ y\n   └─ x\n      └─ y\n".as_bytes())
+    }
+
+    // A tree that is built with a child open, and once more with two.
+    fn call_open_builder(&mut self, alloc: Global) -> Result<(), Failure> {
+        let config = self.retried(|| Ok(plain(alloc, UTF_CHARS, 3, u32::MAX)?))?;
+        let root = self.retried(|| Ok(String::from_str(alloc, "test")?))?;
+        let mut builder = TreeBuilder::new(alloc, root);
+        self.retried(|| begin_child(alloc, &mut builder, "a"))?;
+        let tree = self.retried(|| Ok(builder.build()?))?;
+        self.expect_drawn(alloc, &tree, &config, "test\n└─ a\n")?;
+        end(&mut builder);
+        self.add(alloc, &mut builder, &["b"])?;
+        let tree = self.retried(|| Ok(builder.build()?))?;
+        self.expect_drawn(alloc, &tree, &config, "test\n├─ a\n└─ b\n")
+    }
+
+    // The configuration of a file and variables; the last one counts.
+    fn call_sources(&mut self, alloc: Global) -> Result<(), Failure> {
+        let json = "{\"branch\":{\"foreground\":\"red\"}}";
+        let pairs = [("PTREE_DEPTH", "4"), ("ptree_depth", "5")];
+        let both = self.retried(|| {
+            let file = FileSource::Json(String::from_str(alloc, json)?);
+            Ok(sources(alloc, file, &pairs)?)
+        })?;
+        let Some(found) = self.retried(|| Ok(load(alloc, &both)?))? else {
+            return Err(Failure::Other);
+        };
+        expect(found.depth == 5 && !found.branch.dimmed && found.styled == StyleWhen::Tty)?;
+        let painted = self.retried(|| Ok(found.paint_branch(alloc, "x")?))?;
+        expect(painted.as_str() == "\x1b[31mx\x1b[0m")
+    }
+
+    // A bad variable gives the default whole, which a refusal never does.
+    fn call_bad_source(&mut self, alloc: Global) -> Result<(), Failure> {
+        let pairs = [("PTREE_INDENT", "9"), ("PTREE_DEPTH", "4x")];
+        let bad = self.retried(|| Ok(sources(alloc, FileSource::Absent, &pairs)?))?;
+        expect(self.retried(|| Ok(load(alloc, &bad)?))?.is_none())?;
+        let found = self.retried(|| Ok(PrintConfig::from_env(alloc, &bad)?))?;
+        let default = self.retried(|| Ok(PrintConfig::default(alloc)?))?;
+        expect(found == default)
+    }
+
+    // Characters of a file and of variables.
+    fn call_set(&mut self, alloc: Global) -> Result<(), Failure> {
+        let pairs = [
+            ("PTREE_CHARACTERS", "ASCII"),
+            ("PTREE_CHARACTERS_RIGHT", "="),
+        ];
+        let both = self.retried(|| {
+            let file = FileSource::Toml(String::from_str(alloc, "characters = \"utf-bold\"")?);
+            Ok(sources(alloc, file, &pairs)?)
+        })?;
+        let found = self.retried(|| Ok(PrintConfig::from_env(alloc, &both)?))?;
+        let tree = self.retried(|| Ok(branched(alloc)?))?;
+        self.expect_drawn(alloc, &tree, &found, "r\n|= a\n|  `= b\n`= c\n")
+    }
+
+    // All of them.
+    pub(super) fn call_rows(&mut self, alloc: Global) -> Result<(), Failure> {
+        self.call_trees(alloc)?;
+        self.call_texts(alloc)?;
+        self.call_cycle(alloc)?;
+        self.call_open_builder(alloc)?;
+        self.call_sources(alloc)?;
+        self.call_bad_source(alloc)?;
+        self.call_set(alloc)
+    }
+}
