@@ -458,7 +458,8 @@ impl PartialEq for StaticIndentChars {
 
     fn eq(&self, other: &StaticIndentChars) -> bool
         ensures value { result ≡ on static_characters same_characters self.now other.now }
-        ensures equality { IsTrue result ↔ (static_characters self.now ≡ static_characters other.now) }
+        ensures equality { IsTrue result
+            ↔ (static_characters self.now ≡ static_characters other.now) }
     {
         self.down_and_right == other.down_and_right
             && self.down == other.down
