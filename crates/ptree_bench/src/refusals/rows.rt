@@ -4,6 +4,8 @@ use super::{Failure, SHEET, Trial, begin_child, drawn, end, graph_drawn, read};
 use ptree::TreeBuilder;
 use ptree::graph::{EdgeError, Graph, NodeIndex};
 use ptree::item::StringItem;
+use ptree::output::{tree_bytes, tree_text};
+use ptree::presets::Preset;
 use ptree::print_config::{
     ASCII_CHARS_PLUS, ASCII_CHARS_TICK, FileSource, PrintConfig, Sources, StyleWhen, UTF_CHARS,
     load,
@@ -43,6 +45,12 @@ fn document_drawn(alloc: Global, text: &str) -> Result<Vec<u8>, Failure> {
     let mut out = Counted::new(Vec::with_capacity(alloc, SHEET)?);
     draw_document(alloc, DocFormat::Json, text, "j", &nothing, false, &mut out)?;
     Ok(out.into_inner())
+}
+
+// A root over a copy of this leaf and another one.
+fn over_two(alloc: Global, leaf: &StringItem) -> Result<StringItem, AllocError> {
+    let below = vec![in alloc; leaf.clone()?, StringItem::leaf(alloc, "c")?]?;
+    StringItem::new(alloc, "r", below)
 }
 
 impl Trial {
@@ -159,6 +167,22 @@ impl Trial {
         self.expect_drawn(alloc, &tree, &found, "r\n|= a\n|  `= b\n`= c\n")
     }
 
+    // Trees that are made without a builder, their items and their drawings, under what another program draws with.
+    fn call_own(&mut self, alloc: Global) -> Result<(), Failure> {
+        let leaf = self.retried(|| Ok(StringItem::leaf(alloc, "a\nb")?))?;
+        let tree = self.retried(|| Ok(over_two(alloc, &leaf)?))?;
+        let items = self.retried(|| Ok(tree.items(alloc)?))?;
+        expect(items.len() == 3)?;
+        let findmnt = self.retried(|| Ok(Preset::Findmnt.config(alloc)?))?;
+        let wanted = "r\n├─a\n│ : b\n└─c\n";
+        let bytes = self.retried(|| Ok(tree_bytes(alloc, &tree, &findmnt)?))?;
+        expect(bytes.as_slice() == wanted.as_bytes())?;
+        let Some(text) = self.retried(|| Ok(tree_text(alloc, &tree, &findmnt)?))? else {
+            return Err(Failure::Other);
+        };
+        expect(text.as_str() == wanted)
+    }
+
     // All of them.
     pub(super) fn call_rows(&mut self, alloc: Global) -> Result<(), Failure> {
         self.call_trees(alloc)?;
@@ -167,6 +191,7 @@ impl Trial {
         self.call_open_builder(alloc)?;
         self.call_sources(alloc)?;
         self.call_bad_source(alloc)?;
-        self.call_set(alloc)
+        self.call_set(alloc)?;
+        self.call_own(alloc)
     }
 }
