@@ -18,6 +18,7 @@ mod words;
 
 use crate::style::Style;
 pub use fields::{Field, Part, StyleField};
+pub use file::syntax_line;
 pub use loader::{Fault, first_fault, last_value, load};
 use std::alloc::{AllocError, AllocFailed, Global};
 use std::error::Error;

@@ -320,10 +320,15 @@ impl Style {
     fn is_plain(&self) -> bool
         ensures { IsTrue result → style_codes (style_value self.now) ≡ [] }
     {
-        if self.bold | self.dimmed | self.italic | self.underline {
-            return false;
-        }
-        if self.blink | self.reverse | self.hidden | self.strikethrough {
+        if self.bold
+            | self.dimmed
+            | self.italic
+            | self.underline
+            | self.blink
+            | self.reverse
+            | self.hidden
+            | self.strikethrough
+        {
             return false;
         }
         self.foreground.is_none() && self.background.is_none()

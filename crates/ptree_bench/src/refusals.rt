@@ -8,7 +8,7 @@ use ptree::item::{StringItem, TreeItem};
 use ptree::output::{Indent, print_tree, write_tree, write_tree_with};
 use ptree::print_config::{
     CharsError, FileSource, IndentChars, PrintConfig, Sources, StyleWhen, UTF_CHARS_BOLD,
-    UTF_CHARS_DOUBLE, first_fault, load,
+    UTF_CHARS_DOUBLE, first_fault, load, syntax_line,
 };
 use ptree::read::{pieces_readable, read_tree};
 use ptree::style::{Color, Counted, DrawError, Style};
@@ -422,6 +422,10 @@ impl Trial {
         match self.retried(|| Ok(first_fault(alloc, sources)?))? {
             Some(fault) => writeln!(self.notes, "{fault}")?,
             None => self.note("no fault")?,
+        }
+        match self.retried(|| Ok(syntax_line(alloc, &sources.file)?))? {
+            Some(line) => writeln!(self.notes, "line {line}")?,
+            None => self.note("no bad line")?,
         }
         let config = self.retried(|| Ok(PrintConfig::from_env(alloc, sources)?))?;
         self.note_drawing(alloc, &tree, &config)

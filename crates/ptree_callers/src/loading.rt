@@ -2,12 +2,14 @@
 ghost use Rattle.std.specs.Prelude.{◌≡◌, ◌↔◌, false, Some, None, IfOk, IsTrue, MatchResult};
 ghost use Rattle.ptree.specs.Configuration.{config_value, default_configuration};
 ghost use Rattle.ptree.specs.Drawing.{IsDrawing, look_by, look_of};
-ghost use Rattle.ptree.specs.Loading.{SayNothing, config_of, meant_by};
+ghost use Rattle.ptree.specs.Loading.{SayNothing, file_fault, config_of, meant_by};
 ghost use Rattle.ptree.specs.declared.print_config.OutputKind.{OutputKind};
 
 use ptree::item::TreeItem;
 use ptree::output::{tree_bytes, write_tree};
-use ptree::print_config::{Fault, FileSource, OutputKind, PrintConfig, Sources, first_fault};
+use ptree::print_config::{
+    Fault, FileSource, OutputKind, PrintConfig, Sources, first_fault, syntax_line,
+};
 use ptree::style::{Counted, DrawError};
 use std::alloc::{AllocError, Global};
 
@@ -24,6 +26,13 @@ pub fn load_or_fault(
         Some(fault) => Ok(Err(fault)),
         None => Ok(Ok(PrintConfig::from_env(alloc, sources)?)),
     }
+}
+
+/// Whether there is a file, and a text in it that is no document of its format.
+pub fn has_bad_syntax(alloc: Global, file: &FileSource) -> Result<bool, AllocError>
+    ensures { IfOk result (λ b. IsTrue b ↔ (file_fault file.now ≡ Some Fault.Syntax)) }
+{
+    Ok(syntax_line(alloc, file)?.is_some())
 }
 
 /// What no sources give is the default.

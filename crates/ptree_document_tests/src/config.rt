@@ -7,7 +7,7 @@ use ptree::output::{print_tree, print_tree_with, write_tree};
 use ptree::print_config::{
     ASCII_CHARS_PLUS, ASCII_CHARS_TICK, Fault, Field, FileSource, IndentChars, Part, PrintConfig,
     Sources, StaticIndentChars, StyleField, StyleWhen, UTF_CHARS, UTF_CHARS_BOLD, UTF_CHARS_DASHED,
-    UTF_CHARS_DOUBLE, first_fault, load,
+    UTF_CHARS_DOUBLE, first_fault, load, syntax_line,
 };
 use ptree::style::{Color, Counted, DrawError, Sink, Style};
 use ptree_fixtures::full::{FULL_JSON, FULL_TOML, FULL_VARIABLES};
@@ -651,6 +651,43 @@ fn the_first_fault_is_named(rt: HostRuntime) -> Result<(), Fail> {
     ];
     for (fault, text) in texts {
         assert_eq!(rt; format!(in alloc; "{fault}")?.as_str(), text);
+    }
+    Ok(())
+}
+
+// That the text of a file stops being a document at this line, or is one.
+fn stops_at(alloc: Global, file: File, line: Option<usize>) -> Result<(), Fail> {
+    let found = syntax_line(alloc, &sources(alloc, file, &[])?.file)?;
+    if found == line {
+        return Ok(());
+    }
+    Err(Fail::new(format_args!("{file:?} stops at {found:?}")))
+}
+
+#[test]
+fn a_file_is_refused_at_its_line(rt: HostRuntime) -> Result<(), Fail> {
+    let cases = [
+        (File::Absent, None),
+        (File::Unreadable, None),
+        (File::Toml(""), None),
+        (File::Toml("indent = 5\n"), None),
+        (File::Toml("depth = \n"), Some(1)),
+        (
+            File::Toml("depth = 1\n\nindent = = 5\npadding = 1\n"),
+            Some(3),
+        ),
+        (File::Toml("depth = 1\r\ndepth = 2\r\n"), Some(2)),
+        (File::Json("{}"), None),
+        (File::Json("{\"depth\": -1}"), None),
+        (
+            File::Json("{\n  \"depth\": 1,\n  \"indent\" 5\n}\n"),
+            Some(3),
+        ),
+        (File::Json("depth"), Some(1)),
+        (File::Json("[\n1\n]"), Some(1)),
+    ];
+    for (file, line) in cases {
+        stops_at(rt.alloc(), file, line)?;
     }
     Ok(())
 }

@@ -1,9 +1,11 @@
 //! The document of a configuration file, in either format.
-ghost use Rattle.std.specs.Prelude.{◌≡◌, option_map, option_copied, is_some, IfOk};
+ghost use Rattle.std.specs.Prelude.{◌≡◌, ◌↔◌, Some, option_map, option_copied, is_some, is_none, IsSome, IfOk};
 ghost use Rattle.ptree.specs.Color.{color_value};
 ghost use Rattle.ptree.specs.File.{get, is_table, as_whole, as_text, as_flag, is_null, whole_node, when_node, as_triple, json_triple, toml_triple, color_numbers, color_node};
 ghost use Rattle.ptree.specs.Lent.{node_view, document_view};
+ghost use Rattle.ptree.specs.Loading.{file_fault};
 ghost use Rattle.ptree.specs.Sources.{document, json_document, toml_document};
+ghost use Rattle.ptree.specs.declared.print_config.loader.Fault.TheVariants.{Syntax};
 ghost use Rattle.serde_json.specs.View.{items_view as json_items};
 ghost use Rattle.toml.specs.View.{items_view as toml_items};
 
@@ -72,6 +74,65 @@ fn read_json(alloc: Global, text: &str) -> Result<Option<Document>, AllocError>
             Ok(None)
         },
     }
+}
+
+/// The line, counted from 1, at which the text of a file stops being a document of its format, as the reader of that format tells it.
+/// There is one exactly where the fault of the file is [`Fault::Syntax`](crate::print_config::Fault::Syntax). It is the first
+/// where the top of a JSON text is no object.
+///
+/// # Errors
+///
+/// Memory ran out.
+pub fn syntax_line(alloc: Global, file: &FileSource) -> Result<Option<usize>, AllocError>
+    ensures { IfOk result (λ line. IsSome line ↔ (file_fault file.now ≡ Some Syntax)) }
+{
+    match file {
+        FileSource::Absent | FileSource::Unreadable => Ok(None),
+        FileSource::Toml(text) => toml_line(alloc, text.as_str()),
+        FileSource::Json(text) => json_line(alloc, text.as_str()),
+    }
+}
+
+// The line at which a text stops being a document in TOML.
+fn toml_line(alloc: Global, text: &str) -> Result<Option<usize>, AllocError>
+    ensures { IfOk result (λ line. is_some line ≡ is_none (toml_document text.now)) }
+{
+    match toml::table_from_str(alloc, text) {
+        Ok(_) => Ok(None),
+        Err(e) => match e.span() {
+            Some(span) => Ok(Some(line_at(text, span.start))),
+            None => Err(AllocError),
+        },
+    }
+}
+
+// The line at which a text stops being a document in JSON.
+fn json_line(alloc: Global, text: &str) -> Result<Option<usize>, AllocError>
+    ensures { IfOk result (λ line. is_some line ≡ is_none (json_document text.now)) }
+{
+    match serde_json::Value::from_str(alloc, text) {
+        Ok(value) => if value.is_object() {
+            Ok(None)
+        } else {
+            Ok(Some(1))
+        },
+        Err(e) => if e.is_memory() {
+            Err(AllocError)
+        } else {
+            Ok(Some(e.line()))
+        },
+    }
+}
+
+// The line, counted from 1, in which a byte of a text stands.
+fn line_at(text: &str, place: usize) -> usize {
+    let mut line: usize = 1;
+    for byte in text.bytes().take(place) {
+        if byte == b'\n' {
+            line = line.saturating_add(1);
+        }
+    }
+    line
 }
 
 // A value in a document.
