@@ -147,18 +147,20 @@ pub fn read_tree(
 
 /// The tree whose drawing the text is, or where the text stops being one.
 ///
-/// It reads what [`read_tree`] reads. Where that finds no tree, the result names the first line that no drawing has in its place:
-/// some drawing of a tree within the configured depth begins with the lines before it, and none with these and the line. Lines end
-/// at line feeds and are counted from 1, so further lines of an item's text count too. Where there is no such line, a drawing
-/// begins with all the text's whole lines, and the text ends too early, or what follows its last line feed isn't empty.
+/// It reads what [`read_tree`] reads. Where there is no tree, it names the first line that no drawing goes on with: some drawing
+/// within the configured depth begins with the lines before it, and none with these and the line. Lines end in line feeds and are
+/// counted from 1; further lines of a text count too. Where there is no such line, some drawing begins with all lines that end in a
+/// line feed, and the text ends too early: a sibling is missing, or the last line's line feed.
 ///
-/// A line can be wrong by the lines before it only. An item whose piece says that a sibling follows isn't wrong by itself where none
-/// does: wrong is the line that stands in the sibling's place, or the end.
+/// No line is wrong by what follows it. Where an item's piece says that a sibling follows, and none does, the line that stands in its
+/// place is wrong, or the text ends too early.
+///
+/// A drawing is read once. Any other text is read about twice for each time that the number of its lines can be halved.
 ///
 /// # Errors
 ///
-/// [`ReadError::Line`] and [`ReadError::End`] where the text is the drawing of no tree within the depth, and
-/// [`ReadError::Memory`] where memory ran out.
+/// [`ReadError::Line`] or [`ReadError::End`] where the text is the drawing of no tree within the depth, and [`ReadError::Memory`]
+/// where memory ran out.
 pub fn read_tree_or_line(
     alloc: Global,
     text: &str,
