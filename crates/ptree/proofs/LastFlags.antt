@@ -10,7 +10,7 @@ pub length-last_flags : (o : List Line) (n : ℕ) → length (last_flags o n) �
 length-last_flags o zero = refl
 length-last_flags o (suc n) = length_push (last_flags o n) (not (has_later o (suc n))) ∙ (ap (λ z. z + 1) (length-last_flags o n) ∙ add-one n)
 
-take-last_flags : (o : List Line) (n m : ℕ) → n ≤ m → take n (last_flags o m) ≡ last_flags o n
+pub take-last_flags : (o : List Line) (n m : ℕ) → n ≤ m → take n (last_flags o m) ≡ last_flags o n
 take-last_flags o n zero h = take_all n [] (omega arith) ∙ ap (λ z. last_flags o z) (same_zero n h) where
   same_zero : (n : ℕ) → n ≤ 0 → 0 ≡ n
   same_zero n h = omega arith

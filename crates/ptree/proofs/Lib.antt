@@ -48,6 +48,12 @@ pub mod Upward
 pub mod Paths
 pub mod SpelledForms
 pub mod Readings
+pub mod LaterLines
+pub mod Cuts
+pub mod Continuations
+pub mod OpenFlags
+pub mod ClosedTexts
+pub mod FirstLines
 -- configurations and their sources
 pub mod Digits
 pub mod LastVariables

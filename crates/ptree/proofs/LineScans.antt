@@ -23,7 +23,7 @@ pub record Scanned (k : Look) (depth : ℕ) (body rest : List ℕ) (lines : List
 pub scanned_none : (k : Look) (depth : ℕ) (body : List ℕ) → Scanned k depth body body [] 0
 scanned_none k depth body = record { are_spelled = All-nil (IsSpelled k.pieces); steps = tt; within = All-nil (λ l. l.level ≤ depth); text_is = refl; level_is = refl; stops = tt }
 
-spelled_text-push : (k : Look) (lines : List SpelledItem) (l : SpelledItem) → spelled_text k (lines ++ l ∷ []) ≡ spelled_text k lines ++ text_entry k l.pieces l.passing l.text
+pub spelled_text-push : (k : Look) (lines : List SpelledItem) (l : SpelledItem) → spelled_text k (lines ++ l ∷ []) ≡ spelled_text k lines ++ text_entry k l.pieces l.passing l.text
 spelled_text-push k [] l = append-nil (text_entry k l.pieces l.passing l.text)
 spelled_text-push k (m ∷ lines) l = ap (λ z. text_entry k m.pieces m.passing m.text ++ z) (spelled_text-push k lines l) ∙ sym (append_assoc (text_entry k m.pieces m.passing m.text) (spelled_text k lines) (text_entry k l.pieces l.passing l.text))
 

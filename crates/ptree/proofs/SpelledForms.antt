@@ -37,19 +37,19 @@ pub tree_steps : (f : Forest) → Steps 0 (outline_at 1 f)
 tree_steps f = subst (λ z. Steps 0 z) (append-nil (outline_at 1 f)) (forest_steps 0 0 f [] (omega arith) (λ later l. tt))
 
 -- no level of the lines is above depth
-abbrev Low : ℕ → List Line → Type 0
+abbrev pub Low : ℕ → List Line → Type 0
 Low depth [] = Unit {0}
 Low depth (l ∷ o) = (l.level ≤ depth) × Low depth o
 
-low_split : (depth : ℕ) (a b : List Line) → Low depth (a ++ b) → Low depth a × Low depth b
+pub low_split : (depth : ℕ) (a b : List Line) → Low depth (a ++ b) → Low depth a × Low depth b
 low_split depth [] b h = (tt, h)
 low_split depth (l ∷ a) b h = let rest = low_split depth a b h.1 in ((h.0, rest.0), rest.1)
 
-low_both : (depth : ℕ) (a b : List Line) → Low depth a → Low depth b → Low depth (a ++ b)
+pub low_both : (depth : ℕ) (a b : List Line) → Low depth a → Low depth b → Low depth (a ++ b)
 low_both depth [] b h g = g
 low_both depth (l ∷ a) b h g = (h.0, low_both depth a b h.1 g)
 
-height_low : (depth n : ℕ) (f : Forest) → n ≤ depth → Low depth (outline_at (suc n) f) → n + height f ≤ depth
+pub height_low : (depth n : ℕ) (f : Forest) → n ≤ depth → Low depth (outline_at (suc n) f) → n + height f ≤ depth
 height_low depth n none l h = omega arith
 height_low depth n (item t c r) l h =
     let parts = low_split depth (outline_at (suc (suc n)) c) (outline_at (suc n) r) h.1 in
@@ -58,12 +58,12 @@ height_low depth n (item t c r) l h =
     let after = height_low depth n r l parts.1 in
     omega arith
 
-low_height : (depth n : ℕ) (f : Forest) → n + height f ≤ depth → Low depth (outline_at (suc n) f)
+pub low_height : (depth n : ℕ) (f : Forest) → n + height f ≤ depth → Low depth (outline_at (suc n) f)
 low_height depth n none h = tt
 low_height depth n (item t c r) h =
     (omega arith, low_both depth (outline_at (suc (suc n)) c) (outline_at (suc n) r) (low_height depth (suc n) c (omega arith)) (low_height depth n r (omega arith)))
 
-low_lines : (depth : ℕ) (lines : List SpelledItem) → All (λ l. l.level ≤ depth) lines → Low depth (lines_of_items lines)
+pub low_lines : (depth : ℕ) (lines : List SpelledItem) → All (λ l. l.level ≤ depth) lines → Low depth (lines_of_items lines)
 low_lines depth [] h = tt
 low_lines depth (l ∷ lines) h = (All-head (λ m. m.level ≤ depth) l lines h, low_lines depth lines (All-tail (λ m. m.level ≤ depth) l lines h))
 
@@ -72,26 +72,26 @@ pub lines_by : (p : Pieces) (o : List Line) → lines_of_items (spelled_by p o) 
 lines_by p [] = refl
 lines_by p (l ∷ o) = ap (λ z. l ∷ z) (lines_by p o)
 
-pieces_at : (p : Pieces) (o : List Line) (n : ℕ) → 0 < n → ArePiecesAt p n (pieces_by p o n)
+pub pieces_at : (p : Pieces) (o : List Line) (n : ℕ) → 0 < n → ArePiecesAt p n (pieces_by p o n)
 pieces_at p o zero h = absurd (omega arith)
 pieces_at p o (suc n) h = (last_flags o n, not (has_later o (suc n)), length-last_flags o n, refl)
 
-passing_at : (p : Pieces) (o : List Line) (n : ℕ) → ArePassing p n (passing_by p o n)
+pub passing_at : (p : Pieces) (o : List Line) (n : ℕ) → ArePassing p n (passing_by p o n)
 passing_at p o n = (last_flags o n, length-last_flags o n, refl)
 
 -- the passing pieces that an item shows
-shown_at : (p : Pieces) (o : List Line) (l : Line) → IsShown p l.level (shown_by p o l) l.text
+pub shown_at : (p : Pieces) (o : List Line) (l : Line) → IsShown p l.level (shown_by p o l) l.text
 shown_at p o l = at (has_line_feed l.text) refl where
   at : (b : Bool) → has_line_feed l.text ≡ b → IsShown p l.level (cond b (passing_by p o l.level) []) l.text
   at true e = record { further = λ f. passing_at p o l.level; single = λ f. absurd (false≢true (sym f ∙ e)) }
   at false e = record { further = λ f. absurd (false≢true (sym e ∙ f)); single = λ f. refl }
 
-are_spelled_by : (p : Pieces) (previous : ℕ) (o : List Line) → Steps previous o → All (IsSpelled p) (spelled_by p o)
+pub are_spelled_by : (p : Pieces) (previous : ℕ) (o : List Line) → Steps previous o → All (IsSpelled p) (spelled_by p o)
 are_spelled_by p previous [] s = All-nil (IsSpelled p)
 are_spelled_by p previous (l ∷ o) s =
     All-cons (IsSpelled p) _ (spelled_by p o) (pieces_at p o l.level s.0, shown_at p o l) (are_spelled_by p l.level o s.2)
 
-within_by : (p : Pieces) (depth : ℕ) (o : List Line) → Low depth o → All (λ l. l.level ≤ depth) (spelled_by p o)
+pub within_by : (p : Pieces) (depth : ℕ) (o : List Line) → Low depth o → All (λ l. l.level ≤ depth) (spelled_by p o)
 within_by p depth [] h = All-nil (λ l. l.level ≤ depth)
 within_by p depth (l ∷ o) h = All-cons (λ m. m.level ≤ depth) _ (spelled_by p o) h.0 (within_by p depth o h.1)
 

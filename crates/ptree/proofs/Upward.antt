@@ -2,37 +2,39 @@
 use Rattle.std.proofs.Common.{◌≡◌, ℕ, zero, suc, ◌-◌, ◌<◌, ◌≢◌, All, ◌⊎◌, inl, inr, Bool, true, false, cond, not, List, [], ◌∷◌, ◌++◌, length, refl, sym, ap, ◌∙◌, subst, append_assoc, arith}
 use Rattle.std.proofs.lemmas.List.{append-nil, same_from_push}
 use Rattle.std.proofs.lemmas.List.Elements.{All-head, All-tail, All-cons, All-nil}
-use Rattle.ptree.specs.Flags.{has_later, last_flags, AreLastFlags, pieces_by, passing_by, shown_by, spelled_by}
+use Rattle.ptree.specs.Flags.{has_later, last_flags, AreLastFlags, pieces_by, passing_by, shown_by, HasLastFlags, HaveLastFlags}
 use Rattle.ptree.specs.Outline.{Line}
 use Rattle.ptree.specs.Pieces.{Pieces, turning_piece, passing_piece, passing_all}
 use Rattle.ptree.specs.Readable.{AreApart, IsReadable}
-use Rattle.ptree.specs.Spelled.{has_line_feed, SpelledItem, spelled_item, line_of_item, lines_of_items, ArePiecesAt, ArePassing, IsShown, IsSpelled}
+use Rattle.ptree.specs.Spelled.{has_line_feed, SpelledItem, line_of_item, lines_of_items, ArePiecesAt, ArePassing, IsShown, IsSpelled}
 use Rattle.ptree.specs.Style.{flags}
 use Rattle.ptree.proofs.LastFlags.{length-last_flags, flags_up}
 
--- the lines at the end of lines with the right pieces have the right pieces
-pub spelled_by_tail : (p : Pieces) (front tail : List SpelledItem) → front ++ tail ≡ spelled_by p (lines_of_items (front ++ tail)) → tail ≡ spelled_by p (lines_of_items tail)
-spelled_by_tail p [] tail e = e
-spelled_by_tail p (r ∷ front) tail e =
-    let rest : front ++ tail ≡ spelled_by p (lines_of_items (front ++ tail)) = cc in
-    spelled_by_tail p front tail rest
+-- the items at the end of items with the right pieces have the right pieces
+have_tail : (p : Pieces) (front tail : List SpelledItem) (later : List Line) → HaveLastFlags p (front ++ tail) later → HaveLastFlags p tail later
+have_tail p [] tail later h = h
+have_tail p (r ∷ front) tail later h = have_tail p front tail later h.1
 
--- as far as the lines have been checked, from the last one up: rest is left
-pub record Upward (p : Pieces) (lines rest : List SpelledItem) (flags : List Bool) : Type 0 where
+-- as far as the lines have been checked, from the last one up: rest is left, and later comes after them
+pub record Upward (p : Pieces) (later : List Line) (lines rest : List SpelledItem) (flags : List Bool) : Type 0 where
   pub done : List SpelledItem
   pub are : lines ≡ rest ++ done
   pub spelled : All (IsSpelled p) rest
-  pub flagged : AreLastFlags (lines_of_items done) flags
-  pub right : done ≡ spelled_by p (lines_of_items done)
+  pub flagged : AreLastFlags (lines_of_items done ++ later) flags
+  pub right : HaveLastFlags p done later
 
-pub upward_none : (p : Pieces) (lines : List SpelledItem) (flags : List Bool) → All (IsSpelled p) lines → flags ≡ [] → Upward p lines lines flags
-upward_none p lines flags h e = record {
+pub upward_none : (p : Pieces) (later : List Line) (lines : List SpelledItem) (flags : List Bool) → All (IsSpelled p) lines → AreLastFlags later flags → Upward p later lines lines flags
+upward_none p later lines flags h e = record {
   done = [];
   are = sym (append-nil lines);
   spelled = h;
-  flagged = subst (λ z. AreLastFlags [] z) (sym e) (record { are = refl; beyond = λ n l. refl });
-  right = refl;
+  flagged = e;
+  right = tt;
 }
+
+-- no flags are those of no lines
+pub no_flags : (flags : List Bool) → flags ≡ [] → AreLastFlags [] flags
+no_flags flags e = subst (λ z. AreLastFlags [] z) (sym e) (record { are = refl; beyond = λ n l. refl })
 
 All-last : {A : Type 0} (P : A → Type 0) (xs : List A) (x : A) → All P (xs ++ x ∷ []) → All P xs × P x
 All-last P [] x h = (All-nil P, All-head P x [] h)
@@ -45,18 +47,18 @@ above_root p zero pieces a = absurd a
 above_root p (suc n) pieces a = omega arith
 
 -- the flags of the item above those that were checked, and of its ancestors; fitted are both
-pub record Here (p : Pieces) (done : List SpelledItem) (l : SpelledItem) (fitted ancestors : List Bool) (last : Bool) : Type 0 where
+pub record Here (p : Pieces) (later : List Line) (done : List SpelledItem) (l : SpelledItem) (fitted ancestors : List Bool) (last : Bool) : Type 0 where
   pub up : ℕ
   pub level_is : l.level ≡ suc up
-  pub ancestors_are : ancestors ≡ last_flags (lines_of_items done) up
-  pub pieces_are : passing_all p ancestors ++ turning_piece p last ≡ pieces_by p (lines_of_items done) l.level
-  pub passing_are : passing_all p fitted ≡ passing_by p (lines_of_items done) l.level
+  pub ancestors_are : ancestors ≡ last_flags (lines_of_items done ++ later) up
+  pub pieces_are : passing_all p ancestors ++ turning_piece p last ≡ pieces_by p (lines_of_items done ++ later) l.level
+  pub passing_are : passing_all p fitted ≡ passing_by p (lines_of_items done ++ later) l.level
   pub is_spelled : IsSpelled p l
 
-pub upward_here : (p : Pieces) (lines rest rest' : List SpelledItem) (l : SpelledItem) (flags fitted ancestors : List Bool) (last : Bool) (h : Upward p lines rest flags)
-    → rest ≡ rest' ++ l ∷ [] → ((o : List Line) → AreLastFlags o flags → fitted ≡ last_flags o l.level) → fitted ≡ ancestors ++ last ∷ [] → Here p h.done l fitted ancestors last
-upward_here p lines rest rest' l flags fitted ancestors last h e fit popped =
-    let o : List Line = lines_of_items h.done in
+pub upward_here : (p : Pieces) (later : List Line) (lines rest rest' : List SpelledItem) (l : SpelledItem) (flags fitted ancestors : List Bool) (last : Bool) (h : Upward p later lines rest flags)
+    → rest ≡ rest' ++ l ∷ [] → ((o : List Line) → AreLastFlags o flags → fitted ≡ last_flags o l.level) → fitted ≡ ancestors ++ last ∷ [] → Here p later h.done l fitted ancestors last
+upward_here p later lines rest rest' l flags fitted ancestors last h e fit popped =
+    let o : List Line = lines_of_items h.done ++ later in
     let up : ℕ = l.level - 1 in
     let here = (All-last (IsSpelled p) rest' l (subst (λ z. All (IsSpelled p) z) e h.spelled)).1 in
     let low = above_root p l.level l.pieces here.0 in
@@ -96,11 +98,11 @@ shown_wrong p o l passing e none same h = at (has_line_feed l.text) h where
   at true h = same (h ∙ sym e)
   at false h = none h
 
-pub upward_more : (p : Pieces) → IsReadable p → (lines rest rest' : List SpelledItem) (l : SpelledItem) (flags fitted ancestors flags' : List Bool) (last : Bool) (h : Upward p lines rest flags)
-    → rest ≡ rest' ++ l ∷ [] → Here p h.done l fitted ancestors last → l.pieces ≡ passing_all p ancestors ++ turning_piece p last → (l.passing ≡ []) ⊎ (l.passing ≡ passing_all p fitted)
-    → flags' ≡ ancestors ++ false ∷ [] → Upward p lines rest' flags'
-upward_more p readable lines rest rest' l flags fitted ancestors flags' last h e here is shown pushed =
-    let o : List Line = lines_of_items h.done in
+pub upward_more : (p : Pieces) → IsReadable p → (later : List Line) (lines rest rest' : List SpelledItem) (l : SpelledItem) (flags fitted ancestors flags' : List Bool) (last : Bool) (h : Upward p later lines rest flags)
+    → rest ≡ rest' ++ l ∷ [] → Here p later h.done l fitted ancestors last → l.pieces ≡ passing_all p ancestors ++ turning_piece p last → (l.passing ≡ []) ⊎ (l.passing ≡ passing_all p fitted)
+    → flags' ≡ ancestors ++ false ∷ [] → Upward p later lines rest' flags'
+upward_more p readable later lines rest rest' l flags fitted ancestors flags' last h e here is shown pushed =
+    let o : List Line = lines_of_items h.done ++ later in
     let pieces : l.pieces ≡ pieces_by p o l.level = is ∙ here.pieces_are in
     let low = above_root p l.level l.pieces here.is_spelled.0 in
     let passing : l.passing ≡ shown_by p o (line_of_item l) = shown_right p readable o l (passing_all p fitted) low here.is_spelled.1 here.passing_are shown in
@@ -109,38 +111,35 @@ upward_more p readable lines rest rest' l flags fitted ancestors flags' last h e
       are = h.are ∙ (ap (λ z. z ++ h.done) e ∙ append_assoc rest' (l ∷ []) h.done);
       spelled = (All-last (IsSpelled p) rest' l (subst (λ z. All (IsSpelled p) z) e h.spelled)).0;
       flagged = flags_up (line_of_item l) o here.up flags' here.level_is (pushed ∙ ap (λ z. z ++ false ∷ []) here.ancestors_are);
-      right = ap (λ z. spelled_item l.level z l.passing l.text ∷ h.done) pieces
-          ∙ (ap (λ z. spelled_item l.level (pieces_by p o l.level) z l.text ∷ h.done) passing
-          ∙ ap (λ z. spelled_item l.level (pieces_by p o l.level) (shown_by p o (line_of_item l)) l.text ∷ z) h.right);
+      right = ((pieces, passing), h.right);
     }
 
 -- the item above those that were checked has the right pieces where all have
-upward_item : (p : Pieces) (lines rest rest' : List SpelledItem) (l : SpelledItem) (flags : List Bool) (h : Upward p lines rest flags) → rest ≡ rest' ++ l ∷ []
-    → lines ≡ spelled_by p (lines_of_items lines) → l ≡ spelled_item l.level (pieces_by p (lines_of_items h.done) l.level) (shown_by p (lines_of_items h.done) (line_of_item l)) l.text
-upward_item p lines rest rest' l flags h e all =
+upward_item : (p : Pieces) (later : List Line) (lines rest rest' : List SpelledItem) (l : SpelledItem) (flags : List Bool) (h : Upward p later lines rest flags) → rest ≡ rest' ++ l ∷ []
+    → HaveLastFlags p lines later → HasLastFlags p (lines_of_items h.done ++ later) l
+upward_item p later lines rest rest' l flags h e all =
     let are : lines ≡ rest' ++ (l ∷ h.done) = h.are ∙ (ap (λ z. z ++ h.done) e ∙ append_assoc rest' (l ∷ []) h.done) in
-    let tail = spelled_by_tail p rest' (l ∷ h.done) (subst (λ z. z ≡ spelled_by p (lines_of_items z)) are all) in
-    cc
+    (have_tail p rest' (l ∷ h.done) later (subst (λ z. HaveLastFlags p z later) are all)).0
 
-pub upward_wrong : (p : Pieces) (lines rest rest' : List SpelledItem) (l : SpelledItem) (flags fitted ancestors : List Bool) (last : Bool) (h : Upward p lines rest flags)
-    → rest ≡ rest' ++ l ∷ [] → Here p h.done l fitted ancestors last → l.pieces ≢ passing_all p ancestors ++ turning_piece p last → lines ≢ spelled_by p (lines_of_items lines)
-upward_wrong p lines rest rest' l flags fitted ancestors last h e here other all =
-    other (ap (λ (m : SpelledItem). m.pieces) (upward_item p lines rest rest' l flags h e all) ∙ sym here.pieces_are)
+pub upward_wrong : (p : Pieces) (later : List Line) (lines rest rest' : List SpelledItem) (l : SpelledItem) (flags fitted ancestors : List Bool) (last : Bool) (h : Upward p later lines rest flags)
+    → rest ≡ rest' ++ l ∷ [] → Here p later h.done l fitted ancestors last → l.pieces ≢ passing_all p ancestors ++ turning_piece p last → HaveLastFlags p lines later → ⊥
+upward_wrong p later lines rest rest' l flags fitted ancestors last h e here other all =
+    other ((upward_item p later lines rest rest' l flags h e all).0 ∙ sym here.pieces_are)
 
-pub upward_wrong_passing : (p : Pieces) (lines rest rest' : List SpelledItem) (l : SpelledItem) (flags fitted : List Bool) (h : Upward p lines rest flags)
-    → rest ≡ rest' ++ l ∷ [] → ((o : List Line) → AreLastFlags o flags → fitted ≡ last_flags o l.level) → ((l.passing ≡ []) ⊎ (l.passing ≡ passing_all p fitted) → ⊥) → lines ≢ spelled_by p (lines_of_items lines)
-upward_wrong_passing p lines rest rest' l flags fitted h e fit other all =
-    shown_wrong p (lines_of_items h.done) l (passing_all p fitted) (ap (passing_all p) (fit (lines_of_items h.done) h.flagged)) (λ none. other (inl none)) (λ same. other (inr same))
-    (ap (λ (m : SpelledItem). m.passing) (upward_item p lines rest rest' l flags h e all))
+pub upward_wrong_passing : (p : Pieces) (later : List Line) (lines rest rest' : List SpelledItem) (l : SpelledItem) (flags fitted : List Bool) (h : Upward p later lines rest flags)
+    → rest ≡ rest' ++ l ∷ [] → ((o : List Line) → AreLastFlags o flags → fitted ≡ last_flags o l.level) → ((l.passing ≡ []) ⊎ (l.passing ≡ passing_all p fitted) → ⊥) → HaveLastFlags p lines later → ⊥
+upward_wrong_passing p later lines rest rest' l flags fitted h e fit other all =
+    shown_wrong p (lines_of_items h.done ++ later) l (passing_all p fitted) (ap (passing_all p) (fit (lines_of_items h.done ++ later) h.flagged)) (λ none. other (inl none)) (λ same. other (inr same))
+    (upward_item p later lines rest rest' l flags h e all).1
 
-pub upward_empty : (p : Pieces) (lines rest rest' : List SpelledItem) (l : SpelledItem) (flags fitted : List Bool) (h : Upward p lines rest flags)
+pub upward_empty : (p : Pieces) (later : List Line) (lines rest rest' : List SpelledItem) (l : SpelledItem) (flags fitted : List Bool) (h : Upward p later lines rest flags)
     → rest ≡ rest' ++ l ∷ [] → ((o : List Line) → AreLastFlags o flags → fitted ≡ last_flags o l.level) → fitted ≡ [] → ⊥
-upward_empty p lines rest rest' l flags fitted h e fit none =
+upward_empty p later lines rest rest' l flags fitted h e fit none =
     let low = above_root p l.level l.pieces (All-last (IsSpelled p) rest' l (subst (λ z. All (IsSpelled p) z) e h.spelled)).1.0 in
-    let long = ap length (sym none ∙ fit (lines_of_items h.done) h.flagged) in
-    omega (arith, low, long, length-last_flags (lines_of_items h.done) l.level)
+    let long = ap length (sym none ∙ fit (lines_of_items h.done ++ later) h.flagged) in
+    omega (arith, low, long, length-last_flags (lines_of_items h.done ++ later) l.level)
 
-pub upward_all : (p : Pieces) (lines rest : List SpelledItem) (flags : List Bool) → Upward p lines rest flags → rest ≡ [] → lines ≡ spelled_by p (lines_of_items lines)
-upward_all p lines rest flags h e =
+pub upward_all : (p : Pieces) (later : List Line) (lines rest : List SpelledItem) (flags : List Bool) → Upward p later lines rest flags → rest ≡ [] → HaveLastFlags p lines later
+upward_all p later lines rest flags h e =
     let are : h.done ≡ lines = sym (h.are ∙ ap (λ z. z ++ h.done) e) in
-    subst (λ z. z ≡ spelled_by p (lines_of_items z)) are h.right
+    subst (λ z. HaveLastFlags p z later) are h.right

@@ -2,7 +2,7 @@
 use Rattle.std.specs.Prelude.{◌≡◌, ◌<◌, ℕ, zero, suc, Bool, false, not, nat_lt, nat_eq, if◌then◌else◌, List, [], ◌∷◌, ◌++◌, length}
 use Rattle.ptree.specs.Outline.{Line}
 use Rattle.ptree.specs.Pieces.{Pieces, turning_piece, passing_all}
-use Rattle.ptree.specs.Spelled.{SpelledItem, spelled_item, has_line_feed}
+use Rattle.ptree.specs.Spelled.{SpelledItem, spelled_item, line_of_item, lines_of_items, has_line_feed}
 
 -- the first of the lines that isn't deeper than n is at level n: the item at level n above them has a sibling after it
 abbrev pub has_later : List Line → ℕ → Bool
@@ -36,3 +36,12 @@ shown_by p o l = if has_line_feed l.text then passing_by p o l.level else []
 abbrev pub spelled_by : Pieces → List Line → List SpelledItem
 spelled_by p [] = []
 spelled_by p (l ∷ o) = spelled_item l.level (pieces_by p o l.level) (shown_by p o l) l.text ∷ spelled_by p o
+
+-- an item's pieces are those that its level and the lines after it give
+abbrev pub HasLastFlags : Pieces → List Line → SpelledItem → Type 0
+HasLastFlags p o i = (i.pieces ≡ pieces_by p o i.level) × (i.passing ≡ shown_by p o (line_of_item i))
+
+-- each item's are, where these lines come after the items
+abbrev pub HaveLastFlags : Pieces → List SpelledItem → List Line → Type 0
+HaveLastFlags p [] later = Unit {0}
+HaveLastFlags p (i ∷ items) later = HasLastFlags p (lines_of_items items ++ later) i × HaveLastFlags p items later

@@ -4,6 +4,7 @@ pub mod Characters
 pub mod Children
 pub mod Color
 pub mod Config
+pub mod Continuation
 pub mod Convert
 pub mod Configuration
 pub mod Counted
@@ -35,6 +36,7 @@ pub mod Value
 pub mod Words
 pub mod Writing
 -- what private functions say: of codes, of the engine, of the builder, of graphs and of the reader
+pub mod Closing
 pub mod Codes
 pub mod Looks
 pub mod Entries

@@ -2,7 +2,8 @@
 //!
 //! What can be drawn is a [`TreeItem`]: a tree of texts ([`item::StringItem`], which [`TreeBuilder`] builds), a node of a
 //! [`graph::Graph`], a [`value::Value`], or a type of your own. [`write_tree_with`] draws it to any [`style::Sink`] as a
-//! [`PrintConfig`] says, and [`read::read_tree`] returns the tree whose drawing a text is.
+//! [`PrintConfig`] says, and [`read::read_tree`] returns the tree whose drawing a text is. Where a text stops being one, says
+//! [`read::read_tree_or_line`].
 //!
 //! ```text
 //! tree

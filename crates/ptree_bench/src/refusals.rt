@@ -10,7 +10,7 @@ use ptree::print_config::{
     CharsError, FileSource, IndentChars, PrintConfig, Sources, StyleWhen, UTF_CHARS_BOLD,
     UTF_CHARS_DOUBLE, first_fault, load, syntax_line,
 };
-use ptree::read::{pieces_readable, read_tree};
+use ptree::read::{ReadError, pieces_readable, read_tree, read_tree_or_line};
 use ptree::style::{Color, Counted, DrawError, Style};
 use ptree::value::{ConvertError, DocError, DocFormat, Value, draw_document, draw_document_with};
 use std::alloc::{AllocError, Global};
@@ -525,6 +525,18 @@ fn read(alloc: Global, text: &str, config: &PrintConfig) -> Result<Option<String
         return Ok(None);
     }
     Ok(read_tree(alloc, text, config)?)
+}
+
+// The first line of a text that no drawing goes on with.
+fn wrong_line(alloc: Global, text: &str, config: &PrintConfig) -> Result<usize, Failure> {
+    if !pieces_readable(alloc, config)? {
+        return Err(Failure::Other);
+    }
+    match read_tree_or_line(alloc, text, config) {
+        Err(ReadError::Line(line)) => Ok(line),
+        Err(ReadError::Memory) => Err(Failure::Memory),
+        _ => Err(Failure::Other),
+    }
 }
 
 // Whether the bytes are the first of these entries, each of them whole.

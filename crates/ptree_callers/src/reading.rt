@@ -1,5 +1,7 @@
 //! Callers that read drawings.
-ghost use Rattle.std.specs.Prelude.{◌≡◌, ◌≤◌, ◌<◌, ◌+◌, false, IfOk, IfSome, IsTrue, IsSomeAnd};
+ghost use Rattle.std.specs.Prelude.{◌≡◌, ◌≤◌, ◌<◌, ◌+◌, ◌-◌, false, IfOk, IsOkUnless, IfSome, IsTrue, IsSomeAnd};
+ghost use Rattle.ptree.specs.Continuation.{HasContinuation, first_lines};
+ghost use Rattle.ptree.specs.declared.read.ReadError.{ReadError};
 ghost use Rattle.ptree.specs.DrawnForm.{IsDrawnForm};
 ghost use Rattle.ptree.specs.Drawing.{look_by, written_look};
 ghost use Rattle.ptree.specs.Preset.{preset_value};
@@ -11,7 +13,7 @@ use ptree::item::StringItem;
 use ptree::output::tree_text;
 use ptree::presets::Preset;
 use ptree::print_config::{ASCII_CHARS_TICK, IndentChars, PrintConfig, StaticIndentChars};
-use ptree::read::{pieces_readable, read_tree};
+use ptree::read::{ReadError, pieces_readable, read_tree, read_tree_or_line};
 use std::alloc::{AllocError, Global};
 
 /// Draws a tree and reads it back. Whatever its texts, what comes back is the tree.
@@ -28,6 +30,43 @@ pub fn there_and_back(
         return Err(AllocError);
     };
     read_tree(alloc, drawing.as_str(), config)
+}
+
+/// Draws a tree and reads it back, which finds no wrong line.
+pub fn there_and_back_by_lines(
+    alloc: Global,
+    tree: &StringItem,
+    config: &PrintConfig,
+) -> Result<StringItem, ReadError>
+    requires readable { HasReadablePieces config.now }
+    requires within { height (tree_of tree.now).children ≤ config.now.depth }
+    ensures tree { IfOk result (λ t. tree_of t ≡ tree_of tree.now) }
+    ensures err { IsOkUnless result ReadError.Memory }
+{
+    let Some(drawing) = tree_text(alloc, tree, config)? else {
+        return Err(ReadError::Memory);
+    };
+    read_tree_or_line(alloc, drawing.as_str(), config)
+}
+
+/// The first wrong line of a text that is no drawing, and none where it is one or ends too early. Before it stands no other wrong line.
+pub fn wrong_line(
+    alloc: Global,
+    text: &str,
+    config: &PrintConfig,
+) -> Result<Option<usize>, AllocError>
+    requires { HasReadablePieces config.now }
+    ensures wrong { IfOk result (λ o. IfSome o (λ n. (1 ≤ n)
+        × (HasContinuation (written_look config.now) config.now.depth (first_lines n text.now) → ⊥)
+        × HasContinuation (written_look config.now) config.now.depth
+        (first_lines (n - 1) text.now))) }
+{
+    match read_tree_or_line(alloc, text, config) {
+        Ok(_) => Ok(None),
+        Err(ReadError::Line(line)) => Ok(Some(line)),
+        Err(ReadError::End) => Ok(None),
+        Err(ReadError::Memory) => Err(AllocError),
+    }
 }
 
 /// Reads where the configuration allows it, and else returns none.

@@ -1,4 +1,5 @@
-//! Tests of `ptree` that read: drawings that read back, texts that are none, texts of several lines, and what other programs drew.
+//! Tests of `ptree` that read: drawings that read back, texts that are none, their first wrong lines, texts of several lines, and what
+//! other programs drew.
 #![tactic(auto)]
 
 #[cfg(test)]
@@ -7,3 +8,5 @@ mod lines;
 mod read;
 #[cfg(test)]
 mod real;
+#[cfg(test)]
+mod wrong;

@@ -1,5 +1,6 @@
 //! What the lines of a text show: pieces, marks and texts.
 ghost use Rattle.std.specs.Prelude.{◌≡◌, ◌≢◌, ℕ, ◌≤◌, ◌<◌, ◌+◌, ◌++◌, [], ◌∷◌, Bool, List, MatchOption, IfOk, string_bytes};
+ghost use Rattle.ptree.specs.Closing.{closing_line};
 ghost use Rattle.ptree.specs.Drawing.{continued_prefix};
 ghost use Rattle.ptree.specs.Looks.{look_meant, HasCodes};
 ghost use Rattle.ptree.specs.Meant.{text_meant, passing_meant, item_meant, items_meant, IsAhead};
@@ -54,6 +55,26 @@ impl<'a> Frame<'a> {
             branch: CodeTexts::of_style(alloc, look.branch)?,
             leaf: CodeTexts::of_style(alloc, look.leaf)?,
         })
+    }
+
+    /// The text, and a further line behind these passing pieces that holds no more than what stands behind a text.
+    pub(crate) fn closed_text(
+        &self,
+        alloc: Global,
+        front: &str,
+        passing: &str,
+    ) -> Result<String, AllocError>
+        ensures { IfOk result (λ s. string_bytes s
+            ≡ front.now ++ closing_line (look_meant self.now.look.now) passing.now) }
+    {
+        let mut text = String::from_str(alloc, front)?;
+        text.push_str(self.branch.front.as_str())?;
+        text.push_str(passing)?;
+        text.push_str(self.look.mark)?;
+        text.push_str(self.branch.back.as_str())?;
+        text.push_str(self.leaf.back.as_str())?;
+        text.push_str("\n")?;
+        Ok(text)
     }
 
     // What follows the codes before a prefix.
@@ -165,7 +186,20 @@ impl<'a> OutlineLine for Item<'a> {
 #[derive(Clone, Copy)]
 pub(crate) struct Passing<'a> {
     count: u32,
-    pieces: &'a str,
+    pub(crate) pieces: &'a str,
+}
+
+impl Passing<'static> {
+    /// No passing pieces.
+    pub(crate) fn none() -> Passing<'static>
+        ensures count { result.count ≡ 0 }
+        ensures pieces { result.pieces.now ≡ [] }
+    {
+        Passing {
+            count: 0,
+            pieces: "",
+        }
+    }
 }
 
 /// What stands at the front of a line behind the codes: passing pieces, as many as the level of the item above at most, and what
@@ -173,8 +207,8 @@ pub(crate) struct Passing<'a> {
 #[derive(Clone, Copy)]
 pub(crate) struct Ahead<'a> {
     open: &'a str,
-    passing: Passing<'a>,
-    rest: &'a str,
+    pub(crate) passing: Passing<'a>,
+    pub(crate) rest: &'a str,
 }
 
 /// A text that was read, what follows its last line feed, and the front of that.
@@ -223,8 +257,8 @@ fn string_without_back(text: String, back: &str) -> Option<String>
     Some(text)
 }
 
-// What precedes a part that ends the text.
-fn without_end<'a>(text: &'a str, end: &str) -> &'a str
+/// What precedes a part that ends the text.
+pub(crate) fn without_end<'a>(text: &'a str, end: &str) -> &'a str
     requires { (front : List ℕ) × (text.now ≡ front ++ end.now) }
     ensures { text.now ≡ result.now ++ end.now }
 {
@@ -270,17 +304,17 @@ fn skip_same<'a>(text: &'a str, above: Passing<'_>) -> (u32, &'a str)
     }
 }
 
-// The first line, and what follows its line feed.
-fn read_line(text: &str) -> Option<(&str, &str)>
+/// The first line, and what follows its line feed.
+pub(crate) fn read_line(text: &str) -> Option<(&str, &str)>
     ensures { MatchOption result (HasNoLineFeed text.now)
         (λ r. HasNoLineFeed r.0.now × (text.now ≡ r.0.now ++ line_feed ∷ r.1.now)) }
 {
     text.split_once('\n')
 }
 
-// How many passing pieces are at the front, the level at most, and what follows them. Those of the line above are looked for first.
+/// How many passing pieces are at the front, the level at most, and what follows them. Those of the line above are looked for first.
 #[inline(always)]
-fn skip_all_passing<'a>(
+pub(crate) fn skip_all_passing<'a>(
     text: &'a str,
     indent: &Indent,
     above: Passing<'_>,
@@ -304,10 +338,10 @@ fn skip_all_passing<'a>(
     (count, rest)
 }
 
-// The front of a line that follows one of an item at a level, where codes stand there. The passing pieces of the line above are
-// looked for first.
+/// The front of a line that follows one of an item at a level, where codes stand there. The passing pieces of the line above are
+/// looked for first.
 #[inline(always)]
-fn look_ahead<'a>(
+pub(crate) fn look_ahead<'a>(
     input: &'a str,
     frame: &Frame<'_>,
     above: Passing<'_>,
@@ -465,11 +499,7 @@ pub(crate) fn read_root<'a>(
     let Some(own) = frame.skip_branch_back(open) else {
         return Ok(None);
     };
-    let above = Passing {
-        count: 0,
-        pieces: "",
-    };
-    let Some(root) = read_text(alloc, own, frame, above, 0)? else {
+    let Some(root) = read_text(alloc, own, frame, Passing::none(), 0)? else {
         return Ok(None);
     };
     Ok(Some(root))

@@ -1,6 +1,6 @@
 //! Calls whose answers are written here, each made once more where it was refused memory.
 
-use super::{Failure, SHEET, Trial, begin_child, drawn, end, graph_drawn, read};
+use super::{Failure, SHEET, Trial, begin_child, drawn, end, graph_drawn, read, wrong_line};
 use ptree::TreeBuilder;
 use ptree::graph::{EdgeError, Graph, NodeIndex};
 use ptree::item::StringItem;
@@ -66,7 +66,7 @@ impl Trial {
         expect(drawing.as_slice() == text.as_bytes())
     }
 
-    // The drawing of a tree, its reading, and a set whose pieces can't be told apart.
+    // The drawing of a tree, its reading, the line of a text that is no drawing, and a set whose pieces can't be told apart.
     fn call_trees(&mut self, alloc: Global) -> Result<(), Failure> {
         let wide = self.retried(|| Ok(plain(alloc, UTF_CHARS, 4, u32::MAX)?))?;
         let tree = self.retried(|| Ok(petgraph(alloc)?))?;
@@ -79,6 +79,8 @@ impl Trial {
             return Err(Failure::Other);
         };
         self.expect_drawn(alloc, &read, &plus, text)?;
+        let text = "r\n+- a\n|  : b\n   +- c\n+- d\n";
+        expect(self.retried(|| wrong_line(alloc, text, &plus))? == 4)?;
         let tick = self.retried(|| Ok(plain(alloc, ASCII_CHARS_TICK, 2, u32::MAX)?))?;
         expect(!self.retried(|| Ok(pieces_readable(alloc, &tick)?))?)?;
         let tree = self.retried(|| Ok(branched(alloc)?))?;
