@@ -4,7 +4,7 @@ use super::{Failure, SHEET, Trial, begin_child, drawn, end, graph_drawn, read};
 use ptree::TreeBuilder;
 use ptree::graph::{EdgeError, Graph, NodeIndex};
 use ptree::item::StringItem;
-use ptree::output::{tree_bytes, tree_text};
+use ptree::output::tree_bytes;
 use ptree::presets::Preset;
 use ptree::print_config::{
     ASCII_CHARS_PLUS, ASCII_CHARS_TICK, FileSource, PrintConfig, Sources, StyleWhen, UTF_CHARS,
@@ -13,6 +13,9 @@ use ptree::print_config::{
 use ptree::read::pieces_readable;
 use ptree::style::{Color, Counted, Style};
 use ptree::value::{DocFormat, draw_document};
+use ptree_callers::own_types::{
+    Folder, Halved, Volume, drawing_of_folder, drawing_of_halved, drawing_of_volume,
+};
 use ptree_fixtures::trees::{leaf, over, over_leaves, petgraph, plain};
 use std::alloc::{AllocError, Global};
 
@@ -51,6 +54,29 @@ fn document_drawn(alloc: Global, text: &str) -> Result<Vec<u8>, Failure> {
 fn over_two(alloc: Global, leaf: &StringItem) -> Result<StringItem, AllocError> {
     let below = vec![in alloc; leaf.clone()?, StringItem::leaf(alloc, "c")?]?;
     StringItem::new(alloc, "r", below)
+}
+
+// A folder of this name over folders.
+fn folder(alloc: Global, name: &str, folders: Vec<Folder>) -> Result<Folder, AllocError> {
+    Ok(Folder {
+        name: String::from_str(alloc, name)?,
+        folders,
+    })
+}
+
+// A folder of this name over the folder b.
+fn over_folder(alloc: Global, name: &str) -> Result<Folder, AllocError> {
+    let below = vec![in alloc; folder(alloc, "b", Vec::new(alloc))?]?;
+    folder(alloc, name, below)
+}
+
+// disk [a [b]].
+fn volume(alloc: Global) -> Result<Volume, AllocError> {
+    let folders = vec![in alloc; over_folder(alloc, "a")?]?;
+    Ok(Volume {
+        title: String::from_str(alloc, "disk")?,
+        folders,
+    })
 }
 
 impl Trial {
@@ -177,10 +203,21 @@ impl Trial {
         let wanted = "r\n├─a\n│ : b\n└─c\n";
         let bytes = self.retried(|| Ok(tree_bytes(alloc, &tree, &findmnt)?))?;
         expect(bytes.as_slice() == wanted.as_bytes())?;
-        let Some(text) = self.retried(|| Ok(tree_text(alloc, &tree, &findmnt)?))? else {
-            return Err(Failure::Other);
-        };
+        let text = self.retried(|| Ok(tree.drawing(alloc, &findmnt)?))?;
         expect(text.as_str() == wanted)
+    }
+
+    // Items of other types: lent ones, made ones, and a root over lent ones.
+    fn call_types(&mut self, alloc: Global) -> Result<(), Failure> {
+        let config = self.retried(|| Ok(PrintConfig::default(alloc)?))?;
+        let volume = self.retried(|| Ok(volume(alloc)?))?;
+        let drawing = self.retried(|| Ok(drawing_of_volume(alloc, &volume, &config)?))?;
+        expect(drawing.as_slice() == "disk\n└─ a\n   └─ b\n".as_bytes())?;
+        let folder = self.retried(|| Ok(over_folder(alloc, "c")?))?;
+        let drawing = self.retried(|| Ok(drawing_of_folder(alloc, &folder, &config)?))?;
+        expect(drawing.as_slice() == "c\n└─ b\n".as_bytes())?;
+        let drawing = self.retried(|| Ok(drawing_of_halved(alloc, Halved(3), &config)?))?;
+        expect(drawing.as_slice() == "3\n├─ 1\n└─ 2\n   ├─ 1\n   └─ 1\n".as_bytes())
     }
 
     // All of them.
@@ -192,6 +229,7 @@ impl Trial {
         self.call_sources(alloc)?;
         self.call_bad_source(alloc)?;
         self.call_set(alloc)?;
-        self.call_own(alloc)
+        self.call_own(alloc)?;
+        self.call_types(alloc)
     }
 }
