@@ -16,6 +16,7 @@ use ptree::value::{DocFormat, draw_document};
 use ptree_callers::own_types::{
     Folder, Halved, Volume, drawing_of_folder, drawing_of_halved, drawing_of_volume,
 };
+use ptree_fixtures::drawings::PETGRAPH;
 use ptree_fixtures::trees::{leaf, over, over_leaves, petgraph, plain};
 use std::alloc::{AllocError, Global};
 
@@ -96,9 +97,7 @@ impl Trial {
     fn call_trees(&mut self, alloc: Global) -> Result<(), Failure> {
         let wide = self.retried(|| Ok(plain(alloc, UTF_CHARS, 4, u32::MAX)?))?;
         let tree = self.retried(|| Ok(petgraph(alloc)?))?;
-        let text =
-            "petgraph\n├── quickcheck\n│   ├── libc\n│   └── rand\n│       └── libc\n└── fixedbitset\n";
-        self.expect_drawn(alloc, &tree, &wide, text)?;
+        self.expect_drawn(alloc, &tree, &wide, PETGRAPH)?;
         let plus = self.retried(|| Ok(plain(alloc, ASCII_CHARS_PLUS, 3, u32::MAX)?))?;
         let text = "r\n+- a\n|  +- b\n+- c\n";
         let Some(read) = self.retried(|| read(alloc, text, &plus))? else {
