@@ -25,6 +25,7 @@ pub mod Drawn
 pub mod CutTrees
 pub mod Subtrees
 pub mod Laws
+pub mod Utf8Texts
 pub mod Examples
 -- pieces and marks that are readable
 pub mod Prefixes

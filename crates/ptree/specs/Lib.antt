@@ -32,6 +32,7 @@ pub mod Style
 pub mod Text
 pub mod Tree
 pub mod TreeBuilder
+pub mod Utf8
 pub mod Value
 pub mod Words
 pub mod Writing

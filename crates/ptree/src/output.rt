@@ -1,17 +1,19 @@
 //! Pieces, and the calls that draw.
-ghost use Rattle.std.specs.Prelude.{false, List, ℕ, IfOk, IfSome, IfNone, string_bytes};
+ghost use Rattle.std.specs.Prelude.{false, List, ℕ, IfOk, IfSome, IfNone, IsSome, string_bytes};
 ghost use Rattle.std.specs.Str.{IsUtf8};
 ghost use Rattle.ptree.specs.Loading.{meant_by};
 ghost use Rattle.ptree.specs.Writing.{HasCause, IsDrawn, LeavesWholeEntries};
 ghost use Rattle.ptree.specs.Drawing.{look_by, look_of, written_look, IsDrawing};
 ghost use Rattle.ptree.specs.Laws.{HasOneList, HasCuts, HasTreeCuts, HasSubtrees, HasOneLineEntries};
+ghost use Rattle.ptree.specs.Tree.{tree_of, shape_of_tree};
+ghost use Rattle.ptree.specs.Utf8.{HasUtf8Texts};
 
 pub(crate) mod engine;
 pub(crate) mod indent;
 pub(crate) mod look;
 mod spread;
 
-use crate::item::TreeItem;
+use crate::item::{StringItem, TreeItem};
 use crate::print_config::{OutputKind, PrintConfig, Sources};
 use crate::style::{Counted, DrawError, Sink, Style};
 use engine::draw;
@@ -206,10 +208,30 @@ where
     ensures none { IfOk result (λ o. IfNone o ((drawing : List ℕ)
         → IsDrawing (written_look config.now) (T.shape item.now) config.now.depth drawing
         → IsUtf8 drawing → ⊥)) }
+    // Where all that the items write is UTF-8, the drawing is a text.
+    ensures utf8 { HasUtf8Texts (written_look config.now) (T.shape item.now)
+        → IfOk result IsSome }
 {
     let bytes = tree_bytes(alloc, item, config)?;
     match String::from_utf8(bytes) {
         Ok(text) => Ok(Some(text)),
         Err(_) => Ok(None),
+    }
+}
+
+impl StringItem {
+    /// The tree's drawing as a text, as [`write_tree_with`] draws it.
+    ///
+    /// # Errors
+    ///
+    /// Memory ran out.
+    pub fn drawing(&self, alloc: Global, config: &PrintConfig) -> Result<String, AllocError>
+        ensures { IfOk result (λ s. IsDrawing (written_look config.now)
+            (shape_of_tree (tree_of self.now)) config.now.depth (string_bytes s)) }
+    {
+        match tree_text(alloc, self, config)? {
+            Some(text) => Ok(text),
+            None => unreachable!(),
+        }
     }
 }

@@ -5,7 +5,7 @@ ghost use Rattle.ptree.specs.Item.{root_shape};
 ghost use Rattle.ptree_callers.specs.OwnTypes.{folder_shape, halved_shape};
 
 use ptree::item::{Children, LentItem, MadeItem, Root, Text};
-use ptree::output::tree_bytes;
+use ptree::output::{tree_bytes, tree_text};
 use ptree::print_config::PrintConfig;
 use std::alloc::{AllocError, Global};
 
@@ -96,6 +96,21 @@ pub fn drawing_of_folder(
         IsDrawing (written_look config.now) (folder_shape folder.now) config.now.depth v.items) }
 {
     tree_bytes(alloc, folder, config)
+}
+
+/// The same as a text: a folder's name is UTF-8, and so is what is drawn of names.
+pub fn text_of_folder(
+    alloc: Global,
+    folder: &Folder,
+    config: &PrintConfig,
+) -> Result<String, AllocError>
+    ensures { IfOk result (λ s. IsDrawing (written_look config.now) (folder_shape folder.now)
+        config.now.depth (string_bytes s)) }
+{
+    match tree_text(alloc, folder, config)? {
+        Some(text) => Ok(text),
+        None => unreachable!(),
+    }
 }
 
 /// The drawing of a list that is halved: of its length's digits, down to single elements.

@@ -10,7 +10,6 @@ ghost use Rattle.ptree.specs.Tree.{tree_of, height};
 ghost use Rattle.ptree.specs.declared.print_config.OutputKind.{OutputKind};
 
 use ptree::item::StringItem;
-use ptree::output::tree_text;
 use ptree::presets::Preset;
 use ptree::print_config::{ASCII_CHARS_TICK, IndentChars, PrintConfig, StaticIndentChars};
 use ptree::read::{ReadError, pieces_readable, read_tree, read_tree_or_line};
@@ -26,9 +25,7 @@ pub fn there_and_back(
     requires within { height (tree_of tree.now).children ≤ config.now.depth }
     ensures { IfOk result (λ o. IsSomeAnd o (λ t. tree_of t ≡ tree_of tree.now)) }
 {
-    let Some(drawing) = tree_text(alloc, tree, config)? else {
-        return Err(AllocError);
-    };
+    let drawing = tree.drawing(alloc, config)?;
     read_tree(alloc, drawing.as_str(), config)
 }
 

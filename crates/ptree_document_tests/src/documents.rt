@@ -3,6 +3,7 @@
 use ptree::print_config::{FileSource, PrintConfig, Sources, StyleWhen};
 use ptree::style::{Counted, DrawError};
 use ptree::value::{DocError, DocFormat, draw_document, draw_document_with};
+use ptree_fixtures::drawings::{TOML, TOML_DRAWN};
 use ptree_fixtures::failing::{Answer, Failing};
 use std::alloc::{AllocError, Global};
 use std::io::ErrorKind;
@@ -426,35 +427,18 @@ fn one_variable(alloc: Global, name: &str, value: &str) -> Result<Sources, Alloc
 fn a_document_is_drawn_under_sources(rt: HostRuntime) -> Result<(), Fail> {
     let alloc = rt.alloc();
     let sources = one_variable(alloc, "PTREE_INDENT", "4")?;
-    let text = "\
-configuration = [\"toml\", \"yaml\", \"json\", \"environment\"]
-charactersets = [\"utf\", \"ascii\"]
-default_depth = 3
-";
     let mut out = Counted::new(Vec::new(alloc));
     let result = draw_document(
         alloc,
         DocFormat::Toml,
-        text,
+        TOML,
         "toml",
         &sources,
         false,
         &mut out,
     );
     assert!(rt; result.is_ok());
-    let drawing = "\
-toml
-├── charactersets
-│   ├── utf
-│   └── ascii
-├── configuration
-│   ├── toml
-│   ├── yaml
-│   ├── json
-│   └── environment
-└── default_depth = 3
-";
-    assert!(rt; out.into_inner().as_slice() == drawing.as_bytes());
+    assert!(rt; out.into_inner().as_slice() == TOML_DRAWN.as_bytes());
     Ok(())
 }
 

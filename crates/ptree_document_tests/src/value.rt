@@ -5,15 +5,10 @@ use ptree::output::write_tree_with;
 use ptree::print_config::{PrintConfig, StyleWhen};
 use ptree::style::Counted;
 use ptree::value::{ConvertError, Value};
+use ptree_fixtures::drawings::{TOML, TOML_DRAWN};
 use std::alloc::{AllocError, Global};
 use std::process::Abort;
 use std::test::Fail;
-
-const CONFIG: &str = "\
-configuration = [\"toml\", \"yaml\", \"json\", \"environment\"]
-charactersets = [\"utf\", \"ascii\"]
-default_depth = 3
-";
 
 // A text as a value.
 fn text(alloc: Global, text: &str) -> Result<Value, AllocError> {
@@ -38,35 +33,19 @@ fn toml_value_output(rt: HostRuntime) -> Result<(), Fail> {
     let alloc = rt.alloc();
     let value = Value::from_toml(
         alloc,
-        &toml::Value::Table(toml::table_from_str(alloc, CONFIG)?),
+        &toml::Value::Table(toml::table_from_str(alloc, TOML)?),
     )?;
     let mut config = PrintConfig::default(alloc)?;
     config.indent = 4;
-    let children = "\
-├── charactersets
-│   ├── utf
-│   └── ascii
-├── configuration
-│   ├── toml
-│   ├── yaml
-│   ├── json
-│   └── environment
-└── default_depth = 3
-";
+    let below = TOML_DRAWN.strip_prefix("toml").ok_or("no label")?;
     assert_drawn(
         &rt,
         alloc,
         &(String::from_str(alloc, "toml")?, value.clone()?),
         &config,
-        format!(in alloc; "toml\n{children}")?.as_str(),
+        TOML_DRAWN,
     );
-    assert_drawn(
-        &rt,
-        alloc,
-        &value,
-        &config,
-        format!(in alloc; "\n{children}")?.as_str(),
-    );
+    assert_drawn(&rt, alloc, &value, &config, below);
     Ok(())
 }
 

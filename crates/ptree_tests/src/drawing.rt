@@ -7,20 +7,12 @@ use ptree::print_config::{
 };
 use ptree::style::{Counted, DrawError};
 use ptree_fixtures::barren::Barren;
+use ptree_fixtures::drawings::PETGRAPH;
 use ptree_fixtures::expect::{expect_drawn, expect_printed};
 use ptree_fixtures::trees::{drawn, leaf, over, over_leaves, petgraph, plain, set_of};
 use std::alloc::Global;
 use std::process::Abort;
 use std::test::Fail;
-
-const PETGRAPH: &str = "\
-petgraph
-├── quickcheck
-│   ├── libc
-│   └── rand
-│       └── libc
-└── fixedbitset
-";
 
 #[test]
 fn small_item_output(rt: HostRuntime) -> Result<(), Fail> {

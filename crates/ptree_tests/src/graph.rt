@@ -4,6 +4,7 @@ use ptree::graph::{EdgeError, Graph, GraphNode, Label, NodeIndex, write_graph_wi
 use ptree::item::TreeItem;
 use ptree::print_config::{PrintConfig, StyleWhen};
 use ptree::style::{Counted, DrawError, Style};
+use ptree_fixtures::drawings::PETGRAPH;
 use ptree_fixtures::failing::{Answer, Failing};
 use std::alloc::{AllocError, Global};
 use std::io::ErrorKind;
@@ -71,9 +72,7 @@ fn small_graph_output(rt: HostRuntime) -> Result<(), Fail> {
     let graph = graph(alloc, &texts, &edges)?;
     let mut config = PrintConfig::default(alloc)?;
     config.indent = 4;
-    let text =
-        "petgraph\n├── quickcheck\n│   ├── libc\n│   └── rand\n│       └── libc\n└── fixedbitset\n";
-    assert_drawn(&rt, alloc, &graph, 0, &config, text);
+    assert_drawn(&rt, alloc, &graph, 0, &config, PETGRAPH);
     Ok(())
 }
 

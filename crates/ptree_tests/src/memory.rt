@@ -4,7 +4,7 @@ use crate::indent::assert_pieces;
 use ptree::TreeBuilder;
 use ptree::graph::{Graph, GraphNode, Label, NodeIndex, write_graph_with};
 use ptree::item::{StringItem, TreeItem};
-use ptree::output::{Indent, tree_bytes, tree_text};
+use ptree::output::{Indent, tree_bytes};
 use ptree::print_config::{ASCII_CHARS_PLUS, IndentChars, PrintConfig, StyleWhen, UTF_CHARS};
 use ptree::read::{pieces_readable, read_tree};
 use ptree::style::{Color, Counted, Style};
@@ -62,7 +62,7 @@ fn trees_of_texts_succeed_with_memory(rt: HostRuntime) -> Result<(), Fail> {
     expect_items(alloc, &tree, "shopping [bread, milk]")?;
     assert!(rt; tree.items(alloc)?.len() == 3);
     let config = plain(alloc, UTF_CHARS, 3, 4294967295)?;
-    let text = tree_text(alloc, &tree, &config)?.ok_or("no text")?;
+    let text = tree.drawing(alloc, &config)?;
     expect_text(text.as_str(), "shopping\n├─ bread\n└─ milk\n")?;
     let bytes = tree_bytes(alloc, &tree, &config)?;
     expect_text(str::from_utf8(&bytes)?, text.as_str())

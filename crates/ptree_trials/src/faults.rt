@@ -7,19 +7,11 @@ use ptree::output::{print_tree_with, write_tree, write_tree_with};
 use ptree::print_config::{FileSource, PrintConfig, Sources, UTF_CHARS};
 use ptree::style::{Color, Counted, DrawError, Style, put_all};
 use ptree::value::{DocError, DocFormat, Value, draw_document, draw_document_with};
+use ptree_fixtures::drawings::{PETGRAPH, TOML, TOML_DRAWN};
 use ptree_fixtures::failing::{Answer, Failing};
 use ptree_fixtures::trees::{leaf, over, over_leaves, petgraph, plain};
 use std::alloc::{AllocError, Global};
 use std::io::{self, ErrorKind};
-
-const PETGRAPH: &str = "\
-petgraph
-├── quickcheck
-│   ├── libc
-│   └── rand
-│       └── libc
-└── fixedbitset
-";
 
 const LINES: &str = "r\n: s\n├─ a\n│  : b\n│  └─ \n└─ c\n   : \n";
 
@@ -32,25 +24,6 @@ const CYCLE: &str = "x\n└─ y\n   └─ x\n      └─ y\n";
 const JSON: &str = "{\"a\":[1,{\"b\":null}]}";
 
 const JSON_DRAWN: &str = "j\n└─ a\n   ├─ 1\n   └─ \n      └─ b = \n";
-
-const TOML: &str = "\
-configuration = [\"toml\", \"yaml\", \"json\", \"environment\"]
-charactersets = [\"utf\", \"ascii\"]
-default_depth = 3
-";
-
-const TOML_DRAWN: &str = "\
-toml
-├── charactersets
-│   ├── utf
-│   └── ascii
-├── configuration
-│   ├── toml
-│   ├── yaml
-│   ├── json
-│   └── environment
-└── default_depth = 3
-";
 
 // The writers of a drawing that were tried, by their room, by the most that they take a call, and by their answer.
 const MOST: [usize; 4] = [1, 2, 30, usize::MAX];

@@ -1,5 +1,6 @@
 //! Random trees, graphs, configurations, sources and documents, and the rules that drawing, reading and loading keep.
 
+mod calls;
 mod dice;
 mod documents;
 mod graphs;
@@ -19,6 +20,16 @@ fn try_case(alloc: Global, dice: &mut Dice) -> Result<(), Deviation> {
     try_trees(alloc, dice)?;
     try_graphs(alloc, dice)?;
     loading::try_all(alloc, dice)
+}
+
+/// Writes so many calls of the program into a folder, with what each must give.
+pub fn write_calls(rt: &HostRuntime, folder: &str, seed: u64, cases: u32) -> io::Result<()> {
+    for case in 0..cases {
+        let mut dice = Dice::new(seed, u64::from(case));
+        let stem = format!(in rt.alloc(); "{folder}/{case}")?;
+        calls::write_call(rt, &mut dice, stem.as_str())?;
+    }
+    Ok(())
 }
 
 /// Tries so many cases of a seed. At the first rule that isn't kept it tells which case that was, and ends.

@@ -1,5 +1,5 @@
 //! Tries the library on writers that fail, on random input and on input of extreme sizes: `ptree_trials TASK`. The tasks are
-//! `faults`, `fuzz SEED CASES` and `extreme NAME`.
+//! `faults`, `fuzz SEED CASES`, `calls FOLDER SEED CASES` and `extreme NAME`.
 #![tactic(auto)]
 
 mod deviation;
@@ -9,7 +9,7 @@ mod fuzz;
 
 use extreme::draw_extreme;
 use faults::try_faults;
-use fuzz::try_cases;
+use fuzz::{try_cases, write_calls};
 use std::{env, io};
 
 // How many cases are tried where the words don't say.
@@ -32,6 +32,12 @@ fn main(rt: HostRuntime) -> io::Result<()> {
         "extreme" => {
             let name = words.next().unwrap_or(String::from_str(alloc, "children")?);
             draw_extreme(&rt, name.as_str())
+        }
+        "calls" => {
+            let folder = words.next().unwrap_or(String::from_str(alloc, ".")?);
+            let seed = number(words.next(), 1);
+            let cases = number(words.next(), CASES);
+            write_calls(&rt, folder.as_str(), u64::from(seed), cases)
         }
         _ => {
             let seed = number(words.next(), 1);

@@ -4,7 +4,7 @@ use super::{Failure, SHEET, Trial, begin_child, drawn, end, graph_drawn, read, w
 use ptree::TreeBuilder;
 use ptree::graph::{EdgeError, Graph, NodeIndex};
 use ptree::item::StringItem;
-use ptree::output::{tree_bytes, tree_text};
+use ptree::output::tree_bytes;
 use ptree::presets::Preset;
 use ptree::print_config::{
     ASCII_CHARS_PLUS, ASCII_CHARS_TICK, FileSource, PrintConfig, Sources, StyleWhen, UTF_CHARS,
@@ -13,6 +13,10 @@ use ptree::print_config::{
 use ptree::read::pieces_readable;
 use ptree::style::{Color, Counted, Style};
 use ptree::value::{DocFormat, draw_document};
+use ptree_callers::own_types::{
+    Folder, Halved, Volume, drawing_of_folder, drawing_of_halved, drawing_of_volume,
+};
+use ptree_fixtures::drawings::PETGRAPH;
 use ptree_fixtures::trees::{leaf, over, over_leaves, petgraph, plain};
 use std::alloc::{AllocError, Global};
 
@@ -53,6 +57,29 @@ fn over_two(alloc: Global, leaf: &StringItem) -> Result<StringItem, AllocError> 
     StringItem::new(alloc, "r", below)
 }
 
+// A folder of this name over folders.
+fn folder(alloc: Global, name: &str, folders: Vec<Folder>) -> Result<Folder, AllocError> {
+    Ok(Folder {
+        name: String::from_str(alloc, name)?,
+        folders,
+    })
+}
+
+// A folder of this name over the folder b.
+fn over_folder(alloc: Global, name: &str) -> Result<Folder, AllocError> {
+    let below = vec![in alloc; folder(alloc, "b", Vec::new(alloc))?]?;
+    folder(alloc, name, below)
+}
+
+// disk [a [b]].
+fn volume(alloc: Global) -> Result<Volume, AllocError> {
+    let folders = vec![in alloc; over_folder(alloc, "a")?]?;
+    Ok(Volume {
+        title: String::from_str(alloc, "disk")?,
+        folders,
+    })
+}
+
 impl Trial {
     // That a tree's drawing is this text.
     fn expect_drawn(
@@ -70,9 +97,7 @@ impl Trial {
     fn call_trees(&mut self, alloc: Global) -> Result<(), Failure> {
         let wide = self.retried(|| Ok(plain(alloc, UTF_CHARS, 4, u32::MAX)?))?;
         let tree = self.retried(|| Ok(petgraph(alloc)?))?;
-        let text =
-            "petgraph\n├── quickcheck\n│   ├── libc\n│   └── rand\n│       └── libc\n└── fixedbitset\n";
-        self.expect_drawn(alloc, &tree, &wide, text)?;
+        self.expect_drawn(alloc, &tree, &wide, PETGRAPH)?;
         let plus = self.retried(|| Ok(plain(alloc, ASCII_CHARS_PLUS, 3, u32::MAX)?))?;
         let text = "r\n+- a\n|  +- b\n+- c\n";
         let Some(read) = self.retried(|| read(alloc, text, &plus))? else {
@@ -179,10 +204,21 @@ impl Trial {
         let wanted = "r\n├─a\n│ : b\n└─c\n";
         let bytes = self.retried(|| Ok(tree_bytes(alloc, &tree, &findmnt)?))?;
         expect(bytes.as_slice() == wanted.as_bytes())?;
-        let Some(text) = self.retried(|| Ok(tree_text(alloc, &tree, &findmnt)?))? else {
-            return Err(Failure::Other);
-        };
+        let text = self.retried(|| Ok(tree.drawing(alloc, &findmnt)?))?;
         expect(text.as_str() == wanted)
+    }
+
+    // Items of other types: lent ones, made ones, and a root over lent ones.
+    fn call_types(&mut self, alloc: Global) -> Result<(), Failure> {
+        let config = self.retried(|| Ok(PrintConfig::default(alloc)?))?;
+        let volume = self.retried(|| Ok(volume(alloc)?))?;
+        let drawing = self.retried(|| Ok(drawing_of_volume(alloc, &volume, &config)?))?;
+        expect(drawing.as_slice() == "disk\n└─ a\n   └─ b\n".as_bytes())?;
+        let folder = self.retried(|| Ok(over_folder(alloc, "c")?))?;
+        let drawing = self.retried(|| Ok(drawing_of_folder(alloc, &folder, &config)?))?;
+        expect(drawing.as_slice() == "c\n└─ b\n".as_bytes())?;
+        let drawing = self.retried(|| Ok(drawing_of_halved(alloc, Halved(3), &config)?))?;
+        expect(drawing.as_slice() == "3\n├─ 1\n└─ 2\n   ├─ 1\n   └─ 1\n".as_bytes())
     }
 
     // All of them.
@@ -194,6 +230,7 @@ impl Trial {
         self.call_sources(alloc)?;
         self.call_bad_source(alloc)?;
         self.call_set(alloc)?;
-        self.call_own(alloc)
+        self.call_own(alloc)?;
+        self.call_types(alloc)
     }
 }

@@ -35,20 +35,6 @@ fn printed(
     Ok(String::from_utf8(out.into_inner())?)
 }
 
-// Whether two trees have the same items.
-fn is_same(tree: &StringItem, other: &StringItem) -> bool {
-    if tree.text != other.text || tree.children.len() != other.children.len() {
-        return false;
-    }
-    for (i, child) in tree.children.iter().enumerate() {
-        match other.children.get(i) {
-            Some(below) if is_same(child, below) => {}
-            _ => return false,
-        }
-    }
-    true
-}
-
 // The tree without what is below a level.
 fn cut(alloc: Global, tree: &StringItem, depth: u32) -> Result<StringItem, AllocError> {
     let mut children = Vec::new(alloc);
@@ -210,19 +196,13 @@ fn try_reading(alloc: Global, tree: &StringItem, config: &PrintConfig) -> Result
     let drawing = drawn(alloc, tree, config)?;
     let found = read(alloc, drawing.as_str(), config)?.ok_or(Deviation::of("a drawing is read"))?;
     let cut = cut(alloc, tree, config.depth)?;
-    expect(
-        is_same(&found, &cut),
-        "what is read of a drawing is its tree",
-    )?;
+    expect(found == cut, "what is read of a drawing is its tree")?;
     let plus = plain(alloc, ASCII_CHARS_PLUS, 3, u32::MAX)?;
     let anew = drawn(alloc, &found, &plus)?;
     let again = read(alloc, anew.as_str(), &plus)?.ok_or(Deviation::of(
         "a drawing with plus signs is read",
     ))?;
-    expect(
-        is_same(&again, &cut),
-        "what is drawn anew reads as the same tree",
-    )
+    expect(again == cut, "what is drawn anew reads as the same tree")
 }
 
 // What is read of a text, if it is read, is a tree whose drawing the text is.
@@ -349,10 +329,7 @@ fn try_copies(
         other != *config,
         "configurations that differ in a field are not equal",
     )?;
-    expect(
-        is_same(&tree.clone()?, tree),
-        "a copy of a tree is the same tree",
-    )
+    expect(tree.clone()? == *tree, "a copy of a tree is the same tree")
 }
 
 // Builds by opening and ending children, and beside it by levels: the trees are the same. No item goes to a level that can't follow.
@@ -383,10 +360,10 @@ fn try_builders(alloc: Global, dice: &mut Dice) -> Result<(), Deviation> {
     }
     let tree = opened.build()?;
     expect(
-        is_same(&tree, &leveled.build()?),
+        tree == leveled.build()?,
         "both ways of building make the same tree",
     )?;
-    expect(is_same(&tree, &opened.build()?), "a builder builds again")
+    expect(tree == opened.build()?, "a builder builds again")
 }
 
 /// Tries the rules on a tree.

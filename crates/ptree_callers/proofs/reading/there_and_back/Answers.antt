@@ -9,6 +9,6 @@ returns c =
     let config = c.args.config.now in
     c.read_tree.ensures.drawn tree
     record {
-      drawn = subst (λ (bytes : List ℕ). IsDrawing (written_look config) (shape_of_tree tree) config.depth bytes) (sym c.as_str.ensures.value) (rw (c.in-Some.is) at c.in_ok-drawing.ensures.some);
+      drawn = subst (λ (bytes : List ℕ). IsDrawing (written_look config) (shape_of_tree tree) config.depth bytes) (sym c.as_str.ensures.value) c.in_ok-drawing.ensures;
       within = c.requires.within;
     }

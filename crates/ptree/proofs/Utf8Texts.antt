@@ -1,0 +1,165 @@
+-- Of UTF-8 UTF-8 is drawn.
+use Rattle.std.specs.Prelude.{Option, Some, None, Bool, All, slice_get, option_map, option_and_then, unwrap_or, flat_map}
+use Rattle.std.specs.List.{repeat}
+use Rattle.std.specs.Str.{IsUtf8}
+use Rattle.std.proofs.Common.{◌≡◌, ℕ, zero, suc, ◌+◌, ◌-◌, ◌<◌, true, false, List, [], ◌∷◌, ◌++◌, length, map, get_or, inl, inr, sym, ap, ◌∙◌, subst, append_assoc, arith, length-append}
+use Rattle.std.proofs.Math.Seq.{take-append_seam, drop-append-add, get_or-append_seam}
+use Rattle.std.proofs.lemmas.List.Elements.{All-nil, All-cons}
+use Rattle.std.proofs.lemmas.Option.{slice_get-map}
+use Rattle.std.proofs.lemmas.Str.{IsUtf8-append, IsUtf8-nil, IsUtf8-from_ascii, IsUtf8-string_bytes, IsUtf8-take, IsUtf8-drop, IsCharBoundary-before_ascii, IsCharBoundary-after_ascii}
+use Rattle.std.proofs.lemmas.Str.Ascii.{IsAscii-from_all}
+use Rattle.ptree.specs.declared.item.StringItem.{StringItem, out-StringItem}
+use Rattle.ptree.specs.declared.print_config.PrintConfig.{PrintConfig}
+use Rattle.ptree.specs.Address.{Address, at, beginnings, is_last, parent}
+use Rattle.ptree.specs.Drawing.{Look, written_look, passing_text, prefix_text, with_inserted, entry_text, own_at, IsDrawing}
+use Rattle.ptree.specs.Item.{text_own, text_shape}
+use Rattle.ptree.specs.Pieces.{turning_piece, passing_piece}
+use Rattle.ptree.specs.Shape.{Shape, kids}
+use Rattle.ptree.specs.Style.{StyleValue, painted_text, front_codes, back_codes, style_codes, reset_after}
+use Rattle.ptree.specs.Tree.{tree_of, tree_own, tree_kids, shape_of_tree}
+use Rattle.ptree.specs.Utf8.{HasUtf8Texts}
+use Rattle.ptree.proofs.Inserted.{is_feed, inserted_feed, inserted_other}
+use Rattle.ptree.proofs.Styles.{IsUtf8-front_codes}
+use Rattle.ptree.proofs.TreeLemmas.{tree_of_item, kids_of_item, map_twice}
+use Rattle.ptree.proofs.Unfold.{kids_of_unfold}
+
+-- ## Parts
+
+-- one byte of ASCII more
+ascii_more : (b : ℕ) (bs : List ℕ) → b < 128 → All (λ x. x < 128) bs → All (λ x. x < 128) (b ∷ bs)
+ascii_more b bs h k = All-cons (λ x. x < 128) b bs h k
+
+no_ascii : All (λ x. x < 128) []
+no_ascii = All-nil (λ x. x < 128)
+
+from_ascii : (bs : List ℕ) → All (λ x. x < 128) bs → IsUtf8 bs
+from_ascii bs h = IsUtf8-from_ascii bs (IsAscii-from_all bs h)
+
+feed : IsUtf8 (10 ∷ [])
+feed = from_ascii (10 ∷ []) (ascii_more 10 [] (omega arith) no_ascii)
+
+-- texts one behind the other
+joined : {X : Type 0} (f : X → List ℕ) → ((x : X) → IsUtf8 (f x)) → (xs : List X) → IsUtf8 (flat_map f xs)
+joined f h [] = IsUtf8-nil
+joined f h (x ∷ xs) = IsUtf8-append (f x) (flat_map f xs) (h x) (joined f h xs)
+
+repeated : (n : ℕ) (text : List ℕ) → IsUtf8 text → IsUtf8 (repeat n text)
+repeated zero text h = IsUtf8-nil
+repeated (suc n) text h = IsUtf8-append text (repeat n text) h (repeated n text h)
+
+-- what stands on either side of a line feed
+beside_feed : (a b : List ℕ) → IsUtf8 (a ++ 10 ∷ b) → IsUtf8 a × IsUtf8 b
+beside_feed a b h =
+    let seam = get_or-append_seam a 10 b 0 in
+    let within : length a < length (a ++ 10 ∷ b) = omega (arith, length-append a (10 ∷ b)) in
+    let low : get_or (a ++ 10 ∷ b) (length a) 0 < 128 = omega (arith, seam) in (
+      subst IsUtf8 (take-append_seam a (10 ∷ b)) (IsUtf8-take (a ++ 10 ∷ b) (length a) h (IsCharBoundary-before_ascii (a ++ 10 ∷ b) (length a) within low)),
+      subst IsUtf8 (drop-append-add a (10 ∷ b) 1) (IsUtf8-drop (a ++ 10 ∷ b) (length a + 1) h (IsCharBoundary-after_ascii (a ++ 10 ∷ b) (length a) h within low)),
+    )
+
+-- after the line feeds of UTF-8 UTF-8 is inserted; seen is what stands before the text
+inserted_behind : (inserted : List ℕ) → IsUtf8 inserted → (seen text : List ℕ) → IsUtf8 (seen ++ text) → IsUtf8 (seen ++ with_inserted inserted text)
+inserted_behind inserted i seen [] h = h
+inserted_behind inserted i seen (b ∷ text) h = elim (is_feed b) [
+  | inl e ↦
+      let sides = beside_feed seen text (subst (λ c. IsUtf8 (seen ++ c ∷ text)) e h) in
+      subst (λ z. IsUtf8 (seen ++ z)) (sym (inserted_feed inserted b text e))
+      (IsUtf8-append seen _ sides.0 (IsUtf8-append (10 ∷ []) _ feed (IsUtf8-append inserted _ i (inserted_behind inserted i [] text sides.1))))
+  | inr n ↦
+      subst (λ z. IsUtf8 (seen ++ z)) (sym (inserted_other inserted b text n))
+      (subst IsUtf8 (append_assoc seen (b ∷ []) (with_inserted inserted text))
+      (inserted_behind inserted i (seen ++ b ∷ []) text (subst IsUtf8 (sym (append_assoc seen (b ∷ []) text)) h)))
+]
+
+-- ## Entries
+
+reset : {X : Type 0} (xs : List X) → IsUtf8 (reset_after xs)
+reset [] = IsUtf8-nil
+reset (x ∷ xs) =
+    from_ascii (27 ∷ 91 ∷ 48 ∷ 109 ∷ []) (ascii_more 27 (91 ∷ 48 ∷ 109 ∷ []) (omega arith) (ascii_more 91 (48 ∷ 109 ∷ []) (omega arith)
+    (ascii_more 48 (109 ∷ []) (omega arith) (ascii_more 109 [] (omega arith) no_ascii))))
+
+painted : (style : StyleValue) (text : List ℕ) → IsUtf8 text → IsUtf8 (painted_text style text)
+painted style text h =
+    IsUtf8-append (front_codes style ++ text) (back_codes style) (IsUtf8-append (front_codes style) text (IsUtf8-front_codes style) h) (reset (style_codes style))
+
+-- pieces and a mark
+record AreUtf8 (look : Look) : Type 0 where
+  turning : (last : Bool) → IsUtf8 (turning_piece look.pieces last)
+  passing : (last : Bool) → IsUtf8 (passing_piece look.pieces last)
+  mark : IsUtf8 look.mark
+
+passed : (look : Look) → AreUtf8 look → (x : Shape) (a : Address) → IsUtf8 (passing_text look x a)
+passed look u x a = joined (λ b. passing_piece look.pieces (is_last kids x b)) (λ b. u.passing (is_last kids x b)) (beginnings a)
+
+prefixed : (look : Look) → AreUtf8 look → (x : Shape) (a : Address) → IsUtf8 (prefix_text look x a)
+prefixed look u x [] = IsUtf8-nil
+prefixed look u x (i ∷ rest) = IsUtf8-append (passing_text look x (parent (i ∷ rest))) _ (passed look u x (parent (i ∷ rest))) (u.turning (is_last kids x (i ∷ rest)))
+
+entered : (look : Look) → AreUtf8 look → (x : Shape) → HasUtf8Texts look x → (a : Address) → IsUtf8 (entry_text look x a)
+entered look u x h a =
+    let front = painted look.branch (passing_text look x a ++ look.mark) (IsUtf8-append (passing_text look x a) look.mark (passed look u x a) u.mark) in
+    let own = inserted_behind (painted_text look.branch (passing_text look x a ++ look.mark)) front [] (own_at look x a) (h a) in
+    IsUtf8-append _ (10 ∷ []) (IsUtf8-append (painted_text look.branch (prefix_text look x a)) _ (painted look.branch (prefix_text look x a) (prefixed look u x a)) own) feed
+
+-- ## Drawings
+
+piece : (n p : ℕ) (first middle end : List ℕ) → IsUtf8 first → IsUtf8 middle → IsUtf8 end → IsUtf8 (first ++ repeat n middle ++ repeat p end)
+piece n p first middle end f m e =
+    IsUtf8-append (first ++ repeat n middle) (repeat p end) (IsUtf8-append first (repeat n middle) f (repeated n middle m)) (repeated p end e)
+
+-- the look of a configuration
+of_config : (config : PrintConfig) → AreUtf8 (written_look config)
+of_config config =
+    let c = config.characters in
+    let n = config.indent - (1 + config.padding) in
+    let p = config.padding in
+    let right = IsUtf8-string_bytes c.right in
+    let empty = IsUtf8-string_bytes c.empty in
+    record {
+      turning = λ last. elim last as (λ b. IsUtf8 (turning_piece (written_look config).pieces b)) [
+        | true ↦ piece n p _ _ _ (IsUtf8-string_bytes c.turn_right) right empty
+        | false ↦ piece n p _ _ _ (IsUtf8-string_bytes c.down_and_right) right empty
+      ];
+      passing = λ last. elim last as (λ b. IsUtf8 (passing_piece (written_look config).pieces b)) [
+        | true ↦ piece n p _ _ _ empty empty empty
+        | false ↦ piece n p _ _ _ (IsUtf8-string_bytes c.down) empty empty
+      ];
+      mark = IsUtf8-string_bytes config.continued;
+    }
+
+-- the drawing of an item whose texts are UTF-8
+pub IsUtf8-drawing : (config : PrintConfig) (x : Shape) (depth : ℕ) (bytes : List ℕ) → HasUtf8Texts (written_look config) x → IsDrawing (written_look config) x depth bytes → IsUtf8 bytes
+IsUtf8-drawing config x depth bytes h drawn =
+    subst IsUtf8 (sym drawn.2) (joined (entry_text (written_look config) x) (entered (written_look config) (of_config config) x h) drawn.0)
+
+-- ## Items by their children
+
+abbrev own_in : Look → Address → Option Shape → List ℕ
+own_in look a o = unwrap_or (option_map (λ y. y.own [] look.leaf) (option_and_then (λ c. at kids c a) o)) []
+
+texts_in : {X : Type 0} (look : Look) (shape : X → Shape) (a : Address) → ((x : X) → IsUtf8 (own_at look (shape x) a)) → (o : Option X) → IsUtf8 (own_in look a (option_map shape o))
+texts_in look shape a h None = IsUtf8-nil
+texts_in look shape a h (Some x) = h x
+
+-- items whose own bytes are UTF-8, over children of their own type
+pub texts_of_kids : {X : Type 0} (look : Look) (shape : X → Shape) (below : X → List X) → ((x : X) → IsUtf8 ((shape x).own [] look.leaf)) → ((x : X) → kids (shape x) ≡ map shape (below x))
+    → (x : X) → HasUtf8Texts look (shape x)
+texts_of_kids look shape below own same x [] = own x
+texts_of_kids look shape below own same x (i ∷ a) =
+    subst (λ o. IsUtf8 (own_in look a o)) (sym (ap (λ ks. slice_get ks i) (same x) ∙ slice_get-map shape (below x) i))
+    (texts_in look shape a (λ y. texts_of_kids look shape below own same y a) (slice_get (below x) i))
+
+-- items of a text, as `LentItem` and `MadeItem` make them
+pub texts_of_texts : {X : Type 0} (look : Look) (text : X → List ℕ) (below : X → List X) → ((x : X) → IsUtf8 (text x)) → (x : X) → HasUtf8Texts look (text_shape text below x)
+texts_of_texts look text below h x =
+    texts_of_kids look (text_shape text below) below (λ y. painted look.leaf (text y) (h y)) (λ y. sym (kids_of_unfold (text_own text) below y)) x
+
+-- the texts of a `StringItem` are UTF-8
+pub texts_of_item : (look : Look) (s : StringItem) → HasUtf8Texts look (shape_of_tree (tree_of s))
+texts_of_item look s =
+    let below : StringItem → List StringItem = λ t. (out-StringItem t).children.items in
+    texts_of_kids look (λ t. shape_of_tree (tree_of t)) below
+    (λ t. subst (λ u. IsUtf8 (painted_text look.leaf u.text)) (sym (tree_of_item t)) (painted look.leaf _ (IsUtf8-string_bytes (out-StringItem t).text)))
+    (λ t. sym (kids_of_unfold tree_own tree_kids (tree_of t)) ∙ ap (map shape_of_tree) (kids_of_item t) ∙ sym (map_twice tree_of shape_of_tree (below t)))
+    s
