@@ -3,14 +3,14 @@
 
 use ptree::TreeBuilder;
 use ptree::item::StringItem;
-use ptree::output::{print_tree_with, write_tree_with};
+use ptree::output::{print_tree_to, write_tree_with};
 use ptree::print_config::PrintConfig;
-use ptree::read::read_tree;
+use ptree::read::{ReadError, read_tree_or_line};
 use ptree::style::Counted;
 use std::alloc::{AllocError, Global};
 use std::env;
 use std::fs::{self, File};
-use std::io::{self, ErrorKind, IsTerminal};
+use std::io::{self, ErrorKind};
 
 fn notes(alloc: Global) -> Result<StringItem, AllocError> {
     let mut builder = TreeBuilder::new(alloc, String::from_str(alloc, "notes")?);
@@ -23,9 +23,9 @@ fn notes(alloc: Global) -> Result<StringItem, AllocError> {
 }
 
 // The tree that was drawn under the default configuration, whose pieces are known to be readable.
-fn read(alloc: Global, text: &str) -> Result<Option<StringItem>, AllocError> {
+fn read(alloc: Global, text: &str) -> Result<StringItem, ReadError> {
     let config = PrintConfig::default(alloc)?;
-    read_tree(alloc, text, &config)
+    read_tree_or_line(alloc, text, &config)
 }
 
 fn main(rt: HostRuntime) -> io::Result<()> {
@@ -36,16 +36,14 @@ fn main(rt: HostRuntime) -> io::Result<()> {
     let notes = notes(alloc)?;
     let config = PrintConfig::default(alloc)?;
 
-    let terminal = rt.stdout().is_terminal();
-    let mut out = Counted::new(rt.stdout());
-    print_tree_with(alloc, &notes, &mut out, terminal, &config)?;
+    print_tree_to(alloc, &notes, rt.stdout(), &config)?;
 
     let mut file = Counted::new(File::create(&rt, path.as_str())?);
     write_tree_with(alloc, &notes, &mut file, &config)?;
 
     let text = fs::read_to_string(&rt, path.as_str())?;
-    match read(alloc, text.as_str())? {
-        Some(read) => println!(rt; "read back: {} notes", read.children.len()),
-        None => println!(rt; "{path} holds no drawing"),
+    match read(alloc, text.as_str()) {
+        Ok(read) => println!(rt; "read back: {} notes", read.children.len()),
+        Err(e) => println!(rt; "{path}: {e}"),
     }
 }

@@ -1,5 +1,5 @@
 //! Pieces, and the calls that draw.
-ghost use Rattle.std.specs.Prelude.{false, List, ℕ, IfOk, IfSome, IfNone, IsSome, string_bytes};
+ghost use Rattle.std.specs.Prelude.{Bool, false, List, ℕ, IfOk, IfSome, IfNone, IsSome, string_bytes};
 ghost use Rattle.std.specs.Str.{IsUtf8};
 ghost use Rattle.ptree.specs.Loading.{meant_by};
 ghost use Rattle.ptree.specs.Writing.{HasCause, IsDrawn, LeavesWholeEntries};
@@ -20,6 +20,7 @@ use engine::draw;
 pub use indent::Indent;
 use look::Look;
 use std::alloc::{AllocError, Global};
+use std::io;
 
 // Draws for output of a kind, `terminal` saying whether standard output is a terminal.
 fn draw_for<T, W>(
@@ -100,6 +101,32 @@ where
     ensures cause { HasCause (W.faults out.old) (W.faults out.new) result }
 {
     draw_for(alloc, item, out, OutputKind::Stdout, terminal, config)
+}
+
+/// Draws as [`print_tree_with`] to a writer that can be asked whether it is a terminal, as `rt.stdout()` can, and returns it.
+///
+/// # Errors
+///
+/// Those of [`write_tree_with`].
+pub fn print_tree_to<T, W>(
+    alloc: Global,
+    item: &T,
+    out: W,
+    config: &PrintConfig,
+) -> Result<W, DrawError>
+where
+    T: TreeItem,
+    T::Child: TreeItem<Child = T::Child> + Drop,
+    W: io::Write + io::IsTerminal + Drop,
+    // Exactly the drawing was appended, that of a terminal or that of none, as the writer answered.
+    ensures { IfOk result (λ w. (terminal : Bool)
+        × IsDrawn (look_of config.now OutputKind.Stdout terminal) (T.shape item.now)
+        config.now.depth (W.contents out) (W.contents w) result) }
+{
+    let terminal = out.is_terminal();
+    let mut out = Counted::new(out);
+    print_tree_with(alloc, item, &mut out, terminal, config)?;
+    Ok(out.into_inner())
 }
 
 /// Draws as [`write_tree_with`], under the configuration that sources mean ([`PrintConfig::from_env`]).

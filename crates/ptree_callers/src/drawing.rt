@@ -1,17 +1,19 @@
 //! Callers that draw.
-ghost use Rattle.std.specs.Prelude.{◌≡◌, ℕ, ◌++◌, [], ◌∷◌, List, IsOk};
+ghost use Rattle.std.specs.Prelude.{◌≡◌, ℕ, ◌++◌, [], ◌∷◌, List, IfOk, IsOk};
 ghost use Rattle.ptree.specs.Address.{Address};
 ghost use Rattle.ptree.specs.Drawing.{written_look, own_at, prefix_text, entry_text};
 ghost use Rattle.ptree.specs.Style.{painted_text};
 ghost use Rattle.ptree.specs.Text.{HasNoLineFeed, line_feed};
 ghost use Rattle.ptree.specs.Tree.{tree_of, shape_of_tree};
 ghost use Rattle.ptree.specs.Writing.{HasCause, IsDrawn, IsWritten, LeavesWholeEntries};
+ghost use Rattle.ptree.specs.declared.print_config.StyleWhen.{StyleWhen};
 
 use ptree::item::StringItem;
-use ptree::output::write_tree_with;
+use ptree::output::{print_tree_to, write_tree_with};
 use ptree::print_config::PrintConfig;
 use ptree::style::{DrawError, Sink, put_all};
 use std::alloc::Global;
+use std::io;
 
 /// Draws to any sink. Where memory runs out, the sink holds whole entries: a reader of it can go on at a line.
 pub fn draw_whole_entries<W: Sink>(
@@ -56,4 +58,19 @@ pub fn put_text<W: Sink>(f: &mut W, text: &str) -> Result<(), DrawError>
     ensures none { text.now ≡ [] → IsOk result × (f.new ≡ f.old) }
 {
     put_all(f, text.as_bytes())
+}
+
+/// Prints where output is never styled: the drawing is that of any other writer, whatever this one says of itself.
+pub fn print_unstyled<W: io::Write + io::IsTerminal + Drop>(
+    alloc: Global,
+    tree: &StringItem,
+    out: W,
+    config: &PrintConfig,
+) -> Result<W, DrawError>
+    requires { config.now.styled ≡ StyleWhen.Never }
+    ensures { IfOk result (λ w.
+        IsDrawn (written_look config.now) (shape_of_tree (tree_of tree.now)) config.now.depth
+        (W.contents out) (W.contents w) result) }
+{
+    print_tree_to(alloc, tree, out, config)
 }

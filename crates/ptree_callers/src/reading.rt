@@ -40,9 +40,7 @@ pub fn there_and_back_by_lines(
     ensures tree { IfOk result (λ t. tree_of t ≡ tree_of tree.now) }
     ensures err { IsOkUnless result ReadError.Memory }
 {
-    let Some(drawing) = tree_text(alloc, tree, config)? else {
-        return Err(ReadError::Memory);
-    };
+    let drawing = tree.drawing(alloc, config)?;
     read_tree_or_line(alloc, drawing.as_str(), config)
 }
 

@@ -1,5 +1,5 @@
-//! What several tests of `ptree` use: trees, configurations and drawings, what a test expects, writers and readers that fail, an item that has
-//! no memory for its children, and sources with every field.
+//! What several tests of `ptree` use: trees, configurations and drawings, what a test expects, writers and readers that fail, a writer that
+//! may be a terminal, an item that has no memory for its children, and sources with every field.
 #![tactic(auto)]
 
 pub mod barren;
@@ -7,4 +7,5 @@ pub mod drawings;
 pub mod expect;
 pub mod failing;
 pub mod full;
+pub mod screen;
 pub mod trees;

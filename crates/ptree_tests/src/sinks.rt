@@ -1,10 +1,11 @@
 //! Writers that take little, that fail, and that take everything, and readers.
 
-use ptree::output::write_tree_with;
-use ptree::print_config::UTF_CHARS;
+use ptree::output::{print_tree_to, write_tree_with};
+use ptree::print_config::{PrintConfig, UTF_CHARS};
 use ptree::style::{Counted, DrawError, Feed, put_all};
 use ptree_fixtures::expect::expect_text;
 use ptree_fixtures::failing::{Answer, Breaking, Failing};
+use ptree_fixtures::screen::Screen;
 use ptree_fixtures::trees::{over_leaves, petgraph, plain};
 use std::alloc::Global;
 use std::io::ErrorKind;
@@ -76,6 +77,22 @@ fn an_entry_is_one_put(rt: HostRuntime) -> Result<(), Fail> {
     let mut out = Counted::new(Failing::new(alloc, 119, 119, 119, Answer::Zero)?);
     assert!(rt; write_tree_with(alloc, &petgraph(alloc)?, &mut out, &config).is_ok());
     assert!(rt; out.into_inner().calls == 6);
+    Ok(())
+}
+
+#[test]
+fn a_writer_is_asked_whether_it_is_a_terminal(rt: HostRuntime) -> Result<(), Fail> {
+    let alloc = rt.alloc();
+    let tree = over_leaves(alloc, "r", &["a"])?;
+    let config = PrintConfig::default(alloc)?;
+    let dimmed = "\x1b[2m\x1b[0mr\n\x1b[2m└─ \x1b[0ma\n";
+    for (is_terminal, wanted) in [(false, "r\n└─ a\n"), (true, dimmed)] {
+        let bytes = Vec::new(alloc);
+        let Ok(screen) = print_tree_to(alloc, &tree, Screen { bytes, is_terminal }, &config) else {
+            return Err(Fail::new("nothing is printed"));
+        };
+        expect_text(str::from_utf8(&screen.bytes)?, wanted)?;
+    }
     Ok(())
 }
 

@@ -4,7 +4,7 @@ use super::{Failure, SHEET, Trial, begin_child, drawn, end, graph_drawn, read, w
 use ptree::TreeBuilder;
 use ptree::graph::{EdgeError, Graph, NodeIndex};
 use ptree::item::StringItem;
-use ptree::output::tree_bytes;
+use ptree::output::{print_tree_to, tree_bytes};
 use ptree::presets::Preset;
 use ptree::print_config::{
     ASCII_CHARS_PLUS, ASCII_CHARS_TICK, FileSource, PrintConfig, Sources, StyleWhen, UTF_CHARS,
@@ -17,6 +17,7 @@ use ptree_callers::own_types::{
     Folder, Halved, Volume, drawing_of_folder, drawing_of_halved, drawing_of_volume,
 };
 use ptree_fixtures::drawings::PETGRAPH;
+use ptree_fixtures::screen::Screen;
 use ptree_fixtures::trees::{leaf, over, over_leaves, petgraph, plain};
 use std::alloc::{AllocError, Global};
 
@@ -49,6 +50,15 @@ fn document_drawn(alloc: Global, text: &str) -> Result<Vec<u8>, Failure> {
     let mut out = Counted::new(Vec::with_capacity(alloc, SHEET)?);
     draw_document(alloc, DocFormat::Json, text, "j", &nothing, false, &mut out)?;
     Ok(out.into_inner())
+}
+
+// What is printed of a tree where standard output is no terminal.
+fn printed(alloc: Global, tree: &StringItem, config: &PrintConfig) -> Result<Vec<u8>, Failure> {
+    let screen = Screen {
+        bytes: Vec::with_capacity(alloc, SHEET)?,
+        is_terminal: false,
+    };
+    Ok(print_tree_to(alloc, tree, screen, config)?.bytes)
 }
 
 // A root over a copy of this leaf and another one.
@@ -205,7 +215,9 @@ impl Trial {
         let bytes = self.retried(|| Ok(tree_bytes(alloc, &tree, &findmnt)?))?;
         expect(bytes.as_slice() == wanted.as_bytes())?;
         let text = self.retried(|| Ok(tree.drawing(alloc, &findmnt)?))?;
-        expect(text.as_str() == wanted)
+        expect(text.as_str() == wanted)?;
+        let printed = self.retried(|| printed(alloc, &tree, &findmnt))?;
+        expect(printed.as_slice() == wanted.as_bytes())
     }
 
     // Items of other types: lent ones, made ones, and a root over lent ones.

@@ -6,8 +6,7 @@ use Rattle.ptree_callers.proofs.reading.there_and_back_by_lines.Goals as goal
 
 form : (c : goal.After-drop-drawing) → IsDrawnForm (written_look c.args.config.now) c.args.config.now.depth c.as_str.result.now (tree_of c.args.tree.now)
 form c = record {
-  drawn = subst (λ (bytes : List ℕ). IsDrawing (written_look c.args.config.now) (shape_of_tree (tree_of c.args.tree.now)) c.args.config.now.depth bytes) (sym c.as_str.ensures.value)
-      (rw (c.in-Some.is) at c.in_ok-drawing.ensures.some);
+  drawn = subst (λ (bytes : List ℕ). IsDrawing (written_look c.args.config.now) (shape_of_tree (tree_of c.args.tree.now)) c.args.config.now.depth bytes) (sym c.as_str.ensures.value) c.in_ok-drawing.ensures;
   within = c.requires.within;
 }
 
