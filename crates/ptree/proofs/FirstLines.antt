@@ -9,7 +9,8 @@ use Rattle.ptree.specs.Continuation.{HasContinuation, IsFirstWrongLine, first_li
 use Rattle.ptree.specs.Drawing.{Look}
 use Rattle.ptree.specs.Readable.{IsReadableWith}
 use Rattle.ptree.specs.Text.{HasNoLineFeed}
-use Rattle.ptree.proofs.Continuations.{goes_on_before, closed_goes_on, goes_on_closed}
+use Rattle.ptree.proofs.ClosedFronts.{goes_on_closed}
+use Rattle.ptree.proofs.Continuations.{goes_on_before, closed_goes_on}
 use Rattle.ptree.proofs.Cuts.{Ends, Whole}
 use Rattle.ptree.proofs.Inserted.{is_feed}
 

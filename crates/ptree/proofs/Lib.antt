@@ -51,7 +51,9 @@ pub mod SpelledForms
 pub mod Readings
 pub mod LaterLines
 pub mod Cuts
+pub mod LineTrees
 pub mod Continuations
+pub mod ClosedFronts
 pub mod OpenFlags
 pub mod ClosedTexts
 pub mod FirstLines
