@@ -274,23 +274,35 @@ impl Style {
         if self.is_plain() {
             put_all(f, input.as_bytes())
         } else {
-            self.write_with_codes(f, input)
+            let mut error = DrawError::Memory;
+            match self.write_with_codes(f, input, &mut error) {
+                Ok(()) => Ok(()),
+                Err(_) => Err(error),
+            }
         }
     }
 
-    // Writes the painted text of any style. It stands apart, since each call pays for the room of the codes.
+    // Writes the painted text of any style, and leaves in `error` what the sink's failure was. It stands apart, since each call pays
+    // for the room of the codes.
     #[inline(never)]
-    fn write_with_codes<W: Sink>(&self, f: &mut W, input: &str) -> Result<(), DrawError>
+    fn write_with_codes<W: Sink>(
+        &self,
+        f: &mut W,
+        input: &str,
+        error: &mut DrawError,
+    ) -> Result<(), Stop>
+        requires { error.old ≡ Memory }
         ensures bytes { IsWritten (W.contents f.old) (W.contents f.new) result
             (painted_text (style_value self.now) input.now) }
-        ensures cause { HasCause (W.faults f.old) (W.faults f.new) result }
-        ensures memory { TakesNoMemory result }
+        ensures cause { HasErrorCause (W.faults f.old) (W.faults f.new) error.new }
+        ensures error { OnOk result (error.new ≡ Memory) }
+        ensures memory { OnErr result (error.new ≢ Memory) }
     {
         let mut codes = Codes::none();
         codes.gather(self);
-        put_codes(f, codes.as_bytes())?;
-        put_all(f, input.as_bytes())?;
-        put_all(f, codes.reset().as_bytes())
+        put_codes(f, codes.as_bytes(), error)?;
+        put_or_stop(f, input.as_bytes(), error)?;
+        put_or_stop(f, codes.reset().as_bytes(), error)
     }
 
     /// A style that equals this one.
@@ -516,16 +528,18 @@ impl<T: io::Read> Feed for Counted<T> {
     }
 }
 
-// Writes codes. Most often there is one, a flag's: four bytes are copied at once where their number is known.
+// Writes codes, as `put_or_stop` does. Most often there is one, a flag's: four bytes are copied at once where their number is known.
 #[inline(always)]
-fn put_codes<W: Sink>(f: &mut W, codes: &[u8]) -> Result<(), DrawError>
+fn put_codes<W: Sink>(f: &mut W, codes: &[u8], error: &mut DrawError) -> Result<(), Stop>
+    requires { error.old ≡ Memory }
     ensures bytes { IsWritten (W.contents f.old) (W.contents f.new) result codes.now }
-    ensures cause { HasCause (W.faults f.old) (W.faults f.new) result }
-    ensures memory { TakesNoMemory result }
+    ensures cause { HasErrorCause (W.faults f.old) (W.faults f.new) error.new }
+    ensures error { OnOk result (error.new ≡ Memory) }
+    ensures memory { OnErr result (error.new ≢ Memory) }
 {
     match codes {
-        [a, b, c, d] => put_all(f, &[*a, *b, *c, *d]),
-        _ => put_all(f, codes),
+        [a, b, c, d] => put_or_stop(f, &[*a, *b, *c, *d], error),
+        _ => put_or_stop(f, codes, error),
     }
 }
 
@@ -552,7 +566,7 @@ pub fn put_all<W: Sink>(f: &mut W, bytes: &[u8]) -> Result<(), DrawError>
     Ok(())
 }
 
-/// The end of a drawing at an error, which stands elsewhere. A result that holds none is small.
+/// The end of writing at an error, which stands elsewhere. A result that holds none is small.
 #[derive(Drop)]
 pub(crate) struct Stop;
 

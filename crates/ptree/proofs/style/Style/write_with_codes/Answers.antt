@@ -7,12 +7,12 @@ pub returns-in_err-put_codes-clause-bytes : goal.returns-in_err-put_codes-clause
 returns-in_err-put_codes-clause-bytes g c =
     written_err _ _ _ _ _ c.from_residual.ensures.1 (codes_part _ _ _ _ _ _ (c.as_bytes.ensures ∙ c.gather.ensures.front) c.in_err-put_codes.ensures.bytes)
 
-pub returns-in_err-put_all-clause-bytes : goal.returns-in_err-put_all-clause-bytes
-returns-in_err-put_all-clause-bytes g c =
-    written_err _ _ _ _ _ c.from_residual-in_err-put_all.ensures.1
-    (text_part _ _ _ _ _ _ _ _ (c.as_bytes.ensures ∙ c.gather.ensures.front) c.as_bytes-2.ensures.value c.in_ok-put_codes.ensures.bytes c.in_err-put_all.ensures.bytes)
+pub returns-in_err-put_or_stop-clause-bytes : goal.returns-in_err-put_or_stop-clause-bytes
+returns-in_err-put_or_stop-clause-bytes g c =
+    written_err _ _ _ _ _ c.from_residual-in_err-put_or_stop.ensures.1
+    (text_part _ _ _ _ _ _ _ _ (c.as_bytes.ensures ∙ c.gather.ensures.front) c.as_bytes-2.ensures.value c.in_ok-put_codes.ensures.bytes c.in_err-put_or_stop.ensures.bytes)
 
 pub returns-clause-bytes : goal.returns-clause-bytes
 returns-clause-bytes g c =
     all_written _ _ _ _ _ _ _ _ _ _ _ (c.as_bytes.ensures ∙ c.gather.ensures.front) c.as_bytes-2.ensures.value (c.as_bytes-3.ensures.value ∙ c.reset.ensures ∙ c.gather.ensures.back)
-    c.in_ok-put_codes.ensures.bytes c.in_ok-put_all.ensures.bytes c.put_all-2.ensures.bytes
+    c.in_ok-put_codes.ensures.bytes c.in_ok-put_or_stop.ensures.bytes c.put_or_stop-2.ensures.bytes
