@@ -10,6 +10,7 @@ use ptree::print_config::{
     UTF_CHARS_DOUBLE, first_fault, load, syntax_line,
 };
 use ptree::style::{Color, Counted, DrawError, Sink, Style};
+use ptree_fixtures::expect::expect_text;
 use ptree_fixtures::full::{FULL_JSON, FULL_TOML, FULL_VARIABLES};
 use std::alloc::{AllocError, Global};
 use std::str;
@@ -43,6 +44,27 @@ fn sources(alloc: Global, file: File, variables: &[(&str, &str)]) -> Result<Sour
     })
 }
 
+// What calls make of sources.
+#[derive(Debug, Drop)]
+struct Outcome {
+    fault: Option<Fault>,
+    loaded: Option<PrintConfig>,
+    meant: PrintConfig,
+}
+
+fn outcome_of(
+    alloc: Global,
+    file: File,
+    variables: &[(&str, &str)],
+) -> Result<Outcome, AllocError> {
+    let sources = sources(alloc, file, variables)?;
+    Ok(Outcome {
+        fault: first_fault(alloc, &sources)?,
+        loaded: load(alloc, &sources)?,
+        meant: PrintConfig::from_env(alloc, &sources)?,
+    })
+}
+
 // That these sources have no fault, and give this configuration.
 fn gives(
     alloc: Global,
@@ -50,18 +72,15 @@ fn gives(
     variables: &[(&str, &str)],
     config: &PrintConfig,
 ) -> Result<(), Fail> {
-    let sources = sources(alloc, file, variables)?;
-    let fault = first_fault(alloc, &sources)?;
-    let loaded = load(alloc, &sources)?;
-    let meant = PrintConfig::from_env(alloc, &sources)?;
-    let is_loaded = match &loaded {
+    let found = outcome_of(alloc, file, variables)?;
+    let is_loaded = match &found.loaded {
         Some(loaded) => *loaded == *config,
         None => false,
     };
-    if fault.is_none() && is_loaded && meant == *config {
+    if found.fault.is_none() && is_loaded && found.meant == *config {
         return Ok(());
     }
-    Err(Fail::new(format_args!("{file:?} {variables:?} give {fault:?}, {loaded:?} and {meant:?}")))
+    Err(Fail::new(format_args!("{file:?} {variables:?}: {found:?}")))
 }
 
 // That the first fault in these sources is this one, and that they give the default.
@@ -71,14 +90,12 @@ fn is_faulty(
     variables: &[(&str, &str)],
     fault: Fault,
 ) -> Result<(), Fail> {
-    let sources = sources(alloc, file, variables)?;
-    let found = first_fault(alloc, &sources)?;
-    let loaded = load(alloc, &sources)?;
-    let meant = PrintConfig::from_env(alloc, &sources)?;
-    if found == Some(fault) && loaded.is_none() && meant == PrintConfig::default(alloc)? {
+    let found = outcome_of(alloc, file, variables)?;
+    let default = PrintConfig::default(alloc)?;
+    if found.fault == Some(fault) && found.loaded.is_none() && found.meant == default {
         return Ok(());
     }
-    Err(Fail::new(format_args!("{file:?} {variables:?} give {found:?}, {loaded:?} and {meant:?}")))
+    Err(Fail::new(format_args!("{file:?} {variables:?}: {found:?}")))
 }
 
 fn named(alloc: Global, name: &str) -> Result<Option<Color>, AllocError> {
@@ -125,14 +142,23 @@ fn the_last_variable_wins_over_the_file(rt: HostRuntime) -> Result<(), Fail> {
         file,
         &[("PTREE_DEPTH", "4"), ("ptree_depth", "5")],
         &config,
-    )?;
-    let five = down_to(alloc, 5)?;
+    )
+}
+
+#[test]
+fn a_variable_wins_over_its_key(rt: HostRuntime) -> Result<(), Fail> {
+    let alloc = rt.alloc();
     let file = File::Json("{\"depth\":7}");
-    gives(alloc, file, &[("Ptree_Depth", "5")], &five)?;
+    gives(alloc, file, &[("Ptree_Depth", "5")], &down_to(alloc, 5)?)
+}
+
+#[test]
+fn the_last_variable_wins_over_one_with_a_fault(rt: HostRuntime) -> Result<(), Fail> {
+    let alloc = rt.alloc();
     let fault = Fault::Variable(Field::Depth);
     is_faulty(alloc, File::Absent, &[("PTREE_DEPTH", "4x")], fault)?;
     let (good, bad) = (("PTREE_DEPTH", "5"), ("PTREE_DEPTH", "x"));
-    gives(alloc, File::Absent, &[bad, good], &five)?;
+    gives(alloc, File::Absent, &[bad, good], &down_to(alloc, 5)?)?;
     is_faulty(alloc, File::Absent, &[good, bad], fault)
 }
 
@@ -236,30 +262,45 @@ fn characters_by_name_and_by_table(rt: HostRuntime) -> Result<(), Fail> {
     Ok(())
 }
 
+// A file with a set of characters by its name, and one with single characters.
+const BOLD: File = File::Toml("characters = \"utf-bold\"");
+
+const SINGLE: File = File::Json("{\"characters\":{\"right\":\"~\",\"down\":\"!\",\"x\":1}}");
+
 #[test]
 fn single_characters_stand_over_a_set(rt: HostRuntime) -> Result<(), Fail> {
     let alloc = rt.alloc();
-    let bold = File::Toml("characters = \"utf-bold\"");
-    let table = File::Json("{\"characters\":{\"right\":\"~\",\"down\":\"!\",\"x\":1}}");
     let mut config = drawn_with(alloc, ASCII_CHARS_TICK)?;
     config.characters.right = String::from_str(alloc, "=")?;
     let variables = [
         ("PTREE_CHARACTERS", "ASCII"),
         ("PTREE_CHARACTERS_RIGHT", "="),
     ];
-    gives(alloc, bold, &variables, &config)?;
-    gives(alloc, table, &variables, &config)?;
+    gives(alloc, BOLD, &variables, &config)?;
+    gives(alloc, SINGLE, &variables, &config)
+}
 
+#[test]
+fn a_single_character_stands_over_those_of_a_file(rt: HostRuntime) -> Result<(), Fail> {
+    let alloc = rt.alloc();
     let mut config = PrintConfig::default(alloc)?;
     config.characters.right = String::from_str(alloc, "=")?;
     config.characters.down = String::from_str(alloc, "!")?;
-    gives(alloc, table, &[("PTREE_CHARACTERS_RIGHT", "=")], &config)?;
+    gives(alloc, SINGLE, &[("PTREE_CHARACTERS_RIGHT", "=")], &config)
+}
 
+#[test]
+fn a_single_character_may_be_empty(rt: HostRuntime) -> Result<(), Fail> {
+    let alloc = rt.alloc();
     let mut config = drawn_with(alloc, UTF_CHARS_BOLD)?;
     config.characters.empty = String::new(alloc);
-    gives(alloc, bold, &[("ptree_characters_empty", "")], &config)?;
+    gives(alloc, BOLD, &[("ptree_characters_empty", "")], &config)
+}
+
+#[test]
+fn a_single_character_is_a_text(rt: HostRuntime) -> Result<(), Fail> {
     is_faulty(
-        alloc,
+        rt.alloc(),
         File::Json("{\"characters\":{\"turn_right\":1}}"),
         &[("PTREE_CHARACTERS", "utf")],
         Fault::Key(Field::TurnRight),
@@ -267,14 +308,23 @@ fn single_characters_stand_over_a_set(rt: HostRuntime) -> Result<(), Fail> {
 }
 
 #[test]
-fn a_file_is_absent_unreadable_or_faulty(rt: HostRuntime) -> Result<(), Fail> {
+fn a_file_is_absent_or_unreadable(rt: HostRuntime) -> Result<(), Fail> {
     let alloc = rt.alloc();
-    let default = PrintConfig::default(alloc)?;
     let depth = [("PTREE_DEPTH", "4")];
     gives(alloc, File::Absent, &depth, &down_to(alloc, 4)?)?;
-    is_faulty(alloc, File::Unreadable, &depth, Fault::Unreadable)?;
+    is_faulty(alloc, File::Unreadable, &depth, Fault::Unreadable)
+}
+
+#[test]
+fn a_file_may_be_absent_or_empty(rt: HostRuntime) -> Result<(), Fail> {
+    let alloc = rt.alloc();
+    let default = PrintConfig::default(alloc)?;
     gives(alloc, File::Absent, &[], &default)?;
-    gives(alloc, File::Toml(""), &[], &default)?;
+    gives(alloc, File::Toml(""), &[], &default)
+}
+
+#[test]
+fn a_file_is_no_document(rt: HostRuntime) -> Result<(), Fail> {
     let cases = [
         File::Json(""),
         File::Json("[]"),
@@ -287,7 +337,7 @@ fn a_file_is_absent_unreadable_or_faulty(rt: HostRuntime) -> Result<(), Fail> {
         File::Json("{\"x\":1e999}"),
     ];
     for file in cases {
-        is_faulty(alloc, file, &depth, Fault::Syntax)?;
+        is_faulty(rt.alloc(), file, &[("PTREE_DEPTH", "4")], Fault::Syntax)?;
     }
     Ok(())
 }
@@ -343,6 +393,13 @@ fn single_variables(rt: HostRuntime) -> Result<(), Fail> {
     for (name, value, config) in cases {
         gives(alloc, File::Absent, &[(name, value)], config)?;
     }
+    Ok(())
+}
+
+#[test]
+fn variables_of_other_names_say_nothing(rt: HostRuntime) -> Result<(), Fail> {
+    let alloc = rt.alloc();
+    let default = PrintConfig::default(alloc)?;
     for name in [
         "PTREE_CONFIG",
         "PTREE_\u{17f}TYLED",
@@ -351,6 +408,11 @@ fn single_variables(rt: HostRuntime) -> Result<(), Fail> {
     ] {
         gives(alloc, File::Absent, &[(name, "x")], &default)?;
     }
+    Ok(())
+}
+
+#[test]
+fn single_variables_with_a_fault(rt: HostRuntime) -> Result<(), Fail> {
     let cases = [
         ("PTREE_INDENT", "", Field::Indent),
         ("PTREE_INDENT", "+1", Field::Indent),
@@ -376,7 +438,7 @@ fn single_variables(rt: HostRuntime) -> Result<(), Fail> {
     ];
     for (name, value, field) in cases {
         is_faulty(
-            alloc,
+            rt.alloc(),
             File::Absent,
             &[(name, value)],
             Fault::Variable(field),
@@ -432,6 +494,12 @@ fn words_of_variables(rt: HostRuntime) -> Result<(), Fail> {
             &config,
         )?;
     }
+    Ok(())
+}
+
+#[test]
+fn words_of_when_output_is_styled(rt: HostRuntime) -> Result<(), Fail> {
+    let alloc = rt.alloc();
     let cases = [
         ("NEVER", StyleWhen::Never),
         ("always", StyleWhen::Always),
@@ -442,6 +510,12 @@ fn words_of_variables(rt: HostRuntime) -> Result<(), Fail> {
         config.styled = styled;
         gives(alloc, File::Absent, &[("PTREE_STYLED", value)], &config)?;
     }
+    Ok(())
+}
+
+#[test]
+fn a_mark_is_any_text(rt: HostRuntime) -> Result<(), Fail> {
+    let alloc = rt.alloc();
     let mut config = PrintConfig::default(alloc)?;
     config.continued = String::from_str(alloc, " +\n")?;
     gives(alloc, File::Absent, &[("PTREE_CONTINUED", " +\n")], &config)
@@ -472,6 +546,11 @@ fn single_files_in_json(rt: HostRuntime) -> Result<(), Fail> {
     for (text, config) in cases {
         gives(alloc, File::Json(text), &[], config)?;
     }
+    Ok(())
+}
+
+#[test]
+fn single_files_in_json_with_a_fault(rt: HostRuntime) -> Result<(), Fail> {
     let cases = [
         ("{\"depth\":-1}", Field::Depth),
         ("{\"depth\":4294967296}", Field::Depth),
@@ -512,22 +591,33 @@ fn single_files_in_json(rt: HostRuntime) -> Result<(), Fail> {
         ),
     ];
     for (text, field) in cases {
-        is_faulty(alloc, File::Json(text), &[], Fault::Key(field))?;
+        is_faulty(rt.alloc(), File::Json(text), &[], Fault::Key(field))?;
     }
-    let cases = [
-        ("{\"leaf\":null}", Fault::Table(Part::Leaf)),
-        ("{\"branch\":[]}", Fault::Table(Part::Branch)),
-    ];
-    for (text, fault) in cases {
-        is_faulty(alloc, File::Json(text), &[], fault)?;
-    }
-    let four = [("PTREE_DEPTH", "4")];
+    Ok(())
+}
+
+#[test]
+fn tables_in_json_with_a_fault(rt: HostRuntime) -> Result<(), Fail> {
+    let alloc = rt.alloc();
+    let leaf = File::Json("{\"leaf\":null}");
+    is_faulty(alloc, leaf, &[], Fault::Table(Part::Leaf))?;
+    let branch = File::Json("{\"branch\":[]}");
+    is_faulty(alloc, branch, &[], Fault::Table(Part::Branch))
+}
+
+#[test]
+fn a_variable_hides_no_fault_of_its_key(rt: HostRuntime) -> Result<(), Fail> {
     is_faulty(
-        alloc,
+        rt.alloc(),
         File::Json("{\"depth\":\"4\"}"),
-        &four,
+        &[("PTREE_DEPTH", "4")],
         Fault::Key(Field::Depth),
-    )?;
+    )
+}
+
+#[test]
+fn colors_of_files_in_json(rt: HostRuntime) -> Result<(), Fail> {
+    let alloc = rt.alloc();
     let cases = [
         ("{\"leaf\":{\"foreground\":\"Red\"}}", named(alloc, "Red")?),
         ("{\"leaf\":{\"foreground\":\"7\"}}", named(alloc, "7")?),
@@ -561,6 +651,11 @@ fn single_files_in_toml(rt: HostRuntime) -> Result<(), Fail> {
     for (text, config) in cases {
         gives(alloc, File::Toml(text), &[], config)?;
     }
+    Ok(())
+}
+
+#[test]
+fn single_files_in_toml_with_a_fault(rt: HostRuntime) -> Result<(), Fail> {
     let cases = [
         ("depth = -1", Fault::Key(Field::Depth)),
         ("depth = 4294967296", Fault::Key(Field::Depth)),
@@ -589,7 +684,7 @@ fn single_files_in_toml(rt: HostRuntime) -> Result<(), Fail> {
         ),
     ];
     for (text, fault) in cases {
-        is_faulty(alloc, File::Toml(text), &[], fault)?;
+        is_faulty(rt.alloc(), File::Toml(text), &[], fault)?;
     }
     Ok(())
 }
@@ -615,8 +710,12 @@ fn the_first_fault_is_named(rt: HostRuntime) -> Result<(), Fail> {
     )?;
     let file = File::Json("{\"leaf\":{\"bold\":1}}");
     let bold = Field::Paint(Part::Leaf, StyleField::Bold);
-    is_faulty(alloc, file, &[], Fault::Key(bold))?;
+    is_faulty(alloc, file, &[], Fault::Key(bold))
+}
 
+#[test]
+fn texts_of_faults(rt: HostRuntime) -> Result<(), Fail> {
+    let alloc = rt.alloc();
     let texts = [
         (Fault::Unreadable, "the file couldn't be read"),
         (Fault::Syntax, "the file is no document of its format"),
@@ -641,7 +740,7 @@ fn the_first_fault_is_named(rt: HostRuntime) -> Result<(), Fail> {
             "the file's key characters.turn_right isn't a text",
         ),
         (
-            Fault::Key(bold),
+            Fault::Key(Field::Paint(Part::Leaf, StyleField::Bold)),
             "the file's key leaf.bold isn't true or false",
         ),
         (
@@ -765,37 +864,62 @@ impl TreeItem for MyTree {
     }
 }
 
+// That this is what `print_tree` prints of an item under the default configuration.
+fn is_printed<T>(alloc: Global, item: &T, text: &str) -> Result<(), Fail>
+where
+    T: TreeItem,
+    T::Child: TreeItem<Child = T::Child> + Drop,
+{
+    let mut out = Counted::new(Vec::new(alloc));
+    print_tree(
+        alloc,
+        item,
+        &mut out,
+        false,
+        &sources(alloc, File::Absent, &[])?,
+    )?;
+    expect_text(str::from_utf8(&out.into_inner())?, text)
+}
+
 // The examples of the library's text.
 #[test]
 fn a_tree_is_printed(rt: HostRuntime) -> Result<(), Fail> {
     let alloc = rt.alloc();
-    let none = sources(alloc, File::Absent, &[])?;
     let mut builder = TreeBuilder::new(alloc, String::from_str(alloc, "tree")?);
     builder
         .begin_child(String::from_str(alloc, "branch")?)?
         .add_empty_child(String::from_str(alloc, "leaf")?)?
         .end_child();
     builder.add_empty_child(String::from_str(alloc, "empty branch")?)?;
-    let tree = builder.build()?;
-    let mut out = Counted::new(Vec::new(alloc));
-    print_tree(alloc, &tree, &mut out, false, &none)?;
-    assert_eq!(rt;
-        str::from_utf8(&out.into_inner())?,
-        "tree\n├─ branch\n│  └─ leaf\n└─ empty branch\n"
-    );
+    let text = "tree\n├─ branch\n│  └─ leaf\n└─ empty branch\n";
+    is_printed(alloc, &builder.build()?, text)
+}
 
+// tree [empty branch]
+fn over_an_empty_branch(alloc: Global) -> Result<StringItem, AllocError> {
     let mut builder = TreeBuilder::new(alloc, String::from_str(alloc, "tree")?);
     builder.add_empty_child(String::from_str(alloc, "empty branch")?)?;
-    let tree = builder.build()?;
-    assert_eq!(rt;
-        str::from_utf8(&written(alloc, &tree, &none)?)?,
-        "tree\n└─ empty branch\n"
-    );
+    builder.build()
+}
 
-    let mut out = Counted::new(Vec::new(alloc));
-    print_tree(alloc, &MyTree, &mut out, false, &none)?;
-    assert_eq!(rt; str::from_utf8(&out.into_inner())?, "My custom tree\n");
+#[test]
+fn a_tree_is_written(rt: HostRuntime) -> Result<(), Fail> {
+    let alloc = rt.alloc();
+    let tree = over_an_empty_branch(alloc)?;
+    let none = sources(alloc, File::Absent, &[])?;
+    let bytes = written(alloc, &tree, &none)?;
+    expect_text(str::from_utf8(&bytes)?, "tree\n└─ empty branch\n")
+}
 
+#[test]
+fn an_item_of_another_type_is_printed(rt: HostRuntime) -> Result<(), Fail> {
+    is_printed(rt.alloc(), &MyTree, "My custom tree\n")
+}
+
+#[test]
+fn a_tree_is_printed_in_styles(rt: HostRuntime) -> Result<(), Fail> {
+    let alloc = rt.alloc();
+    let tree = over_an_empty_branch(alloc)?;
     let mut config = drawn_with(alloc, UTF_CHARS_BOLD)?;
     config.indent = 4;
     config.branch.foreground = Some(Color::Red);
@@ -803,11 +927,10 @@ fn a_tree_is_printed(rt: HostRuntime) -> Result<(), Fail> {
     config.leaf.bold = true;
     let mut out = Counted::new(Vec::new(alloc));
     print_tree_with(alloc, &tree, &mut out, true, &config)?;
-    assert_eq!(rt;
+    expect_text(
         str::from_utf8(&out.into_inner())?,
-        "\x1b[2m\x1b[31m\x1b[43m\x1b[0m\x1b[1mtree\x1b[0m\n\x1b[2m\x1b[31m\x1b[43m┗━━ \x1b[0m\x1b[1mempty branch\x1b[0m\n"
-    );
-    Ok(())
+        "\x1b[2m\x1b[31m\x1b[43m\x1b[0m\x1b[1mtree\x1b[0m\n\x1b[2m\x1b[31m\x1b[43m┗━━ \x1b[0m\x1b[1mempty branch\x1b[0m\n",
+    )
 }
 
 #[test]
@@ -830,9 +953,8 @@ fn a_graph_is_printed(rt: HostRuntime) -> Result<(), Fail> {
     Ok(())
 }
 
-#[test]
-fn every_key_and_every_variable(rt: HostRuntime) -> Result<(), Fail> {
-    let alloc = rt.alloc();
+// What the file with every key gives.
+fn full(alloc: Global) -> Result<PrintConfig, AllocError> {
     let mut config = drawn_with(alloc, UTF_CHARS_BOLD)?;
     config.depth = 4;
     config.indent = 4;
@@ -852,8 +974,21 @@ fn every_key_and_every_variable(rt: HostRuntime) -> Result<(), Fail> {
         hidden: true,
         strikethrough: true,
     };
+    Ok(config)
+}
+
+#[test]
+fn every_key(rt: HostRuntime) -> Result<(), Fail> {
+    let alloc = rt.alloc();
+    let config = full(alloc)?;
     gives(alloc, File::Toml(FULL_TOML), &[], &config)?;
-    gives(alloc, File::Json(FULL_JSON), &[], &config)?;
+    gives(alloc, File::Json(FULL_JSON), &[], &config)
+}
+
+#[test]
+fn every_variable(rt: HostRuntime) -> Result<(), Fail> {
+    let alloc = rt.alloc();
+    let mut config = full(alloc)?;
     config.leaf.foreground = named(alloc, "#4682b4")?;
     gives(alloc, File::Absent, &FULL_VARIABLES, &config)?;
     let other = File::Toml("depth = 9\ncharacters = 'utf'\nbranch.bold = true\ncontinued = ''");

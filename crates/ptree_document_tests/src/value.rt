@@ -49,22 +49,38 @@ fn toml_value_output(rt: HostRuntime) -> Result<(), Fail> {
     Ok(())
 }
 
+// Some of a list.
+fn hidden(alloc: Global) -> Result<Value, AllocError> {
+    let list = Value::Seq(vec![in alloc; Value::Bool(true)]?);
+    Ok(Value::Option(Some(Box::new(alloc, list)?)))
+}
+
+// That a label and its value are drawn as this text under the default configuration.
+fn assert_pair(
+    rt: &impl Abort,
+    alloc: Global,
+    label: &str,
+    value: Value,
+    text: &str,
+) -> Result<(), AllocError> {
+    let pair = (String::from_str(alloc, label)?, value);
+    assert_drawn(rt, alloc, &pair, &PrintConfig::default(alloc)?, text);
+    Ok(())
+}
+
 #[test]
 fn draws_pairs(rt: HostRuntime) -> Result<(), Fail> {
     let alloc = rt.alloc();
+    assert_pair(&rt, alloc, "o", hidden(alloc)?, "o\n")?;
+    assert_pair(&rt, alloc, "", hidden(alloc)?, "\n")?;
+    assert_pair(&rt, alloc, "k", Value::I64(5), "k\n")?;
+    Ok(())
+}
+
+#[test]
+fn draws_a_map_of_keys_of_any_kind(rt: HostRuntime) -> Result<(), Fail> {
+    let alloc = rt.alloc();
     let config = PrintConfig::default(alloc)?;
-    let list = Value::Seq(vec![in alloc; Value::Bool(true)]?);
-    let hidden = Value::Option(Some(Box::new(alloc, list)?));
-    assert_drawn(
-        &rt,
-        alloc,
-        &(String::from_str(alloc, "o")?, hidden.clone()?),
-        &config,
-        "o\n",
-    );
-    assert_drawn(&rt, alloc, &(String::new(alloc), hidden), &config, "\n");
-    let five = (String::from_str(alloc, "k")?, Value::I64(5));
-    assert_drawn(&rt, alloc, &five, &config, "k\n");
     let map = Value::Map(vec![in alloc;
         (Value::I8(-1), Value::Bytes(vec![in alloc; 1]?)),
         (Value::Bool(true), Value::Char('x')),
