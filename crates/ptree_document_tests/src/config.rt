@@ -3,15 +3,16 @@
 use ptree::TreeBuilder;
 use ptree::graph::{Graph, print_graph};
 use ptree::item::{Children, Shaped, StringItem, TreeItem};
-use ptree::output::{print_tree, print_tree_with, write_tree};
+use ptree::output::{print_tree, write_tree};
 use ptree::print_config::{
     ASCII_CHARS_PLUS, ASCII_CHARS_TICK, Fault, Field, FileSource, IndentChars, Part, PrintConfig,
     Sources, StaticIndentChars, StyleField, StyleWhen, UTF_CHARS, UTF_CHARS_BOLD, UTF_CHARS_DASHED,
     UTF_CHARS_DOUBLE, first_fault, load, syntax_line,
 };
 use ptree::style::{Color, Counted, DrawError, Sink, Style};
-use ptree_fixtures::expect::expect_text;
+use ptree_fixtures::expect::{expect_printed, expect_text};
 use ptree_fixtures::full::{FULL_JSON, FULL_TOML, FULL_VARIABLES};
+use ptree_fixtures::trees::over_leaves;
 use std::alloc::{AllocError, Global};
 use std::str;
 use std::test::Fail;
@@ -44,7 +45,7 @@ fn sources(alloc: Global, file: File, variables: &[(&str, &str)]) -> Result<Sour
     })
 }
 
-// What calls make of sources.
+// What the three calls that load make of sources.
 #[derive(Debug, Drop)]
 struct Outcome {
     fault: Option<Fault>,
@@ -308,7 +309,7 @@ fn a_single_character_is_a_text(rt: HostRuntime) -> Result<(), Fail> {
 }
 
 #[test]
-fn a_file_is_absent_or_unreadable(rt: HostRuntime) -> Result<(), Fail> {
+fn an_unreadable_file_is_a_fault_and_an_absent_one_is_none(rt: HostRuntime) -> Result<(), Fail> {
     let alloc = rt.alloc();
     let depth = [("PTREE_DEPTH", "4")];
     gives(alloc, File::Absent, &depth, &down_to(alloc, 4)?)?;
@@ -316,7 +317,7 @@ fn a_file_is_absent_or_unreadable(rt: HostRuntime) -> Result<(), Fail> {
 }
 
 #[test]
-fn a_file_may_be_absent_or_empty(rt: HostRuntime) -> Result<(), Fail> {
+fn no_file_and_an_empty_one_give_the_default(rt: HostRuntime) -> Result<(), Fail> {
     let alloc = rt.alloc();
     let default = PrintConfig::default(alloc)?;
     gives(alloc, File::Absent, &[], &default)?;
@@ -791,13 +792,6 @@ fn a_file_is_refused_at_its_line(rt: HostRuntime) -> Result<(), Fail> {
     Ok(())
 }
 
-// r [a], where a is under r.
-fn small(alloc: Global) -> Result<StringItem, AllocError> {
-    let mut builder = TreeBuilder::new(alloc, String::from_str(alloc, "r")?);
-    builder.add_empty_child(String::from_str(alloc, "a")?)?;
-    builder.build()
-}
-
 // What `write_tree` writes.
 fn written(alloc: Global, tree: &StringItem, sources: &Sources) -> Result<Vec<u8>, DrawError> {
     let mut out = Counted::new(Vec::new(alloc));
@@ -808,7 +802,7 @@ fn written(alloc: Global, tree: &StringItem, sources: &Sources) -> Result<Vec<u8
 #[test]
 fn drawings_heed_sources(rt: HostRuntime) -> Result<(), Fail> {
     let alloc = rt.alloc();
-    let tree = small(alloc)?;
+    let tree = over_leaves(alloc, "r", &["a"])?;
     let two = StringItem {
         text: String::from_str(alloc, "r\ns")?,
         children: Vec::new(alloc),
@@ -895,17 +889,10 @@ fn a_tree_is_printed(rt: HostRuntime) -> Result<(), Fail> {
     is_printed(alloc, &builder.build()?, text)
 }
 
-// tree [empty branch]
-fn over_an_empty_branch(alloc: Global) -> Result<StringItem, AllocError> {
-    let mut builder = TreeBuilder::new(alloc, String::from_str(alloc, "tree")?);
-    builder.add_empty_child(String::from_str(alloc, "empty branch")?)?;
-    builder.build()
-}
-
 #[test]
 fn a_tree_is_written(rt: HostRuntime) -> Result<(), Fail> {
     let alloc = rt.alloc();
-    let tree = over_an_empty_branch(alloc)?;
+    let tree = over_leaves(alloc, "tree", &["empty branch"])?;
     let none = sources(alloc, File::Absent, &[])?;
     let bytes = written(alloc, &tree, &none)?;
     expect_text(str::from_utf8(&bytes)?, "tree\n└─ empty branch\n")
@@ -919,16 +906,17 @@ fn an_item_of_another_type_is_printed(rt: HostRuntime) -> Result<(), Fail> {
 #[test]
 fn a_tree_is_printed_in_styles(rt: HostRuntime) -> Result<(), Fail> {
     let alloc = rt.alloc();
-    let tree = over_an_empty_branch(alloc)?;
+    let tree = over_leaves(alloc, "tree", &["empty branch"])?;
     let mut config = drawn_with(alloc, UTF_CHARS_BOLD)?;
     config.indent = 4;
     config.branch.foreground = Some(Color::Red);
     config.branch.background = Some(Color::Yellow);
     config.leaf.bold = true;
-    let mut out = Counted::new(Vec::new(alloc));
-    print_tree_with(alloc, &tree, &mut out, true, &config)?;
-    expect_text(
-        str::from_utf8(&out.into_inner())?,
+    expect_printed(
+        alloc,
+        &tree,
+        true,
+        &config,
         "\x1b[2m\x1b[31m\x1b[43m\x1b[0m\x1b[1mtree\x1b[0m\n\x1b[2m\x1b[31m\x1b[43m┗━━ \x1b[0m\x1b[1mempty branch\x1b[0m\n",
     )
 }
