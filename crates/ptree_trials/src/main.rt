@@ -1,15 +1,17 @@
-//! Tries the library on writers that fail, on random input and on input of extreme sizes: `ptree_trials TASK`. The tasks are
-//! `faults`, `fuzz SEED CASES`, `calls FOLDER SEED CASES` and `extreme NAME`.
+//! Tries the library on writers that fail, on random input and on input of extreme sizes, and where memory is refused:
+//! `ptree_trials TASK`. The tasks are `faults`, `fuzz SEED CASES`, `calls FOLDER SEED CASES`, `extreme NAME` and `refusals`.
 #![tactic(auto)]
 
 mod deviation;
 mod extreme;
 mod faults;
 mod fuzz;
+mod refusals;
 
 use extreme::draw_extreme;
 use faults::try_faults;
 use fuzz::{try_cases, write_calls};
+use refusals::make_calls;
 use std::{env, io};
 
 // How many cases are tried where the words don't say.
@@ -33,6 +35,7 @@ fn main(rt: HostRuntime) -> io::Result<()> {
             let name = words.next().unwrap_or(String::from_str(alloc, "children")?);
             draw_extreme(&rt, name.as_str())
         }
+        "refusals" => make_calls(&rt),
         "calls" => {
             let folder = words.next().unwrap_or(String::from_str(alloc, ".")?);
             let seed = number(words.next(), 1);

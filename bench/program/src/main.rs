@@ -4,7 +4,6 @@
 mod documents;
 mod gallery;
 mod graphs;
-mod refusals;
 mod shapes;
 
 use documents::{draw_json, load_all};
@@ -16,7 +15,6 @@ use ptree::output::write_tree_with;
 use ptree::print_config::{PrintConfig, StyleWhen};
 use ptree::read::{pieces_readable, read_tree};
 use ptree::style::{Counted, DrawError};
-use refusals::make_calls;
 use shapes::shaped;
 use std::alloc::{AllocError, Global};
 use std::io::{self, BufWriter, Write};
@@ -156,9 +154,6 @@ fn main(rt: HostRuntime) -> io::Result<()> {
     let task = Task::from_args(&rt)?;
     if task.name.as_str() == "gallery" {
         return draw_gallery(&rt);
-    }
-    if task.name.as_str() == "refusals" {
-        return make_calls(&rt);
     }
     if task.name.as_str() == "env" {
         return load_all(&rt, task.times);

@@ -65,18 +65,16 @@ fn chain(alloc: Global, builder: &mut TreeBuilder, items: u32) -> Result<(), All
     Ok(())
 }
 
-// Two items below the current one, and so on, so many levels deep.
+// Two items below each item, so many levels deep. Behind the nth item of the last level the next one stands as many levels above it as
+// 2 divides n.
 fn pairs(alloc: Global, builder: &mut TreeBuilder, depth: u32) -> Result<(), AllocError> {
-    if depth == 0 {
-        return Ok(());
+    let leaves = 1u32.checked_shl(depth).unwrap_or(0);
+    for leaf in 1..=leaves {
+        for level in builder.level()..depth {
+            begin(alloc, builder, depth - level)?;
+        }
+        rise(builder, depth.saturating_sub(leaf.trailing_zeros().saturating_add(1)));
     }
-    let level = builder.level();
-    begin(alloc, builder, depth)?;
-    pairs(alloc, builder, depth - 1)?;
-    rise(builder, level);
-    begin(alloc, builder, depth)?;
-    pairs(alloc, builder, depth - 1)?;
-    rise(builder, level);
     Ok(())
 }
 

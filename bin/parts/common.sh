@@ -1,0 +1,89 @@
+# What the parts of bin/test share. A part sources this, reports each of its checks, and ends in finish.
+# shellcheck shell=bash
+set -uo pipefail
+unset CDPATH
+top=$(cd "$(dirname "$(readlink -f "${BASH_SOURCE[0]}")")/../.." && pwd)
+cd "$top" || exit 1
+scratch=$(mktemp -d "${TMPDIR:-/tmp}/ptree.XXXXXXXXXX")
+trap 'rm -rf "$scratch"' EXIT
+trap 'exit 130' INT TERM HUP
+passed=0
+failed=0
+
+# A check has passed or failed: ok or no, and its name.
+report() {
+    if [ "$1" = ok ]; then
+        passed=$((passed + 1))
+        echo "ok: $2"
+    else
+        failed=$((failed + 1))
+        echo "FAILED: $2"
+    fi
+}
+
+# Counts the checks, as each part's last line does.
+finish() {
+    echo "$passed passed, $failed failed"
+    [ "$failed" = 0 ]
+}
+
+# Builds a program of crates/ where its sources have changed.
+need_program() {
+    if ! bin/build "$1"; then
+        report no "the program $1 is not built"
+        finish
+        exit 1
+    fi
+}
+
+# What a call wrote, and what it must write: name, status that it had, status that it must have, standard output and error
+# that it must have, as printf formats.
+expect_written() {
+    # shellcheck disable=SC2059
+    printf "$4" >"$scratch/want_out"
+    # shellcheck disable=SC2059
+    printf "$5" >"$scratch/want_err"
+    if [ "$2" = "$3" ] && cmp -s "$scratch/out" "$scratch/want_out" && cmp -s "$scratch/err" "$scratch/want_err"; then
+        report ok "$1"
+    else
+        report no "$1: status $2"
+        cat "$scratch/out" "$scratch/err"
+    fi
+}
+
+# How a call ended: name, status that it had, status that it must have, line on standard error.
+expect_end() {
+    if [ "$2" = "$3" ] && [ "$(cat "$scratch/err")" = "$4" ]; then
+        report ok "$1"
+    else
+        report no "$1: status $2"
+        cat "$scratch/err"
+    fi
+}
+
+# Nothing of the surroundings configures a call but what a check sets.
+leave_surroundings() {
+    unset XDG_CONFIG_HOME "${!PTREE_@}"
+    export HOME=$scratch/home
+    mkdir -p "$HOME/.config"
+}
+
+# Compiles the library that refuses the Nth request for memory of a program that it is loaded into.
+make_refusing() {
+    if ! cc -O1 -shared -fPIC -o "$scratch/refuse.so" bin/refuse.c -ldl; then
+        report no 'bin/refuse.c does not compile'
+        finish
+        exit 1
+    fi
+}
+
+# A call met no fewer refusals than bin/refusals.txt says: the call, the number that it met.
+expect_refusals() {
+    local wanted
+    wanted=$(sed -n "s/^\([0-9][0-9]*\) $1\$/\1/p" bin/refusals.txt)
+    if [ -n "$wanted" ] && [ "$2" -ge "$wanted" ]; then
+        report ok "each refusal of memory in: $1 ($2 refusals)"
+    else
+        report no "$2 refusals of memory in: $1, and not ${wanted:-any}; if that is right, change bin/refusals.txt"
+    fi
+}
