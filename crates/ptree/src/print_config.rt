@@ -320,12 +320,39 @@ impl IndentChars {
     pub fn from_static(alloc: Global, s: StaticIndentChars) -> Result<IndentChars, AllocError>
         ensures { IfOk result (λ c. characters_of c ≡ static_characters s) }
     {
+        IndentChars::from_texts(
+            alloc,
+            s.down_and_right,
+            s.down,
+            s.turn_right,
+            s.right,
+            s.empty,
+        )
+    }
+
+    // Characters of these texts.
+    fn from_texts(
+        alloc: Global,
+        down_and_right: &str,
+        down: &str,
+        turn_right: &str,
+        right: &str,
+        empty: &str,
+    ) -> Result<IndentChars, AllocError>
+        ensures { IfOk result (λ c. characters_of c ≡ record {
+          down_and_right = down_and_right.now;
+          down = down.now;
+          turn_right = turn_right.now;
+          right = right.now;
+          empty = empty.now;
+        }) }
+    {
         Ok(IndentChars {
-            down_and_right: String::from_str(alloc, s.down_and_right)?,
-            down: String::from_str(alloc, s.down)?,
-            turn_right: String::from_str(alloc, s.turn_right)?,
-            right: String::from_str(alloc, s.right)?,
-            empty: String::from_str(alloc, s.empty)?,
+            down_and_right: String::from_str(alloc, down_and_right)?,
+            down: String::from_str(alloc, down)?,
+            turn_right: String::from_str(alloc, turn_right)?,
+            right: String::from_str(alloc, right)?,
+            empty: String::from_str(alloc, empty)?,
         })
     }
 
@@ -337,13 +364,14 @@ impl IndentChars {
     pub fn clone(&self) -> Result<IndentChars, AllocError>
         ensures { IfOk result (λ c. characters_of c ≡ characters_of self.now) }
     {
-        Ok(IndentChars {
-            down_and_right: self.down_and_right.clone()?,
-            down: self.down.clone()?,
-            turn_right: self.turn_right.clone()?,
-            right: self.right.clone()?,
-            empty: self.empty.clone()?,
-        })
+        IndentChars::from_texts(
+            *self.down.allocator(),
+            self.down_and_right.as_str(),
+            self.down.as_str(),
+            self.turn_right.as_str(),
+            self.right.as_str(),
+            self.empty.as_str(),
+        )
     }
 
     /// The shipped set of a name: `utf`, `ascii` or `ascii-tick`, `ascii-plus`, `utf-bold`, `utf-dashed` or `utf-double`,

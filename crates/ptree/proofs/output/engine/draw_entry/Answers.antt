@@ -4,6 +4,7 @@ use Rattle.ptree.specs.Looks.{look_meant}
 use Rattle.ptree.specs.Writing.{AppendsPart}
 use Rattle.ptree.proofs.Engine.{entry_gathered, nothing_yet}
 use Rattle.ptree.proofs.Written.{written_err}
+use Rattle.std.proofs.lemmas.Grind.{common_steps}
 use Rattle.ptree.proofs.output.engine.draw_entry.Goals as goal
 
 pub returns-in_err-continue_lines-clause-bytes : goal.returns-in_err-continue_lines-clause-bytes
@@ -28,3 +29,9 @@ returns-clause-bytes g c = λ front is.
     subst (λ (z : List ℕ). Appends (g.W.Sink.contents c.args.f.now) (g.W.Sink.contents c.put_or_stop.new.f) z)
     (entry_gathered (look_meant c.args.brush.now.look.now) c.args.width c.len-start.result old _ _ _ front c.args.last (g.C.Shaped.shape c.args.item.now) c.requires.turned is
     c.in-Ok.ensures.bytes wide c.requires.width c.in_ok-continue_lines.ensures (c.as_slice.ensures.value ∙ c.in_ok-end_line.ensures)) c.in_ok-put_or_stop.ensures.bytes
+
+pub continue_lines-requires-clause-start : goal.continue_lines-requires-clause-start
+continue_lines-requires-clause-start g c = grind (arith, common_steps)
+
+pub returns-clause-kept : goal.returns-clause-kept
+returns-clause-kept g c = grind (arith, common_steps)

@@ -2,6 +2,7 @@ use Rattle.std.proofs.Common.{rules, arith, ◌≡◌, map, false, refl, ap, sym
 use Rattle.std.specs.Prelude.{All}
 use Rattle.std.specs.Cmp.Lexicographic.{slice_cmp}
 use Rattle.std.specs.List.Sorted.{IsStrictlySortedBy}
+use Rattle.ptree.specs.declared.value.Value.{the_lemmas}
 use Rattle.std.proofs.lemmas.Grind.{common_steps}
 use Rattle.std.proofs.lemmas.List.{map-append, take_all}
 use Rattle.std.proofs.lemmas.List.Elements.{All-push}
@@ -53,3 +54,9 @@ values_of-loop-item-preserved t c =
       subst (λ vs. All KeysAscend (map data_of vs)) (sym c.in_ok-push.ensures.items) (subst (All KeysAscend) (sym (map-append data_of old (v ∷ []))) keys),
       grind (arith, common_steps),
     )
+
+pub values_of-value_of-requires : goal.values_of-value_of-requires
+values_of-value_of-requires t c = grind (arith, common_steps, the_lemmas)
+
+pub entries_of-value_of-requires : goal.entries_of-value_of-requires
+entries_of-value_of-requires t c = grind (arith, common_steps, the_lemmas)

@@ -1,0 +1,7 @@
+use Rattle.std.proofs.Common.{arith}
+use Rattle.ptree.specs.declared.value.Value.{the_lemmas}
+use Rattle.std.proofs.lemmas.Grind.{common_steps}
+use Rattle.ptree.proofs.value.convert.push_entry.Goals as goal
+
+pub returns : goal.returns
+returns c = grind (arith, common_steps, the_lemmas)
