@@ -7,8 +7,9 @@ use ptree::print_config::FileSource;
 use ptree::style::Counted;
 use std::alloc::{AllocError, Global};
 use std::env::{self, Env, FillError};
-use std::fs::{self, File};
+use std::fs::{self, File, Metadata};
 use std::io::{self, ErrorKind, Read};
+use std::os::unix::fs::{FileTypeExt, MetadataExt};
 use std::rt::Files;
 
 /// The arguments, without the program's name.
@@ -122,15 +123,15 @@ where
     Ok(open(rt, alloc, path)?.source(path))
 }
 
-// What opening and reading gives. What is no regular file isn't opened: a FIFO would wait, and a device may have no end. But
-// /dev/null, by that name, is an empty file.
+// What opening and reading gives. What is no regular file isn't opened: a FIFO would wait, and a device may have no end. Only the null
+// device, which people put in a file's place so that there is nothing in it, is an empty file.
 fn open<R: Files>(rt: &R, alloc: Global, path: &str) -> Result<Opened, AllocError>
 where
     R::File: Drop,
 {
     match fs::metadata(rt, path) {
         Ok(found) if found.is_file() => {}
-        Ok(_) if path == "/dev/null" => return Ok(Opened::Read(Vec::new(alloc))),
+        Ok(found) if is_null(rt, &found) => return Ok(Opened::Read(Vec::new(alloc))),
         Ok(_) => return Ok(Opened::Refused),
         Err(e) => return refused(e.kind()),
     }
@@ -138,6 +139,14 @@ where
         Ok(file) => read(alloc, file),
         Err(e) => refused(e.kind()),
     }
+}
+
+// Whether it is the device /dev/null, by whatever name.
+fn is_null<R: Files>(rt: &R, found: &Metadata) -> bool {
+    let Ok(null) = fs::metadata(rt, "/dev/null") else {
+        return false;
+    };
+    found.file_type().is_char_device() && found.rdev() == null.rdev()
 }
 
 // What reading an open file gives. A read that fails or is interrupted is the last.
