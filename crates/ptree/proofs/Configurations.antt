@@ -13,13 +13,12 @@ use Rattle.ptree.specs.declared.print_config.fields.Part.{Part}
 use Rattle.ptree.specs.declared.print_config.fields.Part.TheVariants.{Branch, Leaf}
 use Rattle.ptree.specs.declared.print_config.fields.StyleField.{StyleField}
 use Rattle.ptree.specs.declared.print_config.fields.StyleField.TheVariants.{Foreground, Background, Bold, Dimmed, Italic, Underline, Blink, Reverse, Hidden, Strikethrough}
-use Rattle.ptree.specs.declared.print_config.fields.TheConstants.{FIELDS, STYLE_FIELDS}
 use Rattle.ptree.specs.declared.print_config.loader.Fault.TheVariants as fault
 use Rattle.ptree.specs.declared.print_config.words.Spelling.TheVariants.{AnyCase}
 use Rattle.ptree.specs.Characters.{Characters as CharacterTexts, set_spelled, utf}
 use Rattle.ptree.specs.Color.{ColorValue}
 use Rattle.ptree.specs.Configuration.{Configuration, default_configuration}
-use Rattle.ptree.specs.Fields.{field_key, table_key, part_key, kind_of}
+use Rattle.ptree.specs.Fields.{field_key, table_key, part_key, kind_of, all_fields, all_style_fields}
 use Rattle.ptree.specs.File.{Node, get, is_table, as_text, as_flag, whole_node, when_node, set_node, color_node}
 use Rattle.ptree.specs.Loading.{SayNothing, look_up, characters, style_of, configuration, text_fits, node_fits, fault_unless, table_fault, field_fault, first_of, fault_in, file_fault, unless_fault, meant_by, has_variable, is_dimmed}
 use Rattle.ptree.specs.Sources.{Variables, Given, variable, table_at, node, document, variables_of}
@@ -50,7 +49,7 @@ nothing_found by_text by_node variables none field =
     ∙ ap (option_and_then by_node) (node_none variables field)
 
 no_variable : (variables : Variables) → HasNone variables → (part : Part) → has_variable (without_file variables) part ≡ false
-no_variable variables none part = all STYLE_FIELDS where
+no_variable variables none part = all all_style_fields where
   all : (fields : List StyleField) → list_any (λ f. is_some (variable (without_file variables) (Paint part f))) fields ≡ false
   all [] = refl
   all (f ∷ fs) = ap (λ text. is_some text || list_any (λ f. is_some (variable (without_file variables) (Paint part f))) fs) (none (Paint part f)) ∙ all fs
@@ -127,8 +126,8 @@ unfolding fault_in
 fault_none variables none =
     let table = λ (part : Part). ap (fault_unless is_table (fault.Table part)) (table_none variables (Some (part_key part))) in
     let given = without_file variables in
-    ap (λ branch. option_or branch (option_or (table_fault given Leaf) (first_of (map (field_fault given) FIELDS)))) (table Branch)
-    ∙ ap (λ leaf. option_or leaf (first_of (map (field_fault given) FIELDS))) (table Leaf) ∙ none_of variables none FIELDS
+    ap (λ branch. option_or branch (option_or (table_fault given Leaf) (first_of (map (field_fault given) all_fields)))) (table Branch)
+    ∙ ap (λ leaf. option_or leaf (first_of (map (field_fault given) all_fields))) (table Leaf) ∙ none_of variables none all_fields
 
 -- sources that say nothing mean the default
 pub nothing_meant : (sources : Sources) → SayNothing sources → meant_by sources ≡ default_configuration

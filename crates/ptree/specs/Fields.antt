@@ -1,5 +1,5 @@
 -- The fields of a configuration: their names in variables and in files, and what they take.
-use Rattle.std.specs.Prelude.{ℕ, List, ◌++◌, Option, Some, None, codes}
+use Rattle.std.specs.Prelude.{ℕ, List, [], ◌∷◌, ◌++◌, map, Contains, Option, Some, None, codes}
 use Rattle.std.specs.Str.{str_to_ascii_uppercase}
 use Rattle.ptree.specs.declared.print_config.fields.Part.{Part}
 use Rattle.ptree.specs.declared.print_config.fields.Part.TheVariants.{Branch, Leaf}
@@ -77,3 +77,18 @@ kind_of Styled = When
 kind_of Characters = Set
 kind_of (Paint part field) = style_kind field
 kind_of _ = Text
+
+-- all fields of a style
+abbrev pub all_style_fields : List StyleField
+all_style_fields =
+    Foreground ∷ Background ∷ Bold ∷ Dimmed ∷ Italic ∷ Underline ∷ Blink ∷ Reverse ∷ Hidden ∷ Strikethrough ∷ []
+
+-- all fields, in the order in which faults are looked for
+abbrev pub all_fields : List Field
+all_fields =
+    Depth ∷ Indent ∷ Padding ∷ Styled ∷ Characters ∷ DownAndRight ∷ Down ∷ TurnRight ∷ Right ∷ Empty
+    ∷ map (Paint Branch) all_style_fields ++ map (Paint Leaf) all_style_fields ++ Continued ∷ []
+
+-- each value of a type is in this list
+abbrev pub HasEach : {A : Type 0} → List A → Type 0
+HasEach {A} list = (value : A) → Contains list value

@@ -13,13 +13,12 @@ use Rattle.ptree.specs.declared.print_config.fields.Kind.TheVariants.{Whole, Whe
 use Rattle.ptree.specs.declared.print_config.fields.Part.{Part}
 use Rattle.ptree.specs.declared.print_config.fields.Part.TheVariants.{Branch, Leaf}
 use Rattle.ptree.specs.declared.print_config.fields.StyleField.TheVariants.{Foreground, Background, Bold, Dimmed, Italic, Underline, Blink, Reverse, Hidden, Strikethrough}
-use Rattle.ptree.specs.declared.print_config.fields.TheConstants.{FIELDS, STYLE_FIELDS}
 use Rattle.ptree.specs.declared.print_config.loader.Fault.{Fault}
 use Rattle.ptree.specs.declared.print_config.loader.Fault.TheVariants as fault
 use Rattle.ptree.specs.Characters.{Characters, set_spelled, utf}
 use Rattle.ptree.specs.Color.{ColorValue}
 use Rattle.ptree.specs.Configuration.{Configuration, default_configuration}
-use Rattle.ptree.specs.Fields.{part_key, kind_of}
+use Rattle.ptree.specs.Fields.{part_key, kind_of, all_fields, all_style_fields}
 use Rattle.ptree.specs.File.{Node, is_table, is_null, as_text, as_flag, whole_node, when_node, set_node, color_node}
 use Rattle.ptree.specs.Style.{StyleValue}
 use Rattle.ptree.specs.Sources.{Given, given_by, document, variable, table_at, node}
@@ -66,9 +65,9 @@ characters given =
       empty = unwrap_or (variable given field.Empty) base.empty;
     }
 
--- some variable names a field of a part
+-- some variable names a field of the style of a part
 abbrev pub has_variable : Given → Part → Bool
-has_variable given part = list_any (λ f. is_some (variable given (field.Paint part f))) STYLE_FIELDS
+has_variable given part = list_any (λ f. is_some (variable given (field.Paint part f))) all_style_fields
 
 -- whether a part is dimmed where nothing says so: branches are where the file has no key for their style, and no variable names a field of it
 abbrev pub is_dimmed : Given → Part → Bool
@@ -150,7 +149,7 @@ first_of (o ∷ os) = option_or o (first_of os)
 
 -- the first fault: of the file as a whole, of its tables, of the fields in their order
 unfoldable pub fault_in : Option Fault → Given → Option Fault
-fault_in file given = first_of (file ∷ table_fault given Branch ∷ table_fault given Leaf ∷ map (field_fault given) FIELDS)
+fault_in file given = first_of (file ∷ table_fault given Branch ∷ table_fault given Leaf ∷ map (field_fault given) all_fields)
 
 -- the first fault in sources
 abbrev pub first_fault : Sources → Option Fault

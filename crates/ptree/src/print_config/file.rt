@@ -76,9 +76,9 @@ fn read_json(alloc: Global, text: &str) -> Result<Option<Document>, AllocError>
     }
 }
 
-/// The line, counted from 1, at which the text of a file stops being a document of its format, as the reader of that format tells it.
-/// There is one exactly where the fault of the file is [`Fault::Syntax`](crate::print_config::Fault::Syntax). It is the first
-/// where the top of a JSON text is no object.
+/// The line, counted from 1, at which the text of a file stops being a document of its format: that of the first wrong byte, or of the
+/// key that is there twice. There is one exactly where the fault of the file is [`Fault::Syntax`](crate::print_config::Fault::Syntax).
+/// Where the text only ends too early, it is the line in which it ends. It is the first where the top of a JSON text is no object.
 ///
 /// # Errors
 ///
@@ -119,9 +119,47 @@ fn json_line(alloc: Global, text: &str) -> Result<Option<usize>, AllocError>
         Err(e) => if e.is_memory() {
             Err(AllocError)
         } else {
-            Ok(Some(e.line()))
+            Ok(Some(wrong_line(alloc, text, e.line())?))
         },
     }
+}
+
+// The first wrong line of a text in JSON, where that is this line or stands before it.
+//
+// The reader names the place that it has come to. It may have passed the wrong byte and blanks after it.
+fn wrong_line(alloc: Global, text: &str, line: usize) -> Result<usize, AllocError> {
+    let mut right = 0;
+    let mut wrong = line;
+    while wrong.saturating_sub(right) > 1 {
+        let middle = right + (wrong - right) / 2;
+        if begins_json(alloc, first_lines(text, middle))? {
+            right = middle;
+        } else {
+            wrong = middle;
+        }
+    }
+    Ok(wrong)
+}
+
+// Whether a text is a document in JSON, or ends too early to be one.
+fn begins_json(alloc: Global, text: &str) -> Result<bool, AllocError> {
+    match serde_json::Value::from_str(alloc, text) {
+        Ok(_) => Ok(true),
+        Err(e) => if e.is_memory() {
+            Err(AllocError)
+        } else {
+            Ok(e.is_eof())
+        },
+    }
+}
+
+// The first lines of a text, with their line feeds, or all of it where it has no more.
+fn first_lines(text: &str, count: usize) -> &str {
+    let mut end: usize = 0;
+    for line in text.split_inclusive('\n').take(count) {
+        end = end.saturating_add(line.len());
+    }
+    text.get(..end).unwrap_or(text)
 }
 
 // The line, counted from 1, in which a byte of a text stands.

@@ -4,6 +4,7 @@ ghost use Rattle.std.specs.List.{list_any};
 ghost use Rattle.ptree.specs.Characters.{characters_of, static_characters};
 ghost use Rattle.ptree.specs.Configuration.{config_value};
 ghost use Rattle.ptree.specs.Color.{color_value};
+ghost use Rattle.ptree.specs.Fields.{all_fields, all_style_fields, HasEach};
 ghost use Rattle.ptree.specs.File.{set_node, characters_in, text_at};
 ghost use Rattle.ptree.specs.Lent.{document_view, node_view, given_view, lent_characters};
 ghost use Rattle.ptree.specs.Loading.{whole, when, set, text, color, flag, characters, is_dimmed, style_of, configuration, text_fits, node_fits, field_fault, table_fault, file_fault, first_of, fault_in, first_fault, config_of};
@@ -123,7 +124,8 @@ pub fn first_fault(alloc: Global, sources: &Sources) -> Result<Option<Fault>, Al
 #[tactic(auto, unfolding(crate::specs::Loading::fault_in))]
 fn first_fault_in(file: &FileSource, read: &Option<Document>, given: &Given<'_>) -> Option<Fault>
     requires { option_map document_view read.now ≡ document file.now }
-    ensures { result ≡ fault_in (file_fault file.now) (given_view given.now) }
+    ensures first { result ≡ fault_in (file_fault file.now) (given_view given.now) }
+    ensures each { HasEach all_fields }
 {
     if let Some(fault) = file_fault(file, read) {
         return Some(fault);
@@ -294,7 +296,8 @@ impl<'a> Given<'a> {
 
     // Whether a part is dimmed where nothing says so.
     fn is_dimmed(&self, part: Part) -> bool
-        ensures { result ≡ is_dimmed (given_view self.now) part }
+        ensures dimmed { result ≡ is_dimmed (given_view self.now) part }
+        ensures each { HasEach all_style_fields }
     {
         match part {
             Part::Branch => {
