@@ -222,5 +222,11 @@ pub fn print_graph<N: Label, W: Sink>(
         ↔ IsDrawing look (shape_of_tree (walks N.text graph.now start.0 meant.depth)) meant.depth
         text }
 {
-    print_tree(alloc, &GraphNode { graph, node: start }, out, terminal, sources)
+    print_tree(
+        alloc,
+        &GraphNode { graph, node: start },
+        out,
+        terminal,
+        sources,
+    )
 }

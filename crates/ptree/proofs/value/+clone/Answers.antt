@@ -75,3 +75,21 @@ Value::clone-returns-in_ok-clone_entries-in-Map t c = grind (arith, common_steps
 
 pub Value::clone-returns-in_ok-from_slice-in-Bytes : goal.Value::clone-returns-in_ok-from_slice-in-Bytes
 Value::clone-returns-in_ok-from_slice-in-Bytes t c = grind (arith, common_steps, the_lemmas)
+
+pub Value::clone-clone_boxed-requires : goal.Value::clone-clone_boxed-requires
+Value::clone-clone_boxed-requires t c = grind (arith, common_steps, the_lemmas)
+
+pub Value::clone-clone_boxed-requires-in-Newtype : goal.Value::clone-clone_boxed-requires-in-Newtype
+Value::clone-clone_boxed-requires-in-Newtype t c = grind (arith, common_steps, the_lemmas)
+
+pub Value::clone-clone_entries-requires : goal.Value::clone-clone_entries-requires
+Value::clone-clone_entries-requires t c = grind (arith, common_steps, the_lemmas)
+
+pub clone_entries-clone-requires : goal.clone_entries-clone-requires
+clone_entries-clone-requires t c = search (rules, the_lemmas)
+
+pub clone_entries-clone-requires-in-loop-key : goal.clone_entries-clone-requires-in-loop-key
+clone_entries-clone-requires-in-loop-key t c = search (rules, the_lemmas)
+
+pub clone_items-clone-requires : goal.clone_items-clone-requires
+clone_items-clone-requires t c = grind (arith, common_steps, the_lemmas)

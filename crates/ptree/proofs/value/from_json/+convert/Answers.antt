@@ -60,3 +60,36 @@ values_of-value_of-requires t c = grind (arith, common_steps, the_lemmas)
 
 pub entries_of-value_of-requires : goal.entries_of-value_of-requires
 entries_of-value_of-requires t c = grind (arith, common_steps, the_lemmas)
+
+pub entries_of-loop-key-init : goal.entries_of-loop-key-init
+entries_of-loop-key-init t c = grind (arith, common_steps)
+
+pub value_of-returns-in-Some-clause-keys : goal.value_of-returns-in-Some-clause-keys
+value_of-returns-in-Some-clause-keys t c = grind (arith, common_steps, the_lemmas)
+
+pub value_of-returns-in-Some-as_i64-clause-keys : goal.value_of-returns-in-Some-as_i64-clause-keys
+value_of-returns-in-Some-as_i64-clause-keys t c = grind (arith, common_steps, the_lemmas)
+
+pub value_of-returns-in_err-entries_of-in-Object-clause-value : goal.value_of-returns-in_err-entries_of-in-Object-clause-value
+value_of-returns-in_err-entries_of-in-Object-clause-value t c = grind (arith, common_steps)
+
+pub value_of-returns-in_err-entries_of-in-Object-clause-keys : goal.value_of-returns-in_err-entries_of-in-Object-clause-keys
+value_of-returns-in_err-entries_of-in-Object-clause-keys t c = grind (arith, common_steps)
+
+pub value_of-returns-in-Null-clause-keys : goal.value_of-returns-in-Null-clause-keys
+value_of-returns-in-Null-clause-keys t c = grind (arith, common_steps, the_lemmas)
+
+pub value_of-returns-in-Bool-clause-keys : goal.value_of-returns-in-Bool-clause-keys
+value_of-returns-in-Bool-clause-keys t c = grind (arith, common_steps, the_lemmas)
+
+pub value_of-returns-in_ok-clone-in-String-clause-keys : goal.value_of-returns-in_ok-clone-in-String-clause-keys
+value_of-returns-in_ok-clone-in-String-clause-keys t c = grind (arith, common_steps, the_lemmas)
+
+pub value_of-returns-in_ok-values_of-in-Array-clause-keys : goal.value_of-returns-in_ok-values_of-in-Array-clause-keys
+value_of-returns-in_ok-values_of-in-Array-clause-keys t c = grind (arith, common_steps, the_lemmas)
+
+pub value_of-returns-in_ok-entries_of-in-Object-clause-keys : goal.value_of-returns-in_ok-entries_of-in-Object-clause-keys
+value_of-returns-in_ok-entries_of-in-Object-clause-keys t c = grind (arith, common_steps, the_lemmas)
+
+pub values_of-returns-in_err-push-clause-keys : goal.values_of-returns-in_err-push-clause-keys
+values_of-returns-in_err-push-clause-keys t c = grind (arith, common_steps)

@@ -13,6 +13,7 @@ use Rattle.ptree.specs.Convert.{toml_item_fault, toml_member_fault, toml_data, t
 use Rattle.ptree.specs.Data.{KeysAscend, ValuesAscend, key_texts}
 use Rattle.ptree.specs.Value.{data_of, entry_meant, items_of, entries_of}
 use Rattle.ptree.proofs.Converted.{member_data, made_more, items_made, entries_made, items_ascend, values_ascend, keys_ascend}
+use Rattle.ptree.specs.declared.value.Value.{the_lemmas}
 use Rattle.ptree.proofs.value.from_toml.+convert.Goals as goal
 
 pub values_of-returns-clause-value : goal.values_of-returns-clause-value
@@ -60,3 +61,27 @@ values_of-loop-item-preserved t c =
       subst (λ vs. All KeysAscend (map data_of vs)) (sym c.in_ok-push.ensures.items) (subst (All KeysAscend) (sym (map-append data_of old (v ∷ []))) keys),
       rest_none _ _ (ap toml_item_fault (sym (items_view-drop c.deref-item-items.result.now c.loop-item.item-index c.item-item.result c.loop-item-test.true)) ∙ c.loop-item.invariant.2),
     )
+
+pub entries_of-loop-key-init : goal.entries_of-loop-key-init
+entries_of-loop-key-init t c = grind (arith, common_steps)
+
+pub entries_of-value_of-requires : goal.entries_of-value_of-requires
+entries_of-value_of-requires t c = grind (arith, common_steps, the_lemmas)
+
+pub value_of-returns-in_ok-clone-in-String-clause-keys : goal.value_of-returns-in_ok-clone-in-String-clause-keys
+value_of-returns-in_ok-clone-in-String-clause-keys t c = grind (arith, common_steps, the_lemmas)
+
+pub value_of-returns-in-Integer-clause-keys : goal.value_of-returns-in-Integer-clause-keys
+value_of-returns-in-Integer-clause-keys t c = grind (arith, common_steps, the_lemmas)
+
+pub value_of-returns-in-Boolean-clause-keys : goal.value_of-returns-in-Boolean-clause-keys
+value_of-returns-in-Boolean-clause-keys t c = grind (arith, common_steps, the_lemmas)
+
+pub value_of-returns-in_ok-values_of-in-Array-clause-keys : goal.value_of-returns-in_ok-values_of-in-Array-clause-keys
+value_of-returns-in_ok-values_of-in-Array-clause-keys t c = grind (arith, common_steps, the_lemmas)
+
+pub value_of-returns-in_ok-entries_of-in-Table-clause-keys : goal.value_of-returns-in_ok-entries_of-in-Table-clause-keys
+value_of-returns-in_ok-entries_of-in-Table-clause-keys t c = grind (arith, common_steps, the_lemmas)
+
+pub values_of-value_of-requires : goal.values_of-value_of-requires
+values_of-value_of-requires t c = grind (arith, common_steps, the_lemmas)
