@@ -16,6 +16,7 @@
 //! appends (all of it on success, a beginning of it on a refusal), and that `Write` and `Zero` come exactly where the sink failed.
 #![tactic(auto)]
 
+pub mod buffered;
 pub mod builder;
 mod codes;
 mod colors;

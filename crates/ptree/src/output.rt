@@ -46,6 +46,31 @@ where
     draw(alloc, item, f, &look, config.depth)
 }
 
+// Draws for output of a kind, under the configuration that sources mean.
+fn draw_meant<T, W>(
+    alloc: Global,
+    item: &T,
+    f: &mut W,
+    output_kind: OutputKind,
+    terminal: bool,
+    sources: &Sources,
+) -> Result<(), DrawError>
+where
+    T: TreeItem,
+    T::Child: TreeItem<Child = T::Child> + Drop,
+    W: Sink,
+    ensures bytes { let meant = meant_by sources.now in
+        IsDrawn (look_by meant output_kind terminal) (T.shape item.now) meant.depth
+        (W.contents f.old) (W.contents f.new) result }
+    ensures whole { let meant = meant_by sources.now in
+        LeavesWholeEntries (look_by meant output_kind terminal) (T.shape item.now) meant.depth
+        (W.contents f.old) (W.contents f.new) result }
+    ensures cause { HasCause (W.faults f.old) (W.faults f.new) result }
+{
+    let config = PrintConfig::from_env(alloc, sources)?;
+    draw_for(alloc, item, f, output_kind, terminal, &config)
+}
+
 /// Draws as [`print_tree_with`], under the configuration that sources mean ([`PrintConfig::from_env`]).
 ///
 /// # Errors
@@ -72,8 +97,7 @@ where
         (W.contents out.old) (W.contents out.new) result }
     ensures cause { HasCause (W.faults out.old) (W.faults out.new) result }
 {
-    let config = PrintConfig::from_env(alloc, sources)?;
-    print_tree_with(alloc, item, out, terminal, &config)
+    draw_meant(alloc, item, out, OutputKind::Stdout, terminal, sources)
 }
 
 /// Draws as [`write_tree_with`], but to standard output, `terminal` saying whether that is a terminal.
@@ -154,8 +178,7 @@ where
         (W.contents f.old) (W.contents f.new) result }
     ensures cause { HasCause (W.faults f.old) (W.faults f.new) result }
 {
-    let config = PrintConfig::from_env(alloc, sources)?;
-    write_tree_with(alloc, item, f, &config)
+    draw_meant(alloc, item, f, OutputKind::Unknown, false, sources)
 }
 
 /// Draws an item and what is below it to a writer that isn't standard output.

@@ -1,10 +1,10 @@
 //! How trees are drawn: characters, configuration, and what a configuration is loaded from.
-ghost use Rattle.std.specs.Prelude.{◌≡◌, ◌↔◌, IfOk, IsTrue, IsErrOf, Some, None, string_bytes};
+ghost use Rattle.std.specs.Prelude.{◌≡◌, ◌↔◌, IfOk, IsTrue, true, IsErrOf, Some, None, string_bytes};
 ghost use Rattle.ptree.specs.Characters.{characters_of, static_characters, set_named};
 ghost use Rattle.ptree.specs.Config.{IsDefault, is_styled};
 ghost use Rattle.ptree.specs.Configuration.{config_value, default_configuration};
 ghost use Rattle.ptree.specs.Loading.{SayNothing, meant_by};
-ghost use Rattle.ptree.specs.Style.{style_value, painted_text};
+ghost use Rattle.ptree.specs.Style.{style_value, plain_style, painted_text};
 ghost use Rattle.ptree.specs.declared.print_config.CharsError.{CharsError};
 ghost use Rattle.ptree.specs.declared.print_config.IndentChars.{IndentChars};
 ghost use Rattle.ptree.specs.declared.print_config.OutputKind.{OutputKind};
@@ -194,17 +194,15 @@ impl PrintConfig {
         ensures fields { IfOk result IsDefault }
         ensures value { IfOk result (λ config. config_value config ≡ default_configuration) }
     {
-        let mut branch = Style::default();
-        branch.dimmed = true;
         Ok(PrintConfig {
             depth: u32::MAX,
             indent: 3,
             padding: 1,
             styled: StyleWhen::Tty,
-            characters: IndentChars::from_static(alloc, UTF_CHARS)?,
-            branch,
-            leaf: Style::default(),
             continued: String::from_str(alloc, ": ")?,
+            characters: IndentChars::from_static(alloc, UTF_CHARS)?,
+            branch: dimmed_style(),
+            leaf: Style::default(),
         })
     }
 
@@ -256,12 +254,21 @@ impl PrintConfig {
             indent: self.indent,
             padding: self.padding,
             styled: self.styled,
-            characters: self.characters.clone()?,
+            continued: self.continued.clone()?,
             branch: self.branch.clone()?,
             leaf: self.leaf.clone()?,
-            continued: self.continued.clone()?,
+            characters: self.characters.clone()?,
         })
     }
+}
+
+// The plain style, but dimmed.
+fn dimmed_style() -> Style
+    ensures { result ≡ record plain_style { dimmed = true } }
+{
+    let mut style = Style::default();
+    style.dimmed = true;
+    style
 }
 
 /// The characters that branches are drawn with. Each may be any text, an empty one too.

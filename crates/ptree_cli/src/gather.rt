@@ -1,13 +1,16 @@
 //! What a call is given by its surroundings: words, variables, and the file of its configuration.
 
+use crate::input::{ReadError, read_bytes};
+use crate::opened::Opened;
 use crate::paths::Candidates;
 use ptree::print_config::FileSource;
+use ptree::style::Counted;
 use std::alloc::{AllocError, Global};
 use std::env::{self, Env, FillError};
-use std::fs::File;
+use std::fs::{self, File, Metadata};
 use std::io::{self, ErrorKind, Read};
+use std::os::unix::fs::{FileTypeExt, MetadataExt};
 use std::rt::Files;
-use std::str;
 
 /// The arguments, without the program's name.
 ///
@@ -19,28 +22,50 @@ pub fn words<R: Env + AllocGlobal>(rt: &R) -> io::Result<Vec<String>> {
     Ok(words)
 }
 
-/// The variables whose name and value are UTF-8, in order.
+/// The entries of the environment, in order.
+///
+/// They are those of the system's file. `Env::var_at` goes over all entries before the one that it is asked for, and so counts only
+/// where there is no such file.
 ///
 /// # Errors
 ///
 /// Memory ran out.
-pub fn variables<R: Env>(rt: &R, alloc: Global) -> Result<Vec<(String, String)>, AllocError> {
+pub fn entries<R: Env + Files>(rt: &R, alloc: Global) -> Result<Vec<Vec<u8>>, AllocError>
+where
+    R::File: Drop,
+{
     let mut found = Vec::new(alloc);
+    let block = environment_block(rt, alloc)?;
+    if !block.is_empty() {
+        for part in block.split(|b| *b == 0) {
+            found.push(Vec::from_slice(alloc, part)?)?;
+        }
+        return Ok(found);
+    }
     for i in 0..usize::MAX {
         let Some(entry) = entry(rt, alloc, i)? else {
             break;
         };
-        let Ok(text) = str::from_utf8(&entry) else {
-            continue;
-        };
-        if let Some((name, value)) = text.split_once('=') {
-            found.push((
-                String::from_str(alloc, name)?,
-                String::from_str(alloc, value)?,
-            ))?;
-        }
+        found.push(entry)?;
     }
     Ok(found)
+}
+
+// The entries, each ended by a zero byte, or nothing where the system's file can't be read.
+fn environment_block<R: Files>(rt: &R, alloc: Global) -> Result<Vec<u8>, AllocError>
+where
+    R::File: Drop,
+{
+    let file = match File::open(rt, "/proc/self/environ") {
+        Ok(file) => file,
+        Err(e) if e.kind() == ErrorKind::OutOfMemory => return Err(AllocError),
+        Err(_) => return Ok(Vec::new(alloc)),
+    };
+    match read_bytes(alloc, &mut Counted::new(file)) {
+        Ok(bytes) => Ok(bytes),
+        Err(ReadError::Memory) => Err(AllocError),
+        Err(_) => Ok(Vec::new(alloc)),
+    }
 }
 
 // The room for most entries, 256 bytes. It is doubled for longer ones.
@@ -95,36 +120,49 @@ fn source_at<R: Files>(rt: &R, alloc: Global, path: &str) -> Result<Option<FileS
 where
     R::File: Drop,
 {
-    let mut file = match File::open(rt, path) {
-        Ok(file) => file,
+    Ok(open(rt, alloc, path)?.source(path))
+}
+
+// What opening and reading gives. What is no regular file isn't opened: a FIFO would wait, and a device may have no end. Only the null
+// device, which people put in a file's place so that there is nothing in it, is an empty file.
+fn open<R: Files>(rt: &R, alloc: Global, path: &str) -> Result<Opened, AllocError>
+where
+    R::File: Drop,
+{
+    match fs::metadata(rt, path) {
+        Ok(found) if found.is_file() => {}
+        Ok(found) if is_null(rt, &found) => return Ok(Opened::Read(Vec::new(alloc))),
+        Ok(_) => return Ok(Opened::Refused),
         Err(e) => return refused(e.kind()),
-    };
-    let mut bytes = Vec::new(alloc);
-    if let Err(e) = file.read_to_end(&mut bytes) {
-        return unread(e.kind());
     }
-    let Ok(text) = String::from_utf8(bytes) else {
-        return Ok(Some(FileSource::Unreadable));
+    match File::open(rt, path) {
+        Ok(file) => read(alloc, file),
+        Err(e) => refused(e.kind()),
+    }
+}
+
+// Whether it is the device /dev/null, by whatever name.
+fn is_null<R: Files>(rt: &R, found: &Metadata) -> bool {
+    let Ok(null) = fs::metadata(rt, "/dev/null") else {
+        return false;
     };
-    if path.ends_with(".json") {
-        Ok(Some(FileSource::Json(text)))
-    } else {
-        Ok(Some(FileSource::Toml(text)))
+    found.file_type().is_char_device() && found.rdev() == null.rdev()
+}
+
+// What reading an open file gives. A read that fails or is interrupted is the last.
+fn read<F: Read + Drop>(alloc: Global, file: F) -> Result<Opened, AllocError> {
+    match read_bytes(alloc, &mut Counted::new(file)) {
+        Ok(bytes) => Ok(Opened::Read(bytes)),
+        Err(ReadError::Memory) => Err(AllocError),
+        Err(_) => Ok(Opened::Refused),
     }
 }
 
 // What it means that a file couldn't be opened.
-fn refused(kind: ErrorKind) -> Result<Option<FileSource>, AllocError> {
-    if kind == ErrorKind::NotFound {
-        return Ok(None);
+fn refused(kind: ErrorKind) -> Result<Opened, AllocError> {
+    match kind {
+        ErrorKind::NotFound => Ok(Opened::Missing),
+        ErrorKind::OutOfMemory => Err(AllocError),
+        _ => Ok(Opened::Refused),
     }
-    unread(kind)
-}
-
-// What it means that a file couldn't be read.
-fn unread(kind: ErrorKind) -> Result<Option<FileSource>, AllocError> {
-    if kind == ErrorKind::OutOfMemory {
-        return Err(AllocError);
-    }
-    Ok(Some(FileSource::Unreadable))
 }

@@ -12,7 +12,7 @@ ghost use Rattle.ptree.specs.Writing.{IsWritten, HasCause, TakesNoMemory, IsDraw
 
 use super::{Graph, NodeIndex};
 use crate::item::{Children, Shaped, TreeItem};
-use crate::output::{print_tree_with, write_tree_with};
+use crate::output::{print_tree, write_tree_with};
 use crate::print_config::{OutputKind, PrintConfig, Sources};
 use crate::style::{DrawError, Sink, Style};
 use std::alloc::{AllocError, Global};
@@ -222,7 +222,5 @@ pub fn print_graph<N: Label, W: Sink>(
         ↔ IsDrawing look (shape_of_tree (walks N.text graph.now start.0 meant.depth)) meant.depth
         text }
 {
-    let config = PrintConfig::from_env(alloc, sources)?;
-    let item = GraphNode { graph, node: start };
-    print_tree_with(alloc, &item, out, terminal, &config)
+    print_tree(alloc, &GraphNode { graph, node: start }, out, terminal, sources)
 }

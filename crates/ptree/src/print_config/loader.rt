@@ -86,8 +86,20 @@ pub fn load(alloc: Global, sources: &Sources) -> Result<Option<PrintConfig>, All
     ensures { IfOk result (λ config. option_map config_value config ≡ config_of sources.now) }
 {
     let document = Document::read(alloc, &sources.file)?;
-    let given = Given::of(sources, &document);
-    if first_fault_in(&sources.file, &document, &given).is_some() {
+    load_with(alloc, sources, &document)
+}
+
+// The configuration of sources, with the document of their file.
+fn load_with(
+    alloc: Global,
+    sources: &Sources,
+    read: &Option<Document>,
+) -> Result<Option<PrintConfig>, AllocError>
+    requires { option_map document_view read.now ≡ document sources.now.file }
+    ensures { IfOk result (λ config. option_map config_value config ≡ config_of sources.now) }
+{
+    let given = Given::of(sources, read);
+    if first_fault_in(&sources.file, read, &given).is_some() {
         return Ok(None);
     }
     Ok(Some(given.configuration(alloc)?))
@@ -362,10 +374,10 @@ impl<'a> Given<'a> {
             indent: self.whole(u64::MAX, Field::Indent).unwrap_or(3) as usize,
             padding: self.whole(u64::MAX, Field::Padding).unwrap_or(1) as usize,
             styled: self.when(Field::Styled).unwrap_or(StyleWhen::Tty),
-            characters: self.characters(alloc)?,
+            continued: String::from_str(alloc, self.text(Field::Continued).unwrap_or(": "))?,
             branch: self.style(alloc, Part::Branch)?,
             leaf: self.style(alloc, Part::Leaf)?,
-            continued: String::from_str(alloc, self.text(Field::Continued).unwrap_or(": "))?,
+            characters: self.characters(alloc)?,
         })
     }
 
@@ -495,12 +507,13 @@ fn set_node<'a>(value: Node<'a>) -> Option<LentChars<'a>>
 fn characters_in<'a>(table: Node<'a>) -> LentChars<'a>
     ensures { lent_characters result ≡ characters_in (node_view table.entry) }
 {
+    let regular = UTF_CHARS;
     LentChars {
-        down_and_right: text_at("down_and_right", table, UTF_CHARS.down_and_right),
-        down: text_at("down", table, UTF_CHARS.down),
-        turn_right: text_at("turn_right", table, UTF_CHARS.turn_right),
-        right: text_at("right", table, UTF_CHARS.right),
-        empty: text_at("empty", table, UTF_CHARS.empty),
+        down_and_right: text_at("down_and_right", table, regular.down_and_right),
+        down: text_at("down", table, regular.down),
+        turn_right: text_at("turn_right", table, regular.turn_right),
+        right: text_at("right", table, regular.right),
+        empty: text_at("empty", table, regular.empty),
     }
 }
 

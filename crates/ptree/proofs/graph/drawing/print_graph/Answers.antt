@@ -1,30 +1,10 @@
-use Rattle.std.proofs.Common.{sym}
 use Rattle.ptree.specs.declared.print_config.OutputKind.TheVariants.{Stdout}
 use Rattle.ptree.specs.Drawing.{look_by}
-use Rattle.ptree.specs.Graph.{node_shape}
 use Rattle.ptree.specs.Loading.{meant_by}
-use Rattle.ptree.proofs.Drawn.{drawn_nothing, whole_nothing}
 use Rattle.ptree.proofs.Walks.{drawing_of_walks}
 use Rattle.ptree.proofs.graph.drawing.print_graph.Goals as goal
 
-pub returns-clause-bytes : goal.returns-clause-bytes
-returns-clause-bytes g c = rw (sym c.in_ok-config.ensures.value) c.print_tree_with.ensures.bytes
-
-pub returns-clause-whole : goal.returns-clause-whole
-returns-clause-whole g c = rw (sym c.in_ok-config.ensures.value) c.print_tree_with.ensures.whole
-
-pub returns-in_err-config-clause-bytes : goal.returns-in_err-config-clause-bytes
-returns-in_err-config-clause-bytes g c = drawn_nothing _ (look_by (meant_by c.args.sources.now) Stdout c.args.terminal) _ _ _ _ c.from_residual.ensures.1
-
-pub returns-in_err-config-clause-whole : goal.returns-in_err-config-clause-whole
-returns-in_err-config-clause-whole g c = let meant = meant_by c.args.sources.now in whole_nothing (look_by meant Stdout c.args.terminal) (node_shape g.N.Label.text c.args.graph.now c.args.start.0) meant.depth _ _
-
 pub returns-clause-walks : goal.returns-clause-walks
 returns-clause-walks g c =
-    let meant = meant_by c.args.sources.now in
-    drawing_of_walks g.N.Label.text c.args.graph.now (look_by meant Stdout c.args.terminal) meant.depth c.args.start.0
-
-pub returns-in_err-config-clause-walks : goal.returns-in_err-config-clause-walks
-returns-in_err-config-clause-walks g c =
     let meant = meant_by c.args.sources.now in
     drawing_of_walks g.N.Label.text c.args.graph.now (look_by meant Stdout c.args.terminal) meant.depth c.args.start.0

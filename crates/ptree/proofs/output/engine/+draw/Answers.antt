@@ -7,6 +7,7 @@ use Rattle.ptree.specs.Pieces.{passing_piece}
 use Rattle.ptree.specs.Shape.{kids}
 use Rattle.ptree.proofs.Engine.{item_written, all_below, begun_none, begun_part, begun_then, begun_err, not_last, still_turned, long_enough, take_again, quiet}
 use Rattle.ptree.proofs.Written.{entries_none, entries_err, entry_part}
+use Rattle.std.proofs.lemmas.Grind.{common_steps}
 use Rattle.ptree.proofs.output.engine.+draw.Goals as goal
 
 pub draw_children-loop-item-init : goal.draw_children-loop-item-init
@@ -81,3 +82,15 @@ draw_below-returns-clause-bytes g t c = λ front e.
     all_below look (entries_below look c.args.levels_left) passing (g.C.Shaped.shape c.args.item.now) _ _ _ _ g.C.Shaped.shape c.as_slice-2.result.now
     (ap (map g.C.Shaped.shape) c.as_slice-2.ensures ∙ c.in_ok-children.ensures)
     (c.draw_children.ensures.bytes passing (c.in_ok-pass.ensures.line ∙ ap (λ xs. xs ++ passing_piece look.pieces c.args.is_last) e ∙ append_assoc _ front _))
+
+pub draw_below-returns-then-is_empty-clause-bytes : goal.draw_below-returns-then-is_empty-clause-bytes
+draw_below-returns-then-is_empty-clause-bytes g t c = grind (arith, common_steps)
+
+pub draw_below-returns-clause-kept : goal.draw_below-returns-clause-kept
+draw_below-returns-clause-kept g t c = grind (arith, common_steps)
+
+pub draw_children-draw_item-requires : goal.draw_children-draw_item-requires
+draw_children-draw_item-requires g t c = grind (arith, common_steps)
+
+pub draw_children-returns-clause-bytes : goal.draw_children-returns-clause-bytes
+draw_children-returns-clause-bytes g t c = grind (arith, common_steps)

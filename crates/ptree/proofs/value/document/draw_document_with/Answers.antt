@@ -2,6 +2,8 @@ use Rattle.ptree.specs.Document.{document}
 use Rattle.ptree.specs.Drawing.{look_of}
 use Rattle.ptree.specs.declared.print_config.OutputKind.TheVariants.{Stdout}
 use Rattle.ptree.proofs.Documents.{nothing_drawn, no_entries}
+use Rattle.std.proofs.Common.{arith}
+use Rattle.std.proofs.lemmas.Grind.{common_steps}
 use Rattle.ptree.proofs.value.document.draw_document_with.Goals as goal
 
 pub returns-in_err-value-clause-bytes : goal.returns-in_err-value-clause-bytes
@@ -11,3 +13,9 @@ returns-in_err-value-clause-bytes g c =
 pub returns-in_err-value-clause-whole : goal.returns-in_err-value-clause-whole
 returns-in_err-value-clause-whole g c =
     no_entries _ (document c.args.format c.args.text.now) (look_of c.args.config.now Stdout c.args.terminal) c.args.label.now c.args.config.now.depth _
+
+pub returns-in_err-print_tree_with-clause-bytes : goal.returns-in_err-print_tree_with-clause-bytes
+returns-in_err-print_tree_with-clause-bytes g c = grind (arith, common_steps)
+
+pub returns-clause-bytes : goal.returns-clause-bytes
+returns-clause-bytes g c = grind (arith, common_steps)

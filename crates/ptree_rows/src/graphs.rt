@@ -1,0 +1,61 @@
+//! Makes the calls of a graph: its nodes, its edges, and the node that it is drawn from.
+
+use crate::form::value_meant;
+use crate::trouble::Trouble;
+use ptree::graph::{EdgeError, Graph, NodeIndex};
+use std::alloc::Global;
+
+/// A graph of texts, and the node that it is drawn from.
+#[derive(Drop)]
+pub struct Nodes {
+    pub graph: Graph<String>,
+    pub start: NodeIndex,
+}
+
+const NO_NUMBER: Trouble = Trouble::Bad("no number of a node");
+
+fn node(text: &str) -> Result<NodeIndex, Trouble> {
+    Ok(NodeIndex(text.parse::<usize>().ok().ok_or(NO_NUMBER)?))
+}
+
+// Pairs as `0>1 0>2`.
+fn pairs(alloc: Global, body: &str) -> Result<Vec<(NodeIndex, NodeIndex)>, Trouble> {
+    let mut found = Vec::new(alloc);
+    for pair in body.split_whitespace() {
+        let (source, target) = pair.split_once('>').ok_or(NO_NUMBER)?;
+        found.push((node(source)?, node(target)?))?;
+    }
+    Ok(found)
+}
+
+impl Nodes {
+    /// A graph without nodes.
+    pub fn new(alloc: Global) -> Nodes {
+        Nodes {
+            graph: Graph::new(alloc),
+            start: NodeIndex(0),
+        }
+    }
+
+    /// Adds the edges of `0>1 0>2`, and returns whether the graph took them.
+    pub fn add_edges(&mut self, alloc: Global, body: &str) -> Result<bool, Trouble> {
+        let pairs = pairs(alloc, body)?;
+        match self.graph.extend_with_edges(pairs.as_slice()) {
+            Ok(()) => Ok(true),
+            Err(EdgeError::NoNode) => Ok(false),
+            Err(EdgeError::Memory) => Err(Trouble::Memory),
+        }
+    }
+
+    /// Adds a `node`, or sets the `start`. Returns whether the word is one of these.
+    pub fn call(&mut self, alloc: Global, word: &str, body: &str) -> Result<bool, Trouble> {
+        match word {
+            "node" => {
+                self.graph.add_node(value_meant(alloc, body)?)?;
+            }
+            "start" => self.start = node(body)?,
+            _ => return Ok(false),
+        }
+        Ok(true)
+    }
+}
