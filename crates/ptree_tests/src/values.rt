@@ -5,8 +5,9 @@ use ptree_fixtures::expect::expect_drawn;
 use std::alloc::{AllocError, Global};
 use std::test::Fail;
 
-// That a value is drawn as this text under the default configuration, and under a label as the label alone.
+// That a value and its clone are drawn as this text under the default configuration, and under a label as the label alone.
 fn expect_value(alloc: Global, value: Value, text: &str) -> Result<(), Fail> {
+    expect_drawn(alloc, &value.clone()?, text)?;
     expect_drawn(alloc, &value, text)?;
     expect_drawn(alloc, &(String::from_str(alloc, "l")?, value), "l\n")
 }
