@@ -1,5 +1,5 @@
 //! Tests of `ptree` over its public surface, of what can't be a row: items, labels, writers and readers of one's own, errors, equality,
-//! values that no document has, and the examples of the README. All else is rows, in the `data` of `ptree_tree_rows` and
+//! values that no document has, and examples of the documents. All else is rows, in the `data` of `ptree_tree_rows` and
 //! `ptree_source_rows`.
 #![tactic(auto)]
 

@@ -1,4 +1,4 @@
-//! The examples of the README that stand in no crate of their own.
+//! The examples of `docs/EXAMPLES.md` that stand in no crate of their own.
 
 use ptree::TreeBuilder;
 use ptree::graph::{Graph, write_graph_with};
