@@ -14,11 +14,6 @@ abbrev pub last_flags : List Line → ℕ → List Bool
 last_flags o zero = []
 last_flags o (suc n) = last_flags o n ++ not (has_later o (suc n)) ∷ []
 
--- the last flags by the lines, for so many levels; an item at a deeper level is a last child
-pub record AreLastFlags (o : List Line) (list : List Bool) : Type 0 where
-  pub are : list ≡ last_flags o (length list)
-  pub beyond : (n : ℕ) → length list < n → has_later o n ≡ false
-
 -- the pieces of a line, by its level and the lines after it
 abbrev pub pieces_by : Pieces → List Line → ℕ → List ℕ
 pieces_by p o zero = []

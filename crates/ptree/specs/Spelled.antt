@@ -40,12 +40,6 @@ ArePiecesAt p (suc n) pieces =
 abbrev pub ArePassing : Pieces → ℕ → List ℕ → Type 0
 ArePassing p n pieces = (above : List Bool) × (length above ≡ n) × (pieces ≡ passing_all p above)
 
--- so many passing pieces were taken from the front of text, and rest is left
-pub record Passed (p : Pieces) (text rest : List ℕ) (count : ℕ) : Type 0 where
-  pub above : List Bool
-  pub count_is : length above ≡ count
-  pub text_is : text ≡ passing_all p above ++ rest
-
 -- what a text of this level shows of its passing pieces: so many of either kind before each further line, and none where it has no such line
 pub record IsShown (p : Pieces) (n : ℕ) (passing text : List ℕ) : Type 0 where
   pub further : has_line_feed text ≡ true → ArePassing p n passing
@@ -74,25 +68,6 @@ pub record Spells (look : Look) (depth : ℕ) (items : List SpelledItem) (x : Li
   pub steps : Steps 0 (lines_of_items items)
   pub within : All (λ i. i.level ≤ depth) items
   pub text_is : x ≡ spelled_text look items
-
--- x is pieces that give this level, and rest
-abbrev pub HasPieces : Pieces → ℕ → List ℕ → List ℕ → Type 0
-HasPieces p level rest x = (pieces : List ℕ) × ArePiecesAt p level pieces × (x ≡ pieces ++ rest)
-
--- x is the codes and pieces of an item at this level, with the codes behind them, and rest
-abbrev pub HasItemPieces : Look → ℕ → List ℕ → List ℕ → List ℕ → Type 0
-HasItemPieces look level pieces rest x = ArePiecesAt look.pieces level pieces × (x ≡ front_codes look.branch ++ (pieces ++ (back_codes look.branch ++ rest)))
-
--- x is own bytes that show these passing pieces, a line feed, and rest, which doesn't go on with the item
-abbrev pub HasOwn : Look → ℕ → List ℕ → List ℕ → List ℕ → List ℕ → Type 0
-HasOwn look level own passing rest x =
-    IsShown look.pieces level passing own × (x ≡ with_inserted (continued_prefix look passing) own ++ line_feed ∷ rest) × IsNotContinued look level rest
-
--- x is text, painted, that shows these passing pieces, a line feed, and rest, which doesn't go on with the item
-abbrev pub HasText : Look → ℕ → List ℕ → List ℕ → List ℕ → List ℕ → Type 0
-HasText look level text passing rest x =
-    IsShown look.pieces level passing text × (x ≡ with_inserted (continued_prefix look passing) (painted_text look.leaf text) ++ line_feed ∷ rest)
-    × IsNotContinued look level rest
 
 -- x is the text of an item, and rest, which doesn't go on with the item
 abbrev pub HasItem : Look → SpelledItem → List ℕ → List ℕ → Type 0
