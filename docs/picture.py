@@ -1,7 +1,7 @@
 #!/usr/bin/env python3
 """Makes a picture (SVG) of the drawings on standard input, side by side: each begins at a line without a piece.
 
-crates/ptree_bench/out/ptree_bench gallery | docs/picture.py > docs/styles.svg
+bench/run gallery | docs/picture.py > docs/styles.svg
 """
 import re
 import sys

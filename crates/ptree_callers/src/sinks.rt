@@ -1,7 +1,10 @@
 //! Sinks of a caller's own.
-ghost use Rattle.std.specs.Prelude.{ℕ, None};
+ghost use Rattle.std.specs.Io.KnownBytes.{Appends};
+ghost use Rattle.std.specs.Prelude.{ℕ, None, IfOk};
 
-use ptree::style::Sink;
+use ptree::buffered::Buffered;
+use ptree::style::{DrawError, Sink, put_all};
+use std::alloc::Global;
 use std::io;
 
 /// Hands on to another sink.
@@ -32,4 +35,16 @@ impl Sink for Nowhere {
     fn put(&mut self, bytes: &[u8]) -> io::Result<usize> {
         Ok(bytes.len())
     }
+}
+
+/// Writes bytes to a sink through a buffer, and returns the sink, which has got them all.
+pub fn write_buffered<S: Sink + Drop>(alloc: Global, sink: S, bytes: &[u8]) -> Result<S, DrawError>
+    ensures { IfOk result (λ s. Appends (S.contents sink) (S.contents s) bytes.now) }
+{
+    let Ok(mut buffered) = Buffered::with_capacity(alloc, 4096, sink) else {
+        return Err(DrawError::Memory);
+    };
+    put_all(&mut buffered, bytes)?;
+    buffered.flush()?;
+    Ok(buffered.into_inner())
 }

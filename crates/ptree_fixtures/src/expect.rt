@@ -1,8 +1,14 @@
-//! What a test expects, and failures that say what was found in its place.
-use crate::trees::{drawn, printed, read, spelled};
-use ptree::item::StringItem;
-use ptree::print_config::PrintConfig;
+//! What a test expects, and failures that say what was found in its place. Each makes its configuration itself, since a test that owns one
+//! takes five times as long to prove.
+use crate::screen::Screen;
+use crate::trees::plain;
+use ptree::graph::{Graph, Label, NodeIndex, write_graph_with};
+use ptree::item::TreeItem;
+use ptree::output::{print_tree_to, tree_text, write_tree_with};
+use ptree::print_config::{PrintConfig, UTF_CHARS};
+use ptree::style::{Counted, DrawError, Sink};
 use std::alloc::Global;
+use std::str;
 use std::test::Fail;
 
 /// That a text is this one.
@@ -14,51 +20,66 @@ pub fn expect_text(found: &str, wanted: &str) -> Result<(), Fail> {
     }
 }
 
-/// That `write_tree_with` writes this text of an item.
-pub fn expect_drawn(
-    alloc: Global,
-    item: &StringItem,
-    config: &PrintConfig,
-    wanted: &str,
-) -> Result<(), Fail> {
-    let text = drawn(alloc, item, config)?;
+/// That an item has this drawing under the default configuration.
+pub fn expect_drawn<T>(alloc: Global, item: &T, wanted: &str) -> Result<(), Fail>
+where
+    T: TreeItem,
+    T::Child: TreeItem<Child = T::Child> + Drop,
+{
+    let text = tree_text(alloc, item, &PrintConfig::default(alloc)?)?.ok_or("no text")?;
     expect_text(text.as_str(), wanted)
 }
 
-/// That `print_tree_with` writes this text of an item.
-pub fn expect_printed(
+/// That a graph has this drawing from its first node, under the default configuration.
+pub fn expect_graph<N: Label>(alloc: Global, graph: &Graph<N>, wanted: &str) -> Result<(), Fail> {
+    let config = PrintConfig::default(alloc)?;
+    let mut out = Counted::new(Vec::new(alloc));
+    write_graph_with(alloc, graph, NodeIndex(0), &mut out, &config)?;
+    expect_text(str::from_utf8(&out.into_inner())?, wanted)
+}
+
+/// Draws an item down to a depth, plain, in pieces of four characters.
+pub fn draw_to<T, W: Sink>(
     alloc: Global,
-    item: &StringItem,
-    terminal: bool,
-    config: &PrintConfig,
+    item: &T,
+    depth: u32,
+    out: &mut W,
+) -> Result<(), DrawError>
+where
+    T: TreeItem,
+    T::Child: TreeItem<Child = T::Child> + Drop,
+{
+    write_tree_with(alloc, item, out, &plain(alloc, UTF_CHARS, 4, depth)?)
+}
+
+/// Draws a graph from a node in the same way, which must end out of memory and leave this text.
+pub fn expect_unfinished<N: Label>(
+    alloc: Global,
+    graph: &Graph<N>,
+    start: NodeIndex,
     wanted: &str,
 ) -> Result<(), Fail> {
-    let text = printed(alloc, item, terminal, config)?;
-    expect_text(text.as_str(), wanted)
-}
-
-/// That a tree has these items, as [`spelled`] writes them.
-pub fn expect_items(alloc: Global, tree: &StringItem, wanted: &str) -> Result<(), Fail> {
-    let items = spelled(alloc, tree)?;
-    expect_text(items.as_str(), wanted)
-}
-
-/// That a text is read as a tree of these items, as [`spelled`] writes them, whose drawing is the text.
-pub fn expect_read(
-    alloc: Global,
-    text: &str,
-    config: &PrintConfig,
-    items: &str,
-) -> Result<(), Fail> {
-    let tree = read(alloc, text, config)?.ok_or("no drawing")?;
-    expect_items(alloc, &tree, items)?;
-    expect_drawn(alloc, &tree, config, text)
-}
-
-/// That a text is no drawing.
-pub fn expect_no_drawing(alloc: Global, text: &str, config: &PrintConfig) -> Result<(), Fail> {
-    match read(alloc, text, config)? {
-        None => Ok(()),
-        Some(_) => Err(Fail::new(format_args!("{text:?} is read"))),
+    let config = plain(alloc, UTF_CHARS, 4, u32::MAX)?;
+    let mut out = Counted::new(Vec::new(alloc));
+    match write_graph_with(alloc, graph, start, &mut out, &config) {
+        Err(DrawError::Memory) => expect_text(str::from_utf8(&out.into_inner())?, wanted),
+        _ => Err(Fail::new("memory was enough")),
     }
+}
+
+/// That an item is drawn so to a writer that says whether it is a terminal, under the default configuration.
+pub fn expect_on_screen<T>(
+    alloc: Global,
+    item: &T,
+    is_terminal: bool,
+    wanted: &str,
+) -> Result<(), Fail>
+where
+    T: TreeItem,
+    T::Child: TreeItem<Child = T::Child> + Drop,
+{
+    let bytes = Vec::new(alloc);
+    let screen = Screen { bytes, is_terminal };
+    let screen = print_tree_to(alloc, item, screen, &PrintConfig::default(alloc)?)?;
+    expect_text(str::from_utf8(&screen.bytes)?, wanted)
 }

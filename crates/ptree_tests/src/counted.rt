@@ -1,9 +1,8 @@
 //! What `Counted` asks of its writer or reader: each call once, with all its bytes or room, and nothing else.
 
-use ptree::output::write_tree_with;
-use ptree::print_config::UTF_CHARS;
 use ptree::style::{Counted, DrawError, Feed, Sink, Style, put_all};
-use ptree_fixtures::trees::{petgraph, plain};
+use ptree_fixtures::expect::draw_to;
+use ptree_fixtures::trees::petgraph;
 use std::alloc::Global;
 use std::io::{self, ErrorKind, Read, Write};
 use std::test::Fail;
@@ -64,8 +63,7 @@ impl Read for Watched {
 fn nothing_is_flushed(rt: HostRuntime) -> Result<(), Fail> {
     let alloc = rt.alloc();
     let mut out = Counted::new(Watched::new(alloc, 0));
-    let config = plain(alloc, UTF_CHARS, 4, u32::MAX)?;
-    assert!(rt; write_tree_with(alloc, &petgraph(alloc)?, &mut out, &config).is_ok());
+    assert!(rt; draw_to(alloc, &petgraph(alloc)?, u32::MAX, &mut out).is_ok());
     assert!(rt; Style::default().write_painted(&mut out, "text").is_ok());
     assert!(rt; put_all(&mut out, b"bytes").is_ok());
     assert_eq!(rt; out.put(b"more")?, 4);

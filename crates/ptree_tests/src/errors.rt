@@ -2,10 +2,9 @@
 
 use ptree::builder::AddError;
 use ptree::graph::EdgeError;
-use ptree::output::write_tree_with;
-use ptree::print_config::{CharsError, PrintConfig};
+use ptree::print_config::CharsError;
 use ptree::style::{Counted, DrawError, put_all};
-use ptree_fixtures::expect::expect_text;
+use ptree_fixtures::expect::{draw_to, expect_text};
 use ptree_fixtures::trees::leaf;
 use std::alloc::Global;
 use std::fmt::Display;
@@ -49,9 +48,8 @@ fn as_errors_of_std(rt: HostRuntime) -> Result<(), Fail> {
 
 // Draws by `?` alone, in a function that returns errors of std.
 fn draw_by_question(alloc: Global, text: &str) -> io::Result<Vec<u8>> {
-    let config = PrintConfig::default(alloc)?;
     let mut out = Counted::new(Vec::new(alloc));
-    write_tree_with(alloc, &leaf(alloc, text)?, &mut out, &config)?;
+    draw_to(alloc, &leaf(alloc, text)?, 0, &mut out)?;
     put_all(&mut out, b"end\n")?;
     Ok(out.into_inner())
 }

@@ -1,5 +1,6 @@
-//! Tests of `ptree` over its public surface: worked examples, the tests of the original crate, and sinks that fail. Reading is tested in
-//! `ptree_reading_tests`, and values, documents and configurations in `ptree_document_tests`.
+//! Tests of `ptree` over its public surface, of what can't be a row: items, labels, writers and readers of one's own, errors, equality,
+//! values that no document has, and examples of the documents. All else is rows, in the `data` of `ptree_tree_rows` and
+//! `ptree_source_rows`.
 #![tactic(auto)]
 
 #[cfg(test)]
@@ -7,18 +8,16 @@ mod builder;
 #[cfg(test)]
 mod counted;
 #[cfg(test)]
-mod drawing;
+mod equality;
 #[cfg(test)]
 mod errors;
 #[cfg(test)]
 mod graph;
 #[cfg(test)]
-mod indent;
-#[cfg(test)]
-mod memory;
+mod items;
 #[cfg(test)]
 mod readme;
 #[cfg(test)]
 mod sinks;
 #[cfg(test)]
-mod style;
+mod values;

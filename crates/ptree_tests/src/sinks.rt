@@ -1,61 +1,18 @@
 //! Writers that take little, that fail, and that take everything, and readers.
 
-use ptree::output::{print_tree_to, write_tree_with};
-use ptree::print_config::{PrintConfig, UTF_CHARS};
 use ptree::style::{Counted, DrawError, Feed, put_all};
-use ptree_fixtures::expect::expect_text;
+use ptree_fixtures::expect::{draw_to, expect_on_screen, expect_text};
 use ptree_fixtures::failing::{Answer, Breaking, Failing};
-use ptree_fixtures::screen::Screen;
-use ptree_fixtures::trees::{over_leaves, petgraph, plain};
-use std::alloc::Global;
+use ptree_fixtures::trees::{over_leaves, petgraph};
 use std::io::ErrorKind;
-use std::process::Abort;
 use std::str;
 use std::test::Fail;
-
-// That a writer that fails got a beginning of the drawing, and that its answer is told.
-fn assert_beginning(
-    rt: &impl Abort,
-    alloc: Global,
-    room: usize,
-    most: usize,
-    answer: Answer,
-) -> Result<(), Fail> {
-    let tree = over_leaves(alloc, "r", &["a"])?;
-    let config = plain(alloc, UTF_CHARS, 3, u32::MAX)?;
-    let whole = "r\n└─ a\n".as_bytes();
-    let mut out = Counted::new(Failing::new(alloc, 40, room, most, answer)?);
-    let result = write_tree_with(alloc, &tree, &mut out, &config);
-    let right = answer.ends(&result, room, whole.len());
-    assert!(rt; right, "{room} {most}: {result:?}");
-    let beginning = whole.get(..room).ok_or("too much room")?;
-    assert!(rt;
-        out.into_inner().taken.as_slice() == beginning,
-        "{room} {most}"
-    );
-    Ok(())
-}
-
-#[test]
-fn a_failing_writer_got_a_beginning(rt: HostRuntime) -> Result<(), Fail> {
-    let alloc = rt.alloc();
-    for room in 0.."r\n└─ a\n".len() + 1 {
-        for most in [1, 2, 100] {
-            let error = Answer::Error(ErrorKind::StorageFull);
-            for answer in [error, Answer::Zero, Answer::Interrupted] {
-                assert_beginning(&rt, alloc, room, most, answer)?;
-            }
-        }
-    }
-    Ok(())
-}
 
 #[test]
 fn whole_entries_and_a_part_of_one(rt: HostRuntime) -> Result<(), Fail> {
     let alloc = rt.alloc();
-    let config = plain(alloc, UTF_CHARS, 4, u32::MAX)?;
     let mut out = Counted::new(Failing::new(alloc, 119, 30, usize::MAX, Answer::Zero)?);
-    let result = write_tree_with(alloc, &petgraph(alloc)?, &mut out, &config);
+    let result = draw_to(alloc, &petgraph(alloc)?, u32::MAX, &mut out);
     assert!(rt; matches!(&result, Err(DrawError::Zero)));
     let writer = out.into_inner();
     expect_text(str::from_utf8(&writer.taken)?, "petgraph\n├── quickcheck\n")
@@ -73,9 +30,8 @@ fn nothing_is_asked_for_no_bytes(rt: HostRuntime) -> Result<(), Fail> {
 #[test]
 fn an_entry_is_one_put(rt: HostRuntime) -> Result<(), Fail> {
     let alloc = rt.alloc();
-    let config = plain(alloc, UTF_CHARS, 4, u32::MAX)?;
     let mut out = Counted::new(Failing::new(alloc, 119, 119, 119, Answer::Zero)?);
-    assert!(rt; write_tree_with(alloc, &petgraph(alloc)?, &mut out, &config).is_ok());
+    assert!(rt; draw_to(alloc, &petgraph(alloc)?, u32::MAX, &mut out).is_ok());
     assert!(rt; out.into_inner().calls == 6);
     Ok(())
 }
@@ -84,16 +40,9 @@ fn an_entry_is_one_put(rt: HostRuntime) -> Result<(), Fail> {
 fn a_writer_is_asked_whether_it_is_a_terminal(rt: HostRuntime) -> Result<(), Fail> {
     let alloc = rt.alloc();
     let tree = over_leaves(alloc, "r", &["a"])?;
-    let config = PrintConfig::default(alloc)?;
     let dimmed = "\x1b[2m\x1b[0mr\n\x1b[2m└─ \x1b[0ma\n";
-    for (is_terminal, wanted) in [(false, "r\n└─ a\n"), (true, dimmed)] {
-        let bytes = Vec::new(alloc);
-        let Ok(screen) = print_tree_to(alloc, &tree, Screen { bytes, is_terminal }, &config) else {
-            return Err(Fail::new("nothing is printed"));
-        };
-        expect_text(str::from_utf8(&screen.bytes)?, wanted)?;
-    }
-    Ok(())
+    expect_on_screen(alloc, &tree, false, "r\n└─ a\n")?;
+    expect_on_screen(alloc, &tree, true, dimmed)
 }
 
 #[test]

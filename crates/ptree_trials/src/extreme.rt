@@ -96,11 +96,21 @@ fn draw_ring(rt: &HostRuntime, config: &PrintConfig) -> io::Result<()> {
     out.into_inner().flush()
 }
 
-/// Draws what has this name: `items`, `children`, `line`, `lines`, `characters`, `pieces` or `graph`.
+// A chain of so many items.
+fn chain(alloc: Global, items: usize) -> Result<StringItem, AllocError> {
+    let mut chain = over_leaves(alloc, "x", &[])?;
+    for _ in 1..items {
+        chain = over(alloc, "x", vec![in alloc; chain]?)?;
+    }
+    Ok(chain)
+}
+
+/// Draws what has this name: `chain`, `items`, `children`, `line`, `lines`, `characters`, `pieces` or `graph`.
 pub fn draw_extreme(rt: &HostRuntime, name: &str) -> io::Result<()> {
     let alloc = rt.alloc();
     let mut config = PrintConfig::default(alloc)?;
     match name {
+        "chain" => draw(rt, &chain(alloc, 10_000)?, &config),
         "items" => draw(rt, &wide(alloc, 20_000_000, "item")?, &config),
         "children" => draw(rt, &wide(alloc, 1_000_000, "item")?, &config),
         "line" => draw(rt, &long(alloc, PART, 16_777_216)?, &config),

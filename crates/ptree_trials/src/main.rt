@@ -1,16 +1,19 @@
 //! Tries the library on writers that fail, on random input and on input of extreme sizes, and where memory is refused:
-//! `ptree_trials TASK`. The tasks are `faults`, `fuzz SEED CASES`, `calls FOLDER SEED CASES`, `extreme NAME` and `refusals`.
+//! `ptree_trials TASK`. The tasks are `faults`, `fuzz SEED CASES`, `calls FOLDER SEED CASES`, `limits`, `extreme NAME` and
+//! `refusals`.
 #![tactic(auto)]
 
 mod deviation;
 mod extreme;
 mod faults;
 mod fuzz;
+mod limits;
 mod refusals;
 
 use extreme::draw_extreme;
 use faults::try_faults;
 use fuzz::{try_cases, write_calls};
+use limits::try_limits;
 use refusals::make_calls;
 use std::{env, io};
 
@@ -35,6 +38,7 @@ fn main(rt: HostRuntime) -> io::Result<()> {
             let name = words.next().unwrap_or(String::from_str(alloc, "children")?);
             draw_extreme(&rt, name.as_str())
         }
+        "limits" => try_limits(&rt),
         "refusals" => make_calls(&rt),
         "calls" => {
             let folder = words.next().unwrap_or(String::from_str(alloc, ".")?);

@@ -78,7 +78,8 @@ fn read_json(alloc: Global, text: &str) -> Result<Option<Document>, AllocError>
 
 /// The line, counted from 1, at which the text of a file stops being a document of its format: that of the first wrong byte, or of the
 /// key that is there twice. There is one exactly where the fault of the file is [`Fault::Syntax`](crate::print_config::Fault::Syntax).
-/// Where the text only ends too early, it is the line in which it ends. It is the first where the top of a JSON text is no object.
+/// Where the text only ends too early, it is the line in which it ends. Where the top of a JSON text is no object, it is the line of the
+/// top's first byte.
 ///
 /// # Errors
 ///
@@ -114,7 +115,7 @@ fn json_line(alloc: Global, text: &str) -> Result<Option<usize>, AllocError>
         Ok(value) => if value.is_object() {
             Ok(None)
         } else {
-            Ok(Some(1))
+            Ok(Some(top_line(text)))
         },
         Err(e) => if e.is_memory() {
             Err(AllocError)
@@ -122,6 +123,11 @@ fn json_line(alloc: Global, text: &str) -> Result<Option<usize>, AllocError>
             Ok(Some(wrong_line(alloc, text, e.line())?))
         },
     }
+}
+
+// The line of the first byte that is no blank.
+fn top_line(text: &str) -> usize {
+    line_at(text, text.len().saturating_sub(text.trim_start().len()))
 }
 
 // The first wrong line of a text in JSON, where that is this line or stands before it.

@@ -1,0 +1,202 @@
+//! Tries long chains, a million lines, and documents nested as deep as they may be, each against the drawing that the rules give.
+
+use crate::deviation::{Deviation, expect};
+use ptree::TreeBuilder;
+use ptree::item::StringItem;
+use ptree::output::tree_bytes;
+use ptree::print_config::PrintConfig;
+use ptree::read::read_tree;
+use ptree::style::Counted;
+use ptree::value::{DocError, DocFormat, draw_document_with};
+use ptree_fixtures::trees::{leaf, over, over_leaves};
+use std::alloc::{AllocError, Global};
+use std::io;
+
+// How many items a chain has below its root, and how many lines a text.
+const ITEMS: u32 = 200;
+
+const LINES: u32 = 1_000_000;
+
+// Lines of last children, each one level deeper: so many, the first behind these blanks.
+fn steps(alloc: Global, blanks: &str, text: &str, levels: u32) -> Result<String, AllocError> {
+    let mut drawing = String::new(alloc);
+    let mut front = String::from_str(alloc, blanks)?;
+    for _ in 0..levels {
+        drawing.push_str(front.as_str())?;
+        drawing.push_str("└─ ")?;
+        drawing.push_str(text)?;
+        drawing.push('\n')?;
+        front.push_str("   ")?;
+    }
+    Ok(drawing)
+}
+
+// A root over a chain, made by a builder.
+fn built_chain(alloc: Global) -> Result<StringItem, Deviation> {
+    let mut builder = TreeBuilder::new(alloc, String::from_str(alloc, "x")?);
+    for level in 0..ITEMS {
+        builder.add_at_level(level.saturating_add(1), String::from_str(alloc, "x")?)?;
+    }
+    Ok(builder.build()?)
+}
+
+// The same, made from the last item up.
+fn nested_chain(alloc: Global) -> Result<StringItem, AllocError> {
+    let mut chain = leaf(alloc, "x")?;
+    for _ in 0..ITEMS {
+        chain = over(alloc, "x", vec![in alloc; chain]?)?;
+    }
+    Ok(chain)
+}
+
+// That a tree has this drawing under the default configuration, and reads back.
+fn reads_back(alloc: Global, tree: &StringItem, drawing: &str) -> Result<(), Deviation> {
+    let config = PrintConfig::default(alloc)?;
+    let drawn = tree_bytes(alloc, tree, &config)?;
+    expect(
+        drawn.as_slice() == drawing.as_bytes(),
+        "a long tree has this drawing",
+    )?;
+    match read_tree(alloc, drawing, &config)? {
+        Some(read) => expect(read == *tree, "a long drawing is read as its tree"),
+        None => Err(Deviation::of("a long drawing is read")),
+    }
+}
+
+// A chain of items.
+fn try_chain(alloc: Global) -> Result<(), Deviation> {
+    let drawing = format!(in alloc; "x\n{}", steps(alloc, "", "x", ITEMS)?)?;
+    reads_back(alloc, &built_chain(alloc)?, drawing.as_str())?;
+    reads_back(alloc, &nested_chain(alloc)?, drawing.as_str())
+}
+
+// Texts of so many lines, of a root and of a child.
+fn try_lines(alloc: Global) -> Result<(), Deviation> {
+    let mut text = String::from_str(alloc, "a")?;
+    let mut root = String::from_str(alloc, "a\n")?;
+    let mut child = String::from_str(alloc, "r\n└─ a\n")?;
+    for _ in 1..LINES {
+        text.push_str("\na")?;
+        root.push_str(": a\n")?;
+        child.push_str("   : a\n")?;
+    }
+    reads_back(alloc, &leaf(alloc, text.as_str())?, root.as_str())?;
+    let tree = over_leaves(alloc, "r", &[text.as_str()])?;
+    reads_back(alloc, &tree, child.as_str())
+}
+
+// A root over half as many items, each over one.
+fn try_items(alloc: Global) -> Result<(), Deviation> {
+    let mut text = String::from_str(alloc, "r\n")?;
+    let mut children = Vec::new(alloc);
+    for _ in 0..LINES / 2 {
+        text.push_str("├─ a\n│  └─ b\n")?;
+        children.push(over_leaves(alloc, "a", &["b"])?)?;
+    }
+    text.push_str("└─ c\n")?;
+    children.push(leaf(alloc, "c")?)?;
+    reads_back(alloc, &over(alloc, "r", children)?, text.as_str())
+}
+
+// What opens a level of a document, what stands in the last one, and what closes a level.
+type Parts = (&'static str, &'static str, &'static str);
+
+const LISTS: Parts = ("[", "", "]");
+
+const JSON_MAPS: Parts = ("{\"k\":", "{}", "}");
+
+const JSON_BOTH: Parts = ("[{\"k\":", "[]", "}]");
+
+const TOML_MAPS: Parts = ("{ k = ", "{}", " }");
+
+const TOML_KEYS: Parts = ("k.", "k = []", "");
+
+// A document of so many levels, behind a front.
+fn nested(
+    alloc: Global,
+    front: &str,
+    levels: usize,
+    (open, inner, close): Parts,
+) -> Result<String, AllocError> {
+    let mut text = String::from_str(alloc, front)?;
+    text.push_str(open.repeat(alloc, levels)?.as_str())?;
+    text.push_str(inner)?;
+    text.push_str(close.repeat(alloc, levels)?.as_str())?;
+    Ok(text)
+}
+
+// That a document has this drawing under the default configuration and the label `d`.
+fn is_drawn(alloc: Global, format: DocFormat, text: &str, drawing: &str) -> Result<(), Deviation> {
+    let config = PrintConfig::default(alloc)?;
+    let mut out = Counted::new(Vec::new(alloc));
+    let drawn = draw_document_with(alloc, format, text, "d", &config, false, &mut out);
+    let is_right = drawn.is_ok() && out.into_inner().as_slice() == drawing.as_bytes();
+    expect(is_right, "a document at the limit has this drawing")
+}
+
+// That a text is no document, and nothing is written of it.
+fn is_refused(alloc: Global, format: DocFormat, text: &str) -> Result<(), Deviation> {
+    let config = PrintConfig::default(alloc)?;
+    let mut out = Counted::new(Vec::new(alloc));
+    let drawn = draw_document_with(alloc, format, text, "d", &config, false, &mut out);
+    let is_right = matches!(&drawn, Err(DocError::Syntax)) && out.into_inner().is_empty();
+    expect(is_right, "a text past the limit is no document")
+}
+
+// 127 lists and objects.
+fn try_json(alloc: Global) -> Result<(), Deviation> {
+    for (parts, levels, text) in [(LISTS, 127, ""), (JSON_MAPS, 126, "k")] {
+        let drawing = format!(in alloc; "d\n{}", steps(alloc, "", text, 126)?)?;
+        let document = nested(alloc, "", levels, parts)?;
+        is_drawn(alloc, DocFormat::Json, document.as_str(), drawing.as_str())?;
+    }
+    for (parts, levels) in [(LISTS, 128), (JSON_MAPS, 127), (JSON_BOTH, 64)] {
+        let document = nested(alloc, "", levels, parts)?;
+        is_refused(alloc, DocFormat::Json, document.as_str())?;
+    }
+    Ok(())
+}
+
+// 80 arrays and inline tables, and keys of 80 parts.
+fn try_toml(alloc: Global) -> Result<(), Deviation> {
+    for (front, parts, levels, key, text) in [
+        ("a = ", LISTS, 80, "a", ""),
+        ("a = ", TOML_MAPS, 79, "a", "k"),
+        ("", TOML_KEYS, 79, "k", "k"),
+    ] {
+        let below = steps(alloc, "   ", text, 79)?;
+        let drawing = format!(in alloc; "d\n└─ {key}\n{below}")?;
+        let document = nested(alloc, front, levels, parts)?;
+        is_drawn(alloc, DocFormat::Toml, document.as_str(), drawing.as_str())?;
+    }
+    for (front, parts, levels) in [
+        ("a = ", LISTS, 81),
+        ("a = ", TOML_MAPS, 80),
+        ("", TOML_KEYS, 80),
+    ] {
+        let document = nested(alloc, front, levels, parts)?;
+        is_refused(alloc, DocFormat::Toml, document.as_str())?;
+    }
+    Ok(())
+}
+
+// Says how a trial ended.
+fn report(rt: &HostRuntime, name: &str, ended: Result<(), Deviation>) -> io::Result<()> {
+    match ended {
+        Ok(()) => println!(rt; "{name}"),
+        Err(deviation) => {
+            println!(rt; "{name}: {deviation}")?;
+            Err(io::Error::from(deviation))
+        }
+    }
+}
+
+/// Tries all of them, names each, and stops at the first rule that isn't kept.
+pub fn try_limits(rt: &HostRuntime) -> io::Result<()> {
+    let alloc = rt.alloc();
+    report(rt, "a chain of 200 items", try_chain(alloc))?;
+    report(rt, "a text of a million lines", try_lines(alloc))?;
+    report(rt, "a million items", try_items(alloc))?;
+    report(rt, "JSON nested to the limit, and past it", try_json(alloc))?;
+    report(rt, "TOML nested to the limit, and past it", try_toml(alloc))
+}
