@@ -3,6 +3,7 @@ use Rattle.std.proofs.lemmas.List.{map-append}
 use Rattle.ptree.specs.Outline.{line}
 use Rattle.ptree.specs.Rows.{text_line}
 use Rattle.ptree.proofs.Steps.{Steps-push, last_level-push}
+use Rattle.std.proofs.lemmas.Grind.{common_steps}
 use Rattle.ptree.proofs.builder.TreeBuilder.add_line.Goals as goal
 
 pub invariant_of-self-then-is_begun : goal.invariant_of-self-then-is_begun
@@ -20,3 +21,9 @@ invariant_of-self-else-is_begun c =
     let inside = c.self.invariant in
     rw (c.in_ok-push.ensures.items, map-append)
     (Steps-push 0 old added inside.0 (omega arith) (omega (arith, inside.1)), rw last_level-push (omega arith))
+
+pub returns-then-is_begun-clause-outline : goal.returns-then-is_begun-clause-outline
+returns-then-is_begun-clause-outline c = grind (arith, common_steps)
+
+pub returns-else-is_begun-clause-outline : goal.returns-else-is_begun-clause-outline
+returns-else-is_begun-clause-outline c = grind (arith, common_steps)

@@ -5,7 +5,7 @@ use Rattle.ptree.specs.Looks.{look_meant, own_text}
 use Rattle.ptree.specs.Entries.{kid_entries, entries_below}
 use Rattle.ptree.specs.Pieces.{passing_piece}
 use Rattle.ptree.specs.Shape.{kids}
-use Rattle.ptree.proofs.Engine.{item_written, all_below, begun_none, begun_part, begun_then, begun_err, not_last, still_turned, long_enough, take_again, quiet}
+use Rattle.ptree.proofs.Engine.{item_written, none_below, all_below, begun_none, begun_part, begun_then, begun_err, not_last, still_turned, long_enough, take_again, quiet}
 use Rattle.ptree.proofs.Written.{entries_none, entries_err, entry_part}
 use Rattle.std.proofs.lemmas.Grind.{common_steps}
 use Rattle.ptree.proofs.output.engine.+draw.Goals as goal
@@ -84,7 +84,10 @@ draw_below-returns-clause-bytes g t c = λ front e.
     (c.draw_children.ensures.bytes passing (c.in_ok-pass.ensures.line ∙ ap (λ xs. xs ++ passing_piece look.pieces c.args.is_last) e ∙ append_assoc _ front _))
 
 pub draw_below-returns-then-is_empty-clause-bytes : goal.draw_below-returns-then-is_empty-clause-bytes
-draw_below-returns-then-is_empty-clause-bytes g t c = grind (arith, common_steps)
+draw_below-returns-then-is_empty-clause-bytes g t c = λ front e.
+    let look = look_meant c.args.brush.now.look.now in
+    none_below look (entries_below look c.args.levels_left) (front ++ passing_piece look.pieces c.args.is_last) (g.C.Shaped.shape c.args.item.now) _ g.C.Shaped.shape c.as_slice.result.now c.is_empty.result
+    c.if-is_empty.true c.is_empty.ensures (ap (map g.C.Shaped.shape) c.as_slice.ensures ∙ c.in_ok-children.ensures)
 
 pub draw_below-returns-clause-kept : goal.draw_below-returns-clause-kept
 draw_below-returns-clause-kept g t c = grind (arith, common_steps)

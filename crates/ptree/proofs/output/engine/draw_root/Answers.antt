@@ -5,7 +5,8 @@ use Rattle.ptree.specs.Looks.{look_meant}
 use Rattle.ptree.specs.Style.{front_codes}
 use Rattle.ptree.proofs.Engine.{cut_back, front_kept, root_turned}
 use Rattle.ptree.proofs.Written.{entries_none, entries_err, entry_part, entry_then}
-use Rattle.ptree.proofs.Join.{root_written}
+use Rattle.ptree.proofs.Join.{root_written, root_alone}
+use Rattle.std.proofs.lemmas.Grind.{common_steps}
 use Rattle.ptree.proofs.output.engine.draw_root.Goals as goal
 
 pub returns-in_err-extend_from_slice-clause-bytes : goal.returns-in_err-extend_from_slice-clause-bytes
@@ -51,3 +52,13 @@ returns-clause-bytes g c =
     (ap (map g.T.Child.Shaped.shape) c.as_slice.ensures ∙ c.in_ok-children.ensures)
     (c.in_ok-draw_entry.ensures.bytes [] (front_kept c.len-width.result _ _ _ wide c.in_ok-extend_from_slice.ensures.items ∙ front))
     (c.draw_children.ensures.bytes [] (cut_back c.len-width.result _ _ _ _ _ wide c.in_ok-extend_from_slice.ensures.items c.in_ok-draw_entry.ensures.kept c.truncate.ensures.items ∙ front))
+
+pub returns-then-depth-eq0-clause-bytes : goal.returns-then-depth-eq0-clause-bytes
+returns-then-depth-eq0-clause-bytes g c =
+    let look = look_meant c.args.brush.now.look.now in
+    let wide : c.len-width.result ≡ length c.args.pen.now.line.bytes.items = omega (arith, c.len-width.ensures, c.args.pen.now.line.bytes.ok.0) in
+    let front = front_kept c.len-width.result _ _ _ wide c.in_ok-extend_from_slice.ensures.items ∙ c.requires.front ∙ sym (append-nil (front_codes look.branch)) in
+    root_alone look c.args.depth (g.T.Shaped.shape c.args.item.now) _ _ c.if-depth-eq0.true (c.in_ok-draw_entry.ensures.bytes [] front)
+
+pub returns-clause-cause : goal.returns-clause-cause
+returns-clause-cause g c = grind (arith, common_steps)
