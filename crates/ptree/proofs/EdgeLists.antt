@@ -114,3 +114,9 @@ pub newest_starts : (edges : List (ℕ × ℕ)) (v m : ℕ) → m ≡ newest_fro
 newest_starts edges v m h =
     subst (λ (l : List (ℕ × ℕ)). (neighbors_of (take m edges) v ≡ neighbors_of l v) × (m ≡ newest_from (take m edges) v)) (take-length edges)
     (newest_settles edges v (length edges) m (omega arith) (h ∙ ap (λ l. newest_from l v) (sym (take-length edges))))
+
+-- one more target is given, and the rest is the same
+pub given_more : {X Y : Type 0} (f : X → Y) (items new : List X) (x : X) (before rest all : List Y) → new ≡ items ++ x ∷ [] → before ≡ f x ∷ rest → map f items ++ before ≡ all → map f new ++ rest ≡ all
+given_more f items new x before rest all n b h =
+    ap (λ ys. map f ys ++ rest) n ∙ ap (λ ys. ys ++ rest) (map-append f items (x ∷ [])) ∙ append_assoc (map f items) (f x ∷ []) rest
+    ∙ ap (λ ys. map f items ++ ys) (sym b) ∙ h

@@ -78,6 +78,17 @@ begun_err shape look below front all rest others x last a b c e is end h k =
     subst (λ (es : List (List ℕ)). AppendsEntries a c e es) (ap (λ es. h.0 ++ es) (next_is shape look below front rest others x last is end) ∙ h.1)
     (entries_then a b c e h.0 (item ++ behind) h.2 (entries_more b c e item behind k))
 
+empty_list : {C : Type 0} (ks : List C) (b : Bool) → b ≡ true → b ≡ eqb (length ks) 0 → ks ≡ []
+empty_list [] b h k = refl
+empty_list (x ∷ xs) b h k =
+    let some : eqb (length (x ∷ xs)) 0 ≡ false = grind (arith, nat_tests) in absurd (cc)
+
+-- an item with no children has nothing below it
+pub none_below : {D : Type 0} (look : Look) (below : List ℕ → Shape → List (List ℕ)) (front : List ℕ) (x : Shape) (a : Option (List ℕ)) (shape : D → Shape) (ks : List D) (empty : Bool)
+    → empty ≡ true → empty ≡ eqb (length ks) 0 → map shape ks ≡ kids x → Appends a a (concat (kid_entries look below front (kids x)))
+none_below look below front x a shape ks empty e1 e2 ek =
+    subst (λ (xs : List Shape). Appends a a (concat (kid_entries look below front xs))) (ap (map shape) (sym (empty_list ks empty e1 e2)) ∙ ek) (appends_nothing a)
+
 -- the entries of an item's children are those below it
 pub all_below : {D A E : Type 0} (look : Look) (below : List ℕ → Shape → List (List ℕ)) (front : List ℕ) (x : Shape) (a b : Option (List ℕ)) (r : Result A E) (e : DrawError) (shape : D → Shape) (ks : List D)
     → map shape ks ≡ kids x → AreWritten a b r e (kid_entries look below front (map shape ks)) → AreWritten a b r e (kid_entries look below front (kids x))
@@ -102,6 +113,10 @@ entry_held look width bytes front last x turned is =
     inside : (a b c d e : List ℕ) → (a ++ b) ++ (c ++ d ++ e) ≡ a ++ ((b ++ c) ++ d) ++ e
     inside a b c d e = simp append_assoc
 
+-- what it holds a level down
+pub down_is : (look : Look) (front piece line again below : List ℕ) → line ≡ front_codes look.branch ++ front → again ≡ line → below ≡ again ++ piece → below ≡ front_codes look.branch ++ (front ++ piece)
+down_is look front piece line again below el ea eb = eb ∙ ap (λ l. l ++ piece) (ea ∙ el) ∙ append_assoc (front_codes look.branch) front piece
+
 -- a list whose first so many make a list of that length has so many
 pub long_enough : (n : ℕ) (xs ys : List ℕ) → take n xs ≡ ys → n ≡ length ys → n ≤ length xs
 long_enough n xs ys e h = let same : length (take n xs) ≡ min n (length xs) = length-take n xs in let all = ap length e in omega (arith, same, all, h)
@@ -111,6 +126,12 @@ pub take_again : (n : ℕ) (xs ys zs : List ℕ) → n ≤ length xs → zs ≡ 
 take_again n xs ys zs h e =
     let same : length (take n xs) ≡ min n (length xs) = length-take n xs in
     ap (take n) e ∙ take-append-le n (take n xs) ys (omega (arith, same)) ∙ take_all n (take n xs) (omega (arith, same))
+
+-- an item at the last level
+pub item_ended : (look : Look) (left : ℕ) (front : List ℕ) (last : Bool) (x : Shape) (a b : Option (List ℕ))
+    → left ≡ 0 → Appends a b (entry_of look (front ++ turning_piece look.pieces last) (front ++ passing_piece look.pieces last) x) → Appends a b (concat (item_entries look left front last x))
+item_ended look zero front last x a b e h = subst (λ (y : List ℕ). Appends a b y) (sym (append-nil (entry_of look (front ++ turning_piece look.pieces last) (front ++ passing_piece look.pieces last) x))) h
+item_ended look (suc n) front last x a b e h = absurd (omega (arith, e))
 
 -- an error that is no fault tells none
 pub quiet : (a b : ℕ) (e : DrawError) → HasErrorCause a b e → e ≡ Memory → b ≡ a

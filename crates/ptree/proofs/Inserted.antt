@@ -72,6 +72,26 @@ pub feed_painted : (style : StyleValue) (text : List ℕ) → has_line_feed (pai
 feed_painted style text =
     feed_back (front_codes style ++ text) (back_codes style) (no_line_feed_back style) ∙ feed_front (front_codes style) text (no_line_feed_front style)
 
+-- one byte more
+pub inserted_more : (inserted front xs done : List ℕ) (i : ℕ) → i < length xs → done ≡ front ++ with_inserted inserted (take i xs)
+    → done ++ cond (eqb (get_or xs i 0) 10) (10 ∷ inserted) (get_or xs i 0 ∷ []) ≡ front ++ with_inserted inserted (take (i + 1) xs)
+inserted_more inserted front xs done i h e =
+    ap (λ z. z ++ cond (eqb (get_or xs i 0) 10) (10 ∷ inserted) (get_or xs i 0 ∷ [])) e
+    ∙ (flat_map_more (λ c. cond (eqb c 10) (10 ∷ inserted) (c ∷ [])) front (take i xs) (get_or xs i 0) ∙ ap (λ z. front ++ with_inserted inserted z) (sym (take_more xs i 0 h)))
+
+-- a line feed and what is inserted
+pub more_feed : (inserted front xs done a b : List ℕ) (i : ℕ) → i < length xs → done ≡ front ++ with_inserted inserted (take i xs) → get_or xs i 0 ≡ 10 → a ≡ done ++ get_or xs i 0 ∷ [] → b ≡ a ++ inserted
+    → b ≡ front ++ with_inserted inserted (take (i + 1) xs)
+more_feed inserted front xs done a b i h e feed ea eb =
+    eb ∙ (ap (λ z. z ++ inserted) (ea ∙ ap (λ z. done ++ z ∷ []) feed) ∙ (append_assoc done (10 ∷ []) inserted
+    ∙ (ap (λ c. done ++ cond c (10 ∷ inserted) (get_or xs i 0 ∷ [])) (sym (eq-eqb (get_or xs i 0) 10 feed)) ∙ inserted_more inserted front xs done i h e)))
+
+-- another byte
+pub more_other : (inserted front xs done a : List ℕ) (i : ℕ) → i < length xs → done ≡ front ++ with_inserted inserted (take i xs) → (get_or xs i 0 ≡ 10 → ⊥) → a ≡ done ++ get_or xs i 0 ∷ []
+    → a ≡ front ++ with_inserted inserted (take (i + 1) xs)
+more_other inserted front xs done a i h e other ea =
+    ea ∙ (ap (λ c. done ++ cond c (10 ∷ inserted) (get_or xs i 0 ∷ [])) (sym (ne_eqb (get_or xs i 0) 10 other)) ∙ inserted_more inserted front xs done i h e)
+
 -- what is known of the default reading is known of each
 pub no_line_feed_from_reads : (xs : List ℕ) → ((i : ℕ) → i < length xs → get_or xs i 0 ≢ 10) → HasNoLineFeed xs
 no_line_feed_from_reads xs h k d l e = h k l (sym (get_or_default xs k d 0 l) ∙ e)

@@ -47,6 +47,46 @@ entry_pair-below key (d.seq xs) = refl
 entry_pair-below key (d.map es) = refl
 entry_pair-below key (d.bytes bs) = refl
 
+-- a list has no text
+list_text : (value : Data) → is_list value ≡ true → value_text value ≡ []
+list_text (d.seq xs) h = refl
+list_text (d.map es) h = refl
+list_text (d.boolean _) h = absurd (false≢true h)
+list_text (d.u8 _) h = absurd (false≢true h)
+list_text (d.u16 _) h = absurd (false≢true h)
+list_text (d.u32 _) h = absurd (false≢true h)
+list_text (d.u64 _) h = absurd (false≢true h)
+list_text (d.i8 _) h = absurd (false≢true h)
+list_text (d.i16 _) h = absurd (false≢true h)
+list_text (d.i32 _) h = absurd (false≢true h)
+list_text (d.i64 _) h = absurd (false≢true h)
+list_text (d.character _) h = absurd (false≢true h)
+list_text (d.string _) h = absurd (false≢true h)
+list_text d.unit h = absurd (false≢true h)
+list_text d.nothing h = absurd (false≢true h)
+list_text (d.something _) h = absurd (false≢true h)
+list_text (d.newtype _) h = absurd (false≢true h)
+list_text (d.bytes _) h = absurd (false≢true h)
+
+-- the text of a list or a map under its key is the key
+pub entry_pair-list : (key value : Data) → is_list value ≡ true → pair_text (entry_pair key value) ≡ value_text key
+entry_pair-list key value h = rw h (labelled (value_text key) (list_text value h))
+  where
+    labelled : (label : List ℕ) → value_text value ≡ [] → pair_text (label, value) ≡ label
+    labelled [] e = e
+    labelled (c ∷ label) e = refl
+
+-- the text of a simple value with its key
+pub entry_pair-simple : (key value : Data) → is_list value ≡ false → pair_text (entry_pair key value) ≡ value_text key ++ codes " = " ++ value_text value
+entry_pair-simple key value h = rw h refl
+
+pub empty_label : (label : List ℕ) (value : Data) → label ≡ [] → pair_text (label, value) ≡ value_text value
+empty_label label value e = rw e refl
+
+pub some_label : (label : List ℕ) (value : Data) → label ≢ [] → pair_text (label, value) ≡ label
+some_label [] value h = absurd (h refl)
+some_label (c ∷ label) value h = refl
+
 -- the children's shapes, where these are the children
 pub kids_of_pair : {X : Type 0} (f : X → Pair) (p : Pair) (xs : List X) → map f xs ≡ value_pairs p.1 → map (λ x. pair_shape (f x)) xs ≡ kids (pair_shape p)
 kids_of_pair f p xs h = map_twice f pair_shape xs ∙ ap (map pair_shape) h ∙ kids_of_unfold pair_own pair_below p
