@@ -1,7 +1,8 @@
-use Rattle.std.proofs.Common.{◌∙◌, ap, map}
+use Rattle.std.proofs.Common.{◌∙◌, ap, map, arith}
 use Rattle.ptree.specs.Tree.{tree, forest, tree_of}
 use Rattle.ptree.proofs.Rows.{row-more}
 use Rattle.ptree.proofs.TreeLemmas.{tree_of_roll}
+use Rattle.std.proofs.lemmas.Grind.{common_steps}
 use Rattle.ptree.proofs.builder.+row_from_outline.Goals as goal
 
 pub loop-first-preserved : goal.loop-first-preserved
@@ -13,3 +14,21 @@ loop-first-preserved g t c =
     c.loop-first.invariant c.in-Some.ensures.cases.0 (rw c.level-level.ensures at c.if-level-above.false)
     (tree_of_roll _ ∙ ap (λ z. tree z (forest (map tree_of children))) (c.in_ok-text.ensures.ok ∙ c.text.ensures))
     (rw c.level-level.ensures at c.in_ok-children.ensures))
+
+pub returns-in_err-text : goal.returns-in_err-text
+returns-in_err-text g t c = grind (arith, common_steps)
+
+pub row_from_outline-requires : goal.row_from_outline-requires
+row_from_outline-requires g t c = grind (arith, common_steps)
+
+pub returns-in_err-children : goal.returns-in_err-children
+returns-in_err-children g t c = grind (arith, common_steps)
+
+pub returns-in_err-push : goal.returns-in_err-push
+returns-in_err-push g t c = grind (arith, common_steps)
+
+pub loop-first-smaller : goal.loop-first-smaller
+loop-first-smaller g t c = grind (arith, common_steps)
+
+pub returns : goal.returns
+returns g t c = grind (arith, common_steps)

@@ -1,4 +1,4 @@
-use Rattle.std.proofs.Common.{◌≡◌, ◌∙◌, List, true, ◌&&◌, map, ap, sym, subst, rules, string_bytes}
+use Rattle.std.proofs.Common.{◌≡◌, ◌∙◌, List, true, ◌&&◌, map, ap, sym, subst, rules, string_bytes, arith}
 use Rattle.std.proofs.lemmas.List.{drop_all}
 use Rattle.std.specs.Str.{bytes_eq}
 use Rattle.ptree.specs.Equality.{same_forest}
@@ -6,6 +6,7 @@ use Rattle.ptree.specs.Tree.{none, tree_of, forest}
 use Rattle.ptree.specs.declared.item.StringItem.{StringItem, out-StringItem}
 use Rattle.ptree.proofs.TreeLemmas.{tree_of_item}
 use Rattle.ptree.proofs.SameTrees.{none_test}
+use Rattle.std.proofs.lemmas.Grind.{common_steps}
 use Rattle.ptree.proofs.item.tree.+is_same.Goals as goal
 
 pub returns : goal.returns
@@ -18,3 +19,12 @@ returns t c =
     let left : same_forest none (forest (map tree_of c.loop-child.rest.now)) ≡ same = subst (λ (xs : List StringItem). same_forest (forest (map tree_of xs)) (forest (map tree_of c.loop-child.rest.now)) ≡ same) (drop_all c.loop-child.child-index c.deref-child-items.result.now c.loop-child-test.false) c.loop-child.invariant in
     let empty : c.is_empty.result ≡ same_forest none (forest (map tree_of c.loop-child.rest.now)) = c.is_empty.ensures ∙ none_test tree_of c.loop-child.rest.now in
     empty ∙ left ∙ ap (λ z. z && same) (sym texts)
+
+pub returns-in_default : goal.returns-in_default
+returns-in_default t c = grind (arith, common_steps)
+
+pub returns-then-not-is_same : goal.returns-then-not-is_same
+returns-then-not-is_same t c = grind (arith, common_steps)
+
+pub loop-child-preserved : goal.loop-child-preserved
+loop-child-preserved t c = grind (arith, common_steps)

@@ -35,3 +35,21 @@ continue_lines-requires-clause-start g c = grind (arith, common_steps)
 
 pub returns-clause-kept : goal.returns-clause-kept
 returns-clause-kept g c = grind (arith, common_steps)
+
+pub returns-in-Err-clause-cause : goal.returns-in-Err-clause-cause
+returns-in-Err-clause-cause g c = grind (arith, common_steps)
+
+pub returns-in_err-continue_lines-clause-memory : goal.returns-in_err-continue_lines-clause-memory
+returns-in_err-continue_lines-clause-memory g c = grind (arith, common_steps)
+
+pub returns-in_err-continue_lines-clause-cause : goal.returns-in_err-continue_lines-clause-cause
+returns-in_err-continue_lines-clause-cause g c = grind (arith, common_steps)
+
+pub returns-in_err-put_or_stop-clause-error : goal.returns-in_err-put_or_stop-clause-error
+returns-in_err-put_or_stop-clause-error g c = grind (arith, common_steps)
+
+pub returns-in_err-put_or_stop-clause-kept : goal.returns-in_err-put_or_stop-clause-kept
+returns-in_err-put_or_stop-clause-kept g c = grind (arith, common_steps)
+
+pub returns-clause-cause : goal.returns-clause-cause
+returns-clause-cause g c = grind (arith, common_steps)

@@ -1,6 +1,7 @@
-use Rattle.std.proofs.Common.{◌∙◌}
+use Rattle.std.proofs.Common.{◌∙◌, arith}
 use Rattle.ptree.proofs.Painting.{codes_part, text_part, all_written}
 use Rattle.ptree.proofs.Written.{written_err}
+use Rattle.std.proofs.lemmas.Grind.{common_steps}
 use Rattle.ptree.proofs.style.Style.write_with_codes.Goals as goal
 
 pub returns-in_err-put_codes-clause-bytes : goal.returns-in_err-put_codes-clause-bytes
@@ -16,3 +17,15 @@ pub returns-clause-bytes : goal.returns-clause-bytes
 returns-clause-bytes g c =
     all_written _ _ _ _ _ _ _ _ _ _ _ (c.as_bytes.ensures ∙ c.gather.ensures.front) c.as_bytes-2.ensures.value (c.as_bytes-3.ensures.value ∙ c.reset.ensures ∙ c.gather.ensures.back)
     c.in_ok-put_codes.ensures.bytes c.in_ok-put_or_stop.ensures.bytes c.put_or_stop-2.ensures.bytes
+
+pub returns-in_err-put_or_stop-clause-cause : goal.returns-in_err-put_or_stop-clause-cause
+returns-in_err-put_or_stop-clause-cause g c = grind (arith, common_steps)
+
+pub returns-in_err-put_or_stop-clause-error : goal.returns-in_err-put_or_stop-clause-error
+returns-in_err-put_or_stop-clause-error g c = grind (arith, common_steps)
+
+pub returns-in_err-put_or_stop-clause-memory : goal.returns-in_err-put_or_stop-clause-memory
+returns-in_err-put_or_stop-clause-memory g c = grind (arith, common_steps)
+
+pub returns-clause-cause : goal.returns-clause-cause
+returns-clause-cause g c = grind (arith, common_steps)

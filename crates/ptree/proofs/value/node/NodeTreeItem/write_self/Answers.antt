@@ -7,3 +7,9 @@ returns-then-is_empty-clause-bytes g c = grind (arith, common_steps)
 
 pub returns-else-is_list-clause-bytes : goal.returns-else-is_list-clause-bytes
 returns-else-is_list-clause-bytes g c = grind (arith, common_steps)
+
+pub returns-then-is_list-clause-bytes : goal.returns-then-is_list-clause-bytes
+returns-then-is_list-clause-bytes g c = grind (arith, common_steps)
+
+pub returns-else-is_empty-clause-bytes : goal.returns-else-is_empty-clause-bytes
+returns-else-is_empty-clause-bytes g c = grind (arith, common_steps)
