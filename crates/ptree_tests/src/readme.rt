@@ -43,13 +43,18 @@ fn notes_are_drawn(rt: HostRuntime) -> Result<(), Fail> {
     expect_text(text, NOTES)
 }
 
+// What is read of a text under the default configuration.
+fn read_default(alloc: Global, text: &str) -> Result<Option<StringItem>, AllocError> {
+    let config = PrintConfig::default(alloc)?;
+    read_tree(alloc, text, &config)
+}
+
 #[test]
 fn notes_are_edited_as_text(rt: HostRuntime) -> Result<(), Fail> {
     let alloc = rt.alloc();
     let text = NOTES;
-    let config = PrintConfig::default(alloc)?;
     let edited = text.replace(alloc, "by Friday\n", "by Friday,\n│  : with flowers\n")?;
-    let notes = read_tree(alloc, edited.as_str(), &config)?.ok_or("no drawing")?;
+    let notes = read_default(alloc, edited.as_str())?.ok_or("no drawing")?;
     let shopping = notes.children.first().ok_or("no child")?;
     expect_text(shopping.text.as_str(), "shopping\nby Friday,\nwith flowers")
 }
