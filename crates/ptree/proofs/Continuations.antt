@@ -1,18 +1,18 @@
 -- What a closing line makes a root and items whose pieces some later lines give, drawings go on from.
-use Rattle.std.proofs.Common.{◌≡◌, ℕ, zero, suc, ◌≤◌, Bool, true, false, not, cond, List, [], ◌∷◌, ◌++◌, All, refl, sym, ap, ◌∙◌, subst, append_assoc, arith}
+use Rattle.std.proofs.Common.{◌≡◌, ℕ, List, [], ◌∷◌, ◌++◌, All, refl, sym, ap, ◌∙◌, subst, append_assoc}
 use Rattle.std.proofs.lemmas.List.{append-nil}
 use Rattle.ptree.specs.Continuation.{HasContinuation}
 use Rattle.ptree.specs.Drawing.{Look}
 use Rattle.ptree.specs.DrawnForm.{IsDrawnForm}
-use Rattle.ptree.specs.Flags.{has_later, spelled_by, HaveLastFlags}
-use Rattle.ptree.specs.Outline.{Line, line, Steps, last_level}
+use Rattle.ptree.specs.Flags.{spelled_by, HaveLastFlags}
+use Rattle.ptree.specs.Outline.{Line, Steps}
 use Rattle.ptree.specs.Pieces.{Pieces}
 use Rattle.ptree.specs.Readable.{IsReadableWith}
 use Rattle.ptree.specs.Spelled.{SpelledItem, lines_of_items, IsSpelled, text_entry, spelled_text}
 use Rattle.ptree.specs.Tree.{Tree, tree}
-use Rattle.ptree.proofs.LaterLines.{have_spelled, closings, closings_later, closings_steps}
+use Rattle.ptree.proofs.LaterLines.{have_spelled}
 use Rattle.ptree.proofs.Marks.{items_never}
-use Rattle.ptree.proofs.SpelledForms.{Shows, Low, low_both, low_lines, lines_by, are_spelled_by, within_by, shows_form}
+use Rattle.ptree.proofs.SpelledForms.{Shows, Low, lines_by, are_spelled_by, within_by, shows_form}
 use Rattle.ptree.proofs.LineTrees.{tree_of_lines}
 
 spelled_text-append : (k : Look) (a b : List SpelledItem) → spelled_text k (a ++ b) ≡ spelled_text k a ++ spelled_text k b

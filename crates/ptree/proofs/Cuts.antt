@@ -1,17 +1,13 @@
 -- Beginnings of drawings that end in a line feed.
-use Rattle.std.proofs.Common.{◌≡◌, ◌≢◌, ℕ, zero, suc, ◌⊎◌, inl, inr, Bool, not, List, [], ◌∷◌, ◌++◌, length, length-append, refl, sym, ap, ◌∙◌, subst, append_assoc, arith}
-use Rattle.std.proofs.lemmas.List.{append-nil, append_cancel_right}
-use Rattle.std.proofs.lemmas.List.Elements.{All-nil, All-cons, All-head, All-tail, All-append}
-use Rattle.ptree.specs.Drawing.{Look, with_inserted, continued_prefix}
-use Rattle.ptree.specs.Flags.{has_later, last_flags, pieces_by, passing_by, shown_by, HaveLastFlags}
+use Rattle.std.proofs.Common.{◌≡◌, ◌≢◌, ℕ, zero, suc, ◌⊎◌, inl, inr, Bool, not, List, [], ◌∷◌, ◌++◌, length, length-append, refl, sym, ap, ◌∙◌, subst, arith}
+use Rattle.std.proofs.lemmas.List.Elements.{All-nil, All-head, All-tail, All-append}
+use Rattle.ptree.specs.Drawing.{Look, continued_prefix}
+use Rattle.ptree.specs.Flags.{has_later, last_flags, pieces_by}
 use Rattle.ptree.specs.Outline.{Line}
 use Rattle.ptree.specs.Pieces.{Pieces, turning_piece, passing_piece, passing_all}
 use Rattle.ptree.specs.Readable.{IsReadable, IsReadableWith}
-use Rattle.ptree.specs.Spelled.{SpelledItem, spelled_item, lines_of_items, text_entry, spelled_text}
 use Rattle.ptree.specs.Style.{StyleValue, front_codes, back_codes, painted_text}
 use Rattle.ptree.specs.Text.{HasNoLineFeed}
-use Rattle.ptree.proofs.Inserted.{is_feed, inserted_feed, inserted_other, inserted-append, inserted_none}
-use Rattle.ptree.proofs.Levels.{lines_drawing, entry_shown}
 use Rattle.ptree.proofs.Styles.{no_line_feed_front, no_line_feed_back}
 
 -- ## Lists

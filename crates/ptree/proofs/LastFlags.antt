@@ -1,10 +1,8 @@
 -- Last flags, from the last line up.
-use Rattle.std.proofs.Common.{◌≡◌, ◌⊎◌, ℕ, zero, suc, ◌+◌, ◌<◌, ◌≤◌, Bool, true, false, not, List, [], ◌∷◌, ◌++◌, length, take, refl, sym, ap, ◌∙◌, subst, add-one, inl, inr, arith}
-use Rattle.std.proofs.lemmas.Bool.{cases_lt, eq-eqb, ne_eqb}
-use Rattle.std.proofs.lemmas.List.{length-take, length_push, take_all, take-append-le}
+use Rattle.std.proofs.Common.{◌≡◌, ℕ, zero, suc, ◌+◌, not, List, length, refl, ap, ◌∙◌, add-one}
+use Rattle.std.proofs.lemmas.List.{length_push}
 use Rattle.ptree.specs.Flags.{has_later, last_flags}
 use Rattle.ptree.specs.Outline.{Line}
-use Rattle.ptree.proofs.Levels.{last_flags_same, has_later_deeper, has_later_here}
 
 pub length-last_flags : (o : List Line) (n : ℕ) → length (last_flags o n) ≡ n
 length-last_flags o zero = refl

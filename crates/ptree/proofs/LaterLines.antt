@@ -1,13 +1,11 @@
 -- The pieces of items, by the lines that may come after them.
-use Rattle.std.proofs.Common.{◌≡◌, ℕ, zero, suc, ◌-◌, ◌<◌, ◌≤◌, inl, inr, Bool, true, false, not, cond, get_or, List, [], ◌∷◌, ◌++◌, length, take, refl, sym, ap, ◌∙◌, subst, add-one, arith}
+use Rattle.std.proofs.Common.{◌≡◌, ℕ, zero, suc, ◌<◌, ◌≤◌, inl, inr, Bool, true, false, not, cond, List, [], ◌∷◌, ◌++◌, refl, sym, ap, ◌∙◌, arith}
 use Rattle.std.proofs.lemmas.Bool.{cases_lt, eq-eqb, ne_eqb}
-use Rattle.std.proofs.lemmas.List.{append-nil, take_more, take_all}
-use Rattle.ptree.specs.Flags.{has_later, last_flags, pieces_by, passing_by, shown_by, spelled_by, HaveLastFlags}
-use Rattle.ptree.specs.Outline.{Line, line, Steps, last_level}
-use Rattle.ptree.specs.Pieces.{Pieces, turning_piece, passing_piece, passing_all}
-use Rattle.ptree.specs.Spelled.{has_line_feed, SpelledItem, spelled_item, line_of_item, lines_of_items}
+use Rattle.ptree.specs.Flags.{has_later, pieces_by, shown_by, spelled_by, HaveLastFlags}
+use Rattle.ptree.specs.Outline.{Line, line, Steps}
+use Rattle.ptree.specs.Pieces.{Pieces}
+use Rattle.ptree.specs.Spelled.{SpelledItem, spelled_item, line_of_item, lines_of_items}
 use Rattle.ptree.proofs.Levels.{has_later_deeper, has_later_here}
-use Rattle.ptree.proofs.Paths.{passing_all-push}
 
 -- ## With nothing after them
 

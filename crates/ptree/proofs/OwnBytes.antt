@@ -1,16 +1,11 @@
 -- Own bytes of one line and of several.
-use Rattle.std.proofs.Common.{◌≡◌, ◌≢◌, ℕ, suc, ◌<◌, get_or, true, List, [], ◌∷◌, ◌++◌, length, inl, inr, refl, sym, ap, ◌∙◌, subst, append_assoc, arith}
-use Rattle.std.proofs.lemmas.Bool.{false≢true}
+use Rattle.std.proofs.Common.{◌≡◌, ◌≢◌, ℕ, suc, ◌<◌, get_or, true, List, [], ◌∷◌, ◌++◌, length, refl, arith}
 use Rattle.std.specs.Prelude.{Option, Some, None, MatchOption}
 use denote.Ref.{Bor}
-use Rattle.ptree.specs.Address.{at}
 use Rattle.ptree.specs.Drawing.{Look, with_inserted, continued_prefix}
-use Rattle.ptree.specs.Outline.{line}
-use Rattle.ptree.specs.Readable.{IsReadableWith}
-use Rattle.ptree.specs.Spelled.{has_line_feed, ArePassing, IsNotContinued}
+use Rattle.ptree.specs.Spelled.{has_line_feed}
 use Rattle.ptree.specs.Text.{HasNoLineFeed}
-use Rattle.ptree.proofs.Inserted.{no_line_feed_from_reads, is_feed, inserted_feed, inserted_other, inserted-append, inserted_none, feed_here, feed_tail, feed_behind, no_feed}
-use Rattle.ptree.proofs.Marks.{mark_once}
+use Rattle.ptree.proofs.Inserted.{no_line_feed_from_reads}
 
 -- what is known of a split at the first line feed
 pub cut_line : (bs : List ℕ) (r : Option (Bor (List ℕ) × Bor (List ℕ)))

@@ -1,5 +1,5 @@
 -- Which items are last children, by the levels of the lines after them.
-use Rattle.std.specs.Prelude.{◌≡◌, ◌<◌, ℕ, zero, suc, Bool, false, not, nat_lt, nat_eq, if◌then◌else◌, List, [], ◌∷◌, ◌++◌, length}
+use Rattle.std.specs.Prelude.{◌≡◌, ℕ, zero, suc, Bool, false, not, nat_lt, nat_eq, if◌then◌else◌, List, [], ◌∷◌, ◌++◌}
 use Rattle.ptree.specs.Outline.{Line}
 use Rattle.ptree.specs.Pieces.{Pieces, turning_piece, passing_all}
 use Rattle.ptree.specs.Spelled.{SpelledItem, spelled_item, line_of_item, lines_of_items, has_line_feed}

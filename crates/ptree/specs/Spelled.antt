@@ -1,9 +1,9 @@
 -- What a text shows before last flags are looked at: the level, the pieces and the text of each item.
 use Rattle.std.specs.Prelude.{◌≡◌, ◌≢◌, ◌≤◌, ℕ, zero, suc, nat_eq, if◌then◌else◌, Bool, true, false, List, [], ◌∷◌, ◌++◌, length, map, All}
-use Rattle.ptree.specs.Drawing.{Look, with_inserted, continued_prefix, entry_from}
+use Rattle.ptree.specs.Drawing.{Look, continued_prefix, entry_from}
 use Rattle.ptree.specs.Outline.{Line, line, Steps}
 use Rattle.ptree.specs.Pieces.{Pieces, turning_piece, passing_all}
-use Rattle.ptree.specs.Style.{front_codes, back_codes, painted_text}
+use Rattle.ptree.specs.Style.{painted_text}
 use Rattle.ptree.specs.Text.{line_feed}
 
 -- whether a text has further lines
