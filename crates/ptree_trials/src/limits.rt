@@ -49,6 +49,12 @@ fn nested_chain(alloc: Global) -> Result<StringItem, AllocError> {
     Ok(chain)
 }
 
+// What is read of a text under the default configuration.
+fn read_default(alloc: Global, text: &str) -> Result<Option<StringItem>, AllocError> {
+    let config = PrintConfig::default(alloc)?;
+    read_tree(alloc, text, &config)
+}
+
 // That a tree has this drawing under the default configuration, and reads back.
 fn reads_back(alloc: Global, tree: &StringItem, drawing: &str) -> Result<(), Deviation> {
     let config = PrintConfig::default(alloc)?;
@@ -57,7 +63,7 @@ fn reads_back(alloc: Global, tree: &StringItem, drawing: &str) -> Result<(), Dev
         drawn.as_slice() == drawing.as_bytes(),
         "a long tree has this drawing",
     )?;
-    match read_tree(alloc, drawing, &config)? {
+    match read_default(alloc, drawing)? {
         Some(read) => expect(read == *tree, "a long drawing is read as its tree"),
         None => Err(Deviation::of("a long drawing is read")),
     }
