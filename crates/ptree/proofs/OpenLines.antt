@@ -1,5 +1,5 @@
 -- Which lines go on with the open items.
-use Rattle.std.proofs.Common.{◌≡◌, ◌≢◌, ℕ, zero, suc, ◌+◌, ◌-◌, ◌<◌, ◌≤◌, inl, inr, Bool, not, List, [], ◌∷◌, ◌++◌, length, take, get_or, refl, sym, ap, ◌∙◌, subst, append_assoc, add-one, arith}
+use Rattle.std.proofs.Common.{◌≡◌, ◌≢◌, ℕ, zero, suc, ◌<◌, ◌≤◌, inl, inr, Bool, not, List, [], ◌∷◌, ◌++◌, length, take, get_or, refl, sym, ap, ◌∙◌, subst, append_assoc, add-one, arith}
 use Rattle.std.proofs.lemmas.List.Elements.{All-nil, All-append}
 use Rattle.std.proofs.lemmas.Bool.{cases_lt, eq-eqb, ne_eqb}
 use Rattle.std.proofs.lemmas.List.{append_cancel_left, length_push, get_or-take, length-take-le}
@@ -91,14 +91,24 @@ get_last [] x = refl
 get_last (y ∷ xs) x = get_last xs x
 
 -- what stands on an item's own line
-pub record OwnParts (k : Look) (x text shown rest turned own more : List ℕ) (n : ℕ) (flags : Flags) : Type 0 where
+pub record OwnParts (k : Look) (x text rest turned own more : List ℕ) (flags : Flags) : Type 0 where
   pub is : x ≡ front_codes k.branch ++ text
   pub cut : IsCutTo (turning_piece k.pieces) any_flags rest flags turned
   pub turned_is : turned ≡ back_codes k.branch ++ (front_codes k.leaf ++ (own ++ 10 ∷ more))
   pub one : HasNoLineFeed own
 
+-- those parts, of what was taken off one after the other
+pub own_parts : (k : Look) (x text rest turned closed start own more : List ℕ) (flags : Flags) → x ≡ front_codes k.branch ++ text → IsCutTo (turning_piece k.pieces) any_flags rest flags turned
+    → turned ≡ back_codes k.branch ++ closed → closed ≡ front_codes k.leaf ++ start → HasNoLineFeed own × (start ≡ own ++ 10 ∷ more) → OwnParts k x text rest turned own more flags
+own_parts k x text rest turned closed start own more flags is cut t c line = record {
+  is = is;
+  cut = cut;
+  turned_is = t ∙ ap (λ z. back_codes k.branch ++ z) (c ∙ ap (λ z. front_codes k.leaf ++ z) line.1);
+  one = line.0;
+}
+
 pub own_there : (k : Look) → IsReadableWith k.pieces k.mark → (depth : ℕ) (fs new fs' : List Flags) (x text shown rest turned own more : List ℕ) (n : ℕ) (flags : Flags) → IsFound k.pieces fs new text shown rest n
-    → OwnParts k x text shown rest turned own more n flags → n < depth → CanClose n new → fs' ≡ take n new ++ flags ∷ [] → IsOwnLine k depth fs x own more fs' × ArePath k.pieces fs' n shown
+    → OwnParts k x text rest turned own more flags → n < depth → CanClose n new → fs' ≡ take n new ++ flags ∷ [] → IsOwnLine k depth fs x own more fs' × ArePath k.pieces fs' n shown
 own_there k readable depth fs new fs' x text shown rest turned own more n flags h parts deep can fs_is =
     let p : Pieces = k.pieces in
     let cut = parts.cut in
@@ -171,9 +181,9 @@ own_there k readable depth fs new fs' x text shown rest turned own more n flags 
       },
     )
 
-pub further_there : (k : Look) (fs new : List Flags) (x text shown rest closed own more : List ℕ) (n : ℕ) → IsFound k.pieces fs new text shown rest n → x ≡ front_codes k.branch ++ text
+pub further_there : (k : Look) (fs new : List Flags) (x text shown rest own more : List ℕ) (n : ℕ) → IsFound k.pieces fs new text shown rest n → x ≡ front_codes k.branch ++ text
     → length new ≤ n → rest ≡ k.mark ++ (back_codes k.branch ++ (own ++ 10 ∷ more)) → HasNoLineFeed own → IsFurtherLine k fs x own more new × ArePath k.pieces new n shown
-further_there k fs new x text shown rest closed own more n h is all rest_is one =
+further_there k fs new x text shown rest own more n h is all rest_is one =
     let enough = h.enough in
     let count = h.count in
     let level : n ≡ length fs = omega (arith, enough, count, all) in (

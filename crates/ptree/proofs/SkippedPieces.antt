@@ -20,6 +20,23 @@ pub record SkipSo (p : Pieces) (fs : List Flags) (count width n end : ℕ) : Typ
   pub wide : (o : List Line) → Allows fs o → length (passing_by p o n) ≡ end
   pub past : n < count → (o : List Line) → Allows fs o → width < length (passing_by p o (suc n))
 
+-- two texts begin alike so far, and not further
+pub record IsAlike (width : ℕ) (a b : List ℕ) : Type 0 where
+  pub left : width ≤ length a
+  pub right : width ≤ length b
+  pub same : take width a ≡ take width b
+  pub most : (m : ℕ) → m ≤ length a → m ≤ length b → take m a ≡ take m b → m ≤ width
+
+-- as their bytes do, of which no more than the shorter one has are compared
+pub alike : (a b x y : List ℕ) (width least : ℕ) → a ≡ x → b ≡ y → least ≤ length x → least ≤ length y → ((m : ℕ) → m ≤ length x → m ≤ length y → m ≤ least) → width ≤ least
+    → take width a ≡ take width b → ((m : ℕ) → m ≤ least → take m a ≡ take m b → m ≤ width) → IsAlike width x y
+alike a b x y width least left right left_least right_least greatest within same most = record {
+  left = omega (arith, within, left_least);
+  right = omega (arith, within, right_least);
+  same = ap (take width) (sym left) ∙ (same ∙ ap (take width) right);
+  most = λ m l r e. most m (greatest m l r) (ap (take m) left ∙ (e ∙ ap (take m) (sym right)));
+}
+
 -- a wider path has a level
 pub skip_some_left : (p : Pieces) (fs : List Flags) (count width n end : ℕ) → AreSome fs → SkipSo p fs count width n end → width < end → 0 < n
 skip_some_left p fs count width zero end some h wide =
@@ -60,10 +77,9 @@ skip_next p fs count width n end end' shown flags path h is wide less =
     }
 
 -- and so it is found
-pub skip_end : (p : Pieces) (fs : List Flags) (count width n end : ℕ) (shown text rest : List ℕ) → ArePath p fs count shown → SkipSo p fs count width n end → end ≤ width → width ≤ length text → width ≤ length shown
-    → take width text ≡ take width shown → ((m : ℕ) → m ≤ length text → m ≤ length shown → take m text ≡ take m shown → m ≤ width)
+pub skip_end : (p : Pieces) (fs : List Flags) (count width n end : ℕ) (shown text rest : List ℕ) → ArePath p fs count shown → SkipSo p fs count width n end → end ≤ width → IsAlike width text shown
     → rest ≡ drop end text → ArePassed p fs count text n rest
-skip_end p fs count width n end shown text rest path h low in_text in_shown same most rest_is = record {
+skip_end p fs count width n end shown text rest path h low common rest_is = record {
   few = h.few;
   passed = passed;
   no_more = λ less o z a e.
@@ -75,7 +91,7 @@ skip_end p fs count width n end shown text rest path h low in_text in_shown same
       let left : m ≤ length text = let l = ap length there ∙ length-append (passing_by p o (suc n)) z in omega (arith, l) in
       let right : m ≤ length shown = let l = ap length is ∙ length-append (passing_by p o (suc n)) t in omega (arith, l) in
       let both : take m text ≡ take m shown = ap (take m) there ∙ (take-append_seam (passing_by p o (suc n)) z ∙ (sym (take-append_seam (passing_by p o (suc n)) t) ∙ ap (take m) (sym is))) in
-      let bound = most m left right both in
+      let bound = common.most m left right both in
       omega (arith, past, bound);
 } where
   front : (o : List Line) → Allows fs o → (m : ℕ) → m ≤ count → (t : List ℕ) × (shown ≡ passing_by p o m ++ t)
@@ -89,7 +105,7 @@ skip_end p fs count width n end shown text rest path h low in_text in_shown same
       let (t, is) = front o a n h.few in
       let size = h.wide o a in
       let start : take end text ≡ passing_by p o n =
-      sym (take_take end width text low) ∙ (ap (take end) same ∙ (take_take end width shown low ∙ (ap (λ z. take end z) is ∙ (ap (λ z. take z (passing_by p o n ++ t)) (sym size) ∙ take-append_seam (passing_by p o n) t)))) in
+      sym (take_take end width text low) ∙ (ap (take end) common.same ∙ (take_take end width shown low ∙ (ap (λ z. take end z) is ∙ (ap (λ z. take z (passing_by p o n ++ t)) (sym size) ∙ take-append_seam (passing_by p o n) t)))) in
       sym (take-append-drop end text) ∙ (ap (λ z. z ++ drop end text) start ∙ ap (λ z. passing_by p o n ++ z) (sym rest_is))
     where
       take_take : (n m : ℕ) (xs : List ℕ) → n ≤ m → take n (take m xs) ≡ take n xs
@@ -122,11 +138,11 @@ passing_utf8 p r l (true ∷ flags) = IsUtf8-append (passing_piece p true) (pass
 passing_utf8 p r l (false ∷ flags) = IsUtf8-append (passing_piece p false) (passing_all p flags) r (passing_utf8 p r l flags)
 
 -- characters begin where the pieces end
-pub skip_boundary : (p : Pieces) (fs : List Flags) (count width n end : ℕ) (shown text : List ℕ) → ArePath p fs count shown → SkipSo p fs count width n end → end ≤ width → width ≤ length text → width ≤ length shown
-    → take width text ≡ take width shown → ((m : ℕ) → m ≤ length text → m ≤ length shown → take m text ≡ take m shown → m ≤ width)
+pub skip_boundary : (p : Pieces) (fs : List Flags) (count width n end : ℕ) (shown text : List ℕ) → ArePath p fs count shown → SkipSo p fs count width n end → end ≤ width → IsAlike width text shown
     → IsUtf8 (passing_piece p false) → IsUtf8 (passing_piece p true) → IsUtf8 text → IsCharBoundary text end
-skip_boundary p fs count width n end shown text path h low in_text in_shown same most r l whole =
-    let passed = skip_end p fs count width n end shown text (drop end text) path h low in_text in_shown same most refl in
+skip_boundary p fs count width n end shown text path h low common r l whole =
+    let passed = skip_end p fs count width n end shown text (drop end text) path h low common refl in
+    let in_text = common.left in
     let (o, a) = open_lines fs path.some in
     let front : take end text ≡ passing_by p o n =
     append_cancel_right (take end text) (passing_by p o n) (drop end text) (take-append-drop end text ∙ passed.passed o a) in
