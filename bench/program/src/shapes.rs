@@ -11,6 +11,7 @@ pub fn shaped(alloc: Global, shape: &str, items: u32) -> Result<TreeBuilder, All
         "binary" => pairs(alloc, &mut builder, items.checked_ilog2().unwrap_or(0))?,
         "random" => random(alloc, &mut builder, items)?,
         "notes" => notes(alloc, &mut builder, items)?,
+        "short" => short(alloc, &mut builder, items)?,
         _ => wide(alloc, &mut builder, items)?,
     }
     Ok(builder)
@@ -42,6 +43,15 @@ fn rise(builder: &mut TreeBuilder, level: u32) {
 fn wide(alloc: Global, builder: &mut TreeBuilder, items: u32) -> Result<(), AllocError> {
     for i in 1..items {
         begin(alloc, builder, i)?;
+        rise(builder, 0);
+    }
+    Ok(())
+}
+
+// All items below the root, each with a number of up to six digits.
+fn short(alloc: Global, builder: &mut TreeBuilder, items: u32) -> Result<(), AllocError> {
+    for i in 1..items {
+        begin_with(builder, format!(in alloc; "{}", i % 1_000_000)?)?;
         rise(builder, 0);
     }
     Ok(())
