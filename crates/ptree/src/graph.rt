@@ -4,8 +4,10 @@ ghost use Rattle.ptree.specs.GraphLinks.{IsLinked, newest_from};
 ghost use Rattle.ptree.specs.Matched.{AreMatched};
 
 mod drawing;
+mod once;
 
 pub use drawing::{GraphNode, Label, print_graph, write_graph_with};
+pub use once::{Occurrence, OccurrenceItem, write_graph_once_with};
 use std::alloc::{AllocError, AllocFailed, Global};
 use std::error::Error;
 use std::fmt;
