@@ -5,15 +5,14 @@ use Rattle.std.proofs.lemmas.Bool.{lt-ltb, le-ltb, cases_lt}
 use Rattle.std.proofs.lemmas.List.{append-nil}
 use Rattle.std.proofs.lemmas.List.Elements.{All-nil, All-cons}
 use Rattle.ptree.specs.declared.graph.Graph.{Graph}
-use Rattle.ptree.specs.Address.{Address, at, Before}
+use Rattle.ptree.specs.Address.{Address, at}
 use Rattle.ptree.specs.Drawing.{Look, entry_from, IsDrawing}
 use Rattle.ptree.specs.Entries.{entry_of, kid_entries, entries_below, drawn_entries}
 use Rattle.ptree.specs.Graph.{weights_of, edges_of, neighbors_of, node_own, node_shape}
 use Rattle.ptree.specs.Occurrence.{OccurrenceTree, occurrence_kids, StandsAt, IsExpandedOnce, NoneRepeated, mark_text, occurrence_own, occurrence_shape}
 use Rattle.ptree.specs.Style.{StyleValue, painted_text}
-use Rattle.ptree.proofs.Addresses.{asymmetric}
 use Rattle.ptree.proofs.Laws.{same_drawings}
-use Rattle.ptree.proofs.Occurrences.{map_twice}
+use Rattle.ptree.proofs.TreeLemmas.{map_twice}
 use Rattle.ptree.proofs.Walks.{kid_entries_alike}
 use Rattle.ptree.proofs.Unfold.{kids_of_unfold}
 
@@ -78,15 +77,3 @@ module _ {N : Type 0} (text : N → List ℕ) (g : Graph N) (mark : List ℕ) wh
       (ap (λ own. entry_from look [] [] own ∷ entries_below look depth [] (occurrence_shape text g mark t)) (same_own depth look.leaf t full)
       ∙ (ap (λ z. entry_of look [] [] (node_shape text g t.node) ∷ z) (same_entries look depth t full [])
       ∙ ap (λ v. drawn_entries look depth (node_shape text g v)) h.root))
-
--- where no node has two occurrences, none is repeated
-pub none_repeated_apart : (below : ℕ → List ℕ) (start depth : ℕ) (t : OccurrenceTree) → IsExpandedOnce below start depth t
-    → ((a b : Address) (p q : OccurrenceTree) → StandsAt t a p → StandsAt t b q → p.node ≡ q.node → a ≡ b) → NoneRepeated t
-none_repeated_apart below start depth t h apart a p s = by_flag p.repeated refl where
-  by_flag : (m : Bool) → p.repeated ≡ m → p.repeated ≡ false
-  by_flag false e = e
-  by_flag true e =
-      let (b, q, r, n, k, o) = (h.repeated a p s).0 e in
-      let same : b ≡ a = apart b a q p r s n in
-      let itself : Before a a = subst (λ (z : Address). Before z a) same o in
-      absurd (asymmetric a a itself itself)

@@ -3,7 +3,7 @@ use Rattle.std.specs.Prelude.{◌↔◌, ◌≢◌, if◌then◌else◌, nat_lt}
 use Rattle.std.proofs.Common.{◌≡◌, ℕ, ◌<◌, inl, inr, Bool, true, false, List, [], ◌∷◌, map, length, refl, sym, ap, ◌∙◌, arith}
 use Rattle.std.proofs.lemmas.Bool.{lt-ltb, le-ltb, cases_lt}
 use Rattle.ptree.specs.Address.{Address, Before}
-use Rattle.ptree.specs.Occurrence.{OccurrenceTree, occurrence_kids, StandsAt, IsExpandedBefore, IsExpandedOnce}
+use Rattle.ptree.specs.Occurrence.{OccurrenceTree, occurrence_kids, StandsAt, IsExpandedBefore, IsExpandedOnce, IsMetBefore, LeavesUnrepeated, ExpandsFirst}
 
 before_trans : (a b c : Address) → Before a b → Before b c → Before a c
 before_trans a b [] h k = k
@@ -37,19 +37,15 @@ module _ (below : ℕ → List ℕ) (start depth : ℕ) (t : OccurrenceTree) (h 
     at true v = refl
     at false v = refl
 
-  pub leaf_not_repeated : (a : Address) (p : OccurrenceTree) → StandsAt t a p → below p.node ≡ [] → p.repeated ≡ false
-  leaf_not_repeated a p s e = by_flag p.repeated refl where
+  pub leaves_unrepeated : LeavesUnrepeated below t
+  leaves_unrepeated a p s e = by_flag p.repeated refl where
     by_flag : (m : Bool) → p.repeated ≡ m → p.repeated ≡ false
     by_flag false f = f
     by_flag true f =
         let (b, q, r, n, k, o) = (h.repeated a p s).0 f in
         absurd (k (nodes_none (occurrence_kids q) (h.children b q r ∙ nothing q.repeated (nat_lt (length b) depth) q.node (ap below n ∙ e))))
 
-  -- an earlier occurrence of the node above the depth
-  abbrev pub IsMetBefore : Address → ℕ → Type 0
-  IsMetBefore a v = (b : Address) × (q : OccurrenceTree) × StandsAt t b q × (q.node ≡ v) × (length b < depth) × Before b a
-
-  met_to_shown : (a : Address) (v : ℕ) → below v ≢ [] → IsMetBefore a v → IsExpandedBefore t a v
+  met_to_shown : (a : Address) (v : ℕ) → below v ≢ [] → IsMetBefore depth t a v → IsExpandedBefore t a v
   met_to_shown a v e (b, q, r, n, l, o) = by_flag q.repeated refl where
     by_flag : (m : Bool) → q.repeated ≡ m → IsExpandedBefore t a v
     by_flag true f =
@@ -60,18 +56,17 @@ module _ (below : ℕ → List ℕ) (start depth : ℕ) (t : OccurrenceTree) (h 
         h.children b q r ∙ (ap (λ m. chosen m (nat_lt (length b) depth) q.node) f ∙ ap (λ b. chosen false b q.node) (lt-ltb (length b) depth l)) in
         (b, q, r, n, λ k. e (sym (ap below n) ∙ (sym is ∙ ap (map (λ (z : OccurrenceTree). z.node)) k)), o)
 
-  shown_to_met : (a : Address) (v : ℕ) → IsExpandedBefore t a v → IsMetBefore a v
+  shown_to_met : (a : Address) (v : ℕ) → IsExpandedBefore t a v → IsMetBefore depth t a v
   shown_to_met a v (b, q, r, n, k, o) = (b, q, r, n, above b q r k, o)
 
-  -- above the depth, an occurrence of a node with neighbours has occurrences below it exactly where it is the first
-  pub first_is_expanded : (a : Address) (p : OccurrenceTree) → StandsAt t a p → length a < depth → below p.node ≢ [] → (occurrence_kids p ≢ []) ↔ (IsMetBefore a p.node → ⊥)
-  first_is_expanded a p s l e = (to, from) where
-    to : occurrence_kids p ≢ [] → IsMetBefore a p.node → ⊥
+  pub expands_first : ExpandsFirst below depth t
+  expands_first a p s l e = (to, from) where
+    to : occurrence_kids p ≢ [] → IsMetBefore depth t a p.node → ⊥
     to k m =
         let f : p.repeated ≡ true = (h.repeated a p s).1 (met_to_shown a p.node e m) in
         k (nodes_none (occurrence_kids p) (h.children a p s ∙ ap (λ b. chosen b (nat_lt (length a) depth) p.node) f))
 
-    from : (IsMetBefore a p.node → ⊥) → occurrence_kids p ≢ []
+    from : (IsMetBefore depth t a p.node → ⊥) → occurrence_kids p ≢ []
     from m k = by_flag p.repeated refl where
       by_flag : (b : Bool) → p.repeated ≡ b → ⊥
       by_flag true f = m (shown_to_met a p.node ((h.repeated a p s).0 f))

@@ -32,26 +32,26 @@ module _ (below : ℕ → List ℕ) where
       let less : levels ≡ suc levels - 1 = omega arith in
       ap (λ b. if b then grown (occurrence v true none) seen else expand (grow below levels) (below v) seen v) e ∙ ap (λ n. expand (grow below n) (below v) seen v) less
 
-  value_of : (x : Occurrence-F Occurrence) (v : ℕ) (m : Bool) (ps : List OccurrenceTree) → x.node ≡ v → x.repeated ≡ m → map occurrence_tree x.children.items ≡ ps → occurrence_tree (roll-Occurrence x) ≡ occurrence v m (row ps)
+  value_of : (x : Occurrence-F Occurrence) (v : ℕ) (m : Bool) (ps : List OccurrenceTree) → x.node.0 ≡ v → x.repeated ≡ m → map occurrence_tree x.children.items ≡ ps → occurrence_tree (roll-Occurrence x) ≡ occurrence v m (row ps)
   value_of x v m ps e f g =
       tree_of_roll x ∙ (ap (λ z. occurrence z x.repeated (row (map occurrence_tree x.children.items))) e ∙ (ap (λ z. occurrence v z (row (map occurrence_tree x.children.items))) f ∙ ap (λ z. occurrence v m (row z)) g))
 
   -- nothing may stand below the occurrence
-  pub stopped : (levels : ℕ) (seen : List Bool) (v : ℕ) (x : Occurrence-F Occurrence) → x.node ≡ v → x.repeated ≡ is_seen seen v → x.children.items ≡ [] → (is_seen seen v ≡ true) ⊎ (levels ≡ 0)
+  pub stopped : (levels : ℕ) (seen : List Bool) (v : ℕ) (x : Occurrence-F Occurrence) → x.node.0 ≡ v → x.repeated ≡ is_seen seen v → x.children.items ≡ [] → (is_seen seen v ≡ true) ⊎ (levels ≡ 0)
       → grown (occurrence_tree (roll-Occurrence x)) seen ≡ grow below levels seen v
   stopped levels seen v x e f g h =
       ap (λ p. grown p seen) (value_of x v (is_seen seen v) [] e f (ap (map occurrence_tree) g))
       ∙ elim h as (λ _. grown (occurrence v (is_seen seen v) none) seen ≡ grow below levels seen v) [ inl y ↦ sym (grow_seen levels seen v y) | inr y ↦ sym (grow_zero levels seen v y) ]
 
   -- the node has no neighbours
-  pub without : (levels : ℕ) (seen : List Bool) (v : ℕ) (x : Occurrence-F Occurrence) → x.node ≡ v → x.repeated ≡ false → x.children.items ≡ [] → levels ≢ 0 → is_seen seen v ≡ false → below v ≡ []
+  pub without : (levels : ℕ) (seen : List Bool) (v : ℕ) (x : Occurrence-F Occurrence) → x.node.0 ≡ v → x.repeated ≡ false → x.children.items ≡ [] → levels ≢ 0 → is_seen seen v ≡ false → below v ≡ []
       → grown (occurrence_tree (roll-Occurrence x)) seen ≡ grow below levels seen v
   without levels seen v x e f g h s q =
       ap (λ p. grown p seen) (value_of x v false [] e f (ap (map occurrence_tree) g))
       ∙ (ap (λ us. expand (grow below (levels - 1)) us seen v) (sym q) ∙ sym (grow_next levels seen v h s))
 
   -- all neighbours have their occurrences
-  pub grown_all : (levels : ℕ) (seen last : List Bool) (v : ℕ) (x : Occurrence-F Occurrence) (left : List ℕ) → x.node ≡ v → x.repeated ≡ false → levels ≢ 0 → is_seen seen v ≡ false → left ≡ []
+  pub grown_all : (levels : ℕ) (seen last : List Bool) (v : ℕ) (x : Occurrence-F Occurrence) (left : List ℕ) → x.node.0 ≡ v → x.repeated ≡ false → levels ≢ 0 → is_seen seen v ≡ false → left ≡ []
       → map occurrence_tree x.children.items ++ row_occurrences (grow below (levels - 1)) last left ≡ row_occurrences (grow below (levels - 1)) (enter (below v) seen v) (below v)
       → row_seen (grow below (levels - 1)) last left ≡ row_seen (grow below (levels - 1)) (enter (below v) seen v) (below v)
       → grown (occurrence_tree (roll-Occurrence x)) last ≡ grow below levels seen v

@@ -22,19 +22,15 @@ row_of_occurrences none = refl
 row_of_occurrences (item v m c r) = ap (λ z. item v m c z) (row_of_occurrences r)
 
 -- the value of an occurrence, by its parts
-pub tree_of_occurrence : (p : Occurrence) → occurrence_tree p ≡ occurrence (out-Occurrence p).node (out-Occurrence p).repeated (row (map occurrence_tree (out-Occurrence p).children.items))
+pub tree_of_occurrence : (p : Occurrence) → occurrence_tree p ≡ occurrence (out-Occurrence p).node.0 (out-Occurrence p).repeated (row (map occurrence_tree (out-Occurrence p).children.items))
 tree_of_occurrence p = fold_out-Occurrence OccurrenceTree occurrence_step p
 
 -- the value of a new occurrence, by its parts
-pub tree_of_roll : (x : Occurrence-F Occurrence) → occurrence_tree (roll-Occurrence x) ≡ occurrence x.node x.repeated (row (map occurrence_tree x.children.items))
+pub tree_of_roll : (x : Occurrence-F Occurrence) → occurrence_tree (roll-Occurrence x) ≡ occurrence x.node.0 x.repeated (row (map occurrence_tree x.children.items))
 tree_of_roll = fold-roll-Occurrence OccurrenceTree occurrence_step
 
 pub kids_of_occurrence : (p : Occurrence) → occurrence_kids (occurrence_tree p) ≡ map occurrence_tree (out-Occurrence p).children.items
 kids_of_occurrence p = ap occurrence_kids (tree_of_occurrence p) ∙ occurrences_of_row (map occurrence_tree (out-Occurrence p).children.items)
-
-pub map_twice : {A B C : Type 0} (f : A → B) (g : B → C) (xs : List A) → map (λ x. g (f x)) xs ≡ map g (map f xs)
-map_twice f g [] = refl
-map_twice f g (x ∷ xs) = ap (λ ys. g (f x) ∷ ys) (map_twice f g xs)
 
 -- the plain style paints a text as itself
 plain_text : (text : List ℕ) → painted_text plain_value text ≡ text

@@ -7,7 +7,9 @@ mod drawing;
 mod once;
 
 pub use drawing::{GraphNode, Label, print_graph, write_graph_with};
-pub use once::{Occurrence, OccurrenceItem, write_graph_once_with};
+pub use once::{
+    Occurrence, OccurrenceItem, REPEATED_MARK, print_graph_once, write_graph_once_with,
+};
 use std::alloc::{AllocError, AllocFailed, Global};
 use std::error::Error;
 use std::fmt;

@@ -2,7 +2,8 @@ use Rattle.std.proofs.Common.{◌∙◌, ap, map, sym}
 use Rattle.std.proofs.lemmas.List.{take_all}
 use Rattle.ptree.specs.Occurrence.{OccurrenceTree, occurrence_tree, occurrence_own, occurrence_shape, occurrence_kids}
 use Rattle.ptree.specs.declared.graph.once.Occurrence.{Occurrence, out-Occurrence}
-use Rattle.ptree.proofs.Occurrences.{kids_of_occurrence, map_twice}
+use Rattle.ptree.proofs.Occurrences.{kids_of_occurrence}
+use Rattle.ptree.proofs.TreeLemmas.{map_twice}
 use Rattle.ptree.proofs.Unfold.{kids_of_unfold}
 use Rattle.ptree.proofs.graph.once.OccurrenceItemTreeItem.children.Goals as goal
 
