@@ -1,6 +1,6 @@
 -- Graphs expanded once: a tree of occurrences is one by addresses exactly where the row below its root is.
 use Rattle.std.specs.Prelude.{slice_get, option_and_then, ◌↔◌, ◌≢◌, IsTrue, if◌then◌else◌, nat_lt}
-use Rattle.std.proofs.Common.{◌≡◌, ℕ, zero, suc, ◌<◌, ◌⊎◌, inl, inr, Bool, true, false, List, [], ◌∷◌, map, Option, Some, None, length, refl, sym, ap, subst, ◌∙◌, arith}
+use Rattle.std.proofs.Common.{◌≡◌, ℕ, zero, suc, ◌<◌, ◌⊎◌, inl, inr, Bool, List, [], ◌∷◌, map, Option, Some, None, length, refl, sym, ap, subst, ◌∙◌, arith}
 use Rattle.std.proofs.lemmas.Bool.{lt-ltb, le-ltb, cases_lt}
 use Rattle.ptree.specs.Address.{Address, at}
 use Rattle.ptree.proofs.Occurrences.{row_of_occurrences}
