@@ -69,7 +69,7 @@ module _ {N : Type 0} where
   linked-node_if nodes new edges weight false l h = subst (λ (ns : List (Node N)). IsLinked ns edges) (sym h) l
 
   -- an edge more
-  linked-edge : (nodes : List (Node N)) (edges : List Edge) (source target d : ℕ) (n : Node N) → IsLinked nodes edges
+  pub linked-edge : (nodes : List (Node N)) (edges : List Edge) (source target d : ℕ) (n : Node N) → IsLinked nodes edges
       → source < length nodes → target < length nodes → slice_get nodes source ≡ Some n
       → IsLinked (set nodes source (node n.weight (suc (length edges)) d)) (edges ++ edge source target n.newest ∷ [])
   linked-edge nodes edges source target d n l s t h = record {

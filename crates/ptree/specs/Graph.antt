@@ -23,6 +23,10 @@ numbers_of p = (p.0.0, p.1.0)
 abbrev pub LacksNode : ℕ → NodeIndex × NodeIndex → Type 0
 LacksNode count p = (count ≤ p.0.0) ⊎ (count ≤ p.1.0)
 
+-- an edge turned round
+abbrev pub turned : ℕ × ℕ → ℕ × ℕ
+turned e = (e.1, e.0)
+
 -- the targets of the edges from v, newest edge first
 abbrev pub neighbors_of : List (ℕ × ℕ) → ℕ → List ℕ
 neighbors_of edges v = map (λ e. e.1) (filter (λ e. e.0 == v) (reverse edges))

@@ -1,5 +1,5 @@
 -- What the private lists of a graph keep. No public clause cites this.
-use Rattle.std.specs.Prelude.{◌≡◌, ℕ, suc, ◌<◌, ◌==◌, List, [], ◌∷◌, length, map, reverse, take, Some, slice_get, All, if◌then◌else◌}
+use Rattle.std.specs.Prelude.{◌≡◌, ℕ, zero, suc, ◌<◌, ◌==◌, List, [], ◌∷◌, length, map, reverse, take, Some, slice_get, All, if◌then◌else◌}
 use Rattle.ptree.specs.declared.graph.Edge.{Edge}
 use Rattle.ptree.specs.declared.graph.Node.{Node}
 
@@ -15,6 +15,18 @@ first_from (e ∷ older) v = if e.0 == v then suc (length older) else first_from
 -- the number of the newest edge from v
 abbrev pub newest_from : List (ℕ × ℕ) → ℕ → ℕ
 newest_from edges v = first_from (reverse edges) v
+
+-- the edges, that at an index turned round
+abbrev pub turned_at : ℕ → List (ℕ × ℕ) → List (ℕ × ℕ)
+turned_at i [] = []
+turned_at zero (e ∷ edges) = (e.1, e.0) ∷ edges
+turned_at (suc i) (e ∷ edges) = e ∷ turned_at i edges
+
+-- the edges, the first so many of them turned round
+abbrev pub turned_first : ℕ → List (ℕ × ℕ) → List (ℕ × ℕ)
+turned_first n [] = []
+turned_first zero (e ∷ edges) = e ∷ edges
+turned_first (suc n) (e ∷ edges) = (e.1, e.0) ∷ turned_first n edges
 
 -- both ends of an edge are among so many nodes
 abbrev pub EndsBelow : ℕ → Edge → Type 0

@@ -1,11 +1,15 @@
 //! Graphs, and their nodes as items.
-ghost use Rattle.std.specs.Prelude.{◌≡◌, ◌+◌, ◌-◌, ◌<◌, ◌≤◌, ◌↔◌, IsTrue, [], ◌∷◌, ◌++◌, length, map, All, Any, IfOk, IsOkAnd, IsErrOf, OnOk, OnErr, option_copied, slice_get, vec_len, vec_capacity};
-ghost use Rattle.ptree.specs.GraphLinks.{IsLinked, newest_from};
+ghost use Rattle.std.specs.Prelude.{◌≡◌, suc, take, ◌+◌, ◌-◌, ◌<◌, ◌≤◌, ◌↔◌, IsTrue, [], ◌∷◌, ◌++◌, length, map, All, Any, IfOk, IsOkAnd, IsErrOf, OnOk, OnErr, option_copied, slice_get, vec_len, vec_capacity};
+ghost use Rattle.ptree.specs.GraphLinks.{IsLinked, EndsBelow, ends_of, newest_from, turned_at};
 ghost use Rattle.ptree.specs.Matched.{AreMatched};
 
 mod drawing;
+mod once;
 
 pub use drawing::{GraphNode, Label, print_graph, write_graph_with};
+pub use once::{
+    Occurrence, OccurrenceItem, REPEATED_MARK, print_graph_once, write_graph_once_with,
+};
 use std::alloc::{AllocError, AllocFailed, Global};
 use std::error::Error;
 use std::fmt;
@@ -103,7 +107,7 @@ struct Edge {
 }
 
 impl<N> Graph<N> {
-    ghost use Rattle.ptree.specs.Graph.{weights_of, edges_of, neighbors_of, numbers_of, LacksNode};
+    ghost use Rattle.ptree.specs.Graph.{weights_of, edges_of, neighbors_of, numbers_of, turned, LacksNode};
 
     /// A graph without nodes. It takes no memory.
     pub fn new(alloc: Global) -> Graph<N>
@@ -186,6 +190,24 @@ impl<N> Graph<N> {
         self.targets(*self.nodes.allocator(), a, NodeIndex)
     }
 
+    /// The graph with its edges turned round: the same nodes, and for each edge one from its target to its source, in the same order.
+    ///
+    /// So what a node is needed by is drawn as what it needs. This takes no memory, and time that grows with the nodes and edges.
+    pub fn reversed(self) -> Graph<N>
+    where
+        N: Drop,
+        ensures weights { weights_of result ≡ weights_of self }
+        ensures edges { edges_of result ≡ map turned (edges_of self) }
+    {
+        let mut nodes = self.nodes;
+        let mut edges = self.edges;
+        unlink(&mut nodes);
+        for i in 0..edges.len() {
+            turn_edge(&mut nodes, &mut edges, i);
+        }
+        Graph { nodes, edges }
+    }
+
     // What is made of the target of each edge from a node, newest edge first.
     #[inline(always)]
     fn targets<T: Drop, F: Fn(usize) -> T>(
@@ -261,4 +283,37 @@ impl<N> Graph<N> {
             None => 0,
         }
     }
+}
+
+// Takes all edges from the nodes.
+fn unlink<N>(nodes: &mut [Node<N>])
+    ensures newest { All (λ n. n.newest ≡ 0) nodes.new }
+    ensures weights { map (λ n. n.weight) nodes.new ≡ map (λ n. n.weight) nodes.old }
+{
+    for node in nodes.iter_mut() {
+        node.newest = 0;
+        node.degree = 0;
+    }
+}
+
+// Turns the edge at an index round, and links it, where those before it are linked.
+fn turn_edge<N>(nodes: &mut [Node<N>], edges: &mut [Edge], i: usize)
+    requires within { i < length edges.old }
+    requires ends { All (EndsBelow (length nodes.old)) edges.old }
+    requires linked { IsLinked nodes.old (take i edges.old) }
+    ensures ends { All (EndsBelow (length nodes.new)) edges.new }
+    ensures linked { IsLinked nodes.new (take (suc i) edges.new) }
+    ensures edges { map ends_of edges.new ≡ turned_at i (map ends_of edges.old) }
+    ensures weights { map (λ n. n.weight) nodes.new ≡ map (λ n. n.weight) nodes.old }
+{
+    let edge = &mut edges[i];
+    let source = edge.target;
+    let node = &mut nodes[source];
+    *edge = Edge {
+        source,
+        target: edge.source,
+        next: node.newest,
+    };
+    node.newest = i + 1;
+    node.degree = node.degree.saturating_add(1);
 }

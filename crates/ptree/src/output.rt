@@ -23,7 +23,7 @@ use std::alloc::{AllocError, Global};
 use std::io;
 
 // Draws for output of a kind, `terminal` saying whether standard output is a terminal.
-fn draw_for<T, W>(
+pub(crate) fn draw_for<T, W>(
     alloc: Global,
     item: &T,
     f: &mut W,

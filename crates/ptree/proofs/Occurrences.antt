@@ -1,0 +1,70 @@
+-- Occurrences of a graph expanded once: their items, what is written for a repeated one, and the loops that make them.
+use Rattle.std.proofs.Common.{◌≡◌, ℕ, List, [], ◌∷◌, ◌++◌, Option, Result, map, ap, refl, subst, ◌∙◌}
+use Rattle.std.proofs.lemmas.List.{append-nil}
+use Rattle.std.specs.Io.KnownBytes.{Appends}
+use Rattle.ptree.specs.declared.graph.once.Occurrence.{Occurrence, out-Occurrence}
+use Rattle.ptree.specs.declared.graph.once.Occurrence.TheFolds.{fold_out-Occurrence, fold-roll-Occurrence}
+use Rattle.ptree.specs.declared.graph.once.Occurrence.TheOpen.{Occurrence-F}
+use Rattle.ptree.specs.declared.graph.once.Occurrence.TheViews.{roll-Occurrence}
+use Rattle.ptree.specs.Occurrence.{Occurrences, none, item, OccurrenceTree, occurrence, occurrences, row, occurrence_kids, occurrence_step, occurrence_tree}
+use Rattle.ptree.specs.Style.{StyleValue, plain_value, style_codes, painted_text}
+use Rattle.ptree.specs.Writing.{AppendsPart, IsWritten}
+use Rattle.ptree.proofs.Written.{appends_then, part_then, part_more, written_then}
+
+-- the occurrences of a row that is made of occurrences
+pub occurrences_of_row : (ps : List OccurrenceTree) → occurrences (row ps) ≡ ps
+occurrences_of_row [] = refl
+occurrences_of_row (p ∷ ps) = ap (λ z. p ∷ z) (occurrences_of_row ps)
+
+-- a row is made of its occurrences
+pub row_of_occurrences : (r : Occurrences) → row (occurrences r) ≡ r
+row_of_occurrences none = refl
+row_of_occurrences (item v m c r) = ap (λ z. item v m c z) (row_of_occurrences r)
+
+-- the value of an occurrence, by its parts
+pub tree_of_occurrence : (p : Occurrence) → occurrence_tree p ≡ occurrence (out-Occurrence p).node.0 (out-Occurrence p).repeated (row (map occurrence_tree (out-Occurrence p).children.items))
+tree_of_occurrence p = fold_out-Occurrence OccurrenceTree occurrence_step p
+
+-- the value of a new occurrence, by its parts
+pub tree_of_roll : (x : Occurrence-F Occurrence) → occurrence_tree (roll-Occurrence x) ≡ occurrence x.node.0 x.repeated (row (map occurrence_tree x.children.items))
+tree_of_roll = fold-roll-Occurrence OccurrenceTree occurrence_step
+
+pub kids_of_occurrence : (p : Occurrence) → occurrence_kids (occurrence_tree p) ≡ map occurrence_tree (out-Occurrence p).children.items
+kids_of_occurrence p = ap occurrence_kids (tree_of_occurrence p) ∙ occurrences_of_row (map occurrence_tree (out-Occurrence p).children.items)
+
+-- the plain style paints a text as itself
+plain_text : (text : List ℕ) → painted_text plain_value text ≡ text
+unfolding style_codes
+plain_text text = append-nil text
+
+painted_plain : (plain : StyleValue) (text : List ℕ) → plain ≡ plain_value → painted_text plain text ≡ text
+painted_plain plain text e = ap (λ s. painted_text s text) e ∙ plain_text text
+
+module _ (front text mark back : List ℕ) where
+  abbrev whole : List ℕ
+  whole = front ++ (text ++ mark) ++ back
+
+  pub front_part : (a b : Option (List ℕ)) (x : List ℕ) → x ≡ front → AppendsPart a b x → AppendsPart a b whole
+  front_part a b x e h = let k = subst (λ (z : List ℕ). AppendsPart a b z) e h in part_more a b (front ++ (text ++ mark)) back (part_more a b front (text ++ mark) k)
+
+  pub label_part : (a b c : Option (List ℕ)) (x : List ℕ) (plain : StyleValue) → plain ≡ plain_value → x ≡ front → Appends a b x → AppendsPart b c (painted_text plain text) → AppendsPart a c whole
+  label_part a b c x plain u e h k =
+      let f = subst (λ (z : List ℕ). Appends a b z) e h in
+      let l = subst (λ (z : List ℕ). AppendsPart b c z) (painted_plain plain text u) k in
+      part_more a c (front ++ (text ++ mark)) back (part_then a b c front (text ++ mark) f (part_more b c text mark l))
+
+  pub mark_part : (a b c d : Option (List ℕ)) (x y : List ℕ) (plain : StyleValue) → plain ≡ plain_value → x ≡ front → y ≡ mark → Appends a b x → Appends b c (painted_text plain text) → AppendsPart c d y → AppendsPart a d whole
+  mark_part a b c d x y plain u e q h k l =
+      let f = subst (λ (z : List ℕ). Appends a b z) e h in
+      let t = subst (λ (z : List ℕ). Appends b c z) (painted_plain plain text u) k in
+      let m = subst (λ (z : List ℕ). AppendsPart c d z) q l in
+      part_more a d (front ++ (text ++ mark)) back (part_then a b d front (text ++ mark) f (part_then b c d text mark t m))
+
+  pub all_repeated : {A E : Type 0} (a b c d e : Option (List ℕ)) (r : Result A E) (x y z : List ℕ) (plain : StyleValue) → plain ≡ plain_value → x ≡ front → y ≡ mark → z ≡ back
+      → Appends a b x → Appends b c (painted_text plain text) → Appends c d y → IsWritten d e r z → IsWritten a e r whole
+  all_repeated a b c d e r x y z plain u p q s h k l n =
+      let f = subst (λ (w : List ℕ). Appends a b w) p h in
+      let t = subst (λ (w : List ℕ). Appends b c w) (painted_plain plain text u) k in
+      let m = subst (λ (w : List ℕ). Appends c d w) q l in
+      let w = subst (λ (w : List ℕ). IsWritten d e r w) s n in
+      written_then a d e r (front ++ (text ++ mark)) back (appends_then a b d front (text ++ mark) f (appends_then b c d text mark t m)) w

@@ -1,0 +1,117 @@
+-- A graph as a tree in which each node is expanded once: its neighbours stand below one of its occurrences, and the others are leaves.
+use Rattle.std.specs.Prelude.{◌≡◌, ◌≢◌, ◌↔◌, IsTrue, ℕ, suc, ◌+◌, ◌<◌, Bool, false, if◌then◌else◌, nat_lt, List, [], ◌∷◌, ◌++◌, length, map, count_by, Some, option_map, unwrap_or, slice_get}
+use Rattle.ptree.specs.declared.graph.Graph.{Graph}
+use Rattle.ptree.specs.declared.graph.once.Occurrence.{Occurrence}
+use Rattle.ptree.specs.declared.graph.once.Occurrence.TheOpen.{Occurrence-F}
+use Rattle.ptree.specs.declared.graph.once.Occurrence.TheFolds.{fold-Occurrence}
+use Rattle.ptree.specs.Address.{Address, at, Before}
+use Rattle.ptree.specs.Graph.{weights_of}
+use Rattle.ptree.specs.Shape.{Shape, unfolded_shape}
+use Rattle.ptree.specs.Style.{StyleValue, painted_text}
+
+-- Occurrences side by side: none, or a node's number, whether it is repeated and what is below it, and then the occurrences after it.
+pub data Occurrences : Type 0 where
+  none : Occurrences
+  item : (node : ℕ) (repeated : Bool) (children rest : Occurrences) → Occurrences
+
+-- an occurrence of a node, and the occurrences below it
+pub record OccurrenceTree : Type 0 where
+  pub node : ℕ
+  pub repeated : Bool
+  pub children : Occurrences
+
+-- an occurrence over a row of occurrences
+abbrev pub occurrence : ℕ → Bool → Occurrences → OccurrenceTree
+occurrence v r c = record { node = v; repeated = r; children = c }
+
+-- the occurrences of a row, in order
+abbrev pub occurrences : Occurrences → List OccurrenceTree
+occurrences none = []
+occurrences (item v r c rest) = occurrence v r c ∷ occurrences rest
+
+-- a list of occurrences, side by side
+abbrev pub row : List OccurrenceTree → Occurrences
+row [] = none
+row (p ∷ ps) = item p.node p.repeated p.children (row ps)
+
+-- the occurrences right below one
+abbrev pub occurrence_kids : OccurrenceTree → List OccurrenceTree
+occurrence_kids p = occurrences p.children
+
+-- at the address a of t stands p
+abbrev pub StandsAt : OccurrenceTree → Address → OccurrenceTree → Type 0
+StandsAt t a p = at occurrence_kids t a ≡ Some p
+
+-- before the address a, something stands below an occurrence of v
+abbrev pub IsExpandedBefore : OccurrenceTree → Address → ℕ → Type 0
+IsExpandedBefore t a v = (b : Address) × (q : OccurrenceTree) × StandsAt t b q × (q.node ≡ v) × (occurrence_kids q ≢ []) × Before b a
+
+-- The graph expanded once, from start down to depth. An occurrence is repeated exactly where an earlier one of its node has something
+-- below it. Below one that isn't repeated, and is above the depth, stand its node's neighbours in order; below any other stands nothing.
+pub record IsExpandedOnce (below : ℕ → List ℕ) (start depth : ℕ) (t : OccurrenceTree) : Type 0 where
+  pub root : t.node ≡ start
+  pub repeated : (a : Address) (p : OccurrenceTree) → StandsAt t a p → IsTrue p.repeated ↔ IsExpandedBefore t a p.node
+  pub children : (a : Address) (p : OccurrenceTree) → StandsAt t a p
+      → map (λ q. q.node) (occurrence_kids p) ≡ (if p.repeated then [] else (if nat_lt (length a) depth then below p.node else []))
+
+-- one tree is the graph expanded once, and no other
+abbrev pub HasOneTree : (ℕ → List ℕ) → ℕ → ℕ → Type 0
+HasOneTree below start depth =
+    (t : OccurrenceTree) × IsExpandedOnce below start depth t × ((other : OccurrenceTree) → IsExpandedOnce below start depth other → other ≡ t)
+
+-- no occurrence is repeated
+abbrev pub NoneRepeated : OccurrenceTree → Type 0
+NoneRepeated t = (a : Address) (p : OccurrenceTree) → StandsAt t a p → p.repeated ≡ false
+
+-- no occurrence of a node without neighbours is repeated
+abbrev pub LeavesUnrepeated : (ℕ → List ℕ) → OccurrenceTree → Type 0
+LeavesUnrepeated below t = (a : Address) (p : OccurrenceTree) → StandsAt t a p → below p.node ≡ [] → p.repeated ≡ false
+
+-- before the address a, an occurrence of v stands above the depth
+abbrev pub IsMetBefore : ℕ → OccurrenceTree → Address → ℕ → Type 0
+IsMetBefore depth t a v = (b : Address) × (q : OccurrenceTree) × StandsAt t b q × (q.node ≡ v) × (length b < depth) × Before b a
+
+-- of the occurrences above the depth of a node with neighbours, exactly the first has something below it
+abbrev pub ExpandsFirst : (ℕ → List ℕ) → ℕ → OccurrenceTree → Type 0
+ExpandsFirst below depth t =
+    (a : Address) (p : OccurrenceTree) → StandsAt t a p → length a < depth → below p.node ≢ []
+    → (occurrence_kids p ≢ []) ↔ (IsMetBefore depth t a p.node → ⊥)
+
+-- somewhere in t, something stands below an occurrence of v
+abbrev pub IsExpanded : OccurrenceTree → ℕ → Type 0
+IsExpanded t v = (b : Address) × (q : OccurrenceTree) × StandsAt t b q × (q.node ≡ v) × (occurrence_kids q ≢ [])
+
+-- how many occurrences stand in a row, and below
+abbrev pub row_size : Occurrences → ℕ
+row_size none = 0
+row_size (item v r c rest) = suc (row_size c + row_size rest)
+
+-- how many occurrences a tree has
+abbrev pub occurrence_count : OccurrenceTree → ℕ
+occurrence_count t = suc (row_size t.children)
+
+-- there is one occurrence more than there are edges from nodes that are expanded
+abbrev pub HasSize : List (ℕ × ℕ) → OccurrenceTree → Type 0
+HasSize edges t =
+    (expanded : ℕ → Bool) × ((v : ℕ) → IsTrue (expanded v) ↔ IsExpanded t v) × (occurrence_count t ≡ suc (count_by (λ e. expanded e.0) edges))
+
+-- an Occurrence with the tree of each child in its place
+abbrev pub occurrence_step : Occurrence-F OccurrenceTree → OccurrenceTree
+occurrence_step x = occurrence x.node.0 x.repeated (row x.children.items)
+
+-- what an Occurrence means
+abbrev pub occurrence_tree : Occurrence → OccurrenceTree
+occurrence_tree = fold-Occurrence OccurrenceTree occurrence_step
+
+-- the mark of an occurrence, if it is repeated
+abbrev pub mark_text : List ℕ → Bool → List ℕ
+mark_text mark r = if r then mark else []
+
+-- what an occurrence writes: its node's text and the mark, painted as one, and nothing where there is no such node
+abbrev pub occurrence_own : {N : Type 0} → (N → List ℕ) → Graph N → List ℕ → OccurrenceTree → StyleValue → List ℕ
+occurrence_own text g mark p style =
+    unwrap_or (option_map (λ w. painted_text style (text w ++ mark_text mark p.repeated)) (slice_get (weights_of g) p.node)) []
+
+-- an occurrence as an item's meaning
+abbrev pub occurrence_shape : {N : Type 0} → (N → List ℕ) → Graph N → List ℕ → OccurrenceTree → Shape
+occurrence_shape text g mark p = unfolded_shape (occurrence_own text g mark) occurrence_kids p
