@@ -410,7 +410,7 @@ impl<'a> Given<'a> {
         }
     }
 
-    // Returns the fault of a part whose key has no table.
+    // Returns the fault of a part whose key holds a value that is not a table.
     fn table_fault(&self, part: Part) -> Option<Fault>
         ensures { result ≡ table_fault (given_view self.now) part }
     {
