@@ -1,4 +1,4 @@
--- What the walks through the builder's calls that hand it back have in common, and the names that they cite.
+-- What the walks through the builder's calls that return it share, and the names that they cite.
 pub use Rattle.std.proofs.Common.{lit<, ◌≡◌, ℕ, ◌+◌, ◌<◌, Bool, true, false, Ok, Err, IfOk, OnOk, OnErr, if◌then◌else◌, string_bytes, List, [], ◌∷◌, ◌++◌, refl, sym, ap, ◌∙◌, subst, MutBor}
 pub use Rattle.std.proofs.raw_atomic.Walks.{proved_at, leaves}
 pub use Rattle.std.proofs.ResultValues.{ok_of}
@@ -62,17 +62,19 @@ use Rattle.ptree.specs.HandedBack.{HandsBack}
 use Rattle.ptree.specs.TreeBuilder.{Building}
 use Rattle.ptree.specs.contracts.builder.TreeBuilder as builder
 
--- the builder's type, a text's, and that of a refusal
+-- the types of the builder, of a text, and of an error
 abbrev pub B : RattleType
 B = builder.the_row
 
+-- the type of a text
 abbrev pub Text : RattleType
 Text = string.the_row global.the_row heap.ghosts
 
+-- the type of an error
 abbrev pub Refused : RattleType
 Refused = refusal.the_row
 
--- a builder that is handed back, or a refusal
+-- the type of a result: a returned builder, or an error
 abbrev pub Back : Lft → RattleType
 Back κ = result.the_row (MutRef (named 0) κ B) Refused
 
@@ -80,6 +82,7 @@ Back κ = result.the_row (MutRef (named 0) κ B) Refused
 abbrev pub place_of : MutBor Building → Val
 place_of r = vptr r.ref_ptr.0 r.ref_ptr.1
 
+-- a machine value has the layout of a type
 abbrev pub Fits : RattleType → Val → Type 0
 Fits R v = T (has_ty (layout R) v) × WT v
 
@@ -95,11 +98,11 @@ module _ {M : Type 1} {𝓤 : Ura M} (𝓛 : Logic 𝓤) where
   pub one_value : (text : Text.Denot) (vs : List Val) → Is Text text vs → (v : Val) × ((vs ≡ v ∷ []) × Fits Text v)
   one_value text vs is = alone (layout Text) vs (((string_laws.the_row_laws global.the_row heap.ghosts heap_laws.the_row_laws).lawful 𝓛).typed text vs is)
 
-  -- nothing is left of a text that was given up
+  -- nothing is left of a text that was dropped
   pub text_goes : Goes 𝓛 1 (plain (λ _. Text)) yes (stay_dropped (plain (λ _. Text)) yes)
   text_goes κs x w vs ok = via 𝓤 _ (had 𝓛 (left (Text.exit yes) x w) tt) (𝓛.laws.⇛_intro _)
 
-  -- a reference goes on as itself
+  -- a reference continues as itself
   goes_on : (γ : GName) → ent 𝓤 (emp 𝓤) (sem 𝓛 (follows B B γ γ (λ w. w)))
   goes_on γ =
       let From : Building → Building → Fml = λ z w. fsep (feq Building z w) (fauth γ (B.coded.code w)) in
@@ -108,17 +111,17 @@ module _ {M : Type 1} {𝓤 : Ura M} (𝓛 : Logic 𝓤) where
       feq_i ! Building z z refl $ fjoin ! $ fpack ! Building (From z) z $ done !) in
       record { apply = λ a p. (said.apply a p, back.apply a p) }
 
-  -- a builder that is handed back
+  -- a builder that is returned
   pub handed_on : (r : MutBor Building) (m : Building) → ent 𝓤 (emp 𝓤) (sem 𝓛 (HandsBack {E = Refused.Denot} r (Ok (record r { now = m }))))
   unfolding follows_by
   handed_on r m = goes_on r.ghost_name
 
-  -- a builder that stays as it was
+  -- a builder that is unchanged
   pub given_up : (r : MutBor Building) (m : Building) (n : Refused.Denot) → m ≡ r.now → ent 𝓤 (A.res r.ghost_name (B.coded.code m)) (sem 𝓛 (HandsBack r (Err n)))
   unfolding follows_by
   given_up r m n e = qed 𝓛 (‵ (fres r.ghost_name (B.coded.code m)) ∷ []) ∵ rewrite ! 0 (λ (x : Building). ‵ (fres r.ghost_name (B.coded.code x))) e refl $ done !
 
-  -- an error that says only that memory ran out
+  -- an error that only says out of memory
   pub refusal_of : (κ : Lft) (n : Refused.Denot) → ent 𝓤 (emp 𝓤) (sem 𝓛 ((Back κ).own_val (Err n) (live 1 (of_list (vstruct vnil ∷ [])) ∷ [])))
   refusal_of κ n =
       let v : Val = vstruct vnil in

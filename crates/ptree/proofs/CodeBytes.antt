@@ -8,10 +8,11 @@ use Rattle.ptree.specs.Codes.{joined_codes}
 use Rattle.ptree.specs.Style.{StyleValue, code, front_codes}
 use Rattle.ptree.proofs.CodeLists.{parameters_of}
 
--- ASCII, and behind the line feed
+-- an ASCII byte greater than the line feed
 abbrev pub IsCodeByte : ℕ → Type 0
 IsCodeByte b = (b < 128) × (10 < b)
 
+-- all bytes are such
 abbrev pub AreCodeBytes : List ℕ → Type 0
 AreCodeBytes bs = All IsCodeByte bs
 
@@ -28,7 +29,7 @@ digit_is : (d : ℕ) (b : Bool) → nat_lt d 10 ≡ b → d < 10 → IsCodeByte 
 digit_is d true e h = (omega arith, omega arith)
 digit_is d false e h = (omega arith, omega arith)
 
--- digits, and those behind them
+-- digits, followed by more of them
 digits_are : (k n : ℕ) (rest : List ℕ) → AreCodeBytes rest → AreCodeBytes (digits_onto k 10 false n rest)
 digits_are zero n rest h = h
 digits_are (suc k) n rest h =
@@ -57,6 +58,7 @@ codes_are : (pss : List (List ℕ)) → AreCodeBytes (joined_codes (map code pss
 codes_are [] = empty
 codes_are (ps ∷ pss) = both (code ps) _ (code_is ps) (codes_are pss)
 
+-- the codes before a painted text are such bytes
 pub front_is : (style : StyleValue) → AreCodeBytes (front_codes style)
 front_is style =
     let h = parameters_of style in

@@ -1,4 +1,4 @@
--- Codes, one behind the other.
+-- Codes, one after the other.
 use Rattle.std.proofs.Common.{◌≡◌, ℕ, ◌+◌, ◌<◌, ◌≤◌, Bool, true, List, [], ◌∷◌, ◌++◌, length, map, take, set, Option, Some, None, refl, ap, sym, ◌∙◌, append_assoc, arith}
 use Rattle.std.specs.Prelude.{filter, option_map, option_to_list, option_and_then}
 use Rattle.std.proofs.lemmas.List.{append-nil, length-set}
@@ -18,7 +18,7 @@ flag_codes-append xs ys =
     ap (λ fs. joined_codes (map (λ flag. code (flag.1 ∷ [])) fs)) (filter-append (λ flag. flag.0) xs ys)
     ∙ ap joined_codes (map-append (λ flag. code (flag.1 ∷ [])) _ _) ∙ flat_map-append (λ c. c) (flag_codes xs) (flag_codes ys)
 
--- one flag more
+-- the codes of one flag more
 pub flag_more : (base a b : List ℕ) (fs : List (Bool × ℕ)) (f : Bool × ℕ) → b ≡ a ++ joined_codes (flag_codes (f ∷ [])) → a ≡ base ++ joined_codes (flag_codes fs)
     → b ≡ base ++ joined_codes (flag_codes (fs ++ f ∷ []))
 flag_more base a b fs f e d =
@@ -45,7 +45,7 @@ flag_set bytes at digit b t small room =
     pieces : (old : List ℕ) (d : ℕ) → (((old ++ 27 ∷ []) ++ 91 ∷ []) ++ d ∷ []) ++ 109 ∷ [] ≡ old ++ 27 ∷ 91 ∷ d ∷ 109 ∷ []
     pieces old d = simp append_assoc
 
--- what stands before a painted text, piece by piece
+-- the codes before a painted text, piece by piece
 pub front_codes_are : (style : StyleValue) → front_codes style ≡ (joined_codes (flag_codes (flags style)) ++ joined_codes (side_codes style.foreground Foreground)) ++ joined_codes (side_codes style.background Background)
 unfolding style_codes
 front_codes_are style =
@@ -60,7 +60,7 @@ side_code : (color : Option ColorValue) (side : Side) → side_codes color side 
 side_code None side = refl
 side_code (Some color) side = one_code (color_parameters color side)
 
--- each code of a style is one of some parameters
+-- each code of a style has some parameters
 pub parameters_of : (style : StyleValue) → (pss : List (List ℕ)) × (style_codes style ≡ map code pss)
 unfolding style_codes
 parameters_of style =
@@ -79,7 +79,7 @@ reset_is : (pss : List (List ℕ)) → reset_after (joined_codes (map code pss))
 reset_is [] = refl
 reset_is (ps ∷ pss) = refl
 
--- there is a reset where there is a code
+-- there is a reset exactly when there is a code
 pub back_codes_are : (style : StyleValue) → reset_after (front_codes style) ≡ back_codes style
 back_codes_are style =
     let h = parameters_of style in

@@ -14,13 +14,14 @@ use Rattle.ptree.specs.declared.colors.Tone.TheVariants.{Eight, Direct}
 use Rattle.ptree.specs.Color.{NamedColor, named_color, named_colors, color_words, word_tone, is_hex_name, hex_tone, table_tone, named_tone}
 use Rattle.ptree.specs.Codes.{IsOfEight, HasHexDigits}
 
--- what `map` answers, where its closure computes f
+-- the result of `map` whose closure computes f
 pub mapped : {X Y : Type 0} (f : X → Y) (P : X → Y → Type 0) → ((x : X) (y : Y) → P x y → y ≡ f x) → (o : Option X) (r : Option Y)
     → MatchOption o (r ≡ None) (λ x. IsSomeAnd r (P x)) → r ≡ option_map f o
 mapped f P h None r e = e
 mapped f P h (Some x) None e = absurd e
 mapped f P h (Some x) (Some y) e = ap Some (h x y e)
 
+-- two maps over an option are one
 pub option_map-option_map : {X Y Z : Type 0} (f : Y → Z) (h : X → Y) (o : Option X) → option_map f (option_map h o) ≡ option_map (λ x. f (h x)) o
 option_map-option_map f h None = refl
 option_map-option_map f h (Some x) = refl
@@ -29,21 +30,21 @@ option_map-cond : {X Y : Type 0} (f : X → Y) (b : Bool) (x : X) (o : Option X)
 option_map-cond f true x o = refl
 option_map-cond f false x o = refl
 
--- what is found of a table whose entries stand for others
+-- the result of a search in a table whose entries stand for others
 find-map : {X Y Z : Type 0} (p : Y → Bool) (h : X → Y) (f : Y → Z) (xs : List X) → option_map (λ x. f (h x)) (find (λ x. p (h x)) xs) ≡ option_map f (find p (map h xs))
 find-map p h f [] = refl
 find-map p h f (x ∷ xs) =
     option_map-cond (λ x. f (h x)) (p (h x)) x (find (λ x. p (h x)) xs)
     ∙ ap (cond (p (h x)) (Some (f (h x)))) (find-map p h f xs) ∙ sym (option_map-cond f (p (h x)) (h x) (find p (map h xs)))
 
--- what is found of a table that holds the names and bytes of the definition
+-- the result of a search in a table that holds the names and bytes of the definition
 pub table_found : (name : List ℕ) (table : List (Bor (List ℕ) × ℕ × ℕ × ℕ)) → map (λ c. named_color c.0.now c.1 c.2 c.3) table ≡ named_colors
     → option_map (λ c. Direct c.1 c.2 c.3) (find (λ c. str_eq_ignore_ascii_case c.0.now name) table) ≡ table_tone name
 table_found name table e =
     find-map (λ c. str_eq_ignore_ascii_case c.name name) (λ c. named_color c.0.now c.1 c.2 c.3) (λ c. Direct c.red c.green c.blue) table
     ∙ ap (λ cs. option_map (λ c. Direct c.red c.green c.blue) (find (λ c. str_eq_ignore_ascii_case c.name name) cs)) e
 
--- a word's place is one of eight
+-- the place of a word is less than eight
 word_is_of_eight : (o : Option ℕ) → IfSome o (λ k. k < 8) → IfSome (option_map Eight o) IsOfEight
 word_is_of_eight None h = tt
 word_is_of_eight (Some k) h = h
@@ -64,7 +65,7 @@ found_is_of_eight : (o : Option NamedColor) → IfSome (option_map (λ c. Direct
 found_is_of_eight None = tt
 found_is_of_eight (Some c) = tt
 
--- a colour of the eight that a name means is one of them
+-- a name that means a colour of the eight means one of them
 pub named_is_of_eight : (name : List ℕ) → IfSome (named_tone name) IsOfEight
 unfolding named_tone
 named_is_of_eight name =
@@ -72,13 +73,13 @@ named_is_of_eight name =
     (word_is_of_eight _ (position_within (λ word. bytes_eq word name) color_words [] _ refl))
     (either_is_of_eight (hex_tone name) (table_tone name) (hex_is_of_eight (is_hex_name name) _ _ _) (found_is_of_eight _))
 
--- one of the digits behind the mark
+-- one of the digits after `#`
 digit_at : (name : List ℕ) (i j : ℕ) → j ≡ 1 + i → j < length name → list_all is_ascii_hexdigit (drop 1 name) ≡ true → is_ascii_hexdigit (slice_index name j) ≡ true
 digit_at name i j e l h =
     let lt : i < length (drop 1 name) = simp length-drop (omega arith) in
     subst (λ b. is_ascii_hexdigit b ≡ true) (get_or_after_one name i 0 ∙ ap (λ k. get_or name k 0) (sym e)) (AllPass-from_list_all is_ascii_hexdigit (drop 1 name) h i 0 lt)
 
--- where a hexadecimal name has two digits
+-- where the two digits of a hexadecimal name are
 pub hex_digits_at : (name : List ℕ) (i : ℕ) → true ≡ is_hex_name name → 0 < i → i < 6 → HasHexDigits name i
 hex_digits_at name i h z l =
     let parts = and_parts ((length name == 7) && (slice_index name 0 == 35)) (list_all is_ascii_hexdigit (drop 1 name)) (sym h) in

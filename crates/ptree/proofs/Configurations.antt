@@ -1,4 +1,4 @@
--- What sources mean that say nothing.
+-- The configuration of sources that set nothing.
 use Rattle.std.proofs.Common.{◌≡◌, ◌∙◌, ◌&&◌, ◌||◌, Bool, true, false, List, ℕ, [], ◌∷◌, Option, Some, None, refl, ap}
 use Rattle.std.specs.Prelude.{map, is_some, is_none, not, option_and_then, unwrap_or}
 use Rattle.std.specs.List.{list_any}
@@ -70,7 +70,7 @@ no_style : (foreground background : Option ColorValue) (bold dimmed italic under
     } in style ≡ record plain_value { dimmed = dimming })
 no_style foreground background bold dimmed italic underline blink reverse hidden strikethrough dimming a b c d e f g h i j = cc (a, b, c, d, e, f, g, h, i, j)
 
--- nothing says how a part is painted
+-- the style of a part if no source sets it
 style_none : (variables : Variables) → HasNone variables → (part : Part) → style_of (without_file variables) part ≡ record plain_value { dimmed = is_dimmed (without_file variables) part }
 unfolding style_of
 style_none variables none part =
@@ -129,7 +129,7 @@ fault_none variables none =
     ap (λ branch. option_or branch (option_or (table_fault given Leaf) (first_of (map (field_fault given) all_fields)))) (table Branch)
     ∙ ap (λ leaf. option_or leaf (first_of (map (field_fault given) all_fields))) (table Leaf) ∙ none_of variables none all_fields
 
--- sources that say nothing mean the default
+-- sources that set nothing mean the default
 pub nothing_meant : (sources : Sources) → SayNothing sources → meant_by sources ≡ default_configuration
 nothing_meant sources h = at sources.file h.file h.variables where
   at : (file : FileSource) → file ≡ Absent → ((field : Field) → variable (record { variables = variables_of sources.variables.items; document = document file }) field ≡ None)

@@ -1,4 +1,4 @@
--- What a closing line makes a root and items whose pieces some later lines give, drawings go on from.
+-- Which texts a drawing continues: a root and items whose pieces some later lines give.
 use Rattle.std.proofs.Common.{◌≡◌, ℕ, List, [], ◌∷◌, ◌++◌, All, refl, sym, ap, ◌∙◌, subst, append_assoc}
 use Rattle.std.proofs.lemmas.List.{append-nil}
 use Rattle.ptree.specs.Continuation.{HasContinuation}
@@ -19,7 +19,7 @@ spelled_text-append : (k : Look) (a b : List SpelledItem) → spelled_text k (a 
 spelled_text-append k [] b = refl
 spelled_text-append k (i ∷ a) b = ap (λ z. text_entry k i.pieces i.passing i.text ++ z) (spelled_text-append k a b) ∙ sym (append_assoc (text_entry k i.pieces i.passing i.text) (spelled_text k a) (spelled_text k b))
 
--- any items whose pieces lines give, and the text of these lines, are a drawing
+-- a root and items whose pieces later lines give are continued by the text of these lines
 pub goes_on : (k : Look) → IsReadableWith k.pieces k.mark → (depth : ℕ) (root x body : List ℕ) (items : List SpelledItem) (o : List Line) → x ≡ text_entry k [] [] root ++ body → body ≡ spelled_text k items
     → HaveLastFlags k.pieces items o → Steps 0 (lines_of_items items ++ o) → Low depth (lines_of_items items ++ o) → HasContinuation k depth x
 goes_on k readable depth root x body items o is text right steps low =
@@ -44,11 +44,11 @@ goes_on k readable depth root x body items o is text right steps low =
     } in
     (t, rest, shows_form k depth (x ++ rest) t (subst (λ z. Shows k depth root (spelled_by p z) (x ++ rest)) (sym made) here))
 
--- what a drawing goes on from, its beginnings go on as
+-- a prefix of a text that a drawing continues is one too
 pub goes_on_before : (k : Look) (depth : ℕ) (x y : List ℕ) → HasContinuation k depth (x ++ y) → HasContinuation k depth x
 goes_on_before k depth x y (t, rest, d) = (t, y ++ rest, subst (λ z. IsDrawnForm k depth z t) (append_assoc x y rest) d)
 
--- a drawing goes on from nothing
+-- a drawing continues the empty text
 pub goes_on_nothing : (k : Look) → IsReadableWith k.pieces k.mark → (depth : ℕ) → HasContinuation k depth []
 goes_on_nothing k readable depth =
     let entry : List ℕ = text_entry k [] [] [] in

@@ -1,4 +1,4 @@
--- Values of a document, of either format, beside the values that are made of them.
+-- Values of a document, of either format, and the values that they are converted to.
 use Rattle.std.proofs.Common.{◌≡◌, ◌∙◌, ap, sym, subst, nat_cmp, Less, Global, String, List, [], ◌∷◌, ◌++◌, append_assoc, map, string_bytes}
 use Rattle.std.specs.Prelude.{All}
 use Rattle.std.specs.Cmp.Lexicographic.{slice_cmp}
@@ -16,16 +16,16 @@ use Rattle.ptree.specs.declared.value.Value.{Value}
 abbrev pub Member : Type 0 → Type 0
 Member V = String Global × V
 
--- what it becomes, where values become these data
+-- the entry of a member, given the data of values
 abbrev pub member_data : {V : Type 0} → (V → Data) → Member V → Data × Data
 member_data meant m = (string (string_bytes m.0), meant m.1)
 
--- some of all are left, and entries were made of the others
+-- some of all members are left, and the others were converted to entries
 abbrev pub AreMade : {V : Type 0} → (V → Data) → (all left : List (Member V)) → List (Value × Value) → Type 0
 AreMade meant all left made =
     (done : List (Member _)) × ((all ≡ done ++ left) × ((map entry_meant made ≡ map (member_data meant) done) × All (λ m. KeysAscend (meant m.1)) done))
 
--- one more
+-- one entry more
 pub made_more : {V : Type 0} (meant : V → Data) (all left rest : List (Member V)) (m : Member V) (made more : List (Value × Value)) (value : Value)
     → AreMade meant all left made → left ≡ m ∷ rest → data_of value ≡ meant m.1 → KeysAscend (data_of value) → map entry_meant more ≡ map entry_meant made ++ (string (string_bytes m.0), data_of value) ∷ []
     → AreMade meant all rest more
@@ -40,25 +40,25 @@ made_more meant all left rest m made more value h steps is keys e = (
   ),
 )
 
--- a list that is gone over value by value
+-- the data of a list, value by value
 pub items_made : {V : Type 0} (meant : V → Data) (items : List V → Items) → items [] ≡ no_items → ((v : V) (vs : List V) → items (v ∷ vs) ≡ item (meant v) (items vs))
     → (vs : List V) → items_of (map meant vs) ≡ items vs
 items_made meant items none more [] = sym none
 items_made meant items none more (v ∷ vs) = ap (item (meant v)) (items_made meant items none more vs) ∙ sym (more v vs)
 
--- and members
+-- the data of members, one by one
 pub entries_made : {V : Type 0} (meant : V → Data) (entries : List (Member V) → Entries) → entries [] ≡ no_entries
     → ((m : Member V) (ms : List (Member V)) → entries (m ∷ ms) ≡ entry (string (string_bytes m.0)) (meant m.1) (entries ms))
     → (ms : List (Member V)) → entries_of (map (member_data meant) ms) ≡ entries ms
 entries_made meant entries none more [] = sym none
 entries_made meant entries none more (m ∷ ms) = ap (entry (string (string_bytes m.0)) (meant m.1)) (entries_made meant entries none more ms) ∙ sym (more m ms)
 
--- items whose keys ascend
+-- the keys ascend in each item
 pub items_ascend : (ds : List Data) → All KeysAscend ds → ItemsAscend (items_of ds)
 items_ascend [] h = tt
 items_ascend (d ∷ ds) h = (All-head KeysAscend d ds h, items_ascend ds (All-tail KeysAscend d ds h))
 
--- members whose values' keys ascend
+-- the keys ascend in each member's value
 pub values_ascend : {V : Type 0} (meant : V → Data) (ms : List (Member V)) → All (λ m. KeysAscend (meant m.1)) ms → ValuesAscend (entries_of (map (member_data meant) ms))
 values_ascend meant [] h = tt
 values_ascend meant (m ∷ ms) h = (All-head (λ m. KeysAscend (meant m.1)) m ms h, values_ascend meant ms (All-tail (λ m. KeysAscend (meant m.1)) m ms h))
@@ -68,7 +68,7 @@ key_below : {V : Type 0} (meant : V → Data) (k : String Global) (ms : List (Me
 key_below meant k [] h = tt
 key_below meant k (m ∷ ms) h = (h.0, key_below meant k ms h.1)
 
--- members whose keys ascend
+-- the keys of members ascend
 pub keys_ascend : {V : Type 0} (meant : V → Data) (ms : List (Member V)) → IsStrictlySortedBy string_cmp (keys_of ms)
     → IsStrictlySortedBy (slice_cmp nat_cmp) (key_texts (entries_of (map (member_data meant) ms)))
 unfolding IsStrictlySortedBy

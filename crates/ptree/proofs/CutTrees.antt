@@ -1,4 +1,4 @@
--- Trees that are cut are drawn as the whole ones.
+-- A cut tree and the whole one have the same drawings up to the cut.
 use Rattle.std.proofs.Common.{◌≡◌, ℕ, zero, suc, ◌≤◌, List, [], ◌∷◌, map, sym, ◌∙◌, ap, refl, arith}
 use Rattle.ptree.specs.Drawing.{Look}
 use Rattle.ptree.specs.Laws.{HasTreeCuts}
@@ -14,7 +14,7 @@ none_at_zero : (f : Forest) → cut_forest 0 f ≡ none
 none_at_zero none = refl
 none_at_zero (item t c r) = refl
 
--- the trees of a cut forest are each cut at one less
+-- the trees of a cut forest are the trees, each cut at one less
 trees_of_cut : (d : ℕ) (f : Forest) → trees (cut_forest (suc d) f) ≡ map (cut_tree d) (trees f)
 trees_of_cut d none = refl
 trees_of_cut d (item t c r) = ap (λ ts. cut_tree d (tree t c) ∷ ts) (trees_of_cut d r)
@@ -36,6 +36,7 @@ entries_of_cut_tree look (suc d) (suc e) h front t =
     ∙ kid_entries-map look (λ s. shape_of_tree (cut_tree d s)) shape_of_tree (entries_below look d) (entries_below look e) (λ s. refl) (λ f s. entries_of_cut_tree look d e (omega arith) f s) front (tree_kids t)
     ∙ ap (kid_entries look (entries_below look d) front) (kids_of_unfold tree_own tree_kids t)
 
+-- the drawings of a tree at a depth are those of the cut tree
 pub drawing_of_cut_tree : (look : Look) (d : ℕ) → HasTreeCuts look d
 drawing_of_cut_tree look d = λ t e text h.
     same_drawings look (shape_of_tree t) (shape_of_tree (cut_tree d t)) d e

@@ -1,4 +1,4 @@
--- Beginnings of drawings that end in a line feed.
+-- Prefixes of drawings that end in a line feed.
 use Rattle.std.proofs.Common.{◌≡◌, ◌≢◌, ℕ, zero, suc, ◌⊎◌, inl, inr, Bool, not, List, [], ◌∷◌, ◌++◌, length, length-append, refl, sym, ap, ◌∙◌, subst, arith}
 use Rattle.std.proofs.lemmas.List.Elements.{All-nil, All-head, All-tail, All-append}
 use Rattle.ptree.specs.Drawing.{Look, continued_prefix}
@@ -12,7 +12,7 @@ use Rattle.ptree.proofs.Styles.{no_line_feed_front, no_line_feed_back}
 
 -- ## Lists
 
--- a line feed stands behind what holds none
+-- the first line feed of a text comes after a prefix without one
 pub behind_front : (a x g e : List ℕ) → HasNoLineFeed a → a ++ x ≡ g ++ 10 ∷ e → (h : List ℕ) × (g ≡ a ++ h) × (x ≡ h ++ 10 ∷ e)
 behind_front [] x g e h is = (g, refl, is)
 behind_front (b ∷ a) x [] e h is = absurd (All-head (λ c. c ≢ 10) b a h (let heads : b ≡ 10 = cc in heads))
@@ -22,23 +22,24 @@ behind_front (b ∷ a) x (c ∷ g) e h is =
     let rest = behind_front a x g e (All-tail (λ c. c ≢ 10) b a h) tails in
     (rest.0, ap (λ z. z ∷ g) (sym heads) ∙ ap (λ z. b ∷ z) rest.1, rest.2)
 
--- what ends in a line feed
+-- a text ends in a line feed
 abbrev pub Ends : List ℕ → Type 0
 Ends x = (g : List ℕ) × (x ≡ g ++ 10 ∷ [])
 
 nothing_there : (g e : List ℕ) (b : ℕ) → [] ≡ g ++ b ∷ e → ⊥
 nothing_there g e b is = let long = ap length is in omega (arith, simp length-append at long)
 
+-- a nonempty end of such a text ends in a line feed
 pub ends_tail : (g b : List ℕ) (c : ℕ) (f : List ℕ) → g ++ 10 ∷ [] ≡ b ++ c ∷ f → Ends (c ∷ f)
 ends_tail g [] c f e = (g, sym e)
 ends_tail [] (v ∷ b) c f e = let tails : [] ≡ b ++ c ∷ f = cc in absurd (nothing_there b f c tails)
 ends_tail (w ∷ g) (v ∷ b) c f e = let tails : g ++ 10 ∷ [] ≡ b ++ c ∷ f = cc in ends_tail g b c f tails
 
--- what ends in a line feed, or is nothing
+-- a text is empty or ends in a line feed
 abbrev pub Whole : List ℕ → Type 0
 Whole x = (x ≡ []) ⊎ Ends x
 
--- nothing but whole lines stands before a line
+-- only whole lines come before a line
 no_more : (a b c : List ℕ) → Whole a → a ≡ b ++ c → HasNoLineFeed c → c ≡ []
 no_more a b [] w e h = refl
 no_more a b (x ∷ c) (inl none) e h = absurd (nothing_there b c x (sym none ∙ e))
@@ -56,14 +57,17 @@ no_feed_passing : (p : Pieces) → IsReadable p → (flags : List Bool) → HasN
 no_feed_passing p h [] = All-nil (λ c. c ≢ 10)
 no_feed_passing p h (b ∷ flags) = All-append (λ c. c ≢ 10) (passing_piece p b) (passing_all p flags) (h.no_line_feed b).1 (no_feed_passing p h flags)
 
+-- the pieces of a line hold no line feed
 pub no_feed_pieces : (p : Pieces) → IsReadable p → (o : List Line) (n : ℕ) → HasNoLineFeed (pieces_by p o n)
 no_feed_pieces p h o zero = All-nil (λ c. c ≢ 10)
 no_feed_pieces p h o (suc n) =
     All-append (λ c. c ≢ 10) (passing_all p (last_flags o n)) (turning_piece p (not (has_later o (suc n)))) (no_feed_passing p h (last_flags o n)) (h.no_line_feed (not (has_later o (suc n)))).0
 
+-- a painted text without a line feed holds none
 pub no_feed_painted : (s : StyleValue) (text : List ℕ) → HasNoLineFeed text → HasNoLineFeed (painted_text s text)
 no_feed_painted s text h =
     All-append (λ c. c ≢ 10) (front_codes s ++ text) (back_codes s) (All-append (λ c. c ≢ 10) (front_codes s) text (no_line_feed_front s) h) (no_line_feed_back s)
 
+-- the prefix of a further line holds no line feed
 pub no_feed_continued : (k : Look) → IsReadableWith k.pieces k.mark → (flags : List Bool) → HasNoLineFeed (continued_prefix k (passing_all k.pieces flags))
 no_feed_continued k h flags = no_feed_painted k.branch (passing_all k.pieces flags ++ k.mark) (All-append (λ c. c ≢ 10) (passing_all k.pieces flags) k.mark (no_feed_passing k.pieces h.pieces flags) h.no_line_feed)

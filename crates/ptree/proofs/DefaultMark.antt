@@ -1,4 +1,4 @@
--- The default mark beside the shipped sets.
+-- The default marker with the shipped sets.
 use Rattle.std.proofs.Common.{◌≡◌, ◌≢◌, ℕ, ◌+◌, ◌<◌, Bool, true, false, List, [], ◌∷◌, ◌++◌, inl, inr, refl, sym, subst, append_assoc, arith}
 use Rattle.std.specs.Prelude.{◌↔◌, IsTrue}
 use Rattle.std.proofs.lemmas.List.{append-nil}
@@ -14,7 +14,7 @@ use Rattle.ptree.proofs.Shipped.{shipped_readable, tick_readable}
 mark_apart : (mark a y : List ℕ) → differ mark a ≡ true → AreApart mark (a ++ y)
 mark_apart mark a y h = subst (λ z. AreApart z (a ++ y)) (append-nil mark) (apart_when_differ mark a [] y h)
 
--- a mark that differs from the first character of each piece is apart from each piece
+-- a marker that differs from the first character of each piece is apart from each piece
 record MarkTold (mark : List ℕ) (c : Characters) : Type 0 where
   regular : differ mark c.down_and_right ≡ true
   child : differ mark c.down ≡ true
@@ -34,7 +34,7 @@ mark_told mark c h indent padding true = (
 default_mark_line : HasNoLineFeed default_mark
 default_mark_line = All-cons (λ b. b ≢ 10) 58 (32 ∷ []) (omega arith) (All-cons (λ b. b ≢ 10) 32 [] (omega arith) (All-nil (λ b. b ≢ 10)))
 
--- the default mark is told apart from the pieces of each shipped set
+-- the default marker is apart from the pieces of each shipped set
 pub default_mark_told : (c : Characters) → IsShipped c → (indent padding : ℕ) → (last : Bool) → AreApart default_mark (turning_piece (pieces_from c indent padding) last) × AreApart default_mark (passing_piece (pieces_from c indent padding) last)
 default_mark_told c which i p = mark_told default_mark c (at which) i p where
   at : IsShipped c → MarkTold default_mark c
@@ -45,11 +45,11 @@ default_mark_told c which i p = mark_told default_mark c (at which) i p where
   at (inr (inr (inr (inr (inl e))))) = subst (MarkTold default_mark) (sym e) (record { regular = refl; child = refl; last_regular = refl; last_child = refl })
   at (inr (inr (inr (inr (inr e))))) = subst (MarkTold default_mark) (sym e) (record { regular = refl; child = refl; last_regular = refl; last_child = refl })
 
--- with the default mark, readable pieces of a shipped set are readable with it
+-- readable pieces of a shipped set are readable with the default marker too
 pub default_mark_readable : (c : Characters) → IsShipped c → (indent padding : ℕ) → IsReadable (pieces_from c indent padding) → IsReadableWith (pieces_from c indent padding) default_mark
 default_mark_readable c which i p h = record { pieces = h; no_line_feed = default_mark_line; apart = default_mark_told c which i p }
 
--- what a test of the pieces and the default mark tells
+-- a test of pieces and the default marker is true exactly when the pieces are readable
 pub marked_test : (c : Characters) (indent padding : ℕ) (mark : List ℕ) (test : Bool) → mark ≡ default_mark → IsShipped c
     → IsTrue test ↔ IsReadableWith (pieces_from c indent padding) mark → IsTrue test ↔ IsReadable (pieces_from c indent padding)
 marked_test c indent padding mark test e set h = (
@@ -57,12 +57,12 @@ marked_test c indent padding mark test e set h = (
   λ r. h.1 (subst (λ m. IsReadableWith (pieces_from c indent padding) m) (sym e) (default_mark_readable c set indent padding r)),
 )
 
--- true for each set without ticks, at every indent and padding
+-- the test is true for each set without ticks, at every indent and padding
 pub shipped_test : (c : Characters) (indent padding : ℕ) (mark : List ℕ) (test : Bool) → mark ≡ default_mark → IsShippedWithoutTicks c
     → IsTrue test ↔ IsReadableWith (pieces_from c indent padding) mark → IsTrue test
 shipped_test c indent padding mark test e set h = (marked_test c indent padding mark test e (inr set) h).1 (shipped_readable c set indent padding)
 
--- and for the set with ticks where a dash is drawn
+-- for the set with ticks the test is true exactly when a dash is drawn
 pub tick_test : (c : Characters) (indent padding : ℕ) (mark : List ℕ) (test : Bool) → mark ≡ default_mark → c ≡ ascii_tick
     → IsTrue test ↔ IsReadableWith (pieces_from c indent padding) mark → IsTrue test ↔ (1 + padding < indent)
 tick_test c indent padding mark test e tick h =

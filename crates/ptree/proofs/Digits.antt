@@ -1,4 +1,4 @@
--- ASCII digits as a test and as a fact.
+-- The test for ASCII digits, and what follows from it.
 use Rattle.std.proofs.Common.{◌≡◌, ℕ, ◌<◌, List, [], ◌∷◌, Bool, true, false, length, nat_le, refl, rules, arith, None, ◌^◌, subst}
 use Rattle.std.proofs.lemmas.Grind.{common_steps}
 use Rattle.std.specs.Char.{digit_value, is_ascii_digit}
@@ -9,10 +9,12 @@ use Rattle.ptree.specs.Words.{number_text}
 digit_below : (c : ℕ) → is_ascii_digit c ≡ true → digit_value c < 10
 digit_below c h = grind (arith, common_steps)
 
+-- a text that passes the test has only digits
 pub all_digits : (s : List ℕ) → all_ascii_digits s ≡ true → AllDigits 10 s
 all_digits [] h = tt
 all_digits (c ∷ cs) h = (digit_below c (search rules), all_digits cs (search rules))
 
+-- a text that passes the test has no leading plus
 pub no_plus : (s : List ℕ) → all_ascii_digits s ≡ true → without_leading_plus s ≡ s
 no_plus [] h = refl
 no_plus (c ∷ cs) h = grind (arith, common_steps)
@@ -22,7 +24,7 @@ at_test : (s : List ℕ) (greatest : ℕ) (b : Bool) → nat_le (digits_value 10
 at_test s greatest false e long digits wide fits = search (rules, arith)
 at_test s greatest true e long digits wide fits = absurd (wide (grind (arith, common_steps)))
 
--- a numeral that is too wide for 64 bits is at most no number of 64 bits
+-- a numeral that is too wide for 64 bits exceeds every number of 64 bits
 pub too_wide : (s : List ℕ) (greatest : ℕ) → 0 < length s → all_ascii_digits s ≡ true
     → (IsNumeral 10 (without_leading_plus s) × (digits_value 10 (without_leading_plus s) < 2 ^ 64) → ⊥) → greatest < 2 ^ 64 → None ≡ number_text greatest s
 too_wide s greatest long digits refused fits =

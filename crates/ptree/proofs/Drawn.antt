@@ -14,7 +14,7 @@ use Rattle.ptree.proofs.Engine.{nothing_yet}
 use Rattle.ptree.proofs.Join.{drawn_is_drawing, join_first}
 use Rattle.ptree.proofs.Written.{appends_nothing, written_err}
 
--- a refusal before the first byte
+-- a call that fails before the first byte
 pub drawn_nothing : {A E : Type 0} (Q : E → Type 0) (look : Look) (x : Shape) (depth : ℕ) (a : Option (List ℕ)) (r : Result A E) → IsErrAnd r Q → IsDrawn look x depth a a r
 drawn_nothing Q look x depth a r h =
     let all = concat (drawn_entries look depth x) in (all, drawn_is_drawing look depth x, written_err Q a a r all h (nothing_yet a all))
@@ -24,6 +24,6 @@ pub whole_entries : {A : Type 0} (look : Look) (x : Shape) (depth : ℕ) (a b : 
 whole_entries look x depth a b r h = λ m.
     let w = h m in (walk kids depth x, w.0, walk_is_list kids depth x, subst (λ (z : List ℕ). Appends a b z) (join_first look depth w.0 x) w.1)
 
--- none of them
+-- if nothing was drawn, the first entries were, namely none
 pub whole_nothing : {A : Type 0} (look : Look) (x : Shape) (depth : ℕ) (a : Option (List ℕ)) (r : Result A DrawError) → LeavesWholeEntries look x depth a a r
 whole_nothing look x depth a r = whole_entries look x depth a a r (λ m. (0, appends_nothing a))

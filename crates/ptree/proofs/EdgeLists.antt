@@ -27,6 +27,7 @@ first_from-le-length (e ∷ older) v =
       | false ↦ omega (arith, first_from-le-length older v)
     ]
 
+-- the number of the newest edge is at most the number of edges
 pub newest_from-le-length : (edges : List (ℕ × ℕ)) (v : ℕ) → newest_from edges v ≤ length edges
 newest_from-le-length edges v = omega (arith, first_from-le-length (reverse edges) v, length-reverse edges)
 
@@ -70,7 +71,7 @@ neighbors_of-push_other edges e v h =
 length-take-within : {X : Type 0} (n : ℕ) (xs : List X) → n ≤ length xs → length (take n xs) ≡ n
 length-take-within n xs h = omega (arith, length-take n xs)
 
--- m is the number of the newest of the first n edges from v: behind it none is from v
+-- m is the number of the newest of the first n edges from v: no later one of them is from v
 pub newest_settles : (edges : List (ℕ × ℕ)) (v n m : ℕ) → n ≤ length edges → m ≡ newest_from (take n edges) v
     → (neighbors_of (take m edges) v ≡ neighbors_of (take n edges) v) × (m ≡ newest_from (take m edges) v)
 newest_settles edges v zero m h k = subst (λ (j : ℕ). (neighbors_of (take j edges) v ≡ []) × (j ≡ newest_from (take j edges) v)) (sym k) (refl, refl)
@@ -90,7 +91,7 @@ newest_settles edges v (suc n) m h k =
           )
     ]
 
--- the edge that is the newest of the first ones from v, and what is before it
+-- the newest of the first edges from v, and the edges before it
 pub newest_splits : (edges : List (ℕ × ℕ)) (v i : ℕ) (e : ℕ × ℕ) → slice_get edges i ≡ Some e → suc i ≡ newest_from (take (suc i) edges) v
     → (e.0 ≡ v) × (neighbors_of (take (suc i) edges) v ≡ e.1 ∷ neighbors_of (take i edges) v)
 newest_splits edges v i e h k =
@@ -104,7 +105,7 @@ newest_splits edges v i e h k =
           absurd (omega (arith, newest_from-le-length (take i edges) v, length-take-within i edges (omega arith)))
     ]
 
--- a number that is the newest one's among the edges up to it is an edge's, or 0
+-- a number that is that of the newest edge among the edges up to it is an edge's, or 0
 pub newest_within : (edges : List (ℕ × ℕ)) (v m : ℕ) → m ≡ newest_from (take m edges) v → m ≤ length edges
 newest_within edges v m h = omega (arith, newest_from-le-length (take m edges) v, length-take m edges)
 
@@ -115,7 +116,7 @@ newest_starts edges v m h =
     subst (λ (l : List (ℕ × ℕ)). (neighbors_of (take m edges) v ≡ neighbors_of l v) × (m ≡ newest_from (take m edges) v)) (take-length edges)
     (newest_settles edges v (length edges) m (omega arith) (h ∙ ap (λ l. newest_from l v) (sym (take-length edges))))
 
--- one more target is given, and the rest is the same
+-- one more target was returned, and the rest is the same
 pub given_more : {X Y : Type 0} (f : X → Y) (items new : List X) (x : X) (before rest all : List Y) → new ≡ items ++ x ∷ [] → before ≡ f x ∷ rest → map f items ++ before ≡ all → map f new ++ rest ≡ all
 given_more f items new x before rest all n b h =
     ap (λ ys. map f ys ++ rest) n ∙ ap (λ ys. ys ++ rest) (map-append f items (x ∷ [])) ∙ append_assoc (map f items) (f x ∷ []) rest

@@ -19,6 +19,7 @@ use Rattle.ptree.specs.Style.{front_codes, back_codes, painted_text}
 use Rattle.ptree.specs.Writing.{AppendsPart, AppendsEntries, IsWritten, AreWritten, told_faults, HasErrorCause}
 use Rattle.ptree.proofs.Written.{appends_nothing, appends_entries, entries_then, entries_done, entries_more, entry_then}
 
+-- nothing appended is a prefix
 pub nothing_yet : (a : Option (List ℕ)) (x : List ℕ) → AppendsPart a a x
 nothing_yet a x = ([], (x, refl), appends_nothing a)
 
@@ -27,6 +28,7 @@ entries_down look zero front x h = absurd (h refl)
 entries_down look (suc n) front x h =
     let e : n ≡ suc n - 1 = omega arith in ap (λ k. kid_entries look (entries_below look k) front (kids x)) e
 
+-- an item is written: its own entry, and then the entries below it
 pub item_written : {A E : Type 0} (look : Look) (left : ℕ) (front : List ℕ) (last : Bool) (x : Shape) (a b c : Option (List ℕ)) (r : Result A E) (e : DrawError) → (left ≡ 0 → ⊥)
     → Appends a b (entry_of look (front ++ turning_piece look.pieces last) (front ++ passing_piece look.pieces last) x)
     → AreWritten b c r e (kid_entries look (entries_below look (left - 1)) (front ++ passing_piece look.pieces last) (kids x)) → AreWritten a c r e (item_entries look left front last x)
@@ -35,19 +37,20 @@ item_written look left front last x a b c r e h k w =
     entry_then a b c r e _ (entries_below look left passing x) k
     (subst (λ (es : List (List ℕ)). AreWritten b c r e es) (sym (entries_down look left passing x h)) w)
 
--- the entries of the first of all these children are appended, and those of the rest are still to come
+-- the entries of the first children were appended, and those of the rest are still to come
 abbrev pub AreBegun : Look → (List ℕ → Shape → List (List ℕ)) → List ℕ → List Shape → List Shape → Option (List ℕ) → Option (List ℕ) → Type 0
 AreBegun look below front all rest a b = (done : List (List ℕ)) × (done ++ kid_entries look below front rest ≡ kid_entries look below front all) × Appends a b (concat done)
 
+-- no child was drawn yet
 pub begun_none : (look : Look) (below : List ℕ → Shape → List (List ℕ)) (front : List ℕ) (all rest : List Shape) (a : Option (List ℕ)) → all ≡ rest → AreBegun look below front all rest a a
 begun_none look below front all rest a is = ([], ap (kid_entries look below front) (sym is), appends_nothing a)
 
--- what is appended so far is a beginning
+-- what was appended so far is a prefix
 pub begun_part : (look : Look) (below : List ℕ → Shape → List (List ℕ)) (front : List ℕ) (all rest : List Shape) (a b : Option (List ℕ)) (e : DrawError)
     → AreBegun look below front all rest a b → AppendsEntries a b e (kid_entries look below front all)
 begun_part look below front all rest a b e h = entries_done a b e h.0 (kid_entries look below front rest) (kid_entries look below front all) h.1 h.2
 
--- the entries of one child, and of those behind it
+-- the entries of one child, and of those after it
 next_is : {C : Type 0} (shape : C → Shape) (look : Look) (below : List ℕ → Shape → List (List ℕ)) (front : List ℕ) (rest others : List C) (x : C) (last : Bool) → rest ≡ x ∷ others → last ≡ eqb (length others) 0
     → with_below look below front last (shape x) ++ kid_entries look below front (map shape others) ≡ kid_entries look below front (map shape rest)
 next_is {C = C} shape look below front rest others x last is end =
@@ -68,7 +71,7 @@ begun_then shape look below front all rest others x last a b c is end h k =
       appends_entries a b c h.0 item h.2 k,
     )
 
--- one that isn't drawn whole ends the list
+-- a child that was not drawn completely ends the list
 pub begun_err : {C : Type 0} (shape : C → Shape) (look : Look) (below : List ℕ → Shape → List (List ℕ)) (front : List ℕ) (all : List Shape) (rest others : List C) (x : C) (last : Bool) (a b c : Option (List ℕ)) (e : DrawError)
     → rest ≡ x ∷ others → last ≡ eqb (length others) 0 → AreBegun look below front all (map shape rest) a b → AppendsEntries b c e (with_below look below front last (shape x))
     → AppendsEntries a c e (kid_entries look below front all)
@@ -83,7 +86,7 @@ empty_list [] b h k = refl
 empty_list (x ∷ xs) b h k =
     let some : eqb (length (x ∷ xs)) 0 ≡ false = grind (arith, nat_tests) in absurd (cc)
 
--- an item with no children has nothing below it
+-- an item without children has nothing below it
 pub none_below : {D : Type 0} (look : Look) (below : List ℕ → Shape → List (List ℕ)) (front : List ℕ) (x : Shape) (a : Option (List ℕ)) (shape : D → Shape) (ks : List D) (empty : Bool)
     → empty ≡ true → empty ≡ eqb (length ks) 0 → map shape ks ≡ kids x → Appends a a (concat (kid_entries look below front (kids x)))
 none_below look below front x a shape ks empty e1 e2 ek =
@@ -94,7 +97,8 @@ pub all_below : {D A E : Type 0} (look : Look) (below : List ℕ → Shape → L
     → map shape ks ≡ kids x → AreWritten a b r e (kid_entries look below front (map shape ks)) → AreWritten a b r e (kid_entries look below front (kids x))
 all_below look below front x a b r e shape ks is w = subst (λ (xs : List Shape). AreWritten a b r e (kid_entries look below front xs)) is w
 
--- what the buffer holds is an entry: its first bytes, a text with the back codes, and the own bytes, with the same first bytes and another such text before each of their further lines
+-- the buffer holds an entry: its first bytes, a text with the back codes, and the own bytes, with
+-- the same first bytes and another such text before each of their further lines
 pub entry_held : (look : Look) (width : ℕ) (bytes front : List ℕ) (last : Option Bool) (x : Shape)
     → bytes ≡ take width bytes ++ own_text look last → take width bytes ≡ front_codes look.branch ++ front
     → (bytes ++ with_inserted (take width bytes ++ further_text look last) (x.own [] look.leaf)) ++ 10 ∷ [] ≡ own_entry look front last x
@@ -113,15 +117,15 @@ entry_held look width bytes front last x turned is =
     inside : (a b c d e : List ℕ) → (a ++ b) ++ (c ++ d ++ e) ≡ a ++ ((b ++ c) ++ d) ++ e
     inside a b c d e = simp append_assoc
 
--- what it holds a level down
+-- what the buffer holds one level down
 pub down_is : (look : Look) (front piece line again below : List ℕ) → line ≡ front_codes look.branch ++ front → again ≡ line → below ≡ again ++ piece → below ≡ front_codes look.branch ++ (front ++ piece)
 down_is look front piece line again below el ea eb = eb ∙ ap (λ l. l ++ piece) (ea ∙ el) ∙ append_assoc (front_codes look.branch) front piece
 
--- a list whose first so many make a list of that length has so many
+-- a list whose first n elements make a list of length n has at least n
 pub long_enough : (n : ℕ) (xs ys : List ℕ) → take n xs ≡ ys → n ≡ length ys → n ≤ length xs
 long_enough n xs ys e h = let same : length (take n xs) ≡ min n (length xs) = length-take n xs in let all = ap length e in omega (arith, same, all, h)
 
--- what is put behind the first so many leaves them
+-- bytes put after the first n leave those unchanged
 pub take_again : (n : ℕ) (xs ys zs : List ℕ) → n ≤ length xs → zs ≡ take n xs ++ ys → take n zs ≡ take n xs
 take_again n xs ys zs h e =
     let same : length (take n xs) ≡ min n (length xs) = length-take n xs in
@@ -133,26 +137,26 @@ pub item_ended : (look : Look) (left : ℕ) (front : List ℕ) (last : Bool) (x 
 item_ended look zero front last x a b e h = subst (λ (y : List ℕ). Appends a b y) (sym (append-nil (entry_of look (front ++ turning_piece look.pieces last) (front ++ passing_piece look.pieces last) x))) h
 item_ended look (suc n) front last x a b e h = absurd (omega (arith, e))
 
--- an error that is no fault tells none
+-- out of memory reports no fault
 pub quiet : (a b : ℕ) (e : DrawError) → HasErrorCause a b e → e ≡ Memory → b ≡ a
 quiet a b e h k =
     let none : a + 0 ≡ a = omega arith in h ∙ ap (λ (x : DrawError). a + told_faults {A = Unit {0}} (Err x)) k ∙ none
 
--- one that isn't the last
+-- a child with others after it is not the last
 pub not_last : (n : ℕ) (last : Bool) → last ≡ eqb n 0 → 0 < n → last ≡ false
 not_last n last e h = let some : eqb n 0 ≡ false = grind (arith, nat_tests) in e ∙ some
 
--- a regular turning piece that was kept
+-- a regular turning piece was kept
 pub still_turned : (n : ℕ) (xs turned kept : List ℕ) (text : Bool → List ℕ) (last : Bool) → turned ≡ take n xs ++ text last → last ≡ false → take n turned ≡ take n xs → kept ≡ turned → kept ≡ take n kept ++ text false
 still_turned n xs turned kept text last e l t k =
     k ∙ e ∙ ap (λ b. take n xs ++ text b) l ∙ ap (λ ys. ys ++ text false) (sym (ap (take n) k ∙ t))
 
--- what is put behind all of a text is cut off again
+-- bytes put after a text are cut off again
 pub cut_back : (n : ℕ) (xs ys zs kept again : List ℕ) → n ≡ length xs → zs ≡ xs ++ ys → kept ≡ zs → again ≡ take n kept → again ≡ xs
 cut_back n xs ys zs kept again h e k a =
     a ∙ ap (take n) (k ∙ e) ∙ take-append-le n xs ys (omega arith) ∙ take_all n xs (omega arith)
 
--- own bytes behind what the buffer held, with what is inserted
+-- own bytes after what the buffer held, with the text inserted after their line feeds
 pub spread_is : (n width : ℕ) (old own held after further : List ℕ) → held ≡ old ++ own → n ≡ length old → width ≤ length old
     → after ≡ take n held ++ with_inserted (take width held ++ further) (drop n held) → after ≡ old ++ with_inserted (take width old ++ further) own
 spread_is n width old own held after further e len low is =
@@ -162,12 +166,12 @@ spread_is n width old own held after further e len low is =
     is ∙ (ap (λ z. z ++ with_inserted (take width held ++ further) (drop n held)) front
     ∙ (ap (λ z. old ++ with_inserted (z ++ further) (drop n held)) part ∙ ap (λ z. old ++ with_inserted (take width old ++ further) z) back))
 
--- what a call that didn't fail put into the buffer
+-- the bytes that a successful call put into the buffer
 pub gathered : {A E : Type 0} (xs ys own : List ℕ) (r : Result A E) (b : Bool) → b ≡ is_err r → b ≡ false → IsWritten (Some xs) (Some ys) r own → ys ≡ xs ++ own
 gathered xs ys own (Ok v) b e f w = w
 gathered xs ys own (Err x) b e f w = absurd (false≢true (sym f ∙ e))
 
--- what was gathered is an entry: own bytes behind what the buffer held, continued, and a line feed
+-- the gathered bytes are an entry: own bytes after what the buffer held, continued, and a line feed
 pub entry_gathered : (look : Look) (width start : ℕ) (old held spread line front : List ℕ) (last : Option Bool) (x : Shape)
     → old ≡ take width old ++ own_text look last → take width old ≡ front_codes look.branch ++ front
     → held ≡ old ++ x.own [] look.leaf → start ≡ length old → width ≤ length old → spread ≡ take start held ++ with_inserted (take width held ++ further_text look last) (drop start held) → line ≡ spread ++ 10 ∷ []
@@ -175,6 +179,7 @@ pub entry_gathered : (look : Look) (width start : ℕ) (old held spread line fro
 entry_gathered look width start old held spread line front last x turned is own len low e f =
     f ∙ (ap (λ z. z ++ 10 ∷ []) (spread_is start width old _ held spread (further_text look last) own len low e) ∙ entry_held look width old front last x turned is)
 
+-- the first bytes are unchanged when bytes are put after them
 pub front_kept : (width : ℕ) (old bytes back : List ℕ) → width ≡ length old → bytes ≡ old ++ back → take width bytes ≡ old
 front_kept width old bytes back len is = ap (take width) is ∙ (ap (λ n. take n (old ++ back)) len ∙ take-append_seam old back)
 

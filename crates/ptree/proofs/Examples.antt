@@ -1,4 +1,4 @@
--- Rows, by computation.
+-- Examples, by computation.
 use Rattle.std.proofs.Common.{◌≡◌, ℕ, true, List, [], ◌∷◌, ◌++◌, refl, ap, ◌∙◌, subst, arith}
 use Rattle.std.proofs.lemmas.Fmt.{decimal_digit}
 use Rattle.ptree.specs.Characters.{utf}
@@ -10,7 +10,7 @@ use Rattle.ptree.specs.Style.{plain_value, style_codes, front_codes}
 use Rattle.ptree.specs.Tree.{none, item, tree, shape_of_tree}
 use Rattle.ptree.proofs.Join.{drawn_is_drawing}
 
--- the default look, unstyled, the mark being a colon and a space
+-- the default look, unstyled, with a colon and a space as marker
 abbrev plain_look : Look
 plain_look = look_from plain_value plain_value (pieces_from utf 3 1) (58 ∷ 32 ∷ [])
 
@@ -34,12 +34,12 @@ one : concat (drawn_entries plain_look 9 (shape_of_tree (tree (114 ∷ []) (item
 unfolding style_codes
 one = refl
 
--- r\ns
+-- the root r\ns
 root : concat (drawn_entries plain_look 9 (shape_of_tree (tree (114 ∷ 10 ∷ 115 ∷ []) none))) ≡ 114 ∷ 10 ∷ 58 ∷ 32 ∷ 115 ∷ 10 ∷ []
 unfolding style_codes
 root = refl
 
--- a root of one line feed
+-- a root whose text is one line feed
 feed : concat (drawn_entries plain_look 9 (shape_of_tree (tree (10 ∷ []) none))) ≡ 10 ∷ 58 ∷ 32 ∷ 10 ∷ []
 unfolding style_codes
 feed = refl
@@ -58,7 +58,7 @@ bold_front : front_codes (record plain_value { bold = true }) ≡ 27 ∷ 91 ∷ 
 unfolding style_codes
 bold_front = ap (λ d. (27 ∷ 91 ∷ d ++ 109 ∷ []) ++ []) (decimal_digit 1 (omega arith))
 
--- the root r\ns, where these are the front codes
+-- the root r\ns, given the front codes
 abbrev styled_root : List ℕ → List ℕ → List ℕ
 styled_root branch leaf =
     let reset : List ℕ = 27 ∷ 91 ∷ 48 ∷ 109 ∷ [] in
@@ -70,6 +70,6 @@ styled : concat (drawn_entries styled_look 9 (shape_of_tree (tree (114 ∷ 10 �
 unfolding style_codes
 styled = ap (λ z. styled_root z (front_codes (record plain_value { bold = true }))) dimmed_front ∙ ap (λ z. styled_root (27 ∷ 91 ∷ 50 ∷ 109 ∷ []) z) bold_front
 
--- and so by addresses
+-- the same drawing, by addresses
 by_addresses : IsDrawing plain_look (shape_of_tree (tree (114 ∷ 10 ∷ 115 ∷ []) none)) 9 (114 ∷ 10 ∷ 58 ∷ 32 ∷ 115 ∷ 10 ∷ [])
 by_addresses = subst (λ (z : List ℕ). IsDrawing plain_look (shape_of_tree (tree (114 ∷ 10 ∷ 115 ∷ []) none)) 9 z) root (drawn_is_drawing plain_look 9 (shape_of_tree (tree (114 ∷ 10 ∷ 115 ∷ []) none)))

@@ -1,4 +1,4 @@
--- The lists of fields have each field.
+-- The lists of fields contain each field.
 use Rattle.std.proofs.Common.{◌≡◌, ◌∙◌, ℕ, true, List, [], ◌∷◌, ◌++◌, length, map, slice_index_or, Contains, refl, ap}
 use Rattle.std.proofs.Math.Dec.{ltb}
 use Rattle.std.proofs.lemmas.Bool.{ltb-true}
@@ -12,7 +12,7 @@ use Rattle.ptree.specs.declared.print_config.fields.StyleField.{StyleField}
 use Rattle.ptree.specs.declared.print_config.fields.StyleField.TheVariants.{Foreground, Background, Bold, Dimmed, Italic, Underline, Blink, Reverse, Hidden, Strikethrough}
 use Rattle.ptree.specs.Fields.{all_fields, all_style_fields, HasEach}
 
--- what stands at a place of a list is in it
+-- the element at a place of a list is in it
 at : {A : Type 0} (list : List A) (value : A) (place : ℕ) → ltb place (length list) ≡ true → slice_index_or list place value ≡ value → Contains list value
 at list value place within found = (place, ltb-true place (length list) within, found)
 
@@ -20,6 +20,7 @@ Contains-map : {A B : Type 0} (f : A → B) (list : List A) (value : A) → Cont
 Contains-map f list value (place, within, found) =
     (place, rw (length-map list f) within, get_or-map f list place value (f value) within ∙ ap f found)
 
+-- the list of style fields has each
 pub each_style_field : HasEach all_style_fields
 each_style_field Foreground = at all_style_fields Foreground 0 refl refl
 each_style_field Background = at all_style_fields Background 1 refl refl
@@ -39,13 +40,14 @@ painted part = map (Paint part) all_style_fields
 in_part : (part : Part) (field : StyleField) → Contains (painted part) (Paint part field)
 in_part part field = Contains-map (Paint part) all_style_fields field (each_style_field field)
 
--- the fields before those of styles, and those from the styles on
+-- the fields before those of styles, and those from the leaves' style on
 abbrev before : List Field
 before = Depth ∷ Indent ∷ Padding ∷ Styled ∷ Characters ∷ DownAndRight ∷ Down ∷ TurnRight ∷ Right ∷ Empty ∷ []
 
 abbrev from_leaf : List Field
 from_leaf = painted Leaf ++ Continued ∷ []
 
+-- the list of fields has each
 pub each_field : HasEach all_fields
 each_field Depth = at all_fields Depth 0 refl refl
 each_field Indent = at all_fields Indent 1 refl refl

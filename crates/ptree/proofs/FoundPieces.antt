@@ -1,4 +1,4 @@
--- The passing pieces at the front of a line cut the flags of the open items.
+-- The passing pieces at the front of a line restrict the flags of the open items.
 use Rattle.std.proofs.Common.{◌≡◌, ◌≢◌, ℕ, suc, ◌+◌, ◌<◌, ◌≤◌, ◌⊎◌, inl, inr, Bool, true, false, not, List, ◌++◌, length, set, get_or, length-set, get_or-set_same, get_or-set_other, refl, sym, ap, ◌∙◌, subst, append_assoc, arith}
 use Rattle.std.specs.Prelude.{◌↔◌}
 use Rattle.std.proofs.lemmas.Bool.{cases_lt}
@@ -16,7 +16,8 @@ use Rattle.ptree.proofs.OpenItems.{open_lines, some_flag, passing_push, passing_
 
 -- ## What was found
 
--- pieces that the open items may have, with something apart from passing pieces behind them, are those that were found
+-- pieces that the open items may have, followed by something apart from passing pieces, are those
+-- that were found
 pub found_at : (p : Pieces) → IsReadable p → (fs new : List Flags) (text shown rest : List ℕ) (n : ℕ) → IsFound p fs new text shown rest n
     → (m : ℕ) (o : List Line) (s z : List ℕ) → m ≤ length fs → Allows fs o → ((b : Bool) → AreApart s (passing_piece p b)) → text ≡ passing_by p o m ++ (s ++ z)
     → (n ≡ m) × (passing_by p o m ≡ shown) × (rest ≡ s ++ z)
@@ -48,7 +49,7 @@ found_at p readable fs new text shown rest n h m o s z high allowed apart e =
     regrouped : (a b t c : List ℕ) → (a ++ (b ++ t)) ++ c ≡ a ++ (b ++ (t ++ c))
     regrouped a b t c = simp append_assoc
 
--- no piece more
+-- no piece more was found
 pub found_same : (p : Pieces) (fs : List Flags) (count n : ℕ) (text shown shown' rest : List ℕ) → ArePath p fs count shown → ArePassed p fs count text n rest → text ≡ shown' ++ rest
     → (n ≡ count → count < length fs → NoPiece (passing_piece p) (get_or fs n any_flags) rest) → IsFound p fs fs text shown' rest n
 found_same p fs count n text shown shown' rest path h e none =
@@ -78,7 +79,7 @@ flag_set fs i x low = rw get_or-set_same refl
 flag_other : (fs : List Flags) (i m : ℕ) (x : Flags) → m ≢ i → get_or (set fs i x) m any_flags ≡ get_or fs m any_flags
 flag_other fs i m x ne = rw get_or-set_other refl
 
--- one piece more, that of the last item
+-- one piece more was found, that of the last item
 pub found_more : (p : Pieces) (fs fs' : List Flags) (count : ℕ) (text shown shown' rest rest' : List ℕ) (new : Flags) → ArePath p fs count shown → ArePassed p fs count text count rest → count < length fs
     → IsCutTo (passing_piece p) (get_or fs count any_flags) rest new rest' → text ≡ shown' ++ rest' → fs' ≡ set fs count new → IsFound p fs fs' text shown' rest' (suc count)
 found_more p fs fs' count text shown shown' rest rest' new path h low cut e set_is =
@@ -137,7 +138,7 @@ found_more p fs fs' count text shown shown' rest rest' new path h low cut e set_
       | inr more ↦ elim (cases_lt n m) [ inl less ↦ inr (λ e. omega (arith, less, e)) | inr most ↦ inl (omega arith) ]
     ]
 
--- one piece more behind those that were passed
+-- one piece more after those that were passed
 pub found_next : (p : Pieces) (fs fs' : List Flags) (count passed : ℕ) (text shown shown' rest rest' : List ℕ) (flags new : Flags) → ArePath p fs count shown → ArePassed p fs count text passed rest → count ≤ passed → passed < length fs
     → IsCutTo (passing_piece p) flags rest new rest' → flags ≡ get_or fs passed any_flags → text ≡ shown' ++ rest' → fs' ≡ set fs passed new → IsFound p fs fs' text shown' rest' (passed + 1)
 found_next p fs fs' count passed text shown shown' rest rest' flags new path h most low cut is e set_is =
@@ -148,10 +149,11 @@ found_next p fs fs' count passed text shown shown' rest rest' flags new path h m
     (found_more p fs fs' count text shown shown' rest rest' new path (subst (λ z. ArePassed p fs count text z rest) same h) (omega (arith, same, low))
     (subst (λ z. IsCutTo (passing_piece p) z rest new rest') (is ∙ ap (λ z. get_or fs z any_flags) same) cut) e (set_is ∙ ap (λ z. set fs z new) same))
 
--- what stands before the rest
+-- the bytes before the rest
 pub found_front : (p : Pieces) (fs : List Flags) (count passed : ℕ) (text rest : List ℕ) → AreSome fs → ArePassed p fs count text passed rest → (front : List ℕ) × (text ≡ front ++ rest)
 found_front p fs count passed text rest some h = let (o, a) = open_lines fs some in (passing_by p o passed, h.passed o a)
 
+-- the bytes before the rest, with one piece more
 pub found_front_next : (p : Pieces) (fs : List Flags) (count passed : ℕ) (text rest rest' : List ℕ) (flags new : Flags) → AreSome fs → ArePassed p fs count text passed rest → IsCutTo (passing_piece p) flags rest new rest'
     → (front : List ℕ) × (text ≡ front ++ rest')
 found_front_next p fs count passed text rest rest' flags new some h cut =
@@ -159,5 +161,6 @@ found_front_next p fs count passed text rest rest' flags new some h cut =
     let piece : List ℕ = passing_piece p cut.last in
     (passing_by p o passed ++ piece, h.passed o a ∙ (ap (λ z. passing_by p o passed ++ z) cut.text_is ∙ sym (append_assoc (passing_by p o passed) piece rest')))
 
+-- what was found, under equal names
 pub found_moved : (p : Pieces) (fs new new' : List Flags) (text shown rest : List ℕ) (n n' : ℕ) → IsFound p fs new text shown rest n → new' ≡ new → n' ≡ n → IsFound p fs new' text shown rest n'
 found_moved p fs new new' text shown rest n n' h e f = subst (λ z. IsFound p fs new' text shown rest z) (sym f) (subst (λ z. IsFound p fs z text shown rest n) (sym e) h)

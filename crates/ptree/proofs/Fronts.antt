@@ -1,4 +1,4 @@
--- Pieces that are readable since they begin with fronts which can be told apart.
+-- Pieces that are readable because they begin with distinguishable fronts.
 use Rattle.std.proofs.Common.{◌≡◌, ◌≢◌, ℕ, zero, suc, ◌⊎◌, Bool, true, false, cond, ◌&&◌, List, [], ◌∷◌, ◌++◌, eqb, inl, inr, refl, ap}
 use Rattle.std.specs.List.{repeat}
 use Rattle.std.proofs.lemmas.Bool.{eqb-false, false≢true}
@@ -9,7 +9,7 @@ use Rattle.ptree.specs.Text.{HasNoLineFeed}
 
 -- ## Tests that compute
 
--- the texts differ before either ends
+-- the texts differ before either one ends
 abbrev pub differ : List ℕ → List ℕ → Bool
 differ [] b = false
 differ (u ∷ a) [] = false
@@ -20,6 +20,7 @@ abbrev pub one_line : List ℕ → Bool
 one_line [] = true
 one_line (b ∷ bs) = cond (eqb b 10) false (one_line bs)
 
+-- texts that differ before either one ends are apart, whatever follows
 pub apart_when_differ : (a b x y : List ℕ) → differ a b ≡ true → AreApart (a ++ x) (b ++ y)
 apart_when_differ [] b x y h = absurd (false≢true h)
 apart_when_differ (u ∷ a) [] x y h = absurd (false≢true h)
@@ -32,6 +33,7 @@ apart_when_differ (u ∷ a) (v ∷ b) x y h = at (apart_when_differ a b x y) (eq
       let other = eqb-false u v e in
       ((λ (rest, f). other (let g = f in cc)), (λ (rest, f). other (let g = f in cc)))
 
+-- a text that passes the test holds no line feed
 pub no_line_feed_when : (bs : List ℕ) → one_line bs ≡ true → HasNoLineFeed bs
 no_line_feed_when [] h = All-nil (λ b. b ≢ 10)
 no_line_feed_when (b ∷ bs) h = at (no_line_feed_when bs) (eqb b 10) refl h where
@@ -39,26 +41,29 @@ no_line_feed_when (b ∷ bs) h = at (no_line_feed_when bs) (eqb b 10) refl h whe
   at ih true e h' = absurd (false≢true h')
   at ih false e h' = All-cons (λ c. c ≢ 10) b bs (eqb-false b 10 e) (ih h')
 
+-- a repeated text without a line feed holds none
 pub no_line_feed_repeat : (n : ℕ) (t : List ℕ) → HasNoLineFeed t → HasNoLineFeed (repeat n t)
 no_line_feed_repeat zero t h = All-nil (λ b. b ≢ 10)
 no_line_feed_repeat (suc n) t h = All-append (λ b. b ≢ 10) t (repeat n t) h (no_line_feed_repeat n t h)
 
 -- ## Pieces that begin with fronts which can be told apart
 
--- what the pieces of each kind begin with
+-- the fronts of the four pieces
 pub record Fronts : Type 0 where
   pub regular : List ℕ
   pub child : List ℕ
   pub last_regular : List ℕ
   pub last_child : List ℕ
 
+-- the fronts with these texts
 abbrev pub fronts : List ℕ → List ℕ → List ℕ → List ℕ → Fronts
 fronts r c lr lc = record { regular = r; child = c; last_regular = lr; last_child = lc }
 
--- the pieces that go on with x after a turning front, and with y after a passing one
+-- pieces that continue with x after a turning front, and with y after a passing one
 abbrev pub pieces_on : Fronts → List ℕ → List ℕ → Pieces
 pieces_on f x y = record { regular = f.regular ++ x; child = f.child ++ y; last_regular = f.last_regular ++ x; last_child = f.last_child ++ y }
 
+-- the fronts pass the tests for readable pieces
 pub record AreTold (f : Fronts) : Type 0 where
   pub turning_lines : (one_line f.regular && one_line f.last_regular) ≡ true
   pub passing_lines : (one_line f.child && one_line f.last_child) ≡ true
@@ -67,10 +72,12 @@ pub record AreTold (f : Fronts) : Type 0 where
   pub turnings : (f.regular ≡ f.last_regular) ⊎ (differ f.regular f.last_regular ≡ true)
   pub passings : differ f.child f.last_child ≡ true
 
+-- both parts of a conjunction are true
 pub both : (a b : Bool) → (a && b) ≡ true → (a ≡ true) × (b ≡ true)
 both true b h = (refl, h)
 both false b h = absurd (false≢true h)
 
+-- pieces with such fronts are readable
 pub told_readable : (f : Fronts) → AreTold f → (x y : List ℕ) → HasNoLineFeed x → HasNoLineFeed y → IsReadable (pieces_on f x y)
 told_readable f h x y hx hy = record {
   no_line_feed = lines;

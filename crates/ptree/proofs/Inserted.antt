@@ -1,4 +1,4 @@
--- What is inserted after line feeds.
+-- Texts inserted after line feeds.
 use Rattle.std.proofs.Common.{◌≡◌, ◌≢◌, ℕ, ◌<◌, ◌≤◌, ◌+◌, length, length-drop, take, drop, arith, get_or, append_assoc, ◌⊎◌, inl, inr, Bool, true, false, cond, eqb, List, [], ◌∷◌, ◌++◌, refl, sym, ap, ◌∙◌}
 use Rattle.std.proofs.lemmas.Bool.{eq-eqb, ne_eqb, eqb-true, eqb-false, false≢true}
 use Rattle.std.proofs.lemmas.Grind.{flat_map-append}
@@ -17,12 +17,15 @@ is_feed b = at (eqb b 10) refl where
   at true e = inl (eqb-true b 10 e)
   at false e = inr (eqb-false b 10 e)
 
+-- a line feed in front is followed by the inserted text
 pub inserted_feed : (inserted : List ℕ) (b : ℕ) (text : List ℕ) → b ≡ 10 → with_inserted inserted (b ∷ text) ≡ 10 ∷ (inserted ++ with_inserted inserted text)
 inserted_feed inserted b text e = ap (λ c. cond c (10 ∷ inserted) (b ∷ []) ++ with_inserted inserted text) (eq-eqb b 10 e)
 
+-- another byte in front is followed by nothing
 pub inserted_other : (inserted : List ℕ) (b : ℕ) (text : List ℕ) → b ≢ 10 → with_inserted inserted (b ∷ text) ≡ b ∷ with_inserted inserted text
 inserted_other inserted b text n = ap (λ c. cond c (10 ∷ inserted) (b ∷ []) ++ with_inserted inserted text) (ne_eqb b 10 n)
 
+-- insertion into a joined text is insertion into its parts
 pub inserted-append : (inserted a b : List ℕ) → with_inserted inserted (a ++ b) ≡ with_inserted inserted a ++ with_inserted inserted b
 inserted-append inserted a b = flat_map-append (λ c. cond (eqb c 10) (10 ∷ inserted) (c ∷ [])) a b
 
@@ -32,26 +35,31 @@ inserted_none inserted [] h = refl
 inserted_none inserted (b ∷ text) h =
     inserted_other inserted b text (All-head (λ c. c ≢ 10) b text h) ∙ ap (λ z. b ∷ z) (inserted_none inserted text (All-tail (λ c. c ≢ 10) b text h))
 
--- own bytes without a line feed stand in their entry as they are
+-- own bytes without a line feed are unchanged in their entry
 pub entry_of_one_line : (look : Look) (prefix passing own : List ℕ) → HasNoLineFeed own → entry_from look prefix passing own ≡ painted_text look.branch prefix ++ own ++ 10 ∷ []
 entry_of_one_line look prefix passing own h = ap (λ z. painted_text look.branch prefix ++ z ++ 10 ∷ []) (inserted_none _ own h)
 
 feed_head : (b : ℕ) (bs : List ℕ) → b ≡ 10 → has_line_feed (b ∷ bs) ≡ true
 feed_head b bs e = ap (λ c. cond c true (has_line_feed bs)) (eq-eqb b 10 e)
 
+-- a byte other than a line feed does not count
 pub feed_tail : (b : ℕ) (bs : List ℕ) → b ≢ 10 → has_line_feed (b ∷ bs) ≡ has_line_feed bs
 feed_tail b bs n = ap (λ c. cond c true (has_line_feed bs)) (ne_eqb b 10 n)
 
+-- a line feed in front counts
 pub feed_here : (b : ℕ) (bs : List ℕ) → b ≡ 10 → has_line_feed (b ∷ bs) ≡ true
 feed_here b bs e = feed_head b bs e
 
+-- a line feed further on counts
 pub feed_behind : (b : ℕ) (bs : List ℕ) → has_line_feed bs ≡ true → has_line_feed (b ∷ bs) ≡ true
 feed_behind b bs h = elim (is_feed b) [ inl e ↦ feed_head b bs e | inr n ↦ feed_tail b bs n ∙ h ]
 
+-- a text without a line feed fails the test
 pub no_feed : (bs : List ℕ) → HasNoLineFeed bs → has_line_feed bs ≡ false
 no_feed [] h = refl
 no_feed (b ∷ bs) h = feed_tail b bs (All-head (λ c. c ≢ 10) b bs h) ∙ no_feed bs (All-tail (λ c. c ≢ 10) b bs h)
 
+-- a text that fails the test holds no line feed
 pub no_feed_when : (bs : List ℕ) → has_line_feed bs ≡ false → HasNoLineFeed bs
 no_feed_when [] h = All-nil (λ b. b ≢ 10)
 no_feed_when (b ∷ bs) h = elim (is_feed b) [
@@ -59,10 +67,12 @@ no_feed_when (b ∷ bs) h = elim (is_feed b) [
   | inr n ↦ All-cons (λ c. c ≢ 10) b bs n (no_feed_when bs (sym (feed_tail b bs n) ∙ h))
 ]
 
+-- a text without a line feed in front does not count
 pub feed_front : (a b : List ℕ) → HasNoLineFeed a → has_line_feed (a ++ b) ≡ has_line_feed b
 feed_front [] b h = refl
 feed_front (x ∷ a) b h = feed_tail x (a ++ b) (All-head (λ c. c ≢ 10) x a h) ∙ feed_front a b (All-tail (λ c. c ≢ 10) x a h)
 
+-- a text without a line feed at the end does not count
 pub feed_back : (a b : List ℕ) → HasNoLineFeed b → has_line_feed (a ++ b) ≡ has_line_feed a
 feed_back [] b h = no_feed b h
 feed_back (x ∷ a) b h = ap (λ z. cond (eqb x 10) true z) (feed_back a b h)
@@ -72,31 +82,31 @@ pub feed_painted : (style : StyleValue) (text : List ℕ) → has_line_feed (pai
 feed_painted style text =
     feed_back (front_codes style ++ text) (back_codes style) (no_line_feed_back style) ∙ feed_front (front_codes style) text (no_line_feed_front style)
 
--- one byte more
+-- one byte more was copied
 pub inserted_more : (inserted front xs done : List ℕ) (i : ℕ) → i < length xs → done ≡ front ++ with_inserted inserted (take i xs)
     → done ++ cond (eqb (get_or xs i 0) 10) (10 ∷ inserted) (get_or xs i 0 ∷ []) ≡ front ++ with_inserted inserted (take (i + 1) xs)
 inserted_more inserted front xs done i h e =
     ap (λ z. z ++ cond (eqb (get_or xs i 0) 10) (10 ∷ inserted) (get_or xs i 0 ∷ [])) e
     ∙ (flat_map_more (λ c. cond (eqb c 10) (10 ∷ inserted) (c ∷ [])) front (take i xs) (get_or xs i 0) ∙ ap (λ z. front ++ with_inserted inserted z) (sym (take_more xs i 0 h)))
 
--- a line feed and what is inserted
+-- a line feed was copied, and the text inserted
 pub more_feed : (inserted front xs done a b : List ℕ) (i : ℕ) → i < length xs → done ≡ front ++ with_inserted inserted (take i xs) → get_or xs i 0 ≡ 10 → a ≡ done ++ get_or xs i 0 ∷ [] → b ≡ a ++ inserted
     → b ≡ front ++ with_inserted inserted (take (i + 1) xs)
 more_feed inserted front xs done a b i h e feed ea eb =
     eb ∙ (ap (λ z. z ++ inserted) (ea ∙ ap (λ z. done ++ z ∷ []) feed) ∙ (append_assoc done (10 ∷ []) inserted
     ∙ (ap (λ c. done ++ cond c (10 ∷ inserted) (get_or xs i 0 ∷ [])) (sym (eq-eqb (get_or xs i 0) 10 feed)) ∙ inserted_more inserted front xs done i h e)))
 
--- another byte
+-- another byte was copied
 pub more_other : (inserted front xs done a : List ℕ) (i : ℕ) → i < length xs → done ≡ front ++ with_inserted inserted (take i xs) → (get_or xs i 0 ≡ 10 → ⊥) → a ≡ done ++ get_or xs i 0 ∷ []
     → a ≡ front ++ with_inserted inserted (take (i + 1) xs)
 more_other inserted front xs done a i h e other ea =
     ea ∙ (ap (λ c. done ++ cond c (10 ∷ inserted) (get_or xs i 0 ∷ [])) (sym (ne_eqb (get_or xs i 0) 10 other)) ∙ inserted_more inserted front xs done i h e)
 
--- what is known of the default reading is known of each
+-- a fact about reads with a default holds for each read
 pub no_line_feed_from_reads : (xs : List ℕ) → ((i : ℕ) → i < length xs → get_or xs i 0 ≢ 10) → HasNoLineFeed xs
 no_line_feed_from_reads xs h k d l e = h k l (sym (get_or_default xs k d 0 l) ∙ e)
 
--- bytes behind the first so many, none of which is a line feed
+-- no byte after the first ones is a line feed
 pub no_line_feed_behind : (xs : List ℕ) (start : ℕ) → ((k : ℕ) → start ≤ k → k < length xs → get_or xs k 0 ≢ 10) → HasNoLineFeed (drop start xs)
 no_line_feed_behind xs start h = no_line_feed_from_reads (drop start xs) (λ k low e.
     h (start + k) (omega arith) (omega (arith, length-drop start xs)) (sym (get_or-drop start xs k 0) ∙ e))

@@ -1,4 +1,4 @@
--- A text shows its items in one way.
+-- A text shows its items in only one way.
 use Rattle.std.proofs.Common.{◌≡◌, ℕ, Bool, true, false, List, [], ◌∷◌, ◌++◌, length, length-append, All, inl, inr, refl, sym, ap, ◌∙◌, subst, append_assoc, arith}
 use Rattle.std.proofs.lemmas.Bool.{false≢true}
 use Rattle.std.proofs.lemmas.List.{append_cancel_left, append_cancel_right}
@@ -12,13 +12,13 @@ use Rattle.ptree.proofs.Prefixes.{same_pieces}
 use Rattle.ptree.proofs.Inserted.{is_feed, inserted_feed, inserted_other, feed_here, feed_tail, feed_behind, feed_painted}
 use Rattle.ptree.proofs.Marks.{behind, entry_is, mark_once, item_never, items_never}
 
--- the own bytes of two items of one level at the front of one text
+-- the own bytes of two items of one level at the front of one text are the same
 pub record SameOwn (u u' q q' x y : List ℕ) : Type 0 where
   pub own : u ≡ u'
   pub passing : has_line_feed u ≡ true → q ≡ q'
   pub rest : x ≡ y
 
--- own bytes end at the first line feed that nothing goes on from
+-- own bytes end at the first line feed that nothing continues
 pub own_once : (k : Look) → IsReadableWith k.pieces k.mark → (n : ℕ) (u u' q q' rest rest' : List ℕ)
     → (has_line_feed u ≡ true → ArePassing k.pieces n q) → (has_line_feed u' ≡ true → ArePassing k.pieces n q') → IsNotContinued k n rest → IsNotContinued k n rest'
     → with_inserted (continued_prefix k q) u ++ 10 ∷ rest ≡ with_inserted (continued_prefix k q') u' ++ 10 ∷ rest' → SameOwn u u' q q' rest rest'
@@ -74,7 +74,7 @@ own_once k h n (c ∷ u) (d ∷ u') q q' rest rest' a b s t e = elim (is_feed c)
 same_painted : (k : Look) (t u : List ℕ) → painted_text k.leaf t ≡ painted_text k.leaf u → t ≡ u
 same_painted k t u e = append_cancel_left (front_codes k.leaf) t u (append_cancel_right ((front_codes k.leaf) ++ t) ((front_codes k.leaf) ++ u) (back_codes k.leaf) e)
 
--- texts of two items of one level
+-- the texts of two items of one level at the front of one text are the same
 text_once : (k : Look) → IsReadableWith k.pieces k.mark → (n : ℕ) (t u q q' rest rest' : List ℕ) → (has_line_feed t ≡ true → ArePassing k.pieces n q) → (has_line_feed u ≡ true → ArePassing k.pieces n q')
     → IsNotContinued k n rest → IsNotContinued k n rest' → behind k q t rest ≡ behind k q' u rest' → SameOwn t u q q' rest rest'
 unfolding behind
@@ -88,14 +88,14 @@ same_spelled r s e f d g =
     ap (λ z. spelled_item z r.pieces r.passing r.text) e ∙ (ap (λ z. spelled_item s.level z r.passing r.text) f
     ∙ (ap (λ z. spelled_item s.level s.pieces z r.text) d ∙ ap (λ z. spelled_item s.level s.pieces s.passing z) g))
 
--- passing pieces of one text
+-- the passing pieces that one text shows are the same
 same_shown : (k : Look) (n m : ℕ) (q q' t u : List ℕ) → IsShown k.pieces n q t → IsShown k.pieces m q' u → t ≡ u → (has_line_feed t ≡ true → q ≡ q') → q ≡ q'
 same_shown k n m q q' t u a b e h = at (has_line_feed t) refl where
   at : (f : Bool) → has_line_feed t ≡ f → q ≡ q'
   at true i = h i
   at false i = a.single i ∙ sym (b.single (ap has_line_feed (sym e) ∙ i))
 
--- one item at the front of a text
+-- the item at the front of a text is unique
 pub line_at_once : (k : Look) → IsReadableWith k.pieces k.mark → (r s : SpelledItem) (x rest rest' : List ℕ) → HasItem k r rest x → HasItem k s rest' x → (r ≡ s) × (rest ≡ rest')
 line_at_once k readable r s x rest rest' ((at, shown), is, stop) ((at', shown'), is', stop') =
     let whole : (front_codes k.branch) ++ (r.pieces ++ behind k r.passing r.text rest) ≡ (front_codes k.branch) ++ (s.pieces ++ behind k s.passing s.text rest') =
@@ -106,22 +106,24 @@ line_at_once k readable r s x rest rest' ((at, shown), is, stop) ((at', shown'),
     (λ i. subst (λ n. ArePassing k.pieces n r.passing) level (shown.further i)) shown'.further (subst (λ n. IsNotContinued k n rest) level stop) stop' pieces.rest in
     (same_spelled r s level pieces.pieces (same_shown k r.level s.level r.passing s.passing r.text s.text shown shown' texts.own texts.passing) texts.own, texts.rest)
 
--- no passing pieces are those of level 0
+-- level 0 has no passing pieces
 pub none_passing : (k : Look) → ArePassing k.pieces 0 []
 none_passing k = ([], refl, refl)
 
+-- the root at the front of a text is unique
 pub root_once : (k : Look) → IsReadableWith k.pieces k.mark → (a b x rest rest' : List ℕ) → HasRoot k a rest x → HasRoot k b rest' x → (a ≡ b) × (rest ≡ rest')
 root_once k readable a b x rest rest' (is, stop) (is', stop') =
     let same = text_once k readable 0 a b [] [] rest rest' (λ i. none_passing k) (λ i. none_passing k) stop stop'
     (append_cancel_left (front_codes k.branch) _ _ (sym (entry_is k [] [] a rest) ∙ (sym is ∙ (is' ∙ entry_is k [] [] b rest')))) in
     (same.own, same.rest)
 
+-- a text with an entry in it is not empty
 pub entry_not_nil : (k : Look) (prefix passing text rest : List ℕ) → text_entry k prefix passing text ++ rest ≡ [] → ⊥
 entry_not_nil k prefix passing text rest e = at (with_inserted (continued_prefix k passing) (painted_text k.leaf text)) e where
   at : (own : List ℕ) → (painted_text k.branch prefix ++ own ++ 10 ∷ []) ++ rest ≡ [] → ⊥
   at own e = let long = ap length e in omega (arith, simp length-append at long)
 
--- rest doesn't go on with the last of the items
+-- rest does not continue the last of the items
 abbrev pub Stops : Look → List SpelledItem → List ℕ → Type 0
 Stops k [] rest = Unit {0}
 Stops k (l ∷ []) rest = IsNotContinued k l.level rest
@@ -137,13 +139,15 @@ stops_head k h l (m ∷ lines) rest are s =
     subst (λ z. IsNotContinued k l.level z) (sym (append_assoc (text_entry k m.pieces m.passing m.text) (spelled_text k lines) rest))
     (item_never k h l.level m.level m.pieces m.passing m.text (spelled_text k lines ++ rest) (All-head (IsSpelled k.pieces) m lines are).0)
 
--- where items stand at the front of a text, and what follows them doesn't go on with the last, any items of that text begin with them
+-- if items are at the front of a text, and what follows does not continue the last one, then any
+-- items of that text begin with them
 pub record GoesOn (k : Look) (lines all : List SpelledItem) (rest : List ℕ) : Type 0 where
   pub more : List SpelledItem
   pub are : all ≡ lines ++ more
   pub are_spelled : All (IsSpelled k.pieces) more
   pub rest_is : rest ≡ spelled_text k more
 
+-- any items of a text begin with those at its front
 pub lines_once : (k : Look) → IsReadableWith k.pieces k.mark → (lines all : List SpelledItem) (rest : List ℕ)
     → All (IsSpelled k.pieces) lines → All (IsSpelled k.pieces) all → Stops k lines rest → spelled_text k lines ++ rest ≡ spelled_text k all → GoesOn k lines all rest
 lines_once k readable [] all rest h g s e = record { more = all; are = refl; are_spelled = g; rest_is = e }
@@ -163,7 +167,7 @@ lines_once k readable (r ∷ lines) (l ∷ all) rest h g s e =
       rest_is = others.rest_is;
     }
 
--- what ends a text goes on with nothing
+-- the end of a text continues nothing
 pub stops_at_end : (k : Look) → IsReadableWith k.pieces k.mark → (lines : List SpelledItem) → Stops k lines []
 stops_at_end k h [] = tt
 stops_at_end k h (l ∷ []) = items_never k h l.level [] (All-nil (IsSpelled k.pieces))

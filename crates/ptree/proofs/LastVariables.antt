@@ -31,7 +31,7 @@ pub last_value-before : (spelling : Spelling) (name : List ℕ) (all left : List
     → is_spelled spelling (string_bytes v.0) name ≡ false → last_value spelling name (variables_of all) ≡ last_value spelling name (variables_of left)
 last_value-before spelling name all left v e other = pushed spelling name all left v e ∙ ap (λ b. cond b (Some (string_bytes v.1)) (last_value spelling name (variables_of left))) other
 
--- there are none
+-- there are no variables
 pub last_value-none : (spelling : Spelling) (name : List ℕ) (all : List (String Global × String Global)) → length all ≡ 0 → last_value spelling name (variables_of all) ≡ None
 unfolding last_value
 last_value-none spelling name [] e = refl

@@ -12,6 +12,8 @@ use Rattle.ptree.proofs.Levels.{has_later_deeper, has_later_here}
 same_item : (i : SpelledItem) (a b : List ℕ) → i.pieces ≡ a → i.passing ≡ b → i ≡ spelled_item i.level a b i.text
 same_item i a b e f = ap (λ z. spelled_item i.level z i.passing i.text) e ∙ ap (λ z. spelled_item i.level a z i.text) f
 
+-- items with the pieces that later lines give, and those lines, are spelled by all the lines
+-- together
 pub have_spelled : (p : Pieces) (items : List SpelledItem) (later : List Line) → HaveLastFlags p items later → items ++ spelled_by p later ≡ spelled_by p (lines_of_items items ++ later)
 have_spelled p [] later h = refl
 have_spelled p (i ∷ items) later h =
@@ -20,11 +22,12 @@ have_spelled p (i ∷ items) later h =
 
 -- ## Closing lines
 
--- for each level from n up at which there is to be a later item, one with no text
+-- lines without text: one for each level from n up at which a later item is wanted
 abbrev pub closings : (ℕ → Bool) → ℕ → List Line
 closings f zero = []
 closings f (suc n) = cond (f (suc n)) (line (suc n) [] ∷ closings f n) (closings f n)
 
+-- there is no later item at a level above n
 pub closings_above : (f : ℕ → Bool) (n m : ℕ) → n < m → has_later (closings f n) m ≡ false
 closings_above f zero m l = refl
 closings_above f (suc n) m l = at (f (suc n)) (closings_above f n m (omega arith)) where
@@ -32,6 +35,7 @@ closings_above f (suc n) m l = at (f (suc n)) (closings_above f n m (omega arith
   at true rest = has_later_here (line (suc n) []) (closings f n) m (omega arith) ∙ ne_eqb m (suc n) (omega arith)
   at false rest = rest
 
+-- up to level n there is a later item exactly where it is wanted
 pub closings_later : (f : ℕ → Bool) (n m : ℕ) → 0 < m → m ≤ n → has_later (closings f n) m ≡ f m
 closings_later f zero m l h = absurd (omega arith)
 closings_later f (suc n) m l h = elim (cases_lt m (suc n)) [
@@ -46,6 +50,7 @@ closings_later f (suc n) m l h = elim (cases_lt m (suc n)) [
   here same true e = has_later_here (line (suc n) []) (closings f n) m (omega arith) ∙ (eq-eqb m (suc n) (sym same) ∙ (sym e ∙ ap f same))
   here same false e = closings_above f n m (omega arith) ∙ (sym e ∙ ap f same)
 
+-- the levels of these lines increase by at most one
 pub closings_steps : (f : ℕ → Bool) (n previous : ℕ) → n ≤ previous → Steps previous (closings f n)
 closings_steps f zero previous l = tt
 closings_steps f (suc n) previous l = at (f (suc n)) (closings_steps f n (suc n) (omega arith)) (closings_steps f n previous (omega arith)) where

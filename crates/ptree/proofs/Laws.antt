@@ -37,6 +37,7 @@ child_of_cut d t i =
     ap (λ (f : Address → ℕ). let r : Shape = record { own = λ a. t.own (i ∷ a); count = f } in r)
     (same_functions _ _ (λ (a : Address). ap (λ b. cond b (t.count (i ∷ a)) 0) (less_suc (length a) d)))
 
+-- the children of a cut shape are the children, each cut at one less
 pub kids_of_cut : (d : ℕ) (t : Shape) → kids (cut_shape (suc d) t) ≡ map (cut_shape d) (kids t)
 kids_of_cut d t =
     ap (λ b. map (child (cut_shape (suc d) t)) (range_with_len 0 (cond b (t.count []) 0))) (none_above d)
@@ -47,7 +48,7 @@ is_empty-map : {X Y : Type 0} (f : X → Y) (xs : List X) → is_empty (map f xs
 is_empty-map f [] = refl
 is_empty-map f (x ∷ xs) = refl
 
--- entries of two lists of children that are drawn alike
+-- two lists of children that are drawn alike have the same entries
 pub kid_entries-map : {C : Type 0} (look : Look) (f g : C → Shape) (below below' : List ℕ → Shape → List (List ℕ)) → ((c : C) → (f c).own [] look.leaf ≡ (g c).own [] look.leaf) → ((front : List ℕ) (c : C) → below' front (f c) ≡ below front (g c))
     → (front : List ℕ) (cs : List C) → kid_entries look below' front (map f cs) ≡ kid_entries look below front (map g cs)
 kid_entries-map look f g below below' o h front [] = refl
@@ -69,11 +70,11 @@ entries_of_cut look (suc d) (suc e) h front t =
     ∙ kid_entries-map look (cut_shape d) (λ x. x) (entries_below look d) (entries_below look e) (λ x. refl) (λ f x. entries_of_cut look d e (omega arith) f x) front (kids t)
     ∙ ap (kid_entries look (entries_below look d) front) (map-id (kids t))
 
--- one list is the address list
+-- exactly one list is the address list
 pub the_list : (x : Shape) (d : ℕ) → HasOneList x d
 the_list x d = (walk kids d x, walk_is_list kids d x, λ other h. one_list kids x d other (walk kids d x) h (walk_is_list kids d x))
 
--- one text is the drawing
+-- only one text is the drawing
 pub one_drawing : (look : Look) (x : Shape) (d : ℕ) (text : List ℕ) → IsDrawing look x d text → text ≡ concat (drawn_entries look d x)
 one_drawing look x d text h = h.2 ∙ ap (flat_map (entry_text look x)) (one_list kids x d h.0 (walk kids d x) h.1 (walk_is_list kids d x)) ∙ join look d x
 
@@ -84,14 +85,14 @@ same_drawings look x y d e h text = (
   λ k. subst (λ (z : List ℕ). IsDrawing look x d z) (sym (one_drawing look y e text k ∙ ap concat (sym h))) (drawn_is_drawing look d x),
 )
 
--- the drawings at a depth are those of the cut tree at any greater one
+-- the drawings at a depth are those of the cut shape at any greater depth
 pub drawing_of_cut : (look : Look) (d e : ℕ) (t : Shape) (text : List ℕ) → d ≤ e → IsDrawing look t d text ↔ IsDrawing look (cut_shape d t) e text
 drawing_of_cut look d e t text h =
     same_drawings look t (cut_shape d t) d e (sym (ap (λ y. entry_of look [] [] t ∷ y) (entries_of_cut look d e h [] t))) text
 
 -- ## Subtree
 
--- the entry at an address below a is, behind a's passing text, that of what stands at a
+-- the entry at an address below a is the entry of the item at a drawn alone, after a's passing text
 pub entry_below : (look : Look) (front : List ℕ) (x y : Shape) (a : Address) (j : ℕ) (r : Address) → at kids x a ≡ Some y
     → entry_behind look front x (a ++ j ∷ r) ≡ entry_behind look (front ++ passing_text look x a) y (j ∷ r)
 entry_below look front x y [] j r h =

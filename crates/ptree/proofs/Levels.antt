@@ -16,13 +16,15 @@ use Rattle.ptree.proofs.TreeDrawing.{is_bare, forest_drawing, tree_drawing}
 abbrev pub lines_drawing : Look → List Line → List ℕ
 lines_drawing k o = spelled_text k (spelled_by k.pieces o)
 
+-- a deeper line in front does not decide about level m
 pub has_later_deeper : (l : Line) (o : List Line) (m : ℕ) → m < l.level → has_later (l ∷ o) m ≡ has_later o m
 has_later_deeper l o m h = rw (lt-ltb m l.level h) refl
 
+-- a line in front that is not deeper decides about level m
 pub has_later_here : (l : Line) (o : List Line) (m : ℕ) → l.level ≤ m → has_later (l ∷ o) m ≡ eqb m l.level
 has_later_here l o m h = rw (le-ltb m l.level h) refl
 
--- the lines of trees below level n say nothing of the items at levels up to n
+-- lines of trees below level n do not affect the items at levels up to n
 has_later_skip : (n : ℕ) (f : Forest) (o : List Line) (m : ℕ) → m ≤ n → has_later (outline_at (suc n) f ++ o) m ≡ has_later o m
 has_later_skip n none o m h = refl
 has_later_skip n (item t c r) o m h =
@@ -38,6 +40,7 @@ has_later_above : (n : ℕ) (f : Forest) (o : List Line) → ((m : ℕ) → n < 
 has_later_above n none o h m l = h m (omega arith)
 has_later_above n (item t c r) o h m l = has_later_here (line (suc n) t) ((outline_at (suc (suc n)) c ++ outline_at (suc n) r) ++ o) m (omega arith) ∙ ne_eqb m (suc n) (omega arith)
 
+-- last flags depend only on which levels have later items
 pub last_flags_same : (a b : List Line) (n : ℕ) → ((m : ℕ) → m ≤ n → has_later a m ≡ has_later b m) → last_flags a n ≡ last_flags b n
 last_flags_same a b zero h = refl
 last_flags_same a b (suc n) h =
@@ -49,7 +52,7 @@ not_not : (b : Bool) → not (not b) ≡ b
 not_not true = refl
 not_not false = refl
 
--- where a text has no further line, no passing pieces are shown
+-- a text without a further line shows no passing pieces
 pub entry_shown : (k : Look) (prefix passing text : List ℕ) → text_entry k prefix (cond (has_line_feed text) passing []) text ≡ text_entry k prefix passing text
 entry_shown k prefix passing text = at (has_line_feed text) refl where
   at : (b : Bool) → has_line_feed text ≡ b → text_entry k prefix (cond b passing []) text ≡ text_entry k prefix passing text
@@ -89,7 +92,7 @@ forest_by_levels k above n (item t c r) o e h =
     ∙ (ap (λ z. text_entry k turned (passing_all k.pieces deep) t ++ z) rest
     ∙ sym (append_assoc (text_entry k turned (passing_all k.pieces deep) t) _ _ ∙ ap (λ z. text_entry k turned (passing_all k.pieces deep) t ++ z) (append_assoc (forest_drawing k deep c) (forest_drawing k above r) (lines_drawing k o))))))
 
--- a tree's drawing, by the levels and the texts of its outline
+-- a tree's drawing is that of the levels and the texts of its outline
 pub tree_by_levels : (k : Look) → (t : Tree) → tree_drawing k t ≡ text_entry k [] [] t.text ++ lines_drawing k (outline_at 1 t.children)
 tree_by_levels k t =
     let below = forest_by_levels k [] 0 t.children [] refl (λ m l. refl) in

@@ -1,15 +1,15 @@
--- Lines whose levels go down by steps are those of a tree.
+-- Lines whose levels increase by at most one are those of a tree.
 use Rattle.std.proofs.Common.{◌≡◌, ℕ, zero, suc, ◌+◌, ◌-◌, ◌<◌, List, [], ◌∷◌, ◌++◌, length, refl, sym, ap, ◌∙◌, subst, append_assoc, arith}
 use Rattle.std.proofs.lemmas.List.{append-nil}
 use Rattle.ptree.specs.Outline.{Line, line, outline_at, Steps}
 use Rattle.ptree.specs.Tree.{none, item, Forest}
 
--- the lines of forests one below the other, the last of them at level 1
+-- the lines of forests one after the other, the last forest at level 1
 abbrev pub stack_lines : List Forest → List Line
 stack_lines [] = []
 stack_lines (f ∷ fs) = outline_at (suc (length fs)) f ++ stack_lines fs
 
--- so many forests have these lines
+-- n forests have these lines
 abbrev IsStack : ℕ → List Line → Type 0
 IsStack n o = (fs : List Forest) × (length fs ≡ n) × (o ≡ stack_lines fs)
 
@@ -23,7 +23,7 @@ stack_none : (n : ℕ) → IsStack n []
 stack_none zero = ([], refl, refl)
 stack_none (suc n) = let (fs, len, is) = stack_none n in (none ∷ fs, ap suc len, is)
 
--- a line above those of a stack
+-- a line in front of those of a stack
 stack_put : (l : Line) (o : List Line) → 0 < l.level → IsStack (suc l.level) o → IsStack l.level (l ∷ o)
 stack_put l o low ([], len, is) = absurd (omega (arith, len))
 stack_put l o low (c ∷ [], len, is) = absurd (omega (arith, len))
@@ -42,7 +42,7 @@ stack_of n (l ∷ o) s =
     let high = s.1 in
     subst (λ z. IsStack z (l ∷ o)) (let e : (suc n - l.level) + l.level ≡ suc n = omega (arith, high) in e) (stack_deeper l.level (suc n - l.level) (l ∷ o) (stack_put l o s.0 (stack_of l.level o s.2)))
 
--- lines that go down by steps are those of a tree
+-- lines whose levels increase by at most one are those of a tree
 pub tree_of_lines : (o : List Line) → Steps 0 o → (f : Forest) × (outline_at 1 f ≡ o)
 tree_of_lines o s = at (stack_of 0 o s) where
   at : IsStack 1 o → (f : Forest) × (outline_at 1 f ≡ o)

@@ -1,4 +1,4 @@
--- What a graph's lists keep, over plain variables.
+-- What the lists of a graph satisfy, over plain variables.
 use Rattle.std.specs.Prelude.{slice_get, All, map, option_map, reverse}
 use Rattle.std.proofs.Common.{◌≡◌, ◌≢◌, ℕ, zero, suc, ◌-◌, ◌<◌, ◌≤◌, ◌⊎◌, inl, inr, Bool, true, false, if◌then◌else◌, List, [], ◌∷◌, ◌++◌, length, get_or, set, take, Some, sym, ◌∙◌, ap, subst, refl, eqb, arith, length-append, length-set}
 use Rattle.std.proofs.lemmas.List.{length-map, length-take, map-append, take-append-le, take_all}
@@ -31,7 +31,7 @@ slice_get-set (z ∷ zs) (suc j) x y zero h = inl (omega arith, h)
 slice_get-set (z ∷ zs) (suc j) x y (suc i) h =
     elim (slice_get-set zs j x y i h) [ inl k ↦ inl (omega (arith, k.0), k.1) | inr k ↦ inr (ap suc k.0, k.1) ]
 
--- an edge of these numbers
+-- an edge with these numbers
 abbrev pub edge : ℕ → ℕ → ℕ → Edge
 edge source target next = record { source = source; target = target; next = next }
 
@@ -40,18 +40,18 @@ ends_more : (edges : List Edge) (m n : ℕ) → m ≤ n → All (EndsBelow m) ed
 ends_more edges m n h = All-weaker (EndsBelow m) (EndsBelow n) (λ e k. (omega arith, omega arith)) edges
 
 module _ {N : Type 0} where
-  -- a node of this weight, with the number of its newest edge, and how many there are
+  -- a node with this weight, the number of its newest edge, and the number of its edges
   abbrev pub node : N → ℕ → ℕ → Node N
   node weight newest degree = record { weight = weight; newest = newest; degree = degree }
 
-  -- a number that is no node's has no newest edge
+  -- a number without a node has no newest edge
   pub newest_of_none : (nodes : List (Node N)) (edges : List Edge) (v : ℕ) → IsLinked nodes edges → length nodes ≤ v
       → newest_from (map ends_of edges) v ≡ 0
   newest_of_none nodes edges v l h =
       let others = All-weaker (EndsBelow (length nodes)) (λ (e : Edge). e.source ≢ v) (λ e k. omega arith) edges l.ends in
       newest_from-none (map ends_of edges) v (All-map (λ p. p.0 ≢ v) ends_of edges others)
 
-  -- a node more
+  -- one node more
   linked-node : (nodes : List (Node N)) (edges : List Edge) (weight : N) → IsLinked nodes edges → IsLinked (nodes ++ node weight 0 0 ∷ []) edges
   linked-node nodes edges weight l = record {
     ends = ends_more edges (length nodes) (length (nodes ++ node weight 0 0 ∷ [])) (omega (arith, length-append nodes (node weight 0 0 ∷ []))) l.ends;
@@ -62,13 +62,13 @@ module _ {N : Type 0} where
     next = l.next;
   }
 
-  -- the same where the growth may have been refused
+  -- one node more, or none if the list could not grow
   pub linked-node_if : (nodes new : List (Node N)) (edges : List Edge) (weight : N) (grew : Bool) → IsLinked nodes edges
       → new ≡ (if grew then nodes ++ node weight 0 0 ∷ [] else nodes) → IsLinked new edges
   linked-node_if nodes new edges weight true l h = subst (λ (ns : List (Node N)). IsLinked ns edges) (sym h) (linked-node nodes edges weight l)
   linked-node_if nodes new edges weight false l h = subst (λ (ns : List (Node N)). IsLinked ns edges) (sym h) l
 
-  -- an edge more
+  -- one edge more
   pub linked-edge : (nodes : List (Node N)) (edges : List Edge) (source target d : ℕ) (n : Node N) → IsLinked nodes edges
       → source < length nodes → target < length nodes → slice_get nodes source ≡ Some n
       → IsLinked (set nodes source (node n.weight (suc (length edges)) d)) (edges ++ edge source target n.newest ∷ [])
@@ -101,13 +101,13 @@ module _ {N : Type 0} where
       grown : (v : ℕ) → newest_from (map ends_of (edges ++ added ∷ [])) v ≡ newest_from (pairs ++ (source, target) ∷ []) v
       grown v = ap (λ p. newest_from p v) (map-append ends_of edges (added ∷ []))
 
-      -- among the first edges there is no new one
+      -- the first edges are those without the new one
       earlier : (i v : ℕ) → i ≤ length edges → newest_from (take i (map ends_of (edges ++ added ∷ []))) v ≡ newest_from (take i pairs) v
       earlier i v k =
           ap (λ p. newest_from (take i p) v) (map-append ends_of edges (added ∷ []))
           ∙ ap (λ p. newest_from p v) (take-append-le i pairs ((source, target) ∷ []) (omega (arith, length-map edges ends_of)))
 
-  -- the same as the code reads, grows and marks
+  -- one edge more, as the code reads, grows and marks the lists
   pub linked-edge_by : (nodes : List (Node N)) (edges new : List Edge) (source target count d : ℕ) (read written : Node N) (pushed : Bool)
       → IsLinked nodes edges → source < length nodes → target < length nodes
       → read ≡ get_or nodes source read → written ≡ get_or nodes source written → pushed ≡ true → count ≡ suc (length edges)
@@ -122,7 +122,8 @@ module _ {N : Type 0} where
       (subst (λ (n : Node N). IsLinked (set nodes source n) (edges ++ edge source target read.newest ∷ [])) marked
       (linked-edge nodes edges source target d read l s t first))
 
-  -- at the number m of the newest edge from v: its target is the first neighbour, and the others are those that the edges before it give
+  -- if m is the number of the newest edge from v, its target is the first neighbour, and the edges
+  -- before it give the others
   pub linked-step : (nodes : List (Node N)) (edges : List Edge) (v m : ℕ) (e : Edge) → IsLinked nodes edges → 0 < m
       → m ≡ newest_from (take m (map ends_of edges)) v → e ≡ get_or edges (m - 1) e
       → (neighbors_of (take m (map ends_of edges)) v ≡ e.target ∷ neighbors_of (take e.next (map ends_of edges)) v)

@@ -1,4 +1,4 @@
--- Rows of sources and what they give, by computation.
+-- Examples of sources and their configurations, by computation.
 use Rattle.std.proofs.Common.{◌≡◌, true, [], ◌∷◌, Option, Some, None, refl, inr}
 use Rattle.std.specs.Prelude.{codes}
 use Rattle.serde_json.proofs.OnLiterals.{serde_json_on_literals}
@@ -12,11 +12,11 @@ use Rattle.ptree.specs.Sources.{Variables, Given, toml_document, json_document, 
 use Rattle.ptree.specs.declared.print_config.fields.Field.TheVariants.{Depth}
 use Rattle.ptree.specs.declared.print_config.loader.Fault.TheVariants as fault
 
--- these variables beside a document
+-- what is looked into: these variables and a document
 abbrev given : Variables → Option Node → Given
 given variables document = record { variables = variables; document = document }
 
--- there is no fault, and this is the configuration
+-- the sources have no fault and this configuration
 abbrev Gives : Given → Configuration → Type 0
 Gives given config = (fault_in None given ≡ None) × (configuration given ≡ config)
 
@@ -25,13 +25,13 @@ nothing : Gives (given [] None) default_configuration
 unfolding characters style_of configuration fault_in last_value variable table_at node
 nothing = (refl, refl)
 
--- the last variable counts, and a key for branches takes their dimming away
+-- the last variable counts, and a key for branches removes their default dimming
 last_one : Gives (given ((codes "PTREE_DEPTH", codes "4") ∷ (codes "ptree_depth", codes "5") ∷ []) (json_document (codes "{\"branch\":{\"foreground\":\"red\"}}")))
     (record default_configuration { depth = 5; branch = record plain_value { foreground = Some (inr (codes "red")) } })
 unfolding characters style_of configuration fault_in last_value variable table_at node serde_json_on_literals
 last_one = (refl, refl)
 
--- a variable's fault is the first
+-- a variable's fault comes first
 bad_one : fault_in None (given ((codes "PTREE_DEPTH", codes "4x") ∷ []) None) ≡ Some (fault.Variable Depth)
 unfolding fault_in last_value variable table_at node
 bad_one = refl
@@ -43,7 +43,7 @@ both : Gives (given ((codes "PTREE_LEAF_BACKGROUND", codes "steelblue") ∷ (cod
 unfolding characters style_of configuration fault_in last_value variable table_at node toml_on_literals
 both = (refl, refl)
 
--- a set, and a single character over it
+-- a set, and a variable for a single character of it
 one_character : Gives (given ((codes "PTREE_CHARACTERS", codes "ASCII") ∷ (codes "PTREE_CHARACTERS_RIGHT", codes "=") ∷ []) (toml_document (codes "characters = \"utf-bold\"")))
     (record default_configuration { characters = record ascii_tick { right = codes "=" } })
 unfolding characters style_of configuration fault_in last_value variable table_at node toml_on_literals

@@ -1,4 +1,4 @@
--- The pieces and the mark at a line's front are decided from its left end.
+-- The pieces and the marker at a line's front can be recognised from the left.
 use Rattle.std.proofs.Common.{◌≡◌, ℕ, zero, suc, Bool, false, List, [], ◌∷◌, ◌++◌, length, length-append, All, refl, sym, ap, ◌∙◌, append_assoc, arith}
 use Rattle.std.proofs.lemmas.List.{append_cancel_left}
 use Rattle.std.proofs.lemmas.List.Elements.{All-head}
@@ -10,7 +10,7 @@ use Rattle.ptree.specs.Spelled.{SpelledItem, ArePiecesAt, ArePassing, IsSpelled,
 use Rattle.ptree.specs.Style.{front_codes, back_codes, painted_text}
 use Rattle.ptree.proofs.Prefixes.{apart_never, same_front, same_kind}
 
--- so many passing pieces, whatever follows them
+-- n passing pieces at the front of a text are unique
 pub passings_once : (p : Pieces) → IsReadable p → (above above' : List Bool) (x y : List ℕ) → length above ≡ length above' → passing_all p above ++ x ≡ passing_all p above' ++ y
     → (passing_all p above ≡ passing_all p above') × (x ≡ y)
 passings_once p h [] [] x y len e = (refl, e)
@@ -23,7 +23,7 @@ passings_once p h (b ∷ bs) (d ∷ ds) x y len e =
     let rest = passings_once p h bs ds x y (omega (arith, len)) same.1 in
     (ap (λ z. z ++ passing_all p bs) same.0 ∙ ap (λ z. passing_piece p d ++ z) rest.0, rest.1)
 
--- pieces end in a turning piece or in the mark, and not in both
+-- pieces do not end both in a turning piece and in the marker
 pub mark_never : (p : Pieces) (mark : List ℕ) → IsReadableWith p mark → (above above' : List Bool) (last : Bool) (x y : List ℕ)
     → (passing_all p above ++ turning_piece p last) ++ x ≡ (passing_all p above' ++ mark) ++ y → ⊥
 mark_never p mark h [] [] last x y e = apart_never mark (turning_piece p last) y x (h.apart last).0 (sym e)
@@ -36,20 +36,22 @@ mark_never p mark h (b ∷ bs) (d ∷ ds) last x y e =
     let same = same_front (passing_piece p b) (passing_piece p d) ((passing_all p bs ++ turning_piece p last) ++ x) ((passing_all p ds ++ mark) ++ y) (same_kind p.child p.last_child h.pieces.passings b d) moved in
     mark_never p mark h bs ds last x y same.1
 
+-- the parts of a text that begins as a further line
 pub mark_is : (k : Look) (passing x : List ℕ) → continued_prefix k passing ++ x ≡ (front_codes k.branch) ++ (passing ++ (k.mark ++ ((back_codes k.branch) ++ x)))
 mark_is k passing x = simp append_assoc
 
--- what follows an entry's branch codes and pieces
+-- what comes after an entry's branch codes and pieces
 unfoldable pub behind : Look → List ℕ → List ℕ → List ℕ → List ℕ
 behind k passing text rest = (back_codes k.branch) ++ (with_inserted (continued_prefix k passing) (painted_text k.leaf text) ++ 10 ∷ rest)
 
+-- the parts of an entry and the rest
 pub entry_is : (k : Look) (prefix passing text rest : List ℕ) → text_entry k prefix passing text ++ rest ≡ (front_codes k.branch) ++ (prefix ++ behind k passing text rest)
 unfolding behind
 entry_is k prefix passing text rest = at (with_inserted (continued_prefix k passing) (painted_text k.leaf text)) where
   at : (own : List ℕ) → (painted_text k.branch prefix ++ own ++ 10 ∷ []) ++ rest ≡ (front_codes k.branch) ++ (prefix ++ ((back_codes k.branch) ++ (own ++ 10 ∷ rest)))
   at own = simp append_assoc
 
--- what stands before further lines of one level
+-- the prefix of further lines of one level is unique
 pub mark_once : (k : Look) → IsReadable k.pieces → (n : ℕ) (q q' x y : List ℕ) → ArePassing k.pieces n q → ArePassing k.pieces n q' → continued_prefix k q ++ x ≡ continued_prefix k q' ++ y → (q ≡ q') × (x ≡ y)
 mark_once k h n q q' x y (above, len, is) (above', len', is') e =
     let start : q ++ (k.mark ++ ((back_codes k.branch) ++ x)) ≡ q' ++ (k.mark ++ ((back_codes k.branch) ++ y)) =
@@ -59,7 +61,7 @@ mark_once k h n q q' x y (above, len, is) (above', len', is') e =
     let same = passings_once k.pieces h above above' _ _ (len ∙ sym len') moved in
     (is ∙ (same.0 ∙ sym is'), append_cancel_left (back_codes k.branch) _ _ (append_cancel_left k.mark _ _ same.1))
 
--- nothing goes on with an item of any level
+-- the empty text continues no item
 pub nothing_continues : (k : Look) → IsReadableWith k.pieces k.mark → (n : ℕ) → IsNotContinued k n []
 nothing_continues k h n q z at e = some k.mark (turning_piece k.pieces false) (front_codes k.branch) q ((back_codes k.branch) ++ z) (h.apart false).0 (e ∙ mark_is k q z)
   where
@@ -67,7 +69,7 @@ nothing_continues k h n q z at e = some k.mark (turning_piece k.pieces false) (f
     some [] t a b c apart e = apart.0 (t, refl)
     some (x ∷ m) t a b c apart e = let long = ap length e in omega (arith, simp length-append at long)
 
--- an item doesn't go on with one before it
+-- an item's own line does not continue the item before it
 pub item_never : (k : Look) → IsReadableWith k.pieces k.mark → (n m : ℕ) (pieces passing text rest : List ℕ) → ArePiecesAt k.pieces m pieces → IsNotContinued k n (text_entry k pieces passing text ++ rest)
 item_never k h n zero pieces passing text rest at q z is e = absurd at
 item_never k h n (suc m) pieces passing text rest (above, last, len, is) q z (above', len', is') e =
@@ -77,7 +79,7 @@ item_never k h n (suc m) pieces passing text rest (above, last, len, is) q z (ab
     (ap (λ y. y ++ behind k passing text rest) (sym is) ∙ (start ∙ (ap (λ y. y ++ (k.mark ++ ((back_codes k.branch) ++ z))) is'
     ∙ sym (append_assoc (passing_all k.pieces above') k.mark ((back_codes k.branch) ++ z)))))
 
--- nor do items
+-- a list of items does not continue the item before it
 pub items_never : (k : Look) → IsReadableWith k.pieces k.mark → (n : ℕ) (lines : List SpelledItem) → All (IsSpelled k.pieces) lines → IsNotContinued k n (spelled_text k lines)
 items_never k h n [] are = nothing_continues k h n
 items_never k h n (l ∷ lines) are = item_never k h n l.level l.pieces l.passing l.text (spelled_text k lines) (All-head (IsSpelled k.pieces) l lines are).0

@@ -1,4 +1,4 @@
--- Which lines go on with the open items.
+-- Which lines continue the open items.
 use Rattle.std.proofs.Common.{◌≡◌, ◌≢◌, ℕ, zero, suc, ◌<◌, ◌≤◌, inl, inr, Bool, not, List, [], ◌∷◌, ◌++◌, length, take, get_or, refl, sym, ap, ◌∙◌, subst, append_assoc, add-one, arith}
 use Rattle.std.proofs.lemmas.List.Elements.{All-nil, All-append}
 use Rattle.std.proofs.lemmas.Bool.{cases_lt, eq-eqb, ne_eqb}
@@ -23,18 +23,20 @@ use Rattle.ptree.proofs.FoundPieces.{found_at}
 
 -- ## Lines that no drawing goes on with
 
+-- the parts of an own line
 pub front_split : (k : Look) (pieces x : List ℕ) → own_front k pieces ++ x ≡ front_codes k.branch ++ (pieces ++ (back_codes k.branch ++ (front_codes k.leaf ++ x)))
 front_split k pieces x = at (front_codes k.branch) (back_codes k.branch) (front_codes k.leaf) where
   at : (a b c : List ℕ) → ((a ++ pieces ++ b) ++ c) ++ x ≡ a ++ (pieces ++ (b ++ (c ++ x)))
   at a b c = simp append_assoc
 
+-- a text without the branch's codes begins with neither kind of line
 pub no_front : (k : Look) (depth : ℕ) (fs : List Flags) (x : List ℕ) → ((z : List ℕ) → x ≢ front_codes k.branch ++ z) → BeginsWrong k depth fs x
 no_front k depth fs x h = record {
   no_further = λ o z a e. h _ (e ∙ mark_is k (passing_by k.pieces o (length fs)) z);
   no_own = λ n o z low high deep a e. h _ (e ∙ front_split k (pieces_by k.pieces o n) z);
 }
 
--- what the pieces that were found leave to be shown
+-- what must still be shown wrong, given the pieces that were found
 pub begins_wrong : (k : Look) → IsReadableWith k.pieces k.mark → (depth : ℕ) (fs new : List Flags) (x text shown rest : List ℕ) (n : ℕ) → x ≡ front_codes k.branch ++ text → IsFound k.pieces fs new text shown rest n
     → ((z : List ℕ) → n ≡ length fs → rest ≢ k.mark ++ (back_codes k.branch ++ z))
     → ((b : Bool) (o : List Line) (z : List ℕ) → suc n ≤ depth → Allows new (line (suc n) [] ∷ o) → rest ≢ turning_piece k.pieces b ++ (back_codes k.branch ++ (front_codes k.leaf ++ z)))
@@ -63,7 +65,7 @@ begins_wrong k readable depth fs new x text shown rest n is h no_mark no_turn = 
       let kept : Allows new (line (suc m) [] ∷ o) = (h.cut (line (suc m) [] ∷ o)).1 (a, ap (λ y. passing_by p (line (suc m) [] ∷ o) y) same ∙ there.1) in
       no_turn b o z (omega (arith, deep, same)) (subst (λ y. Allows new (line (suc y) [] ∷ o)) (sym same) kept) there.2
 
--- with a turning piece there
+-- a line with a turning piece there is wrong
 pub turned_wrong : (k : Look) → IsReadableWith k.pieces k.mark → (depth : ℕ) (fs new : List Flags) (x text shown rest turned : List ℕ) (n : ℕ) (flags : Flags) → x ≡ front_codes k.branch ++ text → IsFound k.pieces fs new text shown rest n
     → IsCutTo (turning_piece k.pieces) any_flags rest flags turned
     → ((o : List Line) (z : List ℕ) → suc n ≤ depth → Allows new (line (suc n) [] ∷ o) → turned ≢ back_codes k.branch ++ (front_codes k.leaf ++ z)) → BeginsWrong k depth fs x
@@ -73,7 +75,7 @@ turned_wrong k readable depth fs new x text shown rest turned n flags is h cut n
     (λ b o z deep a e. never o z deep a (same_front (turning_piece k.pieces cut.last) (turning_piece k.pieces b) turned (back_codes k.branch ++ (front_codes k.leaf ++ z))
     (same_kind k.pieces.regular k.pieces.last_regular readable.pieces.turnings cut.last b) (sym cut.text_is ∙ e)).1)
 
--- with none there
+-- a line without a turning piece there is wrong
 pub unturned_wrong : (k : Look) → IsReadableWith k.pieces k.mark → (depth : ℕ) (fs new : List Flags) (x text shown rest : List ℕ) (n : ℕ) → x ≡ front_codes k.branch ++ text → IsFound k.pieces fs new text shown rest n
     → NoPiece (turning_piece k.pieces) any_flags rest → ((z : List ℕ) → n ≡ length fs → rest ≢ k.mark ++ (back_codes k.branch ++ z)) → BeginsWrong k depth fs x
 unturned_wrong k readable depth fs new x text shown rest n is h none never =
@@ -90,14 +92,14 @@ get_last : (xs : List Flags) (x : Flags) → get_or (xs ++ x ∷ []) (length xs)
 get_last [] x = refl
 get_last (y ∷ xs) x = get_last xs x
 
--- what stands on an item's own line
+-- the parts of an item's own line
 pub record OwnParts (k : Look) (x text rest turned own more : List ℕ) (flags : Flags) : Type 0 where
   pub is : x ≡ front_codes k.branch ++ text
   pub cut : IsCutTo (turning_piece k.pieces) any_flags rest flags turned
   pub turned_is : turned ≡ back_codes k.branch ++ (front_codes k.leaf ++ (own ++ 10 ∷ more))
   pub one : HasNoLineFeed own
 
--- those parts, of what was taken off one after the other
+-- the parts of an item's own line, as they were taken off one after the other
 pub own_parts : (k : Look) (x text rest turned closed start own more : List ℕ) (flags : Flags) → x ≡ front_codes k.branch ++ text → IsCutTo (turning_piece k.pieces) any_flags rest flags turned
     → turned ≡ back_codes k.branch ++ closed → closed ≡ front_codes k.leaf ++ start → HasNoLineFeed own × (start ≡ own ++ 10 ∷ more) → OwnParts k x text rest turned own more flags
 own_parts k x text rest turned closed start own more flags is cut t c line = record {
@@ -107,6 +109,7 @@ own_parts k x text rest turned closed start own more flags is cut t c line = rec
   one = line.0;
 }
 
+-- an item's own line, from its parts
 pub own_there : (k : Look) → IsReadableWith k.pieces k.mark → (depth : ℕ) (fs new fs' : List Flags) (x text shown rest turned own more : List ℕ) (n : ℕ) (flags : Flags) → IsFound k.pieces fs new text shown rest n
     → OwnParts k x text rest turned own more flags → n < depth → CanClose n new → fs' ≡ take n new ++ flags ∷ [] → IsOwnLine k depth fs x own more fs' × ArePath k.pieces fs' n shown
 own_there k readable depth fs new fs' x text shown rest turned own more n flags h parts deep can fs_is =
@@ -181,6 +184,7 @@ own_there k readable depth fs new fs' x text shown rest turned own more n flags 
       },
     )
 
+-- a further line, from its parts
 pub further_there : (k : Look) (fs new : List Flags) (x text shown rest own more : List ℕ) (n : ℕ) → IsFound k.pieces fs new text shown rest n → x ≡ front_codes k.branch ++ text
     → length new ≤ n → rest ≡ k.mark ++ (back_codes k.branch ++ (own ++ 10 ∷ more)) → HasNoLineFeed own → IsFurtherLine k fs x own more new × ArePath k.pieces new n shown
 further_there k fs new x text shown rest own more n h is all rest_is one =
@@ -206,6 +210,7 @@ further_there k fs new x text shown rest own more n h is all rest_is one =
 
 -- ## Line feeds
 
+-- passing pieces hold no line feed
 pub feedless_passing : (p : Pieces) → IsReadable p → (flags : List Bool) → HasNoLineFeed (passing_all p flags)
 feedless_passing p h [] = All-nil (λ c. c ≢ 10)
 feedless_passing p h (b ∷ flags) = All-append (λ c. c ≢ 10) (passing_piece p b) (passing_all p flags) (h.no_line_feed b).1 (feedless_passing p h flags)
@@ -213,6 +218,7 @@ feedless_passing p h (b ∷ flags) = All-append (λ c. c ≢ 10) (passing_piece 
 both_feedless : (a b : List ℕ) → HasNoLineFeed a → HasNoLineFeed b → HasNoLineFeed (a ++ b)
 both_feedless a b h g = All-append (λ c. c ≢ 10) a b h g
 
+-- if no line feed follows an item's own front, the text has none
 pub own_feedless : (k : Look) → IsReadableWith k.pieces k.mark → (fs new : List Flags) (x text shown rest turned closed start : List ℕ) (n : ℕ) (flags : Flags) → x ≡ front_codes k.branch ++ text → IsFound k.pieces fs new text shown rest n
     → IsCutTo (turning_piece k.pieces) any_flags rest flags turned → turned ≡ back_codes k.branch ++ closed → closed ≡ front_codes k.leaf ++ start → HasNoLineFeed start → HasNoLineFeed x
 own_feedless k readable fs new x text shown rest turned closed start n flags is h cut t c s =
@@ -223,6 +229,7 @@ own_feedless k readable fs new x text shown rest turned closed start n flags is 
     let rest_less : HasNoLineFeed rest = subst HasNoLineFeed (sym cut.text_is) (both_feedless (turning_piece k.pieces cut.last) turned (readable.pieces.no_line_feed cut.last).0 turned_less) in
     subst HasNoLineFeed (sym (is ∙ ap (λ z. front_codes k.branch ++ z) h.text_is)) (both_feedless (front_codes k.branch) (shown ++ rest) (no_line_feed_front k.branch) (both_feedless shown rest pieces rest_less))
 
+-- if no line feed follows a further line's front, the text has none
 pub further_feedless : (k : Look) → IsReadableWith k.pieces k.mark → (fs new : List Flags) (x text shown rest closed start : List ℕ) (n : ℕ) → x ≡ front_codes k.branch ++ text → IsFound k.pieces fs new text shown rest n
     → rest ≡ k.mark ++ closed → closed ≡ back_codes k.branch ++ start → HasNoLineFeed start → HasNoLineFeed x
 further_feedless k readable fs new x text shown rest closed start n is h m c s =

@@ -11,11 +11,11 @@ use Rattle.ptree.proofs.Addresses.{one_list, branches, walk, walk_is_list}
 use Rattle.ptree.proofs.Outlines.{same_tree}
 use Rattle.ptree.proofs.TreeLemmas.{map_twice}
 
--- the text of what is there, if anything is
+-- the text of a tree, if there is one
 abbrev text_of : Option Tree → List ℕ
 text_of o = unwrap_or (option_map (λ (y : Tree). y.text) o) []
 
--- the line at an address, t being at level n
+-- the line at an address in a tree at level n
 abbrev level_line : ℕ → Tree → Address → Line
 level_line n t a = line (n + length a) (text_of (at tree_kids t a))
 
@@ -86,11 +86,11 @@ outline_of_tree t lines =
       λ e. (all, list, e ∙ sym (same_lines t)),
     )
 
--- the tree that is made, if one is, has the outline by addresses
+-- if a tree is made, it has the outline by addresses
 pub made_outline : {E : Type 0} (r : Result StringItem E) (lines : List Line) → IfOk r (λ t. outline (tree_of t) ≡ lines) → IfOk r (λ t. IsOutline (tree_of t) lines)
 made_outline r lines h = IfOk-weaker r _ _ (λ t e. (outline_of_tree (tree_of t) lines).1 (sym e)) h
 
--- no other tree has it
+-- no other tree has that outline
 pub only_made : {E : Type 0} (r : Result StringItem E) (lines : List Line) → IfOk r (λ t. outline (tree_of t) ≡ lines) → IfOk r (λ t. (u : Tree) → IsOutline u lines → u ≡ tree_of t)
 only_made r lines h =
     IfOk-weaker r _ _ (λ t e u is. same_tree u (tree_of t) (sym ((outline_of_tree u lines).0 is) ∙ sym e)) h

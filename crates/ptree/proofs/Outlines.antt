@@ -4,7 +4,7 @@ use Rattle.std.proofs.lemmas.Bool.{lt-ltb, le-ltb, eq-eqb, ne_eqb}
 use Rattle.ptree.specs.Outline.{Line, line, outline_at, outline}
 use Rattle.ptree.specs.Tree.{Forest, none, item, Tree, tree}
 
--- one row of trees, and then another
+-- a forest followed by another
 join : Forest → Forest → Forest
 join none g = g
 join (item t c r) g = item t c (join r g)
@@ -14,8 +14,9 @@ unfolding join
 join_none none = refl
 join_none (item t c r) = ap (λ z. item t c z) (join_none r)
 
--- What stands at level k at the front of an outline: at the level of its first line a tree and the row after it,
--- below that level nothing, and above it what the lines after it have there.
+-- The forest at level k at the front of an outline. At the level of the first line it is a tree and
+-- the forest after it. Below that level it is empty. Above that level it is the forest that the
+-- later lines have.
 rows : List Line → ℕ → Forest
 rows [] k = none
 rows (l ∷ o) k = cond (ltb k l.level) (rows o k) (cond (eqb k l.level) (item l.text (rows o (suc l.level)) (rows o l.level)) none)
@@ -54,16 +55,17 @@ rows_of n (item t c r) o h =
       higher = λ k l. rows_higher (line n t) ((outline_at (suc n) c ++ outline_at n r) ++ o) k l;
     }
 
--- the row of trees that has an outline
+-- the forest that has an outline
 forest_from : (n : ℕ) (f : Forest) → rows (outline_at n f) n ≡ f
 unfolding rows
 forest_from n f =
     ap (λ z. rows z n) (sym (append-nil (outline_at n f))) ∙ ((rows_of n f [] (λ k l. refl)).here ∙ join_none f)
 
+-- forests with one outline are equal
 pub same_forest : (n : ℕ) (f g : Forest) → outline_at n f ≡ outline_at n g → f ≡ g
 same_forest n f g e = sym (forest_from n f) ∙ (ap (λ z. rows z n) e ∙ forest_from n g)
 
--- no two trees have one outline
+-- trees with one outline are equal
 pub same_tree : (t u : Tree) → outline t ≡ outline u → t ≡ u
 same_tree t u e =
     let firsts : line 0 t.text ≡ line 0 u.text = cc in

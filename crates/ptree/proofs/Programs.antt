@@ -11,7 +11,7 @@ use Rattle.ptree.specs.declared.presets.Preset.TheVariants.{Tree, TreeAscii, Car
 use Rattle.ptree.proofs.DefaultMark.{default_mark_readable}
 use Rattle.ptree.proofs.Shipped.{shipped_readable, tick_readable}
 
--- its pieces and its mark are readable
+-- the pieces and the marker of a configuration are readable
 abbrev pub IsReadableValue : Configuration → Type 0
 IsReadableValue v = IsReadableWith (pieces_from v.characters v.indent v.padding) v.continued
 
@@ -23,6 +23,7 @@ ticks_readable : (indent padding : ℕ) → 1 + padding < indent → IsReadableW
 ticks_readable indent padding dash =
     default_mark_readable ascii_tick (inl refl) indent padding ((tick_readable indent padding).1 dash)
 
+-- the presets are readable
 pub preset_readable : (p : Preset) → IsReadableValue (preset_value p)
 preset_readable Tree = search (rules)
 preset_readable TreeAscii = ticks_readable 4 1 (omega arith)

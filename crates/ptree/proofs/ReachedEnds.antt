@@ -1,4 +1,4 @@
--- Where whole lines end: in a wrong line, or with the text.
+-- Where whole lines end: before a wrong line, or with the text.
 use Rattle.std.proofs.Common.{◌≡◌, ◌≢◌, ℕ, zero, suc, ◌<◌, ◌≤◌, inl, inr, Bool, true, false, not, cond, List, [], ◌∷◌, ◌++◌, length, length-append, refl, sym, ap, ◌∙◌, subst, append_assoc, get_or, arith}
 use Rattle.std.proofs.lemmas.List.{append-nil}
 use Rattle.std.proofs.lemmas.List.Elements.{All-head, All-tail, All-append}
@@ -25,6 +25,7 @@ use Rattle.ptree.proofs.Reaching.{not_nothing}
 moved_assoc : (a line more : List ℕ) → (a ++ line ++ 10 ∷ []) ++ more ≡ a ++ (line ++ 10 ∷ more)
 moved_assoc a line more = simp append_assoc
 
+-- a line that is neither an own line nor a further one is wrong
 pub wrong_line : (k : Look) → IsReadableWith k.pieces k.mark → (depth : ℕ) (front : List ℕ) (lines : List Line) (level : ℕ) (own : List ℕ) (fs : List Flags) (x new rest : List ℕ)
     → Reached k depth front lines level own fs → x ≡ new ++ 10 ∷ rest
     → ((o : List Line) (z : List ℕ) → Allows fs o → x ≡ continued_prefix k (passing_by k.pieces o level) ++ z → ⊥)
@@ -69,6 +70,7 @@ level_within depth (x ∷ lines) l h = deeper lines h.2 where
   deeper [] h = h.0
   deeper (y ∷ lines) h = deeper lines h.1
 
+-- some drawing continues the whole lines that were read
 pub reached_goes_on : (k : Look) (depth : ℕ) (front : List ℕ) (lines : List Line) (level : ℕ) (own : List ℕ) (fs : List Flags) → Reached k depth front lines level own fs → HasContinuation k depth front
 reached_goes_on k depth front lines level own fs h =
     let p : Pieces = k.pieces in
@@ -92,7 +94,7 @@ reached_goes_on k depth front lines level own fs h =
 
 -- ## The end
 
--- whole lines are a drawing where the last text is closed and every open item can be last
+-- whole lines are a drawing if the last text is closed and every open item can be last
 pub reached_end : (k : Look) (depth : ℕ) (front : List ℕ) (lines : List Line) (level : ℕ) (own text : List ℕ) (fs : List Flags) (t : Tree) → Reached k depth front lines level own fs
     → own ≡ text ++ back_codes k.leaf → Allows fs [] → outline t ≡ lines ++ line level text ∷ [] → IsDrawnForm k depth front t
 reached_end k depth front lines level own text fs t h closed allowed is =
@@ -102,7 +104,7 @@ reached_end k depth front lines level own text fs t h closed allowed is =
 nothing_long : (a b : List ℕ) → [] ≡ a ++ 10 ∷ b → ⊥
 nothing_long a b e = let long = ap length e in omega (arith, simp length-append at long)
 
--- and else none
+-- whole lines are no drawing if the last text is not closed or an open item cannot be last
 pub reached_none : (k : Look) (depth : ℕ) (front : List ℕ) (lines : List Line) (level : ℕ) (own : List ℕ) (fs : List Flags) → Reached k depth front lines level own fs
     → ((text : List ℕ) → own ≡ text ++ back_codes k.leaf → Allows fs [] → ⊥) → (t : Tree) → IsDrawnForm k depth front t → ⊥
 reached_none k depth front lines level own fs h none t form =
@@ -116,13 +118,14 @@ reached_none k depth front lines level own fs h none t form =
     which (l ∷ o') text allowed (inl s) =
         nothing_long _ (lines_text k o') (s.1 ∙ (line_split k l o' ∙ sym (append_assoc (own_front k (pieces_by k.pieces o' l.level)) _ (10 ∷ lines_text k o'))))
 
--- nor where something stands behind the last line feed
+-- a text without a line feed does not end in a line
 pub feed_not : (a b x : List ℕ) → HasNoLineFeed x → x ≡ a ++ 10 ∷ b → ⊥
 feed_not [] b [] h e = nothing_long [] b e
 feed_not [] b (c ∷ x) h e = All-head (λ c. c ≢ 10) c x h (let heads : c ≡ 10 = cc in heads)
 feed_not (d ∷ a) b [] h e = nothing_long (d ∷ a) b e
 feed_not (d ∷ a) b (c ∷ x) h e = feed_not a b x (All-tail (λ c. c ≢ 10) c x h) (let tails : x ≡ a ++ 10 ∷ b = cc in tails)
 
+-- whole lines and the beginning of another one are no drawing
 pub reached_short : (k : Look) (depth : ℕ) (front : List ℕ) (lines : List Line) (level : ℕ) (own : List ℕ) (fs : List Flags) (x : List ℕ) → Reached k depth front lines level own fs
     → HasNoLineFeed x → (x ≡ [] → ⊥) → (t : Tree) → IsDrawnForm k depth (front ++ x) t → ⊥
 reached_short k depth front lines level own fs x h one some t form =

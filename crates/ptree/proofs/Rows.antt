@@ -10,7 +10,7 @@ use Rattle.ptree.specs.declared.item.StringItem.{StringItem}
 outline_under : ℕ → Tree → List Line
 outline_under n t = line n t.text ∷ outline_at (suc n) t.children
 
--- one tree more at the end of a row
+-- one tree more at the end of a forest
 outline_at-push : (n : ℕ) (ts : List Tree) (t : Tree)
     → outline_at n (forest (ts ++ t ∷ [])) ≡ outline_at n (forest ts) ++ outline_under n t
 unfolding outline_under
@@ -20,13 +20,13 @@ outline_at-push n (u ∷ ts) t =
     (ap (λ z. outline_at (suc n) u.children ++ z) (outline_at-push n ts t)
     ∙ sym (append_assoc (outline_at (suc n) u.children) (outline_at n (forest ts)) (outline_under n t)))
 
--- lines that start no deeper go on below a level less
+-- lines that start no deeper continue one level less
 Steps-higher : (above : ℕ) (o : List Line) → StartsAtMost (suc above) o → Steps (suc above) o → Steps above o
 Steps-higher above [] h s = tt
 Steps-higher above (l ∷ o) h s = (s.0, h, s.2)
 
 module _ {T : Type 0} (line_of : T → Line) where
-  -- a row as far as its loop has come
+  -- a row, as far as the loop has come
   pub record IsRowSoFar (above : ℕ) (lines : List T) (items : List StringItem) (rest : List T) : Type 0 where
     pub are : map line_of lines ≡ outline_at (suc above) (forest (map tree_of items)) ++ map line_of rest
     pub shorter : length rest ≤ length lines

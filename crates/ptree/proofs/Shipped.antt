@@ -43,7 +43,8 @@ shipped_readable c (inr (inr (inr (inr e)))) i p = subst (λ (s : Characters). I
 
 -- ## The set with ticks
 
--- where a character stands between the first one and the padding, the first two of the pieces tell them apart
+-- if a character is drawn between the first one and the padding, the first two characters of the
+-- pieces differ
 tick_apart : (n padding : ℕ) → (indent : ℕ) → indent - (1 + padding) ≡ suc n → IsReadable (pieces_from ascii_tick indent padding)
 tick_apart n padding indent e =
     let told : AreTold (fronts (124 ∷ 45 ∷ []) (124 ∷ 32 ∷ []) (96 ∷ 45 ∷ []) (32 ∷ 32 ∷ [])) =
@@ -55,16 +56,17 @@ tick_apart n padding indent e =
     subst IsReadable (sym with_one)
     (told_readable (fronts (124 ∷ 45 ∷ []) (124 ∷ 32 ∷ []) (96 ∷ 45 ∷ []) (32 ∷ 32 ∷ [])) told _ _ (tail n padding (45 ∷ []) (32 ∷ []) refl refl) (tail n padding (32 ∷ []) (32 ∷ []) refl refl))
 
--- with none between, the first piece of each kind is one text
+-- without a character between, the first piece of each kind is the same text
 tick_same : (indent padding : ℕ) → indent ≤ 1 + padding → (pieces_from ascii_tick indent padding).regular ≡ (pieces_from ascii_tick indent padding).child
 tick_same indent padding h =
     let none : indent - (1 + padding) ≡ 0 = omega arith in
     ap (λ m. 124 ∷ (repeat m (45 ∷ []) ++ repeat padding (32 ∷ []))) none ∙ ap (λ m. 124 ∷ (repeat m (32 ∷ []) ++ repeat padding (32 ∷ []))) (sym none)
 
--- and two texts that are one aren't apart
+-- two equal texts are not apart
 same_not_apart : (a b : List ℕ) → a ≡ b → AreApart a b → ⊥
 same_not_apart a b e h = h.0 ([], sym (append-nil a ∙ e))
 
+-- the set with ticks is readable exactly when a dash is drawn
 pub tick_readable : (indent padding : ℕ) → IsReadable (pieces_from ascii_tick indent padding) ↔ (1 + padding < indent)
 tick_readable indent padding = (
   λ r. elim (cases_lt (1 + padding) indent) [
@@ -74,7 +76,7 @@ tick_readable indent padding = (
   λ l. tick_apart (indent - (1 + padding) - 1) padding indent (omega arith),
 )
 
--- where they aren't readable, the first piece of each kind is one text
+-- if the set with ticks is not readable, the first piece of each kind is the same text
 pub tick_same_pieces : (c : Characters) (indent padding : ℕ) → c ≡ ascii_tick → (IsReadable (pieces_from c indent padding) → ⊥)
     → (pieces_from c indent padding).regular ≡ (pieces_from c indent padding).child
 tick_same_pieces c indent padding e unreadable =
@@ -84,7 +86,7 @@ tick_same_pieces c indent padding e unreadable =
       | inr l ↦ tick_same indent padding l
     ])
 
--- no piece of it holds a line feed
+-- the piece of a last child in the set with ticks holds no line feed
 pub tick_one_line : (c : Characters) (indent padding : ℕ) → c ≡ ascii_tick → HasNoLineFeed (pieces_from c indent padding).last_regular
 tick_one_line c indent padding e =
     subst (λ (s : Characters). HasNoLineFeed (pieces_from s indent padding).last_regular) (sym e)

@@ -1,4 +1,4 @@
--- A line that begins with some of the passing pieces that are shown.
+-- A line that begins with some of the shown passing pieces.
 use Rattle.std.proofs.Common.{◌≡◌, ℕ, zero, suc, ◌+◌, ◌-◌, ◌<◌, ◌≤◌, inl, inr, Bool, true, false, not, List, [], ◌∷◌, ◌++◌, length, length-append, take, drop, get_or, refl, sym, ap, ◌∙◌, subst, append_assoc, arith}
 use Rattle.std.proofs.Math.Seq.{take-append_seam, take-add}
 use Rattle.std.specs.Str.{IsUtf8, IsCharBoundary}
@@ -14,20 +14,20 @@ use Rattle.ptree.proofs.OpenItems.{open_lines, passing_push, passing_split}
 
 -- ## Some of the passing pieces
 
--- so many of them are that wide, and the next one reaches past what stands at the front of text
+-- the first n passing pieces are that wide, and the next one reaches past what is common
 pub record SkipSo (p : Pieces) (fs : List Flags) (count width n end : ℕ) : Type 0 where
   pub few : n ≤ count
   pub wide : (o : List Line) → Allows fs o → length (passing_by p o n) ≡ end
   pub past : n < count → (o : List Line) → Allows fs o → width < length (passing_by p o (suc n))
 
--- two texts begin alike so far, and not further
+-- two texts have a longest common prefix of this width
 pub record IsAlike (width : ℕ) (a b : List ℕ) : Type 0 where
   pub left : width ≤ length a
   pub right : width ≤ length b
   pub same : take width a ≡ take width b
   pub most : (m : ℕ) → m ≤ length a → m ≤ length b → take m a ≡ take m b → m ≤ width
 
--- as their bytes do, of which no more than the shorter one has are compared
+-- texts have the common prefix that their bytes have, compared up to the length of the shorter one
 pub alike : (a b x y : List ℕ) (width least : ℕ) → a ≡ x → b ≡ y → least ≤ length x → least ≤ length y → ((m : ℕ) → m ≤ length x → m ≤ length y → m ≤ least) → width ≤ least
     → take width a ≡ take width b → ((m : ℕ) → m ≤ least → take m a ≡ take m b → m ≤ width) → IsAlike width x y
 alike a b x y width least left right left_least right_least greatest within same most = record {
@@ -37,7 +37,7 @@ alike a b x y width least left right left_least right_least greatest within same
   most = λ m l r e. most m (greatest m l r) (ap (take m) left ∙ (e ∙ ap (take m) (sym right)));
 }
 
--- a wider path has a level
+-- a path that is too wide has a level
 pub skip_some_left : (p : Pieces) (fs : List Flags) (count width n end : ℕ) → AreSome fs → SkipSo p fs count width n end → width < end → 0 < n
 skip_some_left p fs count width zero end some h wide =
     let (o, a) = open_lines fs some in
@@ -66,6 +66,7 @@ skip_width p fs count width n end shown flags path h is o a =
       which true l = e h l
       which false l = refl
 
+-- one level less, by its piece
 pub skip_next : (p : Pieces) (fs : List Flags) (count width n end end' : ℕ) (shown : List ℕ) (flags : Flags) → ArePath p fs count shown → SkipSo p fs count width (suc n) end → flags ≡ get_or fs n any_flags → width < end
     → end' + length (passing_piece p flags.last) ≡ end → SkipSo p fs count width n end'
 skip_next p fs count width n end end' shown flags path h is wide less =
@@ -76,7 +77,7 @@ skip_next p fs count width n end end' shown flags path h is wide less =
       past = λ l o a. let w = h.wide o a in omega (arith, w, wide);
     }
 
--- and so it is found
+-- a path that is no longer too wide is found
 pub skip_end : (p : Pieces) (fs : List Flags) (count width n end : ℕ) (shown text rest : List ℕ) → ArePath p fs count shown → SkipSo p fs count width n end → end ≤ width → IsAlike width text shown
     → rest ≡ drop end text → ArePassed p fs count text n rest
 skip_end p fs count width n end shown text rest path h low common rest_is = record {
@@ -117,6 +118,7 @@ skip_end p fs count width n end shown text rest path h low common rest_is = reco
       take_take (suc n) (suc m) [] l = refl
       take_take (suc n) (suc m) (y ∷ xs) l = ap (λ z. y ∷ z) (take_take n m xs (omega arith))
 
+-- equal prefixes of two texts, joined
 pub take_chunk : (n m : ℕ) (a b : List ℕ) → take n a ≡ take n b → take m (drop n a) ≡ take m (drop n b) → take (n + m) a ≡ take (n + m) b
 take_chunk n m a b e f = take-add n m a ∙ (ap (λ z. z ++ take m (drop n a)) e ∙ (ap (λ z. take n b ++ z) f ∙ sym (take-add n m b)))
 
@@ -132,6 +134,7 @@ skip_step p fs count width (suc n) end w shown flags path h wide is w_is =
     let low : w ≤ end = omega (arith, parts, w_is) in
     (low, subst (λ z. SkipSo p fs count width z (end - w)) (sym less) (skip_next p fs count width n end (end - w) shown flags path h there wide (omega (arith, low, w_is))))
 
+-- passing pieces are UTF-8
 pub passing_utf8 : (p : Pieces) → IsUtf8 (passing_piece p false) → IsUtf8 (passing_piece p true) → (flags : List Bool) → IsUtf8 (passing_all p flags)
 passing_utf8 p r l [] = IsUtf8-nil
 passing_utf8 p r l (true ∷ flags) = IsUtf8-append (passing_piece p true) (passing_all p flags) l (passing_utf8 p r l flags)

@@ -17,12 +17,12 @@ pub plain_codes : style_codes plain_value ≡ []
 unfolding style_codes
 plain_codes = refl
 
--- a style that has no code paints a text as itself
+-- a style without codes leaves a text as it is
 pub painted_plain : (style : StyleValue) (text : List ℕ) → style_codes style ≡ [] → painted_text style text ≡ text
 painted_plain style text h =
     ap (λ codes. flat_map (λ code. code) codes ++ text ++ reset_after codes) h ∙ append-nil text
 
--- as the plain style does
+-- the plain style leaves a text as it is
 pub painted_plain_style : (text : List ℕ) → painted_text plain_value text ≡ text
 painted_plain_style text = painted_plain plain_value text plain_codes
 
@@ -31,17 +31,17 @@ abbrev AreUnset : List (Bool × ℕ) → Type 0
 AreUnset [] = ⊤
 AreUnset (f ∷ fs) = (f.0 ≡ false) × AreUnset fs
 
--- such flags have no codes
+-- flags that are not set have no codes
 none_set : (fs : List (Bool × ℕ)) → AreUnset fs → flag_codes fs ≡ []
 none_set [] h = refl
 none_set (f ∷ fs) h = ap (λ b. flag_codes ((b, f.1) ∷ fs)) h.0 ∙ none_set fs h.1
 
--- nor has a colour that sets none
+-- a colour that sets nothing has no code
 sets_none : (color : Option ColorValue) (side : Side) → SetsNone color side → side_codes color side ≡ []
 sets_none None side h = refl
 sets_none (Some c) side h = ap (λ o. option_to_list (option_map code o)) h
 
--- nor a style without any
+-- a style that sets nothing has no codes
 pub no_codes : (style : StyleValue) → IsPlain style → style_codes style ≡ []
 unfolding style_codes
 no_codes style h =
@@ -54,15 +54,15 @@ no_line_feed_reset [] = All-nil (λ b. b ≢ 10)
 no_line_feed_reset (code ∷ codes) =
     All-cons (λ b. b ≢ 10) 27 (91 ∷ 48 ∷ 109 ∷ []) (omega arith) (All-cons (λ b. b ≢ 10) 91 (48 ∷ 109 ∷ []) (omega arith) (All-cons (λ b. b ≢ 10) 48 (109 ∷ []) (omega arith) (All-cons (λ b. b ≢ 10) 109 [] (omega arith) (All-nil (λ b. b ≢ 10)))))
 
--- what stands after a painted text is of one line
+-- the codes after a painted text hold no line feed
 pub no_line_feed_back : (style : StyleValue) → HasNoLineFeed (back_codes style)
 no_line_feed_back style = no_line_feed_reset (style_codes style)
 
--- and what stands before it
+-- the codes before a painted text hold no line feed
 pub no_line_feed_front : (style : StyleValue) → HasNoLineFeed (front_codes style)
 no_line_feed_front style = All-weaker IsCodeByte (λ b. b ≢ 10) (λ b h. omega arith) (front_codes style) (front_is style)
 
--- codes are text
+-- the codes before a painted text are UTF-8
 pub IsUtf8-front_codes : (style : StyleValue) → IsUtf8 (front_codes style)
 IsUtf8-front_codes style =
     IsUtf8-from_ascii (front_codes style) (IsAscii-from_all (front_codes style) (All-weaker IsCodeByte (λ b. b < 128) (λ b h. h.0) (front_codes style) (front_is style)))

@@ -1,4 +1,4 @@
--- What stands below an address is drawn as it is alone.
+-- What is below an address is drawn as it is alone.
 use Rattle.std.specs.Prelude.{slice_get, option_and_then, ◌&&◌, ◌-◌}
 use Rattle.std.proofs.Common.{◌≡◌, ℕ, ◌≤◌, ◌⊎◌, inl, inr, Bool, true, false, cond, List, [], ◌∷◌, ◌++◌, map, filter, Option, Some, None, length, sym, ◌∙◌, ap, subst, refl, arith, eq-eqb, eqb-true, length-append}
 use Rattle.std.proofs.lemmas.Bool.{and_parts}
@@ -28,7 +28,7 @@ before_behind : (a b c : Address) → Before b c → Before (a ++ b) (a ++ c)
 before_behind [] b c h = h
 before_behind (i ∷ a) b c h = inr (refl, before_behind a b c h)
 
--- behind an address the steps are those from what stands there
+-- the steps after an address are those from the item there
 at-append : {X : Type 0} (kids : X → List X) (x y : X) (a b : Address) → at kids x a ≡ Some y → at kids x (a ++ b) ≡ at kids y b
 at-append kids x y [] b h = let same : x ≡ y = cc in ap (λ z. at kids z b) same
 at-append kids x y (i ∷ a) b h = step kids y (slice_get (kids x) i) a b (λ c. at-append kids c y a b) h
@@ -79,13 +79,13 @@ sorted_behind a (x ∷ xs) s = (
   sorted_behind a xs s.1,
 )
 
--- what a list keeps is sorted
+-- a filtered address list is sorted
 sorted_filter : {X : Type 0} (kids : X → List X) (x : X) (d : ℕ) (p : Address → Bool) (xs : List Address) → IsAddressList kids x d xs → Sorted (filter p xs)
 sorted_filter kids x d p xs s = sorted_from_pairs (filter p xs) (AllPairs-filter Before p xs s.ascending)
 
 -- ## Addresses of the whole and of the part
 
--- the addresses below one are those of what stands there, behind it
+-- the addresses below an address are those of the item there, after that address
 addresses_below : {X : Type 0} (kids : X → List X) (x y : X) (a : Address) (d : ℕ) (whole part : List Address) → at kids x a ≡ Some y → length a ≤ d
     → IsAddressList kids x d whole → IsAddressList kids y (d - length a) part
     → filter (begins_properly a) whole ≡ map (λ b. a ++ b) (filter (begins_properly []) part)
@@ -117,7 +117,7 @@ addresses_below kids x y a d whole part h k w p =
 
 -- ## Entries
 
--- an entry of the whole is, behind the passing text, the entry of the part
+-- an entry of the whole is the entry of the part after the passing text
 entries_alone : (look : Look) (x y : Shape) (a : Address) (part : List Address) → at kids x a ≡ Some y
     → map (entry_text look x) (map (λ b. a ++ b) (filter (begins_properly []) part)) ≡ map (entry_behind look (passing_text look x a) y) (filter (begins_properly []) part)
 entries_alone look x y a [] h = refl
@@ -126,6 +126,7 @@ entries_alone look x y a ((j ∷ r) ∷ part) h =
     ap (λ t. t ∷ map (entry_text look x) (map (λ b. a ++ b) (filter (begins_properly []) part))) (entry_below look [] x y a j r h)
     ∙ ap (λ t. entry_behind look (passing_text look x a) y (j ∷ r) ∷ t) (entries_alone look x y a part h)
 
+-- the entries below each address are those of the item there, after its passing text
 pub subtrees : (look : Look) (x : Shape) (depth : ℕ) → HasSubtrees look x depth
 subtrees look x depth = λ a y whole part h k w p.
     ap (map (entry_text look x)) (addresses_below kids x y a depth whole part h k w p) ∙ entries_alone look x y a part h

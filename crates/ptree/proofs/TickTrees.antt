@@ -1,4 +1,5 @@
--- Two trees that draw alike with the set that has ticks, for texts of the child that are of one line.
+-- Two trees that have the same drawing with the set that has ticks, for children's texts of one
+-- line.
 use Rattle.std.proofs.Common.{◌≡◌, ◌≢◌, ℕ, ◌≤◌, List, [], ◌∷◌, ◌++◌, sym, ap, ◌∙◌, append_assoc, arith}
 use Rattle.std.proofs.lemmas.List.{append-nil}
 use Rattle.std.proofs.lemmas.List.Elements.{All-append}
@@ -13,7 +14,7 @@ use Rattle.ptree.proofs.Styles.{painted_plain, plain_codes}
 use Rattle.ptree.proofs.Inserted.{inserted_none}
 use Rattle.ptree.proofs.TreeDrawing.{tree_drawing, drawing_of_tree}
 
--- the entry of a text of one line where nothing is painted
+-- the entry of a text of one line if nothing is painted
 entry_plain : (k : Look) (prefix passing text : List ℕ) → ((z : List ℕ) → painted_text k.branch z ≡ z) → ((z : List ℕ) → painted_text k.leaf z ≡ z) → HasNoLineFeed text
     → text_entry k prefix passing text ≡ prefix ++ text ++ 10 ∷ []
 entry_plain k prefix passing text f g one =
@@ -21,7 +22,8 @@ entry_plain k prefix passing text f g one =
     ap (λ z. z ++ with_inserted ins (painted_text k.leaf text) ++ 10 ∷ []) (f prefix)
     ∙ (ap (λ z. prefix ++ with_inserted ins z ++ 10 ∷ []) (g text) ∙ ap (λ z. prefix ++ z ++ 10 ∷ []) (inserted_none ins text one))
 
--- where the two pieces of an item with a sibling after it are one, and nothing is painted
+-- the two drawings are equal if the two pieces of a child with a later sibling are equal and
+-- nothing is painted
 one_drawing_of_both : (k : Look) → k.pieces.regular ≡ k.pieces.child → ((text : List ℕ) → painted_text k.branch text ≡ text) → ((text : List ℕ) → painted_text k.leaf text ≡ text) → (r a b c : List ℕ)
     → HasNoLineFeed b → HasNoLineFeed k.pieces.last_regular → tree_drawing k (nested_tree r a b c) ≡ tree_drawing k (flat_tree r a (k.pieces.last_regular ++ b) c)
 one_drawing_of_both k same f g r a b c one piece =
@@ -42,6 +44,7 @@ one_drawing_of_both k same f g r a b c one piece =
     moved : (x y z : List ℕ) → ((x ++ []) ++ y) ++ z ++ 10 ∷ [] ≡ x ++ (y ++ z) ++ 10 ∷ []
     moved x y z = ap (λ w. (w ++ y) ++ z ++ 10 ∷ []) (append-nil x) ∙ ap (λ w. w ++ 10 ∷ []) (append_assoc x y z)
 
+-- two different trees have the same drawing if those pieces are equal
 pub tick_twice : (k : Look) (depth : ℕ) → k.pieces.regular ≡ k.pieces.child → k.branch ≡ plain_value → k.leaf ≡ plain_value → 2 ≤ depth → HasNoLineFeed k.pieces.last_regular → (r a b c : List ℕ) → HasNoLineFeed b
     → DrawAlike k depth (nested_tree r a b c) (flat_tree r a (k.pieces.last_regular ++ b) c)
 tick_twice k depth same e f deep piece r a b c line =

@@ -15,12 +15,13 @@ use Rattle.ptree.proofs.Join.{drawn_is_drawing}
 use Rattle.ptree.proofs.Laws.{one_drawing}
 use Rattle.ptree.proofs.Unfold.{kids_of_unfold}
 
--- whether there is no tree
+-- whether a forest is empty
 abbrev pub is_bare : Forest → Bool
 is_bare none = true
 is_bare (item t c r) = false
 
--- the lines of trees side by side, and of what is below them; above says of each ancestor whether it is a last child
+-- the drawing of a forest and of what is below it; above says of each ancestor whether it is a last
+-- child
 abbrev pub forest_drawing : Look → List Bool → Forest → List ℕ
 forest_drawing k above none = []
 forest_drawing k above (item t c r) =
@@ -66,10 +67,11 @@ entries_of_tree look (suc d) above t h =
     ap (λ ks. concat (kid_entries look (entries_below look d) (passing_all look.pieces above) ks)) (sym (kids_of_unfold tree_own tree_kids t))
     ∙ entries_of_forest look d (entries_of_tree look d) above t.children h
 
+-- the drawing of a tree by recursion over items is that over the tree
 pub drawn_tree : (look : Look) (depth : ℕ) (t : Tree) → height t.children ≤ depth → concat (drawn_entries look depth (shape_of_tree t)) ≡ tree_drawing look t
 drawn_tree look depth t h = ap (λ z. entry_from look [] [] (painted_text look.leaf t.text) ++ z) (entries_of_tree look depth [] t h)
 
--- the drawing of a tree by addresses is its drawing by recursion, at a depth that it doesn't exceed
+-- the drawing of a tree by addresses is its drawing by recursion, at a depth that no level exceeds
 pub drawing_of_tree : (look : Look) (depth : ℕ) (t : Tree) (x : List ℕ) → height t.children ≤ depth → IsDrawing look (shape_of_tree t) depth x ↔ (x ≡ tree_drawing look t)
 drawing_of_tree look depth t x h = (
   λ e. one_drawing look (shape_of_tree t) depth x e ∙ drawn_tree look depth t h,

@@ -11,17 +11,19 @@ pub trees_of_forest : (ts : List Tree) → trees (forest ts) ≡ ts
 trees_of_forest [] = refl
 trees_of_forest (t ∷ ts) = ap (λ z. t ∷ z) (trees_of_forest ts)
 
--- the tree of an item, by its parts
+-- the parts of the tree of an item
 pub tree_of_item : (s : StringItem) → tree_of s ≡ tree (string_bytes (out-StringItem s).text) (forest (map tree_of (out-StringItem s).children.items))
 tree_of_item s = fold_out-StringItem Tree tree_step s
 
--- the tree of a new item, by its parts
+-- the parts of the tree of a new item
 pub tree_of_roll : (x : StringItem-F StringItem) → tree_of (roll-StringItem x) ≡ tree (string_bytes x.text) (forest (map tree_of x.children.items))
 tree_of_roll = fold-roll-StringItem Tree tree_step
 
+-- the children of an item's tree are the trees of its children
 pub kids_of_item : (s : StringItem) → tree_kids (tree_of s) ≡ map tree_of (out-StringItem s).children.items
 kids_of_item s = ap tree_kids (tree_of_item s) ∙ trees_of_forest (map tree_of (out-StringItem s).children.items)
 
+-- two maps over a list are one
 pub map_twice : {A B C : Type 0} (f : A → B) (g : B → C) (xs : List A) → map (λ x. g (f x)) xs ≡ map g (map f xs)
 map_twice f g [] = refl
 map_twice f g (x ∷ xs) = ap (λ ys. g (f x) ∷ ys) (map_twice f g xs)

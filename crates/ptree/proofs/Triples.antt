@@ -6,6 +6,7 @@ use Rattle.serde_json.specs.declared.value.Value as jv
 use Rattle.toml.specs.View as t
 use Rattle.toml.specs.declared.value.Value as tv
 
+-- a list of another length is no triple, in JSON
 pub no_json_triple : (vs : List jv.Value) → (length vs ≡ 3 → ⊥) → None ≡ json_triple (j.items_view vs)
 no_json_triple [] h = refl
 no_json_triple (a ∷ []) h = refl
@@ -13,6 +14,7 @@ no_json_triple (a ∷ b ∷ []) h = refl
 no_json_triple (a ∷ b ∷ c ∷ []) h = absurd (h (omega arith))
 no_json_triple (a ∷ b ∷ c ∷ d ∷ vs) h = refl
 
+-- a list of another length is no triple, in TOML
 pub no_toml_triple : (vs : List tv.Value) → (length vs ≡ 3 → ⊥) → None ≡ toml_triple (t.items_view vs)
 no_toml_triple [] h = refl
 no_toml_triple (a ∷ []) h = refl

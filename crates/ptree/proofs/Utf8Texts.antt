@@ -1,4 +1,4 @@
--- Of UTF-8 UTF-8 is drawn.
+-- A drawing of UTF-8 texts is UTF-8.
 use Rattle.std.specs.Prelude.{Option, Some, None, Bool, All, slice_get, option_map, option_and_then, unwrap_or, flat_map}
 use Rattle.std.specs.List.{repeat}
 use Rattle.std.specs.Str.{IsUtf8}
@@ -38,7 +38,7 @@ from_ascii bs h = IsUtf8-from_ascii bs (IsAscii-from_all bs h)
 feed : IsUtf8 (10 ∷ [])
 feed = from_ascii (10 ∷ []) (ascii_more 10 [] (omega arith) no_ascii)
 
--- texts one behind the other
+-- joined texts of UTF-8 are UTF-8
 joined : {X : Type 0} (f : X → List ℕ) → ((x : X) → IsUtf8 (f x)) → (xs : List X) → IsUtf8 (flat_map f xs)
 joined f h [] = IsUtf8-nil
 joined f h (x ∷ xs) = IsUtf8-append (f x) (flat_map f xs) (h x) (joined f h xs)
@@ -47,7 +47,7 @@ repeated : (n : ℕ) (text : List ℕ) → IsUtf8 text → IsUtf8 (repeat n text
 repeated zero text h = IsUtf8-nil
 repeated (suc n) text h = IsUtf8-append text (repeat n text) h (repeated n text h)
 
--- what stands on either side of a line feed
+-- the parts before and after a line feed are UTF-8
 beside_feed : (a b : List ℕ) → IsUtf8 (a ++ 10 ∷ b) → IsUtf8 a × IsUtf8 b
 beside_feed a b h =
     let seam = get_or-append_seam a 10 b 0 in
@@ -57,7 +57,7 @@ beside_feed a b h =
       subst IsUtf8 (drop-append-add a (10 ∷ b) 1) (IsUtf8-drop (a ++ 10 ∷ b) (length a + 1) h (IsCharBoundary-after_ascii (a ++ 10 ∷ b) (length a) h within low)),
     )
 
--- after the line feeds of UTF-8 UTF-8 is inserted; seen is what stands before the text
+-- UTF-8 inserted after the line feeds of UTF-8 gives UTF-8; seen is the part before the text
 inserted_behind : (inserted : List ℕ) → IsUtf8 inserted → (seen text : List ℕ) → IsUtf8 (seen ++ text) → IsUtf8 (seen ++ with_inserted inserted text)
 inserted_behind inserted i seen [] h = h
 inserted_behind inserted i seen (b ∷ text) h = elim (is_feed b) [
@@ -83,7 +83,7 @@ painted : (style : StyleValue) (text : List ℕ) → IsUtf8 text → IsUtf8 (pai
 painted style text h =
     IsUtf8-append (front_codes style ++ text) (back_codes style) (IsUtf8-append (front_codes style) text (IsUtf8-front_codes style) h) (reset (style_codes style))
 
--- pieces and a mark
+-- the pieces and the marker are UTF-8
 record AreUtf8 (look : Look) : Type 0 where
   turning : (last : Bool) → IsUtf8 (turning_piece look.pieces last)
   passing : (last : Bool) → IsUtf8 (passing_piece look.pieces last)
@@ -128,7 +128,7 @@ of_config config =
       mark = IsUtf8-string_bytes config.continued;
     }
 
--- the drawing of an item whose texts are UTF-8
+-- the drawing of an item with UTF-8 texts is UTF-8
 pub IsUtf8-drawing : (config : PrintConfig) (x : Shape) (depth : ℕ) (bytes : List ℕ) → HasUtf8Texts (written_look config) x → IsDrawing (written_look config) x depth bytes → IsUtf8 bytes
 IsUtf8-drawing config x depth bytes h drawn =
     subst IsUtf8 (sym drawn.2) (joined (entry_text (written_look config) x) (entered (written_look config) (of_config config) x h) drawn.0)
@@ -142,7 +142,7 @@ texts_in : {X : Type 0} (look : Look) (shape : X → Shape) (a : Address) → ((
 texts_in look shape a h None = IsUtf8-nil
 texts_in look shape a h (Some x) = h x
 
--- items whose own bytes are UTF-8, over children of their own type
+-- items whose own bytes are UTF-8, over children of the same type
 pub texts_of_kids : {X : Type 0} (look : Look) (shape : X → Shape) (below : X → List X) → ((x : X) → IsUtf8 ((shape x).own [] look.leaf)) → ((x : X) → kids (shape x) ≡ map shape (below x))
     → (x : X) → HasUtf8Texts look (shape x)
 texts_of_kids look shape below own same x [] = own x
@@ -150,7 +150,7 @@ texts_of_kids look shape below own same x (i ∷ a) =
     subst (λ o. IsUtf8 (own_in look a o)) (sym (ap (λ ks. slice_get ks i) (same x) ∙ slice_get-map shape (below x) i))
     (texts_in look shape a (λ y. texts_of_kids look shape below own same y a) (slice_get (below x) i))
 
--- items of a text, as `LentItem` and `MadeItem` make them
+-- items with a text, as `LentItem` and `MadeItem` make them
 pub texts_of_texts : {X : Type 0} (look : Look) (text : X → List ℕ) (below : X → List X) → ((x : X) → IsUtf8 (text x)) → (x : X) → HasUtf8Texts look (text_shape text below x)
 texts_of_texts look text below h x =
     texts_of_kids look (text_shape text below) below (λ y. painted look.leaf (text y) (h y)) (λ y. sym (kids_of_unfold (text_own text) below y)) x

@@ -10,9 +10,11 @@ use Rattle.ptree.proofs.Unfold.{kids_of_unfold}
 use Rattle.ptree.specs.Value.{data_of, items_meant, entries_meant}
 use Rattle.ptree.specs.declared.value.Value.{Value, Option, Map, the_lemmas}
 
+-- the data of an option that holds a value
 pub data_of-Some : (b : Box Value Global) → data_of (Option (Some b)) ≡ d.something (data_of b.value)
 data_of-Some b = search (rules, the_lemmas)
 
+-- the data of a map
 pub data_of-Map : (v : Vec (Value × Value) Global) → data_of (Map v) ≡ d.map (entries_meant v.items)
 data_of-Map v = search (rules, the_lemmas)
 
@@ -26,7 +28,7 @@ pub entry_pairs-meant : (es : List (Value × Value)) → entry_pairs (entries_me
 entry_pairs-meant [] = refl
 entry_pairs-meant (e ∷ es) = rw (entry_pairs-meant es) refl
 
--- what is below an entry is what is below its value, which only a list or a map has
+-- the children of an entry are those of its value, which only a list or a map has
 pub entry_pair-below : (key value : Data) → value_pairs (entry_pair key value).1 ≡ value_pairs value
 entry_pair-below key (d.boolean b) = refl
 entry_pair-below key (d.u8 n) = refl
@@ -80,13 +82,15 @@ entry_pair-list key value h = rw h (labelled (value_text key) (list_text value h
 pub entry_pair-simple : (key value : Data) → is_list value ≡ false → pair_text (entry_pair key value) ≡ value_text key ++ codes " = " ++ value_text value
 entry_pair-simple key value h = rw h refl
 
+-- without a label, a pair's text is the value's
 pub empty_label : (label : List ℕ) (value : Data) → label ≡ [] → pair_text (label, value) ≡ value_text value
 empty_label label value e = rw e refl
 
+-- with a label, a pair's text is the label
 pub some_label : (label : List ℕ) (value : Data) → label ≢ [] → pair_text (label, value) ≡ label
 some_label [] value h = absurd (h refl)
 some_label (c ∷ label) value h = refl
 
--- the children's shapes, where these are the children
+-- the shapes of the children, given the children
 pub kids_of_pair : {X : Type 0} (f : X → Pair) (p : Pair) (xs : List X) → map f xs ≡ value_pairs p.1 → map (λ x. pair_shape (f x)) xs ≡ kids (pair_shape p)
 kids_of_pair f p xs h = map_twice f pair_shape xs ∙ ap (map pair_shape) h ∙ kids_of_unfold pair_own pair_below p

@@ -94,7 +94,7 @@ utf_dashed = record {
   empty = 32 ∷ [];
 }
 
--- one of the shipped sets other than the one with a backquote
+-- a shipped set other than the one with a backquote
 abbrev pub IsShippedWithoutTicks : Characters → Type 0
 IsShippedWithoutTicks c = (c ≡ ascii_plus) ⊎ ((c ≡ utf) ⊎ ((c ≡ utf_double) ⊎ ((c ≡ utf_bold) ⊎ (c ≡ utf_dashed))))
 
@@ -102,12 +102,12 @@ IsShippedWithoutTicks c = (c ≡ ascii_plus) ⊎ ((c ≡ utf) ⊎ ((c ≡ utf_do
 abbrev pub IsShipped : Characters → Type 0
 IsShipped c = (c ≡ ascii_tick) ⊎ IsShippedWithoutTicks c
 
--- a text is this word, in its own spelling or in any ASCII case
+-- a text is this word, exactly or in any ASCII case
 abbrev pub is_spelled : Spelling → List ℕ → List ℕ → Bool
 is_spelled Exact text word = bytes_eq text word
 is_spelled AnyCase text word = str_eq_ignore_ascii_case text word
 
--- the set of a name
+-- the set with a name
 abbrev pub set_spelled : Spelling → List ℕ → Option Characters
 set_spelled spelling name =
     if is_spelled spelling name (codes "utf") then Some utf else
@@ -118,6 +118,6 @@ set_spelled spelling name =
     if is_spelled spelling name (codes "utf-dashed") then Some utf_dashed else
     if is_spelled spelling name (codes "utf-double") then Some utf_double else None
 
--- the set of a name, exactly as spelled
+-- the set with a name, exactly as spelled
 abbrev pub set_named : List ℕ → Option Characters
 set_named = set_spelled Exact

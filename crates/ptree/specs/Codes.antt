@@ -1,4 +1,4 @@
--- What the functions that gather codes say.
+-- What the private functions that gather codes refer to.
 use Rattle.std.specs.Prelude.{◌≡◌, ⊤, ℕ, ◌+◌, ◌<◌, true, List, length, slice_index, take, flat_map}
 use Rattle.std.specs.Char.{is_ascii_hexdigit}
 use Rattle.ptree.specs.declared.codes.Codes.{Codes}
@@ -11,16 +11,16 @@ IsOfEight (Eight k) = k < 8
 IsOfEight (Indexed n) = ⊤
 IsOfEight (Direct r g b) = ⊤
 
--- two hexadecimal digits stand at a place and behind it
+-- there are two hexadecimal digits, at a place and the next one
 pub record HasHexDigits (bytes : List ℕ) (at : ℕ) : Type 0 where
   pub room : at + 1 < length bytes
   pub high : is_ascii_hexdigit (slice_index bytes at) ≡ true
   pub low : is_ascii_hexdigit (slice_index bytes (at + 1)) ≡ true
 
--- the bytes that are gathered
+-- the bytes gathered so far
 abbrev pub gathered_codes : Codes → List ℕ
 gathered_codes c = take c.len c.bytes
 
--- codes, one behind the other
+-- codes, one after the other
 abbrev pub joined_codes : List (List ℕ) → List ℕ
 joined_codes codes = flat_map (λ code. code) codes

@@ -1,5 +1,6 @@
--- Colours: the parameters of their codes, and the names that are known. Single parameters are those of ECMA-48, SELECT GRAPHIC
--- RENDITION; the forms with 38 and 48 are xterm's, and the rules for names are this crate's own.
+-- Colours: the parameters of their codes, and the known names. Single parameters are those of
+-- ECMA-48, SELECT GRAPHIC RENDITION; the forms with 38 and 48 are xterm's, and the rules for names
+-- are this crate's own.
 use Rattle.std.specs.Prelude.{◌⊎◌, ℕ, ◌+◌, ◌*◌, ◌==◌, ◌&&◌, Bool, if◌then◌else◌, List, [], ◌∷◌, Option, Some, None, option_map, codes, length, drop, slice_index, position, find, bytes_eq, string_bytes}
 use Rattle.std.proofs.Common.{inl, inr}
 use Rattle.std.specs.Char.{digit_value, is_ascii_hexdigit}
@@ -13,11 +14,11 @@ use Rattle.ptree.specs.declared.colors.Tone.TheVariants.{Eight, Indexed, Direct}
 use Rattle.ptree.specs.declared.style.Color.{Color}
 use Rattle.ptree.specs.declared.style.Color.TheVariants.{Black, Red, Green, Yellow, Blue, Purple, Cyan, White, Fixed, RGB, Named}
 
--- a colour, or the bytes of a name
+-- a colour, with a name by its bytes
 abbrev pub ColorValue : Type 0
 ColorValue = Color ⊎ List ℕ
 
--- what a colour holds
+-- the value of a colour
 abbrev pub color_value : Color → ColorValue
 color_value (Named name) = inr (string_bytes name)
 color_value color = inl color
@@ -27,7 +28,8 @@ abbrev pub base : Side → ℕ
 base Foreground = 30
 base Background = 40
 
--- the parameter on a side behind which a number of the terminal's table stands, or red, green and blue
+-- the parameter on a side that comes before a number of the terminal's table, or before red, green
+-- and blue
 abbrev pub extended : Side → ℕ
 extended Foreground = 38
 extended Background = 48
@@ -43,7 +45,7 @@ abbrev pub color_words : List (List ℕ)
 color_words =
     codes "black" ∷ codes "red" ∷ codes "green" ∷ codes "yellow" ∷ codes "blue" ∷ codes "purple" ∷ codes "cyan" ∷ codes "white" ∷ []
 
--- one of the eight words, exactly
+-- the tone of one of the eight words, exactly spelled
 abbrev pub word_tone : List ℕ → Option Tone
 word_tone name = option_map Eight (position (λ word. bytes_eq word name) color_words)
 
@@ -51,11 +53,11 @@ word_tone name = option_map Eight (position (λ word. bytes_eq word name) color_
 abbrev pub is_hex_name : List ℕ → Bool
 is_hex_name name = (length name == 7) && (slice_index name 0 == 35) && list_all is_ascii_hexdigit (drop 1 name)
 
--- the byte of the two digits from a place on
+-- the byte of the two digits at a place
 abbrev pub hex_byte : List ℕ → ℕ → ℕ
 hex_byte name at = 16 * digit_value (slice_index name at) + digit_value (slice_index name (at + 1))
 
--- the bytes of red, green and blue in digits
+-- the tone of the six digits: bytes of red, green and blue
 abbrev pub hex_tone : List ℕ → Option Tone
 hex_tone name = if is_hex_name name then Some (Direct (hex_byte name 1) (hex_byte name 3) (hex_byte name 5)) else None
 
@@ -80,15 +82,15 @@ named_colors =
     ∷ named_color (codes "navy") 0 0 128 ∷ named_color (codes "blue") 0 0 255 ∷ named_color (codes "teal") 0 128 128
     ∷ named_color (codes "aqua") 0 255 255 ∷ named_color (codes "steelblue") 70 130 180 ∷ named_color (codes "mediumseagreen") 60 179 113 ∷ []
 
--- one of those names, in any ASCII case
+-- the tone of one of those names, in any ASCII case
 abbrev pub table_tone : List ℕ → Option Tone
 table_tone name = option_map (λ c. Direct c.red c.green c.blue) (find (λ c. str_eq_ignore_ascii_case c.name name) named_colors)
 
--- the tone that a text names, by the first rule that fits
+-- the tone that a text names, by the first rule that matches
 unfoldable pub named_tone : List ℕ → Option Tone
 named_tone name = option_or (word_tone name) (option_or (hex_tone name) (table_tone name))
 
--- the tone of a colour, which an unknown name hasn't
+-- the tone of a colour; an unknown name has none
 abbrev pub tone_of : ColorValue → Option Tone
 tone_of (inl Black) = Some (Eight 0)
 tone_of (inl Red) = Some (Eight 1)

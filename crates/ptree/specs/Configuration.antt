@@ -1,4 +1,4 @@
--- What a configuration holds, texts by their bytes.
+-- The value of a configuration, with texts by their bytes.
 use Rattle.std.specs.Prelude.{ℕ, true, List}
 use Rattle.ptree.specs.declared.print_config.PrintConfig.{PrintConfig}
 use Rattle.ptree.specs.declared.print_config.StyleWhen.{StyleWhen}
@@ -8,7 +8,7 @@ use Rattle.ptree.specs.Config.{default_mark}
 use Rattle.ptree.specs.Pieces.{mark_of}
 use Rattle.ptree.specs.Style.{StyleValue, style_value, plain_value}
 
--- a configuration, texts by their bytes
+-- the value of a configuration
 pub record Configuration : Type 0 where
   pub depth : ℕ
   pub indent : ℕ
@@ -19,7 +19,7 @@ pub record Configuration : Type 0 where
   pub leaf : StyleValue
   pub continued : List ℕ
 
--- what a configuration holds
+-- the value that a configuration holds
 abbrev pub config_value : PrintConfig → Configuration
 config_value config = record {
   depth = config.depth;
@@ -32,7 +32,7 @@ config_value config = record {
   continued = mark_of config;
 }
 
--- the default
+-- the default configuration
 abbrev pub default_configuration : Configuration
 default_configuration = record {
   depth = 4294967295;

@@ -1,11 +1,11 @@
--- Which lines a drawing begins with.
+-- Which lines are the first lines of a drawing.
 use Rattle.std.specs.Prelude.{◌≤◌, ◌-◌, ◌+◌, ℕ, zero, suc, nat_eq, if◌then◌else◌, List, [], ◌∷◌, ◌++◌}
 use Rattle.ptree.specs.Drawing.{Look}
 use Rattle.ptree.specs.DrawnForm.{IsDrawnForm}
 use Rattle.ptree.specs.Text.{line_feed}
 use Rattle.ptree.specs.Tree.{Tree}
 
--- some drawing within the depth begins with front
+-- front is a prefix of some drawing within the depth
 abbrev pub HasContinuation : Look → ℕ → List ℕ → Type 0
 HasContinuation look depth front = (t : Tree) × (rest : List ℕ) × IsDrawnForm look depth (front ++ rest) t
 
@@ -15,19 +15,19 @@ first_lines zero x = []
 first_lines (suc n) [] = []
 first_lines (suc n) (b ∷ x) = b ∷ first_lines (if nat_eq b line_feed then n else suc n) x
 
--- how many lines of x end in a line feed
+-- the number of lines of x that end in a line feed
 abbrev pub line_count : List ℕ → ℕ
 line_count [] = 0
 line_count (b ∷ x) = if nat_eq b line_feed then 1 + line_count x else line_count x
 
--- line n of x, counted from 1, is the first that no drawing goes on with
+-- line n of x, counted from 1, is the first that cannot continue a drawing
 pub record IsFirstWrongLine (look : Look) (depth : ℕ) (x : List ℕ) (n : ℕ) : Type 0 where
   pub low : 1 ≤ n
   pub high : n ≤ line_count x
   pub before : HasContinuation look depth (first_lines (n - 1) x)
   pub wrong : HasContinuation look depth (first_lines n x) → ⊥
 
--- a drawing begins with the whole lines of x, and x is none
+-- the whole lines of x are a prefix of a drawing, and x is not a drawing
 pub record EndsWrong (look : Look) (depth : ℕ) (x : List ℕ) : Type 0 where
   pub lines : HasContinuation look depth (first_lines (line_count x) x)
   pub wrong : (t : Tree) → IsDrawnForm look depth x t → ⊥

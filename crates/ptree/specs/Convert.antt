@@ -1,4 +1,4 @@
--- What values a JSON and a TOML value give.
+-- How JSON and TOML values are converted.
 use Rattle.std.specs.Option.{option_or, option_map_or}
 use Rattle.std.specs.Prelude.{if◌then◌else◌, Option, Some, None, Result, Ok, Err}
 use Rattle.serde_json.specs.Data as json
@@ -8,8 +8,8 @@ use Rattle.ptree.specs.Data.{Data, boolean, u64, i64, string, unit, seq, map, It
 use Rattle.ptree.specs.declared.value.convert.ConvertError.{ConvertError}
 use Rattle.ptree.specs.declared.value.convert.ConvertError.TheVariants.{Float, Date}
 
--- The first float or date that the walk of a TOML value meets: lists in order, and tables in the order of their members, whose keys
--- ascend.
+-- The first float or date in a TOML value, walking lists in order and tables in the order of their
+-- members, whose keys ascend.
 abbrev mutual
   pub toml_fault : toml.Data → Option ConvertError
   toml_fault (toml.float x) = Some Float
@@ -26,7 +26,8 @@ abbrev mutual
   toml_member_fault toml.no_members = None
   toml_member_fault (toml.member k d ms) = option_or (toml_fault d) (toml_member_fault ms)
 
--- JSON: null is the unit, and objects are maps whose keys are texts. A float, which has no value, is taken for the unit.
+-- JSON: null is the unit, and objects are maps whose keys are texts. A float has no value, and is
+-- replaced by the unit.
 abbrev mutual
   pub json_data : json.Data → Data
   json_data json.null = unit
@@ -46,7 +47,8 @@ abbrev mutual
   json_entries json.no_members = no_entries
   json_entries (json.member k d ms) = entry (string k) (json_data d) (json_entries ms)
 
--- TOML: tables are maps whose keys are texts. A float or a date, which has no value, is taken for the unit.
+-- TOML: tables are maps whose keys are texts. A float or a date has no value, and is replaced by
+-- the unit.
 abbrev mutual
   pub toml_data : toml.Data → Data
   toml_data (toml.string s) = string s
@@ -65,10 +67,10 @@ abbrev mutual
   toml_entries toml.no_members = no_entries
   toml_entries (toml.member k d ms) = entry (string k) (toml_data d) (toml_entries ms)
 
--- what a JSON value gives: a refusal where a float stands in it, else a value
+-- the value of a JSON value, or an error if it holds a float
 abbrev pub json_conversion : json.Data → Result Data ConvertError
 json_conversion d = if has_float d then Err Float else Ok (json_data d)
 
--- what a TOML value gives: a refusal by the first float or date in it, else a value
+-- the value of a TOML value, or an error for the first float or date in it
 abbrev pub toml_conversion : toml.Data → Result Data ConvertError
 toml_conversion d = option_map_or Err (toml_fault d) (Ok (toml_data d))

@@ -7,7 +7,8 @@ use Rattle.std.specs.Ordering.{nat_cmp}
 use Rattle.ptree.specs.Shape.{Shape, unfolded_shape}
 use Rattle.ptree.specs.Style.{StyleValue, painted_text}
 
--- A value, whatever its place in memory: texts and bytes are lists of bytes, and a character is its code point.
+-- A value, independent of its place in memory: texts and bytes are lists of bytes, and a character
+-- is its code point.
 mutual
   pub data Data : Type 0 where
     boolean : Bool → Data
@@ -39,7 +40,7 @@ mutual
     no_entries : Entries
     entry : (key value : Data) → Entries → Entries
 
--- A value's text. Numbers are decimal; what has no case of its own has the empty text.
+-- A value's text. Numbers are decimal. A value without a case here has the empty text.
 abbrev pub value_text : Data → List ℕ
 value_text (boolean b) = if b then codes "true" else codes "false"
 value_text (u8 n) = decimal n
@@ -61,7 +62,7 @@ abbrev pub key_texts : Entries → List (List ℕ)
 key_texts no_entries = []
 key_texts (entry key value es) = value_text key ∷ key_texts es
 
--- the keys of each map within ascend, by the bytes of their texts, and none stands twice
+-- the keys of each map in the value ascend, by the bytes of their texts, and none occurs twice
 abbrev mutual
   pub KeysAscend : Data → Type 0
   KeysAscend (something x) = KeysAscend x
@@ -78,7 +79,7 @@ abbrev mutual
   ValuesAscend no_entries = ⊤
   ValuesAscend (entry key value es) = KeysAscend value × ValuesAscend es
 
--- a list or a map
+-- whether a value is a list or a map
 abbrev pub is_list : Data → Bool
 is_list (seq xs) = true
 is_list (map es) = true
@@ -88,28 +89,29 @@ is_list _ = false
 abbrev pub Pair : Type 0
 Pair = List ℕ × Data
 
--- each element of a list, without a label
+-- the pairs of a list: each element, without a label
 abbrev pub item_pairs : Items → List Pair
 item_pairs no_items = []
 item_pairs (item x xs) = ([], x) ∷ item_pairs xs
 
--- a list or a map with its key as the label; any other value as the text `key = value`
+-- the pair of an entry: a list or a map has its key as the label; any other value is the text `key
+-- = value`
 abbrev pub entry_pair : Data → Data → Pair
 entry_pair key value =
     if is_list value then (value_text key, value) else ([], string (value_text key ++ codes " = " ++ value_text value))
 
--- each entry of a map
+-- the pairs of a map, one for each entry
 abbrev pub entry_pairs : Entries → List Pair
 entry_pairs no_entries = []
 entry_pairs (entry key value es) = entry_pair key value ∷ entry_pairs es
 
--- the children of a value, which only a list or a map has
+-- the children of a value; only a list or a map has any
 abbrev pub value_pairs : Data → List Pair
 value_pairs (seq xs) = item_pairs xs
 value_pairs (map es) = entry_pairs es
 value_pairs _ = []
 
--- a pair's text: the label, and the value's text where the label is empty
+-- a pair's text: the label, or the value's text if the label is empty
 abbrev pub pair_text : Pair → List ℕ
 pair_text ([], value) = value_text value
 pair_text (c ∷ label, value) = c ∷ label
@@ -122,10 +124,10 @@ pair_own p style = painted_text style (pair_text p)
 abbrev pub pair_below : Pair → List Pair
 pair_below p = value_pairs p.1
 
--- a label and a value as an item's meaning
+-- the shape of a label and a value
 abbrev pub pair_shape : Pair → Shape
 pair_shape p = unfolded_shape pair_own pair_below p
 
--- a value as an item's meaning: that of the value under an empty label
+-- the shape of a value: that of the value under an empty label
 abbrev pub value_shape : Data → Shape
 value_shape value = pair_shape ([], value)

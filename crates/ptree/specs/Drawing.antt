@@ -1,4 +1,5 @@
--- A drawing, by the addresses of a shape. No definition here goes over the output: each entry is a function of its own address.
+-- A drawing, by the addresses of a shape. No definition here recurses over the output: each entry
+-- is a function of its own address.
 use Rattle.std.specs.Prelude.{◌≡◌, ℕ, Bool, false, if◌then◌else◌, nat_eq, List, [], ◌∷◌, ◌++◌, flat_map, option_map, unwrap_or}
 use Rattle.ptree.specs.declared.print_config.OutputKind.{OutputKind}
 use Rattle.ptree.specs.declared.print_config.OutputKind.TheVariants.{Unknown}
@@ -11,22 +12,24 @@ use Rattle.ptree.specs.Shape.{Shape, kids}
 use Rattle.ptree.specs.Style.{StyleValue, plain_value, painted_text}
 use Rattle.ptree.specs.Text.{line_feed}
 
--- how a drawing looks: the effective styles, the pieces, and the mark before an item's further lines
+-- how a drawing looks: the effective styles, the pieces, and the marker before an item's further
+-- lines
 pub record Look : Type 0 where
   pub branch : StyleValue
   pub leaf : StyleValue
   pub pieces : Pieces
   pub mark : List ℕ
 
--- the look of two styles, pieces and a mark
+-- the look of two styles, pieces and a marker
 abbrev pub look_from : StyleValue → StyleValue → Pieces → List ℕ → Look
 look_from branch leaf pieces mark = record { branch = branch; leaf = leaf; pieces = pieces; mark = mark }
 
--- a style where output is styled, else the plain one
+-- a style if output is styled, else the plain one
 abbrev pub effective_style : Bool → StyleValue → StyleValue
 effective_style styled style = if styled then style else plain_value
 
--- the look that what a configuration holds gives output of a kind, where standard output is a terminal or not
+-- the look that a configuration's value gives output of a kind; the last argument says whether
+-- standard output is a terminal
 abbrev pub look_by : Configuration → OutputKind → Bool → Look
 look_by value kind terminal =
     let styled = is_styled value.styled kind terminal in
@@ -36,32 +39,33 @@ look_by value kind terminal =
 abbrev pub look_of : PrintConfig → OutputKind → Bool → Look
 look_of config = look_by (config_value config)
 
--- the look that a configuration gives what isn't standard output
+-- the look that a configuration gives output other than standard output
 abbrev pub written_look : PrintConfig → Look
 written_look config = look_of config Unknown false
 
--- a passing piece for each nonempty beginning
+-- the passing text of an address: a passing piece for each nonempty prefix of it
 abbrev pub passing_text : Look → Shape → Address → List ℕ
 passing_text look x a = flat_map (λ b. passing_piece look.pieces (is_last kids x b)) (beginnings a)
 
--- nothing for the root, else the parent's passing text and a turning piece
+-- the prefix of an address: empty for the root, else the parent's passing text and a turning piece
 abbrev pub prefix_text : Look → Shape → Address → List ℕ
 prefix_text look x [] = []
 prefix_text look x (i ∷ rest) = passing_text look x (parent (i ∷ rest)) ++ turning_piece look.pieces (is_last kids x (i ∷ rest))
 
--- a text with this inserted after each of its line feeds
+-- a text with another one inserted after each of its line feeds
 abbrev pub with_inserted : List ℕ → List ℕ → List ℕ
 with_inserted inserted text = flat_map (λ b. if nat_eq b line_feed then line_feed ∷ inserted else b ∷ []) text
 
--- what stands before a further line of an item: its passing text and the mark, painted as branches are
+-- the text before a further line of an item: its passing text and the marker, painted as branches
 abbrev pub continued_prefix : Look → List ℕ → List ℕ
 continued_prefix look passing = painted_text look.branch (passing ++ look.mark)
 
--- the painted prefix, the own bytes with the prefix of further lines after each of their line feeds, and a line feed
+-- the painted prefix, the own bytes with the prefix of further lines after each of their line
+-- feeds, and a line feed
 abbrev pub entry_from : Look → List ℕ → List ℕ → List ℕ → List ℕ
 entry_from look prefix passing own = painted_text look.branch prefix ++ with_inserted (continued_prefix look passing) own ++ line_feed ∷ []
 
--- the own bytes of what stands at an address
+-- the own bytes of the item at an address
 abbrev pub own_at : Look → Shape → Address → List ℕ
 own_at look x a = unwrap_or (option_map (λ y. y.own [] look.leaf) (at kids x a)) []
 

@@ -1,4 +1,5 @@
--- The entries of a drawing by recursion, as the engine's private functions say them. Public contracts say them by addresses.
+-- The entries of a drawing by recursion, for the engine's private functions. Public contracts use
+-- addresses instead.
 use Rattle.std.specs.Prelude.{ℕ, zero, suc, Bool, true, false, List, [], ◌∷◌, ◌++◌}
 use Rattle.ptree.specs.Drawing.{Look, entry_from}
 use Rattle.ptree.specs.Pieces.{turning_piece, passing_piece}
@@ -9,11 +10,11 @@ abbrev pub is_empty : {X : Type 0} → List X → Bool
 is_empty [] = true
 is_empty (x ∷ xs) = false
 
--- the entry of x behind this prefix, with this passing text
+-- the entry of x after this prefix, with this passing text
 abbrev pub entry_of : Look → List ℕ → List ℕ → Shape → List ℕ
 entry_of look prefix passing x = entry_from look prefix passing (x.own [] look.leaf)
 
--- the entries of an item and, by below, of what is under it, behind its parent's passing text
+-- the entry of an item and, by below, the entries under it, after its parent's passing text
 abbrev pub with_below : Look → (List ℕ → Shape → List (List ℕ)) → List ℕ → Bool → Shape → List (List ℕ)
 with_below look below front last x =
     entry_of look (front ++ turning_piece look.pieces last) (front ++ passing_piece look.pieces last) x ∷ below (front ++ passing_piece look.pieces last) x
@@ -23,7 +24,7 @@ abbrev pub kid_entries : Look → (List ℕ → Shape → List (List ℕ)) → L
 kid_entries look below front [] = []
 kid_entries look below front (c ∷ cs) = with_below look below front (is_empty cs) c ++ kid_entries look below front cs
 
--- the entries under x, down to so many levels
+-- the entries under x, down to a number of levels
 abbrev pub entries_below : Look → ℕ → List ℕ → Shape → List (List ℕ)
 entries_below look zero front x = []
 entries_below look (suc levels_left) front x = kid_entries look (entries_below look levels_left) front (kids x)
@@ -32,6 +33,6 @@ entries_below look (suc levels_left) front x = kid_entries look (entries_below l
 abbrev pub item_entries : Look → ℕ → List ℕ → Bool → Shape → List (List ℕ)
 item_entries look levels_left front last x = with_below look (entries_below look levels_left) front last x
 
--- the entries of a root and of what is under it
+-- the entries of a root and of the items under it
 abbrev pub drawn_entries : Look → ℕ → Shape → List (List ℕ)
 drawn_entries look depth x = entry_of look [] [] x ∷ entries_below look depth [] x

@@ -1,4 +1,5 @@
--- The tests that `==` computes: all fields are equal, texts by their bytes, wherever these lie.
+-- The tests that `==` computes: all fields are equal. Texts are compared by their bytes, wherever
+-- these are in memory.
 use Rattle.std.specs.Prelude.{Bool, true, false, ◌&&◌, ◌==◌, string_bytes}
 use Rattle.std.specs.Option.{option_eq}
 use Rattle.std.specs.Str.{bytes_eq}
@@ -48,7 +49,7 @@ same_config a b =
     && same_characters (characters_of a.characters) (characters_of b.characters) && same_style a.branch b.branch
     && same_style a.leaf b.leaf && bytes_eq (mark_of a) (mark_of b)
 
--- the same trees side by side
+-- the same lists of trees
 abbrev pub same_forest : Forest → Forest → Bool
 same_forest none none = true
 same_forest none (item u d s) = false

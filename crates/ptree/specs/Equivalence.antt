@@ -106,7 +106,7 @@ tree_decided t u =
       λ e. parts.1 (ap (λ (z : Tree). z.text) e, ap (λ (z : Tree). z.children) e),
     )
 
--- a test that decides whether two values hold the same is an equivalence
+-- a test that decides whether two values are equal is an equivalence
 equivalence : {X V : Type 0} (value : X → V) (same : X → X → Bool) → ((a b : X) → IsTrue (same a b) ↔ (value a ≡ value b)) → IsEquivalence same
 equivalence value same decided =
     record {
@@ -116,7 +116,7 @@ equivalence value same decided =
           (λ g. (decided b c).1 (sym ((decided a b).0 h) ∙ (decided a c).0 g)) (λ g. (decided a c).1 ((decided a b).0 h ∙ (decided b c).0 g));
     }
 
--- `==` of characters, under what they hold
+-- `==` of characters is an equivalence, whatever value holds them
 pub characters_equivalence : {X : Type 0} (value : X → Characters) → IsEquivalence (on value same_characters)
 characters_equivalence value = equivalence value (on value same_characters) (λ a b. characters_decided (value a) (value b))
 

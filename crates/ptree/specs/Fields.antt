@@ -1,4 +1,4 @@
--- The fields of a configuration: their names in variables and in files, and what they take.
+-- The fields of a configuration: their names in variables and in files, and the values they accept.
 use Rattle.std.specs.Prelude.{ℕ, List, [], ◌∷◌, ◌++◌, map, Contains, Option, Some, None, codes}
 use Rattle.std.specs.Str.{str_to_ascii_uppercase}
 use Rattle.ptree.specs.declared.print_config.fields.Part.{Part}
@@ -43,7 +43,7 @@ field_key Empty = codes "empty"
 field_key (Paint part field) = style_key field
 field_key Continued = codes "continued"
 
--- the key of the table that a field stands in, if it stands in one
+-- the key of the table that holds a field, if there is one
 abbrev pub table_key : Field → Option (List ℕ)
 table_key DownAndRight = Some (codes "characters")
 table_key Down = Some (codes "characters")
@@ -53,22 +53,23 @@ table_key Empty = Some (codes "characters")
 table_key (Paint part field) = Some (part_key part)
 table_key _ = None
 
--- a table's key before a field's, with `_` between
+-- a field's key after a table's, with `_` between
 abbrev pub behind_table : Option (List ℕ) → List ℕ → List ℕ
 behind_table None key = key
 behind_table (Some table) key = table ++ codes "_" ++ key
 
--- the name of a field's variable: ptree, the key of its table and its own, with `_` between, in upper case
+-- the name of a field's variable: ptree, the key of its table and its own key, with `_` between, in
+-- upper case
 abbrev pub variable_name : Field → List ℕ
 variable_name field = str_to_ascii_uppercase (codes "ptree_" ++ behind_table (table_key field) (field_key field))
 
--- what a field of a style takes
+-- what a field of a style accepts
 abbrev pub style_kind : StyleField → Kind
 style_kind Foreground = Color
 style_kind Background = Color
 style_kind _ = Flag
 
--- what a field takes
+-- what a field accepts
 abbrev pub kind_of : Field → Kind
 kind_of Depth = Whole 4294967295
 kind_of Indent = Whole 18446744073709551615
@@ -89,6 +90,6 @@ all_fields =
     Depth ∷ Indent ∷ Padding ∷ Styled ∷ Characters ∷ DownAndRight ∷ Down ∷ TurnRight ∷ Right ∷ Empty
     ∷ map (Paint Branch) all_style_fields ++ map (Paint Leaf) all_style_fields ++ Continued ∷ []
 
--- each value of a type is in this list
+-- each value of a type is in the list
 abbrev pub HasEach : {A : Type 0} → List A → Type 0
 HasEach {A} list = (value : A) → Contains list value

@@ -1,4 +1,4 @@
--- What the values of a file say, in either format.
+-- What the values of a configuration file mean, in either format.
 use Rattle.std.specs.Prelude.{ℕ, ℤ, pos, negsuc, Bool, false, if◌then◌else◌, List, Option, Some, None, is_some, option_map, option_and_then, unwrap_or, codes, nat_le}
 use Rattle.std.proofs.Common.{inl, inr}
 use Rattle.std.specs.Option.{option_or}
@@ -18,50 +18,50 @@ pub data Node : Type 0 where
   json : j.Data → Node
   toml : t.Data → Node
 
--- the value at a key, exactly as spelled, where this is a table that has it
+-- the value at a key, exactly as spelled, if the value is a table that has the key
 abbrev pub get : List ℕ → Node → Option Node
 get key (json d) = option_map json (jf.get key d)
 get key (toml d) = option_map toml (t.get key d)
 
--- a table of TOML, or an object of JSON
+-- whether a value is a table of TOML, or an object of JSON
 abbrev pub is_table : Node → Bool
 is_table (json d) = is_some (jf.as_object d)
 is_table (toml d) = is_some (t.as_table d)
 
--- a text
+-- the text, if a value is one
 abbrev pub as_text : Node → Option (List ℕ)
 as_text (json d) = jf.as_str d
 as_text (toml d) = t.as_str d
 
--- true or false
+-- true or false, if a value is one of them
 abbrev pub as_flag : Node → Option Bool
 as_flag (json d) = jf.as_bool d
 as_flag (toml d) = t.as_bool d
 
--- null, which TOML hasn't
+-- whether a value is null, which TOML does not have
 abbrev pub is_null : Node → Bool
 is_null (json d) = is_some (jf.as_null d)
 is_null (toml d) = false
 
--- a number that isn't negative
+-- a number, if it is not negative
 abbrev pub natural : ℤ → Option ℕ
 natural (pos n) = Some n
 natural (negsuc n) = None
 
--- a whole number that isn't negative
+-- the whole number, if a value is one that is not negative
 abbrev pub as_whole : Node → Option ℕ
 as_whole (json d) = option_and_then jf.as_u64 (jf.as_number d)
 as_whole (toml d) = option_and_then natural (t.as_integer d)
 
--- a number that is at most this one
+-- a number, if it is at most this one
 abbrev pub at_most : ℕ → ℕ → Option ℕ
 at_most greatest n = if nat_le n greatest then Some n else None
 
--- a whole number that is at most this one
+-- the whole number, if a value is one that is at most this one
 abbrev pub whole_node : ℕ → Node → Option ℕ
 whole_node greatest node = option_and_then (at_most greatest) (as_whole node)
 
--- when to style, by its word as it stands
+-- when to style, by its word exactly as spelled
 abbrev pub when_node : Node → Option StyleWhen
 when_node node = option_and_then (when_spelled Exact) (as_text node)
 
@@ -69,7 +69,7 @@ when_node node = option_and_then (when_spelled Exact) (as_text node)
 abbrev pub text_at : List ℕ → Node → List ℕ → List ℕ
 text_at key node other = unwrap_or (option_and_then as_text (get key node)) other
 
--- the characters in a table, with regular ones where it has none
+-- the characters in a table, with those of the regular set for missing ones
 abbrev pub characters_in : Node → Characters
 characters_in node = record {
   down_and_right = text_at (codes "down_and_right") node utf.down_and_right;
@@ -79,7 +79,7 @@ characters_in node = record {
   empty = text_at (codes "empty") node utf.empty;
 }
 
--- the characters in a table
+-- the characters, if a value is a table
 abbrev pub table_characters : Node → Option Characters
 table_characters node = if is_table node then Some (characters_in node) else None
 
@@ -87,30 +87,30 @@ table_characters node = if is_table node then Some (characters_in node) else Non
 abbrev pub set_node : Node → Option Characters
 set_node node = option_or (option_and_then (set_spelled Exact) (as_text node)) (table_characters node)
 
--- three numbers, where all are there
+-- three numbers, if all are there
 abbrev pub all_three : Option ℕ → Option ℕ → Option ℕ → Option (ℕ × ℕ × ℕ)
 all_three (Some r) (Some g) (Some b) = Some (r, g, b)
 all_three _ _ _ = None
 
--- a list of exactly three bytes, in JSON
+-- the numbers of a list of exactly three bytes, in JSON
 abbrev pub json_triple : j.Items → Option (ℕ × ℕ × ℕ)
 json_triple (j.item r (j.item g (j.item b j.no_items))) = all_three (whole_node 255 (json r)) (whole_node 255 (json g)) (whole_node 255 (json b))
 json_triple _ = None
 
--- and in TOML
+-- the numbers of a list of exactly three bytes, in TOML
 abbrev pub toml_triple : t.Items → Option (ℕ × ℕ × ℕ)
 toml_triple (t.item r (t.item g (t.item b t.no_items))) = all_three (whole_node 255 (toml r)) (whole_node 255 (toml g)) (whole_node 255 (toml b))
 toml_triple _ = None
 
--- a list of exactly three bytes
+-- the numbers of a list of exactly three bytes
 abbrev pub as_triple : Node → Option (ℕ × ℕ × ℕ)
 as_triple (json d) = option_and_then json_triple (jf.as_array d)
 as_triple (toml d) = option_and_then toml_triple (t.as_array d)
 
--- a byte is a colour of the table, and three bytes are red, green and blue
+-- the colour of a byte (one of the terminal's table), or of three bytes (red, green and blue)
 abbrev pub color_numbers : Node → Option Color
 color_numbers node = option_or (option_map Fixed (whole_node 255 node)) (option_map (λ t. RGB t.0 t.1 t.2) (as_triple node))
 
--- a text is a name, and numbers are a colour
+-- the colour of a text (a name), or of numbers
 abbrev pub color_node : Node → Option ColorValue
 color_node node = option_or (option_map inr (as_text node)) (option_map inl (color_numbers node))

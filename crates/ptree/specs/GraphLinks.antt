@@ -1,4 +1,4 @@
--- What the private lists of a graph keep. No public clause cites this.
+-- What the private lists of a graph satisfy. No public clause cites this.
 use Rattle.std.specs.Prelude.{◌≡◌, ℕ, zero, suc, ◌<◌, ◌==◌, List, [], ◌∷◌, length, map, reverse, take, Some, slice_get, All, if◌then◌else◌}
 use Rattle.ptree.specs.declared.graph.Edge.{Edge}
 use Rattle.ptree.specs.declared.graph.Node.{Node}
@@ -7,7 +7,8 @@ use Rattle.ptree.specs.declared.graph.Node.{Node}
 abbrev pub ends_of : Edge → ℕ × ℕ
 ends_of e = (e.source, e.target)
 
--- of edges that stand newest first, the number of the first one from v: the oldest has number 1, and 0 says that there is none
+-- the number of the first edge from v, of edges listed newest first: the oldest has number 1, and 0
+-- means that there is none
 abbrev pub first_from : List (ℕ × ℕ) → ℕ → ℕ
 first_from [] v = 0
 first_from (e ∷ older) v = if e.0 == v then suc (length older) else first_from older v
@@ -28,11 +29,12 @@ turned_first n [] = []
 turned_first zero (e ∷ edges) = e ∷ edges
 turned_first (suc n) (e ∷ edges) = (e.1, e.0) ∷ turned_first n edges
 
--- both ends of an edge are among so many nodes
+-- both ends of an edge are among the first n nodes
 abbrev pub EndsBelow : ℕ → Edge → Type 0
 EndsBelow count e = (e.source < count) × (e.target < count)
 
--- each end is a node, each node has its newest edge, and each edge the next older one from its source
+-- each end is a node, each node has the number of its newest edge, and each edge that of the next
+-- older one from its source
 pub record IsLinked {N : Type 0} (nodes : List (Node N)) (edges : List Edge) : Type 0 where
   pub ends : All (EndsBelow (length nodes)) edges
   pub newest : (v : ℕ) (n : Node N) → slice_get nodes v ≡ Some n → n.newest ≡ newest_from (map ends_of edges) v

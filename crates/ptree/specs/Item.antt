@@ -1,4 +1,4 @@
--- What items of a text mean.
+-- The shapes of items with a text.
 use Rattle.std.specs.Prelude.{ℕ, List, string_bytes}
 use Rattle.ptree.specs.declared.item.made.Text.{Text}
 use Rattle.ptree.specs.declared.item.made.Text.TheVariants.{Lent, Made}
@@ -10,14 +10,14 @@ abbrev pub text_bytes : Text → List ℕ
 text_bytes (Lent s) = s.now
 text_bytes (Made s) = string_bytes s
 
--- what an item writes: its text, painted
+-- what an item writes: its text painted
 abbrev pub text_own : {X : Type 0} → (X → List ℕ) → X → StyleValue → List ℕ
 text_own text x style = painted_text style (text x)
 
--- an item by its text, and its children of its own type
+-- the shape of an item by its text and its children of the same type
 abbrev pub text_shape : {X : Type 0} → (X → List ℕ) → (X → List X) → X → Shape
 text_shape text below = unfolded_shape (text_own text) below
 
--- a text, painted, over children
+-- the shape of a text painted over children
 abbrev pub root_shape : List ℕ → List Shape → Shape
 root_shape text cs = over_shape (λ style. painted_text style text) cs

@@ -7,40 +7,45 @@ use Rattle.ptree.specs.Style.{painted_text}
 use Rattle.ptree.specs.Text.{line_feed, HasNoLineFeed}
 use Rattle.ptree.specs.Tree.{Tree, shape_of_tree, cut_tree}
 
--- one list is the address list of x at this depth, and no other
+-- exactly one list is the address list of x at this depth
 abbrev pub HasOneList : Shape → ℕ → Type 0
 HasOneList x depth =
     (list : List Address) × IsAddressList kids x depth list × ((other : List Address) → IsAddressList kids x depth other → other ≡ list)
 
--- the drawings of x at this depth are those of x cut there, at this or any greater depth
+-- the drawings of x at this depth are those of x cut at this depth, drawn at this or any greater
+-- depth
 abbrev pub HasCuts : Look → Shape → ℕ → Type 0
 HasCuts look x depth =
     (deeper : ℕ) (text : List ℕ) → depth ≤ deeper → IsDrawing look x depth text ↔ IsDrawing look (cut_shape depth x) deeper text
 
--- the drawings of any tree at this depth are those of the tree cut there, at this or any greater depth
+-- the drawings of any tree at this depth are those of the tree cut at this depth, drawn at this or
+-- any greater depth
 abbrev pub HasTreeCuts : Look → ℕ → Type 0
 HasTreeCuts look depth =
     (t : Tree) (deeper : ℕ) (text : List ℕ) → depth ≤ deeper
     → IsDrawing look (shape_of_tree t) depth text ↔ IsDrawing look (shape_of_tree (cut_tree depth t)) deeper text
 
--- a properly begins b
+-- a is a proper prefix of b
 abbrev pub begins_properly : Address → Address → Bool
 begins_properly a [] = false
 begins_properly [] (j ∷ b) = true
 begins_properly (i ∷ a) (j ∷ b) = i == j && begins_properly a b
 
--- the entry of an address, with this text in front of its prefix and of that of each further line
+-- the entry of an address, with a text in front of its prefix and of the prefix of each further
+-- line
 abbrev pub entry_behind : Look → List ℕ → Shape → Address → List ℕ
 entry_behind look front x a = entry_from look (front ++ prefix_text look x a) (front ++ passing_text look x a) (own_at look x a)
 
--- the entries below each address are, in order, those of what stands there, drawn alone at the depth that is left, its root's aside, each behind the address's passing text
+-- the entries below each address are, in order, the entries of the item there drawn alone at the
+-- remaining depth, without its root's, each after the address's passing text
 abbrev pub HasSubtrees : Look → Shape → ℕ → Type 0
 HasSubtrees look x depth =
     (a : Address) (y : Shape) (whole part : List Address) → at kids x a ≡ Some y → length a ≤ depth
     → IsAddressList kids x depth whole → IsAddressList kids y (depth - length a) part
     → map (entry_text look x) (filter (begins_properly a) whole) ≡ map (entry_behind look (passing_text look x a) y) (filter (begins_properly []) part)
 
--- where the own bytes at an address hold no line feed, its entry is the painted prefix, the own bytes as they are and a line feed
+-- if the own bytes at an address hold no line feed, its entry is the painted prefix, the own bytes
+-- unchanged and a line feed
 abbrev pub HasOneLineEntries : Look → Shape → Type 0
 HasOneLineEntries look x =
     (a : Address) → HasNoLineFeed (own_at look x a) → entry_text look x a ≡ painted_text look.branch (prefix_text look x a) ++ own_at look x a ++ line_feed ∷ []

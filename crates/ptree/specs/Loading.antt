@@ -25,35 +25,35 @@ use Rattle.ptree.specs.Sources.{Given, given_by, document, variable, table_at, n
 use Rattle.ptree.specs.declared.print_config.words.Spelling.TheVariants.{AnyCase}
 use Rattle.ptree.specs.Words.{when_spelled, flag_text, number_text, color_text}
 
--- what a field's variable says, or else its key
+-- the value of a field's variable, or else of its key
 abbrev pub look_up : {A : Type 0} → (List ℕ → Option A) → (Node → Option A) → Given → Field → Option A
 look_up by_text by_node given field = option_or (option_and_then by_text (variable given field)) (option_and_then by_node (node given field))
 
--- a field that takes whole numbers up to this one
+-- the value of a field that accepts whole numbers up to this one
 abbrev pub whole : ℕ → Given → Field → Option ℕ
 whole greatest = look_up (number_text greatest) (whole_node greatest)
 
--- a field that says when to style
+-- the value of a field that says when to style
 abbrev pub when : Given → Field → Option StyleWhen
 when = look_up (when_spelled AnyCase) when_node
 
--- a field that takes a set of characters
+-- the value of a field that accepts a set of characters
 abbrev pub set : Given → Field → Option Characters
 set = look_up (set_spelled AnyCase) set_node
 
--- a field that takes any text
+-- the value of a field that accepts any text
 abbrev pub text : Given → Field → Option (List ℕ)
 text = look_up Some as_text
 
--- a field that takes a colour
+-- the value of a field that accepts a colour
 abbrev pub color : Given → Field → Option ColorValue
 color = look_up (λ value. Some (color_text value)) color_node
 
--- a field that takes true or false
+-- the value of a field that accepts true or false
 abbrev pub flag : Given → Field → Option Bool
 flag = look_up flag_text as_flag
 
--- the characters: a set, or else regular ones, with single ones by their variables
+-- the characters: a set, or else the regular one, with single characters by their variables
 unfoldable pub characters : Given → Characters
 characters given =
     let base = unwrap_or (set given field.Characters) utf in
@@ -65,11 +65,12 @@ characters given =
       empty = unwrap_or (variable given field.Empty) base.empty;
     }
 
--- some variable names a field of the style of a part
+-- whether there is a variable of a field of the style of a part
 abbrev pub has_variable : Given → Part → Bool
 has_variable given part = list_any (λ f. is_some (variable given (field.Paint part f))) all_style_fields
 
--- whether a part is dimmed where nothing says so: branches are where the file has no key for their style, and no variable names a field of it
+-- whether a part is dimmed if no source says so: branches are, if the file has no key for their
+-- style and no variable is one of its fields
 abbrev pub is_dimmed : Given → Part → Bool
 is_dimmed given Branch = is_none (table_at given (Some (part_key Branch))) && not (has_variable given Branch)
 is_dimmed given Leaf = false
@@ -89,7 +90,8 @@ style_of given part = record {
   strikethrough = unwrap_or (flag given (field.Paint part Strikethrough)) false;
 }
 
--- each field by itself: what its variable says, or else its key, or else the default
+-- the configuration, each field by itself: its variable's value, or else its key's, or else the
+-- default
 unfoldable pub configuration : Given → Configuration
 configuration given = record {
   depth = unwrap_or (whole 4294967295 given field.Depth) default_configuration.depth;
@@ -102,7 +104,7 @@ configuration given = record {
   continued = unwrap_or (text given field.Continued) default_configuration.continued;
 }
 
--- what fields of a kind take of variables
+-- whether fields of a kind accept a variable's text
 abbrev pub text_fits : Kind → List ℕ → Bool
 text_fits (Whole greatest) value = is_some (number_text greatest value)
 text_fits When value = is_some (when_spelled AnyCase value)
@@ -111,7 +113,7 @@ text_fits Text value = true
 text_fits Color value = true
 text_fits Flag value = is_some (flag_text value)
 
--- what fields of a kind take of a file
+-- whether fields of a kind accept a value of a file
 abbrev pub node_fits : Kind → Node → Bool
 node_fits (Whole greatest) value = is_some (whole_node greatest value)
 node_fits When value = is_some (when_node value)
@@ -120,18 +122,18 @@ node_fits Text value = is_some (as_text value)
 node_fits Color value = is_null value || is_some (color_node value)
 node_fits Flag value = is_some (as_flag value)
 
--- this fault where a value is there that isn't taken
+-- this fault, if there is a value that is not accepted
 abbrev pub fault_unless : {A : Type 0} → (A → Bool) → Fault → Option A → Option Fault
 fault_unless fits fault None = None
 fault_unless fits fault (Some value) = if fits value then None else Some fault
 
--- the fault of a field: of its variable, or else of its key
+-- the fault of a field: that of its variable, or else that of its key
 abbrev pub field_fault : Given → Field → Option Fault
 field_fault given field =
     option_or (fault_unless (text_fits (kind_of field)) (fault.Variable field) (variable given field))
     (fault_unless (node_fits (kind_of field)) (fault.Key field) (node given field))
 
--- the fault that no table stands at the key of a part
+-- the fault of a part whose key holds a value that is not a table
 abbrev pub table_fault : Given → Part → Option Fault
 table_fault given part = fault_unless is_table (fault.Table part) (table_at given (Some (part_key part)))
 
@@ -142,29 +144,29 @@ file_fault Unreadable = Some fault.Unreadable
 file_fault (Toml t) = if is_some (document (Toml t)) then None else Some fault.Syntax
 file_fault (Json t) = if is_some (document (Json t)) then None else Some fault.Syntax
 
--- the first of some that are there
+-- the first value that is there
 abbrev pub first_of : {A : Type 0} → List (Option A) → Option A
 first_of [] = None
 first_of (o ∷ os) = option_or o (first_of os)
 
--- the first fault: of the file as a whole, of its tables, of the fields in their order
+-- the first fault: of the file as a whole, of its tables, then of the fields in their order
 unfoldable pub fault_in : Option Fault → Given → Option Fault
 fault_in file given = first_of (file ∷ table_fault given Branch ∷ table_fault given Leaf ∷ map (field_fault given) all_fields)
 
--- the first fault in sources
+-- the first fault in the sources
 abbrev pub first_fault : Sources → Option Fault
 first_fault sources = fault_in (file_fault sources.file) (given_by sources)
 
--- this, where there is no fault
+-- a value, if there is no fault
 abbrev pub unless_fault : {A : Type 0} → Option Fault → A → Option A
 unless_fault None value = Some value
 unless_fault (Some fault) value = None
 
--- the configuration of sources, or none where there is a fault in them
+-- the configuration of sources, or none if there is a fault in them
 abbrev pub config_of : Sources → Option Configuration
 config_of sources = unless_fault (first_fault sources) (configuration (given_by sources))
 
--- the configuration that sources mean: where there is a fault in them, the default whole
+-- the configuration that sources mean: the complete default if there is a fault in them
 abbrev pub meant_by : Sources → Configuration
 meant_by sources = unwrap_or (config_of sources) default_configuration
 

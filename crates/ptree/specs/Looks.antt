@@ -8,41 +8,41 @@ use Rattle.ptree.specs.Pieces.{Pieces, turning_piece, passing_piece, pieces_of}
 use Rattle.ptree.specs.Shape.{Shape}
 use Rattle.ptree.specs.Style.{StyleValue, style_value, front_codes, back_codes}
 
--- the look that the code holds
+-- the look that the code's look means
 abbrev pub look_meant : HeldLook → Look
 look_meant l = look_from (style_value l.branch.now) (style_value l.leaf.now) (pieces_of l.pieces) l.mark.now
 
--- the piece on the own line of a root (none) or of a child, by whether that is last
+-- the piece on the own line of a root (none), or of a child by whether it is last
 abbrev pub own_piece : Pieces → Option Bool → List ℕ
 own_piece p None = []
 own_piece p (Some last) = turning_piece p last
 
--- the piece on the lines below it
+-- the piece on the lines below a root (none), or below a child by whether it is last
 abbrev pub below_piece : Pieces → Option Bool → List ℕ
 below_piece p None = []
 below_piece p (Some last) = passing_piece p last
 
--- the first with the branch's back codes behind it
+-- the piece of the own line, and the branch's back codes
 abbrev pub own_text : Look → Option Bool → List ℕ
 own_text look last = own_piece look.pieces last ++ back_codes look.branch
 
--- the second with the mark and the branch's back codes behind it
+-- the piece of the lines below, the marker and the branch's back codes
 abbrev pub further_text : Look → Option Bool → List ℕ
 further_text look last = below_piece look.pieces last ++ look.mark ++ back_codes look.branch
 
--- the texts of a root and of children on their own lines
+-- three texts are those on the own lines of a root, a child and a last child
 pub record AreOwnTexts (look : Look) (root child last_child : List ℕ) : Type 0 where
   pub root_is : root ≡ own_text look None
   pub child_is : child ≡ own_text look (Some false)
   pub last_child_is : last_child ≡ own_text look (Some true)
 
--- those before their further lines
+-- three texts are those before the further lines of a root, a child and a last child
 pub record AreFurtherTexts (look : Look) (root child last_child : List ℕ) : Type 0 where
   pub root_is : root ≡ further_text look None
   pub child_is : child ≡ further_text look (Some false)
   pub last_child_is : last_child ≡ further_text look (Some true)
 
--- the entry of a root or of a child, behind its parent's passing text
+-- the entry of a root or of a child, after its parent's passing text
 abbrev pub own_entry : Look → List ℕ → Option Bool → Shape → List ℕ
 own_entry look front last x = entry_of look (front ++ own_piece look.pieces last) (front ++ below_piece look.pieces last) x
 

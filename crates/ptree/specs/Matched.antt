@@ -1,7 +1,7 @@
--- Lists whose elements stand in a relation, place by place.
+-- Lists whose elements are related place by place.
 use Rattle.std.specs.Prelude.{⊤, List, [], ◌∷◌}
 
--- the lists are as long as one another, and R holds of the two elements at each place
+-- the lists have the same length, and R holds of the two elements at each place
 abbrev pub AreMatched : {X Y : Type 0} → (X → Y → Type 0) → List X → List Y → Type 0
 AreMatched R [] [] = ⊤
 AreMatched R [] (y ∷ ys) = ⊥

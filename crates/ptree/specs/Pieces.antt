@@ -1,11 +1,11 @@
--- The four pieces that stand before items.
+-- The four pieces before items.
 use Rattle.std.specs.Prelude.{ℕ, ◌+◌, ◌-◌, Bool, if◌then◌else◌, List, [], ◌∷◌, ◌++◌, string_bytes}
 use Rattle.std.specs.List.{repeat}
 use Rattle.ptree.specs.declared.output.indent.Indent.{Indent}
 use Rattle.ptree.specs.declared.print_config.PrintConfig.{PrintConfig}
 use Rattle.ptree.specs.Characters.{Characters, characters_of}
 
--- the texts that stand before an item's own bytes
+-- the texts before an item's own bytes
 pub record Pieces : Type 0 where
   pub regular : List ℕ
   pub child : List ℕ
@@ -16,7 +16,7 @@ pub record Pieces : Type 0 where
 abbrev pub turning_piece : Pieces → Bool → List ℕ
 turning_piece p last = if last then p.last_regular else p.regular
 
--- its piece on the lines below it
+-- an item's piece on the lines below it, by whether it is last
 abbrev pub passing_piece : Pieces → Bool → List ℕ
 passing_piece p last = if last then p.last_child else p.child
 
@@ -25,7 +25,8 @@ abbrev pub passing_all : Pieces → List Bool → List ℕ
 passing_all p [] = []
 passing_all p (b ∷ bs) = passing_piece p b ++ passing_all p bs
 
--- The pieces that characters, indent and padding make. A difference of whole numbers is 0 where it would be negative.
+-- The pieces of characters, indent and padding. A difference of natural numbers is 0 if it would be
+-- negative.
 abbrev pub pieces_from : Characters → ℕ → ℕ → Pieces
 pieces_from c indent padding =
     let n = indent - (1 + padding) in
@@ -40,7 +41,7 @@ pieces_from c indent padding =
 abbrev pub config_pieces : PrintConfig → Pieces
 config_pieces config = pieces_from (characters_of config.characters) config.indent config.padding
 
--- the mark of a configuration
+-- the marker of a configuration
 abbrev pub mark_of : PrintConfig → List ℕ
 mark_of config = string_bytes config.continued
 

@@ -1,4 +1,4 @@
--- What other programs draw with.
+-- Configurations that draw as other programs do.
 use Rattle.std.specs.Prelude.{ℕ, [], ◌∷◌, codes}
 use Rattle.ptree.specs.declared.presets.Preset.{Preset}
 use Rattle.ptree.specs.declared.presets.Preset.TheVariants.{Tree, TreeAscii, CargoTree, CargoTreeAscii, Findmnt, FindmntAscii, Sqlite, Maven, Clang, Ps}
@@ -15,7 +15,7 @@ tree_characters = record {
   empty = codes "    ";
 }
 
--- the pieces of `ps`: ` \_ ` twice, a bar with a blank before it and two behind it, and four spaces
+-- the pieces of `ps`: ` \_ ` twice, a bar with a blank before it and two after it, and four spaces
 abbrev pub ps_characters : Characters
 ps_characters = record {
   down_and_right = 32 ∷ 92 ∷ 95 ∷ 32 ∷ [];
@@ -25,11 +25,11 @@ ps_characters = record {
   empty = codes "    ";
 }
 
--- the default but for characters, indent and padding
+-- the default with other characters, indent and padding
 abbrev pub drawn_with : Characters → ℕ → ℕ → Configuration
 drawn_with c indent padding = record default_configuration { characters = c; indent = indent; padding = padding }
 
--- what a program draws with
+-- the configuration of a program
 abbrev pub preset_value : Preset → Configuration
 preset_value Tree = drawn_with tree_characters 0 0
 preset_value TreeAscii = drawn_with ascii_tick 4 1

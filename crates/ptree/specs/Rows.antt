@@ -1,4 +1,5 @@
--- Outlines held as lists of other values, and rows of trees made of them. No public contract cites it.
+-- Outlines held as lists of other values, and rows of trees made of them. No public contract cites
+-- this.
 use Rattle.std.specs.Prelude.{◌≡◌, ◌≤◌, ◌++◌, ℕ, suc, List, length, map, string_bytes}
 use Rattle.ptree.specs.declared.builder.TextLine.{TextLine}
 use Rattle.ptree.specs.declared.item.StringItem.{StringItem}
@@ -9,7 +10,8 @@ use Rattle.ptree.specs.Tree.{forest, tree_of}
 abbrev pub text_line : TextLine → Line
 text_line l = line l.level (string_bytes l.text)
 
--- the front of the lines is the items' trees, one level below above, and what is left goes on below that level
+-- the items are the trees of the front of the lines, one level below above, and the rest starts no
+-- deeper than above
 pub record IsRow {T : Type 0} (line_of : T → Line) (above : ℕ) (lines : List T) (items : List StringItem) (rest : List T) : Type 0 where
   pub are : map line_of lines ≡ outline_at (suc above) (forest (map tree_of items)) ++ map line_of rest
   pub shorter : length rest ≤ length lines

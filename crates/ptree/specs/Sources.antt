@@ -1,4 +1,4 @@
--- What a configuration is loaded from: variables, and the document of a file.
+-- The sources of a configuration: variables, and the document of a file.
 use Rattle.std.specs.Prelude.{ℕ, List, map, reverse, find, if◌then◌else◌, Option, Some, None, option_map, option_and_then, string_bytes, String}
 use Rattle.std.specs.declared.alloc.Global.{Global}
 use Rattle.serde_json.specs.Read.{read}
@@ -18,23 +18,23 @@ use Rattle.ptree.specs.File.{Node, json, toml, get, is_table}
 abbrev pub Variables : Type 0
 Variables = List (List ℕ × List ℕ)
 
--- the names and values of variables
+-- the names and values that variables hold
 abbrev pub variables_of : List (String Global × String Global) → Variables
 variables_of variables = map (λ v. (string_bytes v.0, string_bytes v.1)) variables
 
--- the value of the last variable of a name
+-- the last value of the variables with this name
 unfoldable pub last_value : Spelling → List ℕ → Variables → Option (List ℕ)
 last_value spelling name variables = option_map (λ v. v.1) (find (λ v. is_spelled spelling v.0 name) (reverse variables))
 
--- a document whose top is a table
+-- a document, if its top is a table
 abbrev pub table_or_none : Node → Option Node
 table_or_none node = if is_table node then Some node else None
 
--- the document of a text in TOML
+-- the document of a text in TOML, if it is one
 abbrev pub toml_document : List ℕ → Option Node
 toml_document text = option_map (λ members. toml (t.table members)) (parse_document text)
 
--- the document of a text in JSON
+-- the document of a text in JSON, if it is one
 abbrev pub json_document : List ℕ → Option Node
 json_document text = option_and_then (λ d. table_or_none (json d)) (read text)
 
@@ -50,7 +50,7 @@ pub record Given : Type 0 where
   pub variables : Variables
   pub document : Option Node
 
--- what sources give
+-- the parts of sources that are looked into
 abbrev pub given_by : Sources → Given
 given_by sources = record { variables = variables_of sources.variables.items; document = document sources.file }
 
@@ -58,7 +58,7 @@ given_by sources = record { variables = variables_of sources.variables.items; do
 unfoldable pub variable : Given → Field → Option (List ℕ)
 variable given field = last_value AnyCase (variable_name field) given.variables
 
--- the top of the document, or the table in it that has this key
+-- the top of the document, or its table with this key
 unfoldable pub table_at : Given → Option (List ℕ) → Option Node
 table_at given None = given.document
 table_at given (Some key) = option_and_then (get key) given.document

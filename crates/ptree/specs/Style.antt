@@ -19,7 +19,7 @@ pub record StyleValue : Type 0 where
   pub hidden : Bool
   pub strikethrough : Bool
 
--- what a style holds
+-- the value that a style holds
 abbrev pub style_value : Style → StyleValue
 style_value style = record {
   foreground = option_map color_value style.foreground;
@@ -49,7 +49,7 @@ plain_style = record {
   strikethrough = false;
 }
 
--- what the plain style holds
+-- the value that the plain style holds
 abbrev pub plain_value : StyleValue
 plain_value = style_value plain_style
 
@@ -67,7 +67,7 @@ flags style =
 abbrev pub flag_codes : List (Bool × ℕ) → List (List ℕ)
 flag_codes flags = map (λ flag. code (flag.1 ∷ [])) (filter (λ flag. flag.0) flags)
 
--- the code that sets a colour on a side, which an unknown name hasn't
+-- the code that sets a colour on a side; an unknown name has none
 abbrev pub color_code : ColorValue → Side → Option (List ℕ)
 color_code color side = option_map code (color_parameters color side)
 
@@ -79,11 +79,11 @@ side_codes color side = option_to_list (option_and_then (λ c. color_code c side
 unfoldable pub style_codes : StyleValue → List (List ℕ)
 style_codes style = flag_codes (flags style) ++ side_codes style.foreground Foreground ++ side_codes style.background Background
 
--- a colour that isn't set, or that has no code
+-- there is no colour, or it has no code
 abbrev pub SetsNone : Option ColorValue → Side → Type 0
 SetsNone color side = option_and_then (λ c. color_parameters c side) color ≡ None
 
--- no flag is set, and no colour that has a code
+-- no flag is set, and there is no colour that has a code
 pub record IsPlain (style : StyleValue) : Type 0 where
   pub bold : style.bold ≡ false
   pub dimmed : style.dimmed ≡ false
@@ -96,7 +96,7 @@ pub record IsPlain (style : StyleValue) : Type 0 where
   pub foreground : SetsNone style.foreground Foreground
   pub background : SetsNone style.background Background
 
--- what stands before a painted text: the codes
+-- the codes before a painted text
 abbrev pub front_codes : StyleValue → List ℕ
 front_codes style = flat_map (λ code. code) (style_codes style)
 
@@ -104,15 +104,15 @@ front_codes style = flat_map (λ code. code) (style_codes style)
 abbrev pub reset_code : List ℕ
 reset_code = 27 ∷ 91 ∷ 48 ∷ 109 ∷ []
 
--- the reset after these codes, one by one or joined, if there are any
+-- the reset, if there are codes, given one by one or joined
 abbrev pub reset_after : {X : Type 0} → List X → List ℕ
 reset_after [] = []
 reset_after (x ∷ xs) = reset_code
 
--- what stands after a painted text
+-- the codes after a painted text
 abbrev pub back_codes : StyleValue → List ℕ
 back_codes style = reset_after (style_codes style)
 
--- the codes, the text and the reset; the text alone where there is no code
+-- the codes, the text and the reset; only the text if there is no code
 abbrev pub painted_text : StyleValue → List ℕ → List ℕ
 painted_text style text = front_codes style ++ text ++ back_codes style

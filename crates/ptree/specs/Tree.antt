@@ -6,7 +6,7 @@ use Rattle.ptree.specs.declared.item.StringItem.TheFolds.{fold-StringItem}
 use Rattle.ptree.specs.Shape.{Shape, unfolded_shape}
 use Rattle.ptree.specs.Style.{StyleValue, painted_text}
 
--- Trees side by side: none, or a text with what is below it, and then the trees after it.
+-- A list of trees: none, or a text with the forest below it, and the trees after it.
 pub data Forest : Type 0 where
   none : Forest
   item : (text : List ℕ) (children rest : Forest) → Forest
@@ -34,33 +34,34 @@ forest (t ∷ ts) = item t.text t.children (forest ts)
 abbrev pub tree_kids : Tree → List Tree
 tree_kids t = trees t.children
 
--- the greatest level in a forest whose roots have level 1, and 0 where there is none
+-- the greatest level in a forest whose roots have level 1, or 0 if it is empty
 abbrev pub height : Forest → ℕ
 height none = 0
 height (item t c r) = max (suc (height c)) (height r)
 
--- the forest without what stands below level d, its roots having level 1
+-- the forest without what is below level d; its roots have level 1
 abbrev pub cut_forest : ℕ → Forest → Forest
 cut_forest d none = none
 cut_forest zero (item t c r) = none
 cut_forest (suc d) (item t c r) = item t (cut_forest d c) (cut_forest (suc d) r)
 
--- the tree without what stands below level d: the children each cut at one less, and at 0 none
+-- the tree without what is below level d: the children are each cut at one less, and at 0 there are
+-- none
 abbrev pub cut_tree : ℕ → Tree → Tree
 cut_tree d t = tree t.text (cut_forest d t.children)
 
--- a StringItem with the tree of each child in its place
+-- the tree of a StringItem whose children are replaced by their trees
 abbrev pub tree_step : StringItem-F Tree → Tree
 tree_step x = tree (string_bytes x.text) (forest x.children.items)
 
--- what a StringItem means
+-- the tree that a StringItem denotes
 abbrev pub tree_of : StringItem → Tree
 tree_of = fold-StringItem Tree tree_step
 
--- the own bytes of a tree as an item: its text, painted
+-- the own bytes of a tree as an item: its text painted
 abbrev pub tree_own : Tree → StyleValue → List ℕ
 tree_own t style = painted_text style t.text
 
--- a tree as an item's meaning
+-- the shape of a tree
 abbrev pub shape_of_tree : Tree → Shape
 shape_of_tree t = unfolded_shape tree_own tree_kids t

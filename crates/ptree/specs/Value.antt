@@ -1,4 +1,4 @@
--- What a `Value` means.
+-- The data that a `Value` denotes.
 use Rattle.std.specs.Prelude.{List, [], ◌∷◌, map, Some, None, String, string_bytes}
 use Rattle.std.specs.declared.alloc.Global.{Global}
 use Rattle.ptree.specs.Data as d
@@ -16,7 +16,7 @@ abbrev pub entries_of : List (Data × Data) → Entries
 entries_of [] = d.no_entries
 entries_of (e ∷ es) = d.entry e.0 e.1 (entries_of es)
 
--- a value with the data of each value within in its place
+-- the data of a value whose inner values are replaced by their data
 abbrev pub data_step : Value-F Data → Data
 data_step (Value-F.Bool b) = d.boolean b
 data_step (Value-F.U8 n) = d.u8 n
@@ -37,22 +37,22 @@ data_step (Value-F.Seq v) = d.seq (items_of v.items)
 data_step (Value-F.Map v) = d.map (entries_of v.items)
 data_step (Value-F.Bytes v) = d.bytes v.items
 
--- what a value means
+-- the data of a value
 abbrev pub data_of : Value → Data
 data_of = fold-Value Data data_step
 
--- the elements that a list of values means
+-- the elements of a list of values
 abbrev pub items_meant : List Value → Items
 items_meant vs = items_of (map data_of vs)
 
--- what a key and a value mean
+-- the data of a key and a value
 abbrev pub entry_meant : Value × Value → Data × Data
 entry_meant e = (data_of e.0, data_of e.1)
 
--- the entries that a list of keys and values means
+-- the entries of a list of keys and values
 abbrev pub entries_meant : List (Value × Value) → Entries
 entries_meant es = entries_of (map entry_meant es)
 
--- what a label and a value mean
+-- the pair of a label and a value
 abbrev pub pair_of : String Global × Value → Pair
 pair_of p = (string_bytes p.0, data_of p.1)

@@ -1,4 +1,4 @@
--- What the texts of sources say: words, numbers and colours.
+-- What the texts of variables and files mean: words, numbers and colours.
 use Rattle.std.specs.Prelude.{ℕ, ◌&&◌, Bool, true, false, if◌then◌else◌, List, [], ◌∷◌, Option, Some, None, codes, length, nat_lt, nat_le}
 use Rattle.std.proofs.Common.{inl, inr}
 use Rattle.std.specs.List.{list_any}
@@ -22,13 +22,13 @@ when_spelled spelling text =
 abbrev pub is_one_of : List (List ℕ) → List ℕ → Bool
 is_one_of words text = list_any (λ word. str_eq_ignore_ascii_case text word) words
 
--- true or false, by one of four words
+-- true or false, each by one of four words
 abbrev pub flag_text : List ℕ → Option Bool
 flag_text text =
     if is_one_of (codes "1" ∷ codes "true" ∷ codes "on" ∷ codes "yes" ∷ []) text then Some true else
     if is_one_of (codes "0" ∷ codes "false" ∷ codes "off" ∷ codes "no" ∷ []) text then Some false else None
 
--- the number of one or more ASCII digits, where it is at most this one
+-- the number of one or more ASCII digits, if it is at most this one
 abbrev pub number_text : ℕ → List ℕ → Option ℕ
 number_text greatest text =
     if nat_lt 0 (length text) && (all_ascii_digits text && nat_le (digits_value 10 text) greatest) then Some (digits_value 10 text) else None
@@ -38,6 +38,7 @@ abbrev pub color_or_name : Option ℕ → List ℕ → ColorValue
 color_or_name (Some n) text = inl (Fixed n)
 color_or_name None text = inr (str_to_ascii_lowercase text)
 
--- one to three digits of at most 255 are a number, and any other text is a name
+-- the colour of a variable's text: one to three digits of at most 255 are a number, and any other
+-- text is a name
 abbrev pub color_text : List ℕ → ColorValue
 color_text text = color_or_name (if nat_le (length text) 3 then number_text 255 text else None) text

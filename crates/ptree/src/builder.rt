@@ -11,7 +11,7 @@ use std::error::Error;
 use std::fmt;
 use std::marker::Model;
 
-/// What means a line of an outline: a level and a text.
+/// Denotes a line of an outline: a level and a text.
 pub(crate) trait OutlineLine {
     ghost line: { Self → Line };
 
@@ -44,10 +44,10 @@ impl OutlineLine for TextLine {
     }
 }
 
-/// Why an item was not added at a level.
+/// Why an item could not be added at a level.
 #[derive(Debug, Clone, Copy, PartialEq, Eq)]
 pub enum AddError {
-    /// No item can follow at the level.
+    /// No item can follow at that level.
     Level,
 
     /// Memory ran out.
@@ -87,8 +87,8 @@ impl Error for AddError {}
 
 /// Builds a tree of texts item by item, in the order in which they are drawn.
 ///
-/// It means an outline, that is the levels and texts of the items so far, and the level of the current item. A new child
-/// goes last among the current item's children.
+/// It denotes an outline (the levels and texts of the items so far) and the level of the current
+/// item. A new child becomes the last child of the current item.
 #[derive(Debug, Drop)]
 pub struct TreeBuilder {
     text: String,
@@ -116,7 +116,8 @@ impl Model for TreeBuilder {
 impl TreeBuilder {
     ghost use Rattle.ptree.specs.HandedBack.{HandsBack};
 
-    /// Starts a tree whose root has this text. The root is the current item. It takes no memory.
+    /// Starts a tree whose root has this text. The root is the current item. The call does not
+    /// allocate.
     pub fn new(alloc: Global, text: String) -> TreeBuilder
         ensures outline { result.outline ≡ line 0 (string_bytes text) ∷ [] }
         ensures level { result.level ≡ 0 }
@@ -128,19 +129,20 @@ impl TreeBuilder {
         }
     }
 
-    /// The level of the current item, that of the root being 0. It says which calls can be made.
+    /// Returns the level of the current item; the root has level 0. The level decides which calls
+    /// are allowed.
     pub fn level(&self) -> u32
         ensures { result ≡ self.now.level }
     {
         self.level
     }
 
-    /// Adds a child to the current item, and makes the new child current. It can be called where [`level`](Self::level) is below
-    /// 4294967295.
+    /// Adds a child to the current item, and makes the new child current. [`level`](Self::level)
+    /// must be below 4294967295.
     ///
     /// # Errors
     ///
-    /// Memory ran out. The builder stays as it was, and the text is dropped.
+    /// Memory ran out. The builder is unchanged, and the text is dropped.
     pub fn begin_child(&mut self, text: String) -> Result<&mut Self, AllocError>
         requires { self.old.level < u32.MAX }
         ensures* kept { sem 𝓛 (HandsBack self.entry result) }
@@ -153,8 +155,8 @@ impl TreeBuilder {
         self.add(text, true)
     }
 
-    /// Makes the current item's parent current. It can be called where [`level`](Self::level) is above 0, that is below the root.
-    /// It takes no memory.
+    /// Makes the current item's parent current. [`level`](Self::level) must be above 0, since the
+    /// root has no parent. The call does not allocate.
     pub fn end_child(&mut self) -> &mut Self
         requires { 0 < self.old.level }
         ensures same_reference { result.ghost_name ≡ self.entry.ghost_name }
@@ -165,12 +167,12 @@ impl TreeBuilder {
         self
     }
 
-    /// Adds a child without children to the current item, which stays current. It can be called where [`level`](Self::level) is
-    /// below 4294967295.
+    /// Adds a leaf to the current item, which stays current. [`level`](Self::level) must be below
+    /// 4294967295.
     ///
     /// # Errors
     ///
-    /// Memory ran out. The builder stays as it was, and the text is dropped.
+    /// Memory ran out. The builder is unchanged, and the text is dropped.
     pub fn add_empty_child(&mut self, text: String) -> Result<&mut Self, AllocError>
         requires { self.old.level < u32.MAX }
         ensures* kept { sem 𝓛 (HandsBack self.entry result) }
@@ -183,13 +185,15 @@ impl TreeBuilder {
         self.add(text, false)
     }
 
-    /// Adds an item at a level, and makes it current: a child of the current item, or of an item above that. It serves a loop over
-    /// levels and texts, where each item stands at most one level below the one before it.
+    /// Adds an item at a level, and makes it current. It becomes a child of the current item, or of
+    /// an item above that. Use it in a loop over levels and texts, where each item is at most one
+    /// level below the one before it.
     ///
     /// # Errors
     ///
-    /// `Level` where no item can follow at that level: it is 0, which is the root's, or more than one below the current item's.
-    /// `Memory` where memory ran out. The builder stays as it was, and the text is dropped.
+    /// `Level` if no item can follow at that level: 0 is the root's level, and a level more than
+    /// one below the current item's has no parent. `Memory` if memory ran out. The builder is
+    /// unchanged, and the text is dropped.
     pub fn add_at_level(&mut self, level: u32, text: String) -> Result<(), AddError>
         ensures outline { OnOk result
             (self.new.outline ≡ self.old.outline ++ line level (string_bytes text) ∷ []) }
@@ -207,11 +211,11 @@ impl TreeBuilder {
         Ok(())
     }
 
-    /// The tree so far. The builder goes on, and may build again.
+    /// Returns the tree so far. You can add more items afterwards, and build again.
     ///
     /// # Errors
     ///
-    /// Memory ran out. The builder stays as it was.
+    /// Memory ran out. The builder is unchanged.
     pub fn build(&mut self) -> Result<StringItem, AllocError>
         ensures outline { IfOk result (λ t. IsOutline (tree_of t) self.old.outline) }
         ensures unique { IfOk result (λ t.
@@ -222,7 +226,7 @@ impl TreeBuilder {
         tree_from_outline(alloc, self.text.as_str(), self.lines.as_slice())
     }
 
-    // Adds the line of a new child, and makes the child current where it is begun.
+    // Adds the line of a new child, and makes the child current if `is_begun`.
     fn add(&mut self, text: String, is_begun: bool) -> Result<&mut Self, AllocError>
         requires { self.old.level < u32.MAX }
         ensures* kept { sem 𝓛 (HandsBack self.entry result) }
@@ -239,7 +243,7 @@ impl TreeBuilder {
         }
     }
 
-    // Takes its memory before it changes anything.
+    // Does what `add` does, and returns no reference. It allocates before it changes anything.
     fn add_line(&mut self, text: String, is_begun: bool) -> Result<(), AllocError>
         requires { self.old.level < u32.MAX }
         ensures outline { OnOk result
@@ -258,7 +262,7 @@ impl TreeBuilder {
     }
 }
 
-// The tree of a root's text and of the lines below it.
+// Returns the tree of a root's text and of the lines below the root.
 pub(crate) fn tree_from_outline<T: OutlineLine>(
     alloc: Global,
     root: &str,
@@ -275,11 +279,12 @@ pub(crate) fn tree_from_outline<T: OutlineLine>(
     })
 }
 
-// The number of children of each item, at the place that says how many lines follow the item's; all of them follow the root's.
-// It says what room to make, and nothing else.
+// Returns the number of children of each item. The number of an item is at the place that counts
+// the lines after the item's own; all lines are after the root's. These numbers only say how much
+// to reserve.
 fn child_counts<T: OutlineLine>(alloc: Global, lines: &[T]) -> Result<Vec<usize>, AllocError> {
     let mut counts = Vec::with_capacity(alloc, lines.len().saturating_add(1))?;
-    // At the place of each level, the number of items there whose parent is still to come.
+    // At the place of each level, the number of items of that level whose parent is still to come.
     let mut orphans: Vec<usize> = Vec::new(alloc);
     for line in lines.iter().rev() {
         let level = line.level() as usize;
@@ -293,12 +298,12 @@ fn child_counts<T: OutlineLine>(alloc: Global, lines: &[T]) -> Result<Vec<usize>
     Ok(counts)
 }
 
-// The count at a place, and 0 beyond.
+// Returns the count at a place, or 0 beyond the end.
 fn count_at(counts: &[usize], place: usize) -> usize {
     counts.get(place).copied().unwrap_or(0)
 }
 
-// The trees at the front that stand one level below `above`, and the lines after them.
+// Returns the trees at the front that are one level below `above`, and the lines after them.
 fn row_from_outline<'a, T: OutlineLine>(
     alloc: Global,
     lines: &'a [T],

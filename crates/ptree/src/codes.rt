@@ -1,4 +1,4 @@
-//! The codes of a style, gathered without memory.
+//! The codes of a style, gathered without allocating.
 ghost use Rattle.std.specs.Prelude.{◌≡◌, ◌+◌, ◌*◌, ◌≤◌, ◌<◌, [], ◌∷◌, ◌++◌, length, IsUtf8, decimal, flat_map, option_map, option_to_list};
 ghost use Rattle.ptree.specs.declared.codes.TheConstants.{ROOM};
 ghost use Rattle.ptree.specs.Color.{color_value, tone_parameters};
@@ -8,10 +8,10 @@ use crate::colors::{Side, Tone, color_tone};
 use crate::style::{Color, Style};
 use std::str;
 
-// Eight flags take four bytes each, and two colours at most 22.
+// Eight flags have four bytes each, and two colours at most 22 each.
 const ROOM: usize = 76;
 
-/// Codes, one behind the other.
+/// Codes, one after the other.
 #[derive(Drop)]
 pub struct Codes {
     bytes: [u8; ROOM],
@@ -22,7 +22,7 @@ pub struct Codes {
 impl Codes {
     ghost use Rattle.ptree.specs.Codes.{IsOfEight, gathered_codes, joined_codes};
 
-    /// No code yet.
+    /// Starts with no code.
     #[inline(always)]
     pub fn none() -> Codes
         ensures { result.len ≡ 0 }
@@ -33,7 +33,7 @@ impl Codes {
         }
     }
 
-    /// The codes of a style, in order.
+    /// Returns the codes of a style, in order.
     pub fn of(style: &Style) -> Codes
         ensures front { gathered_codes result ≡ front_codes (style_value style.now) }
         ensures back { reset_after (gathered_codes result) ≡ back_codes (style_value style.now) }
@@ -44,7 +44,7 @@ impl Codes {
         codes
     }
 
-    /// Gathers the codes of a style, in order. Unlike `of`, it copies nothing where it stands in line.
+    /// Gathers the codes of a style, in order. Unlike `of`, it copies nothing when it is inlined.
     #[inline(always)]
     pub fn gather(&mut self, style: &Style)
         requires { self.old.len ≡ 0 }
@@ -57,14 +57,14 @@ impl Codes {
         self.push_side(&style.background, Side::Background);
     }
 
-    /// The codes' bytes.
+    /// Returns the codes' bytes.
     pub fn as_bytes(&self) -> &[u8]
         ensures { result.now ≡ gathered_codes self.now }
     {
         &self.bytes[..self.len]
     }
 
-    /// The codes as a text.
+    /// Returns the codes as a text.
     pub fn as_str(&self) -> &str
         requires { IsUtf8 (gathered_codes self.now) }
         ensures { result.now ≡ gathered_codes self.now }
@@ -72,14 +72,14 @@ impl Codes {
         str::from_utf8(self.as_bytes()).unwrap()
     }
 
-    /// What undoes the codes, if there are any.
+    /// Returns the reset, if there is a code.
     pub fn reset(&self) -> &'static str
         ensures { result.now ≡ reset_after (gathered_codes self.now) }
     {
         if self.len == 0 { "" } else { "\x1b[0m" }
     }
 
-    // A code for each flag that is set.
+    // Adds a code for each flag that is set.
     #[inline(always)]
     fn push_flags(&mut self, style: &Style)
         requires { self.old.len + 32 ≤ ROOM }
@@ -97,7 +97,8 @@ impl Codes {
         self.push_flag(style.strikethrough, 9);
     }
 
-    // The flag's code, if it is set. The length is read and stored once, so that the four bytes are stored at once.
+    // Adds the flag's code, if it is set. The length is read and stored once, so that the four
+    // bytes are stored at once.
     #[inline(always)]
     fn push_flag(&mut self, is_set: bool, digit: u8)
         requires digit { digit < 10 }
@@ -116,7 +117,7 @@ impl Codes {
         }
     }
 
-    // The code that sets a side, if there is one.
+    // Adds the code that sets a side, if there is one.
     #[inline(always)]
     fn push_side(&mut self, color: &Option<Color>, side: Side)
         requires { self.old.len + 22 ≤ ROOM }
@@ -130,7 +131,8 @@ impl Codes {
         }
     }
 
-    // The code that sets a colour on a side, if it has one. It stands apart, since many styles have no colour.
+    // Adds the code that sets a colour on a side, if it has one. It is a function of its own, since
+    // many styles have no colour.
     #[inline(never)]
     fn push_color(&mut self, color: &Color, side: Side)
         requires { self.old.len + 22 ≤ ROOM }
@@ -144,7 +146,7 @@ impl Codes {
         }
     }
 
-    // The code that sets a tone on a side.
+    // Adds the code that sets a tone on a side.
     fn push_tone(&mut self, tone: Tone, side: Side)
         requires room { self.old.len + 22 ≤ ROOM }
         requires eight { IsOfEight tone }
@@ -159,7 +161,7 @@ impl Codes {
         }
     }
 
-    // ESC [, the numbers with `;` between them, and m.
+    // Adds ESC [, the numbers with `;` between them, and m.
     #[tactic(auto, using(crate::proofs::Decimals::byte_lengths))]
     fn push_code(&mut self, first: u8, others: &[u8])
         requires { self.old.len + 4 * length others.now + 6 ≤ ROOM }
@@ -177,7 +179,7 @@ impl Codes {
         self.push(b'm');
     }
 
-    // The number in decimal.
+    // Adds the number in decimal.
     #[tactic(auto, using(crate::proofs::Decimals::byte_digits))]
     fn push_number(&mut self, n: u8)
         requires { self.old.len + length (decimal n) ≤ ROOM }
@@ -190,7 +192,7 @@ impl Codes {
         self.push(b'0' + n % 10);
     }
 
-    // One byte, for which there is room.
+    // Adds one byte, for which there is room.
     fn push(&mut self, byte: u8)
         requires { self.old.len < ROOM }
         ensures text { gathered_codes self.new ≡ gathered_codes self.old ++ byte ∷ [] }

@@ -1,4 +1,4 @@
-//! What colours come down to, and the names that are known.
+//! Resolves colours to terminal codes, and holds the known names.
 ghost use Rattle.std.specs.Prelude.{◌≡◌, ◌+◌, ◌≤◌, ◌<◌, true, IfSome, length, slice_index, position, find, bytes_eq, option_copied};
 ghost use Rattle.std.specs.List.{list_all};
 ghost use Rattle.std.specs.Str.{str_eq_ignore_ascii_case};
@@ -8,20 +8,20 @@ ghost use Rattle.ptree.specs.Color.{is_hex_name, named_tone, word_tone, hex_tone
 
 use crate::style::Color;
 
-/// What a colour is set for.
+/// The side that a colour is set for.
 #[derive(Clone, Copy)]
 pub enum Side {
     /// The text.
     Foreground,
 
-    /// What is behind it.
+    /// The background.
     Background,
 }
 
 impl Side {
     ghost use Rattle.ptree.specs.Color.{base, extended};
 
-    /// The number of colour 0.
+    /// Returns the number of colour 0.
     pub fn base(self) -> u8
         ensures value { result ≡ base self }
         ensures bound { result ≤ 40 }
@@ -32,7 +32,8 @@ impl Side {
         }
     }
 
-    /// The parameter behind which a number of the terminal's table stands, or red, green and blue.
+    /// Returns the parameter that comes before a number of the terminal's table, or before red,
+    /// green and blue.
     pub fn extended(self) -> u8
         ensures { result ≡ extended self }
     {
@@ -43,7 +44,7 @@ impl Side {
     }
 }
 
-/// What a terminal is told of a colour.
+/// A colour as a terminal is told it.
 #[derive(Clone, Copy)]
 pub enum Tone {
     /// One of the eight colours.
@@ -83,7 +84,7 @@ const NAMED_COLORS: [(&str, u8, u8, u8); 18] = [
     ("mediumseagreen", 60, 179, 113),
 ];
 
-/// The tone of a colour, which an unknown name hasn't.
+/// Returns the tone of a colour. An unknown name has none.
 pub fn color_tone(color: &Color) -> Option<Tone>
     ensures value { result ≡ tone_of (color_value color.now) }
     ensures eight { IfSome result IsOfEight }
@@ -103,7 +104,7 @@ pub fn color_tone(color: &Color) -> Option<Tone>
     })
 }
 
-// The first rule that fits decides.
+// Returns the tone of a name, by the first rule that matches.
 fn named_tone(name: &str) -> Option<Tone>
     ensures { result ≡ named_tone name.now }
 {
@@ -112,7 +113,7 @@ fn named_tone(name: &str) -> Option<Tone>
         .or_else(|| table_tone(name))
 }
 
-// One of the eight words, exactly.
+// Returns the colour of one of the eight words, exactly spelled.
 fn word_tone(name: &str) -> Option<Tone>
     ensures { result ≡ word_tone name.now }
 {
@@ -122,7 +123,7 @@ fn word_tone(name: &str) -> Option<Tone>
         .map(|k| Tone::Eight(k as u8))
 }
 
-// The bytes of the six digits of `#rrggbb`.
+// Returns the bytes of the six digits of `#rrggbb`.
 fn hex_tone(name: &str) -> Option<Tone>
     ensures { result ≡ hex_tone name.now }
 {
@@ -134,7 +135,7 @@ fn hex_tone(name: &str) -> Option<Tone>
     Some(Tone::Direct(r, g, b))
 }
 
-// `#` and exactly six hexadecimal digits of any case.
+// Whether a name is `#` and exactly six hexadecimal digits of any case.
 fn is_hex_name(name: &str) -> bool
     ensures { result ≡ is_hex_name name.now }
 {
@@ -142,14 +143,14 @@ fn is_hex_name(name: &str) -> bool
     bytes.len() == 7 && bytes[0] == b'#' && are_hex_digits(&bytes[1..])
 }
 
-// Whether all of them are hexadecimal digits of any case.
+// Whether all bytes are hexadecimal digits of any case.
 fn are_hex_digits(bytes: &[u8]) -> bool
     ensures { result ≡ list_all is_ascii_hexdigit bytes.now }
 {
     bytes.iter().all(|b| b.is_ascii_hexdigit())
 }
 
-// One of the names of the table, in any ASCII case.
+// Returns the bytes of a name of the table, in any ASCII case.
 fn table_tone(name: &str) -> Option<Tone>
     ensures { result ≡ table_tone name.now }
 {
@@ -159,14 +160,14 @@ fn table_tone(name: &str) -> Option<Tone>
         .map(|color| Tone::Direct(color.1, color.2, color.3))
 }
 
-// Whether two names are one but for ASCII case.
+// Whether two names are equal up to ASCII case.
 fn same_name(a: &str, b: &str) -> bool
     ensures { result ≡ str_eq_ignore_ascii_case a.now b.now }
 {
     a.eq_ignore_ascii_case(b)
 }
 
-// The byte of the two digits from a place on.
+// Returns the byte of the two digits at a place.
 fn hex_byte(bytes: &[u8], at: usize) -> u8
     requires { HasHexDigits bytes.now at }
     ensures { result ≡ hex_byte bytes.now at }
@@ -174,7 +175,7 @@ fn hex_byte(bytes: &[u8], at: usize) -> u8
     16 * hex_digit(bytes[at]) + hex_digit(bytes[at + 1])
 }
 
-// The value of a hexadecimal digit.
+// Returns the value of a hexadecimal digit.
 fn hex_digit(byte: u8) -> u8
     requires { is_ascii_hexdigit byte ≡ true }
     ensures value { result ≡ digit_value byte }

@@ -1,4 +1,4 @@
-//! What can be drawn.
+//! Items, which are what can be drawn.
 ghost use Rattle.std.specs.Prelude.{◌≡◌, [], map, IfOk, IsOkAnd};
 ghost use Rattle.ptree.specs.Children.{children_items};
 ghost use Rattle.ptree.specs.Shape.{Shape, kids};
@@ -16,37 +16,38 @@ pub use made::{MadeItem, Text};
 pub use root::Root;
 use std::alloc::{AllocError, Global};
 
-/// What means a labelled tree, which may go on for ever.
+/// Denotes a labelled tree, possibly infinite.
 ///
-/// Where the children are of the type itself, the meaning is `unfolded_shape` of `specs/Shape.antt`, and `kids_of_unfold` of
-/// `proofs/Unfold.antt` shows what [`TreeItem::children`] owes. Over children of another type it is `over_shape`, and the lemma is
-/// `kids_of_over`. All four are there for callers.
+/// If the children are of the type itself, the tree is `unfolded_shape` of `specs/Shape.antt`, and
+/// the lemma `kids_of_unfold` of `proofs/Unfold.antt` shows what [`TreeItem::children`] must
+/// ensure. If they are of another type, the tree is `over_shape`, and the lemma is `kids_of_over`.
+/// All four are there for callers.
 pub trait Shaped {
-    /// Its own bytes under each style, and its children, and so on below.
+    /// The item's own bytes under each style, and those of its children, and so on below.
     ghost shape: { Self → Shape };
 }
 
-/// An item of a tree: what is written for it, and the items below it.
+/// An item of a tree: what is written for it, and its children.
 ///
-/// Both are functions of what the item holds. A [`LentItem`] or a [`MadeItem`] is one without a proof: such a type names its text and
-/// its children. [`Root`] is a text over items of any type.
+/// Both are functions of the item's value. If your type has a text and children, implement
+/// [`LentItem`] or [`MadeItem`], which needs no proof. [`Root`] is a text over items of any type.
 pub trait TreeItem: Shaped {
-    /// What the children are: items of this type, or of another.
+    /// The type of the children: this type, or another one.
     type Child: Shaped;
 
     /// Writes the item's own contents, without its children.
     ///
-    /// The `style` is the one that leaves are drawn in. Items that heed it paint what they write by it.
+    /// `style` is the style of leaves. Items that respect it paint what they write.
     ///
     /// # Errors
     ///
-    /// `Write` or `Zero` where `f` failed, and `Memory`. A beginning of the contents was written.
+    /// `Write` or `Zero` if `f` failed, and `Memory`. A prefix of the contents was written.
     fn write_self<W: Sink>(&self, alloc: Global, f: &mut W, style: &Style) -> Result<(), DrawError>
         ensures bytes { IsWritten (W.contents f.old) (W.contents f.new) result
             ((Self.shape self.now).own [] (style_value style.now)) }
         ensures cause { HasCause (W.faults f.old) (W.faults f.new) result };
 
-    /// The item's children, in order. A leaf item has none.
+    /// Returns the item's children, in order. A leaf has none.
     ///
     /// # Errors
     ///
@@ -56,18 +57,18 @@ pub trait TreeItem: Shaped {
             (λ c. map Self.Child.shape (children_items c) ≡ kids (Self.shape self.now)) };
 }
 
-/// Children of an item: those that it holds, or ones that were made for the call.
+/// The children of an item: those that it holds, or those made for the call.
 #[derive(Debug, Drop)]
 pub enum Children<'a, C> {
-    /// The item's own.
+    /// The item's own children.
     Lent(&'a [C]),
 
-    /// Made by [`TreeItem::children`].
+    /// Children made by [`TreeItem::children`].
     Made(Vec<C>),
 }
 
 impl<'a, C> Children<'a, C> {
-    /// The children, in order.
+    /// Returns the children, in order.
     pub fn as_slice(&self) -> &[C]
         ensures { result.now ≡ children_items self.now }
     {
@@ -78,7 +79,7 @@ impl<'a, C> Children<'a, C> {
     }
 }
 
-/// A simple concrete implementation of [`TreeItem`] by texts.
+/// A simple concrete implementation of [`TreeItem`]: each item has a text.
 #[derive(Debug, Drop)]
 pub struct StringItem {
     /// The item's own text, which is written painted.
@@ -91,7 +92,7 @@ pub struct StringItem {
 impl StringItem {
     ghost use Rattle.ptree.specs.Tree.{tree_of};
 
-    /// The same texts and children, in memory of their own.
+    /// Returns a deep copy: the same texts and children.
     ///
     /// # Errors
     ///
@@ -123,7 +124,7 @@ impl TreeItem for StringItem {
 
     type Child = StringItem;
 
-    /// Writes the text, painted. It takes no memory.
+    /// Writes the text painted. It does not allocate.
     #[inline(always)]
     fn write_self<W: Sink>(&self, _alloc: Global, f: &mut W, style: &Style) -> Result<(), DrawError>
         ensures bytes { IsWritten (W.contents f.old) (W.contents f.new) result
@@ -134,7 +135,7 @@ impl TreeItem for StringItem {
         style.write_painted(f, self.text.as_str())
     }
 
-    /// Lends the children. It takes no memory, and succeeds.
+    /// Lends the children. It does not allocate, and always succeeds.
     fn children(&self, _alloc: Global) -> Result<Children<'_, StringItem>, AllocError>
         ensures shapes { IfOk result (λ c.
             map (λ s. shape_of_tree (tree_of s)) (children_items c)

@@ -1,9 +1,10 @@
-//! Draws any tree as text with branches, and reads such a drawing back, exactly.
+//! Draws any tree as text with branches, and reads such a drawing back exactly.
 //!
-//! What can be drawn is a [`TreeItem`]: a tree of texts ([`item::StringItem`], which [`TreeBuilder`] builds), a node of a
-//! [`graph::Graph`], a [`value::Value`], or a type of your own. [`write_tree_with`] draws it to any [`style::Sink`] as a
-//! [`PrintConfig`] says, and [`read::read_tree`] returns the tree whose drawing a text is. Where a text stops being one, says
-//! [`read::read_tree_or_line`].
+//! You can draw any [`TreeItem`]: a tree of texts ([`item::StringItem`], which [`TreeBuilder`]
+//! builds), a node of a [`graph::Graph`], a [`value::Value`], or a type of your own.
+//! [`write_tree_with`] draws it to any [`style::Sink`] as a [`PrintConfig`] says.
+//! [`read::read_tree`] returns the tree of a drawing. [`read::read_tree_or_line`] also says where a
+//! text stops being a drawing.
 //!
 //! ```text
 //! tree
@@ -12,8 +13,9 @@
 //! └─ empty branch
 //! ```
 //!
-//! Each call that takes memory takes an allocator, and returns an error where memory ran out. Each call that writes has two clauses: what it
-//! appends (all of it on success, a beginning of it on a refusal), and that `Write` and `Zero` come exactly where the sink failed.
+//! Each call that allocates takes an allocator, and returns an error if memory runs out. Each call
+//! that writes has two clauses. One says what it appends: all of it on success, a prefix of it on
+//! failure. The other says that `Write` and `Zero` are returned exactly when the sink failed.
 #![tactic(auto)]
 
 pub mod buffered;

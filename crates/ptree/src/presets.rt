@@ -1,4 +1,4 @@
-//! What other programs draw with.
+//! Configurations that draw as other programs do.
 ghost use Rattle.std.specs.Prelude.{◌≡◌, IfOk};
 ghost use Rattle.ptree.specs.Characters.{static_characters};
 ghost use Rattle.ptree.specs.Configuration.{config_value};
@@ -40,7 +40,7 @@ pub enum Preset {
     /// `clang -Xclang -ast-dump`.
     Clang,
 
-    /// `ps --forest -o args=`, which turns the last child like the others.
+    /// `ps --forest -o args=`, which draws the last child like the others.
     Ps,
 }
 
@@ -61,7 +61,7 @@ const PS_CHARS: StaticIndentChars = StaticIndentChars {
 };
 
 impl Preset {
-    // The characters, the indent and the padding.
+    // Returns the characters, the indent and the padding.
     fn pieces(self) -> (StaticIndentChars, usize, usize)
         ensures { drawn_with (static_characters result.0) result.1 result.2 ≡ preset_value self }
     {
@@ -77,8 +77,8 @@ impl Preset {
         }
     }
 
-    /// The default configuration, but with the program's characters, indent and padding. Its pieces are readable, so
-    /// [`read_tree`](crate::read::read_tree) takes it.
+    /// Returns the default configuration with the program's characters, indent and padding. Its
+    /// pieces are readable, so you can pass it to [`read_tree`](crate::read::read_tree).
     ///
     /// # Errors
     ///

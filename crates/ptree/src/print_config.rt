@@ -1,4 +1,4 @@
-//! How trees are drawn: characters, configuration, and what a configuration is loaded from.
+//! How trees are drawn: characters, the configuration, and its sources.
 ghost use Rattle.std.specs.Prelude.{◌≡◌, ◌↔◌, IfOk, IsTrue, true, IsErrOf, Some, None, string_bytes};
 ghost use Rattle.ptree.specs.Characters.{characters_of, static_characters, set_named};
 ghost use Rattle.ptree.specs.Config.{IsDefault, is_styled};
@@ -35,7 +35,7 @@ pub enum StyleWhen {
     /// All output is styled.
     Always,
 
-    /// Standard output is styled where it is a terminal, and nothing else is.
+    /// Standard output is styled if it is a terminal; nothing else is.
     Tty,
 }
 
@@ -66,10 +66,11 @@ impl Eq for StyleWhen {
 /// How a tree is drawn.
 #[derive(Debug, Drop)]
 pub struct PrintConfig {
-    /// The greatest level that is drawn; the root has level 0. The default is 4294967295, the greatest there is.
+    /// The greatest level that is drawn; the root has level 0. The default is 4294967295, the
+    /// greatest `u32`.
     pub depth: u32,
 
-    /// How many characters a piece is wide, the padding among them. The default is 3.
+    /// The width of a piece in characters, including the padding. The default is 3.
     pub indent: usize,
 
     /// How many `empty` characters end a piece, before the item's text. The default is 1.
@@ -87,7 +88,8 @@ pub struct PrintConfig {
     /// The style of items' texts. The default is plain.
     pub leaf: Style,
 
-    /// The mark that stands before each further line of an item's text, behind the pieces. The default is a colon and a space.
+    /// The marker before each further line of an item's text, after the pieces. The default is a
+    /// colon and a space.
     pub continued: String,
 }
 
@@ -133,13 +135,14 @@ impl Eq for PrintConfig {
     ghost laws = { config_equivalence };
 }
 
-/// What a writer stands for. Standard output is a kind of its own, since one can ask whether it is a terminal.
+/// The kind of a writer. Standard output is a kind of its own, since one can ask whether it is a
+/// terminal.
 #[derive(Debug, Clone, Copy)]
 pub enum OutputKind {
     /// What the program writes to its user.
     Stdout,
 
-    /// Anything else, as a file or a text.
+    /// Anything else, such as a file or a text.
     Unknown,
 }
 
@@ -168,15 +171,16 @@ impl Eq for OutputKind {
 }
 
 impl PrintConfig {
-    /// The configuration that sources mean: what [`load`] returns, or the default whole where there is a fault in them.
+    /// Returns the configuration of the sources, as [`load`] does, or the complete default if there
+    /// is a fault in them.
     ///
     /// # Errors
     ///
-    /// Memory ran out. The default isn't returned for it.
+    /// Memory ran out. The default is not used then.
     #[tactic(auto, using(crate::proofs::Configurations::nothing_meant))]
     pub fn from_env(alloc: Global, sources: &Sources) -> Result<PrintConfig, AllocError>
         ensures value { IfOk result (λ config. config_value config ≡ meant_by sources.now) }
-        // Where there is no file, and no variable of a field, they mean the default.
+        // Without a file, and without a variable of any field, the sources mean the default.
         ensures nothing { SayNothing sources.now → meant_by sources.now ≡ default_configuration }
     {
         match load(alloc, sources)? {
@@ -185,7 +189,7 @@ impl PrintConfig {
         }
     }
 
-    /// The configuration that is used where nothing else is said.
+    /// Returns the default configuration.
     ///
     /// # Errors
     ///
@@ -206,7 +210,7 @@ impl PrintConfig {
         })
     }
 
-    /// Whether output of a kind is styled, `terminal` saying whether standard output is a terminal.
+    /// Whether output of a kind is styled. `terminal` says whether standard output is a terminal.
     pub fn should_style_output(&self, output_kind: OutputKind, terminal: bool) -> bool
         ensures { result ≡ is_styled self.now.styled output_kind terminal }
     {
@@ -217,7 +221,7 @@ impl PrintConfig {
         }
     }
 
-    /// The text, painted by the style of branches.
+    /// Returns the text painted in the style of branches.
     ///
     /// # Errors
     ///
@@ -229,7 +233,7 @@ impl PrintConfig {
         self.branch.paint(alloc, input)
     }
 
-    /// The text, painted by the style of leaves.
+    /// Returns the text painted in the style of leaves.
     ///
     /// # Errors
     ///
@@ -241,7 +245,7 @@ impl PrintConfig {
         self.leaf.paint(alloc, input)
     }
 
-    /// A configuration that equals this one.
+    /// Returns a configuration equal to this one.
     ///
     /// # Errors
     ///
@@ -262,7 +266,7 @@ impl PrintConfig {
     }
 }
 
-// The plain style, but dimmed.
+// Returns the plain style with dimmed text.
 fn dimmed_style() -> Style
     ensures { result ≡ record plain_style { dimmed = true } }
 {
@@ -271,7 +275,7 @@ fn dimmed_style() -> Style
     style
 }
 
-/// The characters that branches are drawn with. Each may be any text, an empty one too.
+/// The characters that branches are drawn with. Each may be any text, even an empty one.
 #[derive(Debug, Drop)]
 pub struct IndentChars {
     /// Points down and right (`├`).
@@ -286,7 +290,7 @@ pub struct IndentChars {
     /// Points right (`─`).
     pub right: String,
 
-    /// Stands for nothing (` `).
+    /// A blank (` `).
     pub empty: String,
 }
 
@@ -319,7 +323,7 @@ impl Eq for IndentChars {
 }
 
 impl IndentChars {
-    /// The characters of a shipped set, or of one of your own.
+    /// Returns the characters of a shipped set, or of one of your own.
     ///
     /// # Errors
     ///
@@ -337,7 +341,7 @@ impl IndentChars {
         )
     }
 
-    // Characters of these texts.
+    // Makes characters of these texts.
     fn from_texts(
         alloc: Global,
         down_and_right: &str,
@@ -363,7 +367,7 @@ impl IndentChars {
         })
     }
 
-    /// Characters that equal these.
+    /// Returns characters equal to these.
     ///
     /// # Errors
     ///
@@ -381,12 +385,12 @@ impl IndentChars {
         )
     }
 
-    /// The shipped set of a name: `utf`, `ascii` or `ascii-tick`, `ascii-plus`, `utf-bold`, `utf-dashed` or `utf-double`,
-    /// exactly as spelled.
+    /// Returns the shipped set of this name: `utf`, `ascii` or `ascii-tick`, `ascii-plus`,
+    /// `utf-bold`, `utf-dashed` or `utf-double`, exactly as spelled.
     ///
     /// # Errors
     ///
-    /// `Unknown` for any other text, and `Memory`.
+    /// `Unknown` for any other name, and `Memory`.
     pub fn from_name(alloc: Global, s: &str) -> Result<IndentChars, CharsError>
         ensures set { IfOk result (λ c. set_named s.now ≡ Some (characters_of c)) }
         ensures unknown { IsErrOf result CharsError.Unknown ↔ (set_named s.now ≡ None) }
@@ -398,7 +402,7 @@ impl IndentChars {
     }
 }
 
-/// Why no set was made from a name.
+/// Why a name gave no set.
 #[derive(Debug, Clone, Copy)]
 pub enum CharsError {
     /// No shipped set has that name.
@@ -463,7 +467,7 @@ impl fmt::Display for CharsError {
 
 impl Error for CharsError {}
 
-/// Characters that need no memory, as those that are shipped.
+/// Characters that need no memory, such as the shipped sets.
 #[derive(Debug, Clone, Copy)]
 pub struct StaticIndentChars {
     /// Points down and right (`├`).
@@ -478,7 +482,7 @@ pub struct StaticIndentChars {
     /// Points right (`─`).
     pub right: &'static str,
 
-    /// Stands for nothing (` `).
+    /// A blank (` `).
     pub empty: &'static str,
 }
 
@@ -511,7 +515,7 @@ impl Eq for StaticIndentChars {
     ghost laws = { characters_equivalence static_characters };
 }
 
-/// ASCII characters, with a tick for turning right, as `tree --charset=ascii` draws.
+/// ASCII characters, with a tick for turning right, as in `tree --charset=ascii`.
 pub const ASCII_CHARS_TICK: StaticIndentChars = StaticIndentChars {
     down_and_right: "|",
     down: "|",
@@ -529,8 +533,8 @@ pub const ASCII_CHARS_PLUS: StaticIndentChars = StaticIndentChars {
     empty: " ",
 };
 
-/// Regular box-drawing characters, as `tree` draws; but behind its bars `tree` puts no-break spaces
-/// ([`Preset::Tree`](crate::presets::Preset::Tree)).
+/// Regular box-drawing characters, as in `tree`. But `tree` puts no-break spaces after its bars, as
+/// [`Preset::Tree`](crate::presets::Preset::Tree) does.
 pub const UTF_CHARS: StaticIndentChars = StaticIndentChars {
     down_and_right: "├",
     down: "│",
@@ -566,13 +570,13 @@ pub const UTF_CHARS_DASHED: StaticIndentChars = StaticIndentChars {
     empty: " ",
 };
 
-/// What the caller found of a configuration file.
+/// The configuration file, as the caller found it.
 #[derive(Debug, Drop)]
 pub enum FileSource {
-    /// There is none.
+    /// There is no file.
     Absent,
 
-    /// There is one, but it couldn't be read as UTF-8.
+    /// There is a file, but it could not be read as UTF-8.
     Unreadable,
 
     /// The text of a TOML file.
@@ -582,12 +586,12 @@ pub enum FileSource {
     Json(String),
 }
 
-/// What a configuration is loaded from: a file, and environment variables as pairs of name and value.
+/// The sources of a configuration: a file, and environment variables as pairs of name and value.
 #[derive(Debug, Drop)]
 pub struct Sources {
     /// The file.
     pub file: FileSource,
 
-    /// The variables, in order. Of those of one name the last one counts.
+    /// The variables, in order. If a name occurs several times, its last value counts.
     pub variables: Vec<(String, String)>,
 }

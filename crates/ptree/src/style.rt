@@ -1,4 +1,4 @@
-//! Styles and colours, what takes and gives bytes, and the loop that writes.
+//! Styles and colours, the byte streams `Sink` and `Feed`, and the loop that writes.
 ghost use Rattle.std.specs.Io.{ReadsAtMost};
 ghost use Rattle.std.specs.Io.KnownBytes.{WriteAppends, ReadConsumes};
 ghost use Rattle.std.specs.Prelude.{◌≡◌, ◌≢◌, ◌↔◌, ℕ, ◌+◌, ◌≤◌, List, [], IfOk, IsOk, OnOk, OnErr, IsTrue, Option, length, string_bytes};
@@ -18,18 +18,19 @@ use std::{fmt, io};
 
 /// How a text is painted on a terminal.
 ///
-/// A painted text is the codes of the style, the text, and a reset; the text alone where the style has no code. Each flag that is
-/// set has a code, and each colour but a name that isn't known. The flags come first, in the order of the fields, then the
-/// foreground, then the background, which is this crate's choice. The flags' parameters are those of ECMA-48, SELECT GRAPHIC
+/// A painted text is the style's codes, the text, and a reset. A style without codes leaves the
+/// text as it is. Each flag that is set has a code, and so has each colour except an unknown name.
+/// The flags come first, in the order of the fields, then the foreground, then the background. That
+/// order is this crate's choice. The flags' parameters are those of ECMA-48, SELECT GRAPHIC
 /// RENDITION.
 ///
 /// Unlike the original crate, this one paints blink, reverse, hidden and strikethrough too.
 #[derive(Debug, Drop)]
 pub struct Style {
-    /// The colour of the text; with none it stays as it is.
+    /// The colour of the text. `None` leaves it unchanged.
     pub foreground: Option<Color>,
 
-    /// The colour behind the text; with none it stays as it is.
+    /// The colour behind the text. `None` leaves it unchanged.
     pub background: Option<Color>,
 
     /// Bold text.
@@ -47,13 +48,13 @@ pub struct Style {
     /// Blinking text.
     pub blink: bool,
 
-    /// Text in the colours exchanged.
+    /// Text with its two colours exchanged.
     pub reverse: bool,
 
     /// Hidden text.
     pub hidden: bool,
 
-    /// Text that is struck through.
+    /// Struck-through text.
     pub strikethrough: bool,
 }
 
@@ -101,15 +102,16 @@ impl Style {
     }
 }
 
-/// A colour, of a text or of what is behind it.
+/// A colour of a text or of its background.
 ///
-/// The codes of the eight colours are those of ECMA-48; those of a table's number and of three bytes are xterm's. `==` compares
-/// names by their bytes. Neither it nor painting to a [`Sink`] takes memory.
+/// The codes of the eight colours are those of ECMA-48. The codes of [`Color::Fixed`] and
+/// [`Color::RGB`] are xterm's. `==` compares names by their bytes. Neither `==` nor painting to a
+/// [`Sink`] allocates.
 #[derive(Debug, Drop)]
 pub enum Color {
     /// Colour 0 (foreground code 30, background code 40). It is the default.
     ///
-    /// On a terminal with a dark background a text in it can hardly be read.
+    /// A text in it is hard to read on a terminal with a dark background.
     Black,
 
     /// Colour 1 (foreground code 31, background code 41).
@@ -132,21 +134,25 @@ pub enum Color {
 
     /// Colour 7 (foreground code 37, background code 47).
     ///
-    /// On a terminal with a light background a text in it can hardly be read.
+    /// A text in it is hard to read on a terminal with a light background.
     White,
 
-    /// A colour by its number in the terminal's table of 256 (foreground code 38;5;n, background code 48;5;n).
+    /// A colour by its number in the terminal's table of 256 (foreground code 38;5;n, background
+    /// code 48;5;n).
     Fixed(u8),
 
-    /// A 24-bit colour by its bytes of red, green and blue (foreground code 38;2;r;g;b, background code 48;2;r;g;b).
+    /// A 24-bit colour by its bytes of red, green and blue (foreground code 38;2;r;g;b, background
+    /// code 48;2;r;g;b).
     RGB(u8, u8, u8),
 
-    /// A colour by its name. The first rule that fits decides, which is this crate's choice:
+    /// A colour by its name. The first rule that matches decides, which is this crate's choice:
     ///
-    /// 1. `black`, `red`, `green`, `yellow`, `blue`, `purple`, `cyan` and `white`, exactly, are the eight colours.
+    /// 1. `black`, `red`, `green`, `yellow`, `blue`, `purple`, `cyan` and `white`, exactly, are the
+    ///    eight colours.
     /// 2. `#` and exactly six hexadecimal digits of any case are the bytes of red, green and blue.
-    /// 3. The sixteen names of HTML 4.01, `steelblue` and `mediumseagreen`, in any ASCII case, are the bytes that they stand for.
-    /// 4. Any other text sets no colour, and has no code.
+    /// 3. The sixteen names of HTML 4.01, `steelblue` and `mediumseagreen`, in any ASCII case, are
+    ///    the bytes that they stand for.
+    /// 4. Any other name sets no colour, and has no code.
     Named(String),
 }
 
@@ -187,14 +193,14 @@ impl Eq for Color {
 }
 
 impl Color {
-    /// Colour 0 of the eight.
+    /// Returns colour 0 of the eight.
     pub fn default() -> Color
         ensures { result ≡ Color.Black }
     {
         Color::Black
     }
 
-    /// A colour that equals this one.
+    /// Returns a colour equal to this one.
     ///
     /// # Errors
     ///
@@ -219,7 +225,7 @@ impl Color {
 }
 
 impl Style {
-    /// The plain style: no colour and no flag.
+    /// Returns the plain style: no colour and no flag.
     pub fn default() -> Style
         ensures { result ≡ plain_style }
     {
@@ -237,7 +243,7 @@ impl Style {
         }
     }
 
-    /// The painted text: the codes, `input`, and the reset where there is a code.
+    /// Returns the painted text: the codes, `input`, and a reset if there is a code.
     ///
     /// # Errors
     ///
@@ -245,10 +251,10 @@ impl Style {
     pub fn paint(&self, alloc: Global, input: &str) -> Result<String, AllocError>
         ensures text { IfOk result (λ text.
             string_bytes text ≡ painted_text (style_value self.now) input.now) }
-        // A style without codes paints a text as itself.
+        // A style without codes leaves the text as it is.
         ensures plain { style_codes (style_value self.now) ≡ []
             → IfOk result (λ text. string_bytes text ≡ input.now) }
-        // So does one with no flag set, and no colour that has a code.
+        // A style with no flag set, and no colour that has a code, also leaves the text as it is.
         ensures unset { IsPlain (style_value self.now)
             → IfOk result (λ text. string_bytes text ≡ input.now) }
     {
@@ -259,11 +265,11 @@ impl Style {
         Ok(text)
     }
 
-    /// Writes `input` painted according to this style. It takes no memory.
+    /// Writes `input` painted in this style. It does not allocate.
     ///
     /// # Errors
     ///
-    /// `Write` or `Zero` where `f` failed. A beginning of the painted text was written.
+    /// `Write` or `Zero` if `f` failed. A prefix of the painted text was written.
     #[inline(always)]
     pub fn write_painted<W: Sink>(&self, f: &mut W, input: &str) -> Result<(), DrawError>
         ensures bytes { IsWritten (W.contents f.old) (W.contents f.new) result
@@ -282,8 +288,8 @@ impl Style {
         }
     }
 
-    // Writes the painted text of any style, and leaves in `error` what the sink's failure was. It stands apart, since each call pays
-    // for the room of the codes.
+    // Writes the text painted in any style, and stores a failure of the sink in `error`. It is a
+    // function of its own, since each call pays for the buffer of the codes.
     #[inline(never)]
     fn write_with_codes<W: Sink>(
         &self,
@@ -305,7 +311,7 @@ impl Style {
         put_or_stop(f, codes.reset().as_bytes(), error)
     }
 
-    /// A style that equals this one.
+    /// Returns a style equal to this one.
     ///
     /// # Errors
     ///
@@ -327,7 +333,7 @@ impl Style {
         })
     }
 
-    // Whether there is no flag and no colour.
+    // Whether no flag and no colour is set.
     #[inline(always)]
     fn is_plain(&self) -> bool
         ensures { IsTrue result → style_codes (style_value self.now) ≡ [] }
@@ -346,7 +352,7 @@ impl Style {
         self.foreground.is_none() && self.background.is_none()
     }
 
-    /// What stands before a painted text.
+    /// Returns the codes before a painted text.
     pub(crate) fn front_text(&self, alloc: Global) -> Result<String, AllocError>
         ensures { IfOk result (λ text. string_bytes text ≡ front_codes (style_value self.now)) }
     {
@@ -354,7 +360,7 @@ impl Style {
         String::from_str(alloc, codes.as_str())
     }
 
-    /// What stands after a painted text.
+    /// Returns the codes after a painted text.
     pub(crate) fn back_text(&self, alloc: Global) -> Result<String, AllocError>
         ensures { IfOk result (λ text. string_bytes text ≡ back_codes (style_value self.now)) }
     {
@@ -363,16 +369,16 @@ impl Style {
     }
 }
 
-/// Why a call that writes to a [`Sink`] gave up.
+/// Why a call that writes to a [`Sink`] failed.
 ///
-/// `Write` and `Zero` come exactly where the sink failed during the call. What was written is a beginning of what should
-/// have been.
+/// `Write` and `Zero` are returned exactly when the sink failed during the call. A prefix of the
+/// intended output was written.
 #[derive(Debug, Drop)]
 pub enum DrawError {
-    /// The sink returned an error. An interruption is one, and is not tried again.
+    /// The sink returned an error. An interruption is an error too, and is not retried.
     Write(io::Error),
 
-    /// The sink took none of the bytes that it was given.
+    /// The sink accepted none of the bytes that it was given.
     Zero,
 
     /// Memory ran out.
@@ -404,7 +410,7 @@ impl From<DrawError> for io::Error {
 
     ghost from_gives = { IsIoError };
 
-    /// The writer's own error; that of a write that took nothing; or out of memory.
+    /// Returns the writer's own error, or one of the kind `WriteZero` or `OutOfMemory`.
     fn from(e: DrawError) -> io::Error {
         match e {
             DrawError::Write(e) => e,
@@ -426,45 +432,45 @@ impl fmt::Display for DrawError {
 
 impl Error for DrawError {}
 
-/// What takes bytes and may fail.
+/// A destination of bytes, which may fail.
 pub trait Sink {
-    /// The bytes that it holds, where they are known.
+    /// The bytes that it holds, if they are known.
     ghost contents: { Self → Option (List ℕ) };
 
     /// How often it has failed.
     ghost faults: { Self → ℕ };
 
-    /// Takes a beginning of the bytes, and returns its length, as `std::io::Write::write` does.
+    /// Accepts a prefix of the bytes, and returns its length, as `std::io::Write::write` does.
     ///
     /// # Errors
     ///
-    /// The sink failed, and took nothing.
+    /// The sink failed, and accepted nothing.
     fn put(&mut self, bytes: &[u8]) -> io::Result<usize>
         ensures bound { IfOk result (λ n. n ≤ length bytes.now) }
         ensures bytes { WriteAppends (contents self.old) (contents self.new) result bytes.now }
         ensures faults { faults self.new ≡ faults self.old + put_faults result bytes.now };
 }
 
-/// What gives bytes and may fail.
+/// A source of bytes, which may fail.
 pub trait Feed {
-    /// The bytes that it still has, where they are known.
+    /// The bytes still to come, if they are known.
     ghost remaining: { Self → Option (List ℕ) };
 
     /// How often it has failed.
     ghost faults: { Self → ℕ };
 
-    /// Fills a beginning of the room, and returns its length, as `std::io::Read::read` does.
+    /// Fills a prefix of `room`, and returns its length, as `std::io::Read::read` does.
     ///
     /// # Errors
     ///
-    /// The feed failed, and gave nothing.
+    /// The feed failed, and returned no bytes.
     fn get(&mut self, room: &mut [u8]) -> io::Result<usize>
         ensures bound { ReadsAtMost result room.new }
         ensures bytes { ReadConsumes (remaining self.old) (remaining self.new) result room.new }
         ensures faults { faults self.new ≡ faults self.old + get_faults result };
 }
 
-/// A [`Sink`] of any writer, and a [`Feed`] of any reader. It takes no memory of its own.
+/// Makes a [`Sink`] of any writer, and a [`Feed`] of any reader. It does not allocate itself.
 #[derive(Drop)]
 pub struct Counted<T> {
     inner: T,
@@ -472,7 +478,7 @@ pub struct Counted<T> {
 }
 
 impl<T> Counted<T> {
-    /// Lends a writer or a reader its count of faults, from 0.
+    /// Wraps a writer or a reader, with a fault count of 0.
     pub fn new(inner: T) -> Counted<T>
         ensures faults { fault_count result ≡ 0 }
         ensures inner { inner_value result ≡ inner }
@@ -483,7 +489,7 @@ impl<T> Counted<T> {
         }
     }
 
-    /// The writer or reader.
+    /// Returns the writer or reader.
     pub fn into_inner(self) -> T
         ensures { result ≡ inner_value self }
     {
@@ -528,7 +534,8 @@ impl<T: io::Read> Feed for Counted<T> {
     }
 }
 
-// Writes codes, as `put_or_stop` does. Most often there is one, a flag's: four bytes are copied at once where their number is known.
+// Writes codes, as `put_or_stop` does. Usually there is one code, a flag's: its four bytes are
+// copied at once, because their number is known.
 #[inline(always)]
 fn put_codes<W: Sink>(f: &mut W, codes: &[u8], error: &mut DrawError) -> Result<(), Stop>
     requires { error.old ≡ Memory }
@@ -543,16 +550,17 @@ fn put_codes<W: Sink>(f: &mut W, codes: &[u8], error: &mut DrawError) -> Result<
     }
 }
 
-/// Writes all the bytes, and what a sink leaves of them again. For no bytes nothing is asked of the sink.
+/// Writes all the bytes, and passes the sink again what it has not accepted. If there are no bytes,
+/// the sink is not called.
 ///
 /// # Errors
 ///
-/// `Write` or `Zero`, and a beginning of the bytes was written.
+/// `Write` or `Zero`. A prefix of the bytes was written.
 pub fn put_all<W: Sink>(f: &mut W, bytes: &[u8]) -> Result<(), DrawError>
     ensures bytes { IsWritten (W.contents f.old) (W.contents f.new) result bytes.now }
     ensures cause { HasCause (W.faults f.old) (W.faults f.new) result }
     ensures memory { TakesNoMemory result }
-    // For no bytes nothing is put, and no fault is counted.
+    // If there are no bytes, nothing is put, and no fault is counted.
     ensures none { bytes.now ≡ [] → IsOk result × (f.new ≡ f.old) }
 {
     let mut rest = bytes;
@@ -566,7 +574,7 @@ pub fn put_all<W: Sink>(f: &mut W, bytes: &[u8]) -> Result<(), DrawError>
     Ok(())
 }
 
-/// The end of writing at an error, which stands elsewhere. A result that holds none is small.
+/// Writing stopped; the caller holds the error. So a result stays small.
 #[derive(Drop)]
 pub(crate) struct Stop;
 
@@ -578,7 +586,7 @@ impl From<AllocError> for Stop {
     }
 }
 
-/// Writes all the bytes, as [`put_all`] does, and leaves in `error` what the sink's failure was.
+/// Writes all the bytes, as [`put_all`] does, and stores a failure of the sink in `error`.
 #[inline(always)]
 pub(crate) fn put_or_stop<W: Sink>(
     f: &mut W,

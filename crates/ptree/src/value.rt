@@ -1,4 +1,4 @@
-//! Values of documents, and what is drawn of them.
+//! Values of documents, and how they are drawn.
 ghost use Rattle.std.specs.Prelude.{◌≡◌, [], map, IfOk};
 ghost use Rattle.ptree.specs.Children.{children_items};
 ghost use Rattle.ptree.specs.Data.{is_list, item_pairs, entry_pair, entry_pairs, value_pairs, pair_shape, value_shape};
@@ -22,9 +22,10 @@ use node::Node;
 use std::alloc::{AllocError, Global};
 use text::ROOM;
 
-/// A value of any kind that a document may hold, but floats and dates.
+/// A value of any kind that a document can hold, except floats and dates.
 ///
-/// Its text is what is drawn of it. What has no text of its own, as a list, has the empty one.
+/// A value is drawn as its text. A value without a text of its own, such as a list, has the empty
+/// text.
 #[derive(Debug, Drop)]
 pub enum Value {
     /// `true` or `false`, which is also its text.
@@ -57,16 +58,18 @@ pub enum Value {
     /// A character, which is its own text.
     Char(char),
 
-    /// A text, which is its own.
+    /// A text, which is its own text.
     String(String),
 
-    /// A value without contents, as JSON's null.
+    /// A value without contents, such as JSON's null.
     Unit,
 
-    /// A value that may be missing. Its text is that of the value; its children, if it has any, are not drawn.
+    /// A value that may be missing. Its text is that of the value; the value's children are not
+    /// drawn.
     Option(Option<Box<Value>>),
 
-    /// A value in another. Its text is that of the value; its children, if it has any, are not drawn.
+    /// A value wrapped in another. Its text is that of the value; the value's children are not
+    /// drawn.
     Newtype(Box<Value>),
 
     /// A list.
@@ -80,7 +83,7 @@ pub enum Value {
 }
 
 impl Value {
-    /// The same value, in memory of its own.
+    /// Returns a deep copy.
     ///
     /// # Errors
     ///
@@ -111,7 +114,7 @@ impl Value {
         }
     }
 
-    // A pair for each child: of a list each element, and of a map each entry.
+    // Returns a pair for each child: for each element of a list, or for each entry of a map.
     fn pairs(&self, alloc: Global) -> Result<Vec<(String, Value)>, AllocError>
         ensures { IfOk result (λ pairs. map pair_of pairs.items ≡ value_pairs (data_of self.now)) }
     {
@@ -122,7 +125,7 @@ impl Value {
         }
     }
 
-    // Whether it is a list or a map.
+    // Whether the value is a list or a map.
     fn is_list(&self) -> bool
         ensures { result ≡ is_list (data_of self.now) }
     {
@@ -172,7 +175,7 @@ impl Shaped for Value {
 impl TreeItem for Value {
     type Child = (String, Value);
 
-    /// Writes the value's text, painted. It takes no memory.
+    /// Writes the value's text painted. It does not allocate.
     fn write_self<W: Sink>(&self, alloc: Global, f: &mut W, style: &Style) -> Result<(), DrawError>
         ensures bytes { IsWritten (W.contents f.old) (W.contents f.new) result
             ((value_shape (data_of self.now)).own [] (style_value style.now)) }
@@ -182,7 +185,8 @@ impl TreeItem for Value {
         Node::Labelled("", self).write_self(alloc, f, style)
     }
 
-    /// Makes a pair of each element of a list, and of each entry of a map, in order. Other values have no children.
+    /// Makes a pair of each element of a list, and of each entry of a map, in order. Other values
+    /// have no children.
     fn children(&self, alloc: Global) -> Result<Children<'_, (String, Value)>, AllocError>
         ensures shapes { IfOk result (λ c.
             map (λ p. pair_shape (pair_of p)) (children_items c)
@@ -204,7 +208,7 @@ impl Shaped for (String, Value) {
 impl TreeItem for (String, Value) {
     type Child = (String, Value);
 
-    /// Writes the label, or where it is empty the value's text, painted. It takes no memory.
+    /// Writes the label painted, or the value's text if the label is empty. It does not allocate.
     fn write_self<W: Sink>(&self, alloc: Global, f: &mut W, style: &Style) -> Result<(), DrawError>
         ensures bytes { IsWritten (W.contents f.old) (W.contents f.new) result
             ((pair_shape (pair_of self.now)).own [] (style_value style.now)) }
@@ -226,7 +230,7 @@ impl TreeItem for (String, Value) {
     }
 }
 
-// A pair of the empty label and each element.
+// Makes a pair of the empty label and each element.
 fn item_pairs(alloc: Global, items: &[Value]) -> Result<Vec<(String, Value)>, AllocError>
     ensures { IfOk result (λ pairs. map pair_of pairs.items ≡ item_pairs (items_meant items.now)) }
 {
@@ -237,7 +241,7 @@ fn item_pairs(alloc: Global, items: &[Value]) -> Result<Vec<(String, Value)>, Al
     Ok(pairs)
 }
 
-// A pair of each key and its value.
+// Makes a pair of each key and its value.
 fn entry_pairs(
     alloc: Global,
     entries: &[(Value, Value)],
@@ -252,7 +256,8 @@ fn entry_pairs(
     Ok(pairs)
 }
 
-// A list or a map under its key, or else the text `key = value`.
+// Makes the pair of an entry: a list or a map under its key, and any other value as the text `key =
+// value`.
 fn entry_pair(alloc: Global, key: &Value, value: &Value) -> Result<(String, Value), AllocError>
     ensures { IfOk result (λ p. pair_of p ≡ entry_pair (data_of key.now) (data_of value.now)) }
 {

@@ -1,4 +1,4 @@
-//! What a call is given by its surroundings: words, variables, and the file of its configuration.
+//! What a call gets from its surroundings: words, variables, and its configuration file.
 
 use crate::input::{ReadError, read_bytes};
 use crate::opened::Opened;
@@ -12,20 +12,20 @@ use std::io::{self, ErrorKind, Read};
 use std::os::unix::fs::{FileTypeExt, MetadataExt};
 use std::rt::Files;
 
-/// The arguments, without the program's name.
+/// Returns the arguments, without the program's name.
 ///
 /// # Errors
 ///
-/// `OutOfMemory` where memory ran out, else one of the arguments isn't UTF-8.
+/// `OutOfMemory` if memory ran out. Any other error means that an argument is not UTF-8.
 pub fn words<R: Env + AllocGlobal>(rt: &R) -> io::Result<Vec<String>> {
     let words = env::args(rt)?.skip(1).collect(rt.alloc())?;
     Ok(words)
 }
 
-/// The entries of the environment, in order.
+/// Returns the entries of the environment, in order.
 ///
-/// They are those of the system's file. `Env::var_at` goes over all entries before the one that it is asked for, and so counts only
-/// where there is no such file.
+/// They are read from the system's file. `Env::var_at` walks over all entries before the one that
+/// it is asked for, so it is used only if there is no such file.
 ///
 /// # Errors
 ///
@@ -51,7 +51,7 @@ where
     Ok(found)
 }
 
-// The entries, each ended by a zero byte, or nothing where the system's file can't be read.
+// Returns the entries, each ended by a zero byte, or nothing if the system's file cannot be read.
 fn environment_block<R: Files>(rt: &R, alloc: Global) -> Result<Vec<u8>, AllocError>
 where
     R::File: Drop,
@@ -68,12 +68,13 @@ where
     }
 }
 
-// The room for most entries, 256 bytes. It is doubled for longer ones.
+// Returns the first buffer size, 256 bytes. It suffices for most entries, and is doubled for longer
+// ones.
 fn first_size() -> usize {
     256
 }
 
-// One entry of the environment, as bytes.
+// Returns one entry of the environment, as bytes.
 fn entry<R: Env>(rt: &R, alloc: Global, i: usize) -> Result<Option<Vec<u8>>, AllocError> {
     let mut size = first_size();
     for _ in 0..50u8 {
@@ -90,7 +91,8 @@ fn entry<R: Env>(rt: &R, alloc: Global, i: usize) -> Result<Option<Vec<u8>>, All
     Err(AllocError)
 }
 
-/// The first file that is there. Where none is, and the user named the paths, that counts as a file that can't be read.
+/// Returns the first file that exists. If none exists, and the user named the paths, that counts as
+/// an unreadable file.
 ///
 /// # Errors
 ///
@@ -115,7 +117,7 @@ where
     }
 }
 
-// The file at a path, or none where no such file is there.
+// Returns the file at a path, or `None` if there is no such file.
 fn source_at<R: Files>(rt: &R, alloc: Global, path: &str) -> Result<Option<FileSource>, AllocError>
 where
     R::File: Drop,
@@ -123,8 +125,9 @@ where
     Ok(open(rt, alloc, path)?.source(path))
 }
 
-// What opening and reading gives. What is no regular file isn't opened: a FIFO would wait, and a device may have no end. Only the null
-// device, which people put in a file's place so that there is nothing in it, is an empty file.
+// Opens and reads a file. Anything but a regular file is not opened: a FIFO would wait, and a
+// device may have no end. The exception is the null device, which people use in place of an empty
+// file.
 fn open<R: Files>(rt: &R, alloc: Global, path: &str) -> Result<Opened, AllocError>
 where
     R::File: Drop,
@@ -141,7 +144,7 @@ where
     }
 }
 
-// Whether it is the device /dev/null, by whatever name.
+// Whether the file is the device /dev/null, by whatever name.
 fn is_null<R: Files>(rt: &R, found: &Metadata) -> bool {
     let Ok(null) = fs::metadata(rt, "/dev/null") else {
         return false;
@@ -149,7 +152,7 @@ fn is_null<R: Files>(rt: &R, found: &Metadata) -> bool {
     found.file_type().is_char_device() && found.rdev() == null.rdev()
 }
 
-// What reading an open file gives. A read that fails or is interrupted is the last.
+// Reads an open file. A read that fails or is interrupted is the last one.
 fn read<F: Read + Drop>(alloc: Global, file: F) -> Result<Opened, AllocError> {
     match read_bytes(alloc, &mut Counted::new(file)) {
         Ok(bytes) => Ok(Opened::Read(bytes)),
@@ -158,7 +161,7 @@ fn read<F: Read + Drop>(alloc: Global, file: F) -> Result<Opened, AllocError> {
     }
 }
 
-// What it means that a file couldn't be opened.
+// Returns what it means that a file could not be opened.
 fn refused(kind: ErrorKind) -> Result<Opened, AllocError> {
     match kind {
         ErrorKind::NotFound => Ok(Opened::Missing),

@@ -1,8 +1,8 @@
-//! An item that has no memory for its children.
+//! An item that cannot allocate its children.
 use ptree::item::{Children, MadeItem, Text};
 use std::alloc::{AllocError, Global};
 
-/// An item that runs out of memory where it is asked for its children and has none.
+/// An item that runs out of memory when it is asked for its children and has none.
 #[derive(Drop)]
 pub struct Barren {
     pub text: String,

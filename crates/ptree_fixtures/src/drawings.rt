@@ -1,4 +1,4 @@
-//! What several tests draw, as it must be drawn.
+//! What several tests draw, with the expected drawings.
 
 /// The drawing of [`petgraph`](crate::trees::petgraph), four characters wide.
 pub const PETGRAPH: &str = "\
@@ -17,7 +17,7 @@ charactersets = [\"utf\", \"ascii\"]
 default_depth = 3
 ";
 
-/// Its drawing under the label `toml`, four characters wide.
+/// The drawing of [`TOML`] under the label `toml`, four characters wide.
 pub const TOML_DRAWN: &str = "\
 toml
 ├── charactersets

@@ -1,5 +1,5 @@
-//! What a test expects, and failures that say what was found in its place. Each makes its configuration itself, since a test that owns one
-//! takes five times as long to prove.
+//! What a test expects, and failures that say what was found instead. Each function makes its
+//! configuration itself, since a test that owns one takes five times as long to prove.
 use crate::screen::Screen;
 use crate::trees::plain;
 use ptree::graph::{Graph, Label, NodeIndex, write_graph_with};
@@ -11,7 +11,7 @@ use std::alloc::Global;
 use std::str;
 use std::test::Fail;
 
-/// That a text is this one.
+/// Expects that a text is this one.
 pub fn expect_text(found: &str, wanted: &str) -> Result<(), Fail> {
     if found == wanted {
         Ok(())
@@ -20,7 +20,7 @@ pub fn expect_text(found: &str, wanted: &str) -> Result<(), Fail> {
     }
 }
 
-/// That an item has this drawing under the default configuration.
+/// Expects that an item has this drawing under the default configuration.
 pub fn expect_drawn<T>(alloc: Global, item: &T, wanted: &str) -> Result<(), Fail>
 where
     T: TreeItem,
@@ -30,7 +30,7 @@ where
     expect_text(text.as_str(), wanted)
 }
 
-/// That a graph has this drawing from its first node, under the default configuration.
+/// Expects that a graph has this drawing from its first node, under the default configuration.
 pub fn expect_graph<N: Label>(alloc: Global, graph: &Graph<N>, wanted: &str) -> Result<(), Fail> {
     let config = PrintConfig::default(alloc)?;
     let mut out = Counted::new(Vec::new(alloc));
@@ -38,7 +38,7 @@ pub fn expect_graph<N: Label>(alloc: Global, graph: &Graph<N>, wanted: &str) -> 
     expect_text(str::from_utf8(&out.into_inner())?, wanted)
 }
 
-/// Draws an item down to a depth, plain, in pieces of four characters.
+/// Draws an item down to a depth, plain, with pieces of four characters.
 pub fn draw_to<T, W: Sink>(
     alloc: Global,
     item: &T,
@@ -52,7 +52,8 @@ where
     write_tree_with(alloc, item, out, &plain(alloc, UTF_CHARS, 4, depth)?)
 }
 
-/// Draws a graph from a node in the same way, which must end out of memory and leave this text.
+/// Expects that the drawing of a graph from a node, plain and with pieces of four characters, runs
+/// out of memory and leaves this text.
 pub fn expect_unfinished<N: Label>(
     alloc: Global,
     graph: &Graph<N>,
@@ -67,7 +68,8 @@ pub fn expect_unfinished<N: Label>(
     }
 }
 
-/// That an item is drawn so to a writer that says whether it is a terminal, under the default configuration.
+/// Expects that an item has this drawing under the default configuration, to a writer that says
+/// whether it is a terminal.
 pub fn expect_on_screen<T>(
     alloc: Global,
     item: &T,

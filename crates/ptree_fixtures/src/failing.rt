@@ -1,21 +1,22 @@
-//! A writer that takes so many bytes, and a reader that gives so many, and then fails.
+//! A writer that accepts a number of bytes and then fails, and a reader that gives a number of
+//! bytes and then fails.
 
 use ptree::style::DrawError;
 use std::alloc::{AllocError, Global};
 use std::io::{self, ErrorKind, Read, Write};
 
-/// What a writer answers once its room is used up.
+/// What a writer returns when its room is used up.
 #[derive(Clone, Copy)]
 pub enum Answer {
     Zero,
     Error(ErrorKind),
 
-    /// An interruption, once; from then on it takes everything.
+    /// It is interrupted once, and accepts everything from then on.
     Interrupted,
 }
 
 impl Answer {
-    /// Whether a drawing of `whole` bytes to a writer with so much room may end like this.
+    /// Whether a drawing of `whole` bytes may end like this, to a writer with this much room.
     pub fn ends(self, ended: &Result<(), DrawError>, room: usize, whole: usize) -> bool {
         match (ended, self) {
             (Ok(()), _) => room >= whole,
@@ -29,7 +30,7 @@ impl Answer {
     }
 }
 
-/// Takes `room` bytes in all, at most `most` a call, and then gives its answer.
+/// Accepts `room` bytes in all, at most `most` a call, and then gives its answer.
 #[derive(Drop)]
 pub struct Failing {
     pub taken: Vec<u8>,
@@ -40,7 +41,7 @@ pub struct Failing {
 }
 
 impl Failing {
-    /// All the memory that it needs is taken here, for at most `all` bytes.
+    /// Makes the writer, for at most `all` bytes. It allocates only here.
     pub fn new(
         alloc: Global,
         all: usize,

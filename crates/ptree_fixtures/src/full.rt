@@ -1,4 +1,4 @@
-//! Sources that say all there is to say: a file with every key, and all variables.
+//! Sources that set every field: a file with every key, and all variables.
 
 /// The file with every key, as `docs/CONFIGURATION.md` has it.
 pub const FULL_TOML: &str = "\
@@ -40,7 +40,7 @@ hidden = true
 strikethrough = true
 ";
 
-/// The same in JSON.
+/// The same configuration in JSON.
 pub const FULL_JSON: &str = "\
 {
   \"depth\": 4,
@@ -82,7 +82,7 @@ pub const FULL_JSON: &str = "\
 }
 ";
 
-/// The same in variables, where no colour is a list of three bytes.
+/// The same configuration in variables, except that a variable cannot give a colour as three bytes.
 pub const FULL_VARIABLES: [(&str, &str); 31] = [
     ("PTREE_DEPTH", "4"),
     ("PTREE_INDENT", "4"),

@@ -1,5 +1,6 @@
-//! What several tests of `ptree` use: trees, configurations and drawings, what a test expects, writers and readers that fail, a writer that
-//! may be a terminal, an item that has no memory for its children, and sources with every field.
+//! What several tests of `ptree` share: trees, configurations and drawings, what a test expects,
+//! writers and readers that fail, a writer that may be a terminal, an item that cannot allocate its
+//! children, and sources with every field.
 #![tactic(auto)]
 
 pub mod barren;

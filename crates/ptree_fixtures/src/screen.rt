@@ -1,8 +1,8 @@
-//! A writer that takes everything, and says whether it is a terminal.
+//! A writer that accepts everything, and says whether it is a terminal.
 
 use std::io::{self, IsTerminal, Write};
 
-/// What was written, and what it says.
+/// What was written, and whether this is a terminal.
 #[derive(Drop)]
 pub struct Screen {
     pub bytes: Vec<u8>,

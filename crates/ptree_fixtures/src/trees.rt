@@ -5,12 +5,12 @@ use ptree::read::{pieces_readable, read_tree};
 use ptree::style::Style;
 use std::alloc::{AllocError, Global};
 
-/// An item with no children.
+/// Makes an item without children.
 pub fn leaf(alloc: Global, text: &str) -> Result<StringItem, AllocError> {
     over(alloc, text, Vec::new(alloc))
 }
 
-/// An item over children.
+/// Makes an item over children.
 pub fn over(
     alloc: Global,
     text: &str,
@@ -22,7 +22,7 @@ pub fn over(
     })
 }
 
-/// An item over leaves.
+/// Makes an item over leaves.
 pub fn over_leaves(alloc: Global, text: &str, leaves: &[&str]) -> Result<StringItem, AllocError> {
     let mut children = Vec::new(alloc);
     for below in leaves {
@@ -31,7 +31,7 @@ pub fn over_leaves(alloc: Global, text: &str, leaves: &[&str]) -> Result<StringI
     over(alloc, text, children)
 }
 
-/// petgraph over quickcheck, which needs libc and rand, and fixedbitset.
+/// Makes petgraph over quickcheck, which needs libc and rand, and fixedbitset.
 pub fn petgraph(alloc: Global) -> Result<StringItem, AllocError> {
     let rand = over_leaves(alloc, "rand", &["libc"])?;
     let needed = vec![in alloc; leaf(alloc, "libc")?, rand]?;
@@ -40,7 +40,8 @@ pub fn petgraph(alloc: Global) -> Result<StringItem, AllocError> {
     over(alloc, "petgraph", vec![in alloc; quickcheck, fixedbitset]?)
 }
 
-/// Plain styles under a set, an indent and a depth, with padding 1 and the default mark.
+/// Makes a configuration with plain styles, a set, an indent and a depth, padding 1 and the default
+/// marker.
 pub fn plain(
     alloc: Global,
     set: StaticIndentChars,
@@ -59,7 +60,7 @@ pub fn plain(
     })
 }
 
-/// What is read of a text: nothing where the pieces and the mark aren't readable.
+/// Reads a text. Returns `None` too if the pieces and the marker are not readable.
 pub fn read(
     alloc: Global,
     text: &str,

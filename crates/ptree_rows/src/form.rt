@@ -1,14 +1,17 @@
-//! Writes a text as it stands in a file of rows, and reads it back: what can't be seen is escaped.
+//! Writes a text in the form that it has in a file of rows, and reads it back. Characters that
+//! cannot be seen are escaped.
 //!
-//! `\e` is the escape character, `\r` a carriage return, `\t` a tab, `\n` a line feed, `\s` a blank at an end where it would not be seen,
-//! `\\` a backslash, and `\u{..}` any other control character, blank without width, or mark of direction. Each text has one form. Anything
-//! else is refused, such as a blank at the end of a line, or a carriage return that a tool put there.
+//! `\e` is the escape character, `\r` a carriage return, `\t` a tab, `\n` a line feed, `\s` a blank
+//! at an end where it would not be seen, `\\` a backslash, and `\u{..}` any other control
+//! character, blank without width, or mark of direction. Each text has exactly one form. Anything
+//! else is refused, such as a blank at the end of a line, or a carriage return that a tool
+//! inserted.
 
 use crate::trouble::Trouble;
 use std::alloc::{AllocError, Global};
 use std::str;
 
-// Whether a character can't be seen, or makes others look otherwise.
+// Whether a character cannot be seen, or changes how others look.
 fn is_unseen(c: char) -> bool {
     c.is_control()
         || matches!(
@@ -41,7 +44,8 @@ fn push_form(alloc: Global, c: char, out: &mut String) -> Result<(), AllocError>
     }
 }
 
-// The form of a text in one line. A blank at its end is escaped, and one at its front where that wouldn't be seen.
+// Returns the form of a text in one line. A blank at its end is escaped, and one at its front if
+// that would not be seen.
 fn line_form(alloc: Global, text: &str, hides_front: bool) -> Result<String, AllocError> {
     let mut out = String::new(alloc);
     for (i, c) in text.chars().enumerate() {
@@ -58,12 +62,13 @@ fn line_form(alloc: Global, text: &str, hides_front: bool) -> Result<String, All
     Ok(out)
 }
 
-/// The form of a text behind a word, or behind the blanks of an outline.
+/// Returns the form of a text after a word, or after the blanks of an outline.
 pub fn value_form(alloc: Global, text: &str) -> Result<String, AllocError> {
     line_form(alloc, text, true)
 }
 
-// The form of a text in lines. A backslash at the end of the last one says that no line feed stands there.
+// Returns the form of a text in lines. A backslash at the end of the last one says that it has no
+// line feed.
 fn text_form(alloc: Global, text: &str) -> Result<String, AllocError> {
     let mut out = String::new(alloc);
     for line in text.split_terminator('\n') {
@@ -77,7 +82,7 @@ fn text_form(alloc: Global, text: &str) -> Result<String, AllocError> {
     Ok(out)
 }
 
-// A byte as `\x1f`.
+// Appends a byte as `\x1f`.
 fn push_byte(byte: u8, out: &mut String) -> Result<(), AllocError> {
     out.push_str("\\x")?;
     for digit in [byte / 16, byte % 16] {
@@ -86,7 +91,8 @@ fn push_byte(byte: u8, out: &mut String) -> Result<(), AllocError> {
     Ok(())
 }
 
-/// The form of bytes in lines. Where they are no text, each byte but a line feed stands as `\x1f`.
+/// Returns the form of bytes in lines. If they are not a text, each byte but a line feed is written
+/// as `\x1f`.
 pub fn lines_form(alloc: Global, bytes: &[u8]) -> Result<String, AllocError> {
     if let Ok(text) = str::from_utf8(bytes) {
         return text_form(alloc, text);
@@ -103,7 +109,7 @@ pub fn lines_form(alloc: Global, bytes: &[u8]) -> Result<String, AllocError> {
     Ok(out)
 }
 
-// What was read of an escape.
+// The part of an escape that was read so far.
 #[derive(Clone, Copy)]
 enum State {
     Plain,
@@ -114,7 +120,7 @@ enum State {
 
 const UNKNOWN: Trouble = Trouble::Bad("no such escape");
 
-// The character behind a backslash.
+// Returns the character after a backslash.
 fn escape_of(c: char) -> Option<char> {
     match c {
         'e' => Some('\u{1b}'),
@@ -127,13 +133,13 @@ fn escape_of(c: char) -> Option<char> {
     }
 }
 
-// A further digit of a code.
+// Adds a digit to a code.
 fn with_digit(code: u32, c: char) -> Result<State, Trouble> {
     let digit = c.to_digit(16).ok_or(UNKNOWN)?;
     Ok(State::Code(code.saturating_mul(16).saturating_add(digit)))
 }
 
-// Takes one character of a form.
+// Reads one character of a form.
 fn take(state: State, c: char, out: &mut String) -> Result<State, Trouble> {
     let found = match state {
         State::Plain => {
@@ -165,7 +171,7 @@ fn take(state: State, c: char, out: &mut String) -> Result<State, Trouble> {
     Ok(State::Plain)
 }
 
-// Appends what a line's form stands for, and returns whether a backslash stands at its end.
+// Appends the text of a line's form, and returns whether it ends in a backslash.
 fn push_meant(form: &str, out: &mut String) -> Result<bool, Trouble> {
     let mut state = State::Plain;
     for c in form.chars() {
@@ -182,7 +188,7 @@ const OTHERWISE: Trouble = Trouble::Bad(
     "not the form of a text: escape it, as a blank at the end by \\s",
 );
 
-/// The text of a value, or behind the blanks of an outline.
+/// Returns the text of a value, or of a line after the blanks of an outline.
 pub fn value_meant(alloc: Global, form: &str) -> Result<String, Trouble> {
     let mut text = String::new(alloc);
     let is_open = push_meant(form, &mut text)?;
@@ -192,7 +198,7 @@ pub fn value_meant(alloc: Global, form: &str) -> Result<String, Trouble> {
     Ok(text)
 }
 
-/// The text of lines.
+/// Returns the text of lines.
 pub fn text_meant(alloc: Global, form: &str) -> Result<String, Trouble> {
     let mut text = String::new(alloc);
     for line in form.split_terminator('\n') {

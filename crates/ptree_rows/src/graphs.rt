@@ -18,7 +18,7 @@ fn node(text: &str) -> Result<NodeIndex, Trouble> {
     Ok(NodeIndex(text.parse::<usize>().ok().ok_or(NO_NUMBER)?))
 }
 
-// Pairs as `0>1 0>2`.
+// Reads pairs such as `0>1 0>2`.
 fn pairs(alloc: Global, body: &str) -> Result<Vec<(NodeIndex, NodeIndex)>, Trouble> {
     let mut found = Vec::new(alloc);
     for pair in body.split_whitespace() {
@@ -29,7 +29,7 @@ fn pairs(alloc: Global, body: &str) -> Result<Vec<(NodeIndex, NodeIndex)>, Troub
 }
 
 impl Nodes {
-    /// A graph without nodes.
+    /// Makes a graph without nodes.
     pub fn new(alloc: Global) -> Nodes {
         Nodes {
             graph: Graph::new(alloc),
@@ -37,7 +37,7 @@ impl Nodes {
         }
     }
 
-    /// Adds the edges of `0>1 0>2`, and returns whether the graph took them.
+    /// Adds edges such as `0>1 0>2`, and returns whether the graph accepted them.
     pub fn add_edges(&mut self, alloc: Global, body: &str) -> Result<bool, Trouble> {
         let pairs = pairs(alloc, body)?;
         match self.graph.extend_with_edges(pairs.as_slice()) {

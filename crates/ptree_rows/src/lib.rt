@@ -1,5 +1,6 @@
-//! Reads and tries files of rows. A row says what goes in, under which settings, and what must come out. A program gives a
-//! [`tries::Subject`], which answers the questions of a row, and [`tries::try_files`] compares its answers with those in the files.
+//! Reads and tries files of rows. A row gives inputs and settings, and the expected output. A
+//! program implements [`tries::Subject`], which answers the questions of a row, and
+//! [`tries::try_files`] compares the answers with those in the files.
 #![tactic(auto)]
 
 pub mod form;

@@ -1,5 +1,5 @@
-//! Writes a tree as lines, and reads it back: each item's text, behind two blanks for each level. A backslash alone stands for the empty
-//! text, so that no line ends in a blank.
+//! Writes a tree as lines, and reads it back: each item's text, after two blanks for each level. A
+//! backslash alone is the empty text, so that no line ends in a blank.
 
 use crate::form::{value_form, value_meant};
 use crate::trouble::Trouble;
@@ -7,7 +7,7 @@ use ptree::TreeBuilder;
 use ptree::item::StringItem;
 use std::alloc::{AllocError, Global};
 
-// A line's level, and what stands behind its blanks.
+// Returns a line's level, and what follows its blanks.
 fn split_line(line: &str) -> Result<(u32, &str), Trouble> {
     let rest = line.trim_start_matches(' ');
     let blanks = line.len().saturating_sub(rest.len());
@@ -22,7 +22,7 @@ fn split_line(line: &str) -> Result<(u32, &str), Trouble> {
 
 const EMPTY: &str = "\\";
 
-// The text of an item.
+// Returns the text of an item.
 fn text_meant(alloc: Global, form: &str) -> Result<String, Trouble> {
     if form == EMPTY {
         return Ok(String::new(alloc));
@@ -33,7 +33,7 @@ fn text_meant(alloc: Global, form: &str) -> Result<String, Trouble> {
     value_meant(alloc, form)
 }
 
-// The form of an item's text.
+// Returns the form of an item's text.
 fn text_form(alloc: Global, text: &str) -> Result<String, AllocError> {
     if text.is_empty() {
         return String::from_str(alloc, EMPTY);
@@ -41,7 +41,7 @@ fn text_form(alloc: Global, text: &str) -> Result<String, AllocError> {
     value_form(alloc, text)
 }
 
-/// The tree of an outline.
+/// Returns the tree of an outline.
 pub fn tree_meant(alloc: Global, outline: &str) -> Result<StringItem, Trouble> {
     let Some((root, below)) = outline.split_once('\n') else {
         return Err(Trouble::Bad("a tree without an item"));
@@ -54,7 +54,7 @@ pub fn tree_meant(alloc: Global, outline: &str) -> Result<StringItem, Trouble> {
     Ok(builder.build()?)
 }
 
-/// The outline of a tree.
+/// Returns the outline of a tree.
 pub fn outline_of(alloc: Global, tree: &StringItem) -> Result<String, AllocError> {
     let mut out = String::new(alloc);
     for (level, item) in tree.items(alloc)?.iter() {

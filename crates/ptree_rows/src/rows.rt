@@ -1,9 +1,10 @@
-//! Reads rows and their fields out of a file's text.
+//! Reads rows and their fields from a file's text.
 
 use crate::trouble::Trouble;
 use std::alloc::Global;
 
-/// A word with what stands behind it, or with the lines below it, each with its line feed. Behind `= ` it says what must come out.
+/// A word with the text after it, or with the lines below it, each with its line feed. A word after
+/// `= ` says what is expected.
 #[derive(Debug, Drop)]
 pub struct Field {
     pub line: usize,
@@ -20,14 +21,14 @@ pub struct Row {
     pub fields: Vec<Field>,
 }
 
-/// A line that isn't one of a file of rows, and why.
+/// A line that a file of rows cannot have, and why.
 #[derive(Debug, Clone, Copy)]
 pub struct Damage {
     pub line: usize,
     pub trouble: Trouble,
 }
 
-// Whether there is a row of this name.
+// Whether there is a row with this name.
 fn has_row(rows: &[Row], name: &str) -> bool {
     for row in rows {
         if row.name.as_str() == name {
@@ -81,7 +82,7 @@ fn add_row(alloc: Global, rows: &mut Vec<Row>, line: usize, name: &str) -> Resul
     Ok(())
 }
 
-// Takes a line.
+// Adds what a line says.
 fn take_line(alloc: Global, rows: &mut Vec<Row>, line: usize, text: &str) -> Result<(), Trouble> {
     if text.is_empty() || text.starts_with('#') {
         return Ok(());
@@ -98,7 +99,7 @@ fn take_line(alloc: Global, rows: &mut Vec<Row>, line: usize, text: &str) -> Res
     }
 }
 
-/// The rows of a file.
+/// Returns the rows of a file.
 pub fn read_rows(alloc: Global, text: &str) -> Result<Vec<Row>, Damage> {
     let mut rows = Vec::new(alloc);
     let mut line: usize = 0;

@@ -37,7 +37,7 @@ fn when(text: &str) -> Result<StyleWhen, Trouble> {
     }
 }
 
-// A colour of three bytes.
+// Reads a colour of three bytes.
 fn bytes(text: &str) -> Result<Color, Trouble> {
     let bad = Trouble::Bad("no three bytes");
     let (r, rest) = text.split_once(' ').ok_or(bad)?;
@@ -45,7 +45,7 @@ fn bytes(text: &str) -> Result<Color, Trouble> {
     Ok(Color::RGB(byte(r)?, byte(g)?, byte(b)?))
 }
 
-// One of the eight colours.
+// Reads one of the eight colours.
 fn one_of_eight(text: &str) -> Result<Color, Trouble> {
     match text {
         "black" => Ok(Color::Black),
@@ -60,7 +60,7 @@ fn one_of_eight(text: &str) -> Result<Color, Trouble> {
     }
 }
 
-/// A colour: one of the eight, `name NAME`, `number N`, `bytes R G B`, or `none`.
+/// Reads a colour: one of the eight, `name NAME`, `number N`, `bytes R G B`, or `none`.
 pub fn color(alloc: Global, text: &str) -> Result<Option<Color>, Trouble> {
     if text == "none" {
         return Ok(None);
@@ -80,7 +80,7 @@ pub fn color(alloc: Global, text: &str) -> Result<Option<Color>, Trouble> {
     Ok(Some(one_of_eight(text)?))
 }
 
-// Sets a flag of a style. Returns whether there is one of this name.
+// Sets a flag of a style. Returns whether there is one with this name.
 fn set_flag(style: &mut Style, key: &str, value: bool) -> bool {
     match key {
         "bold" => style.bold = value,
@@ -96,7 +96,7 @@ fn set_flag(style: &mut Style, key: &str, value: bool) -> bool {
     true
 }
 
-// Sets a field of a style. Returns whether there is one of this name.
+// Sets a field of a style. Returns whether there is one with this name.
 fn set_style(alloc: Global, style: &mut Style, key: &str, body: &str) -> Result<bool, Trouble> {
     match key {
         "foreground" => style.foreground = color(alloc, body)?,
@@ -106,7 +106,7 @@ fn set_style(alloc: Global, style: &mut Style, key: &str, body: &str) -> Result<
     Ok(true)
 }
 
-// Sets a text of the characters. Returns whether there is one of this name.
+// Sets a text of the characters. Returns whether there is one with this name.
 fn set_character(
     alloc: Global,
     characters: &mut IndentChars,
@@ -125,7 +125,7 @@ fn set_character(
     Ok(true)
 }
 
-// Sets a field of a part. Returns whether there is one of this name.
+// Sets a field of a part. Returns whether there is one with this name.
 fn set_part(
     alloc: Global,
     config: &mut PrintConfig,
@@ -141,7 +141,8 @@ fn set_part(
     }
 }
 
-/// Sets what a field names, and returns whether it names a setting. `branch plain` and `leaf plain` make a style plain.
+/// Sets the setting that a field names, and returns whether it names one. `branch plain` and `leaf
+/// plain` make a style plain.
 pub fn set(
     alloc: Global,
     config: &mut PrintConfig,

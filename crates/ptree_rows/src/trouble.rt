@@ -1,11 +1,11 @@
-//! Why a row can't be tried.
+//! Why a row cannot be tried.
 
 use ptree::builder::AddError;
 use ptree::print_config::CharsError;
 use std::alloc::{AllocError, AllocFailed, Global};
 use std::string::FromUtf8Error;
 
-/// Why a row can't be tried: out of memory, or it isn't written as rows are.
+/// Why a row cannot be tried: memory ran out, or it is not written as rows are.
 #[derive(Debug, Clone, Copy)]
 pub enum Trouble {
     Memory,
@@ -13,7 +13,7 @@ pub enum Trouble {
 }
 
 impl Trouble {
-    /// The reason, as it is printed.
+    /// Returns the reason, as it is printed.
     pub fn as_str(self) -> &'static str {
         match self {
             Trouble::Memory => "out of memory",

@@ -1,4 +1,4 @@
-//! Tries rows of sources: configurations that are loaded, what is drawn under them, and documents.
+//! Tries rows of sources: configurations that are loaded, drawings under them, and documents.
 #![tactic(auto)]
 
 mod sources;

@@ -1,4 +1,4 @@
-//! Answers what rows of documents and sources ask for.
+//! Answers the questions of rows about documents and sources.
 
 use crate::spelled::spelled;
 use crate::values::{drawn_alone, drawn_labelled, value_of};
@@ -31,7 +31,7 @@ pub struct Given {
     nodes: Nodes,
 }
 
-// A fault: what it is about.
+// Returns the text of a fault, and what it is about.
 fn fault_form(alloc: Global, fault: Fault) -> Result<String, AllocError> {
     match fault {
         Fault::Unreadable => String::from_str(alloc, "fault reading"),
@@ -49,7 +49,7 @@ fn key_form(alloc: Global, field: Key) -> Result<String, AllocError> {
     }
 }
 
-// What a drawing wrote.
+// Returns what a drawing wrote.
 fn ended(
     alloc: Global,
     drawn: Result<(), DrawError>,
@@ -62,7 +62,8 @@ fn ended(
     }
 }
 
-// What a document's drawing wrote, or why it is refused; then nothing was written.
+// Returns what a document's drawing wrote, or why the document is refused; then nothing was
+// written.
 fn told(
     alloc: Global,
     drawn: Result<(), DocError>,
@@ -83,7 +84,7 @@ fn told(
 }
 
 impl Given {
-    // The configuration of the sources, or their first fault.
+    // Returns the configuration of the sources, or their first fault.
     fn loaded(&self, alloc: Global) -> Result<String, Trouble> {
         let loaded = load(alloc, &self.sources)?;
         let meant = PrintConfig::from_env(alloc, &self.sources)?;
@@ -104,7 +105,7 @@ impl Given {
         }
     }
 
-    // The text of the first fault.
+    // Returns the text of the first fault.
     fn fault_text(&self, alloc: Global) -> Result<String, Trouble> {
         match first_fault(alloc, &self.sources)? {
             Some(fault) => Ok(format!(in alloc; "{fault}")?),
@@ -112,7 +113,7 @@ impl Given {
         }
     }
 
-    // The line at which the file stops being a document.
+    // Returns the line at which the file stops being a document.
     fn line(&self, alloc: Global) -> Result<String, Trouble> {
         match syntax_line(alloc, &self.sources.file)? {
             Some(line) => Ok(format!(in alloc; "{line}")?),
@@ -120,13 +121,13 @@ impl Given {
         }
     }
 
-    // How leaves are painted under the sources.
+    // Returns how leaves are painted under the sources.
     fn painted(&self, alloc: Global) -> Result<String, Trouble> {
         let config = PrintConfig::from_env(alloc, &self.sources)?;
         Ok(value_form(alloc, config.paint_leaf(alloc, "x")?.as_str())?)
     }
 
-    // What `write_tree` writes of the tree.
+    // Returns what `write_tree` writes of the tree.
     fn written(&self, alloc: Global) -> Result<String, Trouble> {
         let Some(tree) = &self.tree else {
             return Err(Trouble::Bad("there is no tree"));
@@ -136,7 +137,7 @@ impl Given {
         ended(alloc, drawn, out)
     }
 
-    // What `print_tree` writes of it.
+    // Returns what `print_tree` writes of the tree.
     fn printed(&self, alloc: Global, terminal: bool) -> Result<String, Trouble> {
         let Some(tree) = &self.tree else {
             return Err(Trouble::Bad("there is no tree"));
@@ -146,7 +147,7 @@ impl Given {
         ended(alloc, drawn, out)
     }
 
-    // What `print_graph` writes of the graph.
+    // Returns what `print_graph` writes of the graph.
     fn graph(&self, alloc: Global, terminal: bool) -> Result<String, Trouble> {
         let Nodes { graph, start } = &self.nodes;
         let mut out = Counted::new(Vec::new(alloc));
@@ -154,7 +155,7 @@ impl Given {
         ended(alloc, drawn, out)
     }
 
-    // What is drawn of the document under the settings.
+    // Returns the drawing of the document under the settings.
     fn document(&self, alloc: Global, terminal: bool) -> Result<String, Trouble> {
         let (text, label) = (self.document.as_str(), self.label.as_str());
         let mut out = Counted::new(Vec::new(alloc));
@@ -170,7 +171,7 @@ impl Given {
         told(alloc, drawn, out)
     }
 
-    // What is drawn of it under the sources.
+    // Returns the drawing of the document under the sources.
     fn under_sources(&self, alloc: Global) -> Result<String, Trouble> {
         let (text, label) = (self.document.as_str(), self.label.as_str());
         let mut out = Counted::new(Vec::new(alloc));
@@ -186,7 +187,7 @@ impl Given {
         told(alloc, drawn, out)
     }
 
-    // What a word asks for, if it does.
+    // Answers a word that asks for something.
     fn answer(&self, alloc: Global, word: &str) -> Result<Option<String>, Trouble> {
         let found = match word {
             "loaded" => self.loaded(alloc)?,
@@ -203,7 +204,7 @@ impl Given {
         Ok(Some(found))
     }
 
-    // What a word asks for of the document, if it does.
+    // Answers a word that asks about the document.
     fn answer_of_document(&self, alloc: Global, word: &str) -> Result<Option<String>, Trouble> {
         let found = match word {
             "document" => self.document(alloc, false)?,
@@ -216,13 +217,13 @@ impl Given {
         Ok(Some(found))
     }
 
-    // What is drawn of the document's value by itself.
+    // Returns the drawing of the document's value alone.
     fn value(&self, alloc: Global) -> Result<String, Trouble> {
         let made = value_of(alloc, self.format, self.document.as_str());
         drawn_alone(alloc, made, &self.config)
     }
 
-    // What is drawn of a copy of it under the label.
+    // Returns the drawing of a copy of the value under the label.
     fn labelled_value(&self, alloc: Global) -> Result<String, Trouble> {
         let made = value_of(alloc, self.format, self.document.as_str());
         drawn_labelled(alloc, made, self.label.as_str(), &self.config)
@@ -254,7 +255,7 @@ impl Given {
         Ok(())
     }
 
-    // Adds edges, whose nodes must be there.
+    // Adds edges. Their nodes must exist.
     fn add_edges(&mut self, alloc: Global, body: &str) -> Result<(), Trouble> {
         if self.nodes.add_edges(alloc, body)? {
             Ok(())

@@ -1,4 +1,4 @@
-//! Writes a configuration as settings: those that differ from the default.
+//! Writes a configuration as settings: only those that differ from the default.
 
 use ptree::print_config::{IndentChars, PrintConfig, StyleWhen};
 use ptree::style::{Color, Style};
@@ -30,7 +30,7 @@ fn push_text(alloc: Global, out: &mut String, word: &str, value: &str) -> Result
     push_line(out, word, value_form(alloc, value)?.as_str())
 }
 
-// A colour, as a setting gives it.
+// Returns a colour as a setting gives it.
 fn color_form(alloc: Global, color: &Option<Color>) -> Result<String, AllocError> {
     let Some(color) = color else {
         return String::from_str(alloc, "none");
@@ -61,7 +61,7 @@ fn flag_form(is_set: bool) -> &'static str {
     if is_set { "true" } else { "false" }
 }
 
-// Appends a flag that isn't what it is by default.
+// Appends a flag that differs from the default.
 fn push_flag(
     alloc: Global,
     out: &mut String,
@@ -76,7 +76,7 @@ fn push_flag(
     push_line(out, word.as_str(), flag_form(value))
 }
 
-// Appends the flags that differ in a style.
+// Appends the flags of a style that differ.
 fn push_flags(
     alloc: Global,
     out: &mut String,
@@ -100,7 +100,7 @@ fn push_flags(
     )
 }
 
-// Appends what differs in a style, where `dimmed` stands for the default.
+// Appends what differs in a style whose default is `dimmed`.
 fn push_style(
     alloc: Global,
     out: &mut String,
@@ -136,7 +136,8 @@ const NAMES: [&str; 6] = [
     "utf-dashed",
 ];
 
-// The name of the set that the characters are, or else of the first one that turns like them.
+// Returns the name of the set of the characters, or else of the first set with the same turning
+// character.
 fn nearest(alloc: Global, characters: &IndentChars) -> Result<&'static str, Trouble> {
     for name in NAMES {
         if IndentChars::from_name(alloc, name)? == *characters {
@@ -152,7 +153,8 @@ fn nearest(alloc: Global, characters: &IndentChars) -> Result<&'static str, Trou
     Ok("utf")
 }
 
-// Appends what differs in the characters: the name of the nearest set, and then what differs from it.
+// Appends what differs in the characters: the name of the nearest set, and then the differences
+// from it.
 fn push_characters(
     alloc: Global,
     out: &mut String,
@@ -185,7 +187,7 @@ fn push_characters(
     Ok(())
 }
 
-/// The settings that differ from the default, a line each.
+/// Returns the settings that differ from the default, one a line.
 pub fn spelled(alloc: Global, config: &PrintConfig) -> Result<String, Trouble> {
     let mut out = String::new(alloc);
     if config.depth != u32::MAX {

@@ -43,7 +43,7 @@ fn toml_value(alloc: Global, text: &str) -> Result<Value, Refusal> {
     }
 }
 
-/// The value of a document.
+/// Returns the value of a document.
 pub fn value_of(alloc: Global, format: DocFormat, text: &str) -> Result<Value, Refusal> {
     match format {
         DocFormat::Json => json_value(alloc, text),
@@ -51,7 +51,7 @@ pub fn value_of(alloc: Global, format: DocFormat, text: &str) -> Result<Value, R
     }
 }
 
-// The word for a refusal.
+// Returns the word for a refusal.
 fn word_of(alloc: Global, refusal: Refusal) -> Result<String, Trouble> {
     match refusal {
         Refusal::Word(word) => Ok(String::from_str(alloc, word)?),
@@ -59,7 +59,7 @@ fn word_of(alloc: Global, refusal: Refusal) -> Result<String, Trouble> {
     }
 }
 
-// The drawing of an item.
+// Returns the drawing of an item.
 fn drawing<T>(alloc: Global, item: &T, config: &PrintConfig) -> Result<String, Trouble>
 where
     T: TreeItem,
@@ -71,7 +71,7 @@ where
     }
 }
 
-/// The drawing of a value by itself, or a word for why there is none.
+/// Returns the drawing of a value alone, or a word for why there is none.
 pub fn drawn_alone(
     alloc: Global,
     made: Result<Value, Refusal>,
@@ -83,7 +83,7 @@ pub fn drawn_alone(
     }
 }
 
-/// The drawing of a copy of a value under a label, or a word for why there is none.
+/// Returns the drawing of a copy of a value under a label, or a word for why there is none.
 pub fn drawn_labelled(
     alloc: Global,
     made: Result<Value, Refusal>,

@@ -1,4 +1,4 @@
-//! Calls of a builder that are chained.
+//! Tests calls of a builder that are chained.
 
 use ptree::TreeBuilder;
 use ptree::item::StringItem;
@@ -6,7 +6,7 @@ use ptree_fixtures::expect::expect_drawn;
 use std::alloc::{AllocError, Global};
 use std::test::Fail;
 
-// What calls build that are chained.
+// Returns the tree that chained calls build.
 fn chained(alloc: Global) -> Result<StringItem, AllocError> {
     let branch = String::from_str(alloc, "branch")?;
     let leaf = String::from_str(alloc, "leaf")?;

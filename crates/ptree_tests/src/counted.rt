@@ -1,4 +1,5 @@
-//! What `Counted` asks of its writer or reader: each call once, with all its bytes or room, and nothing else.
+//! Tests what `Counted` asks of its writer or reader: each call once, with all its bytes or room,
+//! and nothing else.
 
 use ptree::style::{Counted, DrawError, Feed, Sink, Style, put_all};
 use ptree_fixtures::expect::draw_to;
@@ -7,8 +8,8 @@ use std::alloc::Global;
 use std::io::{self, ErrorKind, Read, Write};
 use std::test::Fail;
 
-/// Keeps how much it was asked to write or read by each call, and how often it was flushed. At first it is interrupted, so many times;
-/// then it takes and gives everything.
+/// Records how much each call asked it to write or read, and how often it was flushed. It is
+/// interrupted a number of times first; then it accepts and gives everything.
 #[derive(Drop)]
 struct Watched {
     asked: Vec<usize>,
@@ -17,7 +18,7 @@ struct Watched {
 }
 
 impl Watched {
-    // One that was asked nothing yet.
+    // Makes one that was asked nothing yet.
     fn new(alloc: Global, interruptions: usize) -> Watched {
         Watched {
             asked: Vec::new(alloc),

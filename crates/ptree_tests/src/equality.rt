@@ -1,4 +1,4 @@
-//! Clones are equal, and one other field makes values differ.
+//! Tests that clones are equal, and that values which differ in one field are not.
 use ptree::IndentChars;
 use ptree::print_config::{PrintConfig, StyleWhen, UTF_CHARS};
 use ptree::style::{Color, Style};
@@ -9,7 +9,7 @@ fn named(alloc: Global, name: &str) -> Result<Color, AllocError> {
     Ok(Color::Named(String::from_str(alloc, name)?))
 }
 
-// That a colour equals its clone, and not the name `red`.
+// Expects that a colour equals its clone, and does not equal the name `red`.
 fn expect_cloned(alloc: Global, color: &Color) -> Result<(), Fail> {
     if color.clone()? != *color || named(alloc, "red")? == *color {
         return Err(Fail::from("a clone differs"));
@@ -39,7 +39,7 @@ fn clones_of_colors_are_equal(rt: HostRuntime) -> Result<(), Fail> {
     Ok(())
 }
 
-// That the default configuration and its set of characters equal their clones.
+// Whether the default configuration and its set of characters equal their clones.
 fn expect_config_cloned(alloc: Global) -> Result<bool, AllocError> {
     let config = PrintConfig::default(alloc)?;
     let characters = IndentChars::from_static(alloc, UTF_CHARS)?;
@@ -67,7 +67,7 @@ fn names_are_compared_by_their_bytes(rt: HostRuntime) -> Result<(), Fail> {
     Ok(())
 }
 
-// That one field makes a style differ from the plain one, and that it equals its clone.
+// Whether one field makes a style differ from the plain one, and the style equals its clone.
 fn is_other_style(i: u32) -> Result<bool, AllocError> {
     let style = Style {
         foreground: if i == 8 { Some(Color::Black) } else { None },
@@ -112,7 +112,8 @@ fn change(alloc: Global, config: &mut PrintConfig, i: u32) -> Result<(), AllocEr
     Ok(())
 }
 
-// That one field makes a configuration differ from the default, and that it equals its clone.
+// Whether one field makes a configuration differ from the default, and the configuration equals its
+// clone.
 fn is_other_config(alloc: Global, i: u32) -> Result<bool, AllocError> {
     let mut other = PrintConfig::default(alloc)?;
     change(alloc, &mut other, i)?;

@@ -1,4 +1,4 @@
-//! The texts of errors, and what `?` makes of them.
+//! Tests the texts of errors, and how `?` converts them.
 
 use ptree::builder::AddError;
 use ptree::graph::EdgeError;
@@ -12,7 +12,7 @@ use std::io::{self, ErrorKind};
 use std::str;
 use std::test::Fail;
 
-// That an error has this text.
+// Expects that an error has this text.
 fn expect_message(alloc: Global, error: &impl Display, wanted: &str) -> Result<(), Fail> {
     let text = format!(in alloc; "{error}")?;
     expect_text(text.as_str(), wanted)
@@ -46,7 +46,7 @@ fn as_errors_of_std(rt: HostRuntime) -> Result<(), Fail> {
     Ok(())
 }
 
-// Draws by `?` alone, in a function that returns errors of std.
+// Draws with `?` alone, in a function that returns errors of std.
 fn draw_by_question(alloc: Global, text: &str) -> io::Result<Vec<u8>> {
     let mut out = Counted::new(Vec::new(alloc));
     draw_to(alloc, &leaf(alloc, text)?, 0, &mut out)?;

@@ -1,4 +1,4 @@
-//! Graphs whose labels are of several types, nodes as items, and labels of one's own.
+//! Tests graphs whose labels have several types, nodes as items, and labels of one's own.
 
 use ptree::graph::{Graph, GraphNode, Label, NodeIndex};
 use ptree::item::TreeItem;
@@ -8,7 +8,7 @@ use std::alloc::Global;
 use std::str;
 use std::test::Fail;
 
-// A graph of two labels, with an edge from the first to the second.
+// Makes a graph of two labels, with an edge from the first to the second.
 fn pair<N: Drop>(alloc: Global, first: N, second: N) -> Result<Graph<N>, Fail> {
     let mut graph = Graph::new(alloc);
     let first = graph.add_node(first)?;
@@ -17,7 +17,7 @@ fn pair<N: Drop>(alloc: Global, first: N, second: N) -> Result<Graph<N>, Fail> {
     Ok(graph)
 }
 
-// That a label writes this.
+// Expects that a label writes this text.
 fn expect_label<L: Label>(alloc: Global, label: &L, wanted: &str) -> Result<(), Fail> {
     let mut out = Counted::new(Vec::new(alloc));
     label.write_label(alloc, &mut out, &Style::default())?;
@@ -63,7 +63,7 @@ fn is_an_item(rt: HostRuntime) -> Result<(), Fail> {
     Ok(())
 }
 
-/// A label that runs out of memory behind the text of several lines.
+/// A label that runs out of memory after a text of several lines.
 #[derive(Clone, Copy)]
 struct Torn(&'static str);
 

@@ -1,4 +1,4 @@
-//! Items of one's own, and what an item does by itself.
+//! Tests items of one's own, and what an item does alone.
 
 use ptree::item::{Children, Shaped, TreeItem};
 use ptree::style::{Counted, DrawError, Sink, Style};
@@ -9,7 +9,7 @@ use std::alloc::{AllocError, Global};
 use std::str;
 use std::test::Fail;
 
-// That an item writes this of itself.
+// Expects that an item writes this text for itself.
 fn expect_own<T: TreeItem>(alloc: Global, item: &T, wanted: &str) -> Result<(), Fail> {
     let mut out = Counted::new(Vec::new(alloc));
     item.write_self(alloc, &mut out, &Style::default())?;
@@ -27,7 +27,8 @@ fn a_tree_of_texts_is_an_item(rt: HostRuntime) -> Result<(), Fail> {
     expect_text(children.as_slice()[0].text.as_str(), "a")
 }
 
-// That drawing this far writes the text, and whether it succeeds; else an item had no memory for its children.
+// Expects that drawing to this depth writes the text, and whether it succeeds. If it does not, an
+// item could not allocate its children.
 fn expect_drawn_to(
     alloc: Global,
     item: &Barren,
@@ -64,7 +65,7 @@ fn children_not_asked_at_depth(rt: HostRuntime) -> Result<(), Fail> {
     expect_drawn_to(alloc, &tree, 2, "r\n└── a\n", false)
 }
 
-// An item of a type of its own, without children.
+// An item with a type of its own, without children.
 #[derive(Drop)]
 struct MyTree;
 

@@ -1,6 +1,6 @@
-//! Tests of `ptree` over its public surface, of what can't be a row: items, labels, writers and readers of one's own, errors, equality,
-//! values that no document has, and examples of the documents. All else is rows, in the `data` of `ptree_tree_rows` and
-//! `ptree_source_rows`.
+//! Tests of the public interface of `ptree`, for all that cannot be a row: items, labels, writers
+//! and readers of one's own, errors, equality, values that no document has, and examples of the
+//! documents. Everything else is rows, in the `data` of `ptree_tree_rows` and `ptree_source_rows`.
 #![tactic(auto)]
 
 #[cfg(test)]

@@ -1,4 +1,4 @@
-//! The examples of `docs/EXAMPLES.md` that stand in no crate of their own.
+//! The examples of `docs/EXAMPLES.md` that have no crate of their own.
 
 use ptree::TreeBuilder;
 use ptree::graph::{Graph, write_graph_with};
@@ -43,7 +43,7 @@ fn notes_are_drawn(rt: HostRuntime) -> Result<(), Fail> {
     expect_text(text, NOTES)
 }
 
-// What is read of a text under the default configuration.
+// Reads a text under the default configuration.
 fn read_default(alloc: Global, text: &str) -> Result<Option<StringItem>, AllocError> {
     let config = PrintConfig::default(alloc)?;
     read_tree(alloc, text, &config)
@@ -134,7 +134,7 @@ const HALVES: &str = "\
       └─ 1
 ";
 
-// A folder without folders in it.
+// Makes a folder without folders in it.
 fn empty_folder(alloc: Global, name: &str) -> Result<Folder, AllocError> {
     Ok(Folder {
         name: String::from_str(alloc, name)?,

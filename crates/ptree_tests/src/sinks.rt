@@ -1,4 +1,4 @@
-//! Writers that take little, that fail, and that take everything, and readers.
+//! Tests writers that accept little, that fail, and that accept everything, and readers.
 
 use ptree::style::{Counted, DrawError, Feed, put_all};
 use ptree_fixtures::expect::{draw_to, expect_on_screen, expect_text};

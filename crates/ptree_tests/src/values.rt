@@ -1,11 +1,12 @@
-//! Values that no document has, and the kinds that conversions keep.
+//! Tests values that no document has, and the kinds of values that conversions keep.
 
 use ptree::value::Value;
 use ptree_fixtures::expect::expect_drawn;
 use std::alloc::{AllocError, Global};
 use std::test::Fail;
 
-// That a value and its clone are drawn as this text under the default configuration, and under a label as the label alone.
+// Expects that a value and its clone are drawn as this text under the default configuration, and
+// under a label as the label alone.
 fn expect_value(alloc: Global, value: Value, text: &str) -> Result<(), Fail> {
     expect_drawn(alloc, &value.clone()?, text)?;
     expect_drawn(alloc, &value, text)?;
@@ -37,7 +38,7 @@ fn texts_of_small_values(rt: HostRuntime) -> Result<(), Fail> {
     Ok(())
 }
 
-// Some of a number that is wrapped.
+// Makes an option of a wrapped number.
 fn wrapped(alloc: Global, number: i32) -> Result<Value, AllocError> {
     let inner = Value::Newtype(Box::new(alloc, Value::I32(number))?);
     Ok(Value::Option(Some(Box::new(alloc, inner)?)))
@@ -57,7 +58,7 @@ fn texts_of_values_that_hold_memory(rt: HostRuntime) -> Result<(), Fail> {
     expect_value(alloc, Value::Bytes(vec![in alloc; 65]?), "\n")
 }
 
-// Some of a list.
+// Makes an option of a list.
 fn hidden(alloc: Global) -> Result<Value, AllocError> {
     let list = Value::Seq(vec![in alloc; Value::Bool(true)]?);
     Ok(Value::Option(Some(Box::new(alloc, list)?)))
@@ -84,7 +85,7 @@ fn draws_a_map_of_keys_of_any_kind(rt: HostRuntime) -> Result<(), Fail> {
     expect_drawn(alloc, &map, "\n├─ -1 = \n└─ true = x\n")
 }
 
-// A map of lists, maps and a text, none of whose keys is a text.
+// Makes a map of lists, maps and a text, none of whose keys is a text.
 fn map_of_lists(alloc: Global) -> Result<Value, AllocError> {
     let two = Value::Seq(vec![in alloc; Value::U8(1), Value::Unit]?);
     let inner = Value::Map(vec![in alloc; (Value::Char('é'), two)]?);

@@ -1,4 +1,4 @@
-//! Makes the calls of a builder and of a graph, and answers what comes of them.
+//! Makes the calls of a builder and of a graph, and returns their results.
 
 use ptree::TreeBuilder;
 use ptree::graph::write_graph_with;
@@ -10,7 +10,7 @@ use ptree_rows::graphs::Nodes;
 use ptree_rows::trouble::Trouble;
 use std::alloc::Global;
 
-/// A builder, a graph, and whether the last call that may be refused was taken.
+/// A builder, a graph, and whether the last call that can be refused was accepted.
 #[derive(Drop)]
 pub struct Building {
     builder: TreeBuilder,
@@ -23,7 +23,7 @@ const NO_NUMBER: Trouble = Trouble::Bad("no number of a level");
 const NO_LEVEL: Trouble = Trouble::Bad("no level below this one");
 
 impl Building {
-    /// A builder with an empty root, and a graph without nodes.
+    /// Makes a builder with an empty root, and a graph without nodes.
     pub fn new(alloc: Global) -> Building {
         Building {
             builder: TreeBuilder::new(alloc, String::new(alloc)),
@@ -82,12 +82,12 @@ impl Building {
         Ok(true)
     }
 
-    /// The tree that is built.
+    /// Returns the tree that is built.
     pub fn built(&mut self) -> Result<StringItem, Trouble> {
         Ok(self.builder.build()?)
     }
 
-    // The neighbours of the start, newest first.
+    // Returns the neighbours of the start, newest first.
     fn neighbors(&self, alloc: Global) -> Result<String, Trouble> {
         let mut out = String::new(alloc);
         for neighbor in self.nodes.graph.neighbors(self.nodes.start)?.iter() {
@@ -97,7 +97,7 @@ impl Building {
         Ok(out)
     }
 
-    // The drawing from the start.
+    // Returns the drawing from the start.
     fn drawn(&self, alloc: Global, config: &PrintConfig) -> Result<String, Trouble> {
         let mut out = Counted::new(Vec::new(alloc));
         let Nodes { graph, start } = &self.nodes;
@@ -107,7 +107,7 @@ impl Building {
         }
     }
 
-    /// What a word asks for, if it does.
+    /// Answers a word that asks for something.
     pub fn answer(
         &self,
         alloc: Global,

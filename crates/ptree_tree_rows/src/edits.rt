@@ -4,7 +4,7 @@ use ptree_rows::form::value_meant;
 use ptree_rows::trouble::Trouble;
 use std::alloc::{AllocError, Global};
 
-/// What becomes of a line.
+/// What an edit does to a line.
 #[derive(Clone, Copy)]
 pub enum Edit {
     Lose,
@@ -14,7 +14,8 @@ pub enum Edit {
 }
 
 impl Edit {
-    /// The edit of a word: `lose LINE`, `twice LINE`, `ahead LINE TEXT`, or `behind LINE TEXT`, where `all` stands for each line.
+    /// Returns the edit of a word: `lose LINE`, `twice LINE`, `ahead LINE TEXT`, or `behind LINE
+    /// TEXT`. `all` means each line.
     pub fn of(word: &str) -> Option<Edit> {
         match word {
             "lose" => Some(Edit::Lose),
@@ -25,7 +26,7 @@ impl Edit {
         }
     }
 
-    // Appends what becomes of a line.
+    // Appends the result of a line.
     fn push(self, line: &str, with: &str, out: &mut String) -> Result<(), AllocError> {
         match self {
             Edit::Lose => return Ok(()),
@@ -47,7 +48,7 @@ impl Edit {
     }
 }
 
-// A line's number, or none for all lines.
+// Reads a line's number, or `None` for all lines.
 fn number(text: &str) -> Result<Option<usize>, Trouble> {
     if text == "all" {
         return Ok(None);
@@ -58,7 +59,7 @@ fn number(text: &str) -> Result<Option<usize>, Trouble> {
     }
 }
 
-/// A text whose lines each end in a line feed, after an edit. A line that it names must be there.
+/// Edits a text whose lines each end in a line feed. A line that the edit names must exist.
 pub fn edited(alloc: Global, text: &str, edit: Edit, body: &str) -> Result<String, Trouble> {
     let (first, form) = body.split_once(' ').unwrap_or((body, ""));
     let (number, with) = (number(first)?, value_meant(alloc, form)?);
@@ -79,7 +80,7 @@ pub fn edited(alloc: Global, text: &str, edit: Edit, body: &str) -> Result<Strin
     Ok(out)
 }
 
-/// A text without its last line feed.
+/// Returns a text without its last line feed.
 pub fn cut_end(alloc: Global, text: &str) -> Result<String, AllocError> {
     String::from_str(alloc, text.strip_suffix("\n").unwrap_or(text))
 }

@@ -1,11 +1,11 @@
-//! Finds other programs that draw trees, by their names in rows.
+//! Finds the configurations of other programs that draw trees, by their names in rows.
 
 use ptree::presets::Preset;
 use ptree::print_config::PrintConfig;
 use ptree_rows::trouble::Trouble;
 use std::alloc::Global;
 
-/// The configuration of a program.
+/// Returns the configuration of a program.
 pub fn program(alloc: Global, name: &str) -> Result<PrintConfig, Trouble> {
     let preset = match name {
         "tree" => Preset::Tree,

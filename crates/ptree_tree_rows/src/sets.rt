@@ -6,7 +6,7 @@ use ptree::read::{pieces_readable, read_tree};
 use ptree_rows::trouble::Trouble;
 use std::alloc::{AllocError, Global};
 
-/// Whether a set of characters has this name.
+/// Whether there is a set of characters with this name.
 pub fn is_set(alloc: Global, name: &str) -> Result<bool, AllocError> {
     match IndentChars::from_name(alloc, name) {
         Ok(_) => Ok(true),
@@ -15,7 +15,7 @@ pub fn is_set(alloc: Global, name: &str) -> Result<bool, AllocError> {
     }
 }
 
-// The readable pairs of an indent and a padding: a line.
+// Appends a line of the grid: one indent, and each padding.
 fn push_line(alloc: Global, config: &mut PrintConfig, out: &mut String) -> Result<(), AllocError> {
     for padding in 0..5 {
         config.padding = padding;
@@ -28,7 +28,8 @@ fn push_line(alloc: Global, config: &mut PrintConfig, out: &mut String) -> Resul
     out.push('\n')
 }
 
-/// A line for each indent from 0 to 5, and in it `x` for each padding from 0 to 4 with which the pieces are readable, else a dot.
+/// Returns a line for each indent from 0 to 5. It has `x` for each padding from 0 to 4 with which
+/// the pieces are readable, else a dot.
 pub fn readable_grid(alloc: Global, config: &PrintConfig) -> Result<String, AllocError> {
     let mut config = config.clone()?;
     let mut out = String::new(alloc);
@@ -60,7 +61,7 @@ fn reads_back(alloc: Global, tree: &StringItem, config: &PrintConfig) -> Result<
     }
 }
 
-// The same, plain and styled, with other characters.
+// Whether the drawing reads back, plain and styled, with other characters.
 fn reads_back_in(
     alloc: Global,
     tree: &StringItem,
@@ -75,8 +76,8 @@ fn reads_back_in(
     Ok(plain && reads_back(alloc, tree, &config)?)
 }
 
-/// `yes` where the drawings of a tree read back in every set, with dimmed branches and bold leaves, and where all pieces of one kind are
-/// equal; else the first set where not.
+/// Returns `yes` if the drawings of a tree read back in every set, with dimmed branches and bold
+/// leaves, and also if all pieces of a kind are equal; else the first set that fails.
 pub fn reads_back_in_all(alloc: Global, tree: &StringItem) -> Result<String, Trouble> {
     for name in NAMES {
         if !reads_back_in(alloc, tree, IndentChars::from_name(alloc, name)?)? {

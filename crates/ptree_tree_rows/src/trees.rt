@@ -1,4 +1,4 @@
-//! Answers what rows of trees ask for.
+//! Answers the questions of rows about trees.
 
 use crate::building::Building;
 use crate::edits::{Edit, cut_end, edited};
@@ -30,7 +30,7 @@ pub struct Trees {
 
 const NO_TREE: Trouble = Trouble::Bad("there is no tree");
 
-// What a drawing wrote, or its error and how many bytes stand before it.
+// Returns what a drawing wrote, or its error and the number of bytes before it.
 fn ended(
     alloc: Global,
     drawn: Result<(), DrawError>,
@@ -43,7 +43,7 @@ fn ended(
     }
 }
 
-// Whether a text is read.
+// Whether a text can be read.
 fn is_read(alloc: Global, text: &str, config: &PrintConfig) -> Result<bool, AllocError> {
     if !pieces_readable(alloc, config)? {
         return Ok(false);
@@ -55,7 +55,7 @@ fn yes_or_no(alloc: Global, answer: bool) -> Result<String, AllocError> {
     String::from_str(alloc, if answer { "yes" } else { "no" })
 }
 
-// Pieces, a line each.
+// Returns the pieces, one a line.
 fn lines_of(alloc: Global, indent: &Indent) -> Result<String, AllocError> {
     format!(in alloc;
         "{}\n{}\n{}\n{}\n",
@@ -66,7 +66,7 @@ fn lines_of(alloc: Global, indent: &Indent) -> Result<String, AllocError> {
     )
 }
 
-// Whether the other makers of pieces make these.
+// Whether the other constructors of pieces make these.
 fn makers_agree(alloc: Global, config: &PrintConfig, lines: &str) -> Result<bool, AllocError> {
     let (size, characters) = (config.indent, &config.characters);
     let padded = Indent::from_characters_and_padding(alloc, size, config.padding, characters)?;
@@ -80,7 +80,7 @@ fn makers_agree(alloc: Global, config: &PrintConfig, lines: &str) -> Result<bool
     Ok(lines_of(alloc, &made)?.as_str() == lines)
 }
 
-// The four pieces, a line each.
+// Returns the four pieces, one a line.
 fn pieces(alloc: Global, config: &PrintConfig) -> Result<String, Trouble> {
     let Ok(indent) = Indent::from_config(alloc, config) else {
         return Ok(String::from_str(alloc, "out of memory")?);
@@ -99,7 +99,7 @@ const OUTPUTS: [(OutputKind, bool, &str); 4] = [
     (OutputKind::Unknown, false, "other output, no terminal\n"),
 ];
 
-// The outputs that are styled, a line each.
+// Returns the outputs that are styled, one a line.
 fn styled_where(alloc: Global, config: &PrintConfig) -> Result<String, AllocError> {
     let mut found = String::new(alloc);
     for (kind, terminal, name) in OUTPUTS {
@@ -118,21 +118,21 @@ impl Trees {
         }
     }
 
-    // What `write_tree_with` writes of the tree.
+    // Returns what `write_tree_with` writes of the tree.
     fn drawn(&self, alloc: Global) -> Result<String, Trouble> {
         let mut out = Counted::new(Vec::new(alloc));
         let drawn = write_tree_with(alloc, self.tree()?, &mut out, &self.config);
         ended(alloc, drawn, out)
     }
 
-    // What `print_tree_with` writes of it.
+    // Returns what `print_tree_with` writes of the tree.
     fn printed(&self, alloc: Global, terminal: bool) -> Result<String, Trouble> {
         let mut out = Counted::new(Vec::new(alloc));
         let drawn = print_tree_with(alloc, self.tree()?, &mut out, terminal, &self.config);
         ended(alloc, drawn, out)
     }
 
-    // What `tree_bytes` and `StringItem::drawing` return of it.
+    // Returns what `tree_bytes` and `StringItem::drawing` return for the tree.
     fn returned(&self, alloc: Global) -> Result<String, Trouble> {
         let bytes = tree_bytes(alloc, self.tree()?, &self.config)?;
         let text = self.tree()?.drawing(alloc, &self.config)?;
@@ -142,7 +142,8 @@ impl Trees {
         Ok(lines_form(alloc, &bytes)?)
     }
 
-    // The outline of what is read of the text, or why nothing is. What is read is the tree from then on.
+    // Returns the outline of the tree that is read from the text, or why none is. The tree that was
+    // read is used from then on.
     fn read(&mut self, alloc: Global) -> Result<String, Trouble> {
         if !pieces_readable(alloc, &self.config)? {
             return Ok(String::from_str(alloc, "pieces not readable")?);
@@ -158,7 +159,7 @@ impl Trees {
         }
     }
 
-    // Keeps what was read, whose drawing must be the text.
+    // Keeps the tree that was read. Its drawing must be the text.
     fn keep_read(
         &mut self,
         alloc: Global,
@@ -177,7 +178,7 @@ impl Trees {
         Ok(outline)
     }
 
-    // The outline of what is built, which is the tree from then on.
+    // Returns the outline of the tree that is built. That tree is used from then on.
     fn built(&mut self, alloc: Global) -> Result<String, Trouble> {
         let tree = self.building.built()?;
         let outline = outline_of(alloc, &tree)?;
@@ -191,7 +192,7 @@ impl Trees {
         Ok(yes_or_no(alloc, found.ends_with('\n'))?)
     }
 
-    // Whether so many bytes of the text are a drawing.
+    // Whether the first `len` bytes of the text are a drawing.
     fn is_front(&self, alloc: Global, len: usize) -> Result<bool, AllocError> {
         match self.edited.as_str().get(..len) {
             Some(front) => is_read(alloc, front, &self.config),
@@ -199,7 +200,7 @@ impl Trees {
         }
     }
 
-    // How many bytes the fronts of the text have that are drawings.
+    // Returns the lengths of the prefixes of the text that are drawings.
     fn fronts(&self, alloc: Global) -> Result<String, AllocError> {
         let mut found = String::new(alloc);
         for len in 0..self.edited.len().saturating_add(1) {
@@ -224,7 +225,7 @@ impl Trees {
         }
     }
 
-    // How the text is painted as leaves are, by `paint` and `write_painted`.
+    // Returns the text painted as leaves, by `paint` and `write_painted`.
     fn painted(&self, alloc: Global) -> Result<String, Trouble> {
         let text = self.config.leaf.paint(alloc, self.word.as_str())?;
         let mut out = Counted::new(Vec::new(alloc));
@@ -235,7 +236,7 @@ impl Trees {
         Ok(value_form(alloc, text.as_str())?)
     }
 
-    // How the configuration paints it, whatever is styled.
+    // Returns the text painted by the configuration, whether or not output is styled.
     fn painted_by_parts(&self, alloc: Global) -> Result<String, Trouble> {
         let branch = self.config.paint_branch(alloc, self.word.as_str())?;
         let leaf = self.config.paint_leaf(alloc, self.word.as_str())?;
@@ -243,7 +244,7 @@ impl Trees {
         Ok(lines_form(alloc, both.as_bytes())?)
     }
 
-    // What a word asks for, if it does.
+    // Answers a word that asks for something.
     fn answer(&mut self, alloc: Global, word: &str) -> Result<Option<String>, Trouble> {
         let found = match word {
             "drawn" => self.drawn(alloc)?,
@@ -262,7 +263,7 @@ impl Trees {
         Ok(Some(found))
     }
 
-    // What a word asks for of the settings, if it does.
+    // Answers a word that asks about the settings.
     fn answer_of_settings(&self, alloc: Global, word: &str) -> Result<Option<String>, Trouble> {
         let found = match word {
             "pieces" => pieces(alloc, &self.config)?,

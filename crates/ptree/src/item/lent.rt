@@ -4,9 +4,10 @@ ghost use Rattle.std.specs.Prelude.{◌≡◌, ℕ, List, []};
 use crate::item::{Children, MadeItem, Text};
 use std::alloc::{AllocError, Global};
 
-/// A type whose values hold a text, and their children, which are of that type too. It is a [`TreeItem`](crate::TreeItem).
+/// A type whose values hold a text and their children; the children are of the same type. Such a
+/// type is a [`TreeItem`](crate::TreeItem).
 ///
-/// A type without children keeps the default of `below_of`, and lends an empty slice.
+/// For a type without children keep the default of `below_of`, and return an empty slice.
 pub trait LentItem: Sized {
     /// The text's bytes.
     ghost text_of: { Self → List ℕ };
@@ -14,11 +15,11 @@ pub trait LentItem: Sized {
     /// The children, in order.
     ghost below_of: { Self → List Self } = { λ _. [] };
 
-    /// The item's own text.
+    /// Returns the item's own text.
     fn text(&self) -> &str
         ensures { result.now ≡ text_of self.now };
 
-    /// The item's children, in order.
+    /// Returns the item's children, in order.
     fn below(&self) -> &[Self]
         ensures { result.now ≡ below_of self.now };
 }

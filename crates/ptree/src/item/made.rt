@@ -1,4 +1,4 @@
-//! Items whose text or children are made when they are asked for.
+//! Items whose text or children are computed on demand.
 ghost use Rattle.std.specs.Prelude.{◌≡◌, ℕ, List, map, IfOk};
 ghost use Rattle.ptree.specs.Children.{children_items};
 ghost use Rattle.ptree.specs.Item.{text_bytes, text_shape};
@@ -10,15 +10,15 @@ use std::alloc::{AllocError, Global};
 /// The text of an item: one that it holds, or one that was made for the call.
 #[derive(Debug, Drop)]
 pub enum Text<'a> {
-    /// The item's own.
+    /// The item's own text.
     Lent(&'a str),
 
-    /// Made by [`MadeItem::text`].
+    /// A text made by [`MadeItem::text`].
     Made(String),
 }
 
 impl Text<'_> {
-    /// The text.
+    /// Returns the text.
     pub fn as_str(&self) -> &str
         ensures { result.now ≡ text_bytes self.now }
     {
@@ -29,14 +29,16 @@ impl Text<'_> {
     }
 }
 
-/// A type whose values make their text or their children, which are of that type too. It is a [`TreeItem`].
+/// A type that computes its text or its children on demand; the children are of the same type. Such
+/// a type is a [`TreeItem`].
 ///
-/// Texts and children that are made anew differ in where they lie in memory. So contracts see a value as something that doesn't: `Seen`.
+/// Texts and children that are made anew are at other places in memory each time. So contracts see
+/// a value as something that does not depend on these places: `Seen`.
 pub trait MadeItem: Sized {
     /// What contracts see of a value.
     ghost Seen: { Type 0 };
 
-    /// What a value is seen as.
+    /// Maps a value to what contracts see of it.
     ghost seen: { Self → Seen };
 
     /// The text's bytes.
@@ -45,7 +47,7 @@ pub trait MadeItem: Sized {
     /// The children, in order.
     ghost below_of: { Seen → List Seen };
 
-    /// The item's own text.
+    /// Returns the item's own text.
     ///
     /// # Errors
     ///
@@ -53,7 +55,7 @@ pub trait MadeItem: Sized {
     fn text(&self, alloc: Global) -> Result<Text<'_>, AllocError>
         ensures { IfOk result (λ t. text_bytes t ≡ text_of (seen self.now)) };
 
-    /// The item's children, in order.
+    /// Returns the item's children, in order.
     ///
     /// # Errors
     ///

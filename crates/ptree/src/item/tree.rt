@@ -1,4 +1,4 @@
-//! Makes trees of texts, and goes over them.
+//! Makes, lists and compares trees of texts.
 ghost use Rattle.std.specs.Prelude.{◌≡◌, ◌↔◌, ◌++◌, ◌∷◌, map, suc, IfOk, IsTrue, OnOk};
 ghost use Rattle.ptree.specs.Equality.{same_tree};
 ghost use Rattle.ptree.specs.Outline.{subtrees, subtrees_at};
@@ -8,7 +8,7 @@ use crate::item::StringItem;
 use std::alloc::{AllocError, Global};
 
 impl StringItem {
-    /// A leaf of a text.
+    /// Makes a leaf with a text.
     ///
     /// # Errors
     ///
@@ -19,7 +19,7 @@ impl StringItem {
         StringItem::new(alloc, text, Vec::new(alloc))
     }
 
-    /// A text over items, which are its children in order.
+    /// Makes an item with a text and children, in order.
     ///
     /// # Errors
     ///
@@ -38,7 +38,8 @@ impl StringItem {
         })
     }
 
-    /// The item itself and all items below it, in the order in which they are drawn, each with its level. The item's own level is 0.
+    /// Returns the item itself and all items below it, in the order in which they are drawn, each
+    /// with its level. The item's own level is 0.
     ///
     /// # Errors
     ///
@@ -62,7 +63,8 @@ impl PartialEq for StringItem {
 
     ghost laws = { partial_equiv_from_equiv tree_equivalence };
 
-    /// Whether the trees are equal: the texts by their bytes, and the children in order. It takes no memory.
+    /// Whether the trees are equal: the texts by their bytes, and the children in order. It does
+    /// not allocate.
     #[tactic(auto, using(crate::specs::Equivalence::tree_decided))]
     fn eq(&self, other: &StringItem) -> bool
         ensures value { result ≡ same_tree (tree_of self.now) (tree_of other.now) }

@@ -20,7 +20,8 @@ use crate::style::{DrawError, Sink, Stop, Style, put_or_stop};
 use std::alloc::{AllocError, Global};
 use std::io;
 
-/// The bytes of an entry, gathered to be put at once. As a sink it fails where a growth is refused.
+/// The bytes of an entry, gathered so that one put writes them. As a sink it fails if it cannot
+/// grow.
 #[derive(Drop)]
 struct LineBuffer {
     bytes: Vec<u8>,
@@ -47,7 +48,7 @@ impl Sink for LineBuffer {
 }
 
 impl LineBuffer {
-    // Puts a text in the place of what follows the first `width` bytes.
+    // Replaces what follows the first `width` bytes with a text.
     #[inline(always)]
     fn replace_end(&mut self, width: usize, text: &str) -> Result<(), AllocError>
         ensures { OnOk result (self.new.bytes.items ≡ take width self.old.bytes.items ++ text.now) }
@@ -64,8 +65,8 @@ impl LineBuffer {
         self.bytes.extend_from_slice(b"\n")
     }
 
-    // Inserts the first `width` bytes, and what a brush has before further lines, after each line feed of what stands behind the
-    // first `start` bytes.
+    // Inserts a text after each line feed that is after the first `start` bytes. The text is the
+    // first `width` bytes and what a brush has before further lines.
     #[inline(always)]
     fn continue_lines(
         &mut self,
@@ -89,7 +90,8 @@ impl LineBuffer {
         }
     }
 
-    // As `continue_lines`, whether a line feed is there or not. It stands apart, since it is seldom called.
+    // Does what `continue_lines` does, whether there is a line feed or not. It is a function of its
+    // own, since it is seldom called.
     #[inline(never)]
     fn spread(
         &mut self,
@@ -129,7 +131,7 @@ struct Brush<'a> {
 }
 
 impl<'a> Brush<'a> {
-    // The brush of a look.
+    // Makes the brush of a look.
     fn new(alloc: Global, look: &'a Look<'a>) -> Result<Brush<'a>, AllocError>
         ensures { IfOk result (λ b. b.look.now ≡ look.now) }
     {
@@ -147,7 +149,7 @@ impl<'a> Brush<'a> {
         })
     }
 
-    // A turning piece and the branch's back codes.
+    // Returns a turning piece with the branch's back codes.
     #[inline(always)]
     fn turn(&self, is_last: bool) -> &str
         ensures { result.now ≡ own_text (look_meant self.now.look.now) (Some is_last) }
@@ -159,8 +161,8 @@ impl<'a> Brush<'a> {
         }
     }
 
-    // What stands before the further lines of a root (none), or of a child, behind what stands before its own line: its passing
-    // piece, the mark and the branch's back codes.
+    // Returns what is before a further line, after the passing text: the item's passing piece, the
+    // marker and the branch's back codes. A root (`None`) has no passing piece.
     fn further(&self, last: Option<bool>) -> &str
         ensures { result.now ≡ further_text (look_meant self.now.look.now) last }
     {
@@ -172,8 +174,8 @@ impl<'a> Brush<'a> {
     }
 }
 
-/// The buffer of a drawing, whether a regular turning piece stands at its end, and what ends the drawing. Until another error is
-/// told, that is out of memory.
+/// The buffer of a drawing, whether it ends in a regular turning piece, and why the drawing
+/// stopped. `error` is `Memory` unless a write failed.
 #[derive(Drop)]
 struct Pen {
     line: LineBuffer,
@@ -182,7 +184,7 @@ struct Pen {
 }
 
 impl Pen {
-    // A pen whose buffer holds the branch's front codes.
+    // Makes a pen whose buffer holds the branch's front codes.
     fn new(alloc: Global, branch: &Style) -> Result<Pen, AllocError>
         ensures line { IfOk result (λ p.
             p.line.bytes.items ≡ front_codes (style_value branch.now)) }
@@ -203,7 +205,8 @@ impl Pen {
         })
     }
 
-    // Has an item's turning piece behind the first `width` bytes, where that of the item before may stand.
+    // Puts an item's turning piece after the first `width` bytes. The previous item's turning piece
+    // may be there already.
     #[inline(always)]
     fn turn(&mut self, width: usize, brush: &Brush<'_>, is_last: bool) -> Result<(), AllocError>
         requires { self.old.turned ≡ true → is_last ≡ false
@@ -223,7 +226,7 @@ impl Pen {
         self.line.replace_end(width, brush.turn(is_last))
     }
 
-    // Has an item's passing piece behind the first `width` bytes, for what is below the item.
+    // Puts an item's passing piece after the first `width` bytes, for what is below the item.
     #[inline(always)]
     fn pass(&mut self, width: usize, brush: &Brush<'_>, is_last: bool) -> Result<(), AllocError>
         ensures line { OnOk result
@@ -238,7 +241,7 @@ impl Pen {
             .replace_end(width, brush.look.pieces.passing(is_last))
     }
 
-    // Keeps the first `width` bytes alone.
+    // Keeps only the first `width` bytes.
     #[inline(always)]
     fn cut(&mut self, width: usize)
         ensures line { self.new.line.bytes.items ≡ take width self.old.line.bytes.items }
@@ -249,7 +252,7 @@ impl Pen {
         self.turned = false;
     }
 
-    // What ended the drawing.
+    // Returns why the drawing stopped.
     fn into_error(self) -> DrawError
         ensures { result ≡ self.error }
     {
@@ -262,8 +265,9 @@ impl Pen {
     }
 }
 
-// Draws a root alone (none), or a child. The first `width` bytes of the buffer are the branch's front codes and the passing text of
-// its parent, and behind them is its turning piece with the back codes. What the buffer holds stays.
+// Draws one entry: a root (`None`) or a child. The first `width` bytes of the buffer are the
+// branch's front codes and the passing text of its parent. Its turning piece with the back codes
+// follows them. The buffer holds the same afterwards.
 #[inline(always)]
 fn draw_entry<C: TreeItem, W: Sink>(
     item: &C,
@@ -300,8 +304,8 @@ fn draw_entry<C: TreeItem, W: Sink>(
     Ok(())
 }
 
-// Draws an item and what is below it. The first `width` bytes of the buffer are the branch's front codes and the passing text of
-// the item's parent, and behind them is the item's turning piece.
+// Draws an item and what is below it. The first `width` bytes of the buffer are the branch's front
+// codes and the passing text of the item's parent. The item's turning piece follows them.
 #[cycle(draw)]
 #[inline(always)]
 fn draw_item<C: TreeItem<Child = C> + Drop, W: Sink>(
@@ -338,7 +342,8 @@ fn draw_item<C: TreeItem<Child = C> + Drop, W: Sink>(
     draw_below(item, f, pen, brush, width, is_last, levels_left - 1)
 }
 
-// Draws what is below an item, one level and as many more as are left. The buffer is as `draw_item` takes and leaves it.
+// Draws what is below an item: one level, and as many more as are left. It takes and leaves the
+// buffer as `draw_item` does.
 #[cycle(draw)]
 #[inline(always)]
 fn draw_below<C: TreeItem<Child = C> + Drop, W: Sink>(
@@ -374,7 +379,8 @@ fn draw_below<C: TreeItem<Child = C> + Drop, W: Sink>(
     draw_children(children.as_slice(), f, pen, brush, levels_left)
 }
 
-// Draws the children of one item, and what is below them. The buffer holds the branch's front codes and that item's passing text.
+// Draws the children of one item, and what is below them. The buffer holds the branch's front codes
+// and that item's passing text.
 #[cycle(draw)]
 fn draw_children<C: TreeItem<Child = C> + Drop, W: Sink>(
     items: &[C],
@@ -438,7 +444,8 @@ where
     draw_children(children.as_slice(), f, pen, brush, depth - 1)
 }
 
-/// Draws an item and what is below it in a look. All that stands around prefixes is made before the first byte.
+/// Draws an item and what is below it in a look. All texts around prefixes are made before the
+/// first byte is written.
 pub(crate) fn draw<T, W>(
     alloc: Global,
     item: &T,

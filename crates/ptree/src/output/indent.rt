@@ -1,4 +1,4 @@
-//! The pieces that stand before items.
+//! The pieces before items.
 ghost use Rattle.std.specs.Prelude.{◌≡◌, ◌↔◌, Bool, IsTrue, true, false, ◌++◌, IfOk, string_bytes};
 ghost use Rattle.ptree.specs.Pieces.{turning_piece, passing_piece, pieces_from, config_pieces, pieces_of};
 ghost use Rattle.ptree.specs.Characters.{characters_of};
@@ -8,13 +8,13 @@ ghost use Rattle.ptree.specs.Text.{HasNoLineFeed};
 use crate::print_config::{IndentChars, PrintConfig};
 use std::alloc::{AllocError, Global};
 
-/// The four texts that stand before items: two for an item's own line, and two for the lines below it.
+/// The four pieces before items: two for an item's own line, and two for the lines below it.
 #[derive(Debug, Drop)]
 pub struct Indent {
     /// Before an item that isn't its parent's last child.
     pub regular_prefix: String,
 
-    /// Below such an item.
+    /// Below an item that isn't its parent's last child.
     pub child_prefix: String,
 
     /// Before a last child.
@@ -25,7 +25,7 @@ pub struct Indent {
 }
 
 impl Indent {
-    /// The pieces of a configuration.
+    /// Makes the pieces of a configuration.
     ///
     /// # Errors
     ///
@@ -41,7 +41,7 @@ impl Indent {
         )
     }
 
-    /// The pieces that are `indent_size` characters wide, the last one of them blank.
+    /// Makes pieces that are `indent_size` characters wide, the last one of them blank.
     ///
     /// # Errors
     ///
@@ -57,9 +57,9 @@ impl Indent {
         Indent::from_characters_and_padding(alloc, indent_size, 1, characters)
     }
 
-    /// The pieces that are `indent_size` characters wide, the last `padding` of them blank.
+    /// Makes pieces that are `indent_size` characters wide, the last `padding` of them blank.
     ///
-    /// A piece keeps its first character and its padding also where that is wider.
+    /// A piece always has its first character and its padding, even if that is wider.
     ///
     /// # Errors
     ///
@@ -97,27 +97,28 @@ impl Indent {
         })
     }
 
-    /// Whether a drawing with these pieces can be read back: the pieces at the front of a line can be told apart from its
-    /// left end, whatever stands behind them.
+    /// Whether a drawing with these pieces can be read back: each piece at the front of a line can
+    /// be recognised from the left, whatever follows it.
     ///
-    /// That is so where no piece holds a line feed, no piece of an item's own line begins one of the lines below it, nor the
-    /// reverse, and the two of one kind are equal or neither begins the other. An empty piece is never readable, since the
-    /// empty text begins every text. It takes no memory.
+    /// Pieces are readable exactly when no piece holds a line feed, no piece of an item's own line
+    /// is a prefix of one of the lines below it or the reverse, and the two pieces of a kind are
+    /// equal or neither is a prefix of the other. An empty piece is never readable, since the empty
+    /// text is a prefix of every text. It does not allocate.
     pub fn is_readable(&self) -> bool
         ensures { IsTrue result ↔ IsReadable (pieces_of self.now) }
     {
         self.is_one_line() && self.has_kinds_apart() && self.has_pairs_apart()
     }
 
-    /// Whether a drawing with these pieces and this mark can be read back: the mark holds no line feed, and neither begins nor is
-    /// begun by any of the four pieces.
+    /// Whether a drawing with these pieces and this marker can be read back: the marker holds no
+    /// line feed, and neither it nor any of the four pieces is a prefix of the other.
     pub(crate) fn is_readable_with(&self, mark: &str) -> bool
         ensures { IsTrue result ↔ IsReadableWith (pieces_of self.now) mark.now }
     {
         self.is_readable() && is_one_line(mark) && self.is_mark_apart(mark)
     }
 
-    // Whether the mark neither begins nor is begun by a piece.
+    // Whether neither the marker nor a piece is a prefix of the other.
     fn is_mark_apart(&self, mark: &str) -> bool
         ensures { IsTrue result
             ↔ ((last : Bool)
@@ -139,7 +140,7 @@ impl Indent {
             && are_one_line(self.passing(false), self.passing(true))
     }
 
-    // Whether no turning piece begins a passing one, nor the reverse.
+    // Whether no turning piece is a prefix of a passing one, nor the reverse.
     fn has_kinds_apart(&self) -> bool
         ensures { IsTrue result
             ↔ ((a b : Bool)
@@ -151,7 +152,7 @@ impl Indent {
             && is_apart_from(self.turning(true), child, last_child)
     }
 
-    // Whether of each kind the two pieces are equal, or neither begins the other.
+    // Whether the two pieces of each kind are equal, or neither is a prefix of the other.
     fn has_pairs_apart(&self) -> bool
         ensures { IsTrue result
             ↔ (AreEqualOrApart (turning_piece (pieces_of self.now) false)
@@ -163,7 +164,7 @@ impl Indent {
             && are_equal_or_apart(self.passing(false), self.passing(true))
     }
 
-    /// The piece of an item's own line.
+    /// Returns the piece of an item's own line.
     pub(crate) fn turning(&self, is_last: bool) -> &str
         ensures { result.now ≡ turning_piece (pieces_of self.now) is_last }
     {
@@ -174,7 +175,7 @@ impl Indent {
         }
     }
 
-    /// The piece of the lines below an item.
+    /// Returns the piece of the lines below an item.
     pub(crate) fn passing(&self, is_last: bool) -> &str
         ensures { result.now ≡ passing_piece (pieces_of self.now) is_last }
     {
@@ -200,28 +201,28 @@ fn are_one_line(a: &str, b: &str) -> bool
     is_one_line(a) && is_one_line(b)
 }
 
-// Whether neither text begins the other.
+// Whether neither text is a prefix of the other.
 fn are_apart(a: &str, b: &str) -> bool
     ensures { IsTrue result ↔ AreApart a.now b.now }
 {
     !a.starts_with(b) && !b.starts_with(a)
 }
 
-// Whether a text begins neither of two others, nor the reverse.
+// Whether a text is a prefix of neither of two others, nor the reverse.
 fn is_apart_from(text: &str, a: &str, b: &str) -> bool
     ensures { IsTrue result ↔ (AreApart text.now a.now × AreApart text.now b.now) }
 {
     are_apart(text, a) && are_apart(text, b)
 }
 
-// Whether the texts are equal, or neither begins the other.
+// Whether the texts are equal, or neither is a prefix of the other.
 fn are_equal_or_apart(a: &str, b: &str) -> bool
     ensures { IsTrue result ↔ AreEqualOrApart a.now b.now }
 {
     a == b || are_apart(a, b)
 }
 
-/// Three texts, one behind the other.
+/// Returns three texts, one after the other.
 pub(crate) fn joined_three(
     alloc: Global,
     first: &str,
@@ -235,7 +236,7 @@ pub(crate) fn joined_three(
     Ok(text)
 }
 
-/// One text behind another.
+/// Returns two texts, one after the other.
 pub(crate) fn joined(alloc: Global, front: &str, back: &str) -> Result<String, AllocError>
     ensures { IfOk result (λ text. string_bytes text ≡ front.now ++ back.now) }
 {

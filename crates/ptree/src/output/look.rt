@@ -9,7 +9,8 @@ use crate::print_config::{OutputKind, PrintConfig};
 use crate::style::Style;
 use std::alloc::{AllocError, Global};
 
-/// How a drawing looks: the styles as they are in effect, the pieces, and the mark before an item's further lines.
+/// How a drawing looks: the effective styles, the pieces, and the marker before an item's further
+/// lines.
 #[derive(Drop)]
 pub(crate) struct Look<'a> {
     pub(crate) branch: &'a Style,
@@ -19,8 +20,8 @@ pub(crate) struct Look<'a> {
 }
 
 impl<'a> Look<'a> {
-    /// What a configuration gives output of a kind, `terminal` saying whether standard output is a terminal. The styles are the
-    /// plain one where that isn't styled.
+    /// Returns the look that a configuration gives output of a kind. `terminal` says whether
+    /// standard output is a terminal. If the output is not styled, both styles are plain.
     pub(crate) fn of_config(
         alloc: Global,
         config: &'a PrintConfig,
@@ -41,7 +42,7 @@ impl<'a> Look<'a> {
     }
 }
 
-// A style where output is styled, else the plain one.
+// Returns a style if output is styled, else the plain one.
 fn effective_style<'a>(style: &'a Style, plain: &'a Style, styled: bool) -> &'a Style
     requires { plain.now ≡ plain_style }
     ensures { style_value result.now ≡ effective_style styled (style_value style.now) }

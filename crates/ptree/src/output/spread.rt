@@ -1,4 +1,4 @@
-//! Texts of several lines: what is inserted after each of their line feeds.
+//! Texts of several lines: finds their line feeds, and inserts after each.
 ghost use Rattle.std.specs.Prelude.{◌≡◌, ◌≢◌, ℕ, Bool, false, length, slice_index, take, drop, ◌≤◌, ◌<◌, ◌+◌, ◌++◌, IfOk};
 ghost use Rattle.ptree.specs.Drawing.{with_inserted};
 ghost use Rattle.ptree.specs.Text.{HasNoLineFeed, line_feed};
@@ -6,14 +6,14 @@ ghost use Rattle.ptree.specs.Text.{HasNoLineFeed, line_feed};
 use std::alloc::{AllocError, Global};
 use std::simd::prelude::*;
 
-/// Whether a line feed may stand behind the first `start` bytes: never where the result is false. The bytes are looked at by
-/// sixteen, some of the first ones among them.
+/// Whether a line feed may follow the first `start` bytes. If the result is false, there is none.
+/// The bytes are examined sixteen at a time, some of the first ones among them.
 #[inline(always)]
 pub(crate) fn may_hold_line_feed(bytes: &[u8], start: usize) -> bool
     requires { start ≤ length bytes.now }
     ensures { result ≡ false → HasNoLineFeed (drop start bytes.now) }
 {
-    // Past the start where there are fewer than sixteen bytes.
+    // If there are fewer than sixteen bytes, this is past the start.
     let from = bytes.len().wrapping_sub(16);
     if from <= start {
         holds_line_feed_at(bytes, from)
@@ -35,7 +35,8 @@ fn holds_line_feed_at(bytes: &[u8], place: usize) -> bool
         != 0
 }
 
-// The same of fewer than sixteen bytes, or of more behind the first ones.
+// Whether a line feed may follow the first `start` bytes, for fewer than sixteen bytes or for more
+// than that after the start.
 #[inline(always)]
 fn holds_line_feed(bytes: &[u8], start: usize) -> bool
     requires { start ≤ length bytes.now }
@@ -57,7 +58,8 @@ fn holds_line_feed(bytes: &[u8], start: usize) -> bool
     false
 }
 
-/// The bytes, with the first `width` of them and a text inserted after each line feed of what stands behind the first `start`.
+/// Returns the bytes with a text inserted after each line feed that is after the first `start`
+/// bytes. The text is the first `width` bytes and `further`.
 ///
 /// # Errors
 ///

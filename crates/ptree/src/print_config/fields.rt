@@ -1,4 +1,5 @@
-//! The fields of a configuration: their names in variables and in files, and what they take.
+//! The fields of a configuration: their names in variables and in files, and the values they
+//! accept.
 ghost use Rattle.std.specs.Prelude.{◌≡◌, option_copied};
 ghost use Rattle.ptree.specs.Fields.{variable_name, field_key, style_key, table_key, part_key, kind_of};
 ghost use Rattle.ptree.specs.declared.print_config.fields.Field.{Field};
@@ -6,7 +7,7 @@ ghost use Rattle.ptree.specs.declared.print_config.fields.Part.{Part};
 
 use std::fmt;
 
-/// What has a style of its own.
+/// A part of a drawing that has a style of its own.
 #[derive(Debug, Clone, Copy, PartialEq, Eq)]
 pub enum Part {
     /// The branches.
@@ -17,7 +18,7 @@ pub enum Part {
 }
 
 impl Part {
-    /// The key of its table in a file.
+    /// Returns the key of the part's table in a file.
     pub fn key(self) -> &'static str
         ensures { result.now ≡ part_key self }
     {
@@ -34,31 +35,31 @@ pub enum StyleField {
     /// The colour of the text.
     Foreground,
 
-    /// The colour behind it.
+    /// The colour behind the text.
     Background,
 
-    /// Whether it is bold.
+    /// Whether the text is bold.
     Bold,
 
-    /// Whether it is dimmed.
+    /// Whether the text is dimmed.
     Dimmed,
 
-    /// Whether it is italic.
+    /// Whether the text is italic.
     Italic,
 
-    /// Whether it is underlined.
+    /// Whether the text is underlined.
     Underline,
 
-    /// Whether it blinks.
+    /// Whether the text blinks.
     Blink,
 
-    /// Whether its colours are swapped.
+    /// Whether the two colours are exchanged.
     Reverse,
 
-    /// Whether it is hidden.
+    /// Whether the text is hidden.
     Hidden,
 
-    /// Whether it is struck through.
+    /// Whether the text is struck through.
     Strikethrough,
 }
 
@@ -68,10 +69,10 @@ pub enum Field {
     /// The greatest level that is drawn.
     Depth,
 
-    /// How many characters a piece is wide.
+    /// The width of a piece in characters.
     Indent,
 
-    /// How many of them are padding.
+    /// How many of these characters are padding.
     Padding,
 
     /// When output is styled.
@@ -92,26 +93,26 @@ pub enum Field {
     /// The character that points right.
     Right,
 
-    /// The character that stands for nothing.
+    /// The blank character.
     Empty,
 
     /// A field of the style of a part.
     Paint(Part, StyleField),
 
-    /// The mark before further lines.
+    /// The marker before further lines.
     Continued,
 }
 
-// What a field takes.
+// The values that a field accepts.
 #[derive(Clone, Copy)]
 pub(crate) enum Kind {
-    // A whole number up to this one.
+    // A whole number, at most this one.
     Whole(u64),
 
     // When output is styled.
     When,
 
-    // The name of a set of characters, and in a file also a table of characters.
+    // The name of a set of characters; in a file, also a table of characters.
     Set,
 
     // Any text.
@@ -187,7 +188,7 @@ pub(crate) const STYLE_FIELDS: [StyleField; 10] = [
 ];
 
 impl Field {
-    /// The name of its variable. Sources may spell it in any ASCII case.
+    /// Returns the name of the field's variable. Sources may spell it in any ASCII case.
     pub fn variable(self) -> &'static str
         ensures { result.now ≡ variable_name self }
     {
@@ -207,7 +208,8 @@ impl Field {
         }
     }
 
-    /// Its key in a file, which stands in a table where [`Field::table`] names one.
+    /// Returns the field's key in a file. If [`Field::table`] names a table, the key is in that
+    /// table.
     pub fn key(self) -> &'static str
         ensures { result.now ≡ field_key self }
     {
@@ -227,7 +229,7 @@ impl Field {
         }
     }
 
-    /// The key of the table that it stands in, if it stands in one.
+    /// Returns the key of the table that holds the field, if there is one.
     pub fn table(self) -> Option<&'static str>
         ensures { option_copied result ≡ table_key self }
     {
@@ -239,7 +241,7 @@ impl Field {
         }
     }
 
-    // What it takes.
+    // Returns what the field accepts.
     pub(crate) fn kind(self) -> Kind
         ensures { result ≡ kind_of self }
     {
@@ -260,7 +262,7 @@ impl Field {
     }
 }
 
-// The key of a field of a style.
+// Returns the key of a field of a style.
 fn style_key(field: StyleField) -> &'static str
     ensures { result.now ≡ style_key field }
 {
@@ -278,7 +280,7 @@ fn style_key(field: StyleField) -> &'static str
     }
 }
 
-// The variable of a field of the style of a part.
+// Returns the variable of a field of the style of a part.
 fn style_variable(part: Part, field: StyleField) -> &'static str
     ensures { result.now ≡ variable_name (Field.Paint part field) }
 {

@@ -22,7 +22,7 @@ pub(crate) enum Document {
 }
 
 impl Document {
-    // The document of a file, if it has one.
+    // Reads the document of a file, if it has one.
     pub(crate) fn read(alloc: Global, file: &FileSource) -> Result<Option<Document>, AllocError>
         ensures { IfOk result (λ read. option_map document_view read ≡ document file.now) }
     {
@@ -33,7 +33,7 @@ impl Document {
         }
     }
 
-    // Its top.
+    // Returns the value at the top.
     pub(crate) fn top(&self) -> Node<'_>
         ensures { node_view result ≡ document_view self.now }
     {
@@ -44,7 +44,7 @@ impl Document {
     }
 }
 
-// The document of a text in TOML.
+// Reads a text as TOML.
 fn read_toml(alloc: Global, text: &str) -> Result<Option<Document>, AllocError>
     ensures { IfOk result (λ read. option_map document_view read ≡ toml_document text.now) }
 {
@@ -58,7 +58,7 @@ fn read_toml(alloc: Global, text: &str) -> Result<Option<Document>, AllocError>
     }
 }
 
-// The document of a text in JSON.
+// Reads a text as JSON.
 fn read_json(alloc: Global, text: &str) -> Result<Option<Document>, AllocError>
     ensures { IfOk result (λ read. option_map document_view read ≡ json_document text.now) }
 {
@@ -76,9 +76,11 @@ fn read_json(alloc: Global, text: &str) -> Result<Option<Document>, AllocError>
     }
 }
 
-/// The line, counted from 1, at which the text of a file stops being a document of its format: that of the first wrong byte, or of the
-/// key that is there twice. There is one exactly where the fault of the file is [`Fault::Syntax`](crate::print_config::Fault::Syntax).
-/// Where the text only ends too early, it is the line in which it ends. Where the top of a JSON text is no object, it is the line of the
+/// Returns the line, counted from 1, at which the text of a file stops being a document of its
+/// format. It is the line of the first wrong byte, or of a key that occurs twice. There is such a
+/// line exactly when the fault of the file is
+/// [`Fault::Syntax`](crate::print_config::Fault::Syntax). If the text only ends too early, it is
+/// the line where the text ends. If the top of a JSON text is not an object, it is the line of the
 /// top's first byte.
 ///
 /// # Errors
@@ -94,7 +96,7 @@ pub fn syntax_line(alloc: Global, file: &FileSource) -> Result<Option<usize>, Al
     }
 }
 
-// The line at which a text stops being a document in TOML.
+// Returns the line at which a text stops being a TOML document.
 fn toml_line(alloc: Global, text: &str) -> Result<Option<usize>, AllocError>
     ensures { IfOk result (λ line. is_some line ≡ is_none (toml_document text.now)) }
 {
@@ -107,7 +109,7 @@ fn toml_line(alloc: Global, text: &str) -> Result<Option<usize>, AllocError>
     }
 }
 
-// The line at which a text stops being a document in JSON.
+// Returns the line at which a text stops being a JSON document.
 fn json_line(alloc: Global, text: &str) -> Result<Option<usize>, AllocError>
     ensures { IfOk result (λ line. is_some line ≡ is_none (json_document text.now)) }
 {
@@ -125,14 +127,15 @@ fn json_line(alloc: Global, text: &str) -> Result<Option<usize>, AllocError>
     }
 }
 
-// The line of the first byte that is no blank.
+// Returns the line of the first byte that is not a blank.
 fn top_line(text: &str) -> usize {
     line_at(text, text.len().saturating_sub(text.trim_start().len()))
 }
 
-// The first wrong line of a text in JSON, where that is this line or stands before it.
+// Returns the first wrong line of a JSON text, if it is before `line`, and else `line`.
 //
-// The reader names the place that it has come to. It may have passed the wrong byte and blanks after it.
+// The JSON reader reports how far it has come. That may be past the wrong byte and the blanks after
+// it.
 fn wrong_line(alloc: Global, text: &str, line: usize) -> Result<usize, AllocError> {
     let mut right = 0;
     let mut wrong = line;
@@ -147,7 +150,7 @@ fn wrong_line(alloc: Global, text: &str, line: usize) -> Result<usize, AllocErro
     Ok(wrong)
 }
 
-// Whether a text is a document in JSON, or ends too early to be one.
+// Whether a text is a JSON document, or only ends too early.
 fn begins_json(alloc: Global, text: &str) -> Result<bool, AllocError> {
     match serde_json::Value::from_str(alloc, text) {
         Ok(_) => Ok(true),
@@ -159,7 +162,7 @@ fn begins_json(alloc: Global, text: &str) -> Result<bool, AllocError> {
     }
 }
 
-// The first lines of a text, with their line feeds, or all of it where it has no more.
+// Returns the first lines of a text, with their line feeds, or the whole text if it has no more.
 fn first_lines(text: &str, count: usize) -> &str {
     let mut end: usize = 0;
     for line in text.split_inclusive('\n').take(count) {
@@ -168,7 +171,7 @@ fn first_lines(text: &str, count: usize) -> &str {
     text.get(..end).unwrap_or(text)
 }
 
-// The line, counted from 1, in which a byte of a text stands.
+// Returns the line, counted from 1, of a byte of a text.
 fn line_at(text: &str, place: usize) -> usize {
     let mut line: usize = 1;
     for byte in text.bytes().take(place) {
@@ -187,7 +190,7 @@ pub(crate) enum Node<'a> {
 }
 
 impl<'a> Node<'a> {
-    // The value at a key, where this is a table that has it.
+    // Returns the value at a key, if this is a table that has the key.
     pub(crate) fn get(self, key: &str) -> Option<Node<'a>>
         ensures { option_map node_view result ≡ get key.now (node_view self.entry) }
     {
@@ -203,7 +206,7 @@ impl<'a> Node<'a> {
         }
     }
 
-    // Whether it is a table or an object.
+    // Whether the value is a table or an object.
     pub(crate) fn is_table(self) -> bool
         ensures { result ≡ is_table (node_view self.entry) }
     {
@@ -213,7 +216,7 @@ impl<'a> Node<'a> {
         }
     }
 
-    // Whether it is null.
+    // Whether the value is null.
     pub(crate) fn is_null(self) -> bool
         ensures { result ≡ is_null (node_view self.entry) }
     {
@@ -223,7 +226,7 @@ impl<'a> Node<'a> {
         }
     }
 
-    // The text that it is.
+    // Returns the text, if the value is one.
     pub(crate) fn text(self) -> Option<&'a str>
         ensures { option_copied result ≡ as_text (node_view self.entry) }
     {
@@ -233,7 +236,7 @@ impl<'a> Node<'a> {
         }
     }
 
-    // True or false.
+    // Returns true or false, if the value is one of them.
     pub(crate) fn flag(self) -> Option<bool>
         ensures { result ≡ as_flag (node_view self.entry) }
     {
@@ -243,7 +246,7 @@ impl<'a> Node<'a> {
         }
     }
 
-    // The whole number that it is, where that is at most `greatest`.
+    // Returns the whole number, if the value is one that is at most `greatest`.
     pub(crate) fn whole(self, greatest: u64) -> Option<u64>
         ensures { result ≡ whole_node greatest (node_view self.entry) }
     {
@@ -253,7 +256,7 @@ impl<'a> Node<'a> {
         }
     }
 
-    // The whole number that it is, where that isn't negative.
+    // Returns the whole number, if the value is one that is not negative.
     fn number(self) -> Option<u64>
         ensures { result ≡ as_whole (node_view self.entry) }
     {
@@ -266,7 +269,7 @@ impl<'a> Node<'a> {
         }
     }
 
-    // When to style.
+    // Returns when to style, if the value says so.
     pub(crate) fn when(self) -> Option<StyleWhen>
         ensures { result ≡ when_node (node_view self.entry) }
     {
@@ -276,7 +279,7 @@ impl<'a> Node<'a> {
         }
     }
 
-    // The byte that it is.
+    // Returns the byte, if the value is one.
     fn byte(self) -> Option<u8>
         ensures { result ≡ whole_node 255 (node_view self.entry) }
     {
@@ -286,7 +289,7 @@ impl<'a> Node<'a> {
         }
     }
 
-    // The three bytes of a list.
+    // Returns the three bytes, if the value is a list of three.
     fn triple(self) -> Option<(u8, u8, u8)>
         ensures { result ≡ as_triple (node_view self.entry) }
     {
@@ -302,7 +305,7 @@ impl<'a> Node<'a> {
         }
     }
 
-    // The colour of its numbers.
+    // Returns the colour, if the value gives one in numbers.
     fn color_numbers(self) -> Option<Color>
         ensures { result ≡ color_numbers (node_view self.entry) }
     {
@@ -315,14 +318,14 @@ impl<'a> Node<'a> {
         }
     }
 
-    // Whether it is a colour.
+    // Whether the value is a colour.
     pub(crate) fn is_color(self) -> bool
         ensures { result ≡ is_some (color_node (node_view self.entry)) }
     {
         self.text().is_some() || self.byte().is_some() || self.triple().is_some()
     }
 
-    // The colour that it is: the name of a text, or the colour of numbers.
+    // Returns the colour, if the value is one: a text is a name, other values are numbers.
     pub(crate) fn color(self, alloc: Global) -> Result<Option<Color>, AllocError>
         ensures { IfOk result (λ color.
             option_map color_value color ≡ color_node (node_view self.entry)) }
@@ -334,7 +337,7 @@ impl<'a> Node<'a> {
     }
 }
 
-// A list of exactly three bytes, in JSON.
+// Returns the bytes of a list of exactly three, in JSON.
 fn json_triple(items: &[serde_json::Value]) -> Option<(u8, u8, u8)>
     ensures { result ≡ json_triple (json_items items.now) }
 {
@@ -349,7 +352,7 @@ fn json_triple(items: &[serde_json::Value]) -> Option<(u8, u8, u8)>
     }
 }
 
-// And in TOML.
+// Returns the bytes of a list of exactly three, in TOML.
 fn toml_triple(items: &[toml::Value]) -> Option<(u8, u8, u8)>
     ensures { result ≡ toml_triple (toml_items items.now) }
 {

@@ -28,19 +28,19 @@ use std::fmt;
 /// What is wrong with sources.
 #[derive(Debug, Clone, Copy, PartialEq, Eq)]
 pub enum Fault {
-    /// The file couldn't be read as UTF-8.
+    /// The file could not be read as UTF-8.
     Unreadable,
 
-    /// The file's text is none of its format, or the top of a JSON text is no object.
+    /// The file's text is invalid in its format, or the top of a JSON text is not an object.
     Syntax,
 
-    /// What stands at the key of this part's style is no table.
+    /// The value at the key of this part's style is not a table.
     Table(Part),
 
-    /// The variable of this field has a value that the field doesn't take.
+    /// The variable of this field has a value that the field does not accept.
     Variable(Field),
 
-    /// What stands at the key of this field is nothing that the field takes.
+    /// The value at the key of this field is one that the field does not accept.
     Key(Field),
 }
 
@@ -75,9 +75,10 @@ impl fmt::Display for Fault {
 
 impl Error for Fault {}
 
-/// The configuration of sources, or none where there is a fault in one of them.
+/// Returns the configuration of the sources, or `None` if there is a fault in one of them.
 ///
-/// Each field is what its variable says, or else its key in the file, or else the default. No field is kept beside a fault.
+/// Each field has the value of its variable, or else of its key in the file, or else the default.
+/// If there is a fault, no field is kept.
 ///
 /// # Errors
 ///
@@ -89,7 +90,7 @@ pub fn load(alloc: Global, sources: &Sources) -> Result<Option<PrintConfig>, All
     load_with(alloc, sources, &document)
 }
 
-// The configuration of sources, with the document of their file.
+// Returns the configuration of the sources, given the document of their file.
 fn load_with(
     alloc: Global,
     sources: &Sources,
@@ -105,9 +106,10 @@ fn load_with(
     Ok(Some(given.configuration(alloc)?))
 }
 
-/// The first fault in sources, or none where [`load`] returns a configuration.
+/// Returns the first fault in the sources, or `None` exactly when [`load`] returns a configuration.
 ///
-/// The file as a whole comes first, then the tables of the two styles, and then field by field the variable and the key.
+/// The order is: the file as a whole, then the tables of the two styles, then field by field the
+/// variable and the key.
 ///
 /// # Errors
 ///
@@ -120,7 +122,7 @@ pub fn first_fault(alloc: Global, sources: &Sources) -> Result<Option<Fault>, Al
     Ok(first_fault_in(&sources.file, &document, &given))
 }
 
-// The first fault in a file, its document and the variables.
+// Returns the first fault in a file, its document and the variables.
 #[tactic(auto, unfolding(crate::specs::Loading::fault_in))]
 fn first_fault_in(file: &FileSource, read: &Option<Document>, given: &Given<'_>) -> Option<Fault>
     requires { option_map document_view read.now ≡ document file.now }
@@ -139,7 +141,7 @@ fn first_fault_in(file: &FileSource, read: &Option<Document>, given: &Given<'_>)
     given.first_field_fault(&FIELDS)
 }
 
-// The fault of a file that has no document.
+// Returns the fault of a file that has no document.
 fn file_fault(file: &FileSource, read: &Option<Document>) -> Option<Fault>
     requires { option_map document_view read.now ≡ document file.now }
     ensures { result ≡ file_fault file.now }
@@ -165,7 +167,7 @@ pub(crate) struct Given<'a> {
 }
 
 impl<'a> Given<'a> {
-    // What sources give, with the document of their file.
+    // Returns what the sources give, with the document of their file.
     fn of(sources: &'a Sources, read: &'a Option<Document>) -> Given<'a>
         requires { option_map document_view read.now ≡ document sources.now.file }
         ensures { given_view result ≡ given_by sources.now }
@@ -179,7 +181,7 @@ impl<'a> Given<'a> {
         }
     }
 
-    // The text of a field's variable.
+    // Returns the text of a field's variable.
     #[tactic(auto, unfolding(crate::specs::Sources::variable))]
     fn variable(&self, field: Field) -> Option<&'a str>
         ensures { option_copied result ≡ variable (given_view self.now) field }
@@ -187,7 +189,7 @@ impl<'a> Given<'a> {
         last_value(Spelling::AnyCase, field.variable(), self.variables)
     }
 
-    // The top of the document, or the table in it that has this key.
+    // Returns the top of the document, or its table of this key.
     #[tactic(auto, unfolding(crate::specs::Sources::table_at))]
     fn table_at(&self, key: Option<&str>) -> Option<Node<'a>>
         ensures { option_map node_view result
@@ -199,7 +201,7 @@ impl<'a> Given<'a> {
         }
     }
 
-    // The value at a field's key.
+    // Returns the value at a field's key.
     #[tactic(auto, unfolding(crate::specs::Sources::node))]
     fn node(&self, field: Field) -> Option<Node<'a>>
         ensures { option_map node_view result ≡ node (given_view self.now) field }
@@ -207,7 +209,7 @@ impl<'a> Given<'a> {
         self.table_at(field.table())?.get(field.key())
     }
 
-    // A field that takes whole numbers up to `greatest`.
+    // Returns the value of a field that accepts whole numbers up to `greatest`.
     fn whole(&self, greatest: u64, field: Field) -> Option<u64>
         ensures { result ≡ whole greatest (given_view self.now) field }
     {
@@ -219,7 +221,7 @@ impl<'a> Given<'a> {
         self.node(field)?.whole(greatest)
     }
 
-    // A field that says when to style.
+    // Returns the value of a field that says when to style.
     fn when(&self, field: Field) -> Option<StyleWhen>
         ensures { result ≡ when (given_view self.now) field }
     {
@@ -231,7 +233,7 @@ impl<'a> Given<'a> {
         self.node(field)?.when()
     }
 
-    // A field that takes any text.
+    // Returns the value of a field that accepts any text.
     fn text(&self, field: Field) -> Option<&'a str>
         ensures { option_copied result ≡ text (given_view self.now) field }
     {
@@ -241,7 +243,7 @@ impl<'a> Given<'a> {
         self.node(field)?.text()
     }
 
-    // A field that takes a colour.
+    // Returns the value of a field that accepts a colour.
     fn color(&self, alloc: Global, field: Field) -> Result<Option<Color>, AllocError>
         ensures { IfOk result (λ found.
             option_map color_value found ≡ color (given_view self.now) field) }
@@ -255,7 +257,7 @@ impl<'a> Given<'a> {
         }
     }
 
-    // A field that takes true or false.
+    // Returns the value of a field that accepts true or false.
     fn flag(&self, field: Field) -> Option<bool>
         ensures { result ≡ flag (given_view self.now) field }
     {
@@ -267,7 +269,7 @@ impl<'a> Given<'a> {
         self.node(field)?.flag()
     }
 
-    // The style of a part.
+    // Returns the style of a part.
     #[tactic(auto, unfolding(crate::specs::Loading::style_of))]
     fn style(&self, alloc: Global, part: Part) -> Result<Style, AllocError>
         ensures { IfOk result (λ style. style_value style ≡ style_of (given_view self.now) part) }
@@ -287,14 +289,14 @@ impl<'a> Given<'a> {
         })
     }
 
-    // A flag of a part's style.
+    // Returns a flag of a part's style.
     fn is_set(&self, part: Part, field: StyleField, default: bool) -> bool
         ensures { result ≡ unwrap_or (flag (given_view self.now) (Field.Paint part field)) default }
     {
         self.flag(Field::Paint(part, field)).unwrap_or(default)
     }
 
-    // Whether a part is dimmed where nothing says so.
+    // Whether a part is dimmed if no source says so.
     fn is_dimmed(&self, part: Part) -> bool
         ensures dimmed { result ≡ is_dimmed (given_view self.now) part }
         ensures each { HasEach all_style_fields }
@@ -307,7 +309,7 @@ impl<'a> Given<'a> {
         }
     }
 
-    // Whether some variable names one of these fields of a part.
+    // Whether there is a variable of one of these fields of a part.
     fn has_variable(&self, part: Part, fields: &[StyleField]) -> bool
         ensures { result
             ≡ list_any (λ f. is_some (variable (given_view self.now) (Field.Paint part f)))
@@ -321,7 +323,7 @@ impl<'a> Given<'a> {
         false
     }
 
-    // A field that takes a set of characters.
+    // Returns the value of a field that accepts a set of characters.
     fn set(&self, field: Field) -> Option<LentChars<'a>>
         ensures { option_map lent_characters result ≡ set (given_view self.now) field }
     {
@@ -333,7 +335,7 @@ impl<'a> Given<'a> {
         set_node(self.node(field)?)
     }
 
-    // The characters.
+    // Returns the characters.
     #[tactic(auto, unfolding(crate::specs::Loading::characters))]
     fn characters(&self, alloc: Global) -> Result<IndentChars, AllocError>
         ensures { IfOk result (λ chars. characters_of chars ≡ characters (given_view self.now)) }
@@ -350,7 +352,7 @@ impl<'a> Given<'a> {
         })
     }
 
-    // A single character: what its variable says, or else this one.
+    // Returns a single character: the value of its variable, or else `other`.
     fn character(&self, alloc: Global, field: Field, other: &str) -> Result<String, AllocError>
         ensures { IfOk result (λ s.
             string_bytes s ≡ unwrap_or (variable (given_view self.now) field) other.now) }
@@ -361,7 +363,7 @@ impl<'a> Given<'a> {
         }
     }
 
-    // The configuration: each field by itself.
+    // Returns the configuration, with each field by itself.
     #[tactic(auto, unfolding(crate::specs::Loading::configuration))]
     fn configuration(&self, alloc: Global) -> Result<PrintConfig, AllocError>
         ensures { IfOk result (λ config.
@@ -381,7 +383,7 @@ impl<'a> Given<'a> {
         })
     }
 
-    // The first fault of these fields.
+    // Returns the first fault of these fields.
     fn first_field_fault(&self, fields: &[Field]) -> Option<Fault>
         ensures { result ≡ first_of (map (field_fault (given_view self.now)) fields.now) }
     {
@@ -393,7 +395,7 @@ impl<'a> Given<'a> {
         None
     }
 
-    // The fault of a field: of its variable, or else of its key.
+    // Returns the fault of a field: that of its variable, or else that of its key.
     fn field_fault(&self, field: Field) -> Option<Fault>
         ensures { result ≡ field_fault (given_view self.now) field }
     {
@@ -408,7 +410,7 @@ impl<'a> Given<'a> {
         }
     }
 
-    // The fault that no table stands at the key of a part.
+    // Returns the fault of a part whose key holds a value that is not a table.
     fn table_fault(&self, part: Part) -> Option<Fault>
         ensures { result ≡ table_fault (given_view self.now) part }
     {
@@ -430,7 +432,7 @@ pub(crate) struct LentChars<'a> {
 }
 
 impl<'a> LentChars<'a> {
-    // Those of a shipped set.
+    // Returns the characters of a shipped set.
     fn of(set: StaticIndentChars) -> LentChars<'a>
         ensures { lent_characters result ≡ static_characters set }
     {
@@ -444,7 +446,7 @@ impl<'a> LentChars<'a> {
     }
 }
 
-/// The value of the last variable of a name.
+/// Returns the last value of a variable.
 pub fn last_value<'a>(
     spelling: Spelling,
     name: &str,
@@ -460,7 +462,7 @@ pub fn last_value<'a>(
     None
 }
 
-// Whether fields of a kind take this text of a variable.
+// Whether fields of a kind accept this text of a variable.
 fn text_fits(kind: Kind, value: &str) -> bool
     ensures { result ≡ text_fits kind value.now }
 {
@@ -473,7 +475,7 @@ fn text_fits(kind: Kind, value: &str) -> bool
     }
 }
 
-// Whether fields of a kind take this value of a file.
+// Whether fields of a kind accept this value of a file.
 fn node_fits(kind: Kind, value: Node<'_>) -> bool
     ensures { result ≡ node_fits kind (node_view value.entry) }
 {
@@ -487,7 +489,7 @@ fn node_fits(kind: Kind, value: Node<'_>) -> bool
     }
 }
 
-// The set that a text names, or the characters in a table.
+// Returns the set that a text names, or the characters in a table.
 fn set_node<'a>(value: Node<'a>) -> Option<LentChars<'a>>
     ensures { option_map lent_characters result ≡ set_node (node_view value.entry) }
 {
@@ -503,7 +505,7 @@ fn set_node<'a>(value: Node<'a>) -> Option<LentChars<'a>>
     }
 }
 
-// The characters in a table, with regular ones where it has none.
+// Returns the characters in a table, with those of the regular set for missing ones.
 fn characters_in<'a>(table: Node<'a>) -> LentChars<'a>
     ensures { lent_characters result ≡ characters_in (node_view table.entry) }
 {
@@ -517,7 +519,7 @@ fn characters_in<'a>(table: Node<'a>) -> LentChars<'a>
     }
 }
 
-// The text at a key, or else this one.
+// Returns the text at a key, or else `other`.
 fn text_at<'a>(key: &str, table: Node<'a>, other: &'static str) -> &'a str
     ensures { result.now ≡ text_at key.now (node_view table.entry) other.now }
 {

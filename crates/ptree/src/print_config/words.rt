@@ -1,4 +1,4 @@
-//! What the texts of sources say: words, numbers and colours.
+//! Reads the texts of sources: words, numbers and colours.
 ghost use Rattle.std.specs.Prelude.{◌≡◌, option_map, IfOk};
 ghost use Rattle.std.specs.Str.{str_eq_ignore_ascii_case, all_ascii_digits};
 ghost use Rattle.ptree.specs.Characters.{static_characters, is_spelled, set_spelled};
@@ -12,10 +12,10 @@ use crate::print_config::{
 use crate::style::Color;
 use std::alloc::{AllocError, Global};
 
-/// How closely a word or a name has to be spelled.
+/// How closely a word or a name must be spelled.
 #[derive(Debug, Clone, Copy, PartialEq, Eq)]
 pub enum Spelling {
-    /// As it stands.
+    /// Exactly as it is.
     Exact,
 
     /// In any ASCII case.
@@ -34,7 +34,7 @@ impl Spelling {
     }
 }
 
-// The shipped set of a name.
+// Returns the shipped set of a name.
 pub(crate) fn set_spelled(spelling: Spelling, text: &str) -> Option<StaticIndentChars>
     ensures { option_map static_characters result ≡ set_spelled spelling text.now }
 {
@@ -55,7 +55,7 @@ pub(crate) fn set_spelled(spelling: Spelling, text: &str) -> Option<StaticIndent
     }
 }
 
-// When to style, by its word.
+// Returns when to style, by its word.
 pub(crate) fn when_spelled(spelling: Spelling, text: &str) -> Option<StyleWhen>
     ensures { result ≡ when_spelled spelling text.now }
 {
@@ -70,7 +70,7 @@ pub(crate) fn when_spelled(spelling: Spelling, text: &str) -> Option<StyleWhen>
     }
 }
 
-// True or false, by a word in any ASCII case.
+// Returns true or false, by a word in any ASCII case.
 pub(crate) fn flag_text(text: &str) -> Option<bool>
     ensures { result ≡ flag_text text.now }
 {
@@ -94,7 +94,7 @@ pub(crate) fn is_word(text: &str, word: &str) -> bool
     text.eq_ignore_ascii_case(word)
 }
 
-// The number of one or more ASCII digits, where it is at most `greatest`.
+// Returns the number of one or more ASCII digits, if it is at most `greatest`.
 pub(crate) fn number_text(greatest: u64, text: &str) -> Option<u64>
     ensures { result ≡ number_text greatest text.now }
 {
@@ -107,7 +107,7 @@ pub(crate) fn number_text(greatest: u64, text: &str) -> Option<u64>
     }
 }
 
-// Whether each byte is an ASCII digit.
+// Whether all bytes are ASCII digits.
 fn is_all_digits(text: &str) -> bool
     ensures { result ≡ all_ascii_digits text.now }
 {
@@ -119,7 +119,7 @@ fn is_all_digits(text: &str) -> bool
     true
 }
 
-// The colour that a variable says: a number of one to three digits, or else a name.
+// Returns the colour of a variable: a number of one to three digits, or else a name.
 pub(crate) fn color_text(alloc: Global, text: &str) -> Result<Color, AllocError>
     ensures { IfOk result (λ color. color_value color ≡ color_text text.now) }
 {

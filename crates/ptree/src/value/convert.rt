@@ -1,4 +1,4 @@
-//! What both conversions share: an entry, and why a document's value gives no value.
+//! What both conversions share: making an entry, and why a document's value cannot be converted.
 ghost use Rattle.std.specs.Prelude.{◌≡◌, [], ◌∷◌, ◌++◌, map, OnOk, string_bytes};
 ghost use Rattle.ptree.specs.Data.{string};
 ghost use Rattle.ptree.specs.Value.{data_of, entry_meant};
@@ -10,13 +10,14 @@ use std::fmt;
 
 /// Why a value of a document could not be converted.
 ///
-/// The whole value is walked first: lists in order, and maps by ascending keys, which are compared by the bytes of their UTF-8.
+/// The whole value is searched first: lists in order, and maps by ascending keys. Keys are compared
+/// by the bytes of their UTF-8.
 #[derive(Debug, Clone, Copy, PartialEq, Eq)]
 pub enum ConvertError {
-    /// A float stands in it, before any date.
+    /// The value holds a float, before any date.
     Float,
 
-    /// A date or a time stands in it, before any float.
+    /// The value holds a date or a time, before any float.
     Date,
 
     /// Memory ran out.

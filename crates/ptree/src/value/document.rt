@@ -1,4 +1,4 @@
-//! Documents.
+//! Reads a document, and draws it.
 ghost use Rattle.std.specs.Prelude.{◌≡◌, Ok, Err, IfOk, IfErr, IsOk, IsErrAnd, IsErrOf};
 ghost use Rattle.ptree.specs.Data.{Data, KeysAscend, pair_shape};
 ghost use Rattle.ptree.specs.Document.{document, document_error, IsRefusal, HasDocumentCause};
@@ -16,7 +16,7 @@ use std::alloc::{AllocError, AllocFailed, Global};
 use std::error::Error;
 use std::fmt;
 
-/// What a text is read as.
+/// The format of a document.
 #[derive(Debug, Clone, Copy, PartialEq, Eq)]
 pub enum DocFormat {
     /// TOML, by the crate `toml`.
@@ -26,16 +26,16 @@ pub enum DocFormat {
     Json,
 }
 
-/// Why a document was not drawn whole.
+/// Why a document was not drawn completely.
 #[derive(Debug, Drop)]
 pub enum DocError {
-    /// The text is no document of its format.
+    /// The text is invalid in its format.
     Syntax,
 
-    /// A float stands in the document, before any date.
+    /// The document holds a float, before any date.
     Float,
 
-    /// A date or a time stands in the document, before any float.
+    /// The document holds a date or a time, before any float.
     Date,
 
     /// Drawing failed, or memory ran out.
@@ -99,14 +99,14 @@ impl fmt::Display for DocError {
 
 impl Error for DocError {}
 
-/// Draws a document under a label to standard output, `terminal` saying whether that is a terminal, under the configuration that
-/// sources mean ([`PrintConfig::from_env`]).
+/// Draws a document under a label to standard output, under the configuration of the sources
+/// ([`PrintConfig::from_env`]). `terminal` says whether standard output is a terminal.
 ///
-/// It is read and drawn as by [`draw_document_with`].
+/// It reads and draws as [`draw_document_with`] does.
 ///
 /// # Errors
 ///
-/// Those of [`draw_document_with`], with the same left in `out`.
+/// The errors of [`draw_document_with`], with the same left in `out`.
 pub fn draw_document<W: Sink>(
     alloc: Global,
     format: DocFormat,
@@ -122,13 +122,13 @@ pub fn draw_document<W: Sink>(
     ensures date { IsErrOf result DocError.Date → document format text.now ≡ Err DocError.Date }
     ensures refused { IfErr (document format text.now) (λ _.
         IsErrAnd result (IsRefusal (document format text.now)) × (out.new ≡ out.old)) }
-    // Any other is drawn, by what the sources mean.
+    // Any other document is drawn under the configuration of the sources.
     ensures bytes { let meant = meant_by sources.now in
         IfOk (document format text.now)
         (λ v. IsDrawn (look_by meant OutputKind.Stdout terminal) (pair_shape (label.now, v))
         meant.depth (W.contents out.old) (W.contents out.new) result) }
     ensures keys { (v : Data) → document format text.now ≡ Ok v → IsOk result → KeysAscend v }
-    // Where memory ran out, what was appended is whole entries.
+    // If memory ran out, whole entries were appended.
     ensures whole { let meant = meant_by sources.now in
         IfOk (document format text.now) (λ v. IsErrOf result (DocError.Draw DrawError.Memory) →
         AppendsWholeEntries (look_by meant OutputKind.Stdout terminal)
@@ -139,15 +139,18 @@ pub fn draw_document<W: Sink>(
     draw_document_with(alloc, format, text, label, &config, terminal, out)
 }
 
-/// Draws a document under a label to standard output, `terminal` saying whether that is a terminal.
+/// Draws a document under a label to standard output. `terminal` says whether standard output is a
+/// terminal.
 ///
-/// The drawing is that of the pair of the label and the document's value; where the label is empty, the root's text is that of the
-/// value. The document is copied once, as a [`Value`], and no text is made for an entry.
+/// The drawing is that of the pair of the label and the document's value. If the label is empty,
+/// the root's text is that of the value. The document is copied once, as a [`Value`], and no text
+/// is made for an entry.
 ///
 /// # Errors
 ///
-/// `Syntax`, `Float` and `Date` where the document is refused; then nothing was written. `Draw` where `out` failed, and a beginning of
-/// the drawing was written, and where memory ran out, which leaves whole entries.
+/// `Syntax`, `Float` and `Date` if the document is refused; nothing was written. `Draw` if `out`
+/// failed, and a prefix of the drawing was written, or if memory ran out, and whole entries were
+/// written.
 pub fn draw_document_with<W: Sink>(
     alloc: Global,
     format: DocFormat,
@@ -157,21 +160,23 @@ pub fn draw_document_with<W: Sink>(
     terminal: bool,
     out: &mut W,
 ) -> Result<(), DocError>
-    // Each of these names comes only where it is the document's.
+    // Each of these errors is returned only if it is the document's.
     ensures syntax { IsErrOf result DocError.Syntax
         → document format text.now ≡ Err DocError.Syntax }
     ensures float { IsErrOf result DocError.Float → document format text.now ≡ Err DocError.Float }
     ensures date { IsErrOf result DocError.Date → document format text.now ≡ Err DocError.Date }
-    // A document that is refused ends so, or in out of memory, and leaves the sink alone.
+    // A call with a refused document returns that error, or out of memory, and does not touch the
+    // sink.
     ensures refused { IfErr (document format text.now)
         (λ _. IsErrAnd result (IsRefusal (document format text.now)) × (out.new ≡ out.old)) }
-    // Any other is drawn.
+    // Any other document is drawn.
     ensures bytes { IfOk (document format text.now)
         (λ v. IsDrawn (look_of config.now OutputKind.Stdout terminal) (pair_shape (label.now, v))
         config.now.depth (W.contents out.old) (W.contents out.new) result) }
-    // In each table of what was drawn whole the keys ascend, and none stands twice.
+    // In each table of a document that was drawn completely, the keys ascend, and none occurs
+    // twice.
     ensures keys { (v : Data) → document format text.now ≡ Ok v → IsOk result → KeysAscend v }
-    // Where memory ran out, what was appended is whole entries.
+    // If memory ran out, whole entries were appended.
     ensures whole { IfOk (document format text.now) (λ v.
         IsErrOf result (DocError.Draw DrawError.Memory) →
         AppendsWholeEntries (look_of config.now OutputKind.Stdout terminal)
@@ -184,7 +189,7 @@ pub fn draw_document_with<W: Sink>(
     Ok(())
 }
 
-// The value of a document.
+// Reads a text, and returns the document's value.
 fn read_document(alloc: Global, format: DocFormat, text: &str) -> Result<Value, DocError>
     ensures value { IfOk result (λ v. document format text.now ≡ Ok (data_of v)) }
     ensures keys { IfOk result (λ v. KeysAscend (data_of v)) }

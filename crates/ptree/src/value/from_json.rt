@@ -12,15 +12,16 @@ use serde_json::Map;
 use std::alloc::{AllocError, Global};
 
 impl Value {
-    /// The value of a JSON value. Null is `Unit`. A number is `U64` where it fits, else `I64`, and else it is a float. An object is a
-    /// `Map` with keys of `String`, ascending.
+    /// Converts a JSON value. Null becomes `Unit`. A number becomes `U64` if it fits, or else
+    /// `I64`; any other number is a float. An object becomes a `Map` with keys of `String`,
+    /// ascending.
     ///
     /// # Errors
     ///
-    /// `Float` where a float stands in it, and `Memory`.
+    /// `Float` if the value holds a float, and `Memory`.
     pub fn from_json(alloc: Global, v: &serde_json::Value) -> Result<Value, ConvertError>
         ensures value { IfOk result (λ value. json_conversion (view v.now) ≡ Ok (data_of value)) }
-        // The keys of each map within ascend.
+        // The keys of each map in it ascend.
         ensures keys { IfOk result (λ value. KeysAscend (data_of value)) }
         ensures float { IsErrOf result ConvertError.Float
             ↔ (json_conversion (view v.now) ≡ Err ConvertError.Float) }
@@ -33,7 +34,7 @@ impl Value {
     }
 }
 
-// Whether a float stands in it. It takes no memory.
+// Whether the value holds a float. It does not allocate.
 #[cycle(walk)]
 fn has_float(v: &serde_json::Value) -> bool
     ensures { result ≡ has_float (view v.now) }
@@ -72,7 +73,7 @@ fn members_have_float(members: &Map<String, serde_json::Value>) -> bool
     false
 }
 
-// The value of one without a float.
+// Converts a value without floats.
 #[cycle(convert)]
 fn value_of(alloc: Global, v: &serde_json::Value) -> Result<Value, AllocError>
     requires { has_float (view v.now) ≡ false }

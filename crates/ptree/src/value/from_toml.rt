@@ -11,15 +11,16 @@ use std::alloc::{AllocError, Global};
 use toml::Table;
 
 impl Value {
-    /// The value of a TOML value. A whole number is `I64`. A table is a `Map` with keys of `String`, ascending.
+    /// Converts a TOML value. A whole number becomes `I64`. A table becomes a `Map` with keys of
+    /// `String`, ascending.
     ///
     /// # Errors
     ///
-    /// `Float` where a float stands in it before any date, `Date` where a date or a time stands in it before any float, and
-    /// `Memory`.
+    /// `Float` if the value holds a float before any date, `Date` if it holds a date or a time
+    /// before any float, and `Memory`.
     pub fn from_toml(alloc: Global, v: &toml::Value) -> Result<Value, ConvertError>
         ensures value { IfOk result (λ value. toml_conversion (view v.now) ≡ Ok (data_of value)) }
-        // The keys of each map within ascend.
+        // The keys of each map in it ascend.
         ensures keys { IfOk result (λ value. KeysAscend (data_of value)) }
         ensures float { IsErrOf result ConvertError.Float
             ↔ (toml_conversion (view v.now) ≡ Err ConvertError.Float) }
@@ -33,7 +34,7 @@ impl Value {
     }
 }
 
-// The first float or date. It takes no memory.
+// Returns the first float or date. It does not allocate.
 #[cycle(walk)]
 fn fault_of(v: &toml::Value) -> Option<ConvertError>
     ensures { result ≡ toml_fault (view v.now) }
@@ -73,7 +74,7 @@ fn fault_of_members(members: &Table) -> Option<ConvertError>
     None
 }
 
-// The value of one without a float or a date.
+// Converts a value without floats and dates.
 #[cycle(convert)]
 fn value_of(alloc: Global, v: &toml::Value) -> Result<Value, AllocError>
     requires { toml_fault (view v.now) ≡ None }

@@ -1,4 +1,4 @@
-//! Values as items that are drawn where they lie.
+//! Items that draw values in place, without a copy.
 ghost use Rattle.std.specs.Prelude.{◌≡◌, ◌++◌, [], codes, map, IfOk};
 ghost use Rattle.ptree.specs.Data.{item_pairs, entry_pairs, value_pairs, pair_shape};
 ghost use Rattle.ptree.specs.Nodes.{pair_of_node};
@@ -13,10 +13,11 @@ use crate::item::{Children, Shaped, TreeItem};
 use crate::style::{DrawError, Sink, Style, put_all};
 use std::alloc::{AllocError, Global};
 
-/// A value in its place in a document. It means what a pair of label and value means, and holds no copy of them.
+/// A value in its place in a document. It denotes the same tree as a pair of label and value, and
+/// holds no copy of them.
 #[derive(Clone, Copy)]
 pub(crate) enum Node<'a> {
-    /// A value under a label. One without a label has the empty one.
+    /// A value under a label, which is empty if there is none.
     Labelled(&'a str, &'a Value),
 
     /// A key of a map and its value.
@@ -30,7 +31,7 @@ impl Shaped for Node<'_> {
 impl<'a> TreeItem for Node<'a> {
     type Child = Node<'a>;
 
-    /// Writes the text, painted. It takes no memory.
+    /// Writes the text painted. It does not allocate.
     fn write_self<W: Sink>(&self, _alloc: Global, f: &mut W, style: &Style) -> Result<(), DrawError>
         ensures bytes { IsWritten (W.contents f.old) (W.contents f.new) result
             ((pair_shape (pair_of_node self.now)).own [] (style_value style.now)) }
@@ -67,7 +68,7 @@ impl<'a> TreeItem for Node<'a> {
     }
 }
 
-// A node of each child of a value.
+// Makes a node of each child of a value.
 fn nodes_of<'a>(alloc: Global, value: &'a Value) -> Result<Vec<Node<'a>>, AllocError>
     ensures { IfOk result (λ nodes.
         map pair_of_node nodes.items ≡ value_pairs (data_of value.now)) }
@@ -79,7 +80,7 @@ fn nodes_of<'a>(alloc: Global, value: &'a Value) -> Result<Vec<Node<'a>>, AllocE
     }
 }
 
-// A node of each element.
+// Makes a node of each element.
 fn item_nodes<'a>(alloc: Global, items: &'a [Value]) -> Result<Vec<Node<'a>>, AllocError>
     ensures { IfOk result (λ nodes.
         map pair_of_node nodes.items ≡ item_pairs (items_meant items.now)) }
@@ -91,7 +92,7 @@ fn item_nodes<'a>(alloc: Global, items: &'a [Value]) -> Result<Vec<Node<'a>>, Al
     Ok(nodes)
 }
 
-// A node of each key and its value.
+// Makes a node of each key and its value.
 fn entry_nodes<'a>(
     alloc: Global,
     entries: &'a [(Value, Value)],
@@ -106,7 +107,7 @@ fn entry_nodes<'a>(
     Ok(nodes)
 }
 
-// Writes `key = value`, painted.
+// Writes `key = value` painted.
 fn write_entry<W: Sink>(f: &mut W, style: &Style, key: &str, value: &str) -> Result<(), DrawError>
     ensures bytes { IsWritten (W.contents f.old) (W.contents f.new) result
         (painted_text (style_value style.now) (key.now ++ codes " = " ++ value.now)) }

@@ -11,7 +11,7 @@ use std::str;
 pub(crate) const ROOM: usize = 20;
 
 impl Value {
-    /// The value's text: one that it holds, or one that is made in the room.
+    /// Returns the value's text: one that it holds, or one that is made in `room`.
     pub(crate) fn text<'a>(&'a self, room: &'a mut [u8; ROOM]) -> &'a str
         ensures { result.now ≡ value_text (data_of self.now) }
     {
@@ -39,7 +39,7 @@ impl Value {
     }
 }
 
-// A number in decimal.
+// Returns a number in decimal.
 fn unsigned(room: &mut [u8; ROOM], n: u64) -> &str
     ensures { result.now ≡ decimal n }
 {
@@ -47,7 +47,7 @@ fn unsigned(room: &mut [u8; ROOM], n: u64) -> &str
     end_of(room, start)
 }
 
-// A number in decimal, with `-` before one below 0.
+// Returns a number in decimal, with `-` before a negative one.
 fn signed(room: &mut [u8; ROOM], n: i64) -> &str
     ensures { result.now ≡ signed_decimal n }
 {
@@ -55,7 +55,8 @@ fn signed(room: &mut [u8; ROOM], n: i64) -> &str
     end_of(room, start)
 }
 
-// Writes a number, with `-` before one below 0, at the end of the room, and returns where it starts.
+// Writes a number at the end of the room, with `-` before a negative one, and returns where it
+// starts.
 fn write_signed(room: &mut [u8; ROOM], n: i64) -> usize
     ensures number { drop result room.new ≡ signed_decimal n }
     ensures start { result ≤ ROOM }
@@ -84,7 +85,7 @@ fn write_digits(room: &mut [u8; ROOM], n: u64) -> usize
     start
 }
 
-// The text at the end of the room.
+// Returns the text at the end of the room.
 fn end_of(room: &[u8; ROOM], start: usize) -> &str
     requires start { start ≤ ROOM }
     requires utf8 { IsUtf8 (drop start room.now) }
