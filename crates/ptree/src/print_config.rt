@@ -63,6 +63,11 @@ impl Eq for StyleWhen {
     ghost laws = { Prim.search (comparing, rules) };
 }
 
+// The defaults of [`PrintConfig`].
+pub(crate) const DEFAULT_INDENT: usize = 3;
+pub(crate) const DEFAULT_PADDING: usize = 1;
+pub(crate) const DEFAULT_MARK: &str = ": ";
+
 /// How a tree is drawn.
 #[derive(Debug, Drop)]
 pub struct PrintConfig {
@@ -200,10 +205,10 @@ impl PrintConfig {
     {
         Ok(PrintConfig {
             depth: u32::MAX,
-            indent: 3,
-            padding: 1,
+            indent: DEFAULT_INDENT,
+            padding: DEFAULT_PADDING,
             styled: StyleWhen::Tty,
-            continued: String::from_str(alloc, ": ")?,
+            continued: String::from_str(alloc, DEFAULT_MARK)?,
             characters: IndentChars::from_static(alloc, UTF_CHARS)?,
             branch: dimmed_style(),
             leaf: Style::default(),

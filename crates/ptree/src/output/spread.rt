@@ -7,7 +7,7 @@ use std::alloc::{AllocError, Global};
 use std::simd::prelude::*;
 
 /// Whether a line feed may follow the first `start` bytes. If the result is false, there is none.
-/// The bytes are examined sixteen at a time, some of the first ones among them.
+/// The bytes are examined by vectors, which may overlap and take some of the first ones too.
 #[inline(always)]
 pub(crate) fn may_hold_line_feed(bytes: &[u8], start: usize) -> bool
     requires { start ≤ length bytes.now }
@@ -16,27 +16,43 @@ pub(crate) fn may_hold_line_feed(bytes: &[u8], start: usize) -> bool
     // If there are fewer than sixteen bytes, this is past the start.
     let from = bytes.len().wrapping_sub(16);
     if from <= start {
-        holds_line_feed_at(bytes, from)
-    } else {
-        holds_line_feed(bytes, start)
+        return holds_line_feed_at::<16>(bytes, from);
+    }
+    match bytes.len() {
+        4..8 => holds_line_feed_in_two::<4>(bytes, start),
+        8..16 => holds_line_feed_in_two::<8>(bytes, start),
+        _ => holds_line_feed(bytes, start),
     }
 }
 
-// Whether a line feed is among the sixteen bytes at a place.
+// Whether a line feed is among `N` bytes at a place.
 #[inline(always)]
-fn holds_line_feed_at(bytes: &[u8], place: usize) -> bool
-    requires { place + 16 ≤ length bytes.now }
-    ensures { result ≡ false → (k : ℕ) → place ≤ k → k < place + 16
+fn holds_line_feed_at<const N: usize>(bytes: &[u8], place: usize) -> bool
+    requires few { N ≤ 64 }
+    requires within { place + N ≤ length bytes.now }
+    ensures { result ≡ false → (k : ℕ) → place ≤ k → k < place + N
         → slice_index bytes.now k ≢ line_feed }
 {
-    u8x16::from_slice(&bytes[place..])
-        .simd_eq(u8x16::splat(b'\n'))
+    Simd::<u8, N>::from_slice(&bytes[place..])
+        .simd_eq(Simd::splat(b'\n'))
         .to_bitmask()
         != 0
 }
 
-// Whether a line feed may follow the first `start` bytes, for fewer than sixteen bytes or for more
-// than that after the start.
+// Whether a line feed may follow the first `start` bytes, for `N` bytes or more but fewer than twice
+// as many: two vectors overlap.
+#[inline(always)]
+fn holds_line_feed_in_two<const N: usize>(bytes: &[u8], start: usize) -> bool
+    requires few { N ≤ 64 }
+    requires low { N ≤ length bytes.now }
+    requires high { length bytes.now < N + N }
+    ensures { result ≡ false → HasNoLineFeed (drop start bytes.now) }
+{
+    let last = bytes.len() - N;
+    holds_line_feed_at::<N>(bytes, last) || (start < last && holds_line_feed_at::<N>(bytes, start))
+}
+
+// Whether a line feed may follow the first `start` bytes, for any number of them.
 #[inline(always)]
 fn holds_line_feed(bytes: &[u8], start: usize) -> bool
     requires { start ≤ length bytes.now }
@@ -45,7 +61,7 @@ fn holds_line_feed(bytes: &[u8], start: usize) -> bool
     let mut end = bytes.len();
     while end >= 16 && end > start {
         let from = end - 16;
-        if holds_line_feed_at(bytes, from) {
+        if holds_line_feed_at::<16>(bytes, from) {
             return true;
         }
         end = from;

@@ -18,7 +18,7 @@ use crate::print_config::words::{
     Spelling, color_text, flag_text, number_text, set_spelled, when_spelled,
 };
 use crate::print_config::{
-    FileSource, IndentChars, PrintConfig, Sources, StaticIndentChars, StyleWhen, UTF_CHARS,
+    DEFAULT_INDENT, DEFAULT_MARK, DEFAULT_PADDING, FileSource, IndentChars, PrintConfig, Sources, StaticIndentChars, StyleWhen, UTF_CHARS,
 };
 use crate::style::{Color, Style};
 use std::alloc::{AllocError, Global};
@@ -373,10 +373,14 @@ impl<'a> Given<'a> {
             depth: self
                 .whole(u32::MAX as u64, Field::Depth)
                 .unwrap_or(u32::MAX as u64) as u32,
-            indent: self.whole(u64::MAX, Field::Indent).unwrap_or(3) as usize,
-            padding: self.whole(u64::MAX, Field::Padding).unwrap_or(1) as usize,
+            indent: self
+                .whole(u64::MAX, Field::Indent)
+                .unwrap_or(DEFAULT_INDENT as u64) as usize,
+            padding: self
+                .whole(u64::MAX, Field::Padding)
+                .unwrap_or(DEFAULT_PADDING as u64) as usize,
             styled: self.when(Field::Styled).unwrap_or(StyleWhen::Tty),
-            continued: String::from_str(alloc, self.text(Field::Continued).unwrap_or(": "))?,
+            continued: String::from_str(alloc, self.text(Field::Continued).unwrap_or(DEFAULT_MARK))?,
             branch: self.style(alloc, Part::Branch)?,
             leaf: self.style(alloc, Part::Leaf)?,
             characters: self.characters(alloc)?,

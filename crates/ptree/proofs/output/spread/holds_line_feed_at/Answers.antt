@@ -9,8 +9,12 @@ unnot : (b : Bool) → not b ≡ false → b ≡ true
 unnot true e = refl
 unnot false e = sym e
 
+pub bitmask_asked-result : goal.bitmask_asked-result
+bitmask_asked-result g c = c.requires.few
+
 pub returns : goal.returns
-returns c = λ none k low high.
+returns g c = λ none k low high.
     let bytes = c.args.bytes.now in
-    let mask = bitmask_splat w8 eqb (chunk c.args.place 16 bytes) 16 10 (length-chunk c.args.place 16 bytes c.requires) (omega arith) in
-    eqb-false _ 10 (none_from_empty_mask (λ x. eqb x 10) bytes c.args.place 16 0 c.requires (sym mask ∙ eqb-true _ 0 (unnot _ none)) k low high)
+    let within = c.requires.within in
+    let mask = bitmask_splat w8 eqb (chunk c.args.place g.row.N bytes) g.row.N 10 (length-chunk c.args.place g.row.N bytes within) c.requires.few in
+    eqb-false _ 10 (none_from_empty_mask (λ x. eqb x 10) bytes c.args.place g.row.N 0 within (sym mask ∙ eqb-true _ 0 (unnot _ none)) k low high)
