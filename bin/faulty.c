@@ -1,11 +1,11 @@
-/* Preloaded into a program, it makes one of its streams fail. FAULT says which, how, and behind how many bytes: `output enospc_once 7`.
-   The streams are input, output, error, and file, the file at the path FAULT_FILE. The call that reaches the byte is cut there; the
-   next one fails:
-     eio, eintr, zero                     for ever: an error, an interruption, or a call that takes or gives nothing
+/* Makes one of the streams of a program fail that preloads it. FAULT says which stream, how, and after how many bytes, such as
+   `output enospc_once 7`. The streams are input, output, error, and file (the file at the path FAULT_FILE). The call that reaches
+   that byte is cut there; the next one fails:
+     eio, eintr, zero                     for ever: an error, an interruption, or a call that transfers nothing
      eio_once, eintr_once, enospc_once,
-     zero_once                            once, and then all goes well again
-     short                                never: but each call takes or gives one byte
-   Each further call on the stream behind a fault writes a byte to descriptor 9. */
+     zero_once                            once; later calls succeed
+     short                                never, but each call transfers one byte
+   Each further call on the stream after a fault writes a byte to descriptor 9. */
 #define _GNU_SOURCE
 #include <dlfcn.h>
 #include <errno.h>
@@ -29,7 +29,7 @@ __attribute__((constructor)) static void begin(void) {
     if (faulty < 0 && (!is_file || !getenv("FAULT_FILE"))) _exit(99);
 }
 
-/* How many of `n` bytes a call may take, or -1 where it fails, and errno says how, or 0. */
+/* Returns how many of `n` bytes a call may transfer, or -1 with errno if it fails, or 0. */
 static ssize_t granted(size_t n) {
     if (!strcmp(how, "short")) return n > 1 ? 1 : (ssize_t)n;
     if (has_failed) {

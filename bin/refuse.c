@@ -1,5 +1,5 @@
-/* Preloaded into a program, it refuses the Nth of its requests for memory (malloc and realloc), N being in REFUSE. Where there is
-   an Nth, a byte is written to descriptor 9. */
+/* Refuses the Nth allocation (malloc or realloc) of a program that preloads it. REFUSE is N. If there is an Nth allocation, a byte
+   is written to descriptor 9. */
 #define _GNU_SOURCE
 #include <dlfcn.h>
 #include <stdlib.h>

@@ -10,7 +10,7 @@ trap 'exit 130' INT TERM HUP
 passed=0
 failed=0
 
-# A check has passed or failed: ok or no, and its name.
+# Reports a check. Arguments: ok or no, and its name.
 report() {
     if [ "$1" = ok ]; then
         passed=$((passed + 1))
@@ -21,13 +21,13 @@ report() {
     fi
 }
 
-# Counts the checks, as each part's last line does.
+# Prints the counts of the checks, each part's last line.
 finish() {
     echo "$passed passed, $failed failed"
     [ "$failed" = 0 ]
 }
 
-# Builds a program of crates/ where its sources have changed.
+# Builds a program of crates/ if its sources have changed.
 need_program() {
     if ! bin/build "$1"; then
         report no "the program $1 is not built"
@@ -36,8 +36,8 @@ need_program() {
     fi
 }
 
-# What a call wrote, and what it must write: name, status that it had, status that it must have, standard output and error
-# that it must have, as printf formats.
+# Checks what a call wrote. Arguments: name, actual status, expected status, and as printf formats the expected standard output and
+# standard error.
 expect_written() {
     # shellcheck disable=SC2059
     printf "$4" >"$scratch/want_out"
@@ -51,7 +51,7 @@ expect_written() {
     fi
 }
 
-# How a call ended: name, status that it had, status that it must have, line on standard error.
+# Checks how a call ended. Arguments: name, actual status, expected status, expected line on standard error.
 expect_end() {
     if [ "$2" = "$3" ] && [ "$(cat "$scratch/err")" = "$4" ]; then
         report ok "$1"
@@ -61,14 +61,14 @@ expect_end() {
     fi
 }
 
-# Nothing of the surroundings configures a call but what a check sets.
+# Clears the environment of all that could configure a call.
 leave_surroundings() {
     unset XDG_CONFIG_HOME "${!PTREE_@}"
     export HOME=$scratch/home
     mkdir -p "$HOME/.config"
 }
 
-# Compiles the library that refuses the Nth request for memory of a program that it is loaded into.
+# Compiles the library that refuses the Nth allocation of a program that loads it.
 make_refusing() {
     if ! cc -O1 -shared -fPIC -o "$scratch/refuse.so" bin/refuse.c -ldl; then
         report no 'bin/refuse.c does not compile'
@@ -77,7 +77,7 @@ make_refusing() {
     fi
 }
 
-# A call met no fewer refusals than bin/refusals.txt says: the call, the number that it met.
+# Checks that a call met at least the number of refusals in bin/refusals.txt. Arguments: the call, the number that it met.
 expect_refusals() {
     local wanted
     wanted=$(sed -n "s/^\([0-9][0-9]*\) $1\$/\1/p" bin/refusals.txt)
