@@ -1,8 +1,17 @@
 //! Callers of graphs.
-ghost use Rattle.std.specs.Prelude.{◌≡◌, map, IfOk, string_bytes};
-ghost use Rattle.ptree.specs.Graph.{edges_of, neighbors_of};
+ghost use Rattle.std.specs.Prelude.{◌≡◌, ◌≢◌, ◌↔◌, ◌<◌, IsTrue, ℕ, suc, [], Bool, List, length, map, count_by, IfOk, string_bytes};
+ghost use Rattle.ptree.specs.Address.{Address};
+ghost use Rattle.ptree.specs.Drawing.{look_by, written_look, IsDrawing};
+ghost use Rattle.ptree.specs.Graph.{weights_of, edges_of, neighbors_of, node_shape, turned};
+ghost use Rattle.ptree.specs.Loading.{meant_by};
+ghost use Rattle.ptree.specs.Occurrence.{OccurrenceTree, IsExpandedOnce, IsExpanded, IsMetBefore, HasOneTree, NoneRepeated, StandsAt, occurrence_count, occurrence_kids, occurrence_shape, occurrence_tree};
+ghost use Rattle.ptree.specs.Writing.{HasCause, IsDrawn, LeavesWholeEntries};
+ghost use Rattle.ptree.specs.declared.print_config.OutputKind.{OutputKind};
+ghost use Rattle.ptree_callers.specs.declared.graphs.Package.{Package};
 
-use ptree::graph::{Graph, Label, NodeIndex};
+use ptree::PrintConfig;
+use ptree::graph::{Graph, Label, NodeIndex, Occurrence, REPEATED_MARK, print_graph_once, write_graph_once_with};
+use ptree::print_config::Sources;
 use ptree::style::{DrawError, Sink, Style};
 use std::alloc::{AllocError, Global};
 
@@ -32,4 +41,117 @@ pub fn needs(graph: &Graph<Package>, which: NodeIndex) -> Result<Vec<NodeIndex>,
         map (λ n. n.0) v.items ≡ neighbors_of (edges_of graph.now) which.0) }
 {
     graph.neighbors(which)
+}
+
+/// The packages that need a package directly, in place of those that it needs. The graph is turned round, which takes no memory.
+pub fn needed_by(graph: Graph<Package>, which: NodeIndex) -> Result<Vec<NodeIndex>, AllocError>
+    ensures { IfOk result (λ v.
+        map (λ n. n.0) v.items ≡ neighbors_of (map turned (edges_of graph)) which.0) }
+{
+    let turned = graph.reversed();
+    turned.neighbors(which)
+}
+
+/// Turns a graph round twice, and has it as it was.
+pub fn turned_twice(graph: Graph<Package>) -> Graph<Package>
+    ensures weights { weights_of result ≡ weights_of graph }
+    ensures edges { edges_of result ≡ map turned (map turned (edges_of graph)) }
+{
+    graph.reversed().reversed()
+}
+
+/// Each package's needs once. There is one tree of them and no other, and there is one occurrence more than there are needs of packages that
+/// are expanded.
+pub fn needs_once(graph: &Graph<Package>, which: NodeIndex) -> Result<Occurrence, AllocError>
+    ensures tree { IfOk result (λ o.
+        IsExpandedOnce (neighbors_of (edges_of graph.now)) which.0 9 (occurrence_tree o)) }
+    ensures one_tree { HasOneTree (neighbors_of (edges_of graph.now)) which.0 9 }
+    ensures size { IfOk result (λ o. (expanded : ℕ → Bool)
+        × ((v : ℕ) → IsTrue (expanded v) ↔ IsExpanded (occurrence_tree o) v)
+        × (occurrence_count (occurrence_tree o)
+        ≡ suc (count_by (λ e. expanded e.0) (edges_of graph.now)))) }
+{
+    graph.expanded_once(which, 9)
+}
+
+/// The same, of a graph in which each package needs something: above the depth each has its needs below its first occurrence, and nothing
+/// below the others.
+pub fn all_needs_once(graph: &Graph<Package>, which: NodeIndex) -> Result<Occurrence, AllocError>
+    requires { (v : ℕ) → neighbors_of (edges_of graph.now) v ≢ [] }
+    ensures { IfOk result (λ o. (a : Address) (p : OccurrenceTree) → StandsAt (occurrence_tree o) a p
+        → length a < 9 → (occurrence_kids p ≢ []) ↔ (IsMetBefore 9 (occurrence_tree o) a p.node → ⊥)) }
+{
+    graph.expanded_once(which, 9)
+}
+
+/// The same, of a graph without edges: nothing is repeated.
+pub fn no_needs_once(graph: &Graph<Package>, which: NodeIndex) -> Result<Occurrence, AllocError>
+    requires { (v : ℕ) → neighbors_of (edges_of graph.now) v ≡ [] }
+    ensures { IfOk result (λ o. NoneRepeated (occurrence_tree o)) }
+{
+    graph.expanded_once(which, 9)
+}
+
+/// Draws each package's needs once, as `cargo tree` does.
+pub fn draw_needs_once<W: Sink>(
+    alloc: Global,
+    graph: &Graph<Package>,
+    which: NodeIndex,
+    f: &mut W,
+    config: &PrintConfig,
+) -> Result<(), DrawError>
+    ensures bytes { (t : OccurrenceTree)
+        → IsExpandedOnce (neighbors_of (edges_of graph.now)) which.0 config.now.depth t
+        → IsDrawn (written_look config.now)
+        (occurrence_shape (λ p. string_bytes p.name) graph.now REPEATED_MARK.now t)
+        config.now.depth (W.contents f.old) (W.contents f.new) result }
+    ensures whole { (t : OccurrenceTree)
+        → IsExpandedOnce (neighbors_of (edges_of graph.now)) which.0 config.now.depth t
+        → LeavesWholeEntries (written_look config.now)
+        (occurrence_shape (λ p. string_bytes p.name) graph.now REPEATED_MARK.now t)
+        config.now.depth (W.contents f.old) (W.contents f.new) result }
+    ensures cause { HasCause (W.faults f.old) (W.faults f.new) result }
+    ensures one_tree { HasOneTree (neighbors_of (edges_of graph.now)) which.0 config.now.depth }
+    ensures walks { (t : OccurrenceTree)
+        → IsExpandedOnce (neighbors_of (edges_of graph.now)) which.0 config.now.depth t
+        → NoneRepeated t → (text : List ℕ) → IsDrawing (written_look config.now)
+        (occurrence_shape (λ p. string_bytes p.name) graph.now REPEATED_MARK.now t)
+        config.now.depth text
+        ↔ IsDrawing (written_look config.now)
+        (node_shape (λ p. string_bytes p.name) graph.now which.0) config.now.depth text }
+{
+    write_graph_once_with(alloc, graph, which, REPEATED_MARK, f, config)
+}
+
+/// Prints each package's needs once, under the sources that the caller has.
+pub fn print_needs_once<W: Sink>(
+    alloc: Global,
+    graph: &Graph<Package>,
+    which: NodeIndex,
+    out: &mut W,
+    terminal: bool,
+    sources: &Sources,
+) -> Result<(), DrawError>
+    ensures bytes { let meant = meant_by sources.now in (t : OccurrenceTree)
+        → IsExpandedOnce (neighbors_of (edges_of graph.now)) which.0 meant.depth t
+        → IsDrawn (look_by meant OutputKind.Stdout terminal)
+        (occurrence_shape (λ p. string_bytes p.name) graph.now REPEATED_MARK.now t) meant.depth
+        (W.contents out.old) (W.contents out.new) result }
+    ensures whole { let meant = meant_by sources.now in (t : OccurrenceTree)
+        → IsExpandedOnce (neighbors_of (edges_of graph.now)) which.0 meant.depth t
+        → LeavesWholeEntries (look_by meant OutputKind.Stdout terminal)
+        (occurrence_shape (λ p. string_bytes p.name) graph.now REPEATED_MARK.now t) meant.depth
+        (W.contents out.old) (W.contents out.new) result }
+    ensures cause { HasCause (W.faults out.old) (W.faults out.new) result }
+    ensures one_tree { HasOneTree (neighbors_of (edges_of graph.now)) which.0
+        (meant_by sources.now).depth }
+    ensures walks { let meant = meant_by sources.now in
+        let look = look_by meant OutputKind.Stdout terminal in
+        let text = λ (p : Package). string_bytes p.name in (t : OccurrenceTree)
+        → IsExpandedOnce (neighbors_of (edges_of graph.now)) which.0 meant.depth t
+        → NoneRepeated t → (drawing : List ℕ)
+        → IsDrawing look (occurrence_shape text graph.now REPEATED_MARK.now t) meant.depth drawing
+        ↔ IsDrawing look (node_shape text graph.now which.0) meant.depth drawing }
+{
+    print_graph_once(alloc, graph, which, REPEATED_MARK, out, terminal, sources)
 }

@@ -2,14 +2,16 @@
 
 use crate::form::value_meant;
 use crate::trouble::Trouble;
-use ptree::graph::{EdgeError, Graph, NodeIndex};
+use ptree::graph::{EdgeError, Graph, NodeIndex, REPEATED_MARK};
 use std::alloc::Global;
+use std::mem;
 
-/// A graph of texts, and the node that it is drawn from.
+/// A graph of texts, the node that it is drawn from, and the mark of repeated nodes, if it isn't the default one.
 #[derive(Drop)]
 pub struct Nodes {
     pub graph: Graph<String>,
     pub start: NodeIndex,
+    pub mark: Option<String>,
 }
 
 const NO_NUMBER: Trouble = Trouble::Bad("no number of a node");
@@ -34,6 +36,15 @@ impl Nodes {
         Nodes {
             graph: Graph::new(alloc),
             start: NodeIndex(0),
+            mark: None,
+        }
+    }
+
+    /// The mark of repeated nodes.
+    pub fn mark(&self) -> &str {
+        match &self.mark {
+            Some(mark) => mark.as_str(),
+            None => REPEATED_MARK,
         }
     }
 
@@ -47,13 +58,18 @@ impl Nodes {
         }
     }
 
-    /// Adds a `node`, or sets the `start`. Returns whether the word is one of these.
+    /// Adds a `node`, sets the `start` or the `mark`, or turns all edges round, as `reversed` says. Returns whether the word is one of these.
     pub fn call(&mut self, alloc: Global, word: &str, body: &str) -> Result<bool, Trouble> {
         match word {
             "node" => {
                 self.graph.add_node(value_meant(alloc, body)?)?;
             }
             "start" => self.start = node(body)?,
+            "mark" => self.mark = Some(value_meant(alloc, body)?),
+            "reversed" => {
+                let graph = mem::replace(&mut self.graph, Graph::new(alloc));
+                self.graph = graph.reversed();
+            }
             _ => return Ok(false),
         }
         Ok(true)

@@ -2,7 +2,7 @@
 
 use crate::spelled::spelled;
 use crate::values::{drawn_alone, drawn_labelled, value_of};
-use ptree::graph::print_graph;
+use ptree::graph::{print_graph, print_graph_once};
 use ptree::item::StringItem;
 use ptree::output::{print_tree, write_tree};
 use ptree::print_config::{
@@ -149,9 +149,26 @@ impl Given {
 
     // Returns what `print_graph` writes of the graph.
     fn graph(&self, alloc: Global, terminal: bool) -> Result<String, Trouble> {
-        let Nodes { graph, start } = &self.nodes;
+        let Nodes { graph, start, .. } = &self.nodes;
         let mut out = Counted::new(Vec::new(alloc));
         let drawn = print_graph(alloc, graph, *start, &mut out, terminal, &self.sources);
+        ended(alloc, drawn, out)
+    }
+
+    // What `print_graph_once` writes of it.
+    fn graph_once(&self, alloc: Global, terminal: bool) -> Result<String, Trouble> {
+        let Nodes { graph, start, .. } = &self.nodes;
+        let mark = self.nodes.mark();
+        let mut out = Counted::new(Vec::new(alloc));
+        let drawn = print_graph_once(
+            alloc,
+            graph,
+            *start,
+            mark,
+            &mut out,
+            terminal,
+            &self.sources,
+        );
         ended(alloc, drawn, out)
     }
 
@@ -199,6 +216,8 @@ impl Given {
             "elsewhere" => self.printed(alloc, false)?,
             "graph_on_terminal" => self.graph(alloc, true)?,
             "graph_elsewhere" => self.graph(alloc, false)?,
+            "graph_once_on_terminal" => self.graph_once(alloc, true)?,
+            "graph_once_elsewhere" => self.graph_once(alloc, false)?,
             _ => return self.answer_of_document(alloc, word),
         };
         Ok(Some(found))

@@ -1,7 +1,7 @@
 //! Makes the calls of a builder and of a graph, and returns their results.
 
 use ptree::TreeBuilder;
-use ptree::graph::write_graph_with;
+use ptree::graph::{write_graph_once_with, write_graph_with};
 use ptree::item::StringItem;
 use ptree::print_config::PrintConfig;
 use ptree::style::Counted;
@@ -100,8 +100,19 @@ impl Building {
     // Returns the drawing from the start.
     fn drawn(&self, alloc: Global, config: &PrintConfig) -> Result<String, Trouble> {
         let mut out = Counted::new(Vec::new(alloc));
-        let Nodes { graph, start } = &self.nodes;
+        let Nodes { graph, start, .. } = &self.nodes;
         match write_graph_with(alloc, graph, *start, &mut out, config) {
+            Ok(()) => Ok(lines_form(alloc, &out.into_inner())?),
+            Err(_) => Err(Trouble::Bad("the graph is not drawn")),
+        }
+    }
+
+    // The drawing from the start, each node expanded once.
+    fn drawn_once(&self, alloc: Global, config: &PrintConfig) -> Result<String, Trouble> {
+        let mut out = Counted::new(Vec::new(alloc));
+        let Nodes { graph, start, .. } = &self.nodes;
+        let mark = self.nodes.mark();
+        match write_graph_once_with(alloc, graph, *start, mark, &mut out, config) {
             Ok(()) => Ok(lines_form(alloc, &out.into_inner())?),
             Err(_) => Err(Trouble::Bad("the graph is not drawn")),
         }
@@ -119,6 +130,7 @@ impl Building {
             "level" => format!(in alloc; "{}", self.builder.level())?,
             "neighbors" => self.neighbors(alloc)?,
             "graph" => self.drawn(alloc, config)?,
+            "graph_once" => self.drawn_once(alloc, config)?,
             _ => return Ok(None),
         };
         Ok(Some(found))
