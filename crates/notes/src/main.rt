@@ -36,7 +36,8 @@ fn main(rt: HostRuntime) -> io::Result<()> {
     let notes = notes(alloc)?;
     let config = PrintConfig::default(alloc)?;
 
-    print_tree_to(alloc, &notes, rt.stdout(), &config)?;
+    let mut screen = Counted::new(rt.stdout());
+    print_tree_to(alloc, &notes, &mut screen, &config)?;
 
     let mut file = Counted::new(File::create(&rt, path.as_str())?);
     write_tree_with(alloc, &notes, &mut file, &config)?;

@@ -127,7 +127,7 @@ where
     draw_for(alloc, item, out, OutputKind::Stdout, terminal, config)
 }
 
-/// Draws as [`print_tree_with`] to a writer that can be asked whether it is a terminal, as `rt.stdout()` can, and returns it.
+/// Draws as [`print_tree_with`] to a sink that can be asked whether it is a terminal, as `Counted::new(rt.stdout())` can.
 ///
 /// # Errors
 ///
@@ -135,22 +135,25 @@ where
 pub fn print_tree_to<T, W>(
     alloc: Global,
     item: &T,
-    out: W,
+    out: &mut W,
     config: &PrintConfig,
-) -> Result<W, DrawError>
+) -> Result<(), DrawError>
 where
     T: TreeItem,
     T::Child: TreeItem<Child = T::Child> + Drop,
-    W: io::Write + io::IsTerminal + Drop,
-    // Exactly the drawing was appended, that of a terminal or that of none, as the writer answered.
-    ensures { IfOk result (λ w. (terminal : Bool)
+    W: Sink + io::IsTerminal,
+    // The drawing is that of a terminal or that of none, as the sink answers. Success appends exactly it, and a refusal a beginning of it.
+    ensures bytes { (terminal : Bool)
         × IsDrawn (look_of config.now OutputKind.Stdout terminal) (T.shape item.now)
-        config.now.depth (W.contents out) (W.contents w) result) }
+        config.now.depth (W.contents out.old) (W.contents out.new) result }
+    // Where memory ran out, what was appended is whole entries.
+    ensures whole { (terminal : Bool)
+        × LeavesWholeEntries (look_of config.now OutputKind.Stdout terminal) (T.shape item.now)
+        config.now.depth (W.contents out.old) (W.contents out.new) result }
+    ensures cause { HasCause (W.faults out.old) (W.faults out.new) result }
 {
     let terminal = out.is_terminal();
-    let mut out = Counted::new(out);
-    print_tree_with(alloc, item, &mut out, terminal, config)?;
-    Ok(out.into_inner())
+    print_tree_with(alloc, item, out, terminal, config)
 }
 
 /// Draws as [`write_tree_with`], under the configuration that sources mean ([`PrintConfig::from_env`]).

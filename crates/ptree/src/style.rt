@@ -518,6 +518,13 @@ impl<T: io::Write> Sink for Counted<T> {
     }
 }
 
+impl<T: io::IsTerminal> io::IsTerminal for Counted<T> {
+    /// As the writer or reader answers.
+    fn is_terminal(&self) -> bool {
+        self.inner.is_terminal()
+    }
+}
+
 impl<T: io::Read> Feed for Counted<T> {
     ghost use Rattle.ptree.specs.Counted.{fault_count, inner_value};
 

@@ -1,6 +1,6 @@
 //! Callers that draw values and documents.
 ghost use Rattle.std.specs.Prelude.{◌≡◌, false, Ok, Err, IfOk, IsTrue};
-ghost use Rattle.ptree.specs.Data.{Data, pair_shape, value_shape};
+ghost use Rattle.ptree.specs.Data.{Data, KeysAscend, pair_shape, value_shape};
 ghost use Rattle.ptree.specs.Document.{document};
 ghost use Rattle.ptree.specs.Drawing.{look_of, written_look, IsDrawing};
 ghost use Rattle.ptree.specs.Value.{data_of};
@@ -26,6 +26,21 @@ pub fn drawing_of_document(
     let mut out = Counted::new(Vec::new(alloc));
     draw_document_with(alloc, format, text, label, config, false, &mut out)?;
     Ok(out.into_inner())
+}
+
+/// Draws a document. Where all of it was drawn, it has a value, and in each of its tables the keys ascend.
+pub fn draw_sorted<W: Sink>(
+    alloc: Global,
+    format: DocFormat,
+    text: &str,
+    config: &PrintConfig,
+    out: &mut W,
+) -> Result<(), DocError>
+    ensures { IfOk result (λ _.
+        (v : Data) × (document format text.now ≡ Ok v) × KeysAscend v) }
+{
+    draw_document_with(alloc, format, text, "", config, false, out)?;
+    Ok(())
 }
 
 /// Draws a document, or says that it is none that can be drawn, and then it has written nothing.

@@ -1,5 +1,5 @@
 //! Callers that draw.
-ghost use Rattle.std.specs.Prelude.{◌≡◌, ℕ, ◌++◌, [], ◌∷◌, List, IfOk, IsOk};
+ghost use Rattle.std.specs.Prelude.{◌≡◌, ℕ, ◌++◌, [], ◌∷◌, List, IsOk};
 ghost use Rattle.ptree.specs.Address.{Address};
 ghost use Rattle.ptree.specs.Drawing.{written_look, own_at, prefix_text, entry_text};
 ghost use Rattle.ptree.specs.Style.{painted_text};
@@ -60,17 +60,20 @@ pub fn put_text<W: Sink>(f: &mut W, text: &str) -> Result<(), DrawError>
     put_all(f, text.as_bytes())
 }
 
-/// Prints where output is never styled: the drawing is that of any other writer, whatever this one says of itself.
-pub fn print_unstyled<W: io::Write + io::IsTerminal + Drop>(
+/// Prints where output is never styled: the drawing is that of any other sink, whatever this one says of itself. After an error the sink
+/// holds a beginning of it, and whole entries where memory ran out.
+pub fn print_unstyled<W: Sink + io::IsTerminal>(
     alloc: Global,
     tree: &StringItem,
-    out: W,
+    out: &mut W,
     config: &PrintConfig,
-) -> Result<W, DrawError>
+) -> Result<(), DrawError>
     requires { config.now.styled ≡ StyleWhen.Never }
-    ensures { IfOk result (λ w.
-        IsDrawn (written_look config.now) (shape_of_tree (tree_of tree.now)) config.now.depth
-        (W.contents out) (W.contents w) result) }
+    ensures bytes { IsDrawn (written_look config.now) (shape_of_tree (tree_of tree.now))
+        config.now.depth (W.contents out.old) (W.contents out.new) result }
+    ensures whole { LeavesWholeEntries (written_look config.now) (shape_of_tree (tree_of tree.now))
+        config.now.depth (W.contents out.old) (W.contents out.new) result }
+    ensures cause { HasCause (W.faults out.old) (W.faults out.new) result }
 {
     print_tree_to(alloc, tree, out, config)
 }

@@ -1,14 +1,17 @@
 //! Callers that load configurations.
-ghost use Rattle.std.specs.Prelude.{◌≡◌, ◌↔◌, false, Some, None, IfOk, IsTrue, MatchResult};
+ghost use Rattle.std.specs.Prelude.{◌≡◌, ◌↔◌, false, Some, None, IfOk, IsTrue, MatchResult, unwrap_or};
 ghost use Rattle.ptree.specs.Configuration.{config_value, default_configuration};
 ghost use Rattle.ptree.specs.Drawing.{IsDrawing, look_by, look_of};
 ghost use Rattle.ptree.specs.Loading.{SayNothing, file_fault, config_of, meant_by};
+ghost use Rattle.ptree.specs.Sources.{last_value, variables_of};
 ghost use Rattle.ptree.specs.declared.print_config.OutputKind.{OutputKind};
+ghost use Rattle.ptree.specs.declared.print_config.words.Spelling.{Spelling};
 
 use ptree::item::TreeItem;
 use ptree::output::{tree_bytes, write_tree};
 use ptree::print_config::{
-    Fault, FileSource, OutputKind, PrintConfig, Sources, first_fault, syntax_line,
+    Fault, FileSource, OutputKind, PrintConfig, Sources, Spelling, first_fault, last_value,
+    syntax_line,
 };
 use ptree::style::{Counted, DrawError};
 use std::alloc::{AllocError, Global};
@@ -33,6 +36,14 @@ pub fn has_bad_syntax(alloc: Global, file: &FileSource) -> Result<bool, AllocErr
     ensures { IfOk result (λ b. IsTrue b ↔ (file_fault file.now ≡ Some Fault.Syntax)) }
 {
     Ok(syntax_line(alloc, file)?.is_some())
+}
+
+/// The value of a variable of exactly this name, the last one of them, and where there is none this one.
+pub fn value_or<'a>(name: &str, variables: &'a [(String, String)], otherwise: &'a str) -> &'a str
+    ensures { result.now
+        ≡ unwrap_or (last_value Spelling.Exact name.now (variables_of variables.now)) otherwise.now }
+{
+    last_value(Spelling::Exact, name, variables).unwrap_or(otherwise)
 }
 
 /// What no sources give is the default.

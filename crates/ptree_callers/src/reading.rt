@@ -1,5 +1,5 @@
 //! Callers that read drawings.
-ghost use Rattle.std.specs.Prelude.{◌≡◌, ◌≤◌, ◌<◌, ◌+◌, ◌-◌, false, IfOk, IsOkUnless, IfSome, IsTrue, IsSomeAnd};
+ghost use Rattle.std.specs.Prelude.{◌≡◌, ◌≤◌, ◌<◌, ◌+◌, ◌-◌, false, IfOk, IsOkUnless, IfSome, IsTrue, IsSomeAnd, string_bytes};
 ghost use Rattle.ptree.specs.Continuation.{HasContinuation, first_lines};
 ghost use Rattle.ptree.specs.declared.read.ReadError.{ReadError};
 ghost use Rattle.ptree.specs.DrawnForm.{IsDrawnForm};
@@ -42,6 +42,34 @@ pub fn there_and_back_by_lines(
 {
     let drawing = tree.drawing(alloc, config)?;
     read_tree_or_line(alloc, drawing.as_str(), config)
+}
+
+/// Reads a text, and draws what was read: that is the text, whatever was read.
+pub fn drawn_anew(
+    alloc: Global,
+    text: &str,
+    config: &PrintConfig,
+) -> Result<Option<String>, AllocError>
+    requires { HasReadablePieces config.now }
+    ensures { IfOk result (λ o. IfSome o (λ s. string_bytes s ≡ text.now)) }
+{
+    match read_tree(alloc, text, config)? {
+        Some(tree) => Ok(Some(tree.drawing(alloc, config)?)),
+        None => Ok(None),
+    }
+}
+
+/// The same where a text that is no drawing is told by its line.
+pub fn drawn_anew_by_lines(
+    alloc: Global,
+    text: &str,
+    config: &PrintConfig,
+) -> Result<String, ReadError>
+    requires { HasReadablePieces config.now }
+    ensures { IfOk result (λ s. string_bytes s ≡ text.now) }
+{
+    let tree = read_tree_or_line(alloc, text, config)?;
+    Ok(tree.drawing(alloc, config)?)
 }
 
 /// The first wrong line of a text that is no drawing, and none where it is one or ends too early. Before it stands no other wrong line.

@@ -81,7 +81,7 @@ where
     T::Child: TreeItem<Child = T::Child> + Drop,
 {
     let bytes = Vec::new(alloc);
-    let screen = Screen { bytes, is_terminal };
-    let screen = print_tree_to(alloc, item, screen, &PrintConfig::default(alloc)?)?;
-    expect_text(str::from_utf8(&screen.bytes)?, wanted)
+    let mut out = Counted::new(Screen { bytes, is_terminal });
+    print_tree_to(alloc, item, &mut out, &PrintConfig::default(alloc)?)?;
+    expect_text(str::from_utf8(&out.into_inner().bytes)?, wanted)
 }

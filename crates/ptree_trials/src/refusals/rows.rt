@@ -54,11 +54,12 @@ fn document_drawn(alloc: Global, text: &str) -> Result<Vec<u8>, Failure> {
 
 // What is printed of a tree where standard output is no terminal.
 fn printed(alloc: Global, tree: &StringItem, config: &PrintConfig) -> Result<Vec<u8>, Failure> {
-    let screen = Screen {
+    let mut out = Counted::new(Screen {
         bytes: Vec::with_capacity(alloc, SHEET)?,
         is_terminal: false,
-    };
-    Ok(print_tree_to(alloc, tree, screen, config)?.bytes)
+    });
+    print_tree_to(alloc, tree, &mut out, config)?;
+    Ok(out.into_inner().bytes)
 }
 
 // A root over a copy of this leaf and another one.
