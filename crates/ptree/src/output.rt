@@ -22,7 +22,7 @@ use look::Look;
 use std::alloc::{AllocError, Global};
 use std::io;
 
-// Draws for output of a kind, `terminal` saying whether standard output is a terminal.
+// Draws to output of a kind. `terminal` says whether standard output is a terminal.
 pub(crate) fn draw_for<T, W>(
     alloc: Global,
     item: &T,
@@ -46,7 +46,7 @@ where
     draw(alloc, item, f, &look, config.depth)
 }
 
-// Draws for output of a kind, under the configuration that sources mean.
+// Draws to output of a kind, under the configuration that sources denote.
 fn draw_meant<T, W>(
     alloc: Global,
     item: &T,
@@ -71,7 +71,7 @@ where
     draw_for(alloc, item, f, output_kind, terminal, &config)
 }
 
-/// Draws as [`print_tree_with`], under the configuration that sources mean ([`PrintConfig::from_env`]).
+/// Draws as [`print_tree_with`], under the configuration that sources denote ([`PrintConfig::from_env`]).
 ///
 /// # Errors
 ///
@@ -87,11 +87,11 @@ where
     T: TreeItem,
     T::Child: TreeItem<Child = T::Child> + Drop,
     W: Sink,
-    // What the sources mean gives the drawing. Success appends exactly it, and a refusal a beginning of it.
+    // Success appends exactly the drawing under what the sources denote, and an error a prefix of it.
     ensures bytes { let meant = meant_by sources.now in
         IsDrawn (look_by meant OutputKind.Stdout terminal) (T.shape item.now) meant.depth
         (W.contents out.old) (W.contents out.new) result }
-    // Where memory ran out, what was appended is whole entries.
+    // If memory ran out, whole entries were appended.
     ensures whole { let meant = meant_by sources.now in
         LeavesWholeEntries (look_by meant OutputKind.Stdout terminal) (T.shape item.now) meant.depth
         (W.contents out.old) (W.contents out.new) result }
@@ -100,7 +100,7 @@ where
     draw_meant(alloc, item, out, OutputKind::Stdout, terminal, sources)
 }
 
-/// Draws as [`write_tree_with`], but to standard output, `terminal` saying whether that is a terminal.
+/// Draws as [`write_tree_with`], but to standard output. `terminal` says whether that is a terminal.
 ///
 /// # Errors
 ///
@@ -116,10 +116,10 @@ where
     T: TreeItem,
     T::Child: TreeItem<Child = T::Child> + Drop,
     W: Sink,
-    // Success appends exactly the drawing, and a refusal a beginning of it.
+    // Success appends exactly the drawing, and an error a prefix of it.
     ensures bytes { IsDrawn (look_of config.now OutputKind.Stdout terminal) (T.shape item.now)
         config.now.depth (W.contents out.old) (W.contents out.new) result }
-    // Where memory ran out, what was appended is whole entries.
+    // If memory ran out, whole entries were appended.
     ensures whole { LeavesWholeEntries (look_of config.now OutputKind.Stdout terminal)
         (T.shape item.now) config.now.depth (W.contents out.old) (W.contents out.new) result }
     ensures cause { HasCause (W.faults out.old) (W.faults out.new) result }
@@ -127,7 +127,7 @@ where
     draw_for(alloc, item, out, OutputKind::Stdout, terminal, config)
 }
 
-/// Draws as [`print_tree_with`] to a sink that can be asked whether it is a terminal, as `Counted::new(rt.stdout())` can.
+/// Draws as [`print_tree_with`] to a sink that knows whether it is a terminal, as `Counted::new(rt.stdout())` does.
 ///
 /// # Errors
 ///
@@ -142,11 +142,12 @@ where
     T: TreeItem,
     T::Child: TreeItem<Child = T::Child> + Drop,
     W: Sink + io::IsTerminal,
-    // The drawing is that of a terminal or that of none, as the sink answers. Success appends exactly it, and a refusal a beginning of it.
+    // Success appends exactly the drawing, and an error a prefix of it: as on a terminal or not, as the
+    // sink says.
     ensures bytes { (terminal : Bool)
         × IsDrawn (look_of config.now OutputKind.Stdout terminal) (T.shape item.now)
         config.now.depth (W.contents out.old) (W.contents out.new) result }
-    // Where memory ran out, what was appended is whole entries.
+    // If memory ran out, whole entries were appended.
     ensures whole { (terminal : Bool)
         × LeavesWholeEntries (look_of config.now OutputKind.Stdout terminal) (T.shape item.now)
         config.now.depth (W.contents out.old) (W.contents out.new) result }
@@ -156,7 +157,7 @@ where
     print_tree_with(alloc, item, out, terminal, config)
 }
 
-/// Draws as [`write_tree_with`], under the configuration that sources mean ([`PrintConfig::from_env`]).
+/// Draws as [`write_tree_with`], under the configuration that sources denote ([`PrintConfig::from_env`]).
 ///
 /// # Errors
 ///
@@ -171,11 +172,11 @@ where
     T: TreeItem,
     T::Child: TreeItem<Child = T::Child> + Drop,
     W: Sink,
-    // What the sources mean gives the drawing. Success appends exactly it, and a refusal a beginning of it.
+    // Success appends exactly the drawing under what the sources denote, and an error a prefix of it.
     ensures bytes { let meant = meant_by sources.now in
         IsDrawn (look_by meant OutputKind.Unknown false) (T.shape item.now) meant.depth
         (W.contents f.old) (W.contents f.new) result }
-    // Where memory ran out, what was appended is whole entries.
+    // If memory ran out, whole entries were appended.
     ensures whole { let meant = meant_by sources.now in
         LeavesWholeEntries (look_by meant OutputKind.Unknown false) (T.shape item.now) meant.depth
         (W.contents f.old) (W.contents f.new) result }
@@ -184,11 +185,14 @@ where
     draw_meant(alloc, item, f, OutputKind::Unknown, false, sources)
 }
 
-/// Draws an item and what is below it to a writer that isn't standard output.
+/// Draws an item and all below it, down to the configured depth, to a sink that isn't standard output.
+///
+/// Time grows with the bytes of the drawing. It takes memory for one entry and for a call a level, beside
+/// what the items take; it puts each entry at once.
 ///
 /// # Errors
 ///
-/// `Write` or `Zero` where `f` failed, and `Memory`. A beginning of the drawing was written; where memory ran out,
+/// `Write` or `Zero` if `f` failed, and `Memory`. A prefix of the drawing was written; if memory ran out,
 /// whole entries.
 pub fn write_tree_with<T, W>(
     alloc: Global,
@@ -200,28 +204,29 @@ where
     T: TreeItem,
     T::Child: TreeItem<Child = T::Child> + Drop,
     W: Sink,
-    // Success appends exactly the drawing, and a refusal a beginning of it.
+    // Success appends exactly the drawing, and an error a prefix of it.
     ensures bytes { IsDrawn (written_look config.now) (T.shape item.now) config.now.depth
         (W.contents f.old) (W.contents f.new) result }
-    // Where memory ran out, what was appended is whole entries.
+    // If memory ran out, whole entries were appended.
     ensures whole { LeavesWholeEntries (written_look config.now) (T.shape item.now) config.now.depth
         (W.contents f.old) (W.contents f.new) result }
     ensures cause { HasCause (W.faults f.old) (W.faults f.new) result }
-    // One list of addresses meets the definition, and no other.
+    // Exactly one list of addresses meets the definition.
     ensures one_list { HasOneList (T.shape item.now) config.now.depth }
-    // The drawings at a depth are those of the shape cut there, at that or any greater depth.
+    // The drawing at a depth is that of the shape cut there, at that depth or any greater one.
     ensures cut { HasCuts (written_look config.now) (T.shape item.now) config.now.depth }
-    // And so for every finite tree, cut as a tree.
+    // The same for every finite tree, cut as a tree.
     ensures cut_tree { HasTreeCuts (written_look config.now) config.now.depth }
-    // What is below an address is drawn as alone, each entry and each further line behind the address's passing text.
+    // What is below an address is drawn as it is alone, with the address's passing text before each
+    // entry and each further line.
     ensures subtree { HasSubtrees (written_look config.now) (T.shape item.now) config.now.depth }
-    // A text of one line is drawn as it is.
+    // A label of one line is drawn as it is.
     ensures one_line { HasOneLineEntries (written_look config.now) (T.shape item.now) }
 {
     draw_for(alloc, item, f, OutputKind::Unknown, false, config)
 }
 
-/// The drawing of an item, as [`write_tree_with`] draws it.
+/// Returns the drawing of an item, as [`write_tree_with`] writes it.
 ///
 /// # Errors
 ///
@@ -234,16 +239,16 @@ where
         IsDrawing (written_look config.now) (T.shape item.now) config.now.depth v.items) }
 {
     let mut out = Counted::new(Vec::new(alloc));
-    // A vector fails only where memory ran out.
+    // A vector fails only if memory ran out.
     match write_tree_with(alloc, item, &mut out, config) {
         Ok(()) => Ok(out.into_inner()),
         Err(_) => Err(AllocError),
     }
 }
 
-/// The drawing of an item as a text, as [`write_tree_with`] draws it.
+/// Returns the drawing of an item as a text, as [`write_tree_with`] writes it.
 ///
-/// The result is `None` where the drawing is no UTF-8, which takes an item that writes other bytes than UTF-8.
+/// The result is `None` if the drawing isn't UTF-8. Only an item that writes other bytes makes it so.
 ///
 /// # Errors
 ///
@@ -261,7 +266,7 @@ where
     ensures none { IfOk result (λ o. IfNone o ((drawing : List ℕ)
         → IsDrawing (written_look config.now) (T.shape item.now) config.now.depth drawing
         → IsUtf8 drawing → ⊥)) }
-    // Where all that the items write is UTF-8, the drawing is a text.
+    // If the items write UTF-8, the drawing is a text.
     ensures utf8 { HasUtf8Texts (written_look config.now) (T.shape item.now)
         → IfOk result IsSome }
 {
@@ -273,7 +278,7 @@ where
 }
 
 impl StringItem {
-    /// The tree's drawing as a text, as [`write_tree_with`] draws it.
+    /// Returns the tree's drawing as a text, as [`write_tree_with`] writes it.
     ///
     /// # Errors
     ///
