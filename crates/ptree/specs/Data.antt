@@ -94,8 +94,8 @@ abbrev pub item_pairs : Items → List Pair
 item_pairs no_items = []
 item_pairs (item x xs) = ([], x) ∷ item_pairs xs
 
--- the pair of an entry: a list or a map has its key as the label; any other value is the text `key
--- = value`
+-- the pair of an entry: a list or a map has its key as the label; any other value is the text
+-- `key = value`
 abbrev pub entry_pair : Data → Data → Pair
 entry_pair key value =
     if is_list value then (value_text key, value) else ([], string (value_text key ++ codes " = " ++ value_text value))

@@ -1,4 +1,5 @@
--- The tests of `Equality` decide whether two values are equal, so they are equivalences. (Proofs, since `impl`s cite them.)
+-- The tests of `Equality` decide whether two values are equal, so they are equivalences. (Proofs,
+-- since `impl`s cite them.)
 use Rattle.std.proofs.Common.{◌≡◌, ◌↔◌, ◌∙◌, ◌&&◌, ◌==◌, ℕ, Bool, true, false, Option, Some, None, rules, ap, sym, refl, eq-eqb, eqb-true}
 use Rattle.std.specs.Prelude.{IsTrue, List, option_map}
 use Rattle.std.specs.Cmp.{IsEquivalence, both_ways}
@@ -54,6 +55,7 @@ sides (Some a) (Some b) = (λ h. ap Some ((color_decided a b).0 h), λ h. (color
 characters_decided : (a b : Characters) → IsTrue (same_characters a b) ↔ (a ≡ b)
 characters_decided a b = search rules
 
+-- the test of styles decides whether they hold the same
 pub style_decided : (a b : Style) → IsTrue (same_style a b) ↔ (style_value a ≡ style_value b)
 style_decided a b =
     let h = both (both (both (both (both (both (both (both (both (sides a.foreground b.foreground) (sides a.background b.background)) (bools a.bold b.bold)) (bools a.dimmed b.dimmed)) (bools a.italic b.italic)) (bools a.underline b.underline)) (bools a.blink b.blink)) (bools a.reverse b.reverse)) (bools a.hidden b.hidden)) (bools a.strikethrough b.strikethrough) in (
@@ -72,6 +74,7 @@ style_decided a b =
       λ e. h.1 (((((((((ap (λ v. v.foreground) e, ap (λ v. v.background) e), ap (λ v. v.bold) e), ap (λ v. v.dimmed) e), ap (λ v. v.italic) e), ap (λ v. v.underline) e), ap (λ v. v.blink) e), ap (λ v. v.reverse) e), ap (λ v. v.hidden) e), ap (λ v. v.strikethrough) e),
     )
 
+-- the test of configurations decides whether they hold the same
 pub config_decided : (a b : PrintConfig) → IsTrue (same_config a b) ↔ (config_value a ≡ config_value b)
 config_decided a b =
     let h = both (both (both (both (both (both (both (numbers a.depth b.depth) (numbers a.indent b.indent)) (numbers a.padding b.padding)) (whens a.styled b.styled)) (characters_decided (characters_of a.characters) (characters_of b.characters))) (style_decided a.branch b.branch)) (style_decided a.leaf b.leaf)) (texts (mark_of a) (mark_of b)) in (
@@ -99,6 +102,7 @@ forest_decided (item t c r) (item u d s) =
       λ e. let texts : t ≡ u = cc in let children : c ≡ d = cc in let rests : r ≡ s = cc in parts.1 (texts, (children, rests)),
     )
 
+-- the test of trees decides whether they are equal
 pub tree_decided : (t u : Tree) → Decides (same_tree t u) (t ≡ u)
 tree_decided t u =
     let parts = Decides-and (bytes_eq t.text u.text) (same_forest t.children u.children) (bytes_eq-Decides t.text u.text) (forest_decided t.children u.children) in (
@@ -120,14 +124,18 @@ equivalence value same decided =
 pub characters_equivalence : {X : Type 0} (value : X → Characters) → IsEquivalence (on value same_characters)
 characters_equivalence value = equivalence value (on value same_characters) (λ a b. characters_decided (value a) (value b))
 
+-- `==` of colours is an equivalence
 pub color_equivalence : IsEquivalence same_color
 color_equivalence = equivalence color_value same_color color_decided
 
+-- `==` of styles is an equivalence
 pub style_equivalence : IsEquivalence same_style
 style_equivalence = equivalence style_value same_style style_decided
 
+-- `==` of configurations is an equivalence
 pub config_equivalence : IsEquivalence same_config
 config_equivalence = equivalence config_value same_config config_decided
 
+-- `==` of items is an equivalence: that of their trees
 pub tree_equivalence : IsEquivalence (on tree_of same_tree)
 tree_equivalence = equivalence tree_of (on tree_of same_tree) (λ a b. tree_decided (tree_of a) (tree_of b))

@@ -1,4 +1,5 @@
--- Painted texts. Single parameters are those of ECMA-48, SELECT GRAPHIC RENDITION; the order of the codes is this crate's own.
+-- Painted texts. Single parameters are those of ECMA-48, SELECT GRAPHIC RENDITION; the order of the
+-- codes is this crate's own.
 use Rattle.std.specs.Prelude.{◌≡◌, ℕ, Bool, false, List, [], ◌∷◌, ◌++◌, Option, None, map, filter, flat_map, option_map, option_and_then, option_to_list, decimal}
 use Rattle.std.specs.List.{join_with_byte}
 use Rattle.ptree.specs.declared.style.Style.{Style}

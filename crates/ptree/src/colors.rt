@@ -44,7 +44,7 @@ impl Side {
     }
 }
 
-/// A colour as a terminal is told it.
+/// A colour in the terms of terminal codes.
 #[derive(Clone, Copy)]
 pub enum Tone {
     /// One of the eight colours.

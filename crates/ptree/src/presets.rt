@@ -13,7 +13,7 @@ use std::alloc::{AllocError, Global};
 /// A program that draws trees.
 #[derive(Debug, Clone, Copy)]
 pub enum Preset {
-    /// `tree --noreport`, which puts two no-break spaces and a space behind its bars.
+    /// `tree --noreport`, which puts two no-break spaces and a space after its bars.
     Tree,
 
     /// `tree --noreport --charset=ascii`.

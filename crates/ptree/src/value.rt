@@ -256,8 +256,8 @@ fn entry_pairs(
     Ok(pairs)
 }
 
-// Makes the pair of an entry: a list or a map under its key, and any other value as the text `key =
-// value`.
+// Makes the pair of an entry: a list or a map under its key, and any other value as the text
+// `key = value`.
 fn entry_pair(alloc: Global, key: &Value, value: &Value) -> Result<(String, Value), AllocError>
     ensures { IfOk result (λ p. pair_of p ≡ entry_pair (data_of key.now) (data_of value.now)) }
 {

@@ -141,8 +141,8 @@ fn set_part(
     }
 }
 
-/// Sets the setting that a field names, and returns whether it names one. `branch plain` and `leaf
-/// plain` make a style plain.
+/// Sets the setting that a field names, and returns whether it names one. `branch plain` and
+/// `leaf plain` make a style plain.
 pub fn set(
     alloc: Global,
     config: &mut PrintConfig,

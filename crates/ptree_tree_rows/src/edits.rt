@@ -14,8 +14,8 @@ pub enum Edit {
 }
 
 impl Edit {
-    /// Returns the edit of a word: `lose LINE`, `twice LINE`, `ahead LINE TEXT`, or `behind LINE
-    /// TEXT`. `all` means each line.
+    /// Returns the edit of a word: `lose LINE`, `twice LINE`, `ahead LINE TEXT`, or
+    /// `behind LINE TEXT`. `all` means each line.
     pub fn of(word: &str) -> Option<Edit> {
         match word {
             "lose" => Some(Edit::Lose),
