@@ -37,17 +37,19 @@ module _ (below : ℕ → List ℕ) where
       tree_of_roll x ∙ (ap (λ z. occurrence z x.repeated (row (map occurrence_tree x.children.items))) e ∙ (ap (λ z. occurrence v z (row (map occurrence_tree x.children.items))) f ∙ ap (λ z. occurrence v m (row z)) g))
 
   -- nothing may stand below the occurrence
-  pub stopped : (levels : ℕ) (seen : List Bool) (v : ℕ) (x : Occurrence-F Occurrence) → x.node.0 ≡ v → x.repeated ≡ is_seen seen v → x.children.items ≡ [] → (is_seen seen v ≡ true) ⊎ (levels ≡ 0)
-      → grown (occurrence_tree (roll-Occurrence x)) seen ≡ grow below levels seen v
-  stopped levels seen v x e f g h =
-      ap (λ p. grown p seen) (value_of x v (is_seen seen v) [] e f (ap (map occurrence_tree) g))
+  pub stopped : (levels : ℕ) (seen last : List Bool) (v : ℕ) (x : Occurrence-F Occurrence) → x.node.0 ≡ v → x.repeated ≡ is_seen seen v → x.children.items ≡ [] → (is_seen seen v ≡ true) ⊎ (levels ≡ 0) → last ≡ seen
+      → grown (occurrence_tree (roll-Occurrence x)) last ≡ grow below levels seen v
+  stopped levels seen last v x e f g h k =
+      ap (λ s. grown (occurrence_tree (roll-Occurrence x)) s) k
+      ∙ ap (λ p. grown p seen) (value_of x v (is_seen seen v) [] e f (ap (map occurrence_tree) g))
       ∙ elim h as (λ _. grown (occurrence v (is_seen seen v) none) seen ≡ grow below levels seen v) [ inl y ↦ sym (grow_seen levels seen v y) | inr y ↦ sym (grow_zero levels seen v y) ]
 
   -- the node has no neighbours
-  pub without : (levels : ℕ) (seen : List Bool) (v : ℕ) (x : Occurrence-F Occurrence) → x.node.0 ≡ v → x.repeated ≡ false → x.children.items ≡ [] → levels ≢ 0 → is_seen seen v ≡ false → below v ≡ []
-      → grown (occurrence_tree (roll-Occurrence x)) seen ≡ grow below levels seen v
-  without levels seen v x e f g h s q =
-      ap (λ p. grown p seen) (value_of x v false [] e f (ap (map occurrence_tree) g))
+  pub without : (levels : ℕ) (seen last : List Bool) (v : ℕ) (x : Occurrence-F Occurrence) → x.node.0 ≡ v → x.repeated ≡ false → x.children.items ≡ [] → levels ≢ 0 → is_seen seen v ≡ false → below v ≡ [] → last ≡ seen
+      → grown (occurrence_tree (roll-Occurrence x)) last ≡ grow below levels seen v
+  without levels seen last v x e f g h s q k =
+      ap (λ s. grown (occurrence_tree (roll-Occurrence x)) s) k
+      ∙ ap (λ p. grown p seen) (value_of x v false [] e f (ap (map occurrence_tree) g))
       ∙ (ap (λ us. expand (grow below (levels - 1)) us seen v) (sym q) ∙ sym (grow_next levels seen v h s))
 
   -- all neighbours have their occurrences
@@ -102,17 +104,19 @@ module _ {N : Type 0} (g : Graph N) where
   all_clear = record { clear = clear_flags (length (weights_of g)) }
 
   -- what is made from flags of which none is set is the graph expanded once
-  pub made_is_drawn : (start depth : ℕ) (p : OccurrenceTree) (seen last : List Bool) → seen ≡ flags → grown p last ≡ grow under depth seen start → IsExpandedOnce under start depth p
-  made_is_drawn start depth p seen last e h =
-      let same : p ≡ (grow under depth flags start).occurrence = ap (λ (z : Grown). z.occurrence) h ∙ ap (λ s. (grow under depth s start).occurrence) e in
+  pub made_is_drawn : (start depth levels : ℕ) (p : OccurrenceTree) (seen last : List Bool) → seen ≡ flags → grown p last ≡ grow under levels seen start → levels ≡ depth → IsExpandedOnce under start depth p
+  made_is_drawn start depth levels p seen last e h k =
+      let same : p ≡ (grow under depth flags start).occurrence = ap (λ (z : Grown). z.occurrence) h ∙ ap (λ n. (grow under n seen start).occurrence) k ∙ ap (λ s. (grow under depth s start).occurrence) e in
       subst (λ (z : OccurrenceTree). IsExpandedOnce under start depth z) (sym same) (grown_is_drawn under flags covered all_clear start depth)
 
   pub graph_has_one : (start depth : ℕ) → HasOneTree under start depth
   graph_has_one start depth = one_tree under flags covered all_clear start depth
 
   -- two trees that are the graph expanded once are one
-  pub only_one : (start depth : ℕ) (t u : OccurrenceTree) → IsExpandedOnce under start depth t → IsExpandedOnce under start depth u → t ≡ u
-  only_one start depth t u h k = let (s, is, only) = graph_has_one start depth in only t h ∙ sym (only u k)
+  pub only_one : (start depth levels : ℕ) (t u : OccurrenceTree) → IsExpandedOnce under start levels t → IsExpandedOnce under start depth u → levels ≡ depth → t ≡ u
+  only_one start depth levels t u h k e =
+      let (s, is, only) = graph_has_one start depth in
+      only t (subst (λ d. IsExpandedOnce under start d t) e h) ∙ sym (only u k)
 
   pub made_has_size : (start depth : ℕ) (t : OccurrenceTree) → IsExpandedOnce under start depth t → HasSize (edges_of g) t
   made_has_size start depth t h = size_of_drawn (edges_of g) flags covered all_clear start depth t h

@@ -68,9 +68,6 @@ module _ {N : Type 0} (nodes : List (Node N)) (edges : List Edge) (i degree : �
       (subst (λ (es : List Edge). IsLinked (set nodes old.target (node marked.weight (suc (length (take i edges))) degree)) es) (sym (take-suc-set edges i new within))
       (linked-edge nodes (take i edges) old.target old.source degree marked l below.1 below.0 (slice_get-get_or nodes old.target n' below.1)))
 
-  pub turned_pairs : map ends_of (set edges i new) ≡ turned_at i (map ends_of edges)
-  turned_pairs = ends_turned edges i old new (slice_get-get_or edges i e' within) refl refl
-
   pub turned_weights : map (λ (n : Node N). n.weight) (set nodes old.target (node marked.weight (i + 1) degree)) ≡ map (λ n. n.weight) nodes
   turned_weights = map-set_same (λ (n : Node N). n.weight) nodes old.target (node marked.weight (i + 1) degree) n' refl
 
@@ -90,6 +87,13 @@ module _ {N : Type 0} (first : ℕ) (pairs : List (ℕ × ℕ)) (weights : List 
   pub turned_back : (nodes nodes' : List (Node N)) (edges edges' : List Edge) → nodes ≡ nodes' → edges ≡ edges' → AreTurned first pairs weights nodes edges → AreTurned first pairs weights nodes' edges'
   turned_back nodes nodes' edges edges' h k t =
       subst (λ (ns : List (Node N)). AreTurned first pairs weights ns edges') h (subst (λ (es : List Edge). AreTurned first pairs weights nodes es) k t)
+
+  -- none is turned round yet
+  pub turned_start : (nodes nodes' : List (Node N)) (edges : List Edge) → nodes ≡ nodes' → All (EndsBelow (length nodes)) edges → All (λ n. n.newest ≡ 0) nodes → map ends_of edges ≡ pairs → map (λ n. n.weight) nodes ≡ weights → first ≡ 0
+      → AreTurned first pairs weights nodes' edges
+  turned_start nodes nodes' edges h ends unlinked p w z =
+      subst (λ (ns : List (Node N)). AreTurned first pairs weights ns edges) h
+      (subst (λ k. AreTurned k pairs weights nodes edges) (sym z) (record { ends = ends; linked = linked_none nodes unlinked; turns = p ∙ first_none pairs; same = w }))
 
   -- all edges are turned round
   pub turned_whole : (nodes : List (Node N)) (edges : List Edge) → length pairs ≤ first → AreTurned first pairs weights nodes edges → map ends_of edges ≡ map turned pairs

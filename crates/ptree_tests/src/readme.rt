@@ -1,7 +1,7 @@
 //! The examples of `docs/EXAMPLES.md` that have no crate of their own.
 
 use ptree::TreeBuilder;
-use ptree::graph::{Graph, write_graph_with};
+use ptree::graph::{Graph, REPEATED_MARK, write_graph_once_with, write_graph_with};
 use ptree::item::{Root, StringItem};
 use ptree::output::write_tree_with;
 use ptree::print_config::PrintConfig;
@@ -97,6 +97,41 @@ fn packages_are_a_graph(rt: HostRuntime) -> Result<(), Fail> {
     write_graph_with(alloc, &packages, petgraph, &mut out, &config)?;
     let drawing = out.into_inner();
     expect_text(str::from_utf8(&drawing)?, PETGRAPH)
+}
+
+// What the parser and the lexer need of one another, and what needs the parser.
+const MODULES: &str = "\
+app
+├─ parser
+│  └─ lexer
+│     └─ parser (*)
+└─ lexer (*)
+";
+
+const NEEDED_BY: &str = "\
+parser
+├─ app
+└─ lexer
+   ├─ app
+   └─ parser (*)
+";
+
+#[test]
+fn modules_are_drawn_once(rt: HostRuntime) -> Result<(), Fail> {
+    let alloc = rt.alloc();
+    let mut modules = Graph::new(alloc);
+    let app = modules.add_node("app")?;
+    let parser = modules.add_node("parser")?;
+    let lexer = modules.add_node("lexer")?;
+    modules.extend_with_edges(&[(lexer, parser), (parser, lexer), (app, lexer), (app, parser)])?;
+    let config = PrintConfig::default(alloc)?;
+    let mut out = Counted::new(Vec::new(alloc));
+    write_graph_once_with(alloc, &modules, app, REPEATED_MARK, &mut out, &config)?;
+    expect_text(str::from_utf8(&out.into_inner())?, MODULES)?;
+
+    let mut out = Counted::new(Vec::new(alloc));
+    write_graph_once_with(alloc, &modules.reversed(), parser, REPEATED_MARK, &mut out, &config)?;
+    expect_text(str::from_utf8(&out.into_inner())?, NEEDED_BY)
 }
 
 #[test]

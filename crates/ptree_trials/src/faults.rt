@@ -1,7 +1,10 @@
 //! Drawings to writers that fail at each byte in each way: what a writer took is a front of the whole drawing, and its answer is told.
 
 use crate::deviation::Deviation;
-use ptree::graph::{Graph, NodeIndex, print_graph, write_graph_with};
+use ptree::graph::{
+    Graph, NodeIndex, REPEATED_MARK, print_graph, print_graph_once, write_graph_once_with,
+    write_graph_with,
+};
 use ptree::item::StringItem;
 use ptree::output::{print_tree_with, write_tree, write_tree_with};
 use ptree::print_config::{FileSource, PrintConfig, Sources, UTF_CHARS};
@@ -20,6 +23,8 @@ const STYLED: &str = "\x1b[2m\x1b[0mr\n\x1b[2m└─ \x1b[0ma\n";
 const STYLED_LINES: &str = "\x1b[2m\x1b[0m\x1b[1mr\n\x1b[2m: \x1b[0ms\x1b[0m\n";
 
 const CYCLE: &str = "x\n└─ y\n   └─ x\n      └─ y\n";
+
+const CYCLE_ONCE: &str = "x\n└─ y\n   └─ x (*)\n";
 
 const JSON: &str = "{\"a\":[1,{\"b\":null}]}";
 
@@ -166,6 +171,12 @@ fn try_graphs(rt: &HostRuntime) -> io::Result<()> {
     let depth = sources(alloc, &[("PTREE_DEPTH", "3")])?;
     try_writers(rt, "a cycle under sources", CYCLE, |out| {
         print_graph(alloc, &graph, start, out, false, &depth)
+    })?;
+    try_writers(rt, "a cycle once", CYCLE_ONCE, |out| {
+        write_graph_once_with(alloc, &graph, start, REPEATED_MARK, out, &config)
+    })?;
+    try_writers(rt, "a cycle once under sources", CYCLE_ONCE, |out| {
+        print_graph_once(alloc, &graph, start, REPEATED_MARK, out, false, &depth)
     })?;
     try_writers(rt, "no node", "\n", |out| {
         write_graph_with(alloc, &graph, NodeIndex(7), out, &config)

@@ -6,11 +6,13 @@ mod documents;
 mod graphs;
 mod loading;
 mod made;
+mod once;
 mod trees;
 
 use crate::deviation::Deviation;
 use dice::Dice;
 use graphs::try_graphs;
+use once::try_once;
 use std::alloc::Global;
 use std::io::{self, ErrorKind};
 use trees::try_trees;
@@ -19,7 +21,8 @@ use trees::try_trees;
 fn try_case(alloc: Global, dice: &mut Dice) -> Result<(), Deviation> {
     try_trees(alloc, dice)?;
     try_graphs(alloc, dice)?;
-    loading::try_all(alloc, dice)
+    loading::try_all(alloc, dice)?;
+    try_once(alloc, dice)
 }
 
 /// Writes so many calls of the program into a folder, with what each must give.

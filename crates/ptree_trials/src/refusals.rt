@@ -3,7 +3,10 @@
 mod rows;
 
 use ptree::TreeBuilder;
-use ptree::graph::{EdgeError, Graph, Label, NodeIndex, print_graph, write_graph_with};
+use ptree::graph::{
+    EdgeError, Graph, Label, NodeIndex, REPEATED_MARK, print_graph, print_graph_once,
+    write_graph_once_with, write_graph_with,
+};
 use ptree::item::{StringItem, TreeItem};
 use ptree::output::{Indent, print_tree, write_tree, write_tree_with};
 use ptree::print_config::{
@@ -223,6 +226,8 @@ impl Trial {
     ) -> Result<(), Failure> {
         let drawing = self.retried(|| graph_drawn(alloc, graph, config))?;
         self.notes.extend_from_slice(&drawing)?;
+        let drawing = self.retried(|| graph_drawn_once(alloc, graph, config))?;
+        self.notes.extend_from_slice(&drawing)?;
         Ok(())
     }
 
@@ -441,6 +446,8 @@ impl Trial {
         self.notes.extend_from_slice(&printed)?;
         let printed = self.retried(|| graph_printed(alloc, &graph, sources))?;
         self.notes.extend_from_slice(&printed)?;
+        let printed = self.retried(|| graph_printed_once(alloc, &graph, sources))?;
+        self.notes.extend_from_slice(&printed)?;
         Ok(())
     }
 
@@ -619,6 +626,18 @@ fn graph_printed(
     entries_written(out, result, &SOURCE_ENTRIES)
 }
 
+// What `print_graph_once` writes. No node has two occurrences.
+fn graph_printed_once(
+    alloc: Global,
+    graph: &Graph<&str>,
+    sources: &Sources,
+) -> Result<Vec<u8>, Failure> {
+    let mut out = Counted::new(Vec::with_capacity(alloc, SHEET)?);
+    let start = NodeIndex(0);
+    let result = print_graph_once(alloc, graph, start, REPEATED_MARK, &mut out, false, sources);
+    entries_written(out, result, &SOURCE_ENTRIES)
+}
+
 // Sources with a file in TOML and one variable.
 fn sources(alloc: Global, file: &str, (name, value): (&str, &str)) -> Result<Sources, AllocError> {
     let mut variables = Vec::new(alloc);
@@ -683,6 +702,17 @@ fn graph_drawn<N: Label>(
 ) -> Result<Vec<u8>, Failure> {
     let mut out = Counted::new(Vec::with_capacity(alloc, SHEET)?);
     write_graph_with(alloc, graph, NodeIndex(0), &mut out, config)?;
+    Ok(out.into_inner())
+}
+
+// What is drawn of a graph from its first node, each node expanded once.
+fn graph_drawn_once<N: Label>(
+    alloc: Global,
+    graph: &Graph<N>,
+    config: &PrintConfig,
+) -> Result<Vec<u8>, Failure> {
+    let mut out = Counted::new(Vec::with_capacity(alloc, SHEET)?);
+    write_graph_once_with(alloc, graph, NodeIndex(0), REPEATED_MARK, &mut out, config)?;
     Ok(out.into_inner())
 }
 

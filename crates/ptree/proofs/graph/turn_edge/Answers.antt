@@ -1,11 +1,14 @@
-use Rattle.ptree.proofs.Turned.{linked_turned, turned_pairs, turned_weights}
+use Rattle.std.proofs.Common.{rules}
+use Rattle.std.proofs.lemmas.Option.{slice_get-get_or}
+use Rattle.ptree.proofs.Links.{edge}
+use Rattle.ptree.proofs.Turned.{linked_turned, ends_turned, turned_weights}
 use Rattle.ptree.proofs.graph.turn_edge.Goals as goal
 
 pub returns-clause-linked : goal.returns-clause-linked
 returns-clause-linked g c = linked_turned c.args.nodes.now c.args.edges.now c.args.i _ _ _ c.requires.within c.requires.ends c.requires.linked
 
 pub returns-clause-edges : goal.returns-clause-edges
-returns-clause-edges g c = turned_pairs c.args.nodes.now c.args.edges.now c.args.i 0 _ c.index-nodes-source.result c.requires.within c.requires.ends
+returns-clause-edges g c = ends_turned c.args.edges.now c.args.i _ _ (slice_get-get_or c.args.edges.now c.args.i (edge 0 0 0) c.requires.within) (search rules) (search rules)
 
 pub returns-clause-weights : goal.returns-clause-weights
 returns-clause-weights g c = turned_weights c.args.nodes.now c.args.edges.now c.args.i _ _ c.index-nodes-source.result c.requires.within c.requires.ends

@@ -18,8 +18,8 @@ pub returns-clause-tree : goal.returns-clause-tree
 returns-clause-tree g c =
     let counted : c.len.result ≡ length (weights_of c.args.self.now) = omega (arith, c.len.ensures, c.args.self.now.nodes.ok.0, length-map c.args.self.now.nodes.items (λ n. n.weight)) in
     IfOk-weaker c.occurrence.result _ _
-    (λ p h. made_is_drawn c.args.self.now c.args.start.0 c.args.depth (occurrence_tree p) c.in_ok-seen.seen.items c.occurrence.new.seen.items
-    (c.in_ok-seen.ensures.items_if_clones_equal (λ y e. e) ∙ ap (λ n. replicate n false) counted) h)
+    (λ p h. made_is_drawn c.args.self.now c.args.start.0 c.args.depth _ (occurrence_tree p) c.in_ok-seen.seen.items c.occurrence.new.seen.items
+    (c.in_ok-seen.ensures.items_if_clones_equal (λ y e. e) ∙ ap (λ n. replicate n false) counted) h (omega arith))
     c.occurrence.ensures.occurrence
 
 pub returns-clause-size : goal.returns-clause-size

@@ -4,7 +4,7 @@ use Rattle.std.proofs.lemmas.List.{length-map}
 use Rattle.ptree.specs.declared.graph.Node.{Node}
 use Rattle.ptree.specs.Graph.{weights_of, edges_of}
 use Rattle.ptree.specs.GraphLinks.{EndsBelow, IsLinked, ends_of, turned_at, turned_first}
-use Rattle.ptree.proofs.Turned.{first_none, first_more, linked_none, turned_back, turned_whole, written_back}
+use Rattle.ptree.proofs.Turned.{first_more, turned_back, turned_start, turned_whole, written_back}
 use Rattle.ptree.proofs.graph.Graph.reversed.Goals as goal
 
 pub loop-i-init : goal.loop-i-init
@@ -12,13 +12,9 @@ loop-i-init g c =
     let self = c.args.self in
     let nodes = c.unlink.new.nodes in
     let count : length self.nodes.items ≡ length nodes = sym (c.unlink.auto.nodes ∙ ap length c.deref_mut.ensures.value) in
-    turned_back 0 (edges_of self) (weights_of self) nodes _ self.edges.items _ (written_back self.nodes.len nodes _ (omega (arith, count, self.nodes.ok.0))) refl
-    record {
-      ends = subst (λ k. All (EndsBelow k) self.edges.items) count self.linked.ends;
-      linked = linked_none nodes c.unlink.ensures.newest;
-      turns = first_none (edges_of self);
-      same = c.unlink.ensures.weights ∙ ap (map (λ (n : Node g.row.N.Denot). n.weight)) c.deref_mut.ensures.value;
-    }
+    turned_start _ (edges_of self) (weights_of self) nodes _ self.edges.items (written_back self.nodes.len nodes _ (omega (arith, count, self.nodes.ok.0)))
+    (subst (λ k. All (EndsBelow k) self.edges.items) count self.linked.ends) c.unlink.ensures.newest refl
+    (c.unlink.ensures.weights ∙ ap (map (λ (n : Node g.row.N.Denot). n.weight)) c.deref_mut.ensures.value) (omega arith)
 
 pub loop-i-preserved : goal.loop-i-preserved
 loop-i-preserved g c =

@@ -1,4 +1,4 @@
-use Rattle.std.proofs.Common.{subst}
+use Rattle.std.proofs.Common.{subst, arith}
 use Rattle.ptree.specs.Drawing.{look_of}
 use Rattle.ptree.specs.Occurrence.{OccurrenceTree, occurrence_tree, occurrence_shape}
 use Rattle.ptree.specs.Writing.{IsDrawn, LeavesWholeEntries}
@@ -21,11 +21,11 @@ returns-clause-bytes g c =
     let config = c.args.config.now in
     λ t h. subst (λ (z : OccurrenceTree). IsDrawn (look_of config c.args.output_kind c.args.terminal) (occurrence_shape g.N.Label.text c.args.graph.now c.args.mark.now z) config.depth
     (g.W.Sink.contents c.args.f.now) (g.W.Sink.contents c.draw_for.new.f) c.draw_for.result)
-    (only_one c.args.graph.now c.args.start.0 config.depth (occurrence_tree c.in_ok-occurrence.occurrence) t c.in_ok-occurrence.ensures.tree h) c.draw_for.ensures.bytes
+    (only_one c.args.graph.now c.args.start.0 config.depth _ (occurrence_tree c.in_ok-occurrence.occurrence) t c.in_ok-occurrence.ensures.tree h (omega arith)) c.draw_for.ensures.bytes
 
 pub returns-clause-whole : goal.returns-clause-whole
 returns-clause-whole g c =
     let config = c.args.config.now in
     λ t h. subst (λ (z : OccurrenceTree). LeavesWholeEntries (look_of config c.args.output_kind c.args.terminal) (occurrence_shape g.N.Label.text c.args.graph.now c.args.mark.now z) config.depth
     (g.W.Sink.contents c.args.f.now) (g.W.Sink.contents c.draw_for.new.f) c.draw_for.result)
-    (only_one c.args.graph.now c.args.start.0 config.depth (occurrence_tree c.in_ok-occurrence.occurrence) t c.in_ok-occurrence.ensures.tree h) c.draw_for.ensures.whole
+    (only_one c.args.graph.now c.args.start.0 config.depth _ (occurrence_tree c.in_ok-occurrence.occurrence) t c.in_ok-occurrence.ensures.tree h (omega arith)) c.draw_for.ensures.whole
