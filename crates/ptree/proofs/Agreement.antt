@@ -11,22 +11,19 @@ use Rattle.ptree.specs.Entries.{entry_of, kid_entries, entries_below, drawn_entr
 use Rattle.ptree.specs.Graph.{weights_of, edges_of, neighbors_of, node_own, node_shape}
 use Rattle.ptree.specs.Occurrence.{OccurrenceTree, occurrence_kids, StandsAt, IsExpandedOnce, NoneRepeated, mark_text, occurrence_own, occurrence_shape}
 use Rattle.ptree.specs.Style.{StyleValue, painted_text}
+use Rattle.ptree.proofs.ExpandedRows.{deeper, stands_cons}
 use Rattle.ptree.proofs.Laws.{same_drawings}
 use Rattle.ptree.proofs.TreeLemmas.{map_twice}
 use Rattle.ptree.proofs.Walks.{kid_entries_alike}
 use Rattle.ptree.proofs.Unfold.{kids_of_unfold}
 
+-- what holds at each place holds of all
 all_at : {X : Type 0} (P : X → Type 0) (xs : List X) → ((i : ℕ) (x : X) → slice_get xs i ≡ Some x → P x) → All P xs
 all_at P [] h = All-nil P
 all_at P (x ∷ xs) h = All-cons P x xs (h 0 x refl) (all_at P xs (λ i y e. h (suc i) y e))
 
-shorter : (n d : ℕ) → nat_lt (suc n) (suc d) ≡ nat_lt n d
-shorter n d = elim (cases_lt n d) [
-  | inl h ↦ lt-ltb (suc n) (suc d) (omega arith) ∙ sym (lt-ltb n d h)
-  | inr h ↦ le-ltb (suc n) (suc d) (omega arith) ∙ sym (le-ltb n d h)
-]
-
 module _ {N : Type 0} (text : N → List ℕ) (g : Graph N) (mark : List ℕ) where
+  -- the neighbours in the graph
   abbrev under : ℕ → List ℕ
   under = neighbors_of (edges_of g)
 
@@ -35,22 +32,24 @@ module _ {N : Type 0} (text : N → List ℕ) (g : Graph N) (mark : List ℕ) wh
     none_repeated : (a : Address) (p : OccurrenceTree) → StandsAt t a p → p.repeated ≡ false
     children : (a : Address) (p : OccurrenceTree) → StandsAt t a p → map (λ q. q.node) (occurrence_kids p) ≡ (if nat_lt (length a) d then under p.node else [])
 
+  -- the same one level deeper
   full_below : (d : ℕ) (t c : OccurrenceTree) (i : ℕ) → IsFull (suc d) t → slice_get (occurrence_kids t) i ≡ Some c → IsFull d c
   full_below d t c i h e = record {
-    none_repeated = λ a p s. h.none_repeated (i ∷ a) p (stands a p s);
-    children = λ a p s. h.children (i ∷ a) p (stands a p s) ∙ ap (λ b. if b then under p.node else []) (shorter (length a) d);
-  } where
-    stands : (a : Address) (p : OccurrenceTree) → StandsAt c a p → StandsAt t (i ∷ a) p
-    stands a p s = ap (λ o. option_and_then (λ y. at occurrence_kids y a) o) e ∙ s
+    none_repeated = λ a p s. h.none_repeated (i ∷ a) p (stands_cons t c p i a e s);
+    children = λ a p s. h.children (i ∷ a) p (stands_cons t c p i a e s) ∙ ap (λ b. if b then under p.node else []) (deeper (length a) d);
+  }
 
+  -- without a mark the text is the label's
   own_of_occurrence : (style : StyleValue) (o : Option N) (m : Bool) → m ≡ false
       → unwrap_or (option_map (λ w. painted_text style (text w ++ mark_text mark m)) o) [] ≡ unwrap_or (option_map (λ w. painted_text style (text w)) o) []
   own_of_occurrence style None m e = refl
   own_of_occurrence style (Some w) m e = ap (λ b. painted_text style (text w ++ mark_text mark b)) e ∙ ap (painted_text style) (append-nil (text w))
 
+  -- so both write the same
   same_own : (d : ℕ) (style : StyleValue) (t : OccurrenceTree) → IsFull d t → (occurrence_shape text g mark t).own [] style ≡ (node_shape text g t.node).own [] style
   same_own d style t h = own_of_occurrence style (slice_get (weights_of g) t.node) t.repeated (h.none_repeated [] t refl)
 
+  -- and have the same entries below them
   same_entries : (look : Look) (d : ℕ) (t : OccurrenceTree) → IsFull d t → (front : List ℕ) → entries_below look d front (occurrence_shape text g mark t) ≡ entries_below look d front (node_shape text g t.node)
   same_entries look zero t h front = refl
   same_entries look (suc d) t h front =
@@ -62,6 +61,7 @@ module _ {N : Type 0} (text : N → List ℕ) (g : Graph N) (mark : List ℕ) wh
       (λ p k. same_own d look.leaf p k) (λ p k. same_entries look d p k) front (occurrence_kids t) (all_at (IsFull d) (occurrence_kids t) (λ i c e. full_below d t c i h e))
       ∙ ap entries (map_twice (λ (p : OccurrenceTree). p.node) (node_shape text g) (occurrence_kids t) ∙ (ap (map (node_shape text g)) nodes ∙ kids_of_unfold (node_own text g) under t.node)))
 
+  -- the definition gives that
   full_of_drawn : (start depth : ℕ) (t : OccurrenceTree) → IsExpandedOnce under start depth t → NoneRepeated t → IsFull depth t
   full_of_drawn start depth t h u = record {
     none_repeated = u;

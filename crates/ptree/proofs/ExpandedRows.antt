@@ -12,6 +12,7 @@ use Rattle.ptree.specs.Occurrence.{OccurrenceTree, occurrence, row, occurrence_k
 abbrev pub nodes_of : List OccurrenceTree → List ℕ
 nodes_of = map (λ q. q.node)
 
+-- without nodes there are no occurrences
 pub no_nodes : (ps : List OccurrenceTree) → nodes_of ps ≡ [] → ps ≡ []
 no_nodes [] h = refl
 no_nodes (p ∷ ps) h = absurd (cc)
@@ -24,22 +25,27 @@ rebuilt t v m ps e f g =
 
 -- ## Addresses
 
+-- what stands below a child stands below the occurrence, one step longer
 pub stands_cons : (t c p : OccurrenceTree) (i : ℕ) (a : Address) → slice_get (occurrence_kids t) i ≡ Some c → StandsAt c a p → StandsAt t (i ∷ a) p
 stands_cons t c p i a e s = ap (λ o. option_and_then (λ y. at occurrence_kids y a) o) e ∙ s
 
+-- what stands at an address of one step or more stands below a child
 pub stands_step : (t p : OccurrenceTree) (i : ℕ) (a : Address) → StandsAt t (i ∷ a) p → (c : OccurrenceTree) × (slice_get (occurrence_kids t) i ≡ Some c) × StandsAt c a p
 stands_step t p i a s = step (slice_get (occurrence_kids t) i) refl s where
   step : (o : Option OccurrenceTree) → slice_get (occurrence_kids t) i ≡ o → option_and_then (λ y. at occurrence_kids y a) o ≡ Some p → (c : OccurrenceTree) × (slice_get (occurrence_kids t) i ≡ Some c) × StandsAt c a p
   step None e h = absurd (cc)
   step (Some c) e h = (c, e, h)
 
+-- at the empty address stands the tree itself
 pub stands_root : (t p : OccurrenceTree) → StandsAt t [] p → t ≡ p
 stands_root t p s = cc
 
+-- an empty list has no elements
 pub none_within : {X : Type 0} (xs : List X) (i : ℕ) (x : X) → xs ≡ [] → slice_get xs i ≡ Some x → ⊥
 none_within [] i x e s = absurd (cc)
 none_within (y ∷ ys) i x e s = absurd (cc)
 
+-- a list with an element isn't empty
 pub not_empty : {X : Type 0} (xs : List X) (i : ℕ) (x : X) → slice_get xs i ≡ Some x → xs ≢ []
 not_empty xs i x s e = none_within xs i x e s
 
@@ -60,11 +66,20 @@ shown_to t w ([], q, s, n, k) =
     inl (ap (λ (z : OccurrenceTree). z.node) e ∙ n, λ h. k (ap occurrence_kids (sym e) ∙ h))
 shown_to t w (j ∷ b, q, s, n, k) = let (c, e, r) = stands_step t q j b s in inr (j, c, e, (b, q, r, n, k))
 
+-- and the other way round
 pub shown_from : (t : OccurrenceTree) (w : ℕ) → ((t.node ≡ w) × (occurrence_kids t ≢ [])) ⊎ IsExpandedAmong (occurrence_kids t) w → IsExpanded t w
 shown_from t w (inl (n, k)) = ([], t, refl, n, k)
 shown_from t w (inr (j, c, e, (b, q, r, n, k))) = (j ∷ b, q, stands_cons t c q j b e r, n, k)
 
+-- both sides one level deeper
+pub deeper : (n d : ℕ) → nat_lt (suc n) (suc d) ≡ nat_lt n d
+deeper n d = elim (cases_lt n d) [
+  | inl h ↦ lt-ltb (suc n) (suc d) (omega arith) ∙ sym (lt-ltb n d h)
+  | inr h ↦ le-ltb (suc n) (suc d) (omega arith) ∙ sym (le-ltb n d h)
+]
+
 module _ (below : ℕ → List ℕ) where
+  -- the nodes that may stand below an occurrence at a level
   abbrev pub allowed : ℕ → OccurrenceTree → ℕ → List ℕ
   allowed d p n = if p.repeated then [] else (if nat_lt n d then below p.node else [])
 
@@ -77,6 +92,7 @@ module _ (below : ℕ → List ℕ) where
   abbrev pub RowFrom : (ℕ → Type 0) → ℕ → List OccurrenceTree → Type 0
   RowFrom P d cs = (i : ℕ) (c : OccurrenceTree) → slice_get cs i ≡ Some c → OnceFrom (λ w. P w ⊎ IsExpandedIn cs i w) d c
 
+  -- the same where another fact tells the same nodes
   pub transfer : (P Q : ℕ → Type 0) (d : ℕ) (t : OccurrenceTree) → ((w : ℕ) → P w ↔ Q w) → OnceFrom P d t → OnceFrom Q d t
   transfer P Q d t h o = record {
     repeated = λ a p s. let m = o.repeated a p s in (
@@ -86,6 +102,7 @@ module _ (below : ℕ → List ℕ) where
     children = o.children;
   }
 
+  -- and so for a row
   pub transfer_row : (P Q : ℕ → Type 0) (d : ℕ) (cs : List OccurrenceTree) → ((w : ℕ) → P w ↔ Q w) → RowFrom P d cs → RowFrom Q d cs
   transfer_row P Q d cs h r i c e =
       transfer (λ w. P w ⊎ IsExpandedIn cs i w) (λ w. Q w ⊎ IsExpandedIn cs i w) d c
@@ -104,18 +121,13 @@ module _ (below : ℕ → List ℕ) where
       let one : x ≡ c = cc in
       inr (b, q, subst (λ (z : OccurrenceTree). StandsAt z b q) one r, n, k, o)
 
+  -- and the other way round
   split_from : (P : ℕ → Type 0) (t c : OccurrenceTree) (i : ℕ) (a : Address) (w : ℕ) → slice_get (occurrence_kids t) i ≡ Some c
       → ((P w ⊎ (t.node ≡ w)) ⊎ IsExpandedIn (occurrence_kids t) i w) ⊎ IsExpandedBefore c a w → P w ⊎ IsExpandedBefore t (i ∷ a) w
   split_from P t c i a w e (inl (inl (inl x))) = inl x
   split_from P t c i a w e (inl (inl (inr n))) = inr ([], t, refl, n, not_empty (occurrence_kids t) i c e, tt)
   split_from P t c i a w e (inl (inr (j, x, l, f, (b, q, r, n, k)))) = inr (j ∷ b, q, stands_cons t x q j b f r, n, k, inl l)
   split_from P t c i a w e (inr (b, q, r, n, k, o)) = inr (i ∷ b, q, stands_cons t c q i b e r, n, k, inr (refl, o))
-
-  deeper : (n d : ℕ) → nat_lt (suc n) (suc d) ≡ nat_lt n d
-  deeper n d = elim (cases_lt n d) [
-    | inl h ↦ lt-ltb (suc n) (suc d) (omega arith) ∙ sym (lt-ltb n d h)
-    | inr h ↦ le-ltb (suc n) (suc d) (omega arith) ∙ sym (le-ltb n d h)
-  ]
 
   -- the row below an occurrence
   pub down : (P : ℕ → Type 0) (d : ℕ) (t : OccurrenceTree) → OnceFrom P (suc d) t → RowFrom (λ w. P w ⊎ (t.node ≡ w)) d (occurrence_kids t)
@@ -175,11 +187,13 @@ module _ (below : ℕ → List ℕ) where
         later_from w (inr (zero, z, l, f, y)) = let same : c ≡ z = cc in inl (inr (subst (λ (q : OccurrenceTree). IsExpanded q w) (sym same) y))
         later_from w (inr (suc j, z, l, f, y)) = inr (j, z, omega (arith, l), f, y)
 
+  -- the first of a row
   pub row_head : (P : ℕ → Type 0) (d : ℕ) (c : OccurrenceTree) (cs : List OccurrenceTree) → RowFrom P d (c ∷ cs) → OnceFrom P d c
   row_head P d c cs r =
       transfer (λ w. P w ⊎ IsExpandedIn (c ∷ cs) 0 w) P d c
       (λ w. (λ y. elim y as (λ _. P w) [ inl z ↦ z | inr z ↦ absurd (omega (arith, z.2)) ], λ y. inl y)) (r 0 c refl)
 
+  -- the others, where the first one counts as before them
   pub row_tail : (P : ℕ → Type 0) (d : ℕ) (c : OccurrenceTree) (cs : List OccurrenceTree) → RowFrom P d (c ∷ cs) → RowFrom (λ w. P w ⊎ IsExpanded c w) d cs
   row_tail P d c cs r i x e =
       transfer (λ w. P w ⊎ IsExpandedIn (c ∷ cs) (suc i) w) (λ w. (P w ⊎ IsExpanded c w) ⊎ IsExpandedIn cs i w) d x

@@ -18,20 +18,24 @@ use Rattle.ptree.proofs.Sizes.{size_of_drawn}
 use Rattle.std.proofs.lemmas.List.{length-map, append-nil}
 
 module _ (below : ℕ → List ℕ) where
+  -- at the depth
   grow_zero : (levels : ℕ) (seen : List Bool) (v : ℕ) → levels ≡ 0 → grow below levels seen v ≡ grown (occurrence v (is_seen seen v) none) seen
   grow_zero levels seen v e = ap (λ n. grow below n seen v) e
 
+  -- of a node that is expanded already
   grow_seen : (levels : ℕ) (seen : List Bool) (v : ℕ) → is_seen seen v ≡ true → grow below levels seen v ≡ grown (occurrence v (is_seen seen v) none) seen
   grow_seen zero seen v e = refl
   grow_seen (suc levels) seen v e =
       ap (λ b. if b then grown (occurrence v true none) seen else expand (grow below levels) (below v) seen v) e ∙ ap (λ b. grown (occurrence v b none) seen) (sym e)
 
+  -- of one that isn't, above the depth
   grow_next : (levels : ℕ) (seen : List Bool) (v : ℕ) → levels ≢ 0 → is_seen seen v ≡ false → grow below levels seen v ≡ expand (grow below (levels - 1)) (below v) seen v
   grow_next zero seen v h e = absurd (h refl)
   grow_next (suc levels) seen v h e =
       let less : levels ≡ suc levels - 1 = omega arith in
       ap (λ b. if b then grown (occurrence v true none) seen else expand (grow below levels) (below v) seen v) e ∙ ap (λ n. expand (grow below n) (below v) seen v) less
 
+  -- the tree of an occurrence that is made of these parts
   value_of : (x : Occurrence-F Occurrence) (v : ℕ) (m : Bool) (ps : List OccurrenceTree) → x.node.0 ≡ v → x.repeated ≡ m → map occurrence_tree x.children.items ≡ ps → occurrence_tree (roll-Occurrence x) ≡ occurrence v m (row ps)
   value_of x v m ps e f g =
       tree_of_roll x ∙ (ap (λ z. occurrence z x.repeated (row (map occurrence_tree x.children.items))) e ∙ (ap (λ z. occurrence v z (row (map occurrence_tree x.children.items))) f ∙ ap (λ z. occurrence v m (row z)) g))
@@ -75,31 +79,38 @@ pub entered : (us : List ℕ) (seen : List Bool) (v : ℕ) → us ≢ [] → ent
 entered [] seen v h = absurd (h refl)
 entered (u ∷ us) seen v h = refl
 
+-- no flag is set at first
 clear_flags : (n w : ℕ) → is_seen (replicate n false) w ≡ false
 clear_flags zero w = refl
 clear_flags (suc n) zero = refl
 clear_flags (suc n) (suc w) = clear_flags n w
 
+-- there is a flag for each node
 length_flags : (n : ℕ) → length (replicate n false) ≡ n
 length_flags zero = refl
 length_flags (suc n) = ap suc (length_flags n)
 
 module _ {N : Type 0} (g : Graph N) where
+  -- the neighbours in the graph
   abbrev under : ℕ → List ℕ
   under = neighbors_of (edges_of g)
 
+  -- its flags, none of which is set
   abbrev flags : List Bool
   flags = replicate (length (weights_of g)) false
 
+  -- a number that is no node's has no neighbours
   no_neighbors : (v : ℕ) → length (weights_of g) ≤ v → under v ≡ []
   no_neighbors v h =
       let counted = length-map g.nodes.items (λ n. n.weight) in
       let never : newest_from (edges_of g) v ≡ 0 = newest_of_none g.nodes.items g.edges.items v g.linked (omega (arith, counted)) in
       sym (newest_starts (edges_of g) v 0 (sym never)).0
 
+  -- the same by the flags
   covered : (v : ℕ) → length flags ≤ v → under v ≡ []
   covered v h = no_neighbors v (omega (arith, length_flags (length (weights_of g))))
 
+  -- no flag is set
   all_clear : AreClear flags
   all_clear = record { clear = clear_flags (length (weights_of g)) }
 
@@ -109,6 +120,7 @@ module _ {N : Type 0} (g : Graph N) where
       let same : p ≡ (grow under depth flags start).occurrence = ap (λ (z : Grown). z.occurrence) h ∙ ap (λ n. (grow under n seen start).occurrence) k ∙ ap (λ s. (grow under depth s start).occurrence) e in
       subst (λ (z : OccurrenceTree). IsExpandedOnce under start depth z) (sym same) (grown_is_drawn under flags covered all_clear start depth)
 
+  -- a graph has one tree, and no other
   pub graph_has_one : (start depth : ℕ) → HasOneTree under start depth
   graph_has_one start depth = one_tree under flags covered all_clear start depth
 
@@ -118,5 +130,6 @@ module _ {N : Type 0} (g : Graph N) where
       let (s, is, only) = graph_has_one start depth in
       only t (subst (λ d. IsExpandedOnce under start d t) e h) ∙ sym (only u k)
 
+  -- the size of that tree
   pub made_has_size : (start depth : ℕ) (t : OccurrenceTree) → IsExpandedOnce under start depth t → HasSize (edges_of g) t
   made_has_size start depth t h = size_of_drawn (edges_of g) flags covered all_clear start depth t h

@@ -7,6 +7,7 @@ use Rattle.ptree.specs.Growing.{is_seen}
 abbrev pub IsSeen : List Bool → ℕ → Type 0
 IsSeen seen w = IsTrue (is_seen seen w)
 
+-- setting a flag adds its node, and no other
 pub seen_set : (seen : List Bool) (v w : ℕ) → v < length seen → IsSeen (slice_set seen v true) w ↔ (IsSeen seen w ⊎ (v ≡ w))
 seen_set [] v w h = absurd (omega arith)
 seen_set (b ∷ bs) zero zero h = (λ _. inr refl, λ _. refl)
@@ -18,6 +19,7 @@ seen_set (b ∷ bs) (suc v) (suc w) h =
       λ x. r.1 (elim x as (λ _. IsSeen bs w ⊎ (v ≡ w)) [ inl y ↦ inl y | inr e ↦ inr (omega (arith, e)) ]),
     )
 
+-- and keeps the number of flags
 pub length_set : (seen : List Bool) (v : ℕ) (b : Bool) → length (slice_set seen v b) ≡ length seen
 length_set [] v b = refl
 length_set (x ∷ xs) zero b = refl

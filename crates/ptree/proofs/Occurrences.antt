@@ -29,6 +29,7 @@ tree_of_occurrence p = fold_out-Occurrence OccurrenceTree occurrence_step p
 pub tree_of_roll : (x : Occurrence-F Occurrence) → occurrence_tree (roll-Occurrence x) ≡ occurrence x.node.0 x.repeated (row (map occurrence_tree x.children.items))
 tree_of_roll = fold-roll-Occurrence OccurrenceTree occurrence_step
 
+-- what stands below an occurrence
 pub kids_of_occurrence : (p : Occurrence) → occurrence_kids (occurrence_tree p) ≡ map occurrence_tree (out-Occurrence p).children.items
 kids_of_occurrence p = ap occurrence_kids (tree_of_occurrence p) ∙ occurrences_of_row (map occurrence_tree (out-Occurrence p).children.items)
 
@@ -37,22 +38,27 @@ plain_text : (text : List ℕ) → painted_text plain_value text ≡ text
 unfolding style_codes
 plain_text text = append-nil text
 
+-- and so does a style that is the plain one
 painted_plain : (plain : StyleValue) (text : List ℕ) → plain ≡ plain_value → painted_text plain text ≡ text
 painted_plain plain text e = ap (λ s. painted_text s text) e ∙ plain_text text
 
 module _ (front text mark back : List ℕ) where
+  -- the label and the mark, painted as one
   abbrev whole : List ℕ
   whole = front ++ (text ++ mark) ++ back
 
+  -- a front of the codes was written
   pub front_part : (a b : Option (List ℕ)) (x : List ℕ) → x ≡ front → AppendsPart a b x → AppendsPart a b whole
   front_part a b x e h = let k = subst (λ (z : List ℕ). AppendsPart a b z) e h in part_more a b (front ++ (text ++ mark)) back (part_more a b front (text ++ mark) k)
 
+  -- the codes and a front of the label were
   pub label_part : (a b c : Option (List ℕ)) (x : List ℕ) (plain : StyleValue) → plain ≡ plain_value → x ≡ front → Appends a b x → AppendsPart b c (painted_text plain text) → AppendsPart a c whole
   label_part a b c x plain u e h k =
       let f = subst (λ (z : List ℕ). Appends a b z) e h in
       let l = subst (λ (z : List ℕ). AppendsPart b c z) (painted_plain plain text u) k in
       part_more a c (front ++ (text ++ mark)) back (part_then a b c front (text ++ mark) f (part_more b c text mark l))
 
+  -- the codes, the label and a front of the mark were
   pub mark_part : (a b c d : Option (List ℕ)) (x y : List ℕ) (plain : StyleValue) → plain ≡ plain_value → x ≡ front → y ≡ mark → Appends a b x → Appends b c (painted_text plain text) → AppendsPart c d y → AppendsPart a d whole
   mark_part a b c d x y plain u e q h k l =
       let f = subst (λ (z : List ℕ). Appends a b z) e h in
@@ -60,6 +66,7 @@ module _ (front text mark back : List ℕ) where
       let m = subst (λ (z : List ℕ). AppendsPart c d z) q l in
       part_more a d (front ++ (text ++ mark)) back (part_then a b d front (text ++ mark) f (part_then b c d text mark t m))
 
+  -- all was written, or all but an end of the codes
   pub all_repeated : {A E : Type 0} (a b c d e : Option (List ℕ)) (r : Result A E) (x y z : List ℕ) (plain : StyleValue) → plain ≡ plain_value → x ≡ front → y ≡ mark → z ≡ back
       → Appends a b x → Appends b c (painted_text plain text) → Appends c d y → IsWritten d e r z → IsWritten a e r whole
   all_repeated a b c d e r x y z plain u p q s h k l n =

@@ -16,25 +16,31 @@ abbrev tally : {X : Type 0} → (X → Bool) → List X → ℕ
 tally p [] = 0
 tally p (x ∷ xs) = cond (p x) 1 0 + tally p xs
 
+-- one more element
 tally_one : {X : Type 0} (x : X) (ys : List X) (n : ℕ) → length ys ≡ n → (b : Bool) → length (cond b (x ∷ ys) ys) ≡ cond b 1 0 + n
 tally_one x ys n e true = omega (arith, e)
 tally_one x ys n e false = omega (arith, e)
 
+-- the recursion counts what passes
 tally_is : {X : Type 0} (p : X → Bool) (xs : List X) → length (filter p xs) ≡ tally p xs
 tally_is p [] = refl
 tally_is p (x ∷ xs) = tally_one x (filter p xs) (tally p xs) (tally_is p xs) (p x)
 
+-- the source of an edge isn't seen
 abbrev unseen : List Bool → ℕ × ℕ → Bool
 unseen seen e = not (is_seen seen e.0)
 
+-- a flag that is set
 set_same : (seen : List Bool) (v w : ℕ) → v < length seen → w ≡ v → is_seen (slice_set seen v true) w ≡ true
 set_same seen v w h e = (seen_set seen v w h).1 (inr (sym e))
 
+-- any other flag
 set_other : (seen : List Bool) (v w : ℕ) → v < length seen → w ≢ v → is_seen (slice_set seen v true) w ≡ is_seen seen w
 set_other seen v w h e =
     let s = seen_set seen v w h in
     same_marks (is_seen (slice_set seen v true) w) (is_seen seen w) (λ x. elim (s.0 x) as (λ _. IsSeen seen w) [ inl y ↦ y | inr y ↦ absurd (e (sym y)) ], λ x. s.1 (inl x))
 
+-- an edge is from v, or counts as before
 one_split : (seen : List Bool) (v w : ℕ) → v < length seen → is_seen seen v ≡ false
     → cond (w == v) 1 0 + cond (not (is_seen (slice_set seen v true) w)) 1 0 ≡ cond (not (is_seen seen w)) 1 0
 one_split seen v w h f = at (w == v) refl where
@@ -47,6 +53,7 @@ one_split seen v w h f = at (w == v) refl where
       let q : w ≢ v = λ k. false≢true (sym e ∙ eq-eqb w v k) in
       rw (e, set_other seen v w h q) (omega arith)
 
+-- sums of two rows
 add_split : (a b c x y z : ℕ) → a + b ≡ c → x + y ≡ z → (a + x) + (b + y) ≡ c + z
 add_split a b c x y z h k = omega arith
 
@@ -57,9 +64,11 @@ edges_split seen v h f [] = refl
 edges_split seen v h f (e ∷ es) = add_split _ _ _ _ _ _ (one_split seen v e.0 h f) (edges_split seen v h f es)
 
 module _ (edges : List (ℕ × ℕ)) (n : ℕ) (covers : (v : ℕ) → n ≤ v → neighbors_of edges v ≡ []) where
+  -- how many edges are from nodes that aren't seen
   abbrev left : List Bool → ℕ
   left seen = tally (unseen seen) (reverse edges)
 
+  -- a node has a neighbour for each edge from it
   degree : (v : ℕ) → length (neighbors_of edges v) ≡ tally (λ e. e.0 == v) (reverse edges)
   degree v = length-map (filter (λ e. e.0 == v) (reverse edges)) (λ e. e.1) ∙ tally_is (λ e. e.0 == v) (reverse edges)
 
@@ -68,13 +77,16 @@ module _ (edges : List (ℕ × ℕ)) (n : ℕ) (covers : (v : ℕ) → n ≤ v �
     flags : length g.seen ≡ n
     size : occurrence_count g.occurrence + left g.seen ≡ suc (left seen)
 
+  -- and so in a row
   record IsSizedRow (seen : List Bool) (us : List ℕ) (ps : List OccurrenceTree) (last : List Bool) : Type 0 where
     flags : length last ≡ n
     size : row_size (row ps) + left last ≡ length us + left seen
 
+  -- from all flags, for all nodes
   abbrev AreSized : (List Bool → ℕ → Grown) → Type 0
   AreSized f = (seen : List Bool) (v : ℕ) → length seen ≡ n → IsSized seen (f seen v)
 
+  -- a row of occurrences, each of which does
   sized_rows : (f : List Bool → ℕ → Grown) → AreSized f → (us : List ℕ) (seen : List Bool) → length seen ≡ n → IsSizedRow seen us (row_occurrences f seen us) (row_seen f seen us)
   sized_rows f h [] seen e = record { flags = e; size = refl }
   sized_rows f h (u ∷ us) seen e =
@@ -82,9 +94,11 @@ module _ (edges : List (ℕ × ℕ)) (n : ℕ) (covers : (v : ℕ) → n ≤ v �
       let rest = sized_rows f h us (f seen u).seen first.flags in
       record { flags = rest.flags; size = omega (arith, first.size, rest.size) }
 
+  -- an occurrence with nothing below it
   sized_leaf : (seen : List Bool) (v : ℕ) (m : Bool) → length seen ≡ n → IsSized seen (grown (occurrence v m none) seen)
   sized_leaf seen v m e = record { flags = e; size = omega arith }
 
+  -- one over its node's neighbours
   sized_branch : (seen : List Bool) (v : ℕ) (f : List Bool → ℕ → Grown) → AreSized f → length seen ≡ n → is_seen seen v ≡ false
       → (us : List ℕ) → neighbors_of edges v ≡ us → IsSized seen (expand f us seen v)
   sized_branch seen v f h e fresh [] q = sized_leaf seen v false e
@@ -97,6 +111,7 @@ module _ (edges : List (ℕ × ℕ)) (n : ℕ) (covers : (v : ℕ) → n ≤ v �
       let many : length (u ∷ us) ≡ tally (λ e. e.0 == v) (reverse edges) = ap length (sym q) ∙ degree v in
       record { flags = rest.flags; size = omega (arith, rest.size, many, edges_split seen v within fresh (reverse edges)) }
 
+  -- at each depth
   all_sized : (d : ℕ) → AreSized (grow (neighbors_of edges) d)
   all_sized zero seen v e = sized_leaf seen v (is_seen seen v) e
   all_sized (suc d) seen v e = sized_step d (all_sized d) seen v e where
@@ -106,6 +121,7 @@ module _ (edges : List (ℕ × ℕ)) (n : ℕ) (covers : (v : ℕ) → n ≤ v �
       at true s = sized_leaf seen v true e
       at false s = sized_branch seen v (grow (neighbors_of edges) d) h e s (neighbors_of edges v) refl
 
+-- what passes a test, and what fails it
 count_all : (p : ℕ × ℕ → Bool) (es : List (ℕ × ℕ)) → tally p es + tally (λ e. not (p e)) es ≡ length es
 count_all p [] = refl
 count_all p (e ∷ es) = add_split _ _ _ _ _ _ (one (p e)) (count_all p es) ∙ one_more (length es) where
@@ -116,6 +132,7 @@ count_all p (e ∷ es) = add_split _ _ _ _ _ _ (one (p e)) (count_all p es) ∙ 
   one true = refl
   one false = refl
 
+-- where each passes
 count_none : (p : ℕ × ℕ → Bool) → ((e : ℕ × ℕ) → p e ≡ true) → (es : List (ℕ × ℕ)) → tally p es ≡ length es
 count_none p h [] = refl
 count_none p h (e ∷ es) = ap {B = ℕ} (λ b. cond b 1 0 + tally p es) (h e) ∙ (ap (λ n. 1 + n) (count_none p h es) ∙ one_more (length es)) where
@@ -123,6 +140,7 @@ count_none p h (e ∷ es) = ap {B = ℕ} (λ b. cond b 1 0 + tally p es) (h e) �
   one_more n = omega arith
 
 module _ (edges : List (ℕ × ℕ)) (seen : List Bool) (covers : (v : ℕ) → length seen ≤ v → neighbors_of edges v ≡ []) (clear : AreClear seen) (start depth : ℕ) where
+  -- the size of the one tree
   pub size_of_drawn : (t : OccurrenceTree) → IsExpandedOnce (neighbors_of edges) start depth t → HasSize edges t
   size_of_drawn t h =
       let below = neighbors_of edges in

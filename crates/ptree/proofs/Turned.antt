@@ -51,15 +51,19 @@ linked_none {N = N} nodes h = record {
 
 -- the edge at i is turned round and linked behind those before it
 module _ {N : Type 0} (nodes : List (Node N)) (edges : List Edge) (i degree : ℕ) (e' : Edge) (n' : Node N) (within : i < length edges) (ends : All (EndsBelow (length nodes)) edges) where
+  -- the edge as it was
   abbrev old : Edge
   old = get_or edges i e'
 
+  -- the node that it goes from then
   abbrev marked : Node N
   marked = get_or nodes old.target n'
 
+  -- the edge as it is then
   abbrev new : Edge
   new = edge old.target old.source marked.newest
 
+  -- all are linked
   pub linked_turned : IsLinked nodes (take i edges) → IsLinked (set nodes old.target (node marked.weight (i + 1) degree)) (take (suc i) (set edges i new))
   linked_turned l =
       let below : EndsBelow (length nodes) old = All-get_or (EndsBelow (length nodes)) edges i e' within ends in
@@ -68,6 +72,7 @@ module _ {N : Type 0} (nodes : List (Node N)) (edges : List Edge) (i degree : �
       (subst (λ (es : List Edge). IsLinked (set nodes old.target (node marked.weight (suc (length (take i edges))) degree)) es) (sym (take-suc-set edges i new within))
       (linked-edge nodes (take i edges) old.target old.source degree marked l below.1 below.0 (slice_get-get_or nodes old.target n' below.1)))
 
+  -- all weights are as they were
   pub turned_weights : map (λ (n : Node N). n.weight) (set nodes old.target (node marked.weight (i + 1) degree)) ≡ map (λ n. n.weight) nodes
   turned_weights = map-set_same (λ (n : Node N). n.weight) nodes old.target (node marked.weight (i + 1) degree) n' refl
 

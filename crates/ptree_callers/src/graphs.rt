@@ -10,7 +10,9 @@ ghost use Rattle.ptree.specs.declared.print_config.OutputKind.{OutputKind};
 ghost use Rattle.ptree_callers.specs.declared.graphs.Package.{Package};
 
 use ptree::PrintConfig;
-use ptree::graph::{Graph, Label, NodeIndex, Occurrence, REPEATED_MARK, print_graph_once, write_graph_once_with};
+use ptree::graph::{
+    Graph, Label, NodeIndex, Occurrence, REPEATED_MARK, print_graph_once, write_graph_once_with,
+};
 use ptree::print_config::Sources;
 use ptree::style::{DrawError, Sink, Style};
 use std::alloc::{AllocError, Global};
