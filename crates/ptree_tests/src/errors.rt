@@ -3,8 +3,11 @@
 use ptree::builder::AddError;
 use ptree::graph::EdgeError;
 use ptree::print_config::CharsError;
+use ptree::read::ReadError;
 use ptree::style::{Counted, DrawError, put_all};
+use ptree::value::{ConvertError, DocError};
 use ptree_fixtures::expect::{draw_to, expect_text};
+use ptree_fixtures::failing::{Answer, Failing};
 use ptree_fixtures::trees::leaf;
 use std::alloc::Global;
 use std::fmt::Display;
@@ -35,6 +38,77 @@ fn texts(rt: HostRuntime) -> Result<(), Fail> {
     let level = "no item can follow at that level";
     expect_message(alloc, &AddError::Level, level)?;
     expect_message(alloc, &AddError::Memory, "out of memory")
+}
+
+#[test]
+fn texts_of_readers(rt: HostRuntime) -> Result<(), Fail> {
+    let alloc = rt.alloc();
+    expect_message(alloc, &ReadError::Line(4), "no drawing goes on with line 4")?;
+    expect_message(
+        alloc,
+        &ReadError::End,
+        "the text ends before the drawing does",
+    )?;
+    expect_message(alloc, &ReadError::Memory, "out of memory")
+}
+
+#[test]
+fn texts_of_conversions(rt: HostRuntime) -> Result<(), Fail> {
+    let alloc = rt.alloc();
+    expect_message(alloc, &ConvertError::Float, "a float, which is not drawn")?;
+    expect_message(
+        alloc,
+        &ConvertError::Date,
+        "a date or a time, which is not drawn",
+    )?;
+    expect_message(alloc, &ConvertError::Memory, "out of memory")
+}
+
+#[test]
+fn texts_of_documents(rt: HostRuntime) -> Result<(), Fail> {
+    for (error, wanted) in [
+        (DocError::Syntax, "no document of its format"),
+        (DocError::Float, "a float, which is not drawn"),
+        (DocError::Date, "a date or a time, which is not drawn"),
+        (
+            DocError::Draw(DrawError::Zero),
+            "cannot write: the writer took no bytes",
+        ),
+        (DocError::Draw(DrawError::Memory), "out of memory"),
+    ] {
+        expect_message(rt.alloc(), &error, wanted)?;
+    }
+    Ok(())
+}
+
+// That a writer's error of a kind is told as it is.
+fn expect_kind(alloc: Global, kind: ErrorKind) -> Result<(), Fail> {
+    let failing = Failing::new(alloc, 0, 0, usize::MAX, Answer::Error(kind))?;
+    match put_all(&mut Counted::new(failing), b"bytes") {
+        Err(DrawError::Write(e)) if e.kind() == kind => Ok(()),
+        _ => Err(Fail::new("another error")),
+    }
+}
+
+#[test]
+fn each_kind_is_told(rt: HostRuntime) -> Result<(), Fail> {
+    for kind in [
+        ErrorKind::BrokenPipe,
+        ErrorKind::Interrupted,
+        ErrorKind::InvalidInput,
+        ErrorKind::NotFound,
+        ErrorKind::Other,
+        ErrorKind::OutOfMemory,
+        ErrorKind::PermissionDenied,
+        ErrorKind::StorageFull,
+        ErrorKind::TimedOut,
+        ErrorKind::UnexpectedEof,
+        ErrorKind::WouldBlock,
+        ErrorKind::WriteZero,
+    ] {
+        expect_kind(rt.alloc(), kind)?;
+    }
+    Ok(())
 }
 
 #[test]
