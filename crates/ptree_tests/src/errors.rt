@@ -43,12 +43,12 @@ fn texts(rt: HostRuntime) -> Result<(), Fail> {
 #[test]
 fn texts_of_readers(rt: HostRuntime) -> Result<(), Fail> {
     let alloc = rt.alloc();
-    expect_message(alloc, &ReadError::Line(4), "no drawing goes on with line 4")?;
     expect_message(
         alloc,
-        &ReadError::End,
-        "the text ends before the drawing does",
+        &ReadError::Line(4),
+        "line 4 cannot continue the drawing",
     )?;
+    expect_message(alloc, &ReadError::End, "the text is incomplete")?;
     expect_message(alloc, &ReadError::Memory, "out of memory")
 }
 

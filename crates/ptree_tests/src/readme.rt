@@ -123,14 +123,26 @@ fn modules_are_drawn_once(rt: HostRuntime) -> Result<(), Fail> {
     let app = modules.add_node("app")?;
     let parser = modules.add_node("parser")?;
     let lexer = modules.add_node("lexer")?;
-    modules.extend_with_edges(&[(lexer, parser), (parser, lexer), (app, lexer), (app, parser)])?;
+    modules.extend_with_edges(&[
+        (lexer, parser),
+        (parser, lexer),
+        (app, lexer),
+        (app, parser),
+    ])?;
     let config = PrintConfig::default(alloc)?;
     let mut out = Counted::new(Vec::new(alloc));
     write_graph_once_with(alloc, &modules, app, REPEATED_MARK, &mut out, &config)?;
     expect_text(str::from_utf8(&out.into_inner())?, MODULES)?;
 
     let mut out = Counted::new(Vec::new(alloc));
-    write_graph_once_with(alloc, &modules.reversed(), parser, REPEATED_MARK, &mut out, &config)?;
+    write_graph_once_with(
+        alloc,
+        &modules.reversed(),
+        parser,
+        REPEATED_MARK,
+        &mut out,
+        &config,
+    )?;
     expect_text(str::from_utf8(&out.into_inner())?, NEEDED_BY)
 }
 
