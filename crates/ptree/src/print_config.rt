@@ -65,7 +65,9 @@ impl Eq for StyleWhen {
 
 // The defaults of [`PrintConfig`].
 pub(crate) const DEFAULT_INDENT: usize = 3;
+
 pub(crate) const DEFAULT_PADDING: usize = 1;
+
 pub(crate) const DEFAULT_MARK: &str = ": ";
 
 /// How a tree is drawn.

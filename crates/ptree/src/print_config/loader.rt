@@ -18,7 +18,8 @@ use crate::print_config::words::{
     Spelling, color_text, flag_text, number_text, set_spelled, when_spelled,
 };
 use crate::print_config::{
-    DEFAULT_INDENT, DEFAULT_MARK, DEFAULT_PADDING, FileSource, IndentChars, PrintConfig, Sources, StaticIndentChars, StyleWhen, UTF_CHARS,
+    DEFAULT_INDENT, DEFAULT_MARK, DEFAULT_PADDING, FileSource, IndentChars, PrintConfig, Sources,
+    StaticIndentChars, StyleWhen, UTF_CHARS,
 };
 use crate::style::{Color, Style};
 use std::alloc::{AllocError, Global};
@@ -380,7 +381,10 @@ impl<'a> Given<'a> {
                 .whole(u64::MAX, Field::Padding)
                 .unwrap_or(DEFAULT_PADDING as u64) as usize,
             styled: self.when(Field::Styled).unwrap_or(StyleWhen::Tty),
-            continued: String::from_str(alloc, self.text(Field::Continued).unwrap_or(DEFAULT_MARK))?,
+            continued: String::from_str(
+                alloc,
+                self.text(Field::Continued).unwrap_or(DEFAULT_MARK),
+            )?,
             branch: self.style(alloc, Part::Branch)?,
             leaf: self.style(alloc, Part::Leaf)?,
             characters: self.characters(alloc)?,
