@@ -128,7 +128,10 @@ fn tree(
     };
     let mut builder = TreeBuilder::new(alloc, label(alloc, net, root, mark)?);
     for place in others {
-        builder.add_at_level(place.address.len() as u32, label(alloc, net, place, mark)?)?;
+        let level = u32::try_from(place.address.len()).map_err(|_| Deviation::of(
+            "an occurrence stands above the depth or at it",
+        ))?;
+        builder.add_at_level(level, label(alloc, net, place, mark)?)?;
     }
     Ok(builder.build()?)
 }
