@@ -8,9 +8,11 @@ ghost use Rattle.ptree.specs.Laws.{HasOneList, HasCuts, HasTreeCuts, HasSubtrees
 ghost use Rattle.ptree.specs.Tree.{tree_of, shape_of_tree};
 ghost use Rattle.ptree.specs.Utf8.{HasUtf8Texts};
 
+pub(crate) mod brush;
 pub(crate) mod engine;
 pub(crate) mod indent;
 pub(crate) mod look;
+pub(crate) mod pen;
 mod spread;
 
 use crate::item::{StringItem, TreeItem};

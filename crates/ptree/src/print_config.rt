@@ -11,15 +11,18 @@ ghost use Rattle.ptree.specs.declared.print_config.OutputKind.{OutputKind};
 ghost use Rattle.ptree.specs.declared.print_config.PrintConfig.{PrintConfig};
 ghost use Rattle.ptree.specs.declared.print_config.StaticIndentChars.{StaticIndentChars};
 
+mod chars;
 mod fields;
 mod file;
+mod given;
 mod loader;
 mod words;
 
 use crate::style::Style;
 pub use fields::{Field, Part, StyleField};
 pub use file::syntax_line;
-pub use loader::{Fault, first_fault, last_value, load};
+pub use given::last_value;
+pub use loader::{Fault, first_fault, load};
 use std::alloc::{AllocError, AllocFailed, Global};
 use std::error::Error;
 use std::fmt;

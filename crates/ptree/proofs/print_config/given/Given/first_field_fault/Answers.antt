@@ -1,6 +1,6 @@
 use Rattle.std.proofs.Common.{arith}
 use Rattle.std.proofs.lemmas.Grind.{common_steps}
-use Rattle.ptree.proofs.print_config.loader.Given.first_field_fault.Goals as goal
+use Rattle.ptree.proofs.print_config.given.Given.first_field_fault.Goals as goal
 
 pub returns-in-Some : goal.returns-in-Some
 returns-in-Some c = grind (arith, common_steps)

@@ -1,5 +1,5 @@
 use Rattle.ptree.proofs.FieldLists.{each_style_field}
-use Rattle.ptree.proofs.print_config.loader.Given.is_dimmed.Goals as goal
+use Rattle.ptree.proofs.print_config.given.Given.is_dimmed.Goals as goal
 
 pub returns-then-is_none-clause-each : goal.returns-then-is_none-clause-each
 returns-then-is_none-clause-each c = each_style_field

@@ -5,7 +5,7 @@ use Rattle.ptree.specs.Lent.{given_view}
 use Rattle.ptree.specs.Sources.{variable}
 use Rattle.ptree.specs.declared.print_config.fields.StyleField.{StyleField}
 use Rattle.ptree.specs.declared.print_config.fields.Field.TheVariants.{Paint}
-use Rattle.ptree.proofs.print_config.loader.Given.has_variable.Given as goal
+use Rattle.ptree.proofs.print_config.given.Given.has_variable.Given as goal
 
 abbrev pub invariant-loop-field : goal.invariant-loop-field
 invariant-loop-field l =

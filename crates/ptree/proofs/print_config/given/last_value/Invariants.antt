@@ -2,7 +2,7 @@ use Rattle.std.proofs.Common.{◌≡◌}
 use Rattle.std.specs.Iterator.Adapters.{rev_source}
 use Rattle.std.specs.Slice.Iter.{iter_rest}
 use Rattle.ptree.specs.Sources.{variables_of, last_value}
-use Rattle.ptree.proofs.print_config.loader.last_value.Given as goal
+use Rattle.ptree.proofs.print_config.given.last_value.Given as goal
 
 abbrev pub invariant-loop-variable : goal.invariant-loop-variable
 invariant-loop-variable l =
