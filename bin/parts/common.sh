@@ -110,7 +110,7 @@ check_with_stubs() {
     "$group"
     count=$((passed + failed - count))
     for stub; do
-        STUB=$scratch/$stub "$0" "$group" >"$scratch/said" 2>&1
+        STUB=$scratch/$stub "$top/bin/parts/${0##*/}" "$group" >"$scratch/said" 2>&1
         if [ "$(tail -n 1 "$scratch/said")" = "0 passed, $count failed" ]; then
             report ok "the stub of ${stub//_/ } fails each of these $count checks"
         else
