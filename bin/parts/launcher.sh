@@ -37,10 +37,10 @@ END
     ln -s "$(python3 -c 'import sys; print(sys.executable)')" "$there/few/python3"
 }
 
-# Calls the launcher, and leaves what it writes in the scratch folder.
+# Calls the launcher, and leaves what it writes in the scratch folder. It is called by a path that CDPATH leads elsewhere.
 launch() {
     : >"$there/calls"
-    echo input | PATH=$there/path:$PATH "$there/bin/ptree_cli" a 'b c' >"$scratch/out" 2>"$scratch/err"
+    (cd "$there" && echo input | CDPATH=/ PATH=$there/path:$PATH bin/ptree_cli a 'b c') >"$scratch/out" 2>"$scratch/err"
 }
 
 # Checks a call of the launcher. Arguments: name, how often it must build, the source that the program must print.
@@ -71,7 +71,9 @@ expect_refusal() {
 check_changes() {
     local source=$there/crates/ptree/src/lib.rt
     expect_launch 'a first call builds' 1 one
-    expect_launch 'a second call builds nothing' 0 one
+    chmod a-x "$there/bin/build"
+    expect_launch 'a second call does without bin/build' 0 one
+    chmod a+x "$there/bin/build"
     touch "$source" "$there/crates.txt"
     expect_launch 'a source is touched' 0 one
     echo two >"$source"
