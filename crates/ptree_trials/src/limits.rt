@@ -1,6 +1,6 @@
 //! Tries long chains, a million lines, and documents nested as deep as they may be, each against the drawing that the rules give.
 
-use crate::deviation::{Deviation, expect};
+use crate::deviation::{Deviation, expect, report};
 use ptree::TreeBuilder;
 use ptree::item::StringItem;
 use ptree::output::tree_bytes;
@@ -184,17 +184,6 @@ fn try_toml(alloc: Global) -> Result<(), Deviation> {
         is_refused(alloc, DocFormat::Toml, document.as_str())?;
     }
     Ok(())
-}
-
-// Says how a trial ended.
-fn report(rt: &HostRuntime, name: &str, ended: Result<(), Deviation>) -> io::Result<()> {
-    match ended {
-        Ok(()) => println!(rt; "{name}"),
-        Err(deviation) => {
-            println!(rt; "{name}: {deviation}")?;
-            Err(io::Error::from(deviation))
-        }
-    }
 }
 
 /// Tries all of them, names each, and stops at the first rule that isn't kept.
