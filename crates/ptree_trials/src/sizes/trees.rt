@@ -236,7 +236,7 @@ fn try_children(alloc: Global, size: usize) -> Result<(), Deviation> {
     Ok(())
 }
 
-// A builder of many items by levels, the last ones more and more levels deep.
+// A builder of many items by levels.
 fn try_levels(alloc: Global, size: usize) -> Result<(), Deviation> {
     let mut builder = TreeBuilder::new(alloc, text(alloc, size)?);
     for _ in 0..size {
@@ -249,15 +249,7 @@ fn try_levels(alloc: Global, size: usize) -> Result<(), Deviation> {
     expect(
         tree.children.len() == size,
         "a builder makes a tree of all items",
-    )?;
-    for _ in 0..size {
-        let level = builder.level().saturating_add(1);
-        made(
-            builder.add_at_level(level, text(alloc, 1)?),
-            "`TreeBuilder::add_at_level` succeeds",
-        )?;
-    }
-    Ok(())
+    )
 }
 
 /// Tries all of them.
