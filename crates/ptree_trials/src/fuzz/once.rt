@@ -61,6 +61,9 @@ fn walks(
     let mut all = Vec::new(alloc);
     let mut level = vec![in alloc; (Vec::new(alloc), start)]?;
     for _ in 0..depth {
+        if level.is_empty() {
+            break;
+        }
         let next = longer(alloc, net, &level)?;
         for walk in level {
             all.push(walk)?;
