@@ -151,6 +151,15 @@ fn layer_edges(alloc: Global, nodes: u32) -> Result<Vec<(NodeIndex, NodeIndex)>,
     Ok(edges)
 }
 
+// The edges from the first node to all others.
+fn wide_edges(alloc: Global, nodes: u32) -> Result<Vec<(NodeIndex, NodeIndex)>, AllocError> {
+    let mut edges = Vec::new(alloc);
+    for i in 1..nodes {
+        edges.push((NodeIndex(0), NodeIndex(i as usize)))?;
+    }
+    Ok(edges)
+}
+
 // The edges of a chain.
 fn chain_edges(alloc: Global, nodes: u32) -> Result<Vec<(NodeIndex, NodeIndex)>, AllocError> {
     let mut edges = Vec::new(alloc);
@@ -160,12 +169,13 @@ fn chain_edges(alloc: Global, nodes: u32) -> Result<Vec<(NodeIndex, NodeIndex)>,
     Ok(edges)
 }
 
-// A graph that is drawn with each node expanded once: of blocks whose nodes are `near` one another or `far` apart, of `layers`, or a
-// `chain`.
+// A graph that is drawn with each node expanded once: of blocks whose nodes are `near` one another or `far` apart, of `layers`,
+// `wide`, or a `chain`.
 fn once_graph(alloc: Global, shape: &str, nodes: u32) -> Result<Graph<String>, AllocError> {
     let mut graph = graph(alloc, nodes)?;
     let edges = match shape {
         "layers" => layer_edges(alloc, nodes)?,
+        "wide" => wide_edges(alloc, nodes)?,
         "chain" => chain_edges(alloc, nodes)?,
         _ => block_edges(alloc, shape, nodes)?,
     };
