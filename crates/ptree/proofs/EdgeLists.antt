@@ -6,7 +6,7 @@ use Rattle.std.proofs.lemmas.Bool.Decides.{eqb_tells}
 use Rattle.std.proofs.lemmas.List.{map-append, reverse-append, length-reverse, length-take}
 use Rattle.std.proofs.lemmas.List.Elements.{All-head, All-tail}
 use Rattle.std.proofs.lemmas.List.Sorted.{All-permutation, IsPermutation-reverse}
-use Rattle.std.proofs.lemmas.Option.{slice_get_within, get_or_from_slice_get}
+use Rattle.std.proofs.lemmas.Option.{slice_get_within, slice_get-get_or, get_or_from_slice_get}
 use Rattle.ptree.specs.Graph.{neighbors_of}
 use Rattle.ptree.specs.GraphLinks.{first_from, newest_from}
 
@@ -115,6 +115,15 @@ pub newest_starts : (edges : List (ℕ × ℕ)) (v m : ℕ) → m ≡ newest_fro
 newest_starts edges v m h =
     subst (λ (l : List (ℕ × ℕ)). (neighbors_of (take m edges) v ≡ neighbors_of l v) × (m ≡ newest_from (take m edges) v)) (take-length edges)
     (newest_settles edges v (length edges) m (omega arith) (h ∙ ap (λ l. newest_from l v) (sym (take-length edges))))
+
+-- a node with a newest edge has neighbours
+pub newest_has : (edges : List (ℕ × ℕ)) (v m : ℕ) → m ≡ newest_from edges v → m ≢ 0 → neighbors_of edges v ≢ []
+newest_has edges v zero h k = λ e. k refl
+newest_has edges v (suc i) h k =
+    let start = newest_starts edges v (suc i) h in
+    let e = get_or edges i (0, 0) in
+    let split = newest_splits edges v i e (slice_get-get_or edges i (0, 0) (omega (arith, newest_within edges v (suc i) start.1))) start.1 in
+    λ none. let clash : e.1 ∷ neighbors_of (take i edges) v ≡ [] = sym split.1 ∙ (start.0 ∙ none) in cc
 
 -- one more target was returned, and the rest is the same
 pub given_more : {X Y : Type 0} (f : X → Y) (items new : List X) (x : X) (before rest all : List Y) → new ≡ items ++ x ∷ [] → before ≡ f x ∷ rest → map f items ++ before ≡ all → map f new ++ rest ≡ all

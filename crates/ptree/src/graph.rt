@@ -8,7 +8,8 @@ mod once;
 
 pub use drawing::{GraphNode, Label, print_graph, write_graph_with};
 pub use once::{
-    Occurrence, OccurrenceItem, REPEATED_MARK, print_graph_once, write_graph_once_with,
+    Expanded, Occurrence, OccurrenceItem, Place, REPEATED_MARK, print_graph_once,
+    write_graph_once_with,
 };
 use std::alloc::{AllocError, AllocFailed, Global};
 use std::error::Error;

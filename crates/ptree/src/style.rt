@@ -333,9 +333,9 @@ impl Style {
         })
     }
 
-    // Whether no flag and no colour is set.
+    /// Whether no flag and no colour is set.
     #[inline(always)]
-    fn is_plain(&self) -> bool
+    pub(crate) fn is_plain(&self) -> bool
         ensures { IsTrue result → style_codes (style_value self.now) ≡ [] }
     {
         if self.bold
