@@ -10,7 +10,7 @@ use Rattle.ptree.specs.declared.print_config.file.Document.TheVariants as docume
 use Rattle.ptree.specs.declared.print_config.file.Node as lent
 use Rattle.ptree.specs.declared.print_config.file.Node.TheVariants as node
 use Rattle.ptree.specs.declared.print_config.given.Given as lent_given
-use Rattle.ptree.specs.declared.print_config.chars.LentChars.{LentChars}
+use Rattle.ptree.specs.declared.print_config.lent.LentChars.{LentChars}
 
 -- the document that the loader holds
 abbrev pub document_view : Document → Node

@@ -11,9 +11,9 @@ ghost use Rattle.ptree.specs.Sources.{variables_of, last_value, document, given_
 ghost use Rattle.ptree.specs.Style.{style_value};
 ghost use Rattle.ptree.specs.declared.print_config.fields.Field.{Field};
 
-use crate::print_config::chars::{LentChars, set_node};
 use crate::print_config::fields::{Field, Part, STYLE_FIELDS, StyleField};
 use crate::print_config::file::{Document, Node};
+use crate::print_config::lent::{LentChars, set_node};
 use crate::print_config::words::{
     Spelling, color_text, flag_text, number_text, set_spelled, when_spelled,
 };

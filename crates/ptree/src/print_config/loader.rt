@@ -6,10 +6,10 @@ ghost use Rattle.ptree.specs.Lent.{document_view, node_view, given_view};
 ghost use Rattle.ptree.specs.Loading.{text_fits, node_fits, field_fault, table_fault, file_fault, first_of, fault_in, first_fault, config_of};
 ghost use Rattle.ptree.specs.Sources.{document};
 
-use crate::print_config::chars::set_node;
 use crate::print_config::fields::{FIELDS, Field, Kind, Part};
 use crate::print_config::file::{Document, Node};
 use crate::print_config::given::Given;
+use crate::print_config::lent::set_node;
 use crate::print_config::words::{Spelling, flag_text, number_text, set_spelled, when_spelled};
 use crate::print_config::{FileSource, PrintConfig, Sources};
 use std::alloc::{AllocError, Global};
