@@ -63,6 +63,7 @@ pub values_ascend : {V : Type 0} (meant : V → Data) (ms : List (Member V)) →
 values_ascend meant [] h = tt
 values_ascend meant (m ∷ ms) h = (All-head (λ m. KeysAscend (meant m.1)) m ms h, values_ascend meant ms (All-tail (λ m. KeysAscend (meant m.1)) m ms h))
 
+-- a key below all keys of members is below those of the entries that they denote
 key_below : {V : Type 0} (meant : V → Data) (k : String Global) (ms : List (Member V)) → AllByRecursion (λ l. string_cmp k l ≡ Less) (keys_of ms)
     → AllByRecursion (λ l. slice_cmp nat_cmp (string_bytes k) l ≡ Less) (key_texts (entries_of (map (member_data meant) ms)))
 key_below meant k [] h = tt

@@ -18,6 +18,7 @@ buffer_of pen = pen.line.bytes.items
 abbrev pub HoldsPassing : Brush → Pen → ℕ → List ℕ → Type 0
 HoldsPassing brush pen width passing = take width (buffer_of pen) ≡ front_codes (brush_look brush).branch ++ passing
 
--- after the first `width` bytes is the own text of a root (none), or of a child by whether it is last
+-- after the first `width` bytes is the own text of a root (none), or of a child by whether it is
+-- last
 abbrev pub HoldsOwnText : Brush → Pen → ℕ → Option Bool → Type 0
 HoldsOwnText brush pen width last = buffer_of pen ≡ take width (buffer_of pen) ++ own_text (brush_look brush) last

@@ -98,7 +98,7 @@ impl<T: io::Write> Sink for Counted<T> {
 }
 
 impl<T: io::IsTerminal> io::IsTerminal for Counted<T> {
-    /// As the writer or reader answers.
+    /// Returns what the writer or reader returns.
     fn is_terminal(&self) -> bool {
         self.inner.is_terminal()
     }

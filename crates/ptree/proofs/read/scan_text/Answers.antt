@@ -3,7 +3,7 @@ use Rattle.std.specs.Prelude.{IfOk}
 use Rattle.ptree.specs.Drawing.{Look}
 use Rattle.ptree.specs.Looks.{look_meant}
 use Rattle.ptree.specs.Scanned.{IsReading}
-use Rattle.ptree.proofs.read.read_text.Goals as goal
+use Rattle.ptree.proofs.read.scan_text.Goals as goal
 
 pub returns : goal.returns
 returns c =
