@@ -13,7 +13,7 @@ use std::io;
 // How long a text is, or how many of a thing there are.
 const SIZES: [usize; 6] = [0, 1, 2, 40, 300, 70_000];
 
-// The most levels of what is drawn, since a drawing grows with the square of its levels.
+// The most levels of what is drawn, and the longest text that is drawn once for each of many, since a drawing grows with their square.
 const LEVELS: usize = 300;
 
 // What a call returned, which must not have failed.

@@ -75,7 +75,7 @@ fn try_graph<N: Label + Drop>(
     targets: usize,
     depth: u32,
 ) -> Result<(), Deviation> {
-    let mark = text(alloc, targets)?;
+    let mark = text(alloc, targets.min(LEVELS))?;
     let found = made(graph.neighbors(START), "`Graph::neighbors` succeeds")?;
     expect(found.len() == targets, "each edge has its target")?;
     let first = made(
