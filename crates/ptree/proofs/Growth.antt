@@ -75,11 +75,6 @@ row_made g xs ys v ts last e h = subst (λ (z : OccurrenceTree). AppendsPlaces x
 pub seen_made : (g : Grown) (t : OccurrenceTree) (last now : List Bool) → g ≡ grown t last → now ≡ last → now ≡ g.seen
 seen_made g t last now e h = h ∙ ap (λ (z : Grown). z.seen) (sym e)
 
--- a list of no elements
-pub nothing_in : {X : Type 0} (xs : List X) (n : ℕ) → n ≡ length xs → n ≡ 0 → xs ≡ []
-nothing_in [] n e h = refl
-nothing_in (x ∷ xs) n e h = absurd (omega arith)
-
 -- a node with neighbours is entered so
 pub entered : (us : List ℕ) (seen : List Bool) (v : ℕ) → us ≢ [] → enter us seen v ≡ slice_set seen v true
 entered [] seen v h = absurd (h refl)
