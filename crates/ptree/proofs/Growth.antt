@@ -1,6 +1,6 @@
 -- The loop that makes the occurrences of a graph expanded once.
 use Rattle.std.specs.Prelude.{slice_set, replicate, if◌then◌else◌, ◌≢◌}
-use Rattle.std.proofs.Common.{◌≡◌, ◌⊎◌, inl, inr, ℕ, zero, suc, ◌-◌, ◌≤◌, Bool, true, false, List, [], ◌∷◌, ◌++◌, length, map, ap, refl, sym, subst, ◌∙◌, append_assoc, arith}
+use Rattle.std.proofs.Common.{◌≡◌, ◌⊎◌, inl, inr, ℕ, zero, suc, ◌-◌, ◌≤◌, Bool, true, false, List, [], ◌∷◌, ◌++◌, length, ap, refl, sym, subst, ◌∙◌, append_assoc, arith}
 use Rattle.ptree.specs.declared.graph.Graph.{Graph}
 use Rattle.ptree.specs.declared.graph.once.Place.{Place}
 use Rattle.ptree.specs.Graph.{weights_of, edges_of, neighbors_of}

@@ -1,4 +1,4 @@
-use Rattle.std.proofs.Common.{◌≡◌, ◌≢◌, ◌<◌, ◌+◌, ◌-◌, ℕ, false, true, List, [], ◌∷◌, ◌++◌, inl, inr, refl, length, take, ap, sym, ◌∙◌, arith}
+use Rattle.std.proofs.Common.{◌≡◌, ◌<◌, ◌-◌, false, [], ◌∷◌, ◌++◌, inl, inr, refl, length, take, ap, sym, ◌∙◌, arith, rules}
 use Rattle.std.proofs.lemmas.Bool.{cases_lt}
 use Rattle.std.proofs.lemmas.List.{length-map}
 use Rattle.ptree.specs.Graph.{weights_of, edges_of, neighbors_of}
@@ -30,9 +30,9 @@ returns-then-repeated-clause-seen g t c =
     let v = c.args.node.0 in
     let seen = all_flags n c.args.seen.now.items in
     let flag : c.is_flagged-repeated.result ≡ is_seen seen v = c.is_flagged-repeated.ensures ∙ (ap (λ l. is_seen l v) c.deref.ensures.value ∙ sym (seen_all n c.args.seen.now.items v)) in
-    seen_made (grow (neighbors_of (edges_of c.args.self.now)) c.args.levels seen v) _ seen seen
+    seen_made (grow (neighbors_of (edges_of c.args.self.now)) c.args.levels seen v) _ seen _
     (stopped (neighbors_of (edges_of c.args.self.now)) c.args.levels seen v
-    (elim c.then-repeated.branch [ then-repeated-via-then-repeated w ↦ inl (sym flag ∙ w.if-repeated.true) | then-repeated-via-else-repeated+then-levels-eq0 w ↦ inr w.if-levels-eq0.true ])) refl
+    (elim c.then-repeated.branch [ then-repeated-via-then-repeated w ↦ inl (sym flag ∙ w.if-repeated.true) | then-repeated-via-else-repeated+then-levels-eq0 w ↦ inr w.if-levels-eq0.true ])) (search rules)
 
 pub returns-then-number-eq0-clause-places : goal.returns-then-number-eq0-clause-places
 returns-then-number-eq0-clause-places g t c =
@@ -56,8 +56,8 @@ returns-then-number-eq0-clause-seen g t c =
     let seen = all_flags n c.args.seen.now.items in
     let flag : c.is_flagged-repeated.result ≡ is_seen seen v = c.is_flagged-repeated.ensures ∙ (ap (λ l. is_seen l v) c.deref.ensures.value ∙ sym (seen_all n c.args.seen.now.items v)) in
     let none : neighbors_of edges v ≡ [] = sym (newest_starts edges v c.newest-number.result c.newest-number.ensures.newest).0 ∙ ap (λ k. neighbors_of (take k edges) v) c.if-number-eq0.true in
-    seen_made (grow (neighbors_of edges) c.args.levels seen v) _ seen seen
-    (without (neighbors_of edges) c.args.levels seen v c.if-levels-eq0.false (sym flag ∙ c.if-repeated.false) none) refl
+    seen_made (grow (neighbors_of edges) c.args.levels seen v) _ seen _
+    (without (neighbors_of edges) c.args.levels seen v c.if-levels-eq0.false (sym flag ∙ c.if-repeated.false) none) (search rules)
 
 pub loop-number-init : goal.loop-number-init
 loop-number-init g t c =

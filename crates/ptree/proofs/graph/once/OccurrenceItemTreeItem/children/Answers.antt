@@ -1,7 +1,7 @@
-use Rattle.std.proofs.Common.{◌≡◌, [], ◌++◌, ◌<◌, ◌^◌, List, length, drop, suc, map, ap, sym, ◌∙◌, subst, arith}
+use Rattle.std.proofs.Common.{◌≡◌, [], ◌++◌, ◌<◌, ◌^◌, List, length, drop, map, ap, sym, ◌∙◌, subst, arith}
 use Rattle.std.proofs.lemmas.List.{append-nil}
 use Rattle.ptree.specs.Growing.{IsNextPlace, place_at}
-use Rattle.ptree.specs.Occurrence.{OccurrenceTree, occurrence_at, occurrence_own, occurrence_shape, occurrence_kids, size_below, trees_in, tree_at_front}
+use Rattle.ptree.specs.Occurrence.{OccurrenceTree, occurrence_at, occurrence_own, occurrence_shape, occurrence_kids, size_below, trees_in}
 use Rattle.ptree.specs.Shape.{Shape}
 use Rattle.ptree.specs.declared.graph.once.OccurrenceItem.{OccurrenceItem}
 use Rattle.ptree.specs.declared.graph.once.Place.{Place}
