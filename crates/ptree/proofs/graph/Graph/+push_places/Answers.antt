@@ -133,7 +133,7 @@ returns-clause-places g t c =
     row_made (grow (neighbors_of edges) c.args.levels seen v) xs _ v ts (all_flags n c.loop-number.seen.items)
     (grown_all (neighbors_of edges) c.args.levels seen (all_flags n c.loop-number.seen.items) v ts (neighbors_of (take c.loop-number.number edges) v) c.if-levels-eq0.false (sym flag ∙ c.if-repeated.false)
     (ap (λ k. neighbors_of (take k edges) v) ended) whole c.loop-number.invariant.seen)
-    (appends_over xs c.loop-number.places.items _ v c.len-index.result (c.len.result - c.len-index.result) ts made (omega (arith, c.len-index.ensures, c.args.places.now.ok.0)) (omega (arith, c.len.ensures, c.loop-number.places.ok.0)) refl)
+    (appends_over xs c.loop-number.places.items _ v c.len-index.result (c.len.result - c.len-index.result) ts made (omega (arith, c.len-index.ensures, c.args.places.now.ok.0)) (omega (arith, c.len.ensures, c.loop-number.places.ok.0)) (search rules))
 
 pub returns-clause-seen : goal.returns-clause-seen
 returns-clause-seen g t c =
