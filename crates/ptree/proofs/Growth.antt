@@ -1,6 +1,6 @@
 -- The loop that makes the occurrences of a graph expanded once.
 use Rattle.std.specs.Prelude.{slice_set, replicate, if◌then◌else◌, ◌≢◌}
-use Rattle.std.proofs.Common.{◌≡◌, ◌⊎◌, inl, inr, ℕ, zero, suc, ◌-◌, ◌≤◌, Bool, true, false, List, [], ◌∷◌, ◌++◌, length, map, ap, refl, sym, subst, ◌∙◌, append_assoc, arith}
+use Rattle.std.proofs.Common.{◌≡◌, ◌⊎◌, inl, inr, ℕ, zero, suc, ◌-◌, ◌≤◌, Bool, true, false, List, [], ◌∷◌, ◌++◌, length, ap, refl, sym, subst, ◌∙◌, append_assoc, arith}
 use Rattle.ptree.specs.declared.graph.Graph.{Graph}
 use Rattle.ptree.specs.declared.graph.once.Place.{Place}
 use Rattle.ptree.specs.Graph.{weights_of, edges_of, neighbors_of}
@@ -74,11 +74,6 @@ row_made g xs ys v ts last e h = subst (λ (z : OccurrenceTree). AppendsPlaces x
 -- which nodes are seen after it
 pub seen_made : (g : Grown) (t : OccurrenceTree) (last now : List Bool) → g ≡ grown t last → now ≡ last → now ≡ g.seen
 seen_made g t last now e h = h ∙ ap (λ (z : Grown). z.seen) (sym e)
-
--- a list of no elements
-pub nothing_in : {X : Type 0} (xs : List X) (n : ℕ) → n ≡ length xs → n ≡ 0 → xs ≡ []
-nothing_in [] n e h = refl
-nothing_in (x ∷ xs) n e h = absurd (omega arith)
 
 -- a node with neighbours is entered so
 pub entered : (us : List ℕ) (seen : List Bool) (v : ℕ) → us ≢ [] → enter us seen v ≡ slice_set seen v true

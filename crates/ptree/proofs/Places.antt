@@ -1,6 +1,6 @@
 -- Lists of places, and the trees that they are.
-use Rattle.std.specs.Prelude.{slice_get, slice_set, ◌^◌, min, unwrap_or, replicate}
-use Rattle.std.proofs.Common.{◌≡◌, ◌≢◌, ℕ, zero, suc, ◌+◌, ◌-◌, ◌<◌, ◌≤◌, inl, inr, Bool, true, false, List, [], ◌∷◌, ◌++◌, length, length-append, take, drop, map, Some, None, ap, refl, sym, subst, ◌∙◌, append_assoc, arith}
+use Rattle.std.specs.Prelude.{slice_get, slice_set, ◌^◌, min, replicate}
+use Rattle.std.proofs.Common.{◌≡◌, ℕ, zero, suc, ◌+◌, ◌-◌, ◌<◌, ◌≤◌, inl, inr, Bool, true, false, List, [], ◌∷◌, ◌++◌, length, length-append, take, drop, Some, None, ap, refl, sym, ◌∙◌, append_assoc, arith}
 use Rattle.std.proofs.lemmas.Bool.{cases_lt}
 use Rattle.std.proofs.lemmas.List.{append-nil, take_all, length-drop, drop_all, drop_at, length-replicate, replicate-append-replicate}
 use Rattle.ptree.specs.declared.graph.once.Place.{Place}
@@ -222,15 +222,15 @@ more_flags n k seen more e h =
     ap (all_flags n) e ∙ (append_assoc seen (replicate k false) _ ∙ (ap (λ z. seen ++ z) (replicate-append-replicate k (n - length (seen ++ replicate k false)) false) ∙ ap (λ m. seen ++ replicate m false) count))
 
 -- a flag was set that was there
-pub flag_set : (n : ℕ) (seen now : List Bool) (v : ℕ) → v < length seen → length seen ≤ n → now ≡ seen → (all_flags n (slice_set now v true) ≡ slice_set (all_flags n seen) v true) × (length (slice_set now v true) ≤ n)
-flag_set n seen now v h k e =
-    let same : slice_set now v true ≡ slice_set seen v true = ap (λ l. slice_set l v true) e in
-    (set_all n seen (slice_set now v true) v h same, omega (arith, ap length same, length_slice_set seen v true))
+pub flag_set : (n : ℕ) (seen now last : List Bool) (v : ℕ) → v < length seen → length seen ≤ n → now ≡ seen → last ≡ slice_set now v true → (all_flags n last ≡ slice_set (all_flags n seen) v true) × (length last ≤ n)
+flag_set n seen now last v h k e f =
+    let same : last ≡ slice_set seen v true = f ∙ ap (λ l. slice_set l v true) e in
+    (set_all n seen last v h same, omega (arith, ap length same, length_slice_set seen v true))
 
 -- one was set that had to be added
-pub flag_added : (n : ℕ) (seen now : List Bool) (v m : ℕ) → m ≡ length seen → m ≤ v → v < n → now ≡ take (v + 1) seen ++ replicate (v + 1 - m) false
-    → (all_flags n (slice_set now v true) ≡ slice_set (all_flags n seen) v true) × (length (slice_set now v true) ≤ n)
-flag_added n seen now v m l h k e =
+pub flag_added : (n : ℕ) (seen now last : List Bool) (v m : ℕ) → m ≡ length seen → m ≤ v → v < n → now ≡ take (v + 1) seen ++ replicate (v + 1 - m) false → last ≡ slice_set now v true
+    → (all_flags n last ≡ slice_set (all_flags n seen) v true) × (length last ≤ n)
+flag_added n seen now last v m l h k e f =
     let added : now ≡ seen ++ replicate (v + 1 - m) false = e ∙ ap (λ z. z ++ replicate (v + 1 - m) false) (take_all (v + 1) seen (omega arith)) in
     let long : length now ≡ length seen + (v + 1 - m) = ap length added ∙ (length-append seen (replicate (v + 1 - m) false) ∙ ap (λ j. length seen + j) (length-replicate (v + 1 - m) false)) in
-    (set_all n now (slice_set now v true) v (omega arith) refl ∙ ap (λ z. slice_set z v true) (more_flags n (v + 1 - m) seen now added (omega arith)), omega (arith, long, length_slice_set now v true))
+    (set_all n now last v (omega arith) f ∙ ap (λ z. slice_set z v true) (more_flags n (v + 1 - m) seen now added (omega arith)), omega (arith, long, ap length f, length_slice_set now v true))

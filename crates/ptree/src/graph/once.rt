@@ -76,7 +76,8 @@ impl<N> Graph<N> {
     /// neighbours. So a cycle ends at the first repeated node, and there is one occurrence more than there are edges from nodes that
     /// are expanded. A start that is no node's number gives an occurrence of that number alone.
     ///
-    /// Time and memory grow with the occurrences, beside a flag for each node of the graph; the stack with the depth of the tree.
+    /// Time and memory grow with the occurrences, which take 16 bytes each, beside a flag for each node up to the last one that is expanded. The
+    /// stack grows with the levels of the tree, and a finite depth bounds it.
     ///
     /// # Errors
     ///

@@ -20,7 +20,8 @@ returns-clause-tree g c =
     let places = c.push_places.new.places.items in
     let made : List Bool → OccurrenceTree = λ seen. (grow (neighbors_of (edges_of graph)) c.args.depth seen c.args.start.0).occurrence in
     let flags : List Bool → List Bool = all_flags (length (weights_of graph)) in
-    let appended = subst (λ (xs : List Place). AppendsPlaces xs places (made (flags c.new-seen.result.items) ∷ [])) c.new-places.ensures.items c.in_ok-push_places.ensures.places in
+    let pushed : AppendsPlaces c.new-places.result.items places (made (flags c.new-seen.result.items) ∷ []) = search c.in_ok-push_places.ensures.places in
+    let appended = subst (λ (xs : List Place). AppendsPlaces xs places (made (flags c.new-seen.result.items) ∷ [])) c.new-places.ensures.items pushed in
     made_is_drawn graph c.args.start.0 c.args.depth (tree_at_front places)
     (tree_of_places places (made (flags c.new-seen.result.items)) appended ∙ ap made (ap flags c.new-seen.ensures.items ∙ no_flags graph))
 

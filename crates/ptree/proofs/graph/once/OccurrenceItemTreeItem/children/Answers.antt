@@ -1,7 +1,7 @@
-use Rattle.std.proofs.Common.{◌≡◌, [], ◌++◌, ◌<◌, ◌^◌, List, length, drop, suc, map, ap, sym, ◌∙◌, subst, arith}
+use Rattle.std.proofs.Common.{◌≡◌, [], ◌++◌, ◌<◌, ◌^◌, List, length, drop, map, ap, sym, ◌∙◌, subst, arith}
 use Rattle.std.proofs.lemmas.List.{append-nil}
 use Rattle.ptree.specs.Growing.{IsNextPlace, place_at}
-use Rattle.ptree.specs.Occurrence.{OccurrenceTree, occurrence_at, occurrence_own, occurrence_shape, occurrence_kids, size_below, trees_in, tree_at_front}
+use Rattle.ptree.specs.Occurrence.{OccurrenceTree, occurrence_at, occurrence_own, occurrence_shape, occurrence_kids, size_below, trees_in}
 use Rattle.ptree.specs.Shape.{Shape}
 use Rattle.ptree.specs.declared.graph.once.OccurrenceItem.{OccurrenceItem}
 use Rattle.ptree.specs.declared.graph.once.Place.{Place}
@@ -33,7 +33,7 @@ loop-below-preserved g c =
     c.loop-below.items.items c.push.new.self.items _ (map shape (trees_in c.loop-below.left (drop c.loop-below.index places.items))) (map shape (trees_in c.saturating_sub-left.result (drop c.saturating_add-index-in-Some.result places.items))) _
     c.in_ok-push.ensures.items
     (ap (map shape) (next_trees places.items c.loop-below.index c.loop-below.left c.in-Some.below c.saturating_sub-left.result c.saturating_add.result c.saturating_add-index-in-Some.result short next
-    c.saturating_sub-left.ensures c.saturating_add.ensures c.saturating_add-index-in-Some.ensures))
+    (omega (arith, c.saturating_sub-left.ensures)) (omega (arith, c.saturating_add.ensures)) (omega (arith, c.saturating_add-index-in-Some.ensures))))
     c.loop-below.invariant
 
 pub returns : goal.returns
