@@ -39,6 +39,7 @@ impl Label for String {
     ghost text = { string_bytes };
 
     /// Writes the text itself, painted. It does not allocate.
+    #[inline(always)]
     fn write_label<W: Sink>(
         &self,
         _alloc: Global,
@@ -58,6 +59,7 @@ impl Label for &str {
     ghost text = { λ s. s.now };
 
     /// Writes the text itself, painted. It does not allocate.
+    #[inline(always)]
     fn write_label<W: Sink>(
         &self,
         _alloc: Global,

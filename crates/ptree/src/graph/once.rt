@@ -254,6 +254,7 @@ impl<'a, N: Label> TreeItem for OccurrenceItem<'a, N> {
     }
 
     /// Makes an item of each occurrence below it.
+    #[inline(always)]
     fn children(&self, alloc: Global) -> Result<Children<'_, OccurrenceItem<'a, N>>, AllocError> {
         let expanded = self.expanded;
         let places = expanded.occurrence.places.as_slice();
