@@ -86,13 +86,18 @@ fn try_under(alloc: Global, tree: &StringItem) -> Result<(), Deviation> {
     )
 }
 
-// The calls that read a drawing.
+// The call that reads a drawing.
 fn try_read(alloc: Global, tree: &StringItem, drawing: &str) -> Result<(), Deviation> {
     let config = PrintConfig::default(alloc)?;
     match read_tree(alloc, drawing, &config) {
-        Ok(Some(read)) => expect(read == *tree, "a drawing is read as its tree")?,
-        _ => return Err(Deviation::of("`read_tree` reads a drawing")),
+        Ok(Some(read)) => expect(read == *tree, "a drawing is read as its tree"),
+        _ => Err(Deviation::of("`read_tree` reads a drawing")),
     }
+}
+
+// The call that reads a drawing or says which line is wrong.
+fn try_read_by_lines(alloc: Global, tree: &StringItem, drawing: &str) -> Result<(), Deviation> {
+    let config = PrintConfig::default(alloc)?;
     match read_tree_or_line(alloc, drawing, &config) {
         Ok(read) => expect(read == *tree, "a drawing is read as its tree"),
         Err(_) => Err(Deviation::of("`read_tree_or_line` reads a drawing")),
@@ -107,7 +112,8 @@ fn try_tree(alloc: Global, tree: &StringItem) -> Result<(), Deviation> {
     let drawing = try_returned(alloc, tree)?;
     try_written(alloc, tree)?;
     try_under(alloc, tree)?;
-    try_read(alloc, tree, drawing.as_str())
+    try_read(alloc, tree, drawing.as_str())?;
+    try_read_by_lines(alloc, tree, drawing.as_str())
 }
 
 // Trees of a long text, of many lines, of many children, and of many levels.
