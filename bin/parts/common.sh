@@ -87,3 +87,46 @@ expect_refusals() {
         report no "$2 refusals of memory in: $1, and not ${wanted:-any}; if that is right, change bin/refusals.txt"
     fi
 }
+
+# Makes stubs, programs that stand in for the built one: one that does nothing, one that never has memory, and one that draws but
+# knows no configuration.
+make_stubs() {
+    chmod a+rx "$scratch"
+    cp crates/ptree_cli/out/ptree_cli "$scratch/built"
+    printf '#!/bin/sh\n' >"$scratch/nothing"
+    printf '#!/bin/sh\necho no memory >&2\nexit 1\n' >"$scratch/no_memory"
+    {
+        echo '#!/bin/sh'
+        echo 'exec env -i LD_PRELOAD="$LD_PRELOAD" FAULT="$FAULT" FAULT_FILE="$FAULT_FILE" \'
+        echo "    $scratch/built \"\$@\""
+    } >"$scratch/no_configuration"
+    chmod +x "$scratch/nothing" "$scratch/no_memory" "$scratch/no_configuration"
+}
+
+# Runs a group of checks, and again with each of these stubs in the program's place. A stub must fail each check of the group.
+check_with_stubs() {
+    local group=$1 count=$((passed + failed)) stub
+    shift
+    "$group"
+    count=$((passed + failed - count))
+    for stub; do
+        STUB=$scratch/$stub "$top/bin/parts/${0##*/}" "$group" >"$scratch/said" 2>&1
+        if [ "$(tail -n 1 "$scratch/said")" = "0 passed, $count failed" ]; then
+            report ok "the stub of ${stub//_/ } fails each of these $count checks"
+        else
+            report no "the stub of ${stub//_/ } fails each of these $count checks"
+            grep -v '^FAILED' "$scratch/said"
+        fi
+    done
+}
+
+# If STUB names a program, runs the groups of checks that are named, with it, and ends.
+leave_to_stub() {
+    local group
+    [ -n "${STUB:-}" ] || return 0
+    for group; do
+        "$group"
+    done
+    finish
+    exit
+}

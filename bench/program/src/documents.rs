@@ -100,7 +100,7 @@ fn draw_in(
     Ok((out.into_inner(), drawing))
 }
 
-// Times the reading of a document alone, the drawing of its root, for which it is read and converted, and that of all of it.
+// Times the reading of a document alone, the drawing of its root, for which it is read and walked over, and that of all of it.
 fn time_steps(rt: &HostRuntime, text: &str, values: u64, times: u32) -> io::Result<()> {
     let alloc = rt.alloc();
     let (mut room, _) = draw_in(rt, text, u32::MAX, Vec::new(alloc))?;

@@ -1,14 +1,16 @@
-//! A graph, and the tree of its walks as items, drawn side by side.
+//! Graphs, drawn as walks and with each node expanded once, beside the same trees as items.
 
 use crate::failed;
-use ptree::graph::{Graph, NodeIndex, write_graph_with};
+use ptree::graph::{Graph, NodeIndex, REPEATED_MARK, write_graph_once_with, write_graph_with};
+use ptree::item::StringItem;
 use ptree::output::write_tree_with;
 use ptree::print_config::PrintConfig;
 use ptree::read::{pieces_readable, read_tree};
 use ptree::style::Counted;
 use std::alloc::{AllocError, Global};
+use std::io::{self, BufWriter, Write};
+use std::str;
 use std::time::Instant;
-use std::{io, str};
 
 // How many edges go out from each node but the first.
 const EDGES: u32 = 5;
@@ -94,4 +96,190 @@ pub fn draw_graph(rt: &HostRuntime, neighbors: &str, nodes: u32, times: u32) -> 
         println!(rt; "walks drawn in {walks} ns, items in {items} ns")?;
     }
     Ok(())
+}
+
+// How many nodes lie in a block of the graph that is drawn with each node expanded once. All edges but those of the first node stay in
+// their block.
+const BLOCK: u32 = 64;
+
+// The number that node `i` gets: its own, or one far from those of the nodes that are drawn beside it.
+fn place(neighbors: &str, i: u32, nodes: u32) -> NodeIndex {
+    let number = match neighbors {
+        "far" => u64::from(i) * 7919 % u64::from(nodes.max(1)),
+        _ => u64::from(i),
+    };
+    NodeIndex(number as usize)
+}
+
+// The edges of blocks: from the first node to the first of each block, and from each node to the next five of its block. Where a block
+// ends, they go back to its first node.
+fn block_edges(
+    alloc: Global,
+    neighbors: &str,
+    nodes: u32,
+) -> Result<Vec<(NodeIndex, NodeIndex)>, AllocError> {
+    let mut edges = Vec::new(alloc);
+    for i in 0..nodes {
+        let first = i - i % BLOCK;
+        if i == first && i > 0 {
+            edges.push((place(neighbors, 0, nodes), place(neighbors, i, nodes)))?;
+        }
+        for k in 0..EDGES {
+            let within = i % BLOCK + k + 1;
+            let target = if within < BLOCK && first.saturating_add(within) < nodes {
+                first.saturating_add(within)
+            } else {
+                first
+            };
+            edges.push((place(neighbors, i, nodes), place(neighbors, target, nodes)))?;
+        }
+    }
+    Ok(edges)
+}
+
+// The edges of layers: from the first node to the two of the first layer, and from each node of a layer to both of the next one.
+fn layer_edges(alloc: Global, nodes: u32) -> Result<Vec<(NodeIndex, NodeIndex)>, AllocError> {
+    let mut edges = Vec::new(alloc);
+    for i in 0..nodes {
+        let next = if i % 2 == 0 { i.saturating_add(1) } else { i.saturating_add(2) };
+        for target in [next, next.saturating_add(1)] {
+            if target < nodes {
+                edges.push((NodeIndex(i as usize), NodeIndex(target as usize)))?;
+            }
+        }
+    }
+    Ok(edges)
+}
+
+// The edges from the first node to all others.
+fn wide_edges(alloc: Global, nodes: u32) -> Result<Vec<(NodeIndex, NodeIndex)>, AllocError> {
+    let mut edges = Vec::new(alloc);
+    for i in 1..nodes {
+        edges.push((NodeIndex(0), NodeIndex(i as usize)))?;
+    }
+    Ok(edges)
+}
+
+// The edges of a chain.
+fn chain_edges(alloc: Global, nodes: u32) -> Result<Vec<(NodeIndex, NodeIndex)>, AllocError> {
+    let mut edges = Vec::new(alloc);
+    for i in 1..nodes {
+        edges.push((NodeIndex(i as usize - 1), NodeIndex(i as usize)))?;
+    }
+    Ok(edges)
+}
+
+// A graph that is drawn with each node expanded once: of blocks whose nodes are `near` one another or `far` apart, of `layers`,
+// `wide`, or a `chain`.
+fn once_graph(alloc: Global, shape: &str, nodes: u32) -> Result<Graph<String>, AllocError> {
+    let mut graph = graph(alloc, nodes)?;
+    let edges = match shape {
+        "layers" => layer_edges(alloc, nodes)?,
+        "wide" => wide_edges(alloc, nodes)?,
+        "chain" => chain_edges(alloc, nodes)?,
+        _ => block_edges(alloc, shape, nodes)?,
+    };
+    match graph.extend_with_edges(&edges) {
+        Ok(()) => Ok(graph),
+        Err(_) => Err(AllocError),
+    }
+}
+
+// The tree that is drawn of a graph with each node expanded once.
+fn once_tree(
+    alloc: Global,
+    graph: &Graph<String>,
+    config: &PrintConfig,
+) -> io::Result<Option<StringItem>> {
+    let mut out = Counted::new(Vec::new(alloc));
+    write_graph_once_with(
+        alloc,
+        graph,
+        NodeIndex(0),
+        REPEATED_MARK,
+        &mut out,
+        config,
+    )
+    .map_err(failed)?;
+    let drawn = out.into_inner();
+    let Ok(text) = str::from_utf8(&drawn) else {
+        return Ok(None);
+    };
+    if !pieces_readable(alloc, config)? {
+        return Ok(None);
+    }
+    Ok(read_tree(alloc, text, config)?)
+}
+
+/// Times the drawing of a graph with each node expanded once, and that of the same tree as items.
+pub fn time_once(rt: &HostRuntime, shape: &str, nodes: u32, times: u32) -> io::Result<()> {
+    let alloc = rt.alloc();
+    let config = PrintConfig::default(alloc)?;
+    let graph = once_graph(alloc, shape, nodes)?;
+    let Some(tree) = once_tree(alloc, &graph, &config)? else {
+        return Ok(());
+    };
+    let places = graph.expanded_once(NodeIndex(0), u32::MAX)?.places.len();
+    println!(rt; "{places} places")?;
+    let mut drawn = Vec::new(alloc);
+    for _ in 0..times {
+        drawn.clear();
+        let mut out = Counted::new(drawn);
+        let start = Instant::now(rt)?;
+        write_graph_once_with(
+            alloc,
+            &graph,
+            NodeIndex(0),
+            REPEATED_MARK,
+            &mut out,
+            &config,
+        )
+        .map_err(failed)?;
+        let once = start.elapsed(rt)?.as_nanos();
+        drawn = out.into_inner();
+        drawn.clear();
+        let mut out = Counted::new(drawn);
+        let start = Instant::now(rt)?;
+        write_tree_with(alloc, &tree, &mut out, &config).map_err(failed)?;
+        let items = start.elapsed(rt)?.as_nanos();
+        drawn = out.into_inner();
+        let start = Instant::now(rt)?;
+        let made = graph.expanded_once(NodeIndex(0), u32::MAX)?;
+        let making = start.elapsed(rt)?.as_nanos();
+        let made = made.places.len();
+        println!(rt; "places drawn in {once} ns, items in {items} ns, {made} places made in {making} ns")?;
+    }
+    Ok(())
+}
+
+/// Only makes the places, draws them to standard output, or draws the same tree as items: `once-make`, `once-draw` and `once-items`.
+pub fn count_once(rt: &HostRuntime, task: &str, shape: &str, nodes: u32, times: u32) -> io::Result<()> {
+    let alloc = rt.alloc();
+    let config = PrintConfig::default(alloc)?;
+    let graph = once_graph(alloc, shape, nodes)?;
+    let mut out = Counted::new(BufWriter::new(alloc, io::writer(rt))?);
+    if task == "once-items" {
+        if let Some(tree) = once_tree(alloc, &graph, &config)? {
+            for _ in 0..times {
+                write_tree_with(alloc, &tree, &mut out, &config).map_err(failed)?;
+            }
+        }
+        return out.into_inner().flush();
+    }
+    for _ in 0..times {
+        if task == "once-make" {
+            graph.expanded_once(NodeIndex(0), u32::MAX)?;
+        } else {
+            write_graph_once_with(
+                alloc,
+                &graph,
+                NodeIndex(0),
+                REPEATED_MARK,
+                &mut out,
+                &config,
+            )
+            .map_err(failed)?;
+        }
+    }
+    out.into_inner().flush()
 }

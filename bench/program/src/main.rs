@@ -8,7 +8,7 @@ mod shapes;
 
 use documents::{draw_json, load_all};
 use gallery::draw_gallery;
-use graphs::draw_graph;
+use graphs::{count_once, draw_graph, time_once};
 use ptree::TreeBuilder;
 use ptree::item::StringItem;
 use ptree::output::write_tree_with;
@@ -169,6 +169,12 @@ fn main(rt: HostRuntime) -> io::Result<()> {
     }
     if task.name.as_str() == "graph" {
         return draw_graph(&rt, &task.shape, task.items, task.times);
+    }
+    if task.name.as_str() == "once" {
+        return time_once(&rt, &task.shape, task.items, task.times);
+    }
+    if task.name.starts_with("once-") {
+        return count_once(&rt, &task.name, &task.shape, task.items, task.times);
     }
     let mut builder = shaped(rt.alloc(), &task.shape, task.items)?;
     if task.name.as_str() == "build" {

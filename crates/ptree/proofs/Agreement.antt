@@ -5,7 +5,7 @@ use Rattle.std.proofs.lemmas.Bool.{lt-ltb}
 use Rattle.std.proofs.lemmas.List.{append-nil}
 use Rattle.std.proofs.lemmas.List.Elements.{All-nil, All-cons}
 use Rattle.ptree.specs.declared.graph.Graph.{Graph}
-use Rattle.ptree.specs.Address.{Address, at}
+use Rattle.ptree.specs.Address.{Address}
 use Rattle.ptree.specs.Drawing.{Look, entry_from, IsDrawing}
 use Rattle.ptree.specs.Entries.{entry_of, kid_entries, entries_below, drawn_entries}
 use Rattle.ptree.specs.Graph.{weights_of, edges_of, neighbors_of, node_own, node_shape}

@@ -86,6 +86,7 @@ place_of r = vptr r.ref_ptr.0 r.ref_ptr.1
 abbrev pub Fits : RattleType → Val → Type 0
 Fits R v = T (has_ty (layout R) v) × WT v
 
+-- values of a list of one type are one value of that type
 alone : (τ : Ty) (vs : List Val) → Typed (τ ∷ []) vs → (v : Val) × ((vs ≡ v ∷ []) × (T (has_ty τ v) × WT v))
 alone τ [] t = absurd t
 alone τ (v ∷ []) t = (v, (refl, t.0))

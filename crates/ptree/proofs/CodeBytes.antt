@@ -16,15 +16,19 @@ IsCodeByte b = (b < 128) × (10 < b)
 abbrev pub AreCodeBytes : List ℕ → Type 0
 AreCodeBytes bs = All IsCodeByte bs
 
+-- the empty list has only bytes of codes
 empty : AreCodeBytes []
 empty = All-nil IsCodeByte
 
+-- so has one with a byte of codes in front
 one_more : (b : ℕ) (bs : List ℕ) → IsCodeByte b → AreCodeBytes bs → AreCodeBytes (b ∷ bs)
 one_more b bs h k = All-cons IsCodeByte b bs h k
 
+-- so have two such lists, as one
 both : (xs ys : List ℕ) → AreCodeBytes xs → AreCodeBytes ys → AreCodeBytes (xs ++ ys)
 both xs ys h k = All-append IsCodeByte xs ys h k
 
+-- a decimal digit is a byte of codes
 digit_is : (d : ℕ) (b : Bool) → nat_lt d 10 ≡ b → d < 10 → IsCodeByte (if b then 48 + d else 87 + d)
 digit_is d true e h = (omega arith, omega arith)
 digit_is d false e h = (omega arith, omega arith)
@@ -39,21 +43,25 @@ digits_are (suc k) n rest h =
       | false ↦ digits_are k (n / 10) (digit_glyph false (n % 10) ∷ rest) digit
     ]
 
+-- the digits of a number are bytes of codes
 decimal_is : (n : ℕ) → AreCodeBytes (decimal n)
 unfolding digits
 decimal_is n = digits_are 64 n [] empty
 
+-- so are parameters, with the bytes between them
 parameters_are : (ns : List ℕ) → AreCodeBytes (join_with_byte 59 (map decimal ns))
 parameters_are [] = empty
 parameters_are (n ∷ []) = decimal_is n
 parameters_are (n ∷ m ∷ ns) = both (decimal n) _ (decimal_is n) (one_more 59 _ (omega arith, omega arith) (parameters_are (m ∷ ns)))
 
+-- so is a code
 code_is : (ns : List ℕ) → AreCodeBytes (code ns)
 code_is ns =
     let last = one_more 109 [] (omega arith, omega arith) empty in
     let all = both (join_with_byte 59 (map decimal ns)) (109 ∷ []) (parameters_are ns) last in
     one_more 27 (91 ∷ (join_with_byte 59 (map decimal ns) ++ 109 ∷ [])) (omega arith, omega arith) (one_more 91 (join_with_byte 59 (map decimal ns) ++ 109 ∷ []) (omega arith, omega arith) all)
 
+-- so are codes
 codes_are : (pss : List (List ℕ)) → AreCodeBytes (joined_codes (map code pss))
 codes_are [] = empty
 codes_are (ps ∷ pss) = both (code ps) _ (code_is ps) (codes_are pss)

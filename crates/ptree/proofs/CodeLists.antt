@@ -13,6 +13,7 @@ use Rattle.ptree.specs.declared.colors.Side.TheVariants.{Foreground, Background}
 use Rattle.ptree.specs.Color.{ColorValue, color_parameters}
 use Rattle.ptree.specs.Style.{StyleValue, code, flags, flag_codes, side_codes, style_codes, front_codes, reset_after, back_codes}
 
+-- the codes of two lists of flags are those of the first and those of the second
 flag_codes-append : (xs ys : List (Bool × ℕ)) → joined_codes (flag_codes (xs ++ ys)) ≡ joined_codes (flag_codes xs) ++ joined_codes (flag_codes ys)
 flag_codes-append xs ys =
     ap (λ fs. joined_codes (map (λ flag. code (flag.1 ∷ [])) fs)) (filter-append (λ flag. flag.0) xs ys)
@@ -52,10 +53,12 @@ front_codes_are style =
     flat_map-append (λ c. c) (flag_codes (flags style) ++ side_codes style.foreground Foreground) (side_codes style.background Background)
     ∙ ap (λ bs. bs ++ joined_codes (side_codes style.background Background)) (flat_map-append (λ c. c) (flag_codes (flags style)) (side_codes style.foreground Foreground))
 
+-- the code of the parameters that there may be, as a list
 one_code : (o : Option (List ℕ)) → option_to_list (option_map code o) ≡ map code (option_to_list o)
 one_code None = refl
 one_code (Some ns) = refl
 
+-- the codes of a side are the code of the colour's parameters, if it has some
 side_code : (color : Option ColorValue) (side : Side) → side_codes color side ≡ map code (option_to_list (option_and_then (λ c. color_parameters c side) color))
 side_code None side = refl
 side_code (Some color) side = one_code (color_parameters color side)
@@ -75,6 +78,7 @@ parameters_of style =
           ∙ ap (λ cs. cs ++ map code back) (sym (map-append code one front)) ∙ sym (map-append code (one ++ front) back),
     )
 
+-- the reset is the same after the codes as one text and as a list
 reset_is : (pss : List (List ℕ)) → reset_after (joined_codes (map code pss)) ≡ reset_after (map code pss)
 reset_is [] = refl
 reset_is (ps ∷ pss) = refl

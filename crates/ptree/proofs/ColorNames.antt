@@ -26,6 +26,7 @@ pub option_map-option_map : {X Y Z : Type 0} (f : Y → Z) (h : X → Y) (o : Op
 option_map-option_map f h None = refl
 option_map-option_map f h (Some x) = refl
 
+-- a function of a choice is the choice of the function
 option_map-cond : {X Y : Type 0} (f : X → Y) (b : Bool) (x : X) (o : Option X) → option_map f (cond b (Some x) o) ≡ cond b (Some (f x)) (option_map f o)
 option_map-cond f true x o = refl
 option_map-cond f false x o = refl
@@ -49,18 +50,22 @@ word_is_of_eight : (o : Option ℕ) → IfSome o (λ k. k < 8) → IfSome (optio
 word_is_of_eight None h = tt
 word_is_of_eight (Some k) h = h
 
+-- the place of a found element is within the list
 position_within : {X : Type 0} (p : X → Bool) (xs : List X) (d : X) (o : Option ℕ) → position p xs ≡ o → IfSome o (λ k. k < length xs)
 position_within p xs d None e = tt
 position_within p xs d (Some k) e = (position-Some p xs k d e).0
 
+-- if two options meet the condition, so does the first that has a value
 either_is_of_eight : (a b : Option Tone) → IfSome a IsOfEight → IfSome b IsOfEight → IfSome (option_or a b) IsOfEight
 either_is_of_eight None b h k = k
 either_is_of_eight (Some t) b h k = h
 
+-- a colour of three bytes meets the condition, whatever the bytes
 hex_is_of_eight : (b : Bool) (r g bl : ℕ) → IfSome (if b then Some (Direct r g bl) else None) IsOfEight
 hex_is_of_eight true r g bl = tt
 hex_is_of_eight false r g bl = tt
 
+-- so does a colour of the table of names
 found_is_of_eight : (o : Option NamedColor) → IfSome (option_map (λ c. Direct c.red c.green c.blue) o) IsOfEight
 found_is_of_eight None = tt
 found_is_of_eight (Some c) = tt

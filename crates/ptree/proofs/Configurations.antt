@@ -33,27 +33,32 @@ without_file variables = record { variables = variables; document = None }
 abbrev HasNone : Variables → Type 0
 HasNone variables = (field : Field) → variable (without_file variables) field ≡ None
 
+-- without a file there is no table
 table_none : (variables : Variables) (key : Option (List ℕ)) → table_at (without_file variables) key ≡ None
 unfolding table_at
 table_none variables None = refl
 table_none variables (Some key) = refl
 
+-- without a file there is no value at a field's key
 node_none : (variables : Variables) (field : Field) → node (without_file variables) field ≡ None
 unfolding node
 node_none variables field = ap (option_and_then (get (field_key field))) (table_none variables (table_key field))
 
+-- without a file and a variable a look-up finds nothing
 nothing_found : {A : Type 0} (by_text : List ℕ → Option A) (by_node : Node → Option A) (variables : Variables) → HasNone variables → (field : Field)
     → look_up by_text by_node (without_file variables) field ≡ None
 nothing_found by_text by_node variables none field =
     ap (λ text. option_or (option_and_then by_text text) (option_and_then by_node (node (without_file variables) field))) (none field)
     ∙ ap (option_and_then by_node) (node_none variables field)
 
+-- without variables no field of a part has one
 no_variable : (variables : Variables) → HasNone variables → (part : Part) → has_variable (without_file variables) part ≡ false
 no_variable variables none part = all all_style_fields where
   all : (fields : List StyleField) → list_any (λ f. is_some (variable (without_file variables) (Paint part f))) fields ≡ false
   all [] = refl
   all (f ∷ fs) = ap (λ text. is_some text || list_any (λ f. is_some (variable (without_file variables) (Paint part f))) fs) (none (Paint part f)) ∙ all fs
 
+-- a style whose fields are all missing is plain, except its dimming
 no_style : (foreground background : Option ColorValue) (bold dimmed italic underline blink reverse hidden strikethrough : Option Bool) (dimming : Bool)
     → foreground ≡ None → background ≡ None → bold ≡ None → dimmed ≡ None → italic ≡ None → underline ≡ None → blink ≡ None → reverse ≡ None → hidden ≡ None → strikethrough ≡ None
     → (let style : StyleValue = record {
@@ -79,16 +84,19 @@ style_none variables none part =
     no_style _ _ _ _ _ _ _ _ _ _ (is_dimmed (without_file variables) part)
     (color Foreground) (color Background) (flag Bold) (flag Dimmed) (flag Italic) (flag Underline) (flag Blink) (flag Reverse) (flag Hidden) (flag Strikethrough)
 
+-- without a file and variables branches are dimmed
 branches_dimmed : (variables : Variables) → HasNone variables → is_dimmed (without_file variables) Branch ≡ true
 branches_dimmed variables none =
     ap (λ table. is_none table && not (has_variable (without_file variables) Branch)) (table_none variables (Some (part_key Branch)))
     ∙ ap not (no_variable variables none Branch)
 
+-- without a file and variables the characters are the regular set
 characters_none : (variables : Variables) → HasNone variables → characters (without_file variables) ≡ utf
 unfolding characters
 characters_none variables none =
     cc (nothing_found (set_spelled AnyCase) set_node variables none Characters, none DownAndRight, none Down, none TurnRight, none Right, none Empty)
 
+-- a configuration whose fields are all missing is the default
 no_fields : (depth indent padding : Option ℕ) (styled : Option StyleWhen) (set : CharacterTexts) (branch leaf : StyleValue) (continued : Option (List ℕ))
     → depth ≡ None → indent ≡ None → padding ≡ None → styled ≡ None → set ≡ utf → branch ≡ default_configuration.branch → leaf ≡ plain_value → continued ≡ None
     → (let value : Configuration = record {
@@ -103,6 +111,7 @@ no_fields : (depth indent padding : Option ℕ) (styled : Option StyleWhen) (set
     } in value ≡ default_configuration)
 no_fields depth indent padding styled set branch leaf continued a b c d e f g h = rw a (rw b (rw c (rw d (rw e (rw f (rw g (rw h refl)))))))
 
+-- without a file and variables the configuration is the default
 configuration_none : (variables : Variables) → HasNone variables → configuration (without_file variables) ≡ default_configuration
 unfolding configuration
 configuration_none variables none =
@@ -112,15 +121,18 @@ configuration_none variables none =
     (style_none variables none Branch ∙ ap (λ b. record plain_value { dimmed = b }) (branches_dimmed variables none)) (style_none variables none Leaf)
     (nothing_found Some as_text variables none Continued)
 
+-- without a file and variables no field has a fault
 no_fault : (variables : Variables) → HasNone variables → (field : Field) → field_fault (without_file variables) field ≡ None
 no_fault variables none field =
     ap (λ text. option_or (fault_unless (text_fits (kind_of field)) (fault.Variable field) text) (fault_unless (node_fits (kind_of field)) (fault.Key field) (node (without_file variables) field))) (none field)
     ∙ ap (fault_unless (node_fits (kind_of field)) (fault.Key field)) (node_none variables field)
 
+-- nor has any field of a list of them
 none_of : (variables : Variables) → HasNone variables → (fields : List Field) → first_of (map (field_fault (without_file variables)) fields) ≡ None
 none_of variables none [] = refl
 none_of variables none (f ∷ fs) = ap (λ o. option_or o (first_of (map (field_fault (without_file variables)) fs))) (no_fault variables none f) ∙ none_of variables none fs
 
+-- so there is no fault
 fault_none : (variables : Variables) → HasNone variables → fault_in None (without_file variables) ≡ None
 unfolding fault_in
 fault_none variables none =

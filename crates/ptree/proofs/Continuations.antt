@@ -15,6 +15,7 @@ use Rattle.ptree.proofs.Marks.{items_never}
 use Rattle.ptree.proofs.SpelledForms.{Shows, Low, lines_by, are_spelled_by, within_by, shows_form}
 use Rattle.ptree.proofs.LineTrees.{tree_of_lines}
 
+-- the text of two lists of items is that of the first and that of the second
 spelled_text-append : (k : Look) (a b : List SpelledItem) → spelled_text k (a ++ b) ≡ spelled_text k a ++ spelled_text k b
 spelled_text-append k [] b = refl
 spelled_text-append k (i ∷ a) b = ap (λ z. text_entry k i.pieces i.passing i.text ++ z) (spelled_text-append k a b) ∙ sym (append_assoc (text_entry k i.pieces i.passing i.text) (spelled_text k a) (spelled_text k b))

@@ -19,12 +19,14 @@ trees_of_cut : (d : ℕ) (f : Forest) → trees (cut_forest (suc d) f) ≡ map (
 trees_of_cut d none = refl
 trees_of_cut d (item t c r) = ap (λ ts. cut_tree d (tree t c) ∷ ts) (trees_of_cut d r)
 
+-- the children of a cut tree are its children, cut one level lower
 kids_of_cut_tree : (d : ℕ) (t : Tree) → kids (shape_of_tree (cut_tree (suc d) t)) ≡ map (λ s. shape_of_tree (cut_tree d s)) (tree_kids t)
 kids_of_cut_tree d t =
     sym (kids_of_unfold tree_own tree_kids (cut_tree (suc d) t))
     ∙ ap (map shape_of_tree) (trees_of_cut d t.children)
     ∙ sym (map_twice (cut_tree d) shape_of_tree (tree_kids t))
 
+-- the entries below a cut tree are those below the tree, down to the cut
 entries_of_cut_tree : (look : Look) (d e : ℕ) → d ≤ e → (front : List ℕ) (t : Tree)
     → entries_below look e front (shape_of_tree (cut_tree d t)) ≡ entries_below look d front (shape_of_tree t)
 entries_of_cut_tree look zero zero h front t = refl

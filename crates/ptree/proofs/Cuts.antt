@@ -26,6 +26,7 @@ behind_front (b ∷ a) x (c ∷ g) e h is =
 abbrev pub Ends : List ℕ → Type 0
 Ends x = (g : List ℕ) × (x ≡ g ++ 10 ∷ [])
 
+-- the empty text holds no byte
 nothing_there : (g e : List ℕ) (b : ℕ) → [] ≡ g ++ b ∷ e → ⊥
 nothing_there g e b is = let long = ap length is in omega (arith, simp length-append at long)
 
@@ -53,6 +54,7 @@ no_more a b (x ∷ c) (inr (g, is)) e h =
 
 -- ## Items
 
+-- passing pieces hold no line feed, if the pieces are readable
 no_feed_passing : (p : Pieces) → IsReadable p → (flags : List Bool) → HasNoLineFeed (passing_all p flags)
 no_feed_passing p h [] = All-nil (λ c. c ≢ 10)
 no_feed_passing p h (b ∷ flags) = All-append (λ c. c ≢ 10) (passing_piece p b) (passing_all p flags) (h.no_line_feed b).1 (no_feed_passing p h flags)

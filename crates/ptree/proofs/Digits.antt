@@ -6,6 +6,7 @@ use Rattle.std.specs.Str.{all_ascii_digits}
 use Rattle.std.specs.Str.Parse.{AllDigits, IsNumeral, digits_value, without_leading_plus}
 use Rattle.ptree.specs.Words.{number_text}
 
+-- a digit is less than ten
 digit_below : (c : ℕ) → is_ascii_digit c ≡ true → digit_value c < 10
 digit_below c h = grind (arith, common_steps)
 
@@ -19,6 +20,7 @@ pub no_plus : (s : List ℕ) → all_ascii_digits s ≡ true → without_leading
 no_plus [] h = refl
 no_plus (c ∷ cs) h = grind (arith, common_steps)
 
+-- the number of digits, by the test whether it is small enough
 at_test : (s : List ℕ) (greatest : ℕ) (b : Bool) → nat_le (digits_value 10 s) greatest ≡ b → 0 < length s → all_ascii_digits s ≡ true
     → (digits_value 10 s < 2 ^ 64 → ⊥) → greatest < 2 ^ 64 → None ≡ number_text greatest s
 at_test s greatest false e long digits wide fits = search (rules, arith)

@@ -6,19 +6,23 @@ use Rattle.std.proofs.lemmas.Bool.Decides.{eqb_tells}
 use Rattle.std.proofs.lemmas.List.{map-append, reverse-append, length-reverse, length-take}
 use Rattle.std.proofs.lemmas.List.Elements.{All-head, All-tail}
 use Rattle.std.proofs.lemmas.List.Sorted.{All-permutation, IsPermutation-reverse}
-use Rattle.std.proofs.lemmas.Option.{slice_get_within, get_or_from_slice_get}
+use Rattle.std.proofs.lemmas.Option.{slice_get_within, slice_get-get_or, get_or_from_slice_get}
 use Rattle.ptree.specs.Graph.{neighbors_of}
 use Rattle.ptree.specs.GraphLinks.{first_from, newest_from}
 
+-- the test of equal numbers is true
 eqb-same : (a b : ℕ) → a ≡ b → eqb a b ≡ true
 eqb-same a b h = elim (eqb_tells a b) [ inl t ↦ t.0 | inr t ↦ absurd (t.1 h) ]
 
+-- the test of other numbers is false
 eqb-other : (a b : ℕ) → a ≢ b → eqb a b ≡ false
 eqb-other a b h = elim (eqb_tells a b) [ inl t ↦ absurd (h t.1) | inr t ↦ t.0 ]
 
+-- what is pushed comes first in the reversed list
 reverse-push : {X : Type 0} (xs : List X) (x : X) → reverse (xs ++ x ∷ []) ≡ x ∷ reverse xs
 reverse-push xs x = reverse-append xs (x ∷ [])
 
+-- the number of the newest edge is at most the number of edges
 first_from-le-length : (edges : List (ℕ × ℕ)) (v : ℕ) → first_from edges v ≤ length edges
 first_from-le-length [] v = omega arith
 first_from-le-length (e ∷ older) v =
@@ -31,6 +35,7 @@ first_from-le-length (e ∷ older) v =
 pub newest_from-le-length : (edges : List (ℕ × ℕ)) (v : ℕ) → newest_from edges v ≤ length edges
 newest_from-le-length edges v = omega (arith, first_from-le-length (reverse edges) v, length-reverse edges)
 
+-- if no edge is from a node, its newest edge is 0
 first_from-none : (edges : List (ℕ × ℕ)) (v : ℕ) → All (λ e. e.0 ≢ v) edges → first_from edges v ≡ 0
 first_from-none [] v h = refl
 first_from-none (e ∷ older) v h =
@@ -55,19 +60,23 @@ newest_from-push_other edges e v h =
     ap (λ r. first_from r v) (reverse-push edges e)
     ∙ ap (λ b. cond b (suc (length (reverse edges))) (first_from (reverse edges) v)) (eqb-other e.0 v h)
 
+-- the edges from a node
 abbrev from : ℕ → List (ℕ × ℕ) → List (ℕ × ℕ)
 from v edges = filter (λ e. eqb e.0 v) edges
 
+-- an edge from the node adds its target in front
 neighbors_of-push_same : (edges : List (ℕ × ℕ)) (e : ℕ × ℕ) (v : ℕ) → e.0 ≡ v → neighbors_of (edges ++ e ∷ []) v ≡ e.1 ∷ neighbors_of edges v
 neighbors_of-push_same edges e v h =
     ap (λ r. map (λ x. x.1) (from v r)) (reverse-push edges e)
     ∙ ap (λ b. map (λ x. x.1) (cond b (e ∷ from v (reverse edges)) (from v (reverse edges)))) (eqb-same e.0 v h)
 
+-- an edge from another node adds none
 neighbors_of-push_other : (edges : List (ℕ × ℕ)) (e : ℕ × ℕ) (v : ℕ) → e.0 ≢ v → neighbors_of (edges ++ e ∷ []) v ≡ neighbors_of edges v
 neighbors_of-push_other edges e v h =
     ap (λ r. map (λ x. x.1) (from v r)) (reverse-push edges e)
     ∙ ap (λ b. map (λ x. x.1) (cond b (e ∷ from v (reverse edges)) (from v (reverse edges)))) (eqb-other e.0 v h)
 
+-- the first n elements are n, if there are so many
 length-take-within : {X : Type 0} (n : ℕ) (xs : List X) → n ≤ length xs → length (take n xs) ≡ n
 length-take-within n xs h = omega (arith, length-take n xs)
 
@@ -115,6 +124,15 @@ pub newest_starts : (edges : List (ℕ × ℕ)) (v m : ℕ) → m ≡ newest_fro
 newest_starts edges v m h =
     subst (λ (l : List (ℕ × ℕ)). (neighbors_of (take m edges) v ≡ neighbors_of l v) × (m ≡ newest_from (take m edges) v)) (take-length edges)
     (newest_settles edges v (length edges) m (omega arith) (h ∙ ap (λ l. newest_from l v) (sym (take-length edges))))
+
+-- a node with a newest edge has neighbours
+pub newest_has : (edges : List (ℕ × ℕ)) (v m : ℕ) → m ≡ newest_from edges v → m ≢ 0 → neighbors_of edges v ≢ []
+newest_has edges v zero h k = λ e. k refl
+newest_has edges v (suc i) h k =
+    let start = newest_starts edges v (suc i) h in
+    let e = get_or edges i (0, 0) in
+    let split = newest_splits edges v i e (slice_get-get_or edges i (0, 0) (omega (arith, newest_within edges v (suc i) start.1))) start.1 in
+    λ none. let clash : e.1 ∷ neighbors_of (take i edges) v ≡ [] = sym split.1 ∙ (start.0 ∙ none) in cc
 
 -- one more target was returned, and the rest is the same
 pub given_more : {X Y : Type 0} (f : X → Y) (items new : List X) (x : X) (before rest all : List Y) → new ≡ items ++ x ∷ [] → before ≡ f x ∷ rest → map f items ++ before ≡ all → map f new ++ rest ≡ all

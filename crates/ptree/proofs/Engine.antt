@@ -23,6 +23,7 @@ use Rattle.ptree.proofs.Written.{appends_nothing, appends_entries, entries_then,
 pub nothing_yet : (a : Option (List ℕ)) (x : List ℕ) → AppendsPart a a x
 nothing_yet a x = ([], (x, refl), appends_nothing a)
 
+-- the entries below an item, with some levels left, are those of its children with one level less
 entries_down : (look : Look) (left : ℕ) (front : List ℕ) (x : Shape) → (left ≡ 0 → ⊥) → entries_below look left front x ≡ kid_entries look (entries_below look (left - 1)) front (kids x)
 entries_down look zero front x h = absurd (h refl)
 entries_down look (suc n) front x h =
@@ -81,6 +82,7 @@ begun_err shape look below front all rest others x last a b c e is end h k =
     subst (λ (es : List (List ℕ)). AppendsEntries a c e es) (ap (λ es. h.0 ++ es) (next_is shape look below front rest others x last is end) ∙ h.1)
     (entries_then a b c e h.0 (item ++ behind) h.2 (entries_more b c e item behind k))
 
+-- a list of length 0 is empty
 empty_list : {C : Type 0} (ks : List C) (b : Bool) → b ≡ true → b ≡ eqb (length ks) 0 → ks ≡ []
 empty_list [] b h k = refl
 empty_list (x ∷ xs) b h k =

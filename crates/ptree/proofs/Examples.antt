@@ -50,10 +50,12 @@ open_end : concat (drawn_entries plain_look 9 (shape_of_tree (tree (114 ∷ []) 
 unfolding style_codes
 open_end = refl
 
+-- the code of dimmed text
 dimmed_front : front_codes (record plain_value { dimmed = true }) ≡ 27 ∷ 91 ∷ 50 ∷ 109 ∷ []
 unfolding style_codes
 dimmed_front = ap (λ d. (27 ∷ 91 ∷ d ++ 109 ∷ []) ++ []) (decimal_digit 2 (omega arith))
 
+-- the code of bold text
 bold_front : front_codes (record plain_value { bold = true }) ≡ 27 ∷ 91 ∷ 49 ∷ 109 ∷ []
 unfolding style_codes
 bold_front = ap (λ d. (27 ∷ 91 ∷ d ++ 109 ∷ []) ++ []) (decimal_digit 1 (omega arith))

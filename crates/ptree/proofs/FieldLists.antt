@@ -16,6 +16,7 @@ use Rattle.ptree.specs.Fields.{all_fields, all_style_fields, HasEach}
 at : {A : Type 0} (list : List A) (value : A) (place : ℕ) → ltb place (length list) ≡ true → slice_index_or list place value ≡ value → Contains list value
 at list value place within found = (place, ltb-true place (length list) within, found)
 
+-- the mapped list contains what a member is mapped to
 Contains-map : {A B : Type 0} (f : A → B) (list : List A) (value : A) → Contains list value → Contains (map f list) (f value)
 Contains-map f list value (place, within, found) =
     (place, rw (length-map list f) within, get_or-map f list place value (f value) within ∙ ap f found)
@@ -44,6 +45,7 @@ in_part part field = Contains-map (Paint part) all_style_fields field (each_styl
 abbrev before : List Field
 before = Depth ∷ Indent ∷ Padding ∷ Styled ∷ Characters ∷ DownAndRight ∷ Down ∷ TurnRight ∷ Right ∷ Empty ∷ []
 
+-- the fields from the leaves' style on
 abbrev from_leaf : List Field
 from_leaf = painted Leaf ++ Continued ∷ []
 

@@ -73,9 +73,11 @@ found_same p fs count n text shown shown' rest path h e none =
       ];
     }
 
+-- the element at the place that was set
 flag_set : (fs : List Flags) (i : ℕ) (x : Flags) → i < length fs → get_or (set fs i x) i any_flags ≡ x
 flag_set fs i x low = rw get_or-set_same refl
 
+-- the element at any other place
 flag_other : (fs : List Flags) (i m : ℕ) (x : Flags) → m ≢ i → get_or (set fs i x) m any_flags ≡ get_or fs m any_flags
 flag_other fs i m x ne = rw get_or-set_other refl
 

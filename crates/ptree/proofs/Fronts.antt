@@ -46,7 +46,7 @@ pub no_line_feed_repeat : (n : ℕ) (t : List ℕ) → HasNoLineFeed t → HasNo
 no_line_feed_repeat zero t h = All-nil (λ b. b ≢ 10)
 no_line_feed_repeat (suc n) t h = All-append (λ b. b ≢ 10) t (repeat n t) h (no_line_feed_repeat n t h)
 
--- ## Pieces that begin with fronts which can be told apart
+-- ## Pieces whose first characters can be told apart
 
 -- the fronts of the four pieces
 pub record Fronts : Type 0 where

@@ -1,21 +1,19 @@
 -- The loop that makes the occurrences of a graph expanded once.
 use Rattle.std.specs.Prelude.{slice_set, replicate, if◌then◌else◌, ◌≢◌}
-use Rattle.std.proofs.Common.{◌≡◌, ◌⊎◌, inl, inr, ℕ, zero, suc, ◌-◌, ◌≤◌, Bool, true, false, List, [], ◌∷◌, ◌++◌, length, map, ap, refl, sym, subst, ◌∙◌, arith}
+use Rattle.std.proofs.Common.{◌≡◌, ◌⊎◌, inl, inr, ℕ, zero, suc, ◌-◌, ◌≤◌, Bool, true, false, List, [], ◌∷◌, ◌++◌, length, ap, refl, sym, subst, ◌∙◌, append_assoc, arith}
 use Rattle.ptree.specs.declared.graph.Graph.{Graph}
-use Rattle.ptree.specs.declared.graph.once.Occurrence.{Occurrence}
-use Rattle.ptree.specs.declared.graph.once.Occurrence.TheOpen.{Occurrence-F}
-use Rattle.ptree.specs.declared.graph.once.Occurrence.TheViews.{roll-Occurrence}
+use Rattle.ptree.specs.declared.graph.once.Place.{Place}
 use Rattle.ptree.specs.Graph.{weights_of, edges_of, neighbors_of}
 use Rattle.ptree.specs.GraphLinks.{newest_from}
-use Rattle.ptree.specs.Growing.{Grown, grown, is_seen, enter, row_occurrences, row_seen, expand, grow}
-use Rattle.ptree.specs.Occurrence.{OccurrenceTree, none, occurrence, row, occurrence_tree, IsExpandedOnce, HasOneTree, HasSize}
+use Rattle.ptree.specs.Growing.{Grown, grown, is_seen, enter, row_occurrences, row_seen, expand, grow, all_flags, place_of, leaf_size, AppendsPlaces}
+use Rattle.ptree.specs.Occurrence.{OccurrenceTree, none, occurrence, row, IsExpandedOnce, HasOneTree, HasSize}
 use Rattle.ptree.proofs.EdgeLists.{newest_starts}
 use Rattle.ptree.proofs.Links.{newest_of_none}
 use Rattle.ptree.proofs.NodeFlags.{AreClear}
 use Rattle.ptree.proofs.Once.{grown_is_drawn, one_tree}
-use Rattle.ptree.proofs.Occurrences.{tree_of_roll}
+use Rattle.ptree.proofs.Places.{seen_none, appends_leaf}
 use Rattle.ptree.proofs.Sizes.{size_of_drawn}
-use Rattle.std.proofs.lemmas.List.{length-map, append-nil}
+use Rattle.std.proofs.lemmas.List.{length-map, length-replicate, append-nil}
 
 module _ (below : ℕ → List ℕ) where
   -- at the depth
@@ -35,60 +33,52 @@ module _ (below : ℕ → List ℕ) where
       let less : levels ≡ suc levels - 1 = omega arith in
       ap (λ b. if b then grown (occurrence v true none) seen else expand (grow below levels) (below v) seen v) e ∙ ap (λ n. expand (grow below n) (below v) seen v) less
 
-  -- the tree of an occurrence that is made of these parts
-  value_of : (x : Occurrence-F Occurrence) (v : ℕ) (m : Bool) (ps : List OccurrenceTree) → x.node.0 ≡ v → x.repeated ≡ m → map occurrence_tree x.children.items ≡ ps → occurrence_tree (roll-Occurrence x) ≡ occurrence v m (row ps)
-  value_of x v m ps e f g =
-      tree_of_roll x ∙ (ap (λ z. occurrence z x.repeated (row (map occurrence_tree x.children.items))) e ∙ (ap (λ z. occurrence v z (row (map occurrence_tree x.children.items))) f ∙ ap (λ z. occurrence v m (row z)) g))
-
   -- nothing may stand below the occurrence
-  pub stopped : (levels : ℕ) (seen last : List Bool) (v : ℕ) (x : Occurrence-F Occurrence) → x.node.0 ≡ v → x.repeated ≡ is_seen seen v → x.children.items ≡ [] → (is_seen seen v ≡ true) ⊎ (levels ≡ 0) → last ≡ seen
-      → grown (occurrence_tree (roll-Occurrence x)) last ≡ grow below levels seen v
-  stopped levels seen last v x e f g h k =
-      ap (λ s. grown (occurrence_tree (roll-Occurrence x)) s) k
-      ∙ ap (λ p. grown p seen) (value_of x v (is_seen seen v) [] e f (ap (map occurrence_tree) g))
-      ∙ elim h as (λ _. grown (occurrence v (is_seen seen v) none) seen ≡ grow below levels seen v) [ inl y ↦ sym (grow_seen levels seen v y) | inr y ↦ sym (grow_zero levels seen v y) ]
+  pub stopped : (levels : ℕ) (seen : List Bool) (v : ℕ) → (is_seen seen v ≡ true) ⊎ (levels ≡ 0) → grow below levels seen v ≡ grown (occurrence v (is_seen seen v) none) seen
+  stopped levels seen v h = elim h [ inl y ↦ grow_seen levels seen v y | inr y ↦ grow_zero levels seen v y ]
 
   -- the node has no neighbours
-  pub without : (levels : ℕ) (seen last : List Bool) (v : ℕ) (x : Occurrence-F Occurrence) → x.node.0 ≡ v → x.repeated ≡ false → x.children.items ≡ [] → levels ≢ 0 → is_seen seen v ≡ false → below v ≡ [] → last ≡ seen
-      → grown (occurrence_tree (roll-Occurrence x)) last ≡ grow below levels seen v
-  without levels seen last v x e f g h s q k =
-      ap (λ s. grown (occurrence_tree (roll-Occurrence x)) s) k
-      ∙ ap (λ p. grown p seen) (value_of x v false [] e f (ap (map occurrence_tree) g))
-      ∙ (ap (λ us. expand (grow below (levels - 1)) us seen v) (sym q) ∙ sym (grow_next levels seen v h s))
+  pub without : (levels : ℕ) (seen : List Bool) (v : ℕ) → levels ≢ 0 → is_seen seen v ≡ false → below v ≡ [] → grow below levels seen v ≡ grown (occurrence v false none) seen
+  without levels seen v h s q = grow_next levels seen v h s ∙ ap (λ us. expand (grow below (levels - 1)) us seen v) q
 
   -- all neighbours have their occurrences
-  pub grown_all : (levels : ℕ) (seen last : List Bool) (v : ℕ) (x : Occurrence-F Occurrence) (left : List ℕ) → x.node.0 ≡ v → x.repeated ≡ false → levels ≢ 0 → is_seen seen v ≡ false → left ≡ []
-      → map occurrence_tree x.children.items ++ row_occurrences (grow below (levels - 1)) last left ≡ row_occurrences (grow below (levels - 1)) (enter (below v) seen v) (below v)
+  pub grown_all : (levels : ℕ) (seen last : List Bool) (v : ℕ) (ts : List OccurrenceTree) (left : List ℕ) → levels ≢ 0 → is_seen seen v ≡ false → left ≡ []
+      → ts ++ row_occurrences (grow below (levels - 1)) last left ≡ row_occurrences (grow below (levels - 1)) (enter (below v) seen v) (below v)
       → row_seen (grow below (levels - 1)) last left ≡ row_seen (grow below (levels - 1)) (enter (below v) seen v) (below v)
-      → grown (occurrence_tree (roll-Occurrence x)) last ≡ grow below levels seen v
-  grown_all levels seen last v x left e f h s l p q =
+      → grow below levels seen v ≡ grown (occurrence v false (row ts)) last
+  grown_all levels seen last v ts left h s l p q =
       let one = grow below (levels - 1) in
-      let made : map occurrence_tree x.children.items ≡ row_occurrences one (enter (below v) seen v) (below v) =
-      sym (append-nil (map occurrence_tree x.children.items)) ∙ (ap (λ us. map occurrence_tree x.children.items ++ row_occurrences one last us) (sym l) ∙ p) in
+      let made : ts ≡ row_occurrences one (enter (below v) seen v) (below v) =
+      sym (append-nil ts) ∙ (ap (λ us. ts ++ row_occurrences one last us) (sym l) ∙ p) in
       let ends : last ≡ row_seen one (enter (below v) seen v) (below v) = ap (row_seen one last) (sym l) ∙ q in
-      ap (λ z. grown z last) (value_of x v false (row_occurrences one (enter (below v) seen v) (below v)) e f made)
-      ∙ (ap (λ z. grown (occurrence v false (row (row_occurrences one (enter (below v) seen v) (below v)))) z) ends ∙ sym (grow_next levels seen v h s))
+      grow_next levels seen v h s
+      ∙ (ap (λ us. grown (occurrence v false (row us)) (row_seen one (enter (below v) seen v) (below v))) (sym made)
+      ∙ ap (λ z. grown (occurrence v false (row ts)) z) (sym ends))
 
--- a list of no elements
-pub nothing_in : {X : Type 0} (xs : List X) (n : ℕ) → n ≡ length xs → n ≡ 0 → xs ≡ []
-nothing_in [] n e h = refl
-nothing_in (x ∷ xs) n e h = absurd (omega arith)
+  -- one neighbour more has its occurrence
+  pub grown_more : (levels : ℕ) (last : List Bool) (ts : List OccurrenceTree) (us : List ℕ) (u : ℕ) (left : List ℕ) (all : List OccurrenceTree) → us ≡ u ∷ left
+      → ts ++ row_occurrences (grow below levels) last us ≡ all → (ts ++ (grow below levels last u).occurrence ∷ []) ++ row_occurrences (grow below levels) (grow below levels last u).seen left ≡ all
+  grown_more levels last ts us u left all e h =
+      let one = grow below levels in
+      append_assoc ts ((one last u).occurrence ∷ []) (row_occurrences one (one last u).seen left)
+      ∙ (ap (λ l. ts ++ row_occurrences one last l) (sym e) ∙ h)
+
+-- what a place with nothing below it is
+pub leaf_made : (g : Grown) (xs ys : List Place) (v : ℕ) (m : Bool) (last : List Bool) → g ≡ grown (occurrence v m none) last → ys ≡ xs ++ place_of v (leaf_size m) ∷ [] → AppendsPlaces xs ys (g.occurrence ∷ [])
+leaf_made g xs ys v m last e h = subst (λ (z : OccurrenceTree). AppendsPlaces xs ys (z ∷ [])) (ap (λ (z : Grown). z.occurrence) (sym e)) (appends_leaf xs ys v m h)
+
+-- what a place over others is
+pub row_made : (g : Grown) (xs ys : List Place) (v : ℕ) (ts : List OccurrenceTree) (last : List Bool) → g ≡ grown (occurrence v false (row ts)) last → AppendsPlaces xs ys (occurrence v false (row ts) ∷ []) → AppendsPlaces xs ys (g.occurrence ∷ [])
+row_made g xs ys v ts last e h = subst (λ (z : OccurrenceTree). AppendsPlaces xs ys (z ∷ [])) (ap (λ (z : Grown). z.occurrence) (sym e)) h
+
+-- which nodes are seen after it
+pub seen_made : (g : Grown) (t : OccurrenceTree) (last now : List Bool) → g ≡ grown t last → now ≡ last → now ≡ g.seen
+seen_made g t last now e h = h ∙ ap (λ (z : Grown). z.seen) (sym e)
 
 -- a node with neighbours is entered so
 pub entered : (us : List ℕ) (seen : List Bool) (v : ℕ) → us ≢ [] → enter us seen v ≡ slice_set seen v true
 entered [] seen v h = absurd (h refl)
 entered (u ∷ us) seen v h = refl
-
--- no flag is set at first
-clear_flags : (n w : ℕ) → is_seen (replicate n false) w ≡ false
-clear_flags zero w = refl
-clear_flags (suc n) zero = refl
-clear_flags (suc n) (suc w) = clear_flags n w
-
--- there is a flag for each node
-length_flags : (n : ℕ) → length (replicate n false) ≡ n
-length_flags zero = refl
-length_flags (suc n) = ap suc (length_flags n)
 
 module _ {N : Type 0} (g : Graph N) where
   -- the neighbours in the graph
@@ -108,17 +98,19 @@ module _ {N : Type 0} (g : Graph N) where
 
   -- the same by the flags
   covered : (v : ℕ) → length flags ≤ v → under v ≡ []
-  covered v h = no_neighbors v (omega (arith, length_flags (length (weights_of g))))
+  covered v h = no_neighbors v (omega (arith, length-replicate (length (weights_of g)) false))
+
+  -- none that is there is all of them
+  pub no_flags : all_flags (length (weights_of g)) [] ≡ flags
+  no_flags = let e : length (weights_of g) - 0 ≡ length (weights_of g) = omega arith in ap (λ n. replicate n false) e
 
   -- no flag is set
   all_clear : AreClear flags
-  all_clear = record { clear = clear_flags (length (weights_of g)) }
+  all_clear = record { clear = seen_none (length (weights_of g)) }
 
   -- what is made from flags of which none is set is the graph expanded once
-  pub made_is_drawn : (start depth levels : ℕ) (p : OccurrenceTree) (seen last : List Bool) → seen ≡ flags → grown p last ≡ grow under levels seen start → levels ≡ depth → IsExpandedOnce under start depth p
-  made_is_drawn start depth levels p seen last e h k =
-      let same : p ≡ (grow under depth flags start).occurrence = ap (λ (z : Grown). z.occurrence) h ∙ ap (λ n. (grow under n seen start).occurrence) k ∙ ap (λ s. (grow under depth s start).occurrence) e in
-      subst (λ (z : OccurrenceTree). IsExpandedOnce under start depth z) (sym same) (grown_is_drawn under flags covered all_clear start depth)
+  pub made_is_drawn : (start depth : ℕ) (p : OccurrenceTree) → p ≡ (grow under depth flags start).occurrence → IsExpandedOnce under start depth p
+  made_is_drawn start depth p e = subst (λ (z : OccurrenceTree). IsExpandedOnce under start depth z) (sym e) (grown_is_drawn under flags covered all_clear start depth)
 
   -- a graph has one tree, and no other
   pub graph_has_one : (start depth : ℕ) → HasOneTree under start depth

@@ -39,6 +39,7 @@ inserted_none inserted (b ∷ text) h =
 pub entry_of_one_line : (look : Look) (prefix passing own : List ℕ) → HasNoLineFeed own → entry_from look prefix passing own ≡ painted_text look.branch prefix ++ own ++ 10 ∷ []
 entry_of_one_line look prefix passing own h = ap (λ z. painted_text look.branch prefix ++ z ++ 10 ∷ []) (inserted_none _ own h)
 
+-- a text that begins with a line feed holds one
 feed_head : (b : ℕ) (bs : List ℕ) → b ≡ 10 → has_line_feed (b ∷ bs) ≡ true
 feed_head b bs e = ap (λ c. cond c true (has_line_feed bs)) (eq-eqb b 10 e)
 

@@ -71,6 +71,7 @@ own_once k h n (c ∷ u) (d ∷ u') q q' rest rest' a b s t e = elim (is_feed c)
   ]
 ]
 
+-- equal painted texts are of equal texts
 same_painted : (k : Look) (t u : List ℕ) → painted_text k.leaf t ≡ painted_text k.leaf u → t ≡ u
 same_painted k t u e = append_cancel_left (front_codes k.leaf) t u (append_cancel_right ((front_codes k.leaf) ++ t) ((front_codes k.leaf) ++ u) (back_codes k.leaf) e)
 
@@ -83,6 +84,7 @@ text_once k h n t u q q' rest rest' a b s r e =
     (λ i. a (sym (feed_painted k.leaf t) ∙ i)) (λ i. b (sym (feed_painted k.leaf u) ∙ i)) s r (append_cancel_left (back_codes k.branch) _ _ e) in
     record { own = same_painted k t u same.own; passing = λ i. same.passing (feed_painted k.leaf t ∙ i); rest = same.rest }
 
+-- items with equal parts are equal
 same_spelled : (r s : SpelledItem) → r.level ≡ s.level → r.pieces ≡ s.pieces → r.passing ≡ s.passing → r.text ≡ s.text → r ≡ s
 same_spelled r s e f d g =
     ap (λ z. spelled_item z r.pieces r.passing r.text) e ∙ (ap (λ z. spelled_item s.level z r.passing r.text) f
@@ -129,10 +131,12 @@ Stops k [] rest = Unit {0}
 Stops k (l ∷ []) rest = IsNotContinued k l.level rest
 Stops k (l ∷ m ∷ lines) rest = Stops k (m ∷ lines) rest
 
+-- items that stop before a text do so without the first
 stops_tail : (k : Look) (l : SpelledItem) (lines : List SpelledItem) (rest : List ℕ) → Stops k (l ∷ lines) rest → Stops k lines rest
 stops_tail k l [] rest s = tt
 stops_tail k l (m ∷ lines) rest s = s
 
+-- what follows the first of such items does not continue it
 stops_head : (k : Look) → IsReadableWith k.pieces k.mark → (l : SpelledItem) (lines : List SpelledItem) (rest : List ℕ) → All (IsSpelled k.pieces) lines → Stops k (l ∷ lines) rest → IsNotContinued k l.level (spelled_text k lines ++ rest)
 stops_head k h l [] rest are s = s
 stops_head k h l (m ∷ lines) rest are s =

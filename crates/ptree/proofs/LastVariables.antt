@@ -6,6 +6,7 @@ use Rattle.ptree.specs.declared.print_config.words.Spelling.{Spelling}
 use Rattle.ptree.specs.Characters.{is_spelled}
 use Rattle.ptree.specs.Sources.{Variables, variables_of, last_value}
 
+-- the last value, with one variable more
 last_value-push : (spelling : Spelling) (name : List ℕ) (vs : Variables) (v : List ℕ × List ℕ)
     → last_value spelling name (vs ++ v ∷ []) ≡ cond (is_spelled spelling v.0 name) (Some v.1) (last_value spelling name vs)
 unfolding last_value
@@ -14,6 +15,7 @@ last_value-push spelling name vs v = rw (reverse-append vs (v ∷ [])) (at_end (
   at_end true = refl
   at_end false = refl
 
+-- the same for variables as the code holds them
 pushed : (spelling : Spelling) (name : List ℕ) (all left : List (String Global × String Global)) (v : String Global × String Global) → all ≡ left ++ v ∷ []
     → last_value spelling name (variables_of all) ≡ cond (is_spelled spelling (string_bytes v.0) name) (Some (string_bytes v.1)) (last_value spelling name (variables_of left))
 pushed spelling name all left v e =

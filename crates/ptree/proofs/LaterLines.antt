@@ -9,6 +9,7 @@ use Rattle.ptree.proofs.Levels.{has_later_deeper, has_later_here}
 
 -- ## With nothing after them
 
+-- an item with its own parts is itself
 same_item : (i : SpelledItem) (a b : List ℕ) → i.pieces ≡ a → i.passing ≡ b → i ≡ spelled_item i.level a b i.text
 same_item i a b e f = ap (λ z. spelled_item i.level z i.passing i.text) e ∙ ap (λ z. spelled_item i.level a z i.text) f
 
@@ -58,6 +59,7 @@ closings_steps f (suc n) previous l = at (f (suc n)) (closings_steps f n (suc n)
   at true below rest = (omega arith, omega arith, below)
   at false below rest = rest
 
+-- twice not
 not_not : (b : Bool) → not (not b) ≡ b
 not_not true = refl
 not_not false = refl

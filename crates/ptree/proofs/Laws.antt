@@ -15,23 +15,29 @@ use Rattle.ptree.proofs.Join.{join, drawn_is_drawing, entry_under, passing_child
 
 -- ## Cut
 
+-- functions with equal values are equal
 same_functions : {A B : Type 0} (f g : A → B) → ((x : A) → f x ≡ g x) → f ≡ g
 same_functions f g h = λ i x. h x i
 
+-- functions with equal values map a list to the same
 same_map : {A B : Type 0} (f g : A → B) → ((x : A) → f x ≡ g x) → (xs : List A) → map f xs ≡ map g xs
 same_map f g h [] = refl
 same_map f g h (x ∷ xs) = ap (λ y. y ∷ map f xs) (h x) ∙ ap (λ ys. g x ∷ ys) (same_map f g h xs)
 
+-- two maps are one
 map_twice : {A B C : Type 0} (f : A → B) (g : B → C) (xs : List A) → map g (map f xs) ≡ map (λ x. g (f x)) xs
 map_twice f g [] = refl
 map_twice f g (x ∷ xs) = ap (λ ys. g (f x) ∷ ys) (map_twice f g xs)
 
+-- a comparison of successors
 less_suc : (m d : ℕ) → nat_lt (suc m) (suc d) ≡ nat_lt m d
 less_suc m d = grind (arith, nat_tests)
 
+-- zero is below each successor
 none_above : (d : ℕ) → nat_lt 0 (suc d) ≡ true
 none_above d = grind (arith, nat_tests)
 
+-- a child of a cut shape is the child, cut one level lower
 child_of_cut : (d : ℕ) (t : Shape) (i : ℕ) → child (cut_shape (suc d) t) i ≡ cut_shape d (child t i)
 child_of_cut d t i =
     ap (λ (f : Address → ℕ). let r : Shape = record { own = λ a. t.own (i ∷ a); count = f } in r)
@@ -44,6 +50,7 @@ kids_of_cut d t =
     ∙ same_map (child (cut_shape (suc d) t)) (λ i. cut_shape d (child t i)) (child_of_cut d t) (range_with_len 0 (t.count []))
     ∙ sym (map_twice (child t) (cut_shape d) (range_with_len 0 (t.count [])))
 
+-- a map keeps whether a list is empty
 is_empty-map : {X Y : Type 0} (f : X → Y) (xs : List X) → is_empty (map f xs) ≡ is_empty xs
 is_empty-map f [] = refl
 is_empty-map f (x ∷ xs) = refl
@@ -61,6 +68,7 @@ kid_entries-map look f g below below' o h front (c ∷ cs) =
     ∙ ap (λ t. (entry_of look turned passed (g c) ∷ t) ++ kid_entries look below' front (map f cs)) (h passed c)
     ∙ ap (λ t. with_below look below front last (g c) ++ t) (kid_entries-map look f g below below' o h front cs)
 
+-- the entries below a cut shape are those below the shape, down to the cut
 entries_of_cut : (look : Look) (d e : ℕ) → d ≤ e → (front : List ℕ) (t : Shape) → entries_below look e front (cut_shape d t) ≡ entries_below look d front t
 entries_of_cut look zero zero h front t = refl
 entries_of_cut look zero (suc e) h front t = refl

@@ -32,10 +32,12 @@ has_later_skip n (item t c r) o m h =
     ∙ (ap (λ z. has_later z m) (append_assoc (outline_at (suc (suc n)) c) (outline_at (suc n) r) o)
     ∙ (has_later_skip (suc n) c (outline_at (suc n) r ++ o) m (omega arith) ∙ has_later_skip n r o m h))
 
+-- a row of trees has a later item of its level exactly if it is not bare
 has_later_row : (n : ℕ) (f : Forest) (o : List Line) → has_later o (suc n) ≡ false → has_later (outline_at (suc n) f ++ o) (suc n) ≡ not (is_bare f)
 has_later_row n none o h = h
 has_later_row n (item t c r) o h = has_later_here (line (suc n) t) ((outline_at (suc (suc n)) c ++ outline_at (suc n) r) ++ o) (suc n) (omega arith) ∙ eq-eqb (suc n) (suc n) refl
 
+-- above a row of trees nothing comes later, if nothing did before
 has_later_above : (n : ℕ) (f : Forest) (o : List Line) → ((m : ℕ) → n < m → has_later o m ≡ false) → (m : ℕ) → suc n < m → has_later (outline_at (suc n) f ++ o) m ≡ false
 has_later_above n none o h m l = h m (omega arith)
 has_later_above n (item t c r) o h m l = has_later_here (line (suc n) t) ((outline_at (suc (suc n)) c ++ outline_at (suc n) r) ++ o) m (omega arith) ∙ ne_eqb m (suc n) (omega arith)
@@ -48,6 +50,7 @@ last_flags_same a b (suc n) h =
     let here = h (suc n) (omega arith) in
     ap (λ z. z ++ not (has_later a (suc n)) ∷ []) before ∙ ap (λ z. last_flags b n ++ not z ∷ []) here
 
+-- twice not
 not_not : (b : Bool) → not (not b) ≡ b
 not_not true = refl
 not_not false = refl
@@ -61,6 +64,7 @@ entry_shown k prefix passing text = at (has_line_feed text) refl where
       let one = no_feed_when (painted_text k.leaf text) (feed_painted k.leaf text ∙ e) in
       ap (λ z. painted_text k.branch prefix ++ z ++ 10 ∷ []) (inserted_none _ (painted_text k.leaf text) one ∙ sym (inserted_none _ (painted_text k.leaf text) one))
 
+-- the drawing of a row of trees, by the levels of its lines
 forest_by_levels : (k : Look) → (above : List Bool) (n : ℕ) (f : Forest) (o : List Line) → above ≡ last_flags o n → ((m : ℕ) → n < m → has_later o m ≡ false)
     → lines_drawing k (outline_at (suc n) f ++ o) ≡ forest_drawing k above f ++ lines_drawing k o
 forest_by_levels k above n none o e h = refl

@@ -13,12 +13,14 @@ stack_lines (f ∷ fs) = outline_at (suc (length fs)) f ++ stack_lines fs
 abbrev IsStack : ℕ → List Line → Type 0
 IsStack n o = (fs : List Forest) × (length fs ≡ n) × (o ≡ stack_lines fs)
 
+-- with more forests, which are empty, the lines are the same
 stack_deeper : (n m : ℕ) (o : List Line) → IsStack n o → IsStack (m + n) o
 stack_deeper n zero o (fs, len, is) = (fs, let e : n ≡ 0 + n = omega arith in len ∙ e, is)
 stack_deeper n (suc m) o h =
     let (fs, len, is) = stack_deeper n m o h in
     (none ∷ fs, let e : suc (m + n) ≡ suc m + n = omega arith in ap suc len ∙ e, is)
 
+-- empty forests have no lines
 stack_none : (n : ℕ) → IsStack n []
 stack_none zero = ([], refl, refl)
 stack_none (suc n) = let (fs, len, is) = stack_none n in (none ∷ fs, ap suc len, is)
@@ -36,6 +38,7 @@ stack_put l o low (c ∷ r ∷ fs, len, is) =
       ap (λ z. z ∷ o) here ∙ ap (λ z. line n l.text ∷ z) (is ∙ sym (append_assoc (outline_at (suc n) c) (outline_at n r) (stack_lines fs))),
     )
 
+-- lines whose levels increase by at most one are those of forests
 stack_of : (n : ℕ) (o : List Line) → Steps n o → IsStack (suc n) o
 stack_of n [] s = stack_none (suc n)
 stack_of n (l ∷ o) s =

@@ -1,13 +1,10 @@
--- Occurrences of a graph expanded once: their items, what is written for a repeated one, and the loops that make them.
-use Rattle.std.proofs.Common.{◌≡◌, ℕ, List, [], ◌∷◌, ◌++◌, Option, Result, map, ap, refl, subst, ◌∙◌}
+-- Rows of occurrences, and what is written for a repeated one.
+use Rattle.std.specs.Prelude.{flat_map}
+use Rattle.std.proofs.Common.{◌≡◌, ℕ, List, [], ◌∷◌, ◌++◌, Option, Result, ap, refl, sym, subst, ◌∙◌}
 use Rattle.std.proofs.lemmas.List.{append-nil}
 use Rattle.std.specs.Io.KnownBytes.{Appends}
-use Rattle.ptree.specs.declared.graph.once.Occurrence.{Occurrence, out-Occurrence}
-use Rattle.ptree.specs.declared.graph.once.Occurrence.TheFolds.{fold_out-Occurrence, fold-roll-Occurrence}
-use Rattle.ptree.specs.declared.graph.once.Occurrence.TheOpen.{Occurrence-F}
-use Rattle.ptree.specs.declared.graph.once.Occurrence.TheViews.{roll-Occurrence}
-use Rattle.ptree.specs.Occurrence.{Occurrences, none, item, OccurrenceTree, occurrence, occurrences, row, occurrence_kids, occurrence_step, occurrence_tree}
-use Rattle.ptree.specs.Style.{StyleValue, plain_value, style_codes, painted_text}
+use Rattle.ptree.specs.Occurrence.{Occurrences, none, item, OccurrenceTree, occurrences, row}
+use Rattle.ptree.specs.Style.{StyleValue, plain_value, style_codes, reset_after, painted_text}
 use Rattle.ptree.specs.Writing.{AppendsPart, IsWritten}
 use Rattle.ptree.proofs.Written.{appends_then, part_then, part_more, written_then}
 
@@ -21,22 +18,26 @@ pub row_of_occurrences : (r : Occurrences) → row (occurrences r) ≡ r
 row_of_occurrences none = refl
 row_of_occurrences (item v m c r) = ap (λ z. item v m c z) (row_of_occurrences r)
 
--- the value of an occurrence, by its parts
-pub tree_of_occurrence : (p : Occurrence) → occurrence_tree p ≡ occurrence (out-Occurrence p).node.0 (out-Occurrence p).repeated (row (map occurrence_tree (out-Occurrence p).children.items))
-tree_of_occurrence p = fold_out-Occurrence OccurrenceTree occurrence_step p
-
--- the value of a new occurrence, by its parts
-pub tree_of_roll : (x : Occurrence-F Occurrence) → occurrence_tree (roll-Occurrence x) ≡ occurrence x.node.0 x.repeated (row (map occurrence_tree x.children.items))
-tree_of_roll = fold-roll-Occurrence OccurrenceTree occurrence_step
-
--- what stands below an occurrence
-pub kids_of_occurrence : (p : Occurrence) → occurrence_kids (occurrence_tree p) ≡ map occurrence_tree (out-Occurrence p).children.items
-kids_of_occurrence p = ap occurrence_kids (tree_of_occurrence p) ∙ occurrences_of_row (map occurrence_tree (out-Occurrence p).children.items)
-
 -- the plain style paints a text as itself
 plain_text : (text : List ℕ) → painted_text plain_value text ≡ text
 unfolding style_codes
 plain_text text = append-nil text
+
+-- and so does any style without codes
+painted_without : (style : StyleValue) (text : List ℕ) → style_codes style ≡ [] → painted_text style text ≡ text
+painted_without style text e = ap (λ (codes : List (List ℕ)). flat_map (λ code. code) codes ++ text ++ reset_after codes) e ∙ append-nil text
+
+-- a front of the label was written, in a style without codes
+pub plain_label_part : (style : StyleValue) (text mark : List ℕ) → style_codes style ≡ [] → (a b : Option (List ℕ)) → AppendsPart a b (painted_text style text) → AppendsPart a b (painted_text style (text ++ mark))
+plain_label_part style text mark e a b h =
+    subst (λ (z : List ℕ). AppendsPart a b z) (sym (painted_without style (text ++ mark) e)) (part_more a b text mark (subst (λ (z : List ℕ). AppendsPart a b z) (painted_without style text e) h))
+
+-- the label was, and then the mark or a front of it
+pub plain_written : {A E : Type 0} (style : StyleValue) (text mark : List ℕ) → style_codes style ≡ [] → (a b c : Option (List ℕ)) (r : Result A E) (y : List ℕ) → y ≡ mark
+    → Appends a b (painted_text style text) → IsWritten b c r y → IsWritten a c r (painted_text style (text ++ mark))
+plain_written style text mark e a b c r y q h k =
+    subst (λ (z : List ℕ). IsWritten a c r z) (sym (painted_without style (text ++ mark) e))
+    (written_then a b c r text mark (subst (λ (z : List ℕ). Appends a b z) (painted_without style text e) h) (subst (λ (z : List ℕ). IsWritten b c r z) q k))
 
 -- and so does a style that is the plain one
 painted_plain : (plain : StyleValue) (text : List ℕ) → plain ≡ plain_value → painted_text plain text ≡ text

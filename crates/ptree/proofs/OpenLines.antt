@@ -21,7 +21,7 @@ use Rattle.ptree.proofs.Styles.{no_line_feed_front, no_line_feed_back}
 use Rattle.ptree.proofs.OpenItems.{some_flag, allows_any, passing_deeper}
 use Rattle.ptree.proofs.FoundPieces.{found_at}
 
--- ## Lines that no drawing goes on with
+-- ## Lines that cannot continue a drawing
 
 -- the parts of an own line
 pub front_split : (k : Look) (pieces x : List ℕ) → own_front k pieces ++ x ≡ front_codes k.branch ++ (pieces ++ (back_codes k.branch ++ (front_codes k.leaf ++ x)))
@@ -81,13 +81,15 @@ pub unturned_wrong : (k : Look) → IsReadableWith k.pieces k.mark → (depth : 
 unturned_wrong k readable depth fs new x text shown rest n is h none never =
     begins_wrong k readable depth fs new x text shown rest n is h never (λ b o z deep a e. none b (back_codes k.branch ++ (front_codes k.leaf ++ z)) (allows_any b) e)
 
--- ## Lines that drawings go on with
+-- ## Lines that continue drawings
 
+-- an element of the first list
 get_left : (xs ys : List Flags) (m : ℕ) → m < length xs → get_or (xs ++ ys) m any_flags ≡ get_or xs m any_flags
 get_left [] ys m l = absurd (omega arith)
 get_left (x ∷ xs) ys zero l = refl
 get_left (x ∷ xs) ys (suc m) l = get_left xs ys m (omega arith)
 
+-- the last element
 get_last : (xs : List Flags) (x : Flags) → get_or (xs ++ x ∷ []) (length xs) any_flags ≡ x
 get_last [] x = refl
 get_last (y ∷ xs) x = get_last xs x
@@ -215,6 +217,7 @@ pub feedless_passing : (p : Pieces) → IsReadable p → (flags : List Bool) →
 feedless_passing p h [] = All-nil (λ c. c ≢ 10)
 feedless_passing p h (b ∷ flags) = All-append (λ c. c ≢ 10) (passing_piece p b) (passing_all p flags) (h.no_line_feed b).1 (feedless_passing p h flags)
 
+-- two texts without line feeds, as one
 both_feedless : (a b : List ℕ) → HasNoLineFeed a → HasNoLineFeed b → HasNoLineFeed (a ++ b)
 both_feedless a b h g = All-append (λ c. c ≢ 10) a b h g
 

@@ -19,10 +19,12 @@ text_of o = unwrap_or (option_map (λ (y : Tree). y.text) o) []
 abbrev level_line : ℕ → Tree → Address → Line
 level_line n t a = line (n + length a) (text_of (at tree_kids t a))
 
+-- functions with equal values map a list to the same
 map_same : {A B : Type 0} (f g : A → B) → ((x : A) → f x ≡ g x) → (xs : List A) → map f xs ≡ map g xs
 map_same f g h [] = refl
 map_same f g h (x ∷ xs) = ap (λ y. y ∷ map f xs) (h x) ∙ ap (λ ys. g x ∷ ys) (map_same f g h xs)
 
+-- the line of an address below a child is that in the child, one level deeper
 child_line : (n k : ℕ) (t c : Tree) (a : Address) → slice_get (tree_kids t) k ≡ Some c → level_line n t (k ∷ a) ≡ level_line (suc n) c a
 child_line n k t c a h =
     let level : n + suc (length a) ≡ suc n + length a = omega arith in
@@ -33,6 +35,7 @@ child_line n k t c a h =
 WalksAreOutlines : ℕ → Type 0
 WalksAreOutlines d = (n : ℕ) (t : Tree) → height t.children ≤ d → map (level_line n t) (walk tree_kids d t) ≡ line n t.text ∷ outline_at (suc n) t.children
 
+-- the lines of the addresses of a row of children
 branch_lines : (d : ℕ) → WalksAreOutlines d → (n : ℕ) (t : Tree) (k : ℕ) (f : Forest)
     → ((i : ℕ) → slice_get (trees f) i ≡ slice_get (tree_kids t) (k + i)) → height f ≤ suc d
     → map (level_line n t) (branches (walk tree_kids d) k (trees f)) ≡ outline_at (suc n) f
@@ -52,10 +55,12 @@ branch_lines d ih n t k (item x c r) h e =
     ∙ ih (suc n) (tree x c) (omega (arith, e))))
     ∙ ap (λ z. (line (suc n) x ∷ outline_at (suc (suc n)) c) ++ z) (branch_lines d ih n t (suc k) r next (omega (arith, e))))
 
+-- a row of no height has no lines
 no_lines : (n : ℕ) (f : Forest) → height f ≤ 0 → [] ≡ outline_at n f
 no_lines n none h = refl
 no_lines n (item t c r) h = absurd (omega (arith, h))
 
+-- the lines of a tree's addresses are its outline, to any depth
 walk_lines : (d : ℕ) → WalksAreOutlines d
 unfolding WalksAreOutlines
 walk_lines zero n t h =
@@ -68,6 +73,7 @@ walk_lines (suc d) n t h =
     ap (λ m. line m t.text ∷ map (level_line n t) (branches (walk tree_kids d) 0 (tree_kids t))) root
     ∙ ap (λ z. line n t.text ∷ z) (branch_lines d (walk_lines d) n t 0 t.children kids h)
 
+-- the lines of all addresses of a tree are its outline
 same_lines : (t : Tree) → map (line_at t) (walk tree_kids (height t.children) t) ≡ outline t
 unfolding WalksAreOutlines
 same_lines t =

@@ -9,6 +9,7 @@ join : Forest → Forest → Forest
 join none g = g
 join (item t c r) g = item t c (join r g)
 
+-- a row with none after it is itself
 join_none : (f : Forest) → join f none ≡ f
 unfolding join
 join_none none = refl
@@ -21,14 +22,17 @@ rows : List Line → ℕ → Forest
 rows [] k = none
 rows (l ∷ o) k = cond (ltb k l.level) (rows o k) (cond (eqb k l.level) (item l.text (rows o (suc l.level)) (rows o l.level)) none)
 
+-- below its level a line leaves the forest that the later lines have
 rows_lower : (l : Line) (o : List Line) (k : ℕ) → k < l.level → rows (l ∷ o) k ≡ rows o k
 unfolding rows
 rows_lower l o k h = rw (lt-ltb k l.level h) refl
 
+-- at its level a line adds an item to that forest
 rows_here : (l : Line) (o : List Line) → rows (l ∷ o) l.level ≡ item l.text (rows o (suc l.level)) (rows o l.level)
 unfolding rows
 rows_here l o = rw (le-ltb l.level l.level (omega arith), eq-eqb l.level l.level refl) refl
 
+-- above its level there is no forest before the line
 rows_higher : (l : Line) (o : List Line) (k : ℕ) → l.level < k → rows (l ∷ o) k ≡ none
 unfolding rows
 rows_higher l o k h = rw (le-ltb k l.level (omega arith), ne_eqb k l.level (omega arith)) refl
@@ -38,6 +42,7 @@ record Rows (n : ℕ) (f : Forest) (o : List Line) : Type 0 where
   here : rows (outline_at n f ++ o) n ≡ join f (rows o n)
   higher : (k : ℕ) → n < k → rows (outline_at n f ++ o) k ≡ none
 
+-- what the forests are before the lines of one, if no later line is deeper
 rows_of : (n : ℕ) (f : Forest) (o : List Line) → ((k : ℕ) → n < k → rows o k ≡ none) → Rows n f o
 unfolding join rows
 rows_of n none o h = record { lower = λ k l. refl; here = refl; higher = h }

@@ -15,10 +15,12 @@ use Rattle.ptree.proofs.Shipped.{shipped_readable, tick_readable}
 abbrev pub IsReadableValue : Configuration → Type 0
 IsReadableValue v = IsReadableWith (pieces_from v.characters v.indent v.padding) v.continued
 
+-- the regular set is readable at every indent and padding
 utf_readable : (indent padding : ℕ) → IsReadableWith (pieces_from utf indent padding) default_mark
 utf_readable indent padding =
     default_mark_readable utf (inr (inr (inl refl))) indent padding (shipped_readable utf (inr (inl refl)) indent padding)
 
+-- the set with ticks is readable if the indent exceeds 1 + padding
 ticks_readable : (indent padding : ℕ) → 1 + padding < indent → IsReadableWith (pieces_from ascii_tick indent padding) default_mark
 ticks_readable indent padding dash =
     default_mark_readable ascii_tick (inl refl) indent padding ((tick_readable indent padding).1 dash)

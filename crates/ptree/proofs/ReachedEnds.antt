@@ -22,6 +22,7 @@ use Rattle.ptree.proofs.Reaching.{not_nothing}
 
 -- ## A wrong line
 
+-- a line and its line feed, regrouped
 moved_assoc : (a line more : List ℕ) → (a ++ line ++ 10 ∷ []) ++ more ≡ a ++ (line ++ 10 ∷ more)
 moved_assoc a line more = simp append_assoc
 
@@ -54,8 +55,9 @@ wrong_line k readable depth front lines level own fs x new rest h is_line no_fur
         let cut = behind_front (own_front k there) _ new more feed (sym (s.1 ∙ line_split k l o')) in
         no_own text l.level o' (cut.0 ++ 10 ∷ rest) s.0 below.0.0 below.0.1 below.1.0 allowed (is_line ∙ (ap (λ z. z ++ 10 ∷ rest) cut.1 ∙ append_assoc (own_front k there) cut.0 (10 ∷ rest)))
 
--- ## Drawings that go on
+-- ## Drawings that continue
 
+-- the closing lines are within the depth, if their levels are
 closings_within : (f : ℕ → Bool) (depth n : ℕ) → n ≤ depth → AreWithin depth (closings f n)
 closings_within f depth zero l = tt
 closings_within f depth (suc n) l = at (f (suc n)) (closings_within f depth n (omega arith)) where
@@ -63,6 +65,7 @@ closings_within f depth (suc n) l = at (f (suc n)) (closings_within f depth n (o
   at true rest = (l, rest)
   at false rest = rest
 
+-- the level of the last line is within the depth
 level_within : (depth : ℕ) (lines : List Line) (l : Line) → IsOutlineWithin depth (lines ++ l ∷ []) → l.level ≤ depth
 level_within depth [] l h = let root = h.0 in omega (arith, root)
 level_within depth (x ∷ lines) l h = deeper lines h.2 where
@@ -101,6 +104,7 @@ reached_end k depth front lines level own text fs t h closed allowed is =
     outline_form k depth front t (subst (IsOutlineWithin depth) (sym is) (h.valid text))
     (sym (append-nil front) ∙ (h.from (lines ++ line level text ∷ []) [] ([], text, refl, allowed, inl (closed, refl)) ∙ ap (lines_text k) (sym is)))
 
+-- the empty text holds no line feed
 nothing_long : (a b : List ℕ) → [] ≡ a ++ 10 ∷ b → ⊥
 nothing_long a b e = let long = ap length e in omega (arith, simp length-append at long)
 
@@ -125,7 +129,7 @@ feed_not [] b (c ∷ x) h e = All-head (λ c. c ≢ 10) c x h (let heads : c ≡
 feed_not (d ∷ a) b [] h e = nothing_long (d ∷ a) b e
 feed_not (d ∷ a) b (c ∷ x) h e = feed_not a b x (All-tail (λ c. c ≢ 10) c x h) (let tails : x ≡ a ++ 10 ∷ b = cc in tails)
 
--- whole lines and the beginning of another one are no drawing
+-- whole lines and a part of another one are no drawing
 pub reached_short : (k : Look) (depth : ℕ) (front : List ℕ) (lines : List Line) (level : ℕ) (own : List ℕ) (fs : List Flags) (x : List ℕ) → Reached k depth front lines level own fs
     → HasNoLineFeed x → (x ≡ [] → ⊥) → (t : Tree) → IsDrawnForm k depth (front ++ x) t → ⊥
 reached_short k depth front lines level own fs x h one some t form =

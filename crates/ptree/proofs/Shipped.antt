@@ -18,10 +18,12 @@ tail : (n padding : ℕ) (m e : List ℕ) → one_line m ≡ true → one_line e
 tail n padding m e h g =
     All-append (λ b. b ≢ 10) (repeat n m) (repeat padding e) (no_line_feed_repeat n m (no_line_feed_when m h)) (no_line_feed_repeat padding e (no_line_feed_when e g))
 
+-- the pieces of a set, each by its first characters and the rest
 pieces_from-split : (c : Characters) (indent padding : ℕ) → let n = indent - (1 + padding) in
     pieces_from c indent padding ≡ pieces_on (fronts c.down_and_right c.down c.turn_right c.empty) (repeat n c.right ++ repeat padding c.empty) (repeat n c.empty ++ repeat padding c.empty)
 pieces_from-split c indent padding = simp append_assoc
 
+-- a set whose first characters can be told apart is readable at every indent and padding
 set_readable : (c : Characters) → AreTold (fronts c.down_and_right c.down c.turn_right c.empty) → one_line c.right ≡ true → one_line c.empty ≡ true → (indent padding : ℕ) → IsReadable (pieces_from c indent padding)
 set_readable c told right empty indent padding =
     let n = indent - (1 + padding) in

@@ -49,6 +49,7 @@ no_codes style h =
     (none_set (flags style) (h.bold, (h.dimmed, (h.italic, (h.underline, (h.blink, (h.reverse, (h.hidden, (h.strikethrough, tt)))))))))
     ∙ ap (λ cs. cs ++ side_codes style.background Background) (sets_none style.foreground Foreground h.foreground) ∙ sets_none style.background Background h.background
 
+-- a reset holds no line feed
 no_line_feed_reset : (codes : List (List ℕ)) → HasNoLineFeed (reset_after codes)
 no_line_feed_reset [] = All-nil (λ b. b ≢ 10)
 no_line_feed_reset (code ∷ codes) =

@@ -10,8 +10,9 @@ use Rattle.ptree.specs.Shape.{Shape, kids}
 use Rattle.ptree.proofs.Addresses.{In, Sorted, sorted_from_pairs, same_sorted, in_contains, contains_in}
 use Rattle.ptree.proofs.Laws.{entry_below}
 
--- ## Addresses behind an address
+-- ## Addresses after a common start
 
+-- an address that properly begins another is followed there by a step
 begun : (a b : Address) → begins_properly a b ≡ true → (j : ℕ) × (r : Address) × (b ≡ a ++ j ∷ r)
 begun a [] h = absurd (cc)
 begun [] (j ∷ b) h = (j, b, refl)
@@ -20,10 +21,12 @@ begun (i ∷ a) (j ∷ b) h =
     let q = begun a b s.1 in
     (q.0, q.1, ap (λ k. k ∷ b) (sym (eqb-true i j s.0)) ∙ ap (λ z. i ∷ z) q.2)
 
+-- an address properly begins each one with a step more
 begins-append : (a : Address) (j : ℕ) (r : Address) → begins_properly a (a ++ j ∷ r) ≡ true
 begins-append [] j r = refl
 begins-append (i ∷ a) j r = ap (λ p. p && begins_properly a (a ++ j ∷ r)) (eq-eqb i i refl) ∙ begins-append a j r
 
+-- an order of addresses holds after a common start
 before_behind : (a b c : Address) → Before b c → Before (a ++ b) (a ++ c)
 before_behind [] b c h = h
 before_behind (i ∷ a) b c h = inr (refl, before_behind a b c h)
@@ -45,6 +48,7 @@ in_cond true a x xs (inl e) = inl (e, refl)
 in_cond true a x xs (inr h) = inr h
 in_cond false a x xs h = inr h
 
+-- a member stays in a list that keeps it
 cond_in : (k : Bool) (a x : Address) (xs : List Address) → (x ≡ a → k ≡ true) → (x ≡ a) ⊎ In a xs → In a (cond k (x ∷ xs) xs)
 cond_in true a x xs f h = h
 cond_in false a x xs f (inl e) = let no_way = f e in absurd (cc)
@@ -57,6 +61,7 @@ in_filter p a (x ∷ xs) h = elim (in_cond (p x) a x (filter p xs) h) [
   | inr k ↦ (let m = in_filter p a xs k in (inr m.0, m.1))
 ]
 
+-- a member that passes a test stays in the filtered list
 filter_in : (p : Address → Bool) (a : Address) (xs : List Address) → In a xs → p a ≡ true → In a (filter p xs)
 filter_in p a [] h k = absurd h
 filter_in p a (x ∷ xs) (inl e) k = cond_in (p x) a x (filter p xs) (λ q. ap p q ∙ k) (inl e)
@@ -67,11 +72,13 @@ in_behind a b [] h = absurd h
 in_behind a b (x ∷ xs) (inl e) = (x, e, inl refl)
 in_behind a b (x ∷ xs) (inr h) = let m = in_behind a b xs h in (m.0, m.1, inr m.2)
 
+-- a member of a list is one after a common start
 behind_in : (a c : Address) (xs : List Address) → In c xs → In (a ++ c) (map (λ b. a ++ b) xs)
 behind_in a c [] h = absurd h
 behind_in a c (x ∷ xs) (inl e) = inl (ap (λ b. a ++ b) e)
 behind_in a c (x ∷ xs) (inr h) = inr (behind_in a c xs h)
 
+-- ascending addresses stay so after a common start
 sorted_behind : (a : Address) (xs : List Address) → Sorted xs → Sorted (map (λ b. a ++ b) xs)
 sorted_behind a [] s = tt
 sorted_behind a (x ∷ xs) s = (

@@ -32,14 +32,17 @@ forest_drawing k above (item t c r) =
 abbrev pub tree_drawing : Look → Tree → List ℕ
 tree_drawing k t = text_entry k [] [] t.text ++ forest_drawing k [] t.children
 
+-- the passing pieces with one level more
 passing_all_push : (p : Pieces) (above : List Bool) (b : Bool) → passing_all p above ++ passing_piece p b ≡ passing_all p (above ++ b ∷ [])
 passing_all_push p [] b = sym (append-nil (passing_piece p b))
 passing_all_push p (d ∷ above) b = append_assoc (passing_piece p d) (passing_all p above) (passing_piece p b) ∙ ap (λ z. passing_piece p d ++ z) (passing_all_push p above b)
 
+-- a row of trees has no shapes exactly if it is bare
 bare_shapes : (f : Forest) → is_empty (map shape_of_tree (trees f)) ≡ is_bare f
 bare_shapes none = refl
 bare_shapes (item t c r) = refl
 
+-- the entries of a row of trees are its drawing, if those of each tree are
 entries_of_forest : (look : Look) (d : ℕ) → ((above : List Bool) (t : Tree) → height t.children ≤ d → concat (entries_below look d (passing_all look.pieces above) (shape_of_tree t)) ≡ forest_drawing look above t.children)
     → (above : List Bool) (f : Forest) → height f ≤ suc d → concat (kid_entries look (entries_below look d) (passing_all look.pieces above) (map shape_of_tree (trees f))) ≡ forest_drawing look above f
 entries_of_forest look d ih above none h = refl
@@ -57,10 +60,12 @@ entries_of_forest look d ih above (item t c r) h =
     ∙ (ap (λ z. here ++ (z ++ concat others)) (ih deep (tree t c) (omega (arith, h)))
     ∙ ap (λ z. here ++ (forest_drawing look deep c ++ z)) (entries_of_forest look d ih above r (omega (arith, h))))))
 
+-- a row of no height has no drawing
 no_trees : (look : Look) (above : List Bool) (f : Forest) → height f ≤ 0 → [] ≡ forest_drawing look above f
 no_trees look above none h = refl
 no_trees look above (item t c r) h = absurd (omega (arith, h))
 
+-- the entries below a tree are the drawing of its children
 entries_of_tree : (look : Look) (d : ℕ) (above : List Bool) (t : Tree) → height t.children ≤ d → concat (entries_below look d (passing_all look.pieces above) (shape_of_tree t)) ≡ forest_drawing look above t.children
 entries_of_tree look zero above t h = no_trees look above t.children h
 entries_of_tree look (suc d) above t h =

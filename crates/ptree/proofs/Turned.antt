@@ -49,7 +49,7 @@ linked_none {N = N} nodes h = record {
   unlinked (x ∷ xs) a zero n s = let same : x ≡ n = cc in ap (λ (z : Node N). z.newest) (sym same) ∙ All-head (λ (z : Node N). z.newest ≡ 0) x xs a
   unlinked (x ∷ xs) a (suc v) n s = unlinked xs (All-tail (λ (z : Node N). z.newest ≡ 0) x xs a) v n s
 
--- the edge at i is turned round and linked behind those before it
+-- the edge at i is turned round and linked after those before it
 module _ {N : Type 0} (nodes : List (Node N)) (edges : List Edge) (i degree : ℕ) (e' : Edge) (n' : Node N) (within : i < length edges) (ends : All (EndsBelow (length nodes)) edges) where
   -- the edge as it was
   abbrev old : Edge

@@ -29,12 +29,15 @@ use Rattle.ptree.proofs.Unfold.{kids_of_unfold}
 ascii_more : (b : ℕ) (bs : List ℕ) → b < 128 → All (λ x. x < 128) bs → All (λ x. x < 128) (b ∷ bs)
 ascii_more b bs h k = All-cons (λ x. x < 128) b bs h k
 
+-- the empty text is ASCII
 no_ascii : All (λ x. x < 128) []
 no_ascii = All-nil (λ x. x < 128)
 
+-- ASCII bytes are UTF-8
 from_ascii : (bs : List ℕ) → All (λ x. x < 128) bs → IsUtf8 bs
 from_ascii bs h = IsUtf8-from_ascii bs (IsAscii-from_all bs h)
 
+-- so is a line feed
 feed : IsUtf8 (10 ∷ [])
 feed = from_ascii (10 ∷ []) (ascii_more 10 [] (omega arith) no_ascii)
 
@@ -43,6 +46,7 @@ joined : {X : Type 0} (f : X → List ℕ) → ((x : X) → IsUtf8 (f x)) → (x
 joined f h [] = IsUtf8-nil
 joined f h (x ∷ xs) = IsUtf8-append (f x) (flat_map f xs) (h x) (joined f h xs)
 
+-- so is a repeated text
 repeated : (n : ℕ) (text : List ℕ) → IsUtf8 text → IsUtf8 (repeat n text)
 repeated zero text h = IsUtf8-nil
 repeated (suc n) text h = IsUtf8-append text (repeat n text) h (repeated n text h)
@@ -73,12 +77,14 @@ inserted_behind inserted i seen (b ∷ text) h = elim (is_feed b) [
 
 -- ## Entries
 
+-- so is a reset
 reset : {X : Type 0} (xs : List X) → IsUtf8 (reset_after xs)
 reset [] = IsUtf8-nil
 reset (x ∷ xs) =
     from_ascii (27 ∷ 91 ∷ 48 ∷ 109 ∷ []) (ascii_more 27 (91 ∷ 48 ∷ 109 ∷ []) (omega arith) (ascii_more 91 (48 ∷ 109 ∷ []) (omega arith)
     (ascii_more 48 (109 ∷ []) (omega arith) (ascii_more 109 [] (omega arith) no_ascii))))
 
+-- so is a painted text
 painted : (style : StyleValue) (text : List ℕ) → IsUtf8 text → IsUtf8 (painted_text style text)
 painted style text h =
     IsUtf8-append (front_codes style ++ text) (back_codes style) (IsUtf8-append (front_codes style) text (IsUtf8-front_codes style) h) (reset (style_codes style))
@@ -89,13 +95,16 @@ record AreUtf8 (look : Look) : Type 0 where
   passing : (last : Bool) → IsUtf8 (passing_piece look.pieces last)
   mark : IsUtf8 look.mark
 
+-- so is a passing text
 passed : (look : Look) → AreUtf8 look → (x : Shape) (a : Address) → IsUtf8 (passing_text look x a)
 passed look u x a = joined (λ b. passing_piece look.pieces (is_last kids x b)) (λ b. u.passing (is_last kids x b)) (beginnings a)
 
+-- so is a prefix
 prefixed : (look : Look) → AreUtf8 look → (x : Shape) (a : Address) → IsUtf8 (prefix_text look x a)
 prefixed look u x [] = IsUtf8-nil
 prefixed look u x (i ∷ rest) = IsUtf8-append (passing_text look x (parent (i ∷ rest))) _ (passed look u x (parent (i ∷ rest))) (u.turning (is_last kids x (i ∷ rest)))
 
+-- so is an entry, if the items' texts are
 entered : (look : Look) → AreUtf8 look → (x : Shape) → HasUtf8Texts look x → (a : Address) → IsUtf8 (entry_text look x a)
 entered look u x h a =
     let front = painted look.branch (passing_text look x a ++ look.mark) (IsUtf8-append (passing_text look x a) look.mark (passed look u x a) u.mark) in
@@ -104,6 +113,7 @@ entered look u x h a =
 
 -- ## Drawings
 
+-- so is a piece
 piece : (n p : ℕ) (first middle end : List ℕ) → IsUtf8 first → IsUtf8 middle → IsUtf8 end → IsUtf8 (first ++ repeat n middle ++ repeat p end)
 piece n p first middle end f m e =
     IsUtf8-append (first ++ repeat n middle) (repeat p end) (IsUtf8-append first (repeat n middle) f (repeated n middle m)) (repeated p end e)
@@ -135,9 +145,11 @@ IsUtf8-drawing config x depth bytes h drawn =
 
 -- ## Items by their children
 
+-- the own bytes at an address below a shape that may be there
 abbrev own_in : Look → Address → Option Shape → List ℕ
 own_in look a o = unwrap_or (option_map (λ y. y.own [] look.leaf) (option_and_then (λ c. at kids c a) o)) []
 
+-- these are UTF-8, if they are below each shape that is
 texts_in : {X : Type 0} (look : Look) (shape : X → Shape) (a : Address) → ((x : X) → IsUtf8 (own_at look (shape x) a)) → (o : Option X) → IsUtf8 (own_in look a (option_map shape o))
 texts_in look shape a h None = IsUtf8-nil
 texts_in look shape a h (Some x) = h x

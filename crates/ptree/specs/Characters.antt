@@ -1,8 +1,8 @@
 -- The characters that branches are drawn with, and the shipped sets of them, in UTF-8.
 use Rattle.std.specs.Prelude.{◌≡◌, ◌⊎◌, ℕ, Bool, List, [], ◌∷◌, Option, Some, None, if◌then◌else◌, codes, string_bytes}
 use Rattle.std.specs.Str.{bytes_eq, str_eq_ignore_ascii_case}
-use Rattle.ptree.specs.declared.print_config.IndentChars.{IndentChars}
-use Rattle.ptree.specs.declared.print_config.StaticIndentChars.{StaticIndentChars}
+use Rattle.ptree.specs.declared.print_config.characters.IndentChars.{IndentChars}
+use Rattle.ptree.specs.declared.print_config.characters.StaticIndentChars.{StaticIndentChars}
 use Rattle.ptree.specs.declared.print_config.words.Spelling.{Spelling}
 use Rattle.ptree.specs.declared.print_config.words.Spelling.TheVariants.{Exact, AnyCase}
 

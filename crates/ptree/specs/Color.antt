@@ -11,8 +11,8 @@ use Rattle.ptree.specs.declared.colors.Side.{Side}
 use Rattle.ptree.specs.declared.colors.Side.TheVariants.{Foreground, Background}
 use Rattle.ptree.specs.declared.colors.Tone.{Tone}
 use Rattle.ptree.specs.declared.colors.Tone.TheVariants.{Eight, Indexed, Direct}
-use Rattle.ptree.specs.declared.style.Color.{Color}
-use Rattle.ptree.specs.declared.style.Color.TheVariants.{Black, Red, Green, Yellow, Blue, Purple, Cyan, White, Fixed, RGB, Named}
+use Rattle.ptree.specs.declared.style.color.Color.{Color}
+use Rattle.ptree.specs.declared.style.color.Color.TheVariants.{Black, Red, Green, Yellow, Blue, Purple, Cyan, White, Fixed, RGB, Named}
 
 -- a colour, with a name by its bytes
 abbrev pub ColorValue : Type 0

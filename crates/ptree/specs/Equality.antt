@@ -6,8 +6,8 @@ use Rattle.std.specs.Str.{bytes_eq}
 use mathlib.Core.Bool.{beq}
 use denote.Enum.Bare.{sameb}
 use Rattle.ptree.specs.declared.print_config.PrintConfig.{PrintConfig}
-use Rattle.ptree.specs.declared.style.Color.{Color}
-use Rattle.ptree.specs.declared.style.Color.TheVariants.{Black, Red, Green, Yellow, Blue, Purple, Cyan, White, Fixed, RGB, Named}
+use Rattle.ptree.specs.declared.style.color.Color.{Color}
+use Rattle.ptree.specs.declared.style.color.Color.TheVariants.{Black, Red, Green, Yellow, Blue, Purple, Cyan, White, Fixed, RGB, Named}
 use Rattle.ptree.specs.declared.style.Style.{Style}
 use Rattle.ptree.specs.contracts.print_config.StyleWhen.{the_type}
 use Rattle.ptree.specs.Characters.{Characters, characters_of}

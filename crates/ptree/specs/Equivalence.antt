@@ -14,7 +14,7 @@ use mathlib.Core.Bool.{beq}
 use denote.Enum.Bare.{sameb}
 use Rattle.ptree.specs.declared.print_config.PrintConfig.{PrintConfig}
 use Rattle.ptree.specs.declared.print_config.StyleWhen.{StyleWhen}
-use Rattle.ptree.specs.declared.style.Color.{Color}
+use Rattle.ptree.specs.declared.style.color.Color.{Color}
 use Rattle.ptree.specs.declared.style.Style.{Style}
 use Rattle.ptree.specs.contracts.print_config.StyleWhen.{the_type}
 use Rattle.ptree.specs.Characters.{Characters, characters_of}

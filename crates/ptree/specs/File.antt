@@ -7,8 +7,8 @@ use Rattle.serde_json.specs.Find as jf
 use Rattle.toml.specs.Data as t
 use Rattle.ptree.specs.declared.print_config.StyleWhen.{StyleWhen}
 use Rattle.ptree.specs.declared.print_config.words.Spelling.TheVariants.{Exact}
-use Rattle.ptree.specs.declared.style.Color.{Color}
-use Rattle.ptree.specs.declared.style.Color.TheVariants.{Fixed, RGB}
+use Rattle.ptree.specs.declared.style.color.Color.{Color}
+use Rattle.ptree.specs.declared.style.color.Color.TheVariants.{Fixed, RGB}
 use Rattle.ptree.specs.Characters.{Characters, set_spelled, utf}
 use Rattle.ptree.specs.Color.{ColorValue}
 use Rattle.ptree.specs.Words.{when_spelled}

@@ -1,6 +1,7 @@
 -- The occurrences of a graph expanded once by recursion, as private functions say them. Public contracts say them by addresses.
-use Rattle.std.specs.Prelude.{ℕ, zero, suc, Bool, true, false, if◌then◌else◌, List, [], ◌∷◌, unwrap_or, slice_get, slice_set}
-use Rattle.ptree.specs.Occurrence.{OccurrenceTree, occurrence, none, row}
+use Rattle.std.specs.Prelude.{◌≡◌, ℕ, zero, suc, ◌+◌, ◌-◌, ◌^◌, ◌<◌, Bool, true, false, if◌then◌else◌, List, [], ◌∷◌, ◌++◌, length, drop, replicate, unwrap_or, slice_get, slice_set}
+use Rattle.ptree.specs.declared.graph.once.Place.{Place}
+use Rattle.ptree.specs.Occurrence.{OccurrenceTree, occurrence, none, row, is_repeated_size, size_below, trees_in}
 
 -- an occurrence, and which nodes have occurrences below them by then
 pub record Grown : Type 0 where
@@ -38,3 +39,37 @@ expand f us seen v = grown (occurrence v false (row (row_occurrences f (enter us
 abbrev pub grow : (ℕ → List ℕ) → ℕ → List Bool → ℕ → Grown
 grow below zero seen v = grown (occurrence v (is_seen seen v) none) seen
 grow below (suc levels) seen v = if is_seen seen v then grown (occurrence v true none) seen else expand (grow below levels) (below v) seen v
+
+-- the flags of n nodes, where the last ones that are not set are left out
+abbrev pub all_flags : ℕ → List Bool → List Bool
+all_flags n seen = seen ++ replicate (n - length seen) false
+
+-- a place of a node
+abbrev pub place_of : ℕ → ℕ → Place
+place_of v size = record { node = record { 0 = v }; size = size }
+
+-- the size of a place with nothing below it
+abbrev pub leaf_size : Bool → ℕ
+leaf_size true = 0
+leaf_size false = 1
+
+-- the places are those of the trees, whatever follows them
+abbrev pub ArePlaces : List Place → List OccurrenceTree → Type 0
+ArePlaces ps ts = (left : ℕ) (rest : List Place) → trees_in (length ps + left) (ps ++ rest) ≡ ts ++ trees_in left rest
+
+-- the places of the trees are appended
+abbrev pub AppendsPlaces : List Place → List Place → List OccurrenceTree → Type 0
+AppendsPlaces old new ts = (ps : List Place) × (new ≡ old ++ ps) × ArePlaces ps ts
+
+-- the place of a number, or one of a node that no graph has
+abbrev pub place_at : List Place → ℕ → Place
+place_at ps i = unwrap_or (slice_get ps i) (place_of (2 ^ 64 - 1) 1)
+
+-- the occurrence of a place without what is below it
+abbrev pub alone_at : Place → OccurrenceTree
+alone_at p = occurrence p.node.0 (is_repeated_size p.size) none
+
+-- some places are left, and the first of them is at this index, with so many below it
+abbrev pub IsNextPlace : List Place → (index left below : ℕ) → Type 0
+IsNextPlace ps index left below =
+    (p : Place) × (0 < left) × (below ≡ size_below p.size) × (drop index ps ≡ p ∷ drop (suc index) ps)

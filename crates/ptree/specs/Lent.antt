@@ -9,8 +9,8 @@ use Rattle.ptree.specs.declared.print_config.file.Document.{Document}
 use Rattle.ptree.specs.declared.print_config.file.Document.TheVariants as document
 use Rattle.ptree.specs.declared.print_config.file.Node as lent
 use Rattle.ptree.specs.declared.print_config.file.Node.TheVariants as node
-use Rattle.ptree.specs.declared.print_config.loader.Given as lent_given
-use Rattle.ptree.specs.declared.print_config.loader.LentChars.{LentChars}
+use Rattle.ptree.specs.declared.print_config.given.Given as lent_given
+use Rattle.ptree.specs.declared.print_config.lent.LentChars.{LentChars}
 
 -- the document that the loader holds
 abbrev pub document_view : Document → Node

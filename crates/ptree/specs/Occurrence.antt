@@ -1,9 +1,8 @@
 -- A graph as a tree in which each node is expanded once: its neighbours stand below one of its occurrences, and the others are leaves.
-use Rattle.std.specs.Prelude.{◌≡◌, ◌≢◌, ◌↔◌, IsTrue, ℕ, suc, ◌+◌, ◌<◌, Bool, false, if◌then◌else◌, nat_lt, List, [], ◌∷◌, ◌++◌, length, map, count_by, Some, option_map, unwrap_or, slice_get}
+use Rattle.std.specs.Prelude.{◌≡◌, ◌≢◌, ◌↔◌, IsTrue, ℕ, zero, suc, ◌+◌, ◌-◌, ◌^◌, ◌<◌, Bool, true, false, if◌then◌else◌, nat_lt, List, [], ◌∷◌, ◌++◌, length, drop, map, count_by, Some, option_map, unwrap_or, slice_get}
 use Rattle.ptree.specs.declared.graph.Graph.{Graph}
 use Rattle.ptree.specs.declared.graph.once.Occurrence.{Occurrence}
-use Rattle.ptree.specs.declared.graph.once.Occurrence.TheOpen.{Occurrence-F}
-use Rattle.ptree.specs.declared.graph.once.Occurrence.TheFolds.{fold-Occurrence}
+use Rattle.ptree.specs.declared.graph.once.Place.{Place}
 use Rattle.ptree.specs.Address.{Address, at, Before}
 use Rattle.ptree.specs.Graph.{weights_of}
 use Rattle.ptree.specs.Shape.{Shape, unfolded_shape}
@@ -95,13 +94,41 @@ abbrev pub HasSize : List (ℕ × ℕ) → OccurrenceTree → Type 0
 HasSize edges t =
     (expanded : ℕ → Bool) × ((v : ℕ) → IsTrue (expanded v) ↔ IsExpanded t v) × (occurrence_count t ≡ suc (count_by (λ e. expanded e.0) edges))
 
--- an Occurrence with the tree of each child in its place
-abbrev pub occurrence_step : Occurrence-F OccurrenceTree → OccurrenceTree
-occurrence_step x = occurrence x.node.0 x.repeated (row x.children.items)
+-- a place of size 0 is repeated
+abbrev pub is_repeated_size : ℕ → Bool
+is_repeated_size zero = true
+is_repeated_size (suc n) = false
+
+-- how many places stand below one of this size
+abbrev pub size_below : ℕ → ℕ
+size_below zero = 0
+size_below (suc n) = n
+
+-- The trees that the places at the front are, as many of them as `left` places make, in at most so many steps. A place is a tree together
+-- with those after it that stand below it by its size, and the next tree begins after these.
+abbrev pub trees_by : (steps left : ℕ) → List Place → List OccurrenceTree
+trees_by zero left ps = []
+trees_by (suc n) zero ps = []
+trees_by (suc n) (suc left) [] = []
+trees_by (suc n) (suc left) (p ∷ ps) =
+    occurrence p.node.0 (is_repeated_size p.size) (row (trees_by n (size_below p.size) ps)) ∷ trees_by n (left - size_below p.size) (drop (size_below p.size) ps)
+
+-- the trees that so many places at the front are: there are no more steps than places
+abbrev pub trees_in : ℕ → List Place → List OccurrenceTree
+trees_in left ps = trees_by (length ps) left ps
+
+-- the tree that begins with the first place; where there is none, a node of a number that no graph has
+abbrev pub tree_at_front : List Place → OccurrenceTree
+tree_at_front [] = occurrence (2 ^ 64 - 1) false none
+tree_at_front (p ∷ ps) = occurrence p.node.0 (is_repeated_size p.size) (row (trees_in (size_below p.size) ps))
 
 -- what an Occurrence means
 abbrev pub occurrence_tree : Occurrence → OccurrenceTree
-occurrence_tree = fold-Occurrence OccurrenceTree occurrence_step
+occurrence_tree o = tree_at_front o.places.items
+
+-- the occurrence at a place of it
+abbrev pub occurrence_at : Occurrence → ℕ → OccurrenceTree
+occurrence_at o i = tree_at_front (drop i o.places.items)
 
 -- the mark of an occurrence, if it is repeated
 abbrev pub mark_text : List ℕ → Bool → List ℕ

@@ -7,7 +7,7 @@ use Rattle.std.specs.Str.Parse.{digits_value}
 use Rattle.ptree.specs.declared.print_config.words.Spelling.{Spelling}
 use Rattle.ptree.specs.declared.print_config.StyleWhen.{StyleWhen}
 use Rattle.ptree.specs.declared.print_config.StyleWhen.TheVariants.{Never, Always, Tty}
-use Rattle.ptree.specs.declared.style.Color.TheVariants.{Fixed}
+use Rattle.ptree.specs.declared.style.color.Color.TheVariants.{Fixed}
 use Rattle.ptree.specs.Characters.{is_spelled}
 use Rattle.ptree.specs.Color.{ColorValue}
 

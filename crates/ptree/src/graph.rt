@@ -8,7 +8,8 @@ mod once;
 
 pub use drawing::{GraphNode, Label, print_graph, write_graph_with};
 pub use once::{
-    Occurrence, OccurrenceItem, REPEATED_MARK, print_graph_once, write_graph_once_with,
+    Expanded, Occurrence, OccurrenceItem, Place, REPEATED_MARK, print_graph_once,
+    write_graph_once_with,
 };
 use std::alloc::{AllocError, AllocFailed, Global};
 use std::error::Error;
@@ -90,7 +91,8 @@ pub struct Graph<N> {
     ghost linked: { IsLinked nodes.items edges.items },
 }
 
-// A node, the number of the newest edge from it, and how many there are. Edges are counted from 1, and 0 says that there is none.
+// A node, the number of the newest edge from it, and how many there are. Edges are counted from 1,
+// and 0 says that there is none.
 #[derive(Drop)]
 struct Node<N> {
     weight: N,
@@ -109,7 +111,7 @@ struct Edge {
 impl<N> Graph<N> {
     ghost use Rattle.ptree.specs.Graph.{weights_of, edges_of, neighbors_of, numbers_of, turned, LacksNode};
 
-    /// A graph without nodes. It takes no memory.
+    /// Makes a graph without nodes. It does not allocate.
     pub fn new(alloc: Global) -> Graph<N>
         ensures weights { weights_of result ≡ [] }
         ensures edges { edges_of result ≡ [] }
@@ -120,11 +122,11 @@ impl<N> Graph<N> {
         }
     }
 
-    /// Adds a node, whose number is how many there were.
+    /// Adds a node. Its number is the number of nodes before the call.
     ///
     /// # Errors
     ///
-    /// Memory ran out. The graph is as before, and the weight is dropped.
+    /// Memory ran out. The graph is unchanged, and the weight is dropped.
     pub fn add_node(&mut self, weight: N) -> Result<NodeIndex, AllocError>
     where
         N: Drop,
@@ -146,7 +148,7 @@ impl<N> Graph<N> {
     ///
     /// # Errors
     ///
-    /// `NoNode`, which is tested first, and `Memory`. The graph is as before.
+    /// `NoNode`, which is tested first, and `Memory`. The graph is unchanged.
     pub fn extend_with_edges(&mut self, edges: &[(NodeIndex, NodeIndex)]) -> Result<(), EdgeError>
         ensures no_node { IsErrOf result EdgeError.NoNode
             ↔ Any (LacksNode (length (weights_of self.old))) edges.now }
@@ -165,16 +167,17 @@ impl<N> Graph<N> {
         Ok(())
     }
 
-    /// The weight of a node, if there is one of that number.
+    /// Returns the weight of a node, or `None` if there is no such node.
     pub fn node_weight(&self, a: NodeIndex) -> Option<&N>
         ensures { option_copied result ≡ slice_get (weights_of self.now) a.0 }
     {
         Some(&self.nodes.get(a.0)?.weight)
     }
 
-    /// The targets of the edges from a node, newest edge first. Parallel edges repeat their target.
+    /// Returns the targets of the edges from a node, newest edge first. Parallel edges repeat their
+    /// target.
     ///
-    /// A number that is no node's has none, which takes no memory.
+    /// If there is no such node, there are none, and the call does not allocate.
     ///
     /// # Errors
     ///
@@ -190,9 +193,11 @@ impl<N> Graph<N> {
         self.targets(*self.nodes.allocator(), a, NodeIndex)
     }
 
-    /// The graph with its edges turned round: the same nodes, and for each edge one from its target to its source, in the same order.
+    /// Returns the graph with its edges turned round: the same nodes, and for each edge one from
+    /// its target to its source, in the same order.
     ///
-    /// So what a node is needed by is drawn as what it needs. This takes no memory, and time that grows with the nodes and edges.
+    /// So what needs a node is drawn as what the node needs. The call does not allocate. Its time
+    /// grows with the nodes and edges.
     pub fn reversed(self) -> Graph<N>
     where
         N: Drop,
@@ -208,7 +213,7 @@ impl<N> Graph<N> {
         Graph { nodes, edges }
     }
 
-    // What is made of the target of each edge from a node, newest edge first.
+    // Returns what `make` makes of the target of each edge from a node, newest edge first.
     #[inline(always)]
     fn targets<T: Drop, F: Fn(usize) -> T>(
         &self,
@@ -263,7 +268,7 @@ impl<N> Graph<N> {
         node.degree = node.degree.saturating_add(1);
     }
 
-    // How many edges there are from a node. It says what room to make, and nothing else.
+    // Returns how many edges there are from a node. Only the room for them depends on it.
     fn degree(&self, a: NodeIndex) -> usize
         ensures no_node { length (weights_of self.now) ≤ a.0 → result ≡ 0 }
     {
@@ -273,7 +278,7 @@ impl<N> Graph<N> {
         }
     }
 
-    // The number of the newest edge from a node, or 0.
+    // Returns the number of the newest edge from a node, or 0.
     fn newest(&self, a: NodeIndex) -> usize
         ensures newest { result ≡ newest_from (edges_of self.now) a.0 }
         ensures no_node { length (weights_of self.now) ≤ a.0 → result ≡ 0 }
@@ -285,7 +290,7 @@ impl<N> Graph<N> {
     }
 }
 
-// Takes all edges from the nodes.
+// Removes all edges from the nodes.
 fn unlink<N>(nodes: &mut [Node<N>])
     ensures newest { All (λ n. n.newest ≡ 0) nodes.new }
     ensures weights { map (λ n. n.weight) nodes.new ≡ map (λ n. n.weight) nodes.old }
@@ -296,7 +301,7 @@ fn unlink<N>(nodes: &mut [Node<N>])
     }
 }
 
-// Turns the edge at an index round, and links it, where those before it are linked.
+// Turns the edge at an index round, and links it. Those before it are linked already.
 fn turn_edge<N>(nodes: &mut [Node<N>], edges: &mut [Edge], i: usize)
     requires within { i < length edges.old }
     requires ends { All (EndsBelow (length nodes.old)) edges.old }

@@ -8,9 +8,11 @@ ghost use Rattle.ptree.specs.Laws.{HasOneList, HasCuts, HasTreeCuts, HasSubtrees
 ghost use Rattle.ptree.specs.Tree.{tree_of, shape_of_tree};
 ghost use Rattle.ptree.specs.Utf8.{HasUtf8Texts};
 
+pub(crate) mod brush;
 pub(crate) mod engine;
 pub(crate) mod indent;
 pub(crate) mod look;
+pub(crate) mod pen;
 mod spread;
 
 use crate::item::{StringItem, TreeItem};
@@ -71,7 +73,8 @@ where
     draw_for(alloc, item, f, output_kind, terminal, &config)
 }
 
-/// Draws as [`print_tree_with`], under the configuration that sources denote ([`PrintConfig::from_env`]).
+/// Draws as [`print_tree_with`], under the configuration that sources denote
+/// ([`PrintConfig::from_env`]).
 ///
 /// # Errors
 ///
@@ -87,7 +90,8 @@ where
     T: TreeItem,
     T::Child: TreeItem<Child = T::Child> + Drop,
     W: Sink,
-    // Success appends exactly the drawing under what the sources denote, and an error a prefix of it.
+    // Success appends exactly the drawing under what the sources denote, and an error a prefix of
+    // it.
     ensures bytes { let meant = meant_by sources.now in
         IsDrawn (look_by meant OutputKind.Stdout terminal) (T.shape item.now) meant.depth
         (W.contents out.old) (W.contents out.new) result }
@@ -100,7 +104,8 @@ where
     draw_meant(alloc, item, out, OutputKind::Stdout, terminal, sources)
 }
 
-/// Draws as [`write_tree_with`], but to standard output. `terminal` says whether that is a terminal.
+/// Draws as [`write_tree_with`], but to standard output. `terminal` says whether that is a
+/// terminal.
 ///
 /// # Errors
 ///
@@ -127,7 +132,8 @@ where
     draw_for(alloc, item, out, OutputKind::Stdout, terminal, config)
 }
 
-/// Draws as [`print_tree_with`] to a sink that knows whether it is a terminal, as `Counted::new(rt.stdout())` does.
+/// Draws as [`print_tree_with`] to a sink that knows whether it is a terminal, as
+/// `Counted::new(rt.stdout())` does.
 ///
 /// # Errors
 ///
@@ -142,8 +148,8 @@ where
     T: TreeItem,
     T::Child: TreeItem<Child = T::Child> + Drop,
     W: Sink + io::IsTerminal,
-    // Success appends exactly the drawing, and an error a prefix of it: as on a terminal or not, as the
-    // sink says.
+    // Success appends exactly the drawing, and an error a prefix of it: as on a terminal or not, as
+    // the sink says.
     ensures bytes { (terminal : Bool)
         × IsDrawn (look_of config.now OutputKind.Stdout terminal) (T.shape item.now)
         config.now.depth (W.contents out.old) (W.contents out.new) result }
@@ -157,7 +163,8 @@ where
     print_tree_with(alloc, item, out, terminal, config)
 }
 
-/// Draws as [`write_tree_with`], under the configuration that sources denote ([`PrintConfig::from_env`]).
+/// Draws as [`write_tree_with`], under the configuration that sources denote
+/// ([`PrintConfig::from_env`]).
 ///
 /// # Errors
 ///
@@ -172,7 +179,8 @@ where
     T: TreeItem,
     T::Child: TreeItem<Child = T::Child> + Drop,
     W: Sink,
-    // Success appends exactly the drawing under what the sources denote, and an error a prefix of it.
+    // Success appends exactly the drawing under what the sources denote, and an error a prefix of
+    // it.
     ensures bytes { let meant = meant_by sources.now in
         IsDrawn (look_by meant OutputKind.Unknown false) (T.shape item.now) meant.depth
         (W.contents f.old) (W.contents f.new) result }
@@ -185,15 +193,16 @@ where
     draw_meant(alloc, item, f, OutputKind::Unknown, false, sources)
 }
 
-/// Draws an item and all below it, down to the configured depth, to a sink that isn't standard output.
+/// Draws an item and all below it, down to the configured depth, to a sink that isn't standard
+/// output.
 ///
-/// Time grows with the bytes of the drawing. It takes memory for one entry and for a call a level, beside
-/// what the items take; it puts each entry at once.
+/// Time grows with the bytes of the drawing. It takes memory for one entry and for a call a level,
+/// beside what the items take; it puts each entry at once.
 ///
 /// # Errors
 ///
-/// `Write` or `Zero` if `f` failed, and `Memory`. A prefix of the drawing was written; if memory ran out,
-/// whole entries.
+/// `Write` or `Zero` if `f` failed, and `Memory`. A prefix of the drawing was written; if memory
+/// ran out, whole entries.
 pub fn write_tree_with<T, W>(
     alloc: Global,
     item: &T,
@@ -248,7 +257,8 @@ where
 
 /// Returns the drawing of an item as a text, as [`write_tree_with`] writes it.
 ///
-/// The result is `None` if the drawing isn't UTF-8. Only an item that writes other bytes makes it so.
+/// The result is `None` if the drawing isn't UTF-8. Only an item that writes other bytes makes it
+/// so.
 ///
 /// # Errors
 ///

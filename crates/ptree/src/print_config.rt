@@ -1,30 +1,31 @@
 //! How trees are drawn: characters, the configuration, and its sources.
-ghost use Rattle.std.specs.Prelude.{◌≡◌, ◌↔◌, IfOk, IsTrue, true, IsErrOf, Some, None, string_bytes};
-ghost use Rattle.ptree.specs.Characters.{characters_of, static_characters, set_named};
+ghost use Rattle.std.specs.Prelude.{◌≡◌, ◌↔◌, IfOk, IsTrue, true, string_bytes};
 ghost use Rattle.ptree.specs.Config.{IsDefault, is_styled};
 ghost use Rattle.ptree.specs.Configuration.{config_value, default_configuration};
 ghost use Rattle.ptree.specs.Loading.{SayNothing, meant_by};
 ghost use Rattle.ptree.specs.Style.{style_value, plain_style, painted_text};
-ghost use Rattle.ptree.specs.declared.print_config.CharsError.{CharsError};
-ghost use Rattle.ptree.specs.declared.print_config.IndentChars.{IndentChars};
 ghost use Rattle.ptree.specs.declared.print_config.OutputKind.{OutputKind};
 ghost use Rattle.ptree.specs.declared.print_config.PrintConfig.{PrintConfig};
-ghost use Rattle.ptree.specs.declared.print_config.StaticIndentChars.{StaticIndentChars};
 
+mod characters;
 mod fields;
 mod file;
+mod given;
+mod lent;
 mod loader;
 mod words;
 
 use crate::style::Style;
+pub use characters::{
+    ASCII_CHARS_PLUS, ASCII_CHARS_TICK, CharsError, IndentChars, StaticIndentChars, UTF_CHARS,
+    UTF_CHARS_BOLD, UTF_CHARS_DASHED, UTF_CHARS_DOUBLE,
+};
 pub use fields::{Field, Part, StyleField};
 pub use file::syntax_line;
-pub use loader::{Fault, first_fault, last_value, load};
-use std::alloc::{AllocError, AllocFailed, Global};
-use std::error::Error;
-use std::fmt;
+pub use given::last_value;
+pub use loader::{Fault, first_fault, load};
+use std::alloc::{AllocError, Global};
 pub use words::Spelling;
-use words::set_spelled;
 
 /// When output is styled.
 #[derive(Debug, Clone, Copy)]
@@ -281,301 +282,6 @@ fn dimmed_style() -> Style
     style.dimmed = true;
     style
 }
-
-/// The characters that branches are drawn with. Each may be any text, even an empty one.
-#[derive(Debug, Drop)]
-pub struct IndentChars {
-    /// Points down and right (`├`).
-    pub down_and_right: String,
-
-    /// Points straight down (`│`).
-    pub down: String,
-
-    /// Turns from down to right (`└`).
-    pub turn_right: String,
-
-    /// Points right (`─`).
-    pub right: String,
-
-    /// A blank (` `).
-    pub empty: String,
-}
-
-impl PartialEq for IndentChars {
-    ghost use Rattle.std.specs.Cmp.{partial_equiv_from_equiv};
-    ghost use Rattle.std.specs.Ordering.{on};
-    ghost use Rattle.ptree.specs.Equivalence.{characters_equivalence};
-    ghost use Rattle.ptree.specs.Equality.{same_characters};
-
-    ghost eq = { on characters_of same_characters };
-
-    ghost laws = { partial_equiv_from_equiv (characters_equivalence characters_of) };
-
-    fn eq(&self, other: &IndentChars) -> bool
-        ensures value { result ≡ on characters_of same_characters self.now other.now }
-        ensures equality { IsTrue result ↔ (characters_of self.now ≡ characters_of other.now) }
-    {
-        self.down_and_right == other.down_and_right
-            && self.down == other.down
-            && self.turn_right == other.turn_right
-            && self.right == other.right
-            && self.empty == other.empty
-    }
-}
-
-impl Eq for IndentChars {
-    ghost use Rattle.ptree.specs.Equivalence.{characters_equivalence};
-
-    ghost laws = { characters_equivalence characters_of };
-}
-
-impl IndentChars {
-    /// Returns the characters of a shipped set, or of one of your own.
-    ///
-    /// # Errors
-    ///
-    /// Memory ran out.
-    pub fn from_static(alloc: Global, s: StaticIndentChars) -> Result<IndentChars, AllocError>
-        ensures { IfOk result (λ c. characters_of c ≡ static_characters s) }
-    {
-        IndentChars::from_texts(
-            alloc,
-            s.down_and_right,
-            s.down,
-            s.turn_right,
-            s.right,
-            s.empty,
-        )
-    }
-
-    // Makes characters of these texts.
-    fn from_texts(
-        alloc: Global,
-        down_and_right: &str,
-        down: &str,
-        turn_right: &str,
-        right: &str,
-        empty: &str,
-    ) -> Result<IndentChars, AllocError>
-        ensures { IfOk result (λ c. characters_of c ≡ record {
-          down_and_right = down_and_right.now;
-          down = down.now;
-          turn_right = turn_right.now;
-          right = right.now;
-          empty = empty.now;
-        }) }
-    {
-        Ok(IndentChars {
-            down_and_right: String::from_str(alloc, down_and_right)?,
-            down: String::from_str(alloc, down)?,
-            turn_right: String::from_str(alloc, turn_right)?,
-            right: String::from_str(alloc, right)?,
-            empty: String::from_str(alloc, empty)?,
-        })
-    }
-
-    /// Returns characters equal to these.
-    ///
-    /// # Errors
-    ///
-    /// Memory ran out.
-    pub fn clone(&self) -> Result<IndentChars, AllocError>
-        ensures { IfOk result (λ c. characters_of c ≡ characters_of self.now) }
-    {
-        IndentChars::from_texts(
-            *self.down.allocator(),
-            self.down_and_right.as_str(),
-            self.down.as_str(),
-            self.turn_right.as_str(),
-            self.right.as_str(),
-            self.empty.as_str(),
-        )
-    }
-
-    /// Returns the shipped set of this name: `utf`, `ascii` or `ascii-tick`, `ascii-plus`,
-    /// `utf-bold`, `utf-dashed` or `utf-double`, exactly as spelled.
-    ///
-    /// # Errors
-    ///
-    /// `Unknown` for any other name, and `Memory`.
-    pub fn from_name(alloc: Global, s: &str) -> Result<IndentChars, CharsError>
-        ensures set { IfOk result (λ c. set_named s.now ≡ Some (characters_of c)) }
-        ensures unknown { IsErrOf result CharsError.Unknown ↔ (set_named s.now ≡ None) }
-    {
-        let Some(set) = set_spelled(Spelling::Exact, s) else {
-            return Err(CharsError::Unknown);
-        };
-        Ok(IndentChars::from_static(alloc, set)?)
-    }
-}
-
-/// Why a name gave no set.
-#[derive(Debug, Clone, Copy)]
-pub enum CharsError {
-    /// No shipped set has that name.
-    Unknown,
-
-    /// Memory ran out.
-    Memory,
-}
-
-impl PartialEq for CharsError {
-    ghost use Rattle.std.proofs.Common.{rules};
-    ghost use Rattle.std.specs.Cmp.Rules.{comparing};
-    ghost use denote.Enum.Bare.{sameb};
-    ghost use Rattle.ptree.specs.contracts.print_config.CharsError.{the_type};
-
-    ghost eq = { sameb the_type };
-
-    ghost laws = { Prim.search (comparing, rules) };
-
-    fn eq(&self, other: &CharsError) -> bool
-        ensures equality { IsTrue result ↔ (self.now ≡ other.now) }
-    {
-        *self as u8 == *other as u8
-    }
-}
-
-impl Eq for CharsError {
-    ghost use Rattle.std.proofs.Common.{rules};
-    ghost use Rattle.std.specs.Cmp.Rules.{comparing};
-
-    ghost laws = { Prim.search (comparing, rules) };
-}
-
-impl From<AllocError> for CharsError {
-    ghost use Rattle.ptree.specs.declared.print_config.CharsError.TheVariants.{Memory};
-
-    ghost from_gives = { λ _ e. e ≡ Memory };
-
-    fn from(_e: AllocError) -> CharsError {
-        CharsError::Memory
-    }
-}
-
-impl<T: Drop> From<AllocFailed<T>> for CharsError {
-    ghost use Rattle.ptree.specs.declared.print_config.CharsError.TheVariants.{Memory};
-
-    ghost from_gives = { λ _ e. e ≡ Memory };
-
-    fn from(_e: AllocFailed<T>) -> CharsError {
-        CharsError::Memory
-    }
-}
-
-impl fmt::Display for CharsError {
-    fn fmt<W: fmt::Write>(&self, f: &mut fmt::Formatter<W>) -> fmt::Result {
-        match self {
-            CharsError::Unknown => write!(f, "no set of characters has that name"),
-            CharsError::Memory => write!(f, "out of memory"),
-        }
-    }
-}
-
-impl Error for CharsError {}
-
-/// Characters that need no memory, such as the shipped sets.
-#[derive(Debug, Clone, Copy)]
-pub struct StaticIndentChars {
-    /// Points down and right (`├`).
-    pub down_and_right: &'static str,
-
-    /// Points straight down (`│`).
-    pub down: &'static str,
-
-    /// Turns from down to right (`└`).
-    pub turn_right: &'static str,
-
-    /// Points right (`─`).
-    pub right: &'static str,
-
-    /// A blank (` `).
-    pub empty: &'static str,
-}
-
-impl PartialEq for StaticIndentChars {
-    ghost use Rattle.std.specs.Cmp.{partial_equiv_from_equiv};
-    ghost use Rattle.std.specs.Ordering.{on};
-    ghost use Rattle.ptree.specs.Equivalence.{characters_equivalence};
-    ghost use Rattle.ptree.specs.Equality.{same_characters};
-
-    ghost eq = { on static_characters same_characters };
-
-    ghost laws = { partial_equiv_from_equiv (characters_equivalence static_characters) };
-
-    fn eq(&self, other: &StaticIndentChars) -> bool
-        ensures value { result ≡ on static_characters same_characters self.now other.now }
-        ensures equality { IsTrue result
-            ↔ (static_characters self.now ≡ static_characters other.now) }
-    {
-        self.down_and_right == other.down_and_right
-            && self.down == other.down
-            && self.turn_right == other.turn_right
-            && self.right == other.right
-            && self.empty == other.empty
-    }
-}
-
-impl Eq for StaticIndentChars {
-    ghost use Rattle.ptree.specs.Equivalence.{characters_equivalence};
-
-    ghost laws = { characters_equivalence static_characters };
-}
-
-/// ASCII characters, with a tick for turning right, as in `tree --charset=ascii`.
-pub const ASCII_CHARS_TICK: StaticIndentChars = StaticIndentChars {
-    down_and_right: "|",
-    down: "|",
-    turn_right: "`",
-    right: "-",
-    empty: " ",
-};
-
-/// ASCII characters, with a plus for turning right.
-pub const ASCII_CHARS_PLUS: StaticIndentChars = StaticIndentChars {
-    down_and_right: "+",
-    down: "|",
-    turn_right: "+",
-    right: "-",
-    empty: " ",
-};
-
-/// Regular box-drawing characters, as in `tree`. But `tree` puts no-break spaces after its bars, as
-/// [`Preset::Tree`](crate::presets::Preset::Tree) does.
-pub const UTF_CHARS: StaticIndentChars = StaticIndentChars {
-    down_and_right: "├",
-    down: "│",
-    turn_right: "└",
-    right: "─",
-    empty: " ",
-};
-
-/// Double box-drawing characters.
-pub const UTF_CHARS_DOUBLE: StaticIndentChars = StaticIndentChars {
-    down_and_right: "╠",
-    down: "║",
-    turn_right: "╚",
-    right: "═",
-    empty: " ",
-};
-
-/// Heavy box-drawing characters.
-pub const UTF_CHARS_BOLD: StaticIndentChars = StaticIndentChars {
-    down_and_right: "┣",
-    down: "┃",
-    turn_right: "┗",
-    right: "━",
-    empty: " ",
-};
-
-/// Dashed box-drawing characters.
-pub const UTF_CHARS_DASHED: StaticIndentChars = StaticIndentChars {
-    down_and_right: "├",
-    down: "┆",
-    turn_right: "└",
-    right: "╌",
-    empty: " ",
-};
 
 /// The configuration file, as the caller found it.
 #[derive(Debug, Drop)]

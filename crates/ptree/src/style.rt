@@ -1,17 +1,18 @@
 //! Styles and colours, the byte streams `Sink` and `Feed`, and the loop that writes.
-ghost use Rattle.std.specs.Io.{ReadsAtMost};
-ghost use Rattle.std.specs.Io.KnownBytes.{WriteAppends, ReadConsumes};
-ghost use Rattle.std.specs.Prelude.{◌≡◌, ◌≢◌, ◌↔◌, ℕ, ◌+◌, ◌≤◌, List, [], IfOk, IsOk, OnOk, OnErr, IsTrue, Option, length, string_bytes};
-ghost use Rattle.ptree.specs.Counted.{fault_count, inner_value};
-ghost use Rattle.ptree.specs.declared.style.Color.{Color};
+ghost use Rattle.std.specs.Prelude.{◌≡◌, ◌≢◌, ◌↔◌, [], IfOk, OnOk, OnErr, IsTrue, string_bytes};
 ghost use Rattle.ptree.specs.declared.style.Style.{Style};
-ghost use Rattle.ptree.specs.Color.{color_value};
 ghost use Rattle.ptree.specs.Style.{style_value, IsPlain, plain_style, style_codes, painted_text, front_codes, back_codes};
-ghost use Rattle.ptree.specs.Writing.{IsWritten, put_faults, get_faults, HasCause, HasErrorCause, TakesNoMemory};
+ghost use Rattle.ptree.specs.Writing.{IsWritten, HasCause, HasErrorCause, TakesNoMemory};
 ghost use Rattle.ptree.specs.declared.style.DrawError.TheVariants.{Memory};
 
+mod color;
+mod sink;
+
 use crate::codes::Codes;
-use crate::faults::FaultCount;
+pub use color::Color;
+use sink::put_codes;
+pub use sink::{Counted, Feed, Sink, put_all};
+pub(crate) use sink::{Stop, put_or_stop};
 use std::alloc::{AllocError, AllocFailed, Global};
 use std::error::Error;
 use std::{fmt, io};
@@ -99,128 +100,6 @@ impl Style {
             && self.reverse == other.reverse
             && self.hidden == other.hidden
             && self.strikethrough == other.strikethrough
-    }
-}
-
-/// A colour of a text or of its background.
-///
-/// The codes of the eight colours are those of ECMA-48. The codes of [`Color::Fixed`] and
-/// [`Color::RGB`] are xterm's. `==` compares names by their bytes. Neither `==` nor painting to a
-/// [`Sink`] allocates.
-#[derive(Debug, Drop)]
-pub enum Color {
-    /// Colour 0 (foreground code 30, background code 40). It is the default.
-    ///
-    /// A text in it is hard to read on a terminal with a dark background.
-    Black,
-
-    /// Colour 1 (foreground code 31, background code 41).
-    Red,
-
-    /// Colour 2 (foreground code 32, background code 42).
-    Green,
-
-    /// Colour 3 (foreground code 33, background code 43).
-    Yellow,
-
-    /// Colour 4 (foreground code 34, background code 44).
-    Blue,
-
-    /// Colour 5 (foreground code 35, background code 45), which ECMA-48 calls magenta.
-    Purple,
-
-    /// Colour 6 (foreground code 36, background code 46).
-    Cyan,
-
-    /// Colour 7 (foreground code 37, background code 47).
-    ///
-    /// A text in it is hard to read on a terminal with a light background.
-    White,
-
-    /// A colour by its number in the terminal's table of 256 (foreground code 38;5;n, background
-    /// code 48;5;n).
-    Fixed(u8),
-
-    /// A 24-bit colour by its bytes of red, green and blue (foreground code 38;2;r;g;b, background
-    /// code 48;2;r;g;b).
-    RGB(u8, u8, u8),
-
-    /// A colour by its name. The first rule that matches decides, which is this crate's choice:
-    ///
-    /// 1. `black`, `red`, `green`, `yellow`, `blue`, `purple`, `cyan` and `white`, exactly, are the
-    ///    eight colours.
-    /// 2. `#` and exactly six hexadecimal digits of any case are the bytes of red, green and blue.
-    /// 3. The sixteen names of HTML 4.01, `steelblue` and `mediumseagreen`, in any ASCII case, are
-    ///    the bytes that they stand for.
-    /// 4. Any other name sets no colour, and has no code.
-    Named(String),
-}
-
-impl PartialEq for Color {
-    ghost use Rattle.std.specs.Cmp.{partial_equiv_from_equiv};
-    ghost use Rattle.ptree.specs.Equivalence.{color_equivalence};
-    ghost use Rattle.ptree.specs.Equality.{same_color};
-
-    ghost eq = { same_color };
-
-    ghost laws = { partial_equiv_from_equiv color_equivalence };
-
-    fn eq(&self, other: &Color) -> bool
-        ensures value { result ≡ same_color self.now other.now }
-        ensures equality { IsTrue result ↔ (color_value self.now ≡ color_value other.now) }
-    {
-        match (self, other) {
-            (Color::Fixed(m), Color::Fixed(n)) => m == n,
-            (Color::RGB(r, g, b), Color::RGB(x, y, z)) => r == x && g == y && b == z,
-            (Color::Named(name), Color::Named(other)) => name == other,
-            (Color::Black, Color::Black)
-            | (Color::Red, Color::Red)
-            | (Color::Green, Color::Green)
-            | (Color::Yellow, Color::Yellow)
-            | (Color::Blue, Color::Blue)
-            | (Color::Purple, Color::Purple)
-            | (Color::Cyan, Color::Cyan)
-            | (Color::White, Color::White) => true,
-            _ => false,
-        }
-    }
-}
-
-impl Eq for Color {
-    ghost use Rattle.ptree.specs.Equivalence.{color_equivalence};
-
-    ghost laws = { color_equivalence };
-}
-
-impl Color {
-    /// Returns colour 0 of the eight.
-    pub fn default() -> Color
-        ensures { result ≡ Color.Black }
-    {
-        Color::Black
-    }
-
-    /// Returns a colour equal to this one.
-    ///
-    /// # Errors
-    ///
-    /// Memory ran out.
-    pub fn clone(&self) -> Result<Color, AllocError>
-        ensures { IfOk result (λ color. color_value color ≡ color_value self.now) }
-    {
-        Ok(match self {
-            Color::Black => Color::Black,
-            Color::Red => Color::Red,
-            Color::Green => Color::Green,
-            Color::Yellow => Color::Yellow,
-            Color::Blue => Color::Blue,
-            Color::Purple => Color::Purple,
-            Color::Cyan => Color::Cyan,
-            Color::White => Color::White,
-            Color::Fixed(n) => Color::Fixed(*n),
-            Color::RGB(r, g, b) => Color::RGB(*r, *g, *b),
-            Color::Named(name) => Color::Named(name.clone()?),
-        })
     }
 }
 
@@ -333,9 +212,9 @@ impl Style {
         })
     }
 
-    // Whether no flag and no colour is set.
+    /// Whether no flag and no colour is set.
     #[inline(always)]
-    fn is_plain(&self) -> bool
+    pub(crate) fn is_plain(&self) -> bool
         ensures { IsTrue result → style_codes (style_value self.now) ≡ [] }
     {
         if self.bold
@@ -431,186 +310,3 @@ impl fmt::Display for DrawError {
 }
 
 impl Error for DrawError {}
-
-/// A destination of bytes, which may fail.
-pub trait Sink {
-    /// The bytes that it holds, if they are known.
-    ghost contents: { Self → Option (List ℕ) };
-
-    /// How often it has failed.
-    ghost faults: { Self → ℕ };
-
-    /// Accepts a prefix of the bytes, and returns its length, as `std::io::Write::write` does.
-    ///
-    /// # Errors
-    ///
-    /// The sink failed, and accepted nothing.
-    fn put(&mut self, bytes: &[u8]) -> io::Result<usize>
-        ensures bound { IfOk result (λ n. n ≤ length bytes.now) }
-        ensures bytes { WriteAppends (contents self.old) (contents self.new) result bytes.now }
-        ensures faults { faults self.new ≡ faults self.old + put_faults result bytes.now };
-}
-
-/// A source of bytes, which may fail.
-pub trait Feed {
-    /// The bytes still to come, if they are known.
-    ghost remaining: { Self → Option (List ℕ) };
-
-    /// How often it has failed.
-    ghost faults: { Self → ℕ };
-
-    /// Fills a prefix of `room`, and returns its length, as `std::io::Read::read` does.
-    ///
-    /// # Errors
-    ///
-    /// The feed failed, and returned no bytes.
-    fn get(&mut self, room: &mut [u8]) -> io::Result<usize>
-        ensures bound { ReadsAtMost result room.new }
-        ensures bytes { ReadConsumes (remaining self.old) (remaining self.new) result room.new }
-        ensures faults { faults self.new ≡ faults self.old + get_faults result };
-}
-
-/// Makes a [`Sink`] of any writer, and a [`Feed`] of any reader. It does not allocate itself.
-#[derive(Drop)]
-pub struct Counted<T> {
-    inner: T,
-    faults: FaultCount,
-}
-
-impl<T> Counted<T> {
-    /// Wraps a writer or a reader, with a fault count of 0.
-    pub fn new(inner: T) -> Counted<T>
-        ensures faults { fault_count result ≡ 0 }
-        ensures inner { inner_value result ≡ inner }
-    {
-        Counted {
-            inner,
-            faults: FaultCount::new(),
-        }
-    }
-
-    /// Returns the writer or reader.
-    pub fn into_inner(self) -> T
-        ensures { result ≡ inner_value self }
-    {
-        let Counted { inner, faults: _ } = self;
-        inner
-    }
-}
-
-impl<T: io::Write> Sink for Counted<T> {
-    ghost use Rattle.ptree.specs.Counted.{fault_count, inner_value};
-
-    ghost contents = { λ c. T.contents (inner_value c) };
-
-    ghost faults = { fault_count };
-
-    fn put(&mut self, bytes: &[u8]) -> io::Result<usize> {
-        let result = self.inner.write(bytes);
-        let failed = match &result {
-            Ok(n) => *n == 0 && !bytes.is_empty(),
-            Err(_) => true,
-        };
-        if failed {
-            self.faults = self.faults.next();
-        }
-        result
-    }
-}
-
-impl<T: io::IsTerminal> io::IsTerminal for Counted<T> {
-    /// As the writer or reader answers.
-    fn is_terminal(&self) -> bool {
-        self.inner.is_terminal()
-    }
-}
-
-impl<T: io::Read> Feed for Counted<T> {
-    ghost use Rattle.ptree.specs.Counted.{fault_count, inner_value};
-
-    ghost remaining = { λ c. T.remaining (inner_value c) };
-
-    ghost faults = { fault_count };
-
-    fn get(&mut self, room: &mut [u8]) -> io::Result<usize> {
-        let result = self.inner.read(room);
-        if result.is_err() {
-            self.faults = self.faults.next();
-        }
-        result
-    }
-}
-
-// Writes codes, as `put_or_stop` does. Usually there is one code, a flag's: its four bytes are
-// copied at once, because their number is known.
-#[inline(always)]
-fn put_codes<W: Sink>(f: &mut W, codes: &[u8], error: &mut DrawError) -> Result<(), Stop>
-    requires { error.old ≡ Memory }
-    ensures bytes { IsWritten (W.contents f.old) (W.contents f.new) result codes.now }
-    ensures cause { HasErrorCause (W.faults f.old) (W.faults f.new) error.new }
-    ensures error { OnOk result (error.new ≡ Memory) }
-    ensures memory { OnErr result (error.new ≢ Memory) }
-{
-    match codes {
-        [a, b, c, d] => put_or_stop(f, &[*a, *b, *c, *d], error),
-        _ => put_or_stop(f, codes, error),
-    }
-}
-
-/// Writes all the bytes, and passes the sink again what it has not accepted. If there are no bytes,
-/// the sink is not called.
-///
-/// # Errors
-///
-/// `Write` or `Zero`. A prefix of the bytes was written.
-pub fn put_all<W: Sink>(f: &mut W, bytes: &[u8]) -> Result<(), DrawError>
-    ensures bytes { IsWritten (W.contents f.old) (W.contents f.new) result bytes.now }
-    ensures cause { HasCause (W.faults f.old) (W.faults f.new) result }
-    ensures memory { TakesNoMemory result }
-    // If there are no bytes, nothing is put, and no fault is counted.
-    ensures none { bytes.now ≡ [] → IsOk result × (f.new ≡ f.old) }
-{
-    let mut rest = bytes;
-    while !rest.is_empty() {
-        match f.put(rest) {
-            Ok(0) => return Err(DrawError::Zero),
-            Ok(n) => rest = &rest[n..],
-            Err(e) => return Err(DrawError::Write(e)),
-        }
-    }
-    Ok(())
-}
-
-/// Writing stopped; the caller holds the error. So a result stays small.
-#[derive(Drop)]
-pub(crate) struct Stop;
-
-impl From<AllocError> for Stop {
-    ghost from_gives = { λ _ _. Unit {0} };
-
-    fn from(_e: AllocError) -> Stop {
-        Stop
-    }
-}
-
-/// Writes all the bytes, as [`put_all`] does, and stores a failure of the sink in `error`.
-#[inline(always)]
-pub(crate) fn put_or_stop<W: Sink>(
-    f: &mut W,
-    bytes: &[u8],
-    error: &mut DrawError,
-) -> Result<(), Stop>
-    requires { error.old ≡ Memory }
-    ensures bytes { IsWritten (W.contents f.old) (W.contents f.new) result bytes.now }
-    ensures cause { HasErrorCause (W.faults f.old) (W.faults f.new) error.new }
-    ensures error { OnOk result (error.new ≡ Memory) }
-    ensures memory { OnErr result (error.new ≢ Memory) }
-{
-    match put_all(f, bytes) {
-        Ok(()) => Ok(()),
-        Err(e) => {
-            *error = e;
-            Err(Stop)
-        }
-    }
-}

@@ -12,13 +12,13 @@ mod document;
 mod from_json;
 mod from_toml;
 mod node;
+mod part;
 mod text;
 
 use crate::item::{Children, Shaped, TreeItem};
 use crate::style::{DrawError, Sink, Style};
 pub use convert::ConvertError;
 pub use document::{DocError, DocFormat, draw_document, draw_document_with};
-use node::Node;
 use std::alloc::{AllocError, Global};
 use text::ROOM;
 
@@ -176,13 +176,13 @@ impl TreeItem for Value {
     type Child = (String, Value);
 
     /// Writes the value's text painted. It does not allocate.
-    fn write_self<W: Sink>(&self, alloc: Global, f: &mut W, style: &Style) -> Result<(), DrawError>
+    fn write_self<W: Sink>(&self, _alloc: Global, f: &mut W, style: &Style) -> Result<(), DrawError>
         ensures bytes { IsWritten (W.contents f.old) (W.contents f.new) result
             ((value_shape (data_of self.now)).own [] (style_value style.now)) }
         ensures cause { HasCause (W.faults f.old) (W.faults f.new) result }
         ensures memory { TakesNoMemory result }
     {
-        Node::Labelled("", self).write_self(alloc, f, style)
+        style.write_painted(f, self.text(&mut [0; ROOM]))
     }
 
     /// Makes a pair of each element of a list, and of each entry of a map, in order. Other values
@@ -215,7 +215,11 @@ impl TreeItem for (String, Value) {
         ensures cause { HasCause (W.faults f.old) (W.faults f.new) result }
         ensures memory { TakesNoMemory result }
     {
-        Node::Labelled(self.0.as_str(), &self.1).write_self(alloc, f, style)
+        if self.0.is_empty() {
+            self.1.write_self(alloc, f, style)
+        } else {
+            style.write_painted(f, self.0.as_str())
+        }
     }
 
     /// Makes the children of the value.

@@ -4,15 +4,18 @@ ghost use Rattle.ptree.specs.Address.{Address};
 ghost use Rattle.ptree.specs.Drawing.{look_by, written_look, IsDrawing};
 ghost use Rattle.ptree.specs.Graph.{weights_of, edges_of, neighbors_of, node_shape, turned};
 ghost use Rattle.ptree.specs.Loading.{meant_by};
-ghost use Rattle.ptree.specs.Occurrence.{OccurrenceTree, IsExpandedOnce, IsExpanded, IsMetBefore, HasOneTree, NoneRepeated, StandsAt, occurrence_count, occurrence_kids, occurrence_shape, occurrence_tree};
-ghost use Rattle.ptree.specs.Writing.{HasCause, IsDrawn, LeavesWholeEntries};
+ghost use Rattle.ptree.specs.Occurrence.{OccurrenceTree, IsExpandedOnce, IsExpanded, IsMetBefore, HasOneTree, NoneRepeated, StandsAt, occurrence_at, occurrence_count, occurrence_kids, occurrence_own, occurrence_shape, occurrence_tree};
+ghost use Rattle.ptree.specs.Style.{style_value};
+ghost use Rattle.ptree.specs.Writing.{IsWritten, HasCause, IsDrawn, LeavesWholeEntries};
 ghost use Rattle.ptree.specs.declared.print_config.OutputKind.{OutputKind};
 ghost use Rattle.ptree_callers.specs.declared.graphs.Package.{Package};
 
 use ptree::PrintConfig;
 use ptree::graph::{
-    Graph, Label, NodeIndex, Occurrence, REPEATED_MARK, print_graph_once, write_graph_once_with,
+    Expanded, Graph, Label, NodeIndex, Occurrence, OccurrenceItem, REPEATED_MARK, print_graph_once,
+    write_graph_once_with,
 };
+use ptree::item::TreeItem;
 use ptree::print_config::Sources;
 use ptree::style::{DrawError, Sink, Style};
 use std::alloc::{AllocError, Global};
@@ -76,12 +79,13 @@ pub fn needs_once(graph: &Graph<Package>, which: NodeIndex) -> Result<Occurrence
     graph.expanded_once(which, 9)
 }
 
-/// The same, of a graph in which each package needs something: above the depth each has its needs below its first occurrence, and nothing
-/// below the others.
-pub fn all_needs_once(graph: &Graph<Package>, which: NodeIndex) -> Result<Occurrence, AllocError>
-    requires { (v : ℕ) → neighbors_of (edges_of graph.now) v ≢ [] }
+/// The same, of a package that needs something: of its occurrences above the depth, the first has its needs below it, and the others have
+/// nothing.
+pub fn first_needs_once(graph: &Graph<Package>, which: NodeIndex) -> Result<Occurrence, AllocError>
+    requires { neighbors_of (edges_of graph.now) which.0 ≢ [] }
     ensures { IfOk result (λ o. (a : Address) (p : OccurrenceTree) → StandsAt (occurrence_tree o) a p
-        → length a < 9 → (occurrence_kids p ≢ []) ↔ (IsMetBefore 9 (occurrence_tree o) a p.node → ⊥)) }
+        → p.node ≡ which.0 → length a < 9
+        → (occurrence_kids p ≢ []) ↔ (IsMetBefore 9 (occurrence_tree o) a p.node → ⊥)) }
 {
     graph.expanded_once(which, 9)
 }
@@ -92,6 +96,49 @@ pub fn no_needs_once(graph: &Graph<Package>, which: NodeIndex) -> Result<Occurre
     ensures { IfOk result (λ o. NoneRepeated (occurrence_tree o)) }
 {
     graph.expanded_once(which, 9)
+}
+
+/// The graph that items are of, with the mark of `cargo tree`.
+pub fn marked<'a>(graph: &'a Graph<Package>, occurrence: &'a Occurrence) -> Expanded<'a, Package>
+    ensures graph { result.graph.now ≡ graph.now }
+    ensures mark { result.mark.now ≡ REPEATED_MARK.now }
+    ensures occurrence { result.occurrence.now ≡ occurrence.now }
+{
+    Expanded {
+        graph,
+        mark: REPEATED_MARK,
+        occurrence,
+    }
+}
+
+/// Writes what stands at a place of a graph that is expanded: the package's name, and the mark if it is repeated.
+pub fn write_need<W: Sink>(
+    alloc: Global,
+    expanded: &Expanded<'_, Package>,
+    index: usize,
+    f: &mut W,
+    style: &Style,
+) -> Result<(), DrawError>
+    ensures bytes { IsWritten (W.contents f.old) (W.contents f.new) result
+        (occurrence_own (λ p. string_bytes p.name) expanded.now.graph.now expanded.now.mark.now
+        (occurrence_at expanded.now.occurrence.now index) (style_value style.now)) }
+    ensures cause { HasCause (W.faults f.old) (W.faults f.new) result }
+{
+    OccurrenceItem { expanded, index }.write_self(alloc, f, style)
+}
+
+/// How many packages stand right below a place of it.
+pub fn needs_below(
+    alloc: Global,
+    expanded: &Expanded<'_, Package>,
+    index: usize,
+) -> Result<usize, AllocError>
+    ensures { IfOk result (λ n.
+        n ≡ length (occurrence_kids (occurrence_at expanded.now.occurrence.now index))) }
+{
+    let item = OccurrenceItem { expanded, index };
+    let below = item.children(alloc)?;
+    Ok(below.as_slice().len())
 }
 
 /// Draws each package's needs once, as `cargo tree` does.

@@ -75,6 +75,10 @@ fn texts_of_documents(rt: HostRuntime) -> Result<(), Fail> {
             "cannot write: the writer took no bytes",
         ),
         (DocError::Draw(DrawError::Memory), "out of memory"),
+        (
+            DocError::Draw(DrawError::Write(io::Error::from(ErrorKind::StorageFull))),
+            "cannot write: no storage space",
+        ),
     ] {
         expect_message(rt.alloc(), &error, wanted)?;
     }

@@ -1,7 +1,9 @@
 //! Tests items of one's own, and what an item does alone.
 
 use ptree::item::{Children, Shaped, TreeItem};
-use ptree::style::{Counted, DrawError, Sink, Style};
+use ptree::output::{tree_bytes, tree_text};
+use ptree::print_config::PrintConfig;
+use ptree::style::{Counted, DrawError, Sink, Style, put_all};
 use ptree_fixtures::barren::Barren;
 use ptree_fixtures::expect::{draw_to, expect_drawn, expect_text};
 use ptree_fixtures::trees::over_leaves;
@@ -97,4 +99,41 @@ impl TreeItem for MyTree {
 #[test]
 fn an_item_of_another_type_is_drawn(rt: HostRuntime) -> Result<(), Fail> {
     expect_drawn(rt.alloc(), &MyTree, "My custom tree\n")
+}
+
+// An item that writes a byte that no UTF-8 has.
+#[derive(Drop)]
+struct Raw;
+
+impl Shaped for Raw {
+    ghost use Rattle.std.specs.Prelude.{[], ◌∷◌};
+    ghost use Rattle.ptree.specs.Shape.{unfolded_shape};
+
+    ghost shape = { unfolded_shape (λ _ _. 255 ∷ []) (λ _. []) };
+}
+
+impl TreeItem for Raw {
+    type Child = Raw;
+
+    fn write_self<W: Sink>(
+        &self,
+        _alloc: Global,
+        f: &mut W,
+        _style: &Style,
+    ) -> Result<(), DrawError> {
+        put_all(f, b"\xff")
+    }
+
+    fn children(&self, alloc: Global) -> Result<Children<'_, Raw>, AllocError> {
+        Ok(Children::Made(Vec::new(alloc)))
+    }
+}
+
+#[test]
+fn bytes_that_are_no_text_are_drawn(rt: HostRuntime) -> Result<(), Fail> {
+    let alloc = rt.alloc();
+    let config = PrintConfig::default(alloc)?;
+    assert!(rt; tree_text(alloc, &Raw, &config)?.is_none());
+    assert!(rt; tree_bytes(alloc, &Raw, &config)?.as_slice() == b"\xff\n".as_slice());
+    Ok(())
 }

@@ -1,5 +1,6 @@
 //! Tests writers that accept little, that fail, and that accept everything, and readers.
 
+use ptree::buffered::Buffered;
 use ptree::style::{Counted, DrawError, Feed, put_all};
 use ptree_fixtures::expect::{draw_to, expect_on_screen, expect_text};
 use ptree_fixtures::failing::{Answer, Breaking, Failing};
@@ -24,6 +25,17 @@ fn nothing_is_asked_for_no_bytes(rt: HostRuntime) -> Result<(), Fail> {
     let mut out = Counted::new(Failing::new(alloc, 0, 0, 0, Answer::Zero)?);
     assert!(rt; put_all(&mut out, b"").is_ok());
     assert!(rt; out.into_inner().calls == 0);
+    Ok(())
+}
+
+#[test]
+fn nothing_is_asked_where_a_buffer_is_empty(rt: HostRuntime) -> Result<(), Fail> {
+    let alloc = rt.alloc();
+    let writer = Failing::new(alloc, 0, 0, 0, Answer::Zero)?;
+    let mut out = Buffered::with_capacity(alloc, 4, Counted::new(writer))?;
+    assert!(rt; out.flush().is_ok() && put_all(&mut out, b"").is_ok());
+    assert!(rt; out.flush().is_ok());
+    assert!(rt; out.into_inner().into_inner().calls == 0);
     Ok(())
 }
 

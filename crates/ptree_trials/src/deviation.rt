@@ -30,6 +30,17 @@ pub fn expect(holds: bool, rule: &'static str) -> Result<(), Deviation> {
     }
 }
 
+/// Says how a trial of this name ended.
+pub fn report(rt: &HostRuntime, name: &str, ended: Result<(), Deviation>) -> io::Result<()> {
+    match ended {
+        Ok(()) => println!(rt; "{name}"),
+        Err(deviation) => {
+            println!(rt; "{name}: {deviation}")?;
+            Err(io::Error::from(deviation))
+        }
+    }
+}
+
 impl fmt::Display for Deviation {
     fn fmt<W: fmt::Write>(&self, f: &mut fmt::Formatter<W>) -> fmt::Result {
         write!(f, "not kept: {}", self.rule)

@@ -1,7 +1,10 @@
-//! Tries long chains, a million lines, and documents nested as deep as they may be, each against the drawing that the rules give.
+//! Tries long chains, a million lines, graphs of many walks, and documents nested as deep as they may be, each against the drawing that
+//! the rules give.
 
-use crate::deviation::{Deviation, expect};
+use crate::deviation::{Deviation, expect, report};
 use ptree::TreeBuilder;
+use ptree::builder::AddError;
+use ptree::graph::{Graph, NodeIndex, REPEATED_MARK, write_graph_once_with};
 use ptree::item::StringItem;
 use ptree::output::tree_bytes;
 use ptree::print_config::PrintConfig;
@@ -16,6 +19,12 @@ use std::io;
 const ITEMS: u32 = 200;
 
 const LINES: u32 = 1_000_000;
+
+// How many levels a builder has, which are more than the stack bears where a tree of them is built.
+const LEVELS: u32 = 70_000;
+
+// How many layers of two nodes a graph has below its root.
+const LAYERS: usize = 30;
 
 // Lines of last children, each one level deeper: so many, the first behind these blanks.
 fn steps(alloc: Global, blanks: &str, text: &str, levels: u32) -> Result<String, AllocError> {
@@ -76,6 +85,25 @@ fn try_chain(alloc: Global) -> Result<(), Deviation> {
     reads_back(alloc, &nested_chain(alloc)?, drawing.as_str())
 }
 
+// Items of a builder, each a level below the one before it.
+fn try_levels(alloc: Global) -> Result<(), Deviation> {
+    let mut builder = TreeBuilder::new(alloc, String::from_str(alloc, "x")?);
+    for level in 0..LEVELS {
+        builder.add_at_level(level.saturating_add(1), String::from_str(alloc, "x")?)?;
+    }
+    expect(
+        builder.level() == LEVELS,
+        "the last item of a builder has its level",
+    )?;
+    let refused = builder.add_at_level(LEVELS.saturating_add(2), String::new(alloc));
+    expect(
+        refused == Err(AddError::Level),
+        "a level that can't follow is refused",
+    )?;
+    builder.add_at_level(1, String::new(alloc))?;
+    expect(builder.level() == 1, "a builder goes back to a level")
+}
+
 // Texts of so many lines, of a root and of a child.
 fn try_lines(alloc: Global) -> Result<(), Deviation> {
     let mut text = String::from_str(alloc, "a")?;
@@ -102,6 +130,60 @@ fn try_items(alloc: Global) -> Result<(), Deviation> {
     text.push_str("└─ c\n")?;
     children.push(leaf(alloc, "c")?)?;
     reads_back(alloc, &over(alloc, "r", children)?, text.as_str())
+}
+
+// A root over layers of a and b, each node with edges to both nodes below it: 2 to the power of 30 walks.
+fn layers(alloc: Global) -> Result<Graph<&'static str>, Deviation> {
+    let mut graph = Graph::new(alloc);
+    let mut above = vec![in alloc; graph.add_node("r")?]?;
+    for _ in 0..LAYERS {
+        let (a, b) = (graph.add_node("a")?, graph.add_node("b")?);
+        for node in &above {
+            graph.extend_with_edges(&[(*node, b), (*node, a)])?;
+        }
+        above = vec![in alloc; a, b]?;
+    }
+    Ok(graph)
+}
+
+// What is drawn of it where each node is expanded once, in 119 lines: each a stands below the one before it, and the other nodes follow
+// from the last layer up.
+fn layers_drawn(alloc: Global) -> Result<String, AllocError> {
+    let mut drawing = String::from_str(alloc, "r\n")?;
+    for layer in 0..LAYERS {
+        drawing.push_str("│  ".repeat(alloc, layer)?.as_str())?;
+        drawing.push_str("├─ a\n")?;
+    }
+    for below in 0..LAYERS {
+        let front = "│  ".repeat(alloc, LAYERS.saturating_sub(below).saturating_sub(1))?;
+        let mark = if below > 1 { REPEATED_MARK } else { "" };
+        drawing.push_str(format!(in alloc; "{front}└─ b\n")?.as_str())?;
+        if below > 0 {
+            drawing.push_str(format!(in alloc; "{front}   ├─ a{mark}\n")?.as_str())?;
+            drawing.push_str(format!(in alloc; "{front}   └─ b{mark}\n")?.as_str())?;
+        }
+    }
+    Ok(drawing)
+}
+
+// A graph with more walks than can be drawn, each node expanded once.
+fn try_layers(alloc: Global) -> Result<(), Deviation> {
+    let config = PrintConfig::default(alloc)?;
+    let graph = layers(alloc)?;
+    let mut out = Counted::new(Vec::new(alloc));
+    write_graph_once_with(
+        alloc,
+        &graph,
+        NodeIndex(0),
+        REPEATED_MARK,
+        &mut out,
+        &config,
+    )?;
+    let drawing = layers_drawn(alloc)?;
+    expect(
+        out.into_inner().as_slice() == drawing.as_bytes(),
+        "a graph of many walks has this drawing",
+    )
 }
 
 // What opens a level of a document, what stands in the last one, and what closes a level.
@@ -186,23 +268,40 @@ fn try_toml(alloc: Global) -> Result<(), Deviation> {
     Ok(())
 }
 
-// Says how a trial ended.
-fn report(rt: &HostRuntime, name: &str, ended: Result<(), Deviation>) -> io::Result<()> {
-    match ended {
-        Ok(()) => println!(rt; "{name}"),
-        Err(deviation) => {
-            println!(rt; "{name}: {deviation}")?;
-            Err(io::Error::from(deviation))
-        }
-    }
+// So many inline tables in one another below a table's name, and all keys of 80 parts.
+fn tables(alloc: Global, count: usize) -> Result<String, AllocError> {
+    let mut key = "k.".repeat(alloc, 79)?;
+    key.push('k')?;
+    let open = format!(in alloc; "{{ {key} = ")?
+        .as_str()
+        .repeat(alloc, count)?;
+    let close = " }".repeat(alloc, count)?;
+    format!(in alloc; "[{key}]\n{key} = {open}1{close}\n")
+}
+
+// 80 inline tables and the keys of 80 parts in them, 6,560 levels in all.
+fn try_both(alloc: Global) -> Result<(), Deviation> {
+    let mut drawing = format!(in alloc; "d\n{}", steps(alloc, "", "k", 6_560)?)?;
+    drawing.pop();
+    drawing.push_str(" = 1\n")?;
+    let document = tables(alloc, 80)?;
+    is_drawn(alloc, DocFormat::Toml, document.as_str(), drawing.as_str())?;
+    is_refused(alloc, DocFormat::Toml, tables(alloc, 81)?.as_str())
 }
 
 /// Tries all of them, names each, and stops at the first rule that isn't kept.
 pub fn try_limits(rt: &HostRuntime) -> io::Result<()> {
     let alloc = rt.alloc();
     report(rt, "a chain of 200 items", try_chain(alloc))?;
+    report(rt, "a builder of 70,000 levels", try_levels(alloc))?;
     report(rt, "a text of a million lines", try_lines(alloc))?;
     report(rt, "a million items", try_items(alloc))?;
+    report(rt, "a graph of 30 layers, expanded once", try_layers(alloc))?;
     report(rt, "JSON nested to the limit, and past it", try_json(alloc))?;
-    report(rt, "TOML nested to the limit, and past it", try_toml(alloc))
+    report(rt, "TOML nested to the limit, and past it", try_toml(alloc))?;
+    report(
+        rt,
+        "TOML nested to both limits, and past them",
+        try_both(alloc),
+    )
 }

@@ -1,6 +1,6 @@
 //! Tries the library on writers that fail, on random input and on input of extreme sizes, and where memory is refused:
-//! `ptree_trials TASK`. The tasks are `faults`, `fuzz SEED CASES`, `calls FOLDER SEED CASES`, `limits`, `extreme NAME` and
-//! `refusals`.
+//! `ptree_trials TASK`. The tasks are `faults`, `fuzz SEED CASES`, `calls FOLDER SEED CASES`, `limits`, `sizes MOST`,
+//! `extreme NAME` and `refusals`.
 #![tactic(auto)]
 
 mod deviation;
@@ -9,12 +9,14 @@ mod faults;
 mod fuzz;
 mod limits;
 mod refusals;
+mod sizes;
 
 use extreme::draw_extreme;
 use faults::try_faults;
 use fuzz::{try_cases, write_calls};
 use limits::try_limits;
 use refusals::make_calls;
+use sizes::try_sizes;
 use std::{env, io};
 
 // How many cases are tried where the words don't say.
@@ -40,6 +42,7 @@ fn main(rt: HostRuntime) -> io::Result<()> {
         }
         "limits" => try_limits(&rt),
         "refusals" => make_calls(&rt),
+        "sizes" => try_sizes(&rt, number(words.next(), u32::MAX) as usize),
         "calls" => {
             let folder = words.next().unwrap_or(String::from_str(alloc, ".")?);
             let seed = number(words.next(), 1);

@@ -1,4 +1,4 @@
-//! What is drawn of a graph.
+//! Draws a graph.
 ghost use Rattle.std.specs.Prelude.{◌≡◌, ◌↔◌, ℕ, ◌<◌, List, length, map, All, IfOk};
 ghost use Rattle.ptree.specs.Children.{children_items};
 ghost use Rattle.ptree.specs.Drawing.{look_by, written_look, IsDrawing};
@@ -19,14 +19,14 @@ use std::alloc::{AllocError, Global};
 
 /// What a node's weight is drawn as.
 pub trait Label {
-    /// The text that it means.
+    /// The text that it denotes.
     ghost text: { Self → List ℕ };
 
     /// Writes the text, painted.
     ///
     /// # Errors
     ///
-    /// `Write` or `Zero` where `f` failed, and `Memory`. A beginning of the painted text was written.
+    /// `Write` or `Zero` if `f` failed, and `Memory`. A prefix of the painted text was written.
     fn write_label<W: Sink>(&self, alloc: Global, f: &mut W, style: &Style) -> Result<(), DrawError>
         ensures bytes { IsWritten (W.contents f.old) (W.contents f.new) result
             (painted_text (style_value style.now) (text self.now)) }
@@ -38,7 +38,7 @@ impl Label for String {
 
     ghost text = { string_bytes };
 
-    /// Writes the text itself, painted. It takes no memory.
+    /// Writes the text itself, painted. It does not allocate.
     fn write_label<W: Sink>(
         &self,
         _alloc: Global,
@@ -57,7 +57,7 @@ impl Label for String {
 impl Label for &str {
     ghost text = { λ s. s.now };
 
-    /// Writes the text itself, painted. It takes no memory.
+    /// Writes the text itself, painted. It does not allocate.
     fn write_label<W: Sink>(
         &self,
         _alloc: Global,
@@ -90,12 +90,14 @@ impl Label for u64 {
     }
 }
 
-/// A node of a graph as an item: its weight, and its neighbours below it. Where the graph has a cycle, they go on for ever.
+/// A node of a graph as an item: its weight, and its neighbours below it. In a graph with a cycle
+/// the item is infinite.
 pub struct GraphNode<'a, N> {
     /// The graph.
     pub graph: &'a Graph<N>,
 
-    /// The node's number. One that is no node's means an item that writes nothing and has no children.
+    /// The node's number. If the graph has no such node, the item writes nothing and has no
+    /// children.
     pub node: NodeIndex,
 }
 
@@ -122,7 +124,7 @@ impl<N: Label> Shaped for GraphNode<'_, N> {
 impl<'a, N: Label> TreeItem for GraphNode<'a, N> {
     type Child = GraphNode<'a, N>;
 
-    /// Writes the weight's text, painted, and nothing at all where there is no such node.
+    /// Writes the weight's text, painted, or nothing if there is no such node.
     fn write_self<W: Sink>(
         &self,
         alloc: Global,
@@ -135,7 +137,7 @@ impl<'a, N: Label> TreeItem for GraphNode<'a, N> {
         }
     }
 
-    /// Makes an item of each neighbour, newest edge first.
+    /// Returns an item for each neighbour, newest edge first.
     fn children(&self, alloc: Global) -> Result<Children<'_, GraphNode<'a, N>>, AllocError>
         ensures shapes { IfOk result (λ c.
             map (λ x. node_shape N.text x.graph.now x.node.0) (children_items c)
@@ -160,14 +162,14 @@ impl<'a, N: Label> TreeItem for GraphNode<'a, N> {
     }
 }
 
-/// Draws a graph from a start node on to a writer that isn't standard output.
+/// Draws a graph from a start node, to a sink that isn't standard output.
 ///
-/// A graph with cycles is bounded by the configuration's depth alone.
+/// If the graph has a cycle, only the configured depth ends its drawing.
 ///
 /// # Errors
 ///
-/// `Write` or `Zero` where `f` failed, and `Memory`. A beginning of the drawing was written; where memory ran out,
-/// whole entries.
+/// `Write` or `Zero` if `f` failed, and `Memory`. A prefix of the drawing was written; if memory
+/// ran out, whole entries.
 pub fn write_graph_with<N: Label, W: Sink>(
     alloc: Global,
     graph: &Graph<N>,
@@ -192,8 +194,8 @@ pub fn write_graph_with<N: Label, W: Sink>(
     write_tree_with(alloc, &GraphNode { graph, node: start }, f, config)
 }
 
-/// Draws as [`write_graph_with`], but to standard output, `terminal` saying whether that is a terminal, and under the configuration that
-/// sources mean ([`PrintConfig::from_env`]).
+/// Draws as [`write_graph_with`], but to standard output, and under the configuration that sources
+/// denote ([`PrintConfig::from_env`]). `terminal` says whether standard output is a terminal.
 ///
 /// # Errors
 ///

@@ -39,8 +39,8 @@ fn holds_line_feed_at<const N: usize>(bytes: &[u8], place: usize) -> bool
         != 0
 }
 
-// Whether a line feed may follow the first `start` bytes, for `N` bytes or more but fewer than twice
-// as many: two vectors overlap.
+// Whether a line feed may follow the first `start` bytes, for `N` bytes or more but fewer than
+// twice as many: two vectors overlap.
 #[inline(always)]
 fn holds_line_feed_in_two<const N: usize>(bytes: &[u8], start: usize) -> bool
     requires few { N ≤ 64 }

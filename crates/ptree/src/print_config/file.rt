@@ -28,8 +28,8 @@ impl Document {
     {
         match file {
             FileSource::Absent | FileSource::Unreadable => Ok(None),
-            FileSource::Toml(text) => read_toml(alloc, text.as_str()),
-            FileSource::Json(text) => read_json(alloc, text.as_str()),
+            FileSource::Toml(text) => parse_toml(alloc, text.as_str()),
+            FileSource::Json(text) => parse_json(alloc, text.as_str()),
         }
     }
 
@@ -45,7 +45,7 @@ impl Document {
 }
 
 // Reads a text as TOML.
-fn read_toml(alloc: Global, text: &str) -> Result<Option<Document>, AllocError>
+fn parse_toml(alloc: Global, text: &str) -> Result<Option<Document>, AllocError>
     ensures { IfOk result (λ read. option_map document_view read ≡ toml_document text.now) }
 {
     match toml::table_from_str(alloc, text) {
@@ -59,7 +59,7 @@ fn read_toml(alloc: Global, text: &str) -> Result<Option<Document>, AllocError>
 }
 
 // Reads a text as JSON.
-fn read_json(alloc: Global, text: &str) -> Result<Option<Document>, AllocError>
+fn parse_json(alloc: Global, text: &str) -> Result<Option<Document>, AllocError>
     ensures { IfOk result (λ read. option_map document_view read ≡ json_document text.now) }
 {
     match serde_json::Value::from_str(alloc, text) {

@@ -4,11 +4,14 @@ ghost use Rattle.ptree.specs.Data.{Data, KeysAscend, pair_shape};
 ghost use Rattle.ptree.specs.Document.{document, document_error, IsRefusal, HasDocumentCause};
 ghost use Rattle.ptree.specs.Drawing.{look_by, look_of};
 ghost use Rattle.ptree.specs.Loading.{meant_by};
-ghost use Rattle.ptree.specs.Value.{data_of};
+ghost use Rattle.ptree.specs.Parts.{parsed_data};
 ghost use Rattle.ptree.specs.Writing.{IsDrawn, AppendsWholeEntries};
 
+use super::ConvertError;
+use super::from_json::has_float;
+use super::from_toml::fault_of;
 use super::node::Node;
-use super::{ConvertError, Value};
+use super::part::Parsed;
 use crate::output::print_tree_with;
 use crate::print_config::{OutputKind, PrintConfig, Sources};
 use crate::style::{DrawError, Sink};
@@ -143,8 +146,8 @@ pub fn draw_document<W: Sink>(
 /// terminal.
 ///
 /// The drawing is that of the pair of the label and the document's value. If the label is empty,
-/// the root's text is that of the value. The document is copied once, as a [`Value`], and no text
-/// is made for an entry.
+/// the root's text is that of the value. The document's values are drawn where the parser put them,
+/// without a copy.
 ///
 /// # Errors
 ///
@@ -184,15 +187,15 @@ pub fn draw_document_with<W: Sink>(
         (W.contents out.new)) }
     ensures cause { HasDocumentCause (W.faults out.old) (W.faults out.new) result }
 {
-    let value = read_document(alloc, format, text)?;
-    print_tree_with(alloc, &Node::Labelled(label, &value), out, terminal, config)?;
+    let parsed = read_document(alloc, format, text)?;
+    print_tree_with(alloc, &Node::root(label, &parsed), out, terminal, config)?;
     Ok(())
 }
 
-// Reads a text, and returns the document's value.
-fn read_document(alloc: Global, format: DocFormat, text: &str) -> Result<Value, DocError>
-    ensures value { IfOk result (λ v. document format text.now ≡ Ok (data_of v)) }
-    ensures keys { IfOk result (λ v. KeysAscend (data_of v)) }
+// Reads a text, and returns the document without floats and dates.
+fn read_document(alloc: Global, format: DocFormat, text: &str) -> Result<Parsed, DocError>
+    ensures value { IfOk result (λ p. document format text.now ≡ Ok (parsed_data p)) }
+    ensures keys { IfOk result (λ p. KeysAscend (parsed_data p)) }
     ensures refused { IfErr result (IsRefusal (document format text.now)) }
 {
     match format {
@@ -201,25 +204,36 @@ fn read_document(alloc: Global, format: DocFormat, text: &str) -> Result<Value, 
     }
 }
 
-fn read_json(alloc: Global, text: &str) -> Result<Value, DocError>
-    ensures value { IfOk result (λ v. document DocFormat.Json text.now ≡ Ok (data_of v)) }
-    ensures keys { IfOk result (λ v. KeysAscend (data_of v)) }
+fn read_json(alloc: Global, text: &str) -> Result<Parsed, DocError>
+    ensures value { IfOk result (λ p. document DocFormat.Json text.now ≡ Ok (parsed_data p)) }
+    ensures keys { IfOk result (λ p. KeysAscend (parsed_data p)) }
     ensures refused { IfErr result (IsRefusal (document DocFormat.Json text.now)) }
 {
     match serde_json::Value::from_str(alloc, text) {
-        Ok(v) => Ok(Value::from_json(alloc, &v)?),
+        Ok(v) => {
+            if has_float(&v) {
+                return Err(DocError::Float);
+            }
+            Ok(Parsed::Json(v))
+        }
         Err(e) if e.is_memory() => Err(DocError::Draw(DrawError::Memory)),
         Err(_) => Err(DocError::Syntax),
     }
 }
 
-fn read_toml(alloc: Global, text: &str) -> Result<Value, DocError>
-    ensures value { IfOk result (λ v. document DocFormat.Toml text.now ≡ Ok (data_of v)) }
-    ensures keys { IfOk result (λ v. KeysAscend (data_of v)) }
+fn read_toml(alloc: Global, text: &str) -> Result<Parsed, DocError>
+    ensures value { IfOk result (λ p. document DocFormat.Toml text.now ≡ Ok (parsed_data p)) }
+    ensures keys { IfOk result (λ p. KeysAscend (parsed_data p)) }
     ensures refused { IfErr result (IsRefusal (document DocFormat.Toml text.now)) }
 {
     match toml::table_from_str(alloc, text) {
-        Ok(table) => Ok(Value::from_toml(alloc, &toml::Value::Table(table))?),
+        Ok(table) => {
+            let v = toml::Value::Table(table);
+            if let Some(fault) = fault_of(&v) {
+                return Err(DocError::from(fault));
+            }
+            Ok(Parsed::Toml(v))
+        }
         Err(e) if e.is_memory() => Err(DocError::Draw(DrawError::Memory)),
         Err(_) => Err(DocError::Syntax),
     }

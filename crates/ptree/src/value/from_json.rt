@@ -34,10 +34,12 @@ impl Value {
     }
 }
 
-// Whether the value holds a float. It does not allocate.
+// Whether the value holds a float. If not, the keys of each object in it ascend. It does not
+// allocate.
 #[cycle(walk)]
-fn has_float(v: &serde_json::Value) -> bool
-    ensures { result ≡ has_float (view v.now) }
+pub(super) fn has_float(v: &serde_json::Value) -> bool
+    ensures value { result ≡ has_float (view v.now) }
+    ensures keys { result ≡ false → KeysAscend (json_data (view v.now)) }
 {
     match v {
         serde_json::Value::Null => false,
@@ -51,7 +53,8 @@ fn has_float(v: &serde_json::Value) -> bool
 
 #[cycle(walk)]
 fn items_have_float(items: &Vec<serde_json::Value>) -> bool
-    ensures { result ≡ items_have_float (items_view items.now.items) }
+    ensures value { result ≡ items_have_float (items_view items.now.items) }
+    ensures keys { result ≡ false → ItemsAscend (json_items (items_view items.now.items)) }
 {
     for item in items {
         if has_float(item) {
@@ -63,7 +66,9 @@ fn items_have_float(items: &Vec<serde_json::Value>) -> bool
 
 #[cycle(walk)]
 fn members_have_float(members: &Map<String, serde_json::Value>) -> bool
-    ensures { result ≡ members_have_float (members_view members.now.entries) }
+    ensures value { result ≡ members_have_float (members_view members.now.entries) }
+    ensures keys { result ≡ false
+        → KeysAscend (map (json_entries (members_view members.now.entries))) }
 {
     for (_, member) in members.iter() {
         if has_float(member) {
@@ -77,8 +82,7 @@ fn members_have_float(members: &Map<String, serde_json::Value>) -> bool
 #[cycle(convert)]
 fn value_of(alloc: Global, v: &serde_json::Value) -> Result<Value, AllocError>
     requires { has_float (view v.now) ≡ false }
-    ensures value { IfOk result (λ value. data_of value ≡ json_data (view v.now)) }
-    ensures keys { IfOk result (λ value. KeysAscend (data_of value)) }
+    ensures { IfOk result (λ value. data_of value ≡ json_data (view v.now)) }
 {
     match v {
         serde_json::Value::Null => Ok(Value::Unit),
@@ -101,9 +105,8 @@ fn value_of(alloc: Global, v: &serde_json::Value) -> Result<Value, AllocError>
 #[cycle(convert)]
 fn values_of(alloc: Global, items: &Vec<serde_json::Value>) -> Result<Vec<Value>, AllocError>
     requires { items_have_float (items_view items.now.items) ≡ false }
-    ensures value { IfOk result (λ values.
+    ensures { IfOk result (λ values.
         items_meant values.items ≡ json_items (items_view items.now.items)) }
-    ensures keys { IfOk result (λ values. ItemsAscend (items_meant values.items)) }
 {
     let mut values = Vec::with_capacity(alloc, items.len())?;
     for item in items {
@@ -118,9 +121,8 @@ fn entries_of(
     members: &Map<String, serde_json::Value>,
 ) -> Result<Vec<(Value, Value)>, AllocError>
     requires { members_have_float (members_view members.now.entries) ≡ false }
-    ensures value { IfOk result (λ entries.
+    ensures { IfOk result (λ entries.
         entries_meant entries.items ≡ json_entries (members_view members.now.entries)) }
-    ensures keys { IfOk result (λ entries. KeysAscend (map (entries_meant entries.items))) }
 {
     let mut entries = Vec::with_capacity(alloc, members.len())?;
     for (key, member) in members.iter() {

@@ -34,10 +34,12 @@ impl Value {
     }
 }
 
-// Returns the first float or date. It does not allocate.
+// Returns the first float or date. If there is none, the keys of each table in the value ascend. It
+// does not allocate.
 #[cycle(walk)]
-fn fault_of(v: &toml::Value) -> Option<ConvertError>
-    ensures { result ≡ toml_fault (view v.now) }
+pub(super) fn fault_of(v: &toml::Value) -> Option<ConvertError>
+    ensures value { result ≡ toml_fault (view v.now) }
+    ensures keys { result ≡ None → KeysAscend (toml_data (view v.now)) }
 {
     match v {
         toml::Value::String(_) => None,
@@ -52,7 +54,8 @@ fn fault_of(v: &toml::Value) -> Option<ConvertError>
 
 #[cycle(walk)]
 fn fault_of_items(items: &Vec<toml::Value>) -> Option<ConvertError>
-    ensures { result ≡ toml_item_fault (items_view items.now.items) }
+    ensures value { result ≡ toml_item_fault (items_view items.now.items) }
+    ensures keys { result ≡ None → ItemsAscend (toml_items (items_view items.now.items)) }
 {
     for item in items {
         if let Some(fault) = fault_of(item) {
@@ -64,7 +67,9 @@ fn fault_of_items(items: &Vec<toml::Value>) -> Option<ConvertError>
 
 #[cycle(walk)]
 fn fault_of_members(members: &Table) -> Option<ConvertError>
-    ensures { result ≡ toml_member_fault (members_view members.now.entries) }
+    ensures value { result ≡ toml_member_fault (members_view members.now.entries) }
+    ensures keys { result ≡ None
+        → KeysAscend (map (toml_entries (members_view members.now.entries))) }
 {
     for (_, member) in members.iter() {
         if let Some(fault) = fault_of(member) {
@@ -78,8 +83,7 @@ fn fault_of_members(members: &Table) -> Option<ConvertError>
 #[cycle(convert)]
 fn value_of(alloc: Global, v: &toml::Value) -> Result<Value, AllocError>
     requires { toml_fault (view v.now) ≡ None }
-    ensures value { IfOk result (λ value. data_of value ≡ toml_data (view v.now)) }
-    ensures keys { IfOk result (λ value. KeysAscend (data_of value)) }
+    ensures { IfOk result (λ value. data_of value ≡ toml_data (view v.now)) }
 {
     match v {
         toml::Value::String(text) => Ok(Value::String(text.clone()?)),
@@ -95,9 +99,8 @@ fn value_of(alloc: Global, v: &toml::Value) -> Result<Value, AllocError>
 #[cycle(convert)]
 fn values_of(alloc: Global, items: &Vec<toml::Value>) -> Result<Vec<Value>, AllocError>
     requires { toml_item_fault (items_view items.now.items) ≡ None }
-    ensures value { IfOk result (λ values.
+    ensures { IfOk result (λ values.
         items_meant values.items ≡ toml_items (items_view items.now.items)) }
-    ensures keys { IfOk result (λ values. ItemsAscend (items_meant values.items)) }
 {
     let mut values = Vec::with_capacity(alloc, items.len())?;
     for item in items {
@@ -109,9 +112,8 @@ fn values_of(alloc: Global, items: &Vec<toml::Value>) -> Result<Vec<Value>, Allo
 #[cycle(convert)]
 fn entries_of(alloc: Global, members: &Table) -> Result<Vec<(Value, Value)>, AllocError>
     requires { toml_member_fault (members_view members.now.entries) ≡ None }
-    ensures value { IfOk result (λ entries.
+    ensures { IfOk result (λ entries.
         entries_meant entries.items ≡ toml_entries (members_view members.now.entries)) }
-    ensures keys { IfOk result (λ entries. KeysAscend (map (entries_meant entries.items))) }
 {
     let mut entries = Vec::with_capacity(alloc, members.len())?;
     for (key, member) in members.iter() {

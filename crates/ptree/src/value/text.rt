@@ -40,7 +40,7 @@ impl Value {
 }
 
 // Returns a number in decimal.
-fn unsigned(room: &mut [u8; ROOM], n: u64) -> &str
+pub(super) fn unsigned(room: &mut [u8; ROOM], n: u64) -> &str
     ensures { result.now ≡ decimal n }
 {
     let start = write_digits(room, n);
@@ -48,7 +48,7 @@ fn unsigned(room: &mut [u8; ROOM], n: u64) -> &str
 }
 
 // Returns a number in decimal, with `-` before a negative one.
-fn signed(room: &mut [u8; ROOM], n: i64) -> &str
+pub(super) fn signed(room: &mut [u8; ROOM], n: i64) -> &str
     ensures { result.now ≡ signed_decimal n }
 {
     let start = write_signed(room, n);

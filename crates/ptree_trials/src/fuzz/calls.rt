@@ -2,13 +2,13 @@
 
 use super::dice::Dice;
 use super::documents::{document, sources};
-use super::made::{damaged, text, tree};
-use crate::deviation::Deviation;
+use super::made::{damaged, is_too_wide, text, tree};
+use crate::deviation::{Deviation, expect};
 use ptree::item::StringItem;
 use ptree::output::print_tree;
 use ptree::print_config::{ASCII_CHARS_PLUS, FileSource, PrintConfig, Sources};
 use ptree::read::{pieces_readable, read_tree};
-use ptree::style::Counted;
+use ptree::style::{Counted, DrawError};
 use ptree::value::{DocError, DocFormat, draw_document};
 use ptree_fixtures::trees::plain;
 use std::alloc::{AllocError, Global};
@@ -59,9 +59,20 @@ impl Answer {
         }
     }
 
-    // A piece would be longer than a text can be. A writer to memory fails in no other way.
-    fn no_memory(alloc: Global) -> Answer {
-        Answer::refused(alloc, 1, "no memory\n")
+    // Memory ran out, for which a piece has to be longer than a text can be.
+    fn no_memory(alloc: Global, config: &PrintConfig) -> Result<Answer, Deviation> {
+        expect(is_too_wide(config), "memory is there")?;
+        Ok(Answer::refused(alloc, 1, "no memory\n"))
+    }
+
+    // A drawing to memory failed, which it does only where memory ran out.
+    fn failed(alloc: Global, e: DrawError, config: &PrintConfig) -> Result<Answer, Deviation> {
+        match e {
+            DrawError::Memory => Answer::no_memory(alloc, config),
+            DrawError::Write(_) | DrawError::Zero => Err(Deviation::of(
+                "a writer to memory takes all bytes",
+            )),
+        }
     }
 }
 
@@ -136,7 +147,7 @@ fn words_answer(
     let mut out = Counted::new(Vec::new(alloc));
     match print_tree(alloc, &tree, &mut out, terminal, sources) {
         Ok(()) => Ok(Answer::done(out.into_inner())),
-        Err(_) => Ok(Answer::no_memory(alloc)),
+        Err(e) => Answer::failed(alloc, e, &PrintConfig::from_env(alloc, sources)?),
     }
 }
 
@@ -151,8 +162,12 @@ fn document_answer(
     let mut out = Counted::new(Vec::new(alloc));
     match draw_document(alloc, format, text, label, sources, terminal, &mut out) {
         Ok(()) => Ok(Answer::done(out.into_inner())),
-        Err(DocError::Draw(_)) => Ok(Answer::no_memory(alloc)),
-        Err(_) => Ok(Answer::refused(alloc, 1, "bad document\n")),
+        Err(DocError::Draw(e)) => Answer::failed(alloc, e, &PrintConfig::from_env(alloc, sources)?),
+        Err(DocError::Syntax | DocError::Float | DocError::Date) => Ok(Answer::refused(
+            alloc,
+            1,
+            "bad document\n",
+        )),
     }
 }
 
@@ -161,7 +176,7 @@ fn redraw_answer(alloc: Global, text: &str, config: &PrintConfig) -> Result<Answ
     match pieces_readable(alloc, config) {
         Ok(true) => {}
         Ok(false) => return Ok(Answer::refused(alloc, 1, "pieces not readable\n")),
-        Err(_) => return Ok(Answer::no_memory(alloc)),
+        Err(_) => return Answer::no_memory(alloc, config),
     }
     let Some(tree) = read_tree(alloc, text, config)? else {
         return Ok(Answer::refused(alloc, 1, "not a drawing\n"));
@@ -220,7 +235,10 @@ fn redraw_call(
     let config = PrintConfig::from_env(alloc, sources)?;
     let mut drawing = match tree(alloc, dice, 9)?.drawing(alloc, &config) {
         Ok(drawing) => drawing,
-        Err(_) => String::new(alloc),
+        Err(_) => {
+            expect(is_too_wide(&config), "memory is there")?;
+            String::new(alloc)
+        }
     };
     if dice.is_one_in(2) {
         drawing = damaged(alloc, dice, drawing.as_str())?;

@@ -1,7 +1,7 @@
 //! Rules of graphs: their drawings are those of the trees of walks.
 
 use super::dice::Dice;
-use super::made::{MadeGraph, config, net};
+use super::made::{MadeGraph, config, depth, net, start};
 use super::trees::{drawn, writer};
 use crate::deviation::{Deviation, expect};
 use crate::faults::leaves_front;
@@ -22,6 +22,42 @@ fn targets(alloc: Global, net: &MadeGraph, node: usize) -> Result<Vec<NodeIndex>
         }
     }
     Ok(targets)
+}
+
+// The most walks that are drawn.
+const WALKS: u64 = 300;
+
+/// The depth, or a smaller one down to which there are few walks.
+pub fn few_walks(
+    alloc: Global,
+    net: &MadeGraph,
+    start: usize,
+    depth: u32,
+) -> Result<u32, AllocError> {
+    let mut all: u64 = 1;
+    // How many walks of so many steps end at each node.
+    let mut ends: Vec<u64> = vec![in alloc; 0; net.texts.len()]?;
+    if let Some(end) = ends.get_mut(start) {
+        *end = 1;
+    }
+    for steps in 0..depth {
+        let mut longer: Vec<u64> = vec![in alloc; 0; net.texts.len()]?;
+        for (source, target) in &net.edges {
+            let count = ends.get(*source).copied().unwrap_or(0);
+            if let Some(end) = longer.get_mut(*target) {
+                *end = end.saturating_add(count);
+            }
+            all = all.saturating_add(count);
+        }
+        if longer.iter().all(|count| *count == 0) {
+            break;
+        }
+        if all > WALKS {
+            return Ok(steps);
+        }
+        ends = longer;
+    }
+    Ok(depth)
 }
 
 // The tree of walks from a node, down to a level.
@@ -56,8 +92,8 @@ fn graph_drawn(
     Ok(String::from_utf8(out.into_inner())?)
 }
 
-// What is drawn from a number that is no node's: the codes of branches, and a line feed.
-fn nothing_drawn(alloc: Global, config: &PrintConfig) -> Result<String, AllocError> {
+/// What is drawn from a number that is no node's: the codes of branches, and a line feed.
+pub fn nothing_drawn(alloc: Global, config: &PrintConfig) -> Result<String, AllocError> {
     let mut entry = if config.styled == StyleWhen::Always {
         config.paint_branch(alloc, "")?
     } else {
@@ -89,19 +125,22 @@ fn try_bad_edge(alloc: Global, net: &mut MadeGraph, start: usize) -> Result<(), 
 pub fn try_graphs(alloc: Global, dice: &mut Dice) -> Result<(), Deviation> {
     let mut net = net(alloc, dice)?;
     let mut config = config(alloc, dice)?;
-    config.depth = dice.below(4);
-    let start = dice.index(net.texts.len());
-    try_bad_edge(alloc, &mut net, start)?;
+    let node = dice.index(net.texts.len());
+    try_bad_edge(alloc, &mut net, node)?;
+    let start = start(dice, &net);
+    config.depth = few_walks(alloc, &net, start, depth(dice))?;
     let drawing = graph_drawn(alloc, &net, start, &config)?;
-    let walks = walks(alloc, &net, start, config.depth)?;
-    let of_walks = drawn(alloc, &walks, &config)?;
-    expect(
-        drawing == of_walks,
-        "a graph's drawing is that of its walks",
-    )?;
-    let outside = graph_drawn(alloc, &net, net.texts.len(), &config)?;
-    let nothing = nothing_drawn(alloc, &config)?;
-    expect(outside == nothing, "nothing is drawn of no node")?;
+    if start < net.texts.len() {
+        let walks = walks(alloc, &net, start, config.depth)?;
+        let of_walks = drawn(alloc, &walks, &config)?;
+        expect(
+            drawing == of_walks,
+            "a graph's drawing is that of its walks",
+        )?;
+    } else {
+        let nothing = nothing_drawn(alloc, &config)?;
+        expect(drawing == nothing, "nothing is drawn of no node")?;
+    }
     let writer = writer(dice, drawing.len());
     let draw = |out: &mut Counted<Failing>| {
         write_graph_with(alloc, &net.graph, NodeIndex(start), out, &config)

@@ -2,7 +2,7 @@
 
 use super::dice::Dice;
 use super::documents::{document, sources};
-use super::made::{config, text, tree};
+use super::made::{config, is_too_wide, text, tree};
 use super::trees::writer;
 use crate::deviation::{Deviation, expect};
 use crate::faults::{drawing_of, leaves_front};
@@ -53,6 +53,11 @@ impl End {
         }
     }
 
+    // How the reading of a text failed.
+    fn of_text(is_memory: bool) -> End {
+        if is_memory { End::Memory } else { End::Syntax }
+    }
+
     // How a conversion failed.
     fn of_refusal(e: ConvertError) -> End {
         match e {
@@ -75,8 +80,19 @@ fn written<F: FnMut(&mut Counted<Vec<u8>>) -> End>(alloc: Global, mut call: F) -
     }
 }
 
-// That two calls wrote the same, and ended alike.
-fn expect_alike(one: &Outcome, other: &Outcome, rule: &'static str) -> Result<(), Deviation> {
+// That two calls under a configuration wrote the same, and ended alike. A writer to memory fails only where memory runs out, for which
+// a piece has to be longer than a text can be.
+fn expect_alike(
+    one: &Outcome,
+    other: &Outcome,
+    config: &PrintConfig,
+    rule: &'static str,
+) -> Result<(), Deviation> {
+    expect(one.end != End::Sink, "a writer to memory takes all bytes")?;
+    expect(
+        one.end != End::Memory || is_too_wide(config),
+        "memory is there",
+    )?;
     expect(one.end == other.end && one.bytes == other.bytes, rule)
 }
 
@@ -120,6 +136,7 @@ where
     expect_alike(
         &under,
         &with,
+        config,
         "`write_tree` draws under what the sources mean",
     )?;
     for terminal in [false, true] {
@@ -132,6 +149,7 @@ where
         expect_alike(
             &under,
             &with,
+            config,
             "`print_tree` draws under what the sources mean",
         )?;
     }
@@ -174,6 +192,7 @@ fn try_sources(alloc: Global, dice: &mut Dice) -> Result<(), Deviation> {
     expect_alike(
         &under,
         &with,
+        &config,
         "`draw_document` draws under what the sources mean",
     )?;
     try_earlier(alloc, dice, sources, &config)
@@ -183,11 +202,13 @@ fn try_sources(alloc: Global, dice: &mut Dice) -> Result<(), Deviation> {
 fn value(alloc: Global, format: DocFormat, text: &str) -> Result<Value, End> {
     match format {
         DocFormat::Json => {
-            let parsed = serde_json::Value::from_str(alloc, text).map_err(|_| End::Syntax)?;
+            let parsed = serde_json::Value::from_str(alloc, text).map_err(|e| End::of_text(
+                e.is_memory(),
+            ))?;
             Value::from_json(alloc, &parsed).map_err(End::of_refusal)
         }
         DocFormat::Toml => {
-            let table = toml::table_from_str(alloc, text).map_err(|_| End::Syntax)?;
+            let table = toml::table_from_str(alloc, text).map_err(|e| End::of_text(e.is_memory()))?;
             Value::from_toml(alloc, &toml::Value::Table(table)).map_err(End::of_refusal)
         }
     }
@@ -256,14 +277,23 @@ fn try_document(alloc: Global, dice: &mut Dice, format: DocFormat) -> Result<(),
         Ok(value) => {
             let copy = case.value_drawn(alloc, value.clone()?)?;
             let drawing = case.value_drawn(alloc, value)?;
-            expect_alike(&found, &drawing, "a document is drawn as its value is")?;
-            expect_alike(&copy, &drawing, "a copy of a value is drawn alike")?;
+            let config = &case.config;
+            expect_alike(
+                &found,
+                &drawing,
+                config,
+                "a document is drawn as its value is",
+            )?;
+            expect_alike(&copy, &drawing, config, "a copy of a value is drawn alike")?;
             case.try_writer(alloc, dice, &found.bytes)
         }
-        Err(end) => expect(
-            found.end == end && found.bytes.is_empty(),
-            "a document without a value is refused so, and nothing is written",
-        ),
+        Err(end) => {
+            expect(end != End::Memory, "memory is there")?;
+            expect(
+                found.end == end && found.bytes.is_empty(),
+                "a document without a value is refused so, and nothing is written",
+            )
+        }
     }
 }
 

@@ -167,6 +167,11 @@ pub fn config(alloc: Global, dice: &mut Dice) -> Result<PrintConfig, Deviation> 
     })
 }
 
+/// Whether a piece of a configuration may be longer than a text can be, so that memory for it runs out.
+pub fn is_too_wide(config: &PrintConfig) -> bool {
+    config.indent == usize::MAX || config.padding == usize::MAX
+}
+
 /// A graph, and what it was made of.
 #[derive(Drop)]
 pub struct MadeGraph {
@@ -175,26 +180,88 @@ pub struct MadeGraph {
     pub graph: Graph<String>,
 }
 
-/// A graph of one to five texts with up to eight edges, cycles and parallel ones among them.
-pub fn net(alloc: Global, dice: &mut Dice) -> Result<MadeGraph, Deviation> {
+// A graph of so many texts, without edges.
+fn nodes(alloc: Global, dice: &mut Dice, count: u32) -> Result<MadeGraph, Deviation> {
     let mut texts = Vec::new(alloc);
-    let mut edges = Vec::new(alloc);
     let mut graph = Graph::new(alloc);
-    for _ in 0..dice.below(5).saturating_add(1) {
+    for _ in 0..count {
         let text = text(alloc, dice)?;
         graph.add_node(text.clone()?)?;
         texts.push(text)?;
     }
-    for _ in 0..dice.below(9) {
-        let (source, target) = (dice.index(texts.len()), dice.index(texts.len()));
-        graph.extend_with_edges(&[(NodeIndex(source), NodeIndex(target))])?;
-        edges.push((source, target))?;
-    }
     Ok(MadeGraph {
         texts,
-        edges,
+        edges: Vec::new(alloc),
         graph,
     })
+}
+
+// Adds less than so many edges, some of them from a node to itself, and some twice.
+fn add_edges(dice: &mut Dice, net: &mut MadeGraph, count: u32) -> Result<(), Deviation> {
+    for _ in 0..dice.below(count) {
+        let source = dice.index(net.texts.len());
+        let target = if dice.is_one_in(9) {
+            source
+        } else {
+            dice.index(net.texts.len())
+        };
+        for _ in 0..dice.below(9).saturating_sub(6).max(1) {
+            net.graph
+                .extend_with_edges(&[(NodeIndex(source), NodeIndex(target))])?;
+            net.edges.push((source, target))?;
+        }
+    }
+    Ok(())
+}
+
+// The graph turned round, and beside it each edge by itself.
+fn turned(net: MadeGraph) -> MadeGraph {
+    let MadeGraph {
+        texts,
+        mut edges,
+        graph,
+    } = net;
+    for edge in &mut edges {
+        let (source, target) = *edge;
+        *edge = (target, source);
+    }
+    MadeGraph {
+        texts,
+        edges,
+        graph: graph.reversed(),
+    }
+}
+
+/// A graph of a few texts and edges, or of up to 40 texts and more edges, with cycles, loops and parallel edges. Some are turned
+/// round, and then grow on.
+pub fn net(alloc: Global, dice: &mut Dice) -> Result<MadeGraph, Deviation> {
+    let (most, edges) = if dice.is_one_in(3) { (40, 60) } else { (5, 9) };
+    let count = dice.below(most).saturating_add(1);
+    let mut net = nodes(alloc, dice, count)?;
+    add_edges(dice, &mut net, edges)?;
+    if dice.is_one_in(3) {
+        net = turned(net);
+        add_edges(dice, &mut net, 5)?;
+    }
+    Ok(net)
+}
+
+/// A number that is a node's in most cases.
+pub fn start(dice: &mut Dice, net: &MadeGraph) -> usize {
+    if dice.is_one_in(8) {
+        net.texts.len().saturating_add(dice.index(3))
+    } else {
+        dice.index(net.texts.len())
+    }
+}
+
+/// A depth: small, up to 12, or none.
+pub fn depth(dice: &mut Dice) -> u32 {
+    match dice.below(3) {
+        0 => dice.below(5),
+        1 => dice.below(13),
+        _ => u32::MAX,
+    }
 }
 
 /// The text with one character left out, doubled, or replaced.

@@ -1,7 +1,8 @@
 //! Rules of graphs that are drawn with each node expanded once, beside what their definition by addresses gives.
 
 use super::dice::Dice;
-use super::made::{MadeGraph, config, net, text};
+use super::graphs::{few_walks, nothing_drawn};
+use super::made::{MadeGraph, config, depth, net, start, text};
 use super::trees::{drawn, writer};
 use crate::deviation::{Deviation, expect};
 use crate::faults::leaves_front;
@@ -14,7 +15,7 @@ use ptree_fixtures::failing::Failing;
 use std::alloc::{AllocError, Global};
 
 // An occurrence: its address, its node, and whether something stands below it or an earlier one of its node.
-#[derive(Drop)]
+#[derive(Drop, PartialEq, Eq)]
 struct Place {
     address: Vec<usize>,
     node: usize,
@@ -60,6 +61,9 @@ fn walks(
     let mut all = Vec::new(alloc);
     let mut level = vec![in alloc; (Vec::new(alloc), start)]?;
     for _ in 0..depth {
+        if level.is_empty() {
+            break;
+        }
         let next = longer(alloc, net, &level)?;
         for walk in level {
             all.push(walk)?;
@@ -73,9 +77,55 @@ fn walks(
     Ok(all)
 }
 
-// The occurrences down to a depth, in the order of their addresses. A walk leads to one where it is that of the start, or where the
-// occurrence before its last step is expanded.
+// An occurrence behind those before it.
+fn next_place(
+    net: &MadeGraph,
+    before: &[Place],
+    address: Vec<usize>,
+    node: usize,
+    depth: u32,
+) -> Place {
+    let repeated = before.iter().any(|p| p.expanded && p.node == node);
+    let has_targets = net.edges.iter().any(|(source, _)| *source == node);
+    let is_above = address.len() < depth as usize;
+    Place {
+        address,
+        node,
+        expanded: !repeated && has_targets && is_above,
+        repeated,
+    }
+}
+
+// The occurrences down to a depth, one after the other: those below one that is expanded come next.
 fn places(
+    alloc: Global,
+    net: &MadeGraph,
+    start: usize,
+    depth: u32,
+) -> Result<Vec<Place>, AllocError> {
+    let mut places: Vec<Place> = Vec::new(alloc);
+    let mut waiting = vec![in alloc; (Vec::new(alloc), start)]?;
+    for _ in 0..net.edges.len().saturating_add(1) {
+        let Some((address, node)) = waiting.pop() else {
+            break;
+        };
+        let place = next_place(net, &places, address, node, depth);
+        if place.expanded {
+            let targets = targets(alloc, net, node)?;
+            for step in (0..targets.len()).rev() {
+                let mut below = place.address.clone()?;
+                below.push(step)?;
+                waiting.push((below, targets[step]))?;
+            }
+        }
+        places.push(place)?;
+    }
+    Ok(places)
+}
+
+// The same by the definition, in the order of their addresses. A walk leads to one where it is that of the start, or where the
+// occurrence before its last step is expanded.
+fn places_of_walks(
     alloc: Global,
     net: &MadeGraph,
     start: usize,
@@ -90,15 +140,8 @@ fn places(
                 .any(|p| p.expanded && p.address.as_slice() == above),
         };
         if stands {
-            let repeated = places.iter().any(|p| p.expanded && p.node == node);
-            let has_targets = net.edges.iter().any(|(source, _)| *source == node);
-            let is_above = address.len() < depth as usize;
-            places.push(Place {
-                address,
-                node,
-                expanded: !repeated && has_targets && is_above,
-                repeated,
-            })?;
+            let place = next_place(net, &places, address, node, depth);
+            places.push(place)?;
         }
     }
     Ok(places)
@@ -161,16 +204,27 @@ fn once_drawn(
 pub fn try_once(alloc: Global, dice: &mut Dice) -> Result<(), Deviation> {
     let net = net(alloc, dice)?;
     let mut config = config(alloc, dice)?;
-    config.depth = dice.below(5);
+    config.depth = depth(dice);
     let mark = text(alloc, dice)?;
     let mark = mark.as_str();
-    let start = dice.index(net.texts.len());
+    let start = start(dice, &net);
     let places = places(alloc, &net, start, config.depth)?;
+    if few_walks(alloc, &net, start, config.depth)? == config.depth {
+        let of_walks = places_of_walks(alloc, &net, start, config.depth)?;
+        expect(
+            places == of_walks,
+            "the occurrences one after the other are those by their addresses",
+        )?;
+    }
     expect(
         places.len() == edges_expanded(&net, &places).saturating_add(1),
         "there is an occurrence for each edge from an expanded node, and one more",
     )?;
-    let of_places = drawn(alloc, &tree(alloc, &net, &places, mark)?, &config)?;
+    let of_places = if start < net.texts.len() {
+        drawn(alloc, &tree(alloc, &net, &places, mark)?, &config)?
+    } else {
+        nothing_drawn(alloc, &config)?
+    };
     let drawing = once_drawn(alloc, &net, start, mark, &config)?;
     expect(
         drawing == of_places,

@@ -1,17 +1,23 @@
 //! Calls whose answers are written here, each made once more where it was refused memory.
 
-use super::{Failure, SHEET, Trial, begin_child, drawn, end, graph_drawn, read, wrong_line};
+use super::Trial;
+use super::building::{begin_child, end};
+use super::failure::Failure;
+use super::graphs::graph_drawn;
+use super::reading::{read, wrong_line};
+use super::written::{SHEET, drawn};
 use ptree::TreeBuilder;
+use ptree::buffered::Buffered;
 use ptree::graph::{EdgeError, Graph, NodeIndex};
-use ptree::item::StringItem;
-use ptree::output::{print_tree_to, tree_bytes};
+use ptree::item::{Root, StringItem};
+use ptree::output::{print_tree_to, tree_bytes, tree_text};
 use ptree::presets::Preset;
 use ptree::print_config::{
     ASCII_CHARS_PLUS, ASCII_CHARS_TICK, FileSource, PrintConfig, Sources, StyleWhen, UTF_CHARS,
     load,
 };
 use ptree::read::pieces_readable;
-use ptree::style::{Color, Counted, Style};
+use ptree::style::{Color, Counted, Style, put_all};
 use ptree::value::{DocFormat, draw_document};
 use ptree_callers::own_types::{
     Folder, Halved, Volume, drawing_of_folder, drawing_of_halved, drawing_of_volume,
@@ -60,6 +66,17 @@ fn printed(alloc: Global, tree: &StringItem, config: &PrintConfig) -> Result<Vec
     });
     print_tree_to(alloc, tree, &mut out, config)?;
     Ok(out.into_inner().bytes)
+}
+
+// What a sink has that was given these bytes through a buffer.
+fn passed_on(alloc: Global, parts: &[&[u8]]) -> Result<Vec<u8>, Failure> {
+    let sink = Counted::new(Vec::with_capacity(alloc, SHEET)?);
+    let mut buffered = Buffered::with_capacity(alloc, 4, sink)?;
+    for bytes in parts {
+        put_all(&mut buffered, bytes)?;
+    }
+    buffered.flush()?;
+    Ok(buffered.into_inner().into_inner())
 }
 
 // A root over a copy of this leaf and another one.
@@ -234,6 +251,22 @@ impl Trial {
         expect(drawing.as_slice() == "3\n├─ 1\n└─ 2\n   ├─ 1\n   └─ 1\n".as_bytes())
     }
 
+    // A text over a tree, and bytes that go through a buffer.
+    fn call_parts(&mut self, alloc: Global) -> Result<(), Failure> {
+        let config = self.retried(|| Ok(PrintConfig::default(alloc)?))?;
+        let below = self.retried(|| Ok(vec![in alloc; branched(alloc)?]?))?;
+        let root = Root {
+            text: "top",
+            children: &below,
+        };
+        let Some(text) = self.retried(|| Ok(tree_text(alloc, &root, &config)?))? else {
+            return Err(Failure::Other);
+        };
+        expect(text.as_str() == "top\n└─ r\n   ├─ a\n   │  └─ b\n   └─ c\n")?;
+        let bytes = self.retried(|| passed_on(alloc, &[b"ab", b"cde", b"fghijk", b"l"]))?;
+        expect(bytes.as_slice() == b"abcdefghijkl".as_slice())
+    }
+
     // All of them.
     pub(super) fn call_rows(&mut self, alloc: Global) -> Result<(), Failure> {
         self.call_trees(alloc)?;
@@ -244,6 +277,7 @@ impl Trial {
         self.call_bad_source(alloc)?;
         self.call_set(alloc)?;
         self.call_own(alloc)?;
+        self.call_parts(alloc)?;
         self.call_types(alloc)
     }
 }

@@ -1,4 +1,5 @@
-use Rattle.std.proofs.Common.{rules}
+use Rattle.std.proofs.Common.{rules, arith}
+use Rattle.std.proofs.lemmas.Grind.{elements}
 use Rattle.std.proofs.lemmas.Option.{slice_get-get_or}
 use Rattle.ptree.proofs.Links.{edge}
 use Rattle.ptree.proofs.Turned.{linked_turned, ends_turned, turned_weights}
@@ -12,3 +13,6 @@ returns-clause-edges g c = ends_turned c.args.edges.now c.args.i _ _ (slice_get-
 
 pub returns-clause-weights : goal.returns-clause-weights
 returns-clause-weights g c = turned_weights c.args.nodes.now c.args.edges.now c.args.i _ _ c.index-nodes-source.result c.requires.within c.requires.ends
+
+pub returns-clause-ends : goal.returns-clause-ends
+returns-clause-ends g c = grind (arith, elements)

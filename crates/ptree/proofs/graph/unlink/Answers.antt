@@ -9,7 +9,7 @@ pub loop-node-preserved : goal.loop-node-preserved
 loop-node-preserved g c =
     let nodes = c.loop-node.nodes in
     record {
-      newest = unlink_more nodes c.loop-node.node-index _ (omega arith) refl c.loop-node.invariant.newest;
+      newest = unlink_more nodes c.loop-node.node-index _ (omega arith) (omega arith) c.loop-node.invariant.newest;
       weights = map-set_same (λ (n : Node g.row.N.Denot). n.weight) nodes c.loop-node.node-index _ c.node-item.result refl ∙ c.loop-node.invariant.weights;
     }
 

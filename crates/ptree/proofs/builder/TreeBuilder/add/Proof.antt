@@ -13,7 +13,7 @@ use Rattle.ptree.proofs.builder.TreeBuilder.add.Code as code
 abbrev stayed : Stays f.ended.signature.params f.ended.kept
 stayed = (stay_dropped (mut_ref_to (0 ∷ []) tt (plain (λ _. B))) no, (stay_dropped (plain (λ _. Text)) yes, (stay_dropped (plain (λ _. bool)) yes, tt)))
 
--- what add_line answers
+-- the result of add_line
 abbrev Res : RattleType
 Res = result.the_row unit Refused
 
@@ -134,7 +134,8 @@ module _ {M : Type 1} (𝓤 : Ura M) (𝓛 : Logic 𝓤) (𝓜 : Model 𝓤 𝓛
         ⊛ raw (fact 𝓤 (OnOk res (ws.0.level ≡ (if flag then r.now.level + 1 else r.now.level)))) ⊛ raw (fact 𝓤 (OnErr res (ws.0 ≡ r.now))))))) (id⊢ 𝓤 _) $
         await ! tt $ pick ! (λ res. split ! $ split ! $ split ! $ lft_end ! tt $
         move ! (3 ∷ []) $ pick ! (λ ws. split ! $ move ! (1 ∷ []) $ split ! $ heard ! _ (λ outline. split ! $ heard ! _ (λ level. heard ! _ (λ kept.
-        -- [the loan's last value; its borrow; nothing; α is over; nothing; the result; what the lender keeps]
+        -- [the loan's last value; its borrow; nothing; α is over; nothing; the result; what the
+        -- lender keeps]
         fsplit ! $ fsplit ! $ move ! (3 ∷ 6 ∷ 0 ∷ []) $
         use3 𝓛 (later (‵ (Self κ (record r { now = ws.0 })) ⊛ ‵ (flft κ q))) (comes_back 𝓛 B (named 0) κ (α ∷ []) q r.ghost_name b o δ r.now ws.0) $ await ! tt $ split ! $
         move ! (2 ∷ []) $ drop ! $ move ! (2 ∷ []) $ drop ! $ move ! (2 ∷ []) $ drop ! $

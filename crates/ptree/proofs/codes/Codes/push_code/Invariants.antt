@@ -3,7 +3,7 @@ use Rattle.std.specs.Prelude.{decimal, flat_map}
 use Rattle.ptree.specs.Codes.{gathered_codes}
 use Rattle.ptree.proofs.codes.Codes.push_code.Given as goal
 
--- the numbers so far stand there, each behind a `;`
+-- the numbers so far were added, each after a `;`
 abbrev pub invariant-loop-n : goal.invariant-loop-n
 invariant-loop-n l = record {
   text : gathered_codes l.self ≡ gathered_codes l.initial.self ++ flat_map (λ n. 59 ∷ decimal n) (take l.n-index l.others);

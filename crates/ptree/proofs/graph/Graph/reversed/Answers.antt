@@ -1,4 +1,5 @@
 use Rattle.std.proofs.Common.{◌≡◌, ◌≤◌, suc, ◌+◌, ◌∙◌, map, take, ap, arith, length, refl, sym, subst}
+use Rattle.std.proofs.lemmas.Grind.{elements}
 use Rattle.std.specs.Prelude.{All}
 use Rattle.std.proofs.lemmas.List.{length-map}
 use Rattle.ptree.specs.declared.graph.Node.{Node}
@@ -44,3 +45,15 @@ returns-clause-edges g c =
 
 pub returns-clause-weights : goal.returns-clause-weights
 returns-clause-weights g c = c.loop-i.invariant.same
+
+pub turn_edge-requires-clause-within : goal.turn_edge-requires-clause-within
+turn_edge-requires-clause-within g c = grind (arith, elements)
+
+pub turn_edge-requires-clause-ends : goal.turn_edge-requires-clause-ends
+turn_edge-requires-clause-ends g c = grind (arith, elements)
+
+pub turn_edge-requires-clause-linked : goal.turn_edge-requires-clause-linked
+turn_edge-requires-clause-linked g c = grind (arith, elements)
+
+pub invariant_of-result : goal.invariant_of-result
+invariant_of-result g c = grind (arith, elements)

@@ -1,32 +1,14 @@
-use Rattle.std.proofs.Common.{◌∙◌, ap}
-use Rattle.ptree.specs.Style.{style_value, front_codes, back_codes}
-use Rattle.ptree.proofs.Occurrences.{front_part, label_part, mark_part, all_repeated}
+use Rattle.ptree.specs.Style.{style_value}
+use Rattle.ptree.proofs.Occurrences.{plain_label_part, plain_written}
 use Rattle.ptree.proofs.Written.{written_err}
 use Rattle.ptree.proofs.graph.once.write_repeated.Goals as goal
 
-pub returns-in_err-put_all-clause-bytes : goal.returns-in_err-put_all-clause-bytes
-returns-in_err-put_all-clause-bytes g c =
-    let style = style_value c.args.style.now in
-    written_err _ _ _ _ _ c.from_residual-in_err-put_all.ensures.1
-    (front_part (front_codes style) (g.N.Label.text c.args.weight.now) c.args.mark.now (back_codes style) _ _ _ (c.as_bytes.ensures.value ∙ c.in_ok-front.ensures) c.in_err-put_all.ensures.bytes)
-
 pub returns-in_err-write_label-clause-bytes : goal.returns-in_err-write_label-clause-bytes
 returns-in_err-write_label-clause-bytes g c =
-    let style = style_value c.args.style.now in
-    written_err _ _ _ _ _ c.from_residual-in_err-write_label.ensures.1
-    (label_part (front_codes style) (g.N.Label.text c.args.weight.now) c.args.mark.now (back_codes style) _ _ _ _ (style_value c.default.result) (ap style_value c.default.ensures)
-    (c.as_bytes.ensures.value ∙ c.in_ok-front.ensures) c.in_ok-put_all.ensures.bytes c.in_err-write_label.ensures.bytes)
+    written_err _ _ _ _ _ c.from_residual.ensures.1
+    (plain_label_part (style_value c.args.style.now) (g.N.Label.text c.args.weight.now) c.args.mark.now (c.is_plain.ensures c.if-is_plain.true) _ _ c.in_err-write_label.ensures.bytes)
 
-pub returns-in_err-put_all-2-clause-bytes : goal.returns-in_err-put_all-2-clause-bytes
-returns-in_err-put_all-2-clause-bytes g c =
-    let style = style_value c.args.style.now in
-    written_err _ _ _ _ _ c.from_residual-in_err-put_all-2.ensures.1
-    (mark_part (front_codes style) (g.N.Label.text c.args.weight.now) c.args.mark.now (back_codes style) _ _ _ _ _ _ (style_value c.default.result) (ap style_value c.default.ensures)
-    (c.as_bytes.ensures.value ∙ c.in_ok-front.ensures) c.as_bytes-2.ensures.value c.in_ok-put_all.ensures.bytes c.in_ok-write_label.ensures.bytes c.in_err-put_all-2.ensures.bytes)
-
-pub returns-clause-bytes : goal.returns-clause-bytes
-returns-clause-bytes g c =
-    let style = style_value c.args.style.now in
-    all_repeated (front_codes style) (g.N.Label.text c.args.weight.now) c.args.mark.now (back_codes style) _ _ _ _ _ _ _ _ _ (style_value c.default.result) (ap style_value c.default.ensures)
-    (c.as_bytes.ensures.value ∙ c.in_ok-front.ensures) c.as_bytes-2.ensures.value (c.as_bytes-3.ensures.value ∙ c.in_ok-back.ensures)
-    c.in_ok-put_all.ensures.bytes c.in_ok-write_label.ensures.bytes c.in_ok-put_all-2.ensures.bytes c.put_all-3.ensures.bytes
+pub returns-then-is_plain-clause-bytes : goal.returns-then-is_plain-clause-bytes
+returns-then-is_plain-clause-bytes g c =
+    plain_written (style_value c.args.style.now) (g.N.Label.text c.args.weight.now) c.args.mark.now (c.is_plain.ensures c.if-is_plain.true) _ _ _ _ _ c.as_bytes.ensures.value
+    c.in_ok-write_label.ensures.bytes c.put_all.ensures.bytes

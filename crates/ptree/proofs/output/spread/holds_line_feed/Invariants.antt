@@ -1,7 +1,7 @@
 use Rattle.std.proofs.Common.{◌≢◌, ℕ, ◌≤◌, ◌<◌, length, get_or}
 use Rattle.ptree.proofs.output.spread.holds_line_feed.Given as goal
 
--- no line feed stands behind the end
+-- there is no line feed after the end
 abbrev pub invariant-loop-end : goal.invariant-loop-end
 invariant-loop-end l = record {
   within : l.end ≤ length l.bytes;

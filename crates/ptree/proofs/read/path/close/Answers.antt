@@ -1,5 +1,5 @@
 use Rattle.std.proofs.Common.{arith}
-use Rattle.std.proofs.lemmas.Grind.{common_steps}
+use Rattle.std.proofs.lemmas.Grind.{common_steps, elements}
 use Rattle.ptree.proofs.read.path.close.Goals as goal
 
 pub loop-flags-init : goal.loop-flags-init
@@ -16,3 +16,6 @@ returns-clause-kept c = grind (arith, common_steps)
 
 pub returns-2-clause-kept : goal.returns-2-clause-kept
 returns-2-clause-kept c = grind (arith, common_steps)
+
+pub returns-in-loop-flags-clause-can : goal.returns-in-loop-flags-clause-can
+returns-in-loop-flags-clause-can c = grind (arith, elements)

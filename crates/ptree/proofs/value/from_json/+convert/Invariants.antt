@@ -1,17 +1,14 @@
 use Rattle.std.proofs.Common.{◌≡◌, false, map, take, drop}
-use Rattle.std.specs.Prelude.{All}
 use Rattle.serde_json.specs.View.{view, items_view, members_view}
 use Rattle.serde_json.specs.Written.{items_have_float, members_have_float}
 use Rattle.ptree.specs.Convert.{json_data}
-use Rattle.ptree.specs.Data.{KeysAscend}
-use Rattle.ptree.specs.Value.{data_of}
-use Rattle.ptree.proofs.Converted.{AreMade}
+use Rattle.ptree.specs.Value.{data_of, entry_meant}
+use Rattle.ptree.proofs.Converted.{member_data, AreMade}
 use Rattle.ptree.proofs.value.from_json.+convert.Given as goal
 
 abbrev pub invariant-values_of-loop-item : goal.invariant-values_of-loop-item
 invariant-values_of-loop-item l =
     (map data_of l.values.items ≡ map (λ v. json_data (view v)) (take l.item-index l.item-items)) ×
-    All KeysAscend (map data_of l.values.items) ×
     (items_have_float (items_view (drop l.item-index l.item-items)) ≡ false)
 
 abbrev pub invariant-entries_of-loop-key : goal.invariant-entries_of-loop-key
@@ -19,4 +16,4 @@ invariant-entries_of-loop-key l =
     (goal.iterator-entries_of-loop-key).can_next l.key-iterator ×
     (goal.iterator-entries_of-loop-key).is_finite l.key-iterator ×
     (members_have_float (members_view l.key-iterator) ≡ false) ×
-    AreMade (λ v. json_data (view v)) l.members.entries l.key-iterator l.entries.items
+    AreMade (member_data (λ v. json_data (view v))) l.members.entries l.key-iterator (map entry_meant l.entries.items)

@@ -1,16 +1,13 @@
 use Rattle.std.proofs.Common.{◌≡◌, None, map, take, drop}
-use Rattle.std.specs.Prelude.{All}
 use Rattle.toml.specs.View.{view, items_view, members_view}
 use Rattle.ptree.specs.Convert.{toml_item_fault, toml_member_fault, toml_data}
-use Rattle.ptree.specs.Data.{KeysAscend}
-use Rattle.ptree.specs.Value.{data_of}
-use Rattle.ptree.proofs.Converted.{AreMade}
+use Rattle.ptree.specs.Value.{data_of, entry_meant}
+use Rattle.ptree.proofs.Converted.{member_data, AreMade}
 use Rattle.ptree.proofs.value.from_toml.+convert.Given as goal
 
 abbrev pub invariant-values_of-loop-item : goal.invariant-values_of-loop-item
 invariant-values_of-loop-item l =
     (map data_of l.values.items ≡ map (λ v. toml_data (view v)) (take l.item-index l.item-items)) ×
-    All KeysAscend (map data_of l.values.items) ×
     (toml_item_fault (items_view (drop l.item-index l.item-items)) ≡ None)
 
 abbrev pub invariant-entries_of-loop-key : goal.invariant-entries_of-loop-key
@@ -18,4 +15,4 @@ invariant-entries_of-loop-key l =
     (goal.iterator-entries_of-loop-key).can_next l.key-iterator ×
     (goal.iterator-entries_of-loop-key).is_finite l.key-iterator ×
     (toml_member_fault (members_view l.key-iterator) ≡ None) ×
-    AreMade (λ v. toml_data (view v)) l.members.entries l.key-iterator l.entries.items
+    AreMade (member_data (λ v. toml_data (view v))) l.members.entries l.key-iterator (map entry_meant l.entries.items)

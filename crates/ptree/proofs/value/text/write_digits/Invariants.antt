@@ -1,7 +1,7 @@
 use Rattle.std.proofs.Common.{◌+◌, ◌≡◌, ◌<◌, ◌++◌, drop, length, decimal}
 use Rattle.ptree.proofs.value.text.write_digits.Given as goal
 
--- the digits that are left, and behind them those that stand there
+-- the digits that are left, followed by those that were written
 abbrev pub invariant-loop-left : goal.invariant-loop-left
 invariant-loop-left l = record {
   digits : decimal l.n ≡ decimal l.left ++ drop (l.start + 1) l.room;

@@ -1,7 +1,6 @@
 use Rattle.std.proofs.Common.{◌≡◌, ◌∙◌, ap, map, sym}
-use Rattle.ptree.specs.Data.{value_pairs}
-use Rattle.ptree.specs.Nodes.{pair_of_node}
-use Rattle.ptree.specs.Value.{data_of}
+use Rattle.ptree.specs.Data.{string, value_pairs}
+use Rattle.ptree.specs.Parts.{part_data, pair_of_node}
 use Rattle.ptree.proofs.Values.{entry_pair-below, kids_of_pair}
 use Rattle.ptree.proofs.value.node.NodeTreeItem.children.Goals as goal
 use Rattle.ptree.proofs.value.node.NodeTreeItem.children.Goals.{in-Labelled+in_ok-nodes-in-Labelled, in-Entry+in_ok-nodes-in-Entry}
@@ -13,6 +12,6 @@ returns c =
       | in-Labelled+in_ok-nodes-in-Labelled w ↦ ap (λ nodes. map pair_of_node nodes.items) w.nodes-is ∙ w.in_ok-nodes-in-Labelled.ensures
           ∙ ap (λ n. value_pairs (pair_of_node n).1) (sym w.in-Labelled.is)
       | in-Entry+in_ok-nodes-in-Entry w ↦ ap (λ nodes. map pair_of_node nodes.items) w.nodes-is ∙ w.in_ok-nodes-in-Entry.ensures
-          ∙ sym (entry_pair-below (data_of w.in-Entry.field-0.now) (data_of w.in-Entry.value.now)) ∙ ap (λ n. value_pairs (pair_of_node n).1) (sym w.in-Entry.is)
+          ∙ sym (entry_pair-below (string w.in-Entry.field-0.now) (part_data w.in-Entry.part)) ∙ ap (λ n. value_pairs (pair_of_node n).1) (sym w.in-Entry.is)
     ] in
     kids_of_pair pair_of_node (pair_of_node c.args.self.now) c.match-self.nodes.items below

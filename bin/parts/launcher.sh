@@ -1,0 +1,193 @@
+# Checks bin/ptree_cli and bin/build, in a copy over two small crates. A stub of `rt` notes each call, and makes a program that
+# prints a source, its words and its input.
+# shellcheck shell=bash
+
+# Makes the copy. Progress is reported each second there.
+make_launched() {
+    there=$scratch/launched
+    chmod a+rx "$scratch"
+    mkdir -p "$there"/{bin,path,few,crates/ptree/src,crates/ptree_cli/src}
+    cp bin/build bin/ptree_cli "$there/bin"
+    sed -i 's/^BETWEEN = 30$/BETWEEN = 1/' "$there/bin/build"
+    printf 'ptree: toml\nptree_cli: ptree\nother: ptree\n' >"$there/crates.txt"
+    echo one >"$there/crates/ptree/src/lib.rt"
+    touch "$there/crates/ptree_cli/src/main.rt"
+    # The files `at_lib` and `at_run` say what happens in such a call.
+    cat >"$there/path/rt" <<'END'
+#!/bin/sh
+there=${0%/*}/..
+echo "$1" >>"$there/calls"
+if [ "$1" = run ]; then
+    mkdir -p out
+    echo "#!/bin/sh
+echo \"$(cat "$there/crates/ptree/src/lib.rt")\" \"<\$1>\" \"<\$2>\"
+cat
+exit 3" >out/ptree_cli
+    chmod +x out/ptree_cli
+    echo "rt: running out/ptree_cli;"
+fi
+at=$there/at_$1
+if [ -e "$at" ]; then . "$at"; fi
+END
+    chmod +x "$there/path/rt"
+    # Commands of a path that has no `rt`.
+    for tool in bash sh env find; do
+        ln -s "$(command -v $tool)" "$there/few/$tool"
+    done
+    ln -s "$(python3 -c 'import sys; print(sys.executable)')" "$there/few/python3"
+}
+
+# Calls the launcher, and leaves what it writes in the scratch folder. It is called by a path that CDPATH leads elsewhere.
+launch() {
+    : >"$there/calls"
+    (cd "$there" && echo input | CDPATH=/ PATH=$there/path:$PATH bin/ptree_cli a 'b c') >"$scratch/out" 2>"$scratch/err"
+}
+
+# Checks a call of the launcher. Arguments: name, how often it must build, the source that the program must print.
+expect_launch() {
+    local got builds
+    launch
+    got=$?
+    builds=$(grep -c run "$there/calls")
+    if [ $got = 3 ] && [ "$builds" = "$2" ] && [ "$(cat "$scratch/out")" = "$3 <a> <b c>"$'\ninput' ]; then
+        report ok "the launcher: $1"
+    else
+        report no "the launcher: $1: status $got, built $builds times"
+        cat "$scratch/out" "$scratch/err"
+    fi
+}
+
+# Checks that the launcher ends with one line, which has this text. Arguments: name, status, text.
+expect_refusal() {
+    if [ "$2" = 1 ] && [ ! -s "$scratch/out" ] && [ "$(wc -l <"$scratch/err")" = 1 ] \
+        && grep -q "^ptree_cli: .*$3" "$scratch/err"; then
+        report ok "the launcher: $1"
+    else
+        report no "the launcher: $1: status $2"
+        cat "$scratch/out" "$scratch/err"
+    fi
+}
+
+# Checks which changes of the sources lead to a build.
+check_changes() {
+    local source=$there/crates/ptree/src/lib.rt
+    expect_launch 'a first call builds' 1 one
+    chmod a-x "$there/bin/build"
+    expect_launch 'a second call does without bin/build' 0 one
+    chmod a+x "$there/bin/build"
+    touch "$source" "$there/crates.txt"
+    expect_launch 'a source is touched' 0 one
+    echo two >"$source"
+    expect_launch 'a source is changed' 1 two
+    echo three >"$source"
+    touch -d 2001-01-01 "$source"
+    expect_launch 'a source is changed, and its date is older' 1 three
+    mkdir "$there/crates/ptree/src/deep"
+    echo >"$there/crates/ptree/src/deep/new.rt"
+    expect_launch 'a source is new' 1 three
+    rm "$there/crates/ptree/src/deep/new.rt"
+    expect_launch 'a source is deleted' 1 three
+    echo 'ptree: serde_json toml' >"$there/crates.new"
+    sed 1d "$there/crates.txt" >>"$there/crates.new"
+    mv "$there/crates.new" "$there/crates.txt"
+    expect_launch "a library's line of crates.txt is changed" 1 three
+    sed -i 's/^other: .*/other: ptree toml/' "$there/crates.txt"
+    expect_launch "another program's line of crates.txt is changed" 0 three
+    rm -r "$there/crates/ptree_cli/out"
+    expect_launch 'the program is deleted' 1 three
+}
+
+# Checks that a source that changes during a build leads to another build.
+check_changes_meanwhile() {
+    local source=$there/crates/ptree/src/lib.rt
+    echo 'rm "$at"; echo five >"$there/crates/ptree/src/lib.rt"' >"$there/at_run"
+    echo four >"$source"
+    expect_launch 'a source is changed during a build' 2 five
+    # The program that is built first is of a source that is put back before the build ends.
+    echo 'rm "$at"; echo no >"$there/crates/ptree/src/lib.rt"' >"$there/at_lib"
+    echo 'rm "$at"; echo six >"$there/crates/ptree/src/lib.rt"' >"$there/at_run"
+    echo six >"$source"
+    expect_launch 'a source is changed during a build, and changed back' 2 six
+}
+
+# Checks builds that cannot be made.
+check_no_build() {
+    local -a someone=()
+    touch "$there/crates.txt"
+    chmod -R a-w "$there/crates"
+    [ "$(id -u)" = 0 ] && someone=(setpriv --reuid 65534 --regid 65534 --clear-groups)
+    "${someone[@]}" env "PATH=$there/path:$PATH" "$there/bin/ptree_cli" a b </dev/null >"$scratch/out" 2>"$scratch/err"
+    expect_written 'the launcher: a folder that cannot be written, with a program that is built' $? 3 'six <a> <b>\n' ''
+    chmod -R u+w "$there/crates"
+    rm -r "$there/crates/ptree_cli/out"
+    chmod -R a-w "$there/crates"
+    "${someone[@]}" env "PATH=$there/path:$PATH" "$there/bin/ptree_cli" a b </dev/null >"$scratch/out" 2>"$scratch/err"
+    expect_refusal 'a folder that cannot be written' $? 'cannot be written'
+    chmod -R u+w "$there/crates"
+    PATH=$there/few "$there/bin/ptree_cli" a b </dev/null >"$scratch/out" 2>"$scratch/err"
+    expect_refusal 'no rt' $? 'the command rt is not on the path'
+    echo 'rm "$at"; echo "not proved" >&2; exit 1' >"$there/at_lib"
+    launch
+    if [ $? = 1 ] && [ ! -s "$scratch/out" ] && [ "$(cat "$scratch/err")" = $'not proved\nptree_cli: it could not be built' ]; then
+        report ok 'the launcher: a build that fails'
+    else
+        report no 'the launcher: a build that fails'
+        cat "$scratch/out" "$scratch/err"
+    fi
+}
+
+# Checks that a long build reports its progress where there is no terminal.
+check_progress() {
+    echo 'rm "$at"; echo "5 of 10 functions checked"; sleep 5' >"$there/at_lib"
+    expect_launch 'a build that takes long' 1 six
+    if grep -q '^BETWEEN = 30$' bin/build && head -n 1 "$scratch/err" | grep -q 'not built from these sources yet' \
+        && [ "$(grep -c '^ptree_cli: proving the library, function 5 of 10; about [0-9]* min left$' "$scratch/err")" -ge 2 ]; then
+        report ok 'the launcher: a line of progress now and then'
+    else
+        report no 'the launcher: a line of progress now and then'
+        cat "$scratch/err"
+    fi
+}
+
+# Prints the processes of a session that have not ended.
+live_in() {
+    ps -o stat=,pid=,args= -s "$1" | grep -v '^Z'
+}
+
+# Checks that a signal to a command alone ends the build, with all that it has started. Arguments: signal, command.
+check_signal() {
+    local name=$1 session got
+    shift
+    rm -rf "$there/crates/ptree_cli/out" "$there/session"
+    echo 'rm "$at"; ps -o sid= $$ >"$there/session"; sleep 300' >"$there/at_lib"
+    PATH=$there/path:$PATH "$@" </dev/null >"$scratch/out" 2>"$scratch/err" &
+    for _ in $(seq 100); do
+        [ -s "$there/session" ] && break
+        sleep 0.1
+    done
+    session=$(tr -d ' ' <"$there/session")
+    kill "-$name" $!
+    wait $!
+    got=$?
+    if [ -n "$session" ] && [ -z "$(live_in "$session")" ] && [ $got -gt 128 ] && [ ! -s "$scratch/out" ]; then
+        report ok "the launcher: SIG$name to $(basename "$1")"
+    else
+        report no "the launcher: SIG$name to $(basename "$1"): status $got"
+        live_in "$session" && kill -- "-$session"
+    fi
+}
+
+# Checks the launcher and the building of the program.
+check_launcher() {
+    local there tool name
+    make_launched
+    check_changes
+    check_changes_meanwhile
+    check_no_build
+    check_progress
+    for name in TERM HUP; do
+        check_signal $name "$there/bin/ptree_cli" a b
+        check_signal $name "$there/bin/build" ptree_cli
+    done
+    expect_launch 'a call after a build that was ended' 1 six
+}

@@ -1,0 +1,236 @@
+-- Lists of places, and the trees that they are.
+use Rattle.std.specs.Prelude.{slice_get, slice_set, ◌^◌, min, replicate}
+use Rattle.std.proofs.Common.{◌≡◌, ℕ, zero, suc, ◌+◌, ◌-◌, ◌<◌, ◌≤◌, inl, inr, Bool, true, false, List, [], ◌∷◌, ◌++◌, length, length-append, take, drop, Some, None, ap, refl, sym, ◌∙◌, append_assoc, arith}
+use Rattle.std.proofs.lemmas.Bool.{cases_lt}
+use Rattle.std.proofs.lemmas.List.{append-nil, take_all, length-drop, drop_all, drop_at, length-replicate, replicate-append-replicate}
+use Rattle.ptree.specs.declared.graph.once.Place.{Place}
+use Rattle.ptree.specs.Growing.{is_seen, all_flags, place_of, place_at, leaf_size, ArePlaces, AppendsPlaces, IsNextPlace}
+use Rattle.ptree.specs.Occurrence.{OccurrenceTree, occurrence, occurrence_kids, none, row, is_repeated_size, size_below, trees_by, trees_in, tree_at_front}
+use Rattle.ptree.proofs.Occurrences.{occurrences_of_row}
+
+-- more steps than places change nothing
+steps_alike : (n m left : ℕ) (ps : List Place) → length ps ≤ n → length ps ≤ m → trees_by n left ps ≡ trees_by m left ps
+steps_alike zero zero left ps h k = refl
+steps_alike zero (suc m) zero ps h k = refl
+steps_alike zero (suc m) (suc left) [] h k = refl
+steps_alike zero (suc m) (suc left) (p ∷ ps) h k = absurd (omega arith)
+steps_alike (suc n) zero zero ps h k = refl
+steps_alike (suc n) zero (suc left) [] h k = refl
+steps_alike (suc n) zero (suc left) (p ∷ ps) h k = absurd (omega arith)
+steps_alike (suc n) (suc m) zero ps h k = refl
+steps_alike (suc n) (suc m) (suc left) [] h k = refl
+steps_alike (suc n) (suc m) (suc left) (p ∷ ps) h k =
+    let b = size_below p.size in
+    let shorter = length-drop b ps in
+    ap (λ ts. occurrence p.node.0 (is_repeated_size p.size) (row ts) ∷ trees_by n (left - b) (drop b ps)) (steps_alike n m b ps (omega arith) (omega arith))
+    ∙ ap (λ ts. occurrence p.node.0 (is_repeated_size p.size) (row (trees_by m b ps)) ∷ ts) (steps_alike n m (left - b) (drop b ps) (omega (arith, shorter)) (omega (arith, shorter)))
+
+-- no places are no trees
+pub trees_none : (ps : List Place) → trees_in 0 ps ≡ []
+trees_none [] = refl
+trees_none (p ∷ ps) = refl
+
+-- the tree at the front, and those behind it
+pub trees_first : (left : ℕ) (p : Place) (ps : List Place) → trees_in (suc left) (p ∷ ps) ≡ tree_at_front (p ∷ ps) ∷ trees_in (left - size_below p.size) (drop (size_below p.size) ps)
+trees_first left p ps =
+    let b = size_below p.size in
+    let shorter = length-drop b ps in
+    ap (λ ts. tree_at_front (p ∷ ps) ∷ ts) (steps_alike (length ps) (length (drop b ps)) (left - b) (drop b ps) (omega (arith, shorter)) (omega arith))
+
+-- ## Places of trees
+
+-- none
+pub places_nil : ArePlaces [] []
+places_nil left rest = let e : 0 + left ≡ left = omega arith in ap (λ n. trees_in n rest) e
+
+-- those of two lists, one after the other
+pub places_append : (ps qs : List Place) (ts us : List OccurrenceTree) → ArePlaces ps ts → ArePlaces qs us → ArePlaces (ps ++ qs) (ts ++ us)
+places_append ps qs ts us h k left rest =
+    let count : length (ps ++ qs) + left ≡ length ps + (length qs + left) = omega (arith, length-append ps qs) in
+    ap (λ n. trees_in n ((ps ++ qs) ++ rest)) count ∙ (ap (trees_in (length ps + (length qs + left))) (append_assoc ps qs rest)
+    ∙ (h (length qs + left) (qs ++ rest) ∙ (ap (λ z. ts ++ z) (k left rest) ∙ sym (append_assoc ts us (trees_in left rest)))))
+
+-- a place and those below it
+pub places_over : (v : ℕ) (ps : List Place) (ts : List OccurrenceTree) → ArePlaces ps ts → ArePlaces (place_of v (suc (length ps)) ∷ ps) (occurrence v false (row ts) ∷ [])
+places_over v ps ts h left rest =
+    let p = place_of v (suc (length ps)) in
+    let count : suc (length ps) + left ≡ suc (length ps + left) = omega arith in
+    let behind : (length ps + left) - length ps ≡ left = omega arith in
+    let none : length ps + 0 ≡ length ps = omega arith in
+    let below : trees_in (length ps) (ps ++ rest) ≡ ts = ap (λ n. trees_in n (ps ++ rest)) (sym none) ∙ (h 0 rest ∙ (ap (λ z. ts ++ z) (trees_none rest) ∙ append-nil ts)) in
+    ap (λ n. trees_in n (p ∷ (ps ++ rest))) count ∙ (trees_first (length ps + left) p (ps ++ rest)
+    ∙ (ap (λ z. occurrence v false (row z) ∷ trees_in ((length ps + left) - length ps) (drop (length ps) (ps ++ rest))) below
+    ∙ (ap (λ n. occurrence v false (row ts) ∷ trees_in n (drop (length ps) (ps ++ rest))) behind
+    ∙ ap (λ z. occurrence v false (row ts) ∷ trees_in left z) (drop_at ps rest (length ps) refl))))
+
+-- a place with nothing below it
+pub places_leaf : (v : ℕ) (m : Bool) → ArePlaces (place_of v (leaf_size m) ∷ []) (occurrence v m none ∷ [])
+places_leaf v false left rest = places_over v [] [] places_nil left rest
+places_leaf v true left rest =
+    let count : 1 + left ≡ suc left = omega arith in
+    let behind : left - 0 ≡ left = omega arith in
+    ap (λ n. trees_in n (place_of v 0 ∷ rest)) count ∙ (trees_first left (place_of v 0) rest
+    ∙ (ap (λ z. occurrence v true (row z) ∷ trees_in (left - 0) rest) (trees_none rest) ∙ ap (λ n. occurrence v true none ∷ trees_in n rest) behind))
+
+-- ## Appending
+
+-- nothing
+pub appends_none : (xs ys : List Place) → ys ≡ xs → AppendsPlaces xs ys []
+appends_none xs ys e = ([], e ∙ sym (append-nil xs), places_nil)
+
+-- places of some trees, and of further ones
+pub appends_more : (xs ys zs : List Place) (ts us : List OccurrenceTree) → AppendsPlaces xs ys ts → AppendsPlaces ys zs us → AppendsPlaces xs zs (ts ++ us)
+appends_more xs ys zs ts us (ps, e, h) (qs, f, k) =
+    (ps ++ qs, f ∙ (ap (λ z. z ++ qs) e ∙ append_assoc xs ps qs), places_append ps qs ts us h k)
+
+-- a place with nothing below it
+pub appends_leaf : (xs ys : List Place) (v : ℕ) (m : Bool) → ys ≡ xs ++ place_of v (leaf_size m) ∷ [] → AppendsPlaces xs ys (occurrence v m none ∷ [])
+appends_leaf xs ys v m e = (place_of v (leaf_size m) ∷ [], e, places_leaf v m)
+
+-- the element at the seam
+set_seam : {X : Type 0} (xs ys : List X) (x y : X) → slice_set (xs ++ x ∷ ys) (length xs) y ≡ xs ++ y ∷ ys
+set_seam [] ys x y = refl
+set_seam (z ∷ xs) ys x y = ap (λ l. z ∷ l) (set_seam xs ys x y)
+
+-- a place got its size after those below it were appended
+pub appends_over : (xs ys zs : List Place) (v index size : ℕ) (ts : List OccurrenceTree) → AppendsPlaces (xs ++ place_of v 1 ∷ []) ys ts → index ≡ length xs → size ≡ length ys - index → zs ≡ slice_set ys index (place_of v size)
+    → AppendsPlaces xs zs (occurrence v false (row ts) ∷ [])
+appends_over xs ys zs v index size ts (ps, e, h) i s z =
+    let split : ys ≡ xs ++ place_of v 1 ∷ ps = e ∙ append_assoc xs (place_of v 1 ∷ []) ps in
+    let long : length ys ≡ length xs + suc (length ps) = ap length split ∙ length-append xs (place_of v 1 ∷ ps) in
+    let count : size ≡ suc (length ps) = omega arith in
+    let done : zs ≡ xs ++ place_of v (suc (length ps)) ∷ ps =
+    z ∙ (ap (λ l. slice_set l index (place_of v size)) split ∙ (ap (λ n. slice_set (xs ++ place_of v 1 ∷ ps) n (place_of v size)) i
+    ∙ (set_seam xs ps (place_of v 1) (place_of v size) ∙ ap (λ n. xs ++ place_of v n ∷ ps) count))) in
+    (place_of v (suc (length ps)) ∷ ps, done, places_over v ps ts h)
+
+-- appended places are there
+pub appends_longer : (xs ys : List Place) (ts : List OccurrenceTree) → AppendsPlaces xs ys ts → length xs ≤ length ys
+appends_longer xs ys ts (ps, e, h) = let long : length ys ≡ length xs + length ps = ap length e ∙ length-append xs ps in omega arith
+
+-- the tree at the front is the one whose places are appended to nothing
+pub tree_of_places : (ps : List Place) (t : OccurrenceTree) → AppendsPlaces [] ps (t ∷ []) → tree_at_front ps ≡ t
+tree_of_places ps t (qs, e, h) = ap tree_at_front e ∙ one qs h where
+  one : (qs : List Place) → ArePlaces qs (t ∷ []) → tree_at_front qs ≡ t
+  one [] h = let never : [] ≡ t ∷ [] = h 0 [] in absurd (cc)
+  one (p ∷ qs) h =
+      let count : suc (length qs) + 0 ≡ suc (length qs) = omega arith in
+      let all : trees_in (suc (length qs)) (p ∷ qs) ≡ t ∷ [] = ap (λ l. trees_in (suc (length qs)) l) (sym (append-nil (p ∷ qs))) ∙ (ap (λ n. trees_in n ((p ∷ qs) ++ [])) (sym count) ∙ h 0 []) in
+      let front : tree_at_front (p ∷ qs) ∷ trees_in (length qs - size_below p.size) (drop (size_below p.size) qs) ≡ t ∷ [] = sym (trees_first (length qs) p qs) ∙ all in
+      cc
+
+-- ## Items
+
+-- the tree at a place, by its parts
+pub tree_at_place : (ps : List Place) (i : ℕ) → tree_at_front (drop i ps) ≡ occurrence (place_at ps i).node.0 (is_repeated_size (place_at ps i).size) (row (trees_in (size_below (place_at ps i).size) (drop (suc i) ps)))
+tree_at_place [] zero = refl
+tree_at_place [] (suc i) = refl
+tree_at_place (p ∷ ps) zero = refl
+tree_at_place (p ∷ ps) (suc i) = tree_at_place ps i
+
+-- a size, less the place itself
+pub below_is : (n : ℕ) → n - 1 ≡ size_below n
+below_is zero = omega arith
+below_is (suc n) = omega arith
+
+-- from a place to the end
+pub drop_place : (ps : List Place) (i : ℕ) (p : Place) → slice_get ps i ≡ Some p → drop i ps ≡ p ∷ drop (suc i) ps
+drop_place [] i p h = absurd (cc)
+drop_place (q ∷ ps) zero p h = let e : q ≡ p = cc in ap (λ z. z ∷ ps) e
+drop_place (q ∷ ps) (suc i) p h = drop_place ps i p h
+
+-- past the end
+pub drop_past : (ps : List Place) (i : ℕ) → slice_get ps i ≡ None → drop i ps ≡ []
+drop_past [] zero h = refl
+drop_past [] (suc i) h = refl
+drop_past (q ∷ ps) zero h = absurd (cc)
+drop_past (q ∷ ps) (suc i) h = drop_past ps i h
+
+-- behind some places, and then some more
+drop_further : (i b : ℕ) (ps : List Place) → drop b (drop i ps) ≡ drop (i + b) ps
+drop_further zero b ps = let e : b ≡ 0 + b = omega arith in ap (λ n. drop n ps) e
+drop_further (suc i) b [] = drop_all b [] (omega arith) ∙ sym (drop_all (suc i + b) [] (omega arith))
+drop_further (suc i) b (p ∷ ps) = let e : suc (i + b) ≡ suc i + b = omega arith in drop_further i b ps ∙ ap (λ n. drop n (p ∷ ps)) e
+
+-- behind a place and what is below it, by an index that stops at the greatest number
+pub next_index : (ps : List Place) (i b next after : ℕ) → length ps < 2 ^ 64 → next ≡ min (i + 1) (2 ^ 64 - 1) → after ≡ min (next + b) (2 ^ 64 - 1) → drop after ps ≡ drop b (drop (suc i) ps)
+next_index ps i b next after h e f = elim (cases_lt (suc i + b) (2 ^ 64)) [
+  | inl x ↦ (let same : after ≡ suc i + b = omega arith in ap (λ n. drop n ps) same ∙ sym (drop_further (suc i) b ps))
+  | inr x ↦ drop_all after ps (omega arith) ∙ (sym (drop_all (suc i + b) ps (omega arith)) ∙ sym (drop_further (suc i) b ps))
+]
+
+-- behind a place, by an index that stops at the greatest number
+pub first_index : (ps : List Place) (i next : ℕ) → length ps < 2 ^ 64 → next ≡ min (i + 1) (2 ^ 64 - 1) → drop next ps ≡ drop (suc i) ps
+first_index ps i next h e = elim (cases_lt (suc i) (2 ^ 64)) [
+  | inl x ↦ (let same : next ≡ suc i = omega arith in ap (λ n. drop n ps) same)
+  | inr x ↦ drop_all next ps (omega arith) ∙ sym (drop_all (suc i) ps (omega arith))
+]
+
+-- the tree at the next place, and those behind it
+pub next_trees : (ps : List Place) (i left b left' next after : ℕ) → length ps < 2 ^ 64 → IsNextPlace ps i left b → left' ≡ (left - 1) - b → next ≡ min (i + 1) (2 ^ 64 - 1) → after ≡ min (next + b) (2 ^ 64 - 1)
+    → trees_in left (drop i ps) ≡ tree_at_front (drop i ps) ∷ trees_in left' (drop after ps)
+next_trees ps i left b left' next after h (p, some, below, split) e f k =
+    let m = left - 1 in
+    let rest = drop (suc i) ps in
+    let one : left ≡ suc m = omega arith in
+    let fewer : m - size_below p.size ≡ left' = omega arith in
+    let behind : drop (size_below p.size) rest ≡ drop after ps = ap (λ n. drop n rest) (sym below) ∙ sym (next_index ps i b next after h f k) in
+    ap (λ n. trees_in n (drop i ps)) one ∙ (ap (trees_in (suc m)) split ∙ (trees_first m p rest
+    ∙ (ap (λ l. tree_at_front l ∷ trees_in (m - size_below p.size) (drop (size_below p.size) rest)) (sym split)
+    ∙ (ap (λ n. tree_at_front (drop i ps) ∷ trees_in n (drop (size_below p.size) rest)) fewer ∙ ap (λ l. tree_at_front (drop i ps) ∷ trees_in left' l) behind))))
+
+-- what stands below a place
+pub kids_at_place : (ps : List Place) (i : ℕ) → occurrence_kids (tree_at_front (drop i ps)) ≡ trees_in (size_below (place_at ps i).size) (drop (suc i) ps)
+kids_at_place ps i = ap occurrence_kids (tree_at_place ps i) ∙ occurrences_of_row (trees_in (size_below (place_at ps i).size) (drop (suc i) ps))
+
+-- ## Flags
+
+-- flags that are left out aren't set
+pub seen_none : (k w : ℕ) → is_seen (replicate k false) w ≡ false
+seen_none zero w = refl
+seen_none (suc k) zero = refl
+seen_none (suc k) (suc w) = seen_none k w
+
+seen_front : (xs : List Bool) (k w : ℕ) → is_seen (xs ++ replicate k false) w ≡ is_seen xs w
+seen_front [] k w = seen_none k w
+seen_front (x ∷ xs) k zero = refl
+seen_front (x ∷ xs) k (suc w) = seen_front xs k w
+
+pub seen_all : (n : ℕ) (seen : List Bool) (w : ℕ) → is_seen (all_flags n seen) w ≡ is_seen seen w
+seen_all n seen w = seen_front seen (n - length seen) w
+
+set_front : (xs ys : List Bool) (v : ℕ) (b : Bool) → v < length xs → slice_set (xs ++ ys) v b ≡ slice_set xs v b ++ ys
+set_front [] ys v b h = absurd (omega arith)
+set_front (x ∷ xs) ys zero b h = refl
+set_front (x ∷ xs) ys (suc v) b h = ap (λ l. x ∷ l) (set_front xs ys v b (omega arith))
+
+length_slice_set : (xs : List Bool) (v : ℕ) (b : Bool) → length (slice_set xs v b) ≡ length xs
+length_slice_set [] v b = refl
+length_slice_set (x ∷ xs) zero b = refl
+length_slice_set (x ∷ xs) (suc v) b = ap suc (length_slice_set xs v b)
+
+-- a flag among those that are there
+set_all : (n : ℕ) (seen last : List Bool) (v : ℕ) → v < length seen → last ≡ slice_set seen v true → all_flags n last ≡ slice_set (all_flags n seen) v true
+set_all n seen last v h e =
+    ap (all_flags n) e ∙ (ap (λ k. slice_set seen v true ++ replicate (n - k) false) (length_slice_set seen v true) ∙ sym (set_front seen (replicate (n - length seen) false) v true h))
+
+-- more flags that aren't set
+more_flags : (n k : ℕ) (seen more : List Bool) → more ≡ seen ++ replicate k false → length seen + k ≤ n → all_flags n more ≡ all_flags n seen
+more_flags n k seen more e h =
+    let long : length (seen ++ replicate k false) ≡ length seen + k = length-append seen (replicate k false) ∙ ap (λ m. length seen + m) (length-replicate k false) in
+    let count : k + (n - length (seen ++ replicate k false)) ≡ n - length seen = omega arith in
+    ap (all_flags n) e ∙ (append_assoc seen (replicate k false) _ ∙ (ap (λ z. seen ++ z) (replicate-append-replicate k (n - length (seen ++ replicate k false)) false) ∙ ap (λ m. seen ++ replicate m false) count))
+
+-- a flag was set that was there
+pub flag_set : (n : ℕ) (seen now last : List Bool) (v : ℕ) → v < length seen → length seen ≤ n → now ≡ seen → last ≡ slice_set now v true → (all_flags n last ≡ slice_set (all_flags n seen) v true) × (length last ≤ n)
+flag_set n seen now last v h k e f =
+    let same : last ≡ slice_set seen v true = f ∙ ap (λ l. slice_set l v true) e in
+    (set_all n seen last v h same, omega (arith, ap length same, length_slice_set seen v true))
+
+-- one was set that had to be added
+pub flag_added : (n : ℕ) (seen now last : List Bool) (v m : ℕ) → m ≡ length seen → m ≤ v → v < n → now ≡ take (v + 1) seen ++ replicate (v + 1 - m) false → last ≡ slice_set now v true
+    → (all_flags n last ≡ slice_set (all_flags n seen) v true) × (length last ≤ n)
+flag_added n seen now last v m l h k e f =
+    let added : now ≡ seen ++ replicate (v + 1 - m) false = e ∙ ap (λ z. z ++ replicate (v + 1 - m) false) (take_all (v + 1) seen (omega arith)) in
+    let long : length now ≡ length seen + (v + 1 - m) = ap length added ∙ (length-append seen (replicate (v + 1 - m) false) ∙ ap (λ j. length seen + j) (length-replicate (v + 1 - m) false)) in
+    (set_all n now last v (omega arith) f ∙ ap (λ z. slice_set z v true) (more_flags n (v + 1 - m) seen now added (omega arith)), omega (arith, long, ap length f, length_slice_set now v true))

@@ -1,0 +1,273 @@
+//! Looks fields up: in the variables, and in the document of the file.
+ghost use Rattle.std.specs.Prelude.{◌≡◌, option_map, option_copied, unwrap_or, is_some, string_bytes, IfOk};
+ghost use Rattle.std.specs.List.{list_any};
+ghost use Rattle.ptree.specs.Characters.{characters_of};
+ghost use Rattle.ptree.specs.Color.{color_value};
+ghost use Rattle.ptree.specs.Configuration.{config_value};
+ghost use Rattle.ptree.specs.Fields.{all_style_fields, HasEach};
+ghost use Rattle.ptree.specs.Lent.{document_view, node_view, given_view, lent_characters};
+ghost use Rattle.ptree.specs.Loading.{whole, when, set, text, color, flag, characters, is_dimmed, style_of, configuration};
+ghost use Rattle.ptree.specs.Sources.{variables_of, last_value, document, given_by, variable, table_at, node};
+ghost use Rattle.ptree.specs.Style.{style_value};
+ghost use Rattle.ptree.specs.declared.print_config.fields.Field.{Field};
+
+use crate::print_config::fields::{Field, Part, STYLE_FIELDS, StyleField};
+use crate::print_config::file::{Document, Node};
+use crate::print_config::lent::{LentChars, set_node};
+use crate::print_config::words::{
+    Spelling, color_text, flag_text, number_text, set_spelled, when_spelled,
+};
+use crate::print_config::{
+    DEFAULT_INDENT, DEFAULT_MARK, DEFAULT_PADDING, IndentChars, PrintConfig, Sources, StyleWhen,
+    UTF_CHARS,
+};
+use crate::style::{Color, Style};
+use std::alloc::{AllocError, Global};
+
+// What is looked into: the variables, and the document of the file.
+#[derive(Clone, Copy)]
+pub(crate) struct Given<'a> {
+    variables: &'a [(String, String)],
+    document: Option<Node<'a>>,
+}
+
+impl<'a> Given<'a> {
+    // Returns what the sources give, with the document of their file.
+    pub(crate) fn of(sources: &'a Sources, read: &'a Option<Document>) -> Given<'a>
+        requires { option_map document_view read.now ≡ document sources.now.file }
+        ensures { given_view result ≡ given_by sources.now }
+    {
+        Given {
+            variables: &sources.variables,
+            document: match read {
+                Some(document) => Some(document.top()),
+                None => None,
+            },
+        }
+    }
+
+    // Returns the text of a field's variable.
+    #[tactic(auto, unfolding(crate::specs::Sources::variable))]
+    pub(crate) fn variable(&self, field: Field) -> Option<&'a str>
+        ensures { option_copied result ≡ variable (given_view self.now) field }
+    {
+        last_value(Spelling::AnyCase, field.variable(), self.variables)
+    }
+
+    // Returns the top of the document, or its table of this key.
+    #[tactic(auto, unfolding(crate::specs::Sources::table_at))]
+    pub(crate) fn table_at(&self, key: Option<&str>) -> Option<Node<'a>>
+        ensures { option_map node_view result
+            ≡ table_at (given_view self.now) (option_copied key.entry) }
+    {
+        match key {
+            None => self.document,
+            Some(key) => self.document?.get(key),
+        }
+    }
+
+    // Returns the value at a field's key.
+    #[tactic(auto, unfolding(crate::specs::Sources::node))]
+    pub(crate) fn node(&self, field: Field) -> Option<Node<'a>>
+        ensures { option_map node_view result ≡ node (given_view self.now) field }
+    {
+        self.table_at(field.table())?.get(field.key())
+    }
+
+    // Returns the value of a field that accepts whole numbers up to `greatest`.
+    fn whole(&self, greatest: u64, field: Field) -> Option<u64>
+        ensures { result ≡ whole greatest (given_view self.now) field }
+    {
+        if let Some(value) = self.variable(field) {
+            if let Some(n) = number_text(greatest, value) {
+                return Some(n);
+            }
+        }
+        self.node(field)?.whole(greatest)
+    }
+
+    // Returns the value of a field that says when to style.
+    fn when(&self, field: Field) -> Option<StyleWhen>
+        ensures { result ≡ when (given_view self.now) field }
+    {
+        if let Some(value) = self.variable(field) {
+            if let Some(when) = when_spelled(Spelling::AnyCase, value) {
+                return Some(when);
+            }
+        }
+        self.node(field)?.when()
+    }
+
+    // Returns the value of a field that accepts any text.
+    fn text(&self, field: Field) -> Option<&'a str>
+        ensures { option_copied result ≡ text (given_view self.now) field }
+    {
+        if let Some(value) = self.variable(field) {
+            return Some(value);
+        }
+        self.node(field)?.text()
+    }
+
+    // Returns the value of a field that accepts a colour.
+    fn color(&self, alloc: Global, field: Field) -> Result<Option<Color>, AllocError>
+        ensures { IfOk result (λ found.
+            option_map color_value found ≡ color (given_view self.now) field) }
+    {
+        if let Some(value) = self.variable(field) {
+            return Ok(Some(color_text(alloc, value)?));
+        }
+        match self.node(field) {
+            Some(value) => value.color(alloc),
+            None => Ok(None),
+        }
+    }
+
+    // Returns the value of a field that accepts true or false.
+    fn flag(&self, field: Field) -> Option<bool>
+        ensures { result ≡ flag (given_view self.now) field }
+    {
+        if let Some(value) = self.variable(field) {
+            if let Some(on) = flag_text(value) {
+                return Some(on);
+            }
+        }
+        self.node(field)?.flag()
+    }
+
+    // Returns the style of a part.
+    #[tactic(auto, unfolding(crate::specs::Loading::style_of))]
+    fn style(&self, alloc: Global, part: Part) -> Result<Style, AllocError>
+        ensures { IfOk result (λ style. style_value style ≡ style_of (given_view self.now) part) }
+    {
+        let dimmed = self.is_dimmed(part);
+        Ok(Style {
+            foreground: self.color(alloc, Field::Paint(part, StyleField::Foreground))?,
+            background: self.color(alloc, Field::Paint(part, StyleField::Background))?,
+            bold: self.is_set(part, StyleField::Bold, false),
+            dimmed: self.is_set(part, StyleField::Dimmed, dimmed),
+            italic: self.is_set(part, StyleField::Italic, false),
+            underline: self.is_set(part, StyleField::Underline, false),
+            blink: self.is_set(part, StyleField::Blink, false),
+            reverse: self.is_set(part, StyleField::Reverse, false),
+            hidden: self.is_set(part, StyleField::Hidden, false),
+            strikethrough: self.is_set(part, StyleField::Strikethrough, false),
+        })
+    }
+
+    // Returns a flag of a part's style.
+    fn is_set(&self, part: Part, field: StyleField, default: bool) -> bool
+        ensures { result ≡ unwrap_or (flag (given_view self.now) (Field.Paint part field)) default }
+    {
+        self.flag(Field::Paint(part, field)).unwrap_or(default)
+    }
+
+    // Whether a part is dimmed if no source says so.
+    fn is_dimmed(&self, part: Part) -> bool
+        ensures dimmed { result ≡ is_dimmed (given_view self.now) part }
+        ensures each { HasEach all_style_fields }
+    {
+        match part {
+            Part::Branch => {
+                self.table_at(Some(part.key())).is_none() && !self.has_variable(part, &STYLE_FIELDS)
+            }
+            Part::Leaf => false,
+        }
+    }
+
+    // Whether there is a variable of one of these fields of a part.
+    fn has_variable(&self, part: Part, fields: &[StyleField]) -> bool
+        ensures { result
+            ≡ list_any (λ f. is_some (variable (given_view self.now) (Field.Paint part f)))
+            fields.now }
+    {
+        for field in fields {
+            if self.variable(Field::Paint(part, *field)).is_some() {
+                return true;
+            }
+        }
+        false
+    }
+
+    // Returns the value of a field that accepts a set of characters.
+    fn set(&self, field: Field) -> Option<LentChars<'a>>
+        ensures { option_map lent_characters result ≡ set (given_view self.now) field }
+    {
+        if let Some(value) = self.variable(field) {
+            if let Some(set) = set_spelled(Spelling::AnyCase, value) {
+                return Some(LentChars::of(set));
+            }
+        }
+        set_node(self.node(field)?)
+    }
+
+    // Returns the characters.
+    #[tactic(auto, unfolding(crate::specs::Loading::characters))]
+    fn characters(&self, alloc: Global) -> Result<IndentChars, AllocError>
+        ensures { IfOk result (λ chars. characters_of chars ≡ characters (given_view self.now)) }
+    {
+        let base = self
+            .set(Field::Characters)
+            .unwrap_or(LentChars::of(UTF_CHARS));
+        Ok(IndentChars {
+            down_and_right: self.character(alloc, Field::DownAndRight, base.down_and_right)?,
+            down: self.character(alloc, Field::Down, base.down)?,
+            turn_right: self.character(alloc, Field::TurnRight, base.turn_right)?,
+            right: self.character(alloc, Field::Right, base.right)?,
+            empty: self.character(alloc, Field::Empty, base.empty)?,
+        })
+    }
+
+    // Returns a single character: the value of its variable, or else `other`.
+    fn character(&self, alloc: Global, field: Field, other: &str) -> Result<String, AllocError>
+        ensures { IfOk result (λ s.
+            string_bytes s ≡ unwrap_or (variable (given_view self.now) field) other.now) }
+    {
+        match self.variable(field) {
+            Some(value) => String::from_str(alloc, value),
+            None => String::from_str(alloc, other),
+        }
+    }
+
+    // Returns the configuration, with each field by itself.
+    #[tactic(auto, unfolding(crate::specs::Loading::configuration))]
+    pub(crate) fn configuration(&self, alloc: Global) -> Result<PrintConfig, AllocError>
+        ensures { IfOk result (λ config.
+            config_value config ≡ configuration (given_view self.now)) }
+    {
+        Ok(PrintConfig {
+            depth: self
+                .whole(u32::MAX as u64, Field::Depth)
+                .unwrap_or(u32::MAX as u64) as u32,
+            indent: self
+                .whole(u64::MAX, Field::Indent)
+                .unwrap_or(DEFAULT_INDENT as u64) as usize,
+            padding: self
+                .whole(u64::MAX, Field::Padding)
+                .unwrap_or(DEFAULT_PADDING as u64) as usize,
+            styled: self.when(Field::Styled).unwrap_or(StyleWhen::Tty),
+            continued: String::from_str(
+                alloc,
+                self.text(Field::Continued).unwrap_or(DEFAULT_MARK),
+            )?,
+            branch: self.style(alloc, Part::Branch)?,
+            leaf: self.style(alloc, Part::Leaf)?,
+            characters: self.characters(alloc)?,
+        })
+    }
+}
+
+/// Returns the last value of a variable.
+pub fn last_value<'a>(
+    spelling: Spelling,
+    name: &str,
+    variables: &'a [(String, String)],
+) -> Option<&'a str>
+    ensures { option_copied result ≡ last_value spelling name.now (variables_of variables.now) }
+{
+    for variable in variables.iter().rev() {
+        if spelling.is(variable.0.as_str(), name) {
+            return Some(variable.1.as_str());
+        }
+    }
+    None
+}
