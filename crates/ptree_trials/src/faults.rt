@@ -198,14 +198,25 @@ fn try_documents(rt: &HostRuntime) -> io::Result<()> {
     let wide = sources(alloc, &[("PTREE_INDENT", "4")])?;
     try_writers(rt, "a document in TOML", TOML_DRAWN, |out| {
         drawing_of(draw_document(alloc, DocFormat::Toml, TOML, "toml", &wide, false, out))
-    })?;
+    })
+}
+
+// Tries the drawing of a value under a label.
+fn try_value(rt: &HostRuntime) -> io::Result<()> {
+    let alloc = rt.alloc();
+    let config = PrintConfig::default(alloc)?;
     let pair = (String::from_str(alloc, "k")?, Value::I64(5));
     try_writers(
         rt,
         "a value",
         "k\n",
         |out| write_tree_with(alloc, &pair, out, &config),
-    )?;
+    )
+}
+
+// Tries the drawing of a tree under sources.
+fn try_sources(rt: &HostRuntime) -> io::Result<()> {
+    let alloc = rt.alloc();
     let always = sources(alloc, &[("PTREE_STYLED", "ALWAYS")])?;
     let small = over_leaves(alloc, "r", &["a"])?;
     try_writers(rt, "a tree under sources", STYLED, |out| {
@@ -235,5 +246,7 @@ pub fn try_faults(rt: &HostRuntime) -> io::Result<()> {
     try_trees(rt)?;
     try_graphs(rt)?;
     try_documents(rt)?;
+    try_value(rt)?;
+    try_sources(rt)?;
     try_texts(rt)
 }

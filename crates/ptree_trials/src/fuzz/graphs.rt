@@ -121,6 +121,45 @@ fn try_bad_edge(alloc: Global, net: &mut MadeGraph, start: usize) -> Result<(), 
     )
 }
 
+// What must be drawn from a start.
+fn wanted(
+    alloc: Global,
+    net: &MadeGraph,
+    start: usize,
+    config: &PrintConfig,
+) -> Result<String, Deviation> {
+    if start < net.texts.len() {
+        let walks = walks(alloc, net, start, config.depth)?;
+        drawn(alloc, &walks, config)
+    } else {
+        Ok(nothing_drawn(alloc, config)?)
+    }
+}
+
+// The rules of a graph's drawing.
+fn try_drawing(
+    alloc: Global,
+    net: &MadeGraph,
+    start: usize,
+    config: &PrintConfig,
+    dice: &mut Dice,
+) -> Result<(), Deviation> {
+    let drawing = graph_drawn(alloc, net, start, config)?;
+    expect(
+        drawing == wanted(alloc, net, start, config)?,
+        "a graph's drawing is that of its walks, and nothing is drawn of no node",
+    )?;
+    let writer = writer(dice, drawing.len());
+    let draw = |out: &mut Counted<Failing>| {
+        write_graph_with(alloc, &net.graph, NodeIndex(start), out, config)
+    };
+    let front = leaves_front(alloc, drawing.as_bytes(), writer, &draw)?;
+    expect(
+        front,
+        "a writer that fails has a front of a graph's drawing",
+    )
+}
+
 /// Tries the rules on a graph.
 pub fn try_graphs(alloc: Global, dice: &mut Dice) -> Result<(), Deviation> {
     let mut net = net(alloc, dice)?;
@@ -129,25 +168,5 @@ pub fn try_graphs(alloc: Global, dice: &mut Dice) -> Result<(), Deviation> {
     try_bad_edge(alloc, &mut net, node)?;
     let start = start(dice, &net);
     config.depth = few_walks(alloc, &net, start, depth(dice))?;
-    let drawing = graph_drawn(alloc, &net, start, &config)?;
-    if start < net.texts.len() {
-        let walks = walks(alloc, &net, start, config.depth)?;
-        let of_walks = drawn(alloc, &walks, &config)?;
-        expect(
-            drawing == of_walks,
-            "a graph's drawing is that of its walks",
-        )?;
-    } else {
-        let nothing = nothing_drawn(alloc, &config)?;
-        expect(drawing == nothing, "nothing is drawn of no node")?;
-    }
-    let writer = writer(dice, drawing.len());
-    let draw = |out: &mut Counted<Failing>| {
-        write_graph_with(alloc, &net.graph, NodeIndex(start), out, &config)
-    };
-    let front = leaves_front(alloc, drawing.as_bytes(), writer, &draw)?;
-    expect(
-        front,
-        "a writer that fails has a front of a graph's drawing",
-    )
+    try_drawing(alloc, &net, start, &config, dice)
 }

@@ -62,17 +62,25 @@ fn front(alloc: Global, config: &PrintConfig) -> Result<String, AllocError> {
     String::from_str(alloc, codes)
 }
 
+// A text, painted in a style of a configuration.
+fn painted(
+    alloc: Global,
+    style: &Style,
+    config: &PrintConfig,
+    text: &str,
+) -> Result<String, AllocError> {
+    effective(style, config)?.paint(alloc, text)
+}
+
 // The entry of a root: its painted text, and after each line feed in it the painted mark.
 fn root_entry(
     alloc: Global,
     tree: &StringItem,
     config: &PrintConfig,
 ) -> Result<String, AllocError> {
-    let branch = effective(&config.branch, config)?;
-    let leaf = effective(&config.leaf, config)?;
-    let mark = branch.paint(alloc, config.continued.as_str())?;
-    let own = leaf.paint(alloc, tree.text.as_str())?;
-    let mut entry = branch.paint(alloc, "")?;
+    let mark = painted(alloc, &config.branch, config, config.continued.as_str())?;
+    let own = painted(alloc, &config.leaf, config, tree.text.as_str())?;
+    let mut entry = painted(alloc, &config.branch, config, "")?;
     for c in own.as_str().chars() {
         entry.push(c)?;
         if c == '\n' {

@@ -57,11 +57,11 @@ impl Trial {
         Ok(())
     }
 
-    // Notes the occurrences below the first node, where each node is expanded once.
+    // Notes the places of the graph from its first node, where each node is expanded once.
     fn note_occurrences(&mut self, graph: &Graph<String>) -> Result<(), Failure> {
         let first = self.retried(|| Ok(graph.expanded_once(NodeIndex(0), DEPTH)?))?;
-        for place in &first.children {
-            writeln!(self.notes, "occurrence {} {}", place.node.0, place.repeated)?;
+        for place in &first.places {
+            writeln!(self.notes, "occurrence {} {}", place.node.0, place.size)?;
         }
         Ok(())
     }

@@ -39,8 +39,8 @@ fn depth_of(alloc: Global, depth: u32) -> Result<Sources, AllocError> {
     })
 }
 
-// The calls that draw a graph down to a depth, with a mark.
-fn try_drawn<N: Label>(
+// The calls that draw a graph under a configuration of a depth, with a mark.
+fn try_written<N: Label>(
     alloc: Global,
     graph: &Graph<N>,
     depth: u32,
@@ -48,23 +48,58 @@ fn try_drawn<N: Label>(
 ) -> Result<(), Deviation> {
     let mut config = PrintConfig::default(alloc)?;
     config.depth = depth;
-    let sources = depth_of(alloc, depth)?;
     let mut out = Counted::new(Vec::new(alloc));
     made(
         write_graph_with(alloc, graph, START, &mut out, &config),
         "`write_graph_with` succeeds",
     )?;
     made(
+        write_graph_once_with(alloc, graph, START, mark, &mut out, &config),
+        "`write_graph_once_with` succeeds",
+    )
+}
+
+// The calls that draw a graph under sources of a depth, with a mark.
+fn try_printed<N: Label>(
+    alloc: Global,
+    graph: &Graph<N>,
+    depth: u32,
+    mark: &str,
+) -> Result<(), Deviation> {
+    let sources = depth_of(alloc, depth)?;
+    let mut out = Counted::new(Vec::new(alloc));
+    made(
         print_graph(alloc, graph, START, &mut out, true, &sources),
         "`print_graph` succeeds",
     )?;
     made(
-        write_graph_once_with(alloc, graph, START, mark, &mut out, &config),
-        "`write_graph_once_with` succeeds",
-    )?;
-    made(
         print_graph_once(alloc, graph, START, mark, &mut out, true, &sources),
         "`print_graph_once` succeeds",
+    )
+}
+
+// The calls that draw a graph down to a depth, with a mark.
+fn try_drawn<N: Label>(
+    alloc: Global,
+    graph: &Graph<N>,
+    depth: u32,
+    mark: &str,
+) -> Result<(), Deviation> {
+    try_written(alloc, graph, depth, mark)?;
+    try_printed(alloc, graph, depth, mark)
+}
+
+// The calls that return a part of a graph whose first node has so many neighbours.
+fn try_parts<N: Label>(graph: &Graph<N>, targets: usize) -> Result<(), Deviation> {
+    let found = made(graph.neighbors(START), "`Graph::neighbors` succeeds")?;
+    expect(found.len() == targets, "each edge has its target")?;
+    let first = made(
+        graph.expanded_once(START, u32::MAX),
+        "`Graph::expanded_once` succeeds",
+    )?;
+    expect(
+        first.places.len() > targets,
+        "each edge of the start has an occurrence",
     )
 }
 
@@ -76,16 +111,7 @@ fn try_graph<N: Label + Drop>(
     depth: u32,
 ) -> Result<(), Deviation> {
     let mark = text(alloc, targets.min(LEVELS))?;
-    let found = made(graph.neighbors(START), "`Graph::neighbors` succeeds")?;
-    expect(found.len() == targets, "each edge has its target")?;
-    let first = made(
-        graph.expanded_once(START, u32::MAX),
-        "`Graph::expanded_once` succeeds",
-    )?;
-    expect(
-        first.children.len() == targets,
-        "each edge of the start has an occurrence",
-    )?;
+    try_parts(&graph, targets)?;
     try_drawn(alloc, &graph, depth, mark.as_str())?;
     let turned = graph.reversed();
     made(turned.neighbors(START), "`Graph::neighbors` succeeds")?;
