@@ -154,13 +154,14 @@ live_in() {
     ps -o stat=,pid=,args= -s "$1" | grep -v '^Z'
 }
 
-# Checks that a signal to a command alone ends the build, with all that it has started. Arguments: signal, command.
+# Checks that a signal to a command alone ends the build, with all that it has started. Arguments: signal, command. (A shell
+# starts a command beside itself with SIGINT ignored, so that is set back.)
 check_signal() {
     local name=$1 session got
     shift
     rm -rf "$there/crates/ptree_cli/out" "$there/session"
     echo 'rm "$at"; ps -o sid= $$ >"$there/session"; sleep 300' >"$there/at_lib"
-    PATH=$there/path:$PATH "$@" </dev/null >"$scratch/out" 2>"$scratch/err" &
+    PATH=$there/path:$PATH env --default-signal=INT "$@" </dev/null >"$scratch/out" 2>"$scratch/err" &
     for _ in $(seq 100); do
         [ -s "$there/session" ] && break
         sleep 0.1
@@ -185,7 +186,7 @@ check_launcher() {
     check_changes_meanwhile
     check_no_build
     check_progress
-    for name in TERM HUP; do
+    for name in INT TERM HUP; do
         check_signal $name "$there/bin/ptree_cli" a b
         check_signal $name "$there/bin/build" ptree_cli
     done
