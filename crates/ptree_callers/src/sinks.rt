@@ -1,6 +1,6 @@
 //! Sinks of a caller's own.
 ghost use Rattle.std.specs.Io.KnownBytes.{Appends};
-ghost use Rattle.std.specs.Prelude.{ℕ, None, IfOk};
+ghost use Rattle.std.specs.Prelude.{◌≡◌, ℕ, None, IfOk};
 
 use ptree::buffered::Buffered;
 use ptree::style::{DrawError, Sink, put_all};
@@ -45,6 +45,18 @@ pub fn write_buffered<S: Sink + Drop>(alloc: Global, sink: S, bytes: &[u8]) -> R
         return Err(DrawError::Memory);
     };
     put_all(&mut buffered, bytes)?;
+    buffered.flush()?;
+    Ok(buffered.into_inner())
+}
+
+/// Flushes an empty buffer twice, and returns the sink, which was not called.
+pub fn flush_twice<S: Sink + Drop>(alloc: Global, sink: S) -> Result<S, DrawError>
+    ensures { IfOk result (λ s. s ≡ sink) }
+{
+    let Ok(mut buffered) = Buffered::with_capacity(alloc, 4096, sink) else {
+        return Err(DrawError::Memory);
+    };
+    buffered.flush()?;
     buffered.flush()?;
     Ok(buffered.into_inner())
 }
