@@ -2,7 +2,7 @@
 use Rattle.std.specs.Prelude.{slice_set, replicate, if◌then◌else◌, ◌≢◌}
 use Rattle.std.proofs.Common.{◌≡◌, ◌⊎◌, inl, inr, ℕ, zero, suc, ◌-◌, ◌≤◌, Bool, true, false, List, [], ◌∷◌, ◌++◌, length, ap, refl, sym, subst, ◌∙◌, append_assoc, arith}
 use Rattle.ptree.specs.declared.graph.Graph.{Graph}
-use Rattle.ptree.specs.declared.graph.once.Place.{Place}
+use Rattle.ptree.specs.declared.graph.places.Place.{Place}
 use Rattle.ptree.specs.Graph.{weights_of, edges_of, neighbors_of}
 use Rattle.ptree.specs.GraphLinks.{newest_from}
 use Rattle.ptree.specs.Growing.{Grown, grown, is_seen, enter, row_occurrences, row_seen, expand, grow, all_flags, place_of, leaf_size, AppendsPlaces}

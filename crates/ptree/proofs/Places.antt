@@ -3,7 +3,7 @@ use Rattle.std.specs.Prelude.{slice_get, slice_set, ◌^◌, min, replicate}
 use Rattle.std.proofs.Common.{◌≡◌, ℕ, zero, suc, ◌+◌, ◌-◌, ◌<◌, ◌≤◌, inl, inr, Bool, true, false, List, [], ◌∷◌, ◌++◌, length, length-append, take, drop, Some, None, ap, refl, sym, ◌∙◌, append_assoc, arith}
 use Rattle.std.proofs.lemmas.Bool.{cases_lt}
 use Rattle.std.proofs.lemmas.List.{append-nil, take_all, length-drop, drop_all, drop_at, length-replicate, replicate-append-replicate}
-use Rattle.ptree.specs.declared.graph.once.Place.{Place}
+use Rattle.ptree.specs.declared.graph.places.Place.{Place}
 use Rattle.ptree.specs.Growing.{is_seen, all_flags, place_of, place_at, leaf_size, ArePlaces, AppendsPlaces, IsNextPlace}
 use Rattle.ptree.specs.Occurrence.{OccurrenceTree, occurrence, occurrence_kids, none, row, is_repeated_size, size_below, trees_by, trees_in, tree_at_front}
 use Rattle.ptree.proofs.Occurrences.{occurrences_of_row}

@@ -1,8 +1,8 @@
 -- A graph as a tree in which each node is expanded once: its neighbours stand below one of its occurrences, and the others are leaves.
 use Rattle.std.specs.Prelude.{◌≡◌, ◌≢◌, ◌↔◌, IsTrue, ℕ, zero, suc, ◌+◌, ◌-◌, ◌^◌, ◌<◌, Bool, true, false, if◌then◌else◌, nat_lt, List, [], ◌∷◌, ◌++◌, length, drop, map, count_by, Some, option_map, unwrap_or, slice_get}
 use Rattle.ptree.specs.declared.graph.Graph.{Graph}
-use Rattle.ptree.specs.declared.graph.once.Occurrence.{Occurrence}
-use Rattle.ptree.specs.declared.graph.once.Place.{Place}
+use Rattle.ptree.specs.declared.graph.places.Occurrence.{Occurrence}
+use Rattle.ptree.specs.declared.graph.places.Place.{Place}
 use Rattle.ptree.specs.Address.{Address, at, Before}
 use Rattle.ptree.specs.Graph.{weights_of}
 use Rattle.ptree.specs.Shape.{Shape, unfolded_shape}

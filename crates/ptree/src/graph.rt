@@ -5,12 +5,11 @@ ghost use Rattle.ptree.specs.Matched.{AreMatched};
 
 mod drawing;
 mod once;
+mod places;
 
 pub use drawing::{GraphNode, Label, print_graph, write_graph_with};
-pub use once::{
-    Expanded, Occurrence, OccurrenceItem, Place, REPEATED_MARK, print_graph_once,
-    write_graph_once_with,
-};
+pub use once::{Expanded, OccurrenceItem, REPEATED_MARK, print_graph_once, write_graph_once_with};
+pub use places::{Occurrence, Place};
 use std::alloc::{AllocError, AllocFailed, Global};
 use std::error::Error;
 use std::fmt;

@@ -1,14 +1,15 @@
 //! Graphs drawn with each node expanded once.
-ghost use Rattle.std.specs.Prelude.{◌≡◌, ◌↔◌, ◌++◌, ◌∷◌, [], ◌≤◌, ◌<◌, ◌^◌, ℕ, true, List, length, drop, slice_set, IfOk, IfSome, IfNone, OnOk};
+ghost use Rattle.std.specs.Prelude.{◌≡◌, ◌↔◌, ◌++◌, [], ◌<◌, ℕ, List, drop, IfSome, IfNone};
 ghost use Rattle.ptree.specs.Drawing.{look_by, look_of, written_look, IsDrawing};
-ghost use Rattle.ptree.specs.Graph.{weights_of, edges_of, neighbors_of, node_shape};
-ghost use Rattle.ptree.specs.Growing.{is_seen, grow, all_flags, place_of, place_at, leaf_size, alone_at, AppendsPlaces, IsNextPlace};
+ghost use Rattle.ptree.specs.Graph.{edges_of, neighbors_of, node_shape};
+ghost use Rattle.ptree.specs.Growing.{place_at, alone_at, IsNextPlace};
 ghost use Rattle.ptree.specs.Loading.{meant_by};
-ghost use Rattle.ptree.specs.Occurrence.{OccurrenceTree, IsExpandedOnce, NoneRepeated, LeavesUnrepeated, ExpandsFirst, HasOneTree, HasSize, is_repeated_size, size_below, trees_in, occurrence_tree, occurrence_own, occurrence_shape};
+ghost use Rattle.ptree.specs.Occurrence.{OccurrenceTree, IsExpandedOnce, NoneRepeated, HasOneTree, trees_in, occurrence_own, occurrence_shape};
 ghost use Rattle.ptree.specs.Style.{style_value, painted_text};
 ghost use Rattle.ptree.specs.Writing.{IsWritten, HasCause, IsDrawn, LeavesWholeEntries};
 ghost use Rattle.ptree.specs.declared.print_config.OutputKind.{OutputKind};
 
+use super::places::{Occurrence, Place};
 use super::{Graph, Label, NodeIndex};
 use crate::codes::Codes;
 use crate::item::{Children, Shaped, TreeItem};
@@ -19,146 +20,6 @@ use std::alloc::{AllocError, Global};
 
 /// The mark that `cargo tree` puts behind the label of a repeated package.
 pub const REPEATED_MARK: &str = " (*)";
-
-/// One of the places at which a node stands, where a graph is drawn with each node expanded once.
-#[derive(Debug, Clone, Copy)]
-pub struct Place {
-    /// The node.
-    pub node: NodeIndex,
-
-    /// How many places there are here and below. 0 says that the node is repeated: its neighbours stand below an earlier place of it, and
-    /// nothing stands below this one.
-    pub size: usize,
-}
-
-impl Place {
-    // A place with nothing below it.
-    #[inline(always)]
-    fn leaf(node: NodeIndex, repeated: bool) -> Place
-        ensures { result ≡ place_of node.0 (leaf_size repeated) }
-    {
-        Place {
-            node,
-            size: if repeated { 0 } else { 1 },
-        }
-    }
-
-    /// Whether the node's neighbours stand below an earlier place of it.
-    #[inline(always)]
-    pub fn is_repeated(&self) -> bool
-        ensures { result ≡ is_repeated_size self.now.size }
-    {
-        self.size == 0
-    }
-
-    /// How many places stand below this one.
-    #[inline(always)]
-    pub fn below(&self) -> usize
-        ensures { result ≡ size_below self.now.size }
-    {
-        self.size.saturating_sub(1)
-    }
-}
-
-/// A graph as a tree in which each node is expanded once: all its places, in the order of drawing. The first one is the root. Below a place
-/// stand the places right after it, as many as its size says beside itself: those of the node's neighbours, newest edge first, each followed
-/// by what is below it. Nothing stands below a place at the depth.
-#[derive(Debug, Drop)]
-pub struct Occurrence {
-    /// The places.
-    pub places: Vec<Place>,
-}
-
-impl<N> Graph<N> {
-    /// The graph as a tree in which each node is expanded once, from a start node down to a depth.
-    ///
-    /// A node is expanded at its first occurrence above the depth, in the order of drawing. Its later ones are repeated, unless it has no
-    /// neighbours. So a cycle ends at the first repeated node, and there is one occurrence more than there are edges from nodes that
-    /// are expanded. A start that is no node's number gives an occurrence of that number alone.
-    ///
-    /// Time and memory grow with the occurrences, which take 16 bytes each, beside a flag for each node up to the last one that is expanded. The
-    /// stack grows with the levels of the tree, and a finite depth bounds it.
-    ///
-    /// # Errors
-    ///
-    /// Memory ran out.
-    pub fn expanded_once(&self, start: NodeIndex, depth: u32) -> Result<Occurrence, AllocError>
-        ensures tree { IfOk result (λ o.
-            IsExpandedOnce (neighbors_of (edges_of self.now)) start.0 depth (occurrence_tree o)) }
-        ensures one_tree { HasOneTree (neighbors_of (edges_of self.now)) start.0 depth }
-        // There is one for each edge from a node that is expanded, and one more.
-        ensures size { IfOk result (λ o. HasSize (edges_of self.now) (occurrence_tree o)) }
-        ensures first { IfOk result (λ o.
-            ExpandsFirst (neighbors_of (edges_of self.now)) depth (occurrence_tree o)) }
-        ensures leaf { IfOk result (λ o.
-            LeavesUnrepeated (neighbors_of (edges_of self.now)) (occurrence_tree o)) }
-    {
-        let alloc = *self.nodes.allocator();
-        let mut seen = Vec::new(alloc);
-        let mut places = Vec::new(alloc);
-        self.push_places(start, depth, &mut seen, &mut places)?;
-        Ok(Occurrence { places })
-    }
-
-    // Appends the places of a node and of what is below it, down to so many levels, where the nodes that are seen are expanded already.
-    fn push_places(
-        &self,
-        node: NodeIndex,
-        levels: u32,
-        seen: &mut Vec<bool>,
-        places: &mut Vec<Place>,
-    ) -> Result<(), AllocError>
-        requires { length seen.old.items ≤ length (weights_of self.now) }
-        ensures places { OnOk result (AppendsPlaces places.old.items places.new.items
-            ((grow (neighbors_of (edges_of self.now)) levels
-            (all_flags (length (weights_of self.now)) seen.old.items) node.0).occurrence ∷ [])) }
-        ensures seen { OnOk result (all_flags (length (weights_of self.now)) seen.new.items
-            ≡ (grow (neighbors_of (edges_of self.now)) levels
-            (all_flags (length (weights_of self.now)) seen.old.items) node.0).seen) }
-        ensures length { OnOk result (length seen.new.items ≤ length (weights_of self.now)) }
-    {
-        let index = places.len();
-        let repeated = is_flagged(seen, node.0);
-        places.push(Place::leaf(node, repeated))?;
-        if repeated || levels == 0 {
-            return Ok(());
-        }
-        let mut number = self.newest(node);
-        if number == 0 {
-            return Ok(());
-        }
-        set_flag(seen, node.0)?;
-        while number > 0 {
-            let edge = &self.edges[number - 1];
-            self.push_places(NodeIndex(edge.target), levels - 1, seen, places)?;
-            number = edge.next;
-        }
-        let size = places.len() - index;
-        places[index] = Place { node, size };
-        Ok(())
-    }
-}
-
-// Whether a node is flagged; a number that is no node's isn't.
-fn is_flagged(seen: &[bool], node: usize) -> bool
-    ensures { result ≡ is_seen seen.now node }
-{
-    seen.get(node).copied().unwrap_or(false)
-}
-
-// Sets a node's flag. Flags that are not there yet are added up to it.
-fn set_flag(seen: &mut Vec<bool>, node: usize) -> Result<(), AllocError>
-    requires { node < 2 ^ 63 }
-    ensures flags { OnOk result ((n : ℕ) → node < n → length seen.old.items ≤ n
-        → (all_flags n seen.new.items ≡ slice_set (all_flags n seen.old.items) node true)
-        × (length seen.new.items ≤ n)) }
-{
-    if node >= seen.len() {
-        seen.resize(node + 1, false)?;
-    }
-    seen[node] = true;
-    Ok(())
-}
 
 /// A graph that is expanded once, and the text that marks what is repeated: what its items have in common.
 pub struct Expanded<'a, N> {

@@ -1,5 +1,5 @@
 use Rattle.std.proofs.Common.{◌∷◌, [], Bool, List, length, ap, ◌∙◌, subst}
-use Rattle.ptree.specs.declared.graph.once.Place.{Place}
+use Rattle.ptree.specs.declared.graph.places.Place.{Place}
 use Rattle.ptree.specs.Graph.{weights_of, edges_of, neighbors_of}
 use Rattle.ptree.specs.Growing.{grow, all_flags, AppendsPlaces}
 use Rattle.ptree.specs.Occurrence.{OccurrenceTree, tree_at_front}

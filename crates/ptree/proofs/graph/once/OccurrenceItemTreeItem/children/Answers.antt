@@ -4,7 +4,7 @@ use Rattle.ptree.specs.Growing.{IsNextPlace, place_at}
 use Rattle.ptree.specs.Occurrence.{OccurrenceTree, occurrence_at, occurrence_own, occurrence_shape, occurrence_kids, size_below, trees_in}
 use Rattle.ptree.specs.Shape.{Shape}
 use Rattle.ptree.specs.declared.graph.once.OccurrenceItem.{OccurrenceItem}
-use Rattle.ptree.specs.declared.graph.once.Place.{Place}
+use Rattle.ptree.specs.declared.graph.places.Place.{Place}
 use Rattle.ptree.proofs.EdgeLists.{given_more}
 use Rattle.ptree.proofs.Places.{first_index, next_trees, kids_at_place}
 use Rattle.ptree.proofs.Unfold.{kids_of_unfold}

@@ -3,7 +3,7 @@ use Rattle.ptree.specs.Growing.{alone_at}
 use Rattle.ptree.specs.Occurrence.{OccurrenceTree, occurrence_own}
 use Rattle.ptree.specs.Style.{style_value}
 use Rattle.ptree.specs.Writing.{IsWritten}
-use Rattle.ptree.specs.declared.graph.once.Place.{Place}
+use Rattle.ptree.specs.declared.graph.places.Place.{Place}
 use Rattle.ptree.proofs.Places.{tree_at_place}
 use Rattle.ptree.proofs.graph.once.OccurrenceItemTreeItem.write_self.Goals as goal
 
