@@ -1,5 +1,5 @@
 //! The drawing engine.
-ghost use Rattle.std.specs.Prelude.{◌≡◌, ℕ, Bool, true, false, Some, length, take, ◌≤◌, ◌++◌, OnOk, OnErr, Err, List, map};
+ghost use Rattle.std.specs.Prelude.{◌≡◌, ℕ, Bool, true, false, Some, length, take, ◌≤◌, ◌≢◌, ◌++◌, OnOk, OnErr, Err, List, map};
 ghost use Rattle.std.specs.List.{concat};
 ghost use Rattle.ptree.specs.Pen.{brush_look, buffer_of, HoldsPassing, HoldsOwnText};
 ghost use Rattle.ptree.specs.Entries.{item_entries, kid_entries, entries_below, drawn_entries};
@@ -16,6 +16,19 @@ use crate::output::look::Look;
 use crate::output::pen::Pen;
 use crate::style::{DrawError, Sink, Stop, put_or_stop};
 use std::alloc::Global;
+
+// Writes the buffer. It is a function of its own, so that what a sink needs while it takes an entry
+// is no part of the stack of each level.
+#[inline(never)]
+fn put_buffer<W: Sink>(f: &mut W, bytes: &[u8], error: &mut DrawError) -> Result<(), Stop>
+    requires { error.old ≡ Memory }
+    ensures bytes { IsWritten (W.contents f.old) (W.contents f.new) result bytes.now }
+    ensures cause { HasErrorCause (W.faults f.old) (W.faults f.new) error.new }
+    ensures error { OnOk result (error.new ≡ Memory) }
+    ensures memory { OnErr result (error.new ≢ Memory) }
+{
+    put_or_stop(f, bytes, error)
+}
 
 // Draws one entry: a root (`None`) or a child. The first `width` bytes of the buffer are the
 // branch's front codes and the passing text of its parent. Its turning piece with the back codes
@@ -49,7 +62,7 @@ fn draw_entry<C: TreeItem, W: Sink>(
     }
     pen.line.continue_lines(start, width, brush, last)?;
     pen.line.end_line()?;
-    put_or_stop(f, pen.line.bytes.as_slice(), &mut pen.error)?;
+    put_buffer(f, pen.line.bytes.as_slice(), &mut pen.error)?;
     pen.line.bytes.truncate(start);
     Ok(())
 }

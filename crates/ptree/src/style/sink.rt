@@ -149,11 +149,15 @@ pub fn put_all<W: Sink>(f: &mut W, bytes: &[u8]) -> Result<(), DrawError>
     // If there are no bytes, nothing is put, and no fault is counted.
     ensures none { bytes.now ≡ [] → IsOk result × (f.new ≡ f.old) }
 {
-    let mut error = DrawError::Memory;
-    match put_or_stop(f, bytes, &mut error) {
-        Ok(()) => Ok(()),
-        Err(_) => Err(error),
+    let mut rest = bytes;
+    while !rest.is_empty() {
+        match f.put(rest) {
+            Ok(0) => return Err(DrawError::Zero),
+            Ok(n) => rest = &rest[n..],
+            Err(e) => return Err(DrawError::Write(e)),
+        }
     }
+    Ok(())
 }
 
 /// Writing stopped; the caller holds the error. So a result stays small.
@@ -180,21 +184,12 @@ pub(crate) fn put_or_stop<W: Sink>(
     ensures cause { HasErrorCause (W.faults f.old) (W.faults f.new) error.new }
     ensures error { OnOk result (error.new ≡ Memory) }
     ensures memory { OnErr result (error.new ≢ Memory) }
-    ensures none { bytes.now ≡ [] → IsOk result × (f.new ≡ f.old) }
 {
-    let mut rest = bytes;
-    while !rest.is_empty() {
-        match f.put(rest) {
-            Ok(0) => {
-                *error = DrawError::Zero;
-                return Err(Stop);
-            }
-            Ok(n) => rest = &rest[n..],
-            Err(e) => {
-                *error = DrawError::Write(e);
-                return Err(Stop);
-            }
+    match put_all(f, bytes) {
+        Ok(()) => Ok(()),
+        Err(e) => {
+            *error = e;
+            Err(Stop)
         }
     }
-    Ok(())
 }

@@ -13,22 +13,22 @@ returns-in_err-continue_lines-clause-bytes g c = λ front is. written_err _ _ _ 
 pub returns-in_err-end_line-clause-bytes : goal.returns-in_err-end_line-clause-bytes
 returns-in_err-end_line-clause-bytes g c = λ front is. written_err _ _ _ _ _ c.from_residual-in_err-end_line.ensures.1 (nothing_yet _ _)
 
-pub returns-in_err-put_or_stop-clause-bytes : goal.returns-in_err-put_or_stop-clause-bytes
-returns-in_err-put_or_stop-clause-bytes g c = λ front is.
+pub returns-in_err-put_buffer-clause-bytes : goal.returns-in_err-put_buffer-clause-bytes
+returns-in_err-put_buffer-clause-bytes g c = λ front is.
     let old = c.args.pen.now.line.bytes.items in
     let wide : c.len-start.result ≡ length old = omega (arith, c.len-start.ensures, c.args.pen.now.line.bytes.ok.0) in
-    written_err _ _ _ _ _ c.from_residual-in_err-put_or_stop.ensures.1
-    (subst (λ (z : List ℕ). AppendsPart (g.W.Sink.contents c.args.f.now) (g.W.Sink.contents c.put_or_stop.new.f) z)
+    written_err _ _ _ _ _ c.from_residual-in_err-put_buffer.ensures.1
+    (subst (λ (z : List ℕ). AppendsPart (g.W.Sink.contents c.args.f.now) (g.W.Sink.contents c.put_buffer.new.f) z)
     (entry_gathered (look_meant c.args.brush.now.look.now) c.args.width c.len-start.result old _ _ _ front c.args.last (g.C.Shaped.shape c.args.item.now) c.requires.turned is
-    c.in-Ok.ensures.bytes wide c.requires.width c.in_ok-continue_lines.ensures (c.as_slice.ensures.value ∙ c.in_ok-end_line.ensures)) c.in_err-put_or_stop.ensures.bytes)
+    c.in-Ok.ensures.bytes wide c.requires.width c.in_ok-continue_lines.ensures (c.as_slice.ensures.value ∙ c.in_ok-end_line.ensures)) c.in_err-put_buffer.ensures.bytes)
 
 pub returns-clause-bytes : goal.returns-clause-bytes
 returns-clause-bytes g c = λ front is.
     let old = c.args.pen.now.line.bytes.items in
     let wide : c.len-start.result ≡ length old = omega (arith, c.len-start.ensures, c.args.pen.now.line.bytes.ok.0) in
-    subst (λ (z : List ℕ). Appends (g.W.Sink.contents c.args.f.now) (g.W.Sink.contents c.put_or_stop.new.f) z)
+    subst (λ (z : List ℕ). Appends (g.W.Sink.contents c.args.f.now) (g.W.Sink.contents c.put_buffer.new.f) z)
     (entry_gathered (look_meant c.args.brush.now.look.now) c.args.width c.len-start.result old _ _ _ front c.args.last (g.C.Shaped.shape c.args.item.now) c.requires.turned is
-    c.in-Ok.ensures.bytes wide c.requires.width c.in_ok-continue_lines.ensures (c.as_slice.ensures.value ∙ c.in_ok-end_line.ensures)) c.in_ok-put_or_stop.ensures.bytes
+    c.in-Ok.ensures.bytes wide c.requires.width c.in_ok-continue_lines.ensures (c.as_slice.ensures.value ∙ c.in_ok-end_line.ensures)) c.in_ok-put_buffer.ensures.bytes
 
 pub continue_lines-requires-clause-start : goal.continue_lines-requires-clause-start
 continue_lines-requires-clause-start g c = grind (arith, common_steps)
@@ -45,11 +45,11 @@ returns-in_err-continue_lines-clause-memory g c = grind (arith, common_steps)
 pub returns-in_err-continue_lines-clause-cause : goal.returns-in_err-continue_lines-clause-cause
 returns-in_err-continue_lines-clause-cause g c = grind (arith, common_steps)
 
-pub returns-in_err-put_or_stop-clause-error : goal.returns-in_err-put_or_stop-clause-error
-returns-in_err-put_or_stop-clause-error g c = grind (arith, common_steps)
+pub returns-in_err-put_buffer-clause-error : goal.returns-in_err-put_buffer-clause-error
+returns-in_err-put_buffer-clause-error g c = grind (arith, common_steps)
 
-pub returns-in_err-put_or_stop-clause-kept : goal.returns-in_err-put_or_stop-clause-kept
-returns-in_err-put_or_stop-clause-kept g c = grind (arith, common_steps)
+pub returns-in_err-put_buffer-clause-kept : goal.returns-in_err-put_buffer-clause-kept
+returns-in_err-put_buffer-clause-kept g c = grind (arith, common_steps)
 
 pub returns-clause-cause : goal.returns-clause-cause
 returns-clause-cause g c = grind (arith, common_steps)
