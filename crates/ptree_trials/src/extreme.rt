@@ -1,12 +1,12 @@
 //! Drawings of extreme sizes, to standard output.
 
-use crate::deviation::{Deviation, expect};
 use ptree::graph::{Graph, NodeIndex, write_graph_with};
 use ptree::item::StringItem;
 use ptree::output::write_tree_with;
 use ptree::print_config::PrintConfig;
 use ptree::read::{pieces_readable, read_tree};
 use ptree::style::Counted;
+use ptree_fixtures::deviation::{Deviation, expect};
 use ptree_fixtures::trees::{over, over_leaves};
 use std::alloc::{AllocError, Global};
 use std::io::{self, BufWriter, Write};

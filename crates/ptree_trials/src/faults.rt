@@ -1,6 +1,5 @@
 //! Drawings to writers that fail at each byte in each way: what a writer took is a front of the whole drawing, and its answer is told.
 
-use crate::deviation::Deviation;
 use ptree::graph::{
     Graph, NodeIndex, REPEATED_MARK, print_graph, print_graph_once, write_graph_once_with,
     write_graph_with,
@@ -9,9 +8,11 @@ use ptree::item::StringItem;
 use ptree::output::{print_tree_with, write_tree, write_tree_with};
 use ptree::print_config::{FileSource, PrintConfig, Sources, UTF_CHARS};
 use ptree::style::{Color, Counted, DrawError, Style, put_all};
-use ptree::value::{DocError, DocFormat, Value, draw_document, draw_document_with};
+use ptree::value::{DocFormat, Value, draw_document, draw_document_with};
+use ptree_fixtures::deviation::Deviation;
 use ptree_fixtures::drawings::{PETGRAPH, TOML, TOML_DRAWN};
 use ptree_fixtures::failing::{Answer, Failing};
+use ptree_fixtures::fronts::{drawing_of, leaves_front};
 use ptree_fixtures::trees::{leaf, over, over_leaves, petgraph, plain};
 use std::alloc::{AllocError, Global};
 use std::io::{self, ErrorKind};
@@ -39,23 +40,6 @@ const ANSWERS: [Answer; 3] = [
     Answer::Interrupted,
 ];
 
-/// Whether a call whose whole drawing is known leaves a front of it in a writer with so much room, and passes the writer's answer on.
-pub fn leaves_front<F: Fn(&mut Counted<Failing>) -> Result<(), DrawError>>(
-    alloc: Global,
-    whole: &[u8],
-    writer: (usize, usize, Answer),
-    draw: &F,
-) -> Result<bool, AllocError>
-    requires { F.IsAlwaysCallable draw.now }
-{
-    let (room, most, answer) = writer;
-    let mut out = Counted::new(Failing::new(alloc, whole.len(), room, most, answer)?);
-    let ended = draw(&mut out);
-    let taken = out.into_inner().taken;
-    let front = whole.get(..room).unwrap_or(whole);
-    Ok(answer.ends(&ended, room, whole.len()) && taken.as_slice() == front)
-}
-
 // Tries all writers on a call whose whole drawing is known, and tells how many there were.
 fn try_writers<F: Fn(&mut Counted<Failing>) -> Result<(), DrawError>>(
     rt: &HostRuntime,
@@ -79,15 +63,6 @@ fn try_writers<F: Fn(&mut Counted<Failing>) -> Result<(), DrawError>>(
         }
     }
     println!(rt; "{name}: {} bytes, {tried} writers", whole.len())
-}
-
-// How a document's drawing ended; a refusal is none of a writer's answers.
-pub fn drawing_of(ended: Result<(), DocError>) -> Result<(), DrawError> {
-    match ended {
-        Ok(()) => Ok(()),
-        Err(DocError::Draw(e)) => Err(e),
-        Err(DocError::Syntax | DocError::Float | DocError::Date) => Err(DrawError::Memory),
-    }
 }
 
 // r [a [empty], c], where r, a and c have several lines.

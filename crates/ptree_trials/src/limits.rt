@@ -1,7 +1,6 @@
 //! Tries long chains, a million lines, graphs of many walks, and documents nested as deep as they may be, each against the drawing that
 //! the rules give.
 
-use crate::deviation::{Deviation, expect, report};
 use ptree::TreeBuilder;
 use ptree::builder::AddError;
 use ptree::graph::{Graph, NodeIndex, REPEATED_MARK, write_graph_once_with};
@@ -11,6 +10,7 @@ use ptree::print_config::PrintConfig;
 use ptree::read::read_tree;
 use ptree::style::Counted;
 use ptree::value::{DocError, DocFormat, draw_document_with};
+use ptree_fixtures::deviation::{Deviation, expect, report};
 use ptree_fixtures::trees::{leaf, over, over_leaves};
 use std::alloc::{AllocError, Global};
 use std::io;
