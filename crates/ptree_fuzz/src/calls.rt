@@ -1,4 +1,5 @@
-//! Random calls of the program, in files, and beside each what the library's own calls give of the same words, sources and input.
+//! Random calls of the program, in files, and beside each what the library's own calls give of the
+//! same words, sources and input.
 
 use crate::dice::Dice;
 use crate::documents::{document, sources};
@@ -269,7 +270,8 @@ fn call(
     }
 }
 
-// Writes the file of a configuration, and returns its path. A file that can't be read is one that isn't there.
+// Writes the file of a configuration, and returns its path. A file that can't be read is one that
+// isn't there.
 fn write_file(rt: &HostRuntime, stem: &str, file: &FileSource) -> io::Result<Option<String>> {
     let (path, text) = match file {
         FileSource::Absent => return Ok(None),

@@ -7,7 +7,8 @@ use ptree::value::DocFormat;
 use ptree_fixtures::full::{FULL_JSON, FULL_TOML, FULL_VARIABLES};
 use std::alloc::{AllocError, Global};
 
-// What stands for a value that is no list and no map, in JSON and in TOML. The last ones are refused.
+// What stands for a value that is no list and no map, in JSON and in TOML. The last ones are
+// refused.
 const JSON_VALUES: [&str; 14] = [
     "null",
     "true",

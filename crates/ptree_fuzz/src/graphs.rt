@@ -103,8 +103,8 @@ pub fn nothing_drawn(alloc: Global, config: &PrintConfig) -> Result<String, Allo
     Ok(entry)
 }
 
-// Edges of what is no node are refused, and leave the graph as it was.
-fn try_bad_edge(alloc: Global, net: &mut MadeGraph, start: usize) -> Result<(), Deviation> {
+// Edges of what is no node are refused.
+fn try_no_edges(net: &mut MadeGraph, start: usize) -> Result<(), Deviation> {
     let (node, none) = (NodeIndex(start), NodeIndex(net.texts.len()));
     for edges in [[(node, node), (node, none)], [(none, node), (node, node)]] {
         let refused = net.graph.extend_with_edges(&edges);
@@ -113,8 +113,13 @@ fn try_bad_edge(alloc: Global, net: &mut MadeGraph, start: usize) -> Result<(), 
             "an edge of no node is refused",
         )?;
     }
-    let found = net.graph.neighbors(node)?;
-    let targets = targets(alloc, net, start)?;
+    Ok(())
+}
+
+// A node's neighbours are the targets of its edges.
+fn try_neighbors(alloc: Global, net: &MadeGraph, node: usize) -> Result<(), Deviation> {
+    let found = net.graph.neighbors(NodeIndex(node))?;
+    let targets = targets(alloc, net, node)?;
     expect(
         found == targets,
         "the neighbours are the targets, newest edge first",
@@ -136,19 +141,30 @@ fn wanted(
     }
 }
 
-// The rules of a graph's drawing.
-fn try_drawing(
+// What was drawn from a start is what must be drawn.
+fn try_drawn(
     alloc: Global,
     net: &MadeGraph,
     start: usize,
     config: &PrintConfig,
-    dice: &mut Dice,
+    drawing: &str,
 ) -> Result<(), Deviation> {
-    let drawing = graph_drawn(alloc, net, start, config)?;
+    let wanted = wanted(alloc, net, start, config)?;
     expect(
-        drawing == wanted(alloc, net, start, config)?,
+        wanted.as_str() == drawing,
         "a graph's drawing is that of its walks, and nothing is drawn of no node",
-    )?;
+    )
+}
+
+// A writer that fails has a front of the drawing.
+fn try_writer(
+    alloc: Global,
+    dice: &mut Dice,
+    net: &MadeGraph,
+    start: usize,
+    config: &PrintConfig,
+    drawing: &str,
+) -> Result<(), Deviation> {
     let writer = writer(dice, drawing.len());
     let draw = |out: &mut Counted<Failing>| {
         write_graph_with(alloc, &net.graph, NodeIndex(start), out, config)
@@ -160,13 +176,43 @@ fn try_drawing(
     )
 }
 
-/// Tries the rules on a graph.
+// The rules of a graph's drawing.
+fn try_drawing(
+    alloc: Global,
+    dice: &mut Dice,
+    net: &MadeGraph,
+    start: usize,
+    config: &PrintConfig,
+) -> Result<(), Deviation> {
+    let drawing = graph_drawn(alloc, net, start, config)?;
+    try_drawn(alloc, net, start, config, drawing.as_str())?;
+    try_writer(alloc, dice, net, start, config, drawing.as_str())
+}
+
+// Tries the rules on a graph under a configuration, whose depth is set so that there are few walks.
+// Edges that are refused leave the graph as it was.
+fn try_under(
+    alloc: Global,
+    dice: &mut Dice,
+    net: &mut MadeGraph,
+    config: &mut PrintConfig,
+) -> Result<(), Deviation> {
+    let node = dice.index(net.texts.len());
+    try_no_edges(net, node)?;
+    try_neighbors(alloc, net, node)?;
+    let start = start(dice, net);
+    config.depth = few_walks(alloc, net, start, depth(dice))?;
+    try_drawing(alloc, dice, net, start, config)
+}
+
+// Tries the rules on a graph.
+fn try_net(alloc: Global, dice: &mut Dice, net: &mut MadeGraph) -> Result<(), Deviation> {
+    let mut config = config(alloc, dice)?;
+    try_under(alloc, dice, net, &mut config)
+}
+
+/// Tries the rules on some graph.
 pub fn try_graphs(alloc: Global, dice: &mut Dice) -> Result<(), Deviation> {
     let mut net = net(alloc, dice)?;
-    let mut config = config(alloc, dice)?;
-    let node = dice.index(net.texts.len());
-    try_bad_edge(alloc, &mut net, node)?;
-    let start = start(dice, &net);
-    config.depth = few_walks(alloc, &net, start, depth(dice))?;
-    try_drawing(alloc, &net, start, &config, dice)
+    try_net(alloc, dice, &mut net)
 }

@@ -80,8 +80,8 @@ fn written<F: FnMut(&mut Counted<Vec<u8>>) -> End>(alloc: Global, mut call: F) -
     }
 }
 
-// That two calls under a configuration wrote the same, and ended alike. A writer to memory fails only where memory runs out, for which
-// a piece has to be longer than a text can be.
+// That two calls under a configuration wrote the same, and ended alike. A writer to memory fails
+// only where memory runs out, for which a piece has to be longer than a text can be.
 fn expect_alike(
     one: &Outcome,
     other: &Outcome,
@@ -114,8 +114,9 @@ fn try_loading(alloc: Global, sources: &Sources, found: &PrintConfig) -> Result<
     )
 }
 
-// What is drawn of an item under sources is what is drawn under the configuration that they mean.
-fn try_item<T>(
+// Without a terminal's part, what is drawn of an item under sources is what is drawn under the
+// configuration that they mean.
+fn try_written<T>(
     alloc: Global,
     item: &T,
     sources: &Sources,
@@ -138,64 +139,132 @@ where
         &with,
         config,
         "`write_tree` draws under what the sources mean",
-    )?;
-    for terminal in [false, true] {
-        let under = written(alloc, |out| {
-            End::of_drawing(print_tree(alloc, item, out, terminal, sources))
-        });
-        let with = written(alloc, |out| {
-            End::of_drawing(print_tree_with(alloc, item, out, terminal, config))
-        });
-        expect_alike(
-            &under,
-            &with,
-            config,
-            "`print_tree` draws under what the sources mean",
-        )?;
-    }
-    Ok(())
+    )
 }
 
-// A variable of a name that another one has counts for nothing where it stands before that one, whatever it says.
-fn try_earlier(
+// And so it is on a terminal, or elsewhere.
+fn try_printed<T>(
     alloc: Global,
-    dice: &mut Dice,
-    mut sources: Sources,
+    item: &T,
+    terminal: bool,
+    sources: &Sources,
     config: &PrintConfig,
-) -> Result<(), Deviation> {
-    let Some((known, _)) = sources.variables.get(dice.index(sources.variables.len())) else {
-        return Ok(());
-    };
-    let mut name = known.clone()?;
-    name.make_ascii_lowercase();
-    sources.variables.insert(0, (name, text(alloc, dice)?))?;
-    let found = PrintConfig::from_env(alloc, &sources)?;
-    expect(found == *config, "the last variable of a name counts")
-}
-
-// Tries the rules of sources.
-fn try_sources(alloc: Global, dice: &mut Dice) -> Result<(), Deviation> {
-    let sources = sources(alloc, dice)?;
-    let config = PrintConfig::from_env(alloc, &sources)?;
-    try_loading(alloc, &sources, &config)?;
-    let tree = tree(alloc, dice, 5)?;
-    try_item(alloc, &tree, &sources, &config)?;
-    let (format, label) = (DocFormat::Json, "j");
-    let text = document(alloc, dice, format)?;
-    let text = text.as_str();
+) -> Result<(), Deviation>
+where
+    T: TreeItem,
+    T::Child: TreeItem<Child = T::Child> + Drop,
+{
     let under = written(alloc, |out| {
-        End::of_document(draw_document(alloc, format, text, label, &sources, true, out))
+        End::of_drawing(print_tree(alloc, item, out, terminal, sources))
     });
     let with = written(alloc, |out| {
-        End::of_document(draw_document_with(alloc, format, text, label, &config, true, out))
+        End::of_drawing(print_tree_with(alloc, item, out, terminal, config))
     });
     expect_alike(
         &under,
         &with,
-        &config,
+        config,
+        "`print_tree` draws under what the sources mean",
+    )
+}
+
+// What is drawn of a tree under sources is what is drawn under the configuration that they mean.
+fn try_tree(
+    alloc: Global,
+    dice: &mut Dice,
+    sources: &Sources,
+    config: &PrintConfig,
+) -> Result<(), Deviation> {
+    let tree = tree(alloc, dice, 5)?;
+    try_written(alloc, &tree, sources, config)?;
+    try_printed(alloc, &tree, false, sources, config)?;
+    try_printed(alloc, &tree, true, sources, config)
+}
+
+// And so it is of a document.
+fn try_text(
+    alloc: Global,
+    text: &str,
+    sources: &Sources,
+    config: &PrintConfig,
+) -> Result<(), Deviation> {
+    let (format, label) = (DocFormat::Json, "j");
+    let under = written(alloc, |out| {
+        End::of_document(draw_document(alloc, format, text, label, sources, true, out))
+    });
+    let with = written(alloc, |out| {
+        End::of_document(draw_document_with(alloc, format, text, label, config, true, out))
+    });
+    expect_alike(
+        &under,
+        &with,
+        config,
         "`draw_document` draws under what the sources mean",
-    )?;
-    try_earlier(alloc, dice, sources, &config)
+    )
+}
+
+// Adds a variable before one of its name, in small letters. It says anything.
+fn add_earlier(
+    alloc: Global,
+    dice: &mut Dice,
+    variables: &mut Vec<(String, String)>,
+) -> Result<(), AllocError> {
+    let Some((known, _)) = variables.get(dice.index(variables.len())) else {
+        return Ok(());
+    };
+    let mut name = known.clone()?;
+    name.make_ascii_lowercase();
+    variables.insert(0, (name, text(alloc, dice)?))?;
+    Ok(())
+}
+
+// A variable of a name that another one has counts for nothing where it stands before that one,
+// whatever it says.
+fn try_earlier(
+    alloc: Global,
+    dice: &mut Dice,
+    sources: &mut Sources,
+    config: &PrintConfig,
+) -> Result<(), Deviation> {
+    add_earlier(alloc, dice, &mut sources.variables)?;
+    let found = PrintConfig::from_env(alloc, sources)?;
+    expect(found == *config, "the last variable of a name counts")
+}
+
+// Tries the rules of a document under sources.
+fn try_json(
+    alloc: Global,
+    dice: &mut Dice,
+    sources: &Sources,
+    config: &PrintConfig,
+) -> Result<(), Deviation> {
+    let text = document(alloc, dice, DocFormat::Json)?;
+    try_text(alloc, text.as_str(), sources, config)
+}
+
+// Tries the rules of sources that mean a configuration.
+fn try_meant(
+    alloc: Global,
+    dice: &mut Dice,
+    sources: &mut Sources,
+    config: &PrintConfig,
+) -> Result<(), Deviation> {
+    try_loading(alloc, sources, config)?;
+    try_tree(alloc, dice, sources, config)?;
+    try_json(alloc, dice, sources, config)?;
+    try_earlier(alloc, dice, sources, config)
+}
+
+// Tries the rules of sources.
+fn try_sources(alloc: Global, dice: &mut Dice, sources: &mut Sources) -> Result<(), Deviation> {
+    let config = PrintConfig::from_env(alloc, sources)?;
+    try_meant(alloc, dice, sources, &config)
+}
+
+// Tries the rules of some sources.
+fn try_some_sources(alloc: Global, dice: &mut Dice) -> Result<(), Deviation> {
+    let mut sources = sources(alloc, dice)?;
+    try_sources(alloc, dice, &mut sources)
 }
 
 // The value of a document, or why there is none.
@@ -267,39 +336,55 @@ impl Case {
             "a writer that fails has a front of a document's drawing",
         )
     }
-}
+    // Any other is drawn as its value is, and as a copy of that.
+    fn try_value(&self, alloc: Global, value: Value, found: &Outcome) -> Result<(), Deviation> {
+        let copy = self.value_drawn(alloc, value.clone()?)?;
+        let drawing = self.value_drawn(alloc, value)?;
+        expect_alike(
+            found,
+            &drawing,
+            &self.config,
+            "a document is drawn as its value is",
+        )?;
+        expect_alike(
+            &copy,
+            &drawing,
+            &self.config,
+            "a copy of a value is drawn alike",
+        )
+    }
 
-// Tries the rules of documents in a format: one that is refused writes nothing, and any other is drawn as its value is.
-fn try_document(alloc: Global, dice: &mut Dice, format: DocFormat) -> Result<(), Deviation> {
-    let case = Case::new(alloc, dice, format)?;
-    let found = written(alloc, |out| End::of_document(case.draw(alloc, out)));
-    match value(alloc, format, case.text.as_str()) {
-        Ok(value) => {
-            let copy = case.value_drawn(alloc, value.clone()?)?;
-            let drawing = case.value_drawn(alloc, value)?;
-            let config = &case.config;
-            expect_alike(
-                &found,
-                &drawing,
-                config,
-                "a document is drawn as its value is",
-            )?;
-            expect_alike(&copy, &drawing, config, "a copy of a value is drawn alike")?;
-            case.try_writer(alloc, dice, &found.bytes)
-        }
-        Err(end) => {
-            expect(end != End::Memory, "memory is there")?;
-            expect(
-                found.end == end && found.bytes.is_empty(),
-                "a document without a value is refused so, and nothing is written",
-            )
+    // Tries the rules of the document.
+    fn try_rules(&self, alloc: Global, dice: &mut Dice) -> Result<(), Deviation> {
+        let found = written(alloc, |out| End::of_document(self.draw(alloc, out)));
+        match value(alloc, self.format, self.text.as_str()) {
+            Ok(value) => {
+                self.try_value(alloc, value, &found)?;
+                self.try_writer(alloc, dice, &found.bytes)
+            }
+            Err(end) => try_refused(end, &found),
         }
     }
 }
 
+// A document without a value is refused, and nothing is written of it.
+fn try_refused(end: End, found: &Outcome) -> Result<(), Deviation> {
+    expect(end != End::Memory, "memory is there")?;
+    expect(
+        found.end == end && found.bytes.is_empty(),
+        "a document without a value is refused so, and nothing is written",
+    )
+}
+
+// Tries the rules of a document of any kind.
+fn try_document(alloc: Global, dice: &mut Dice, format: DocFormat) -> Result<(), Deviation> {
+    let case = Case::new(alloc, dice, format)?;
+    case.try_rules(alloc, dice)
+}
+
 /// Tries the rules on sources, and on a document of each format.
 pub fn try_all(alloc: Global, dice: &mut Dice) -> Result<(), Deviation> {
-    try_sources(alloc, dice)?;
+    try_some_sources(alloc, dice)?;
     try_document(alloc, dice, DocFormat::Json)?;
     try_document(alloc, dice, DocFormat::Toml)
 }

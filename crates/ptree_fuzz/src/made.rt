@@ -9,7 +9,8 @@ use ptree::style::{Color, Style};
 use ptree_fixtures::deviation::Deviation;
 use std::alloc::{AllocError, Global};
 
-// What texts are made of: what looks like a branch, line feeds, what ends lines elsewhere, codes, and characters of one to four bytes.
+// What texts are made of: what looks like a branch, line feeds, what ends lines elsewhere, codes,
+// and characters of one to four bytes.
 const PARTS: [&str; 32] = [
     "",
     "a",
@@ -167,7 +168,8 @@ pub fn config(alloc: Global, dice: &mut Dice) -> Result<PrintConfig, Deviation> 
     })
 }
 
-/// Whether a piece of a configuration may be longer than a text can be, so that memory for it runs out.
+/// Whether a piece of a configuration may be longer than a text can be, so that memory for it runs
+/// out.
 pub fn is_too_wide(config: &PrintConfig) -> bool {
     config.indent == usize::MAX || config.padding == usize::MAX
 }
@@ -232,8 +234,8 @@ fn turned(net: MadeGraph) -> MadeGraph {
     }
 }
 
-/// A graph of a few texts and edges, or of up to 40 texts and more edges, with cycles, loops and parallel edges. Some are turned
-/// round, and then grow on.
+/// A graph of a few texts and edges, or of up to 40 texts and more edges, with cycles, loops and
+/// parallel edges. Some are turned round, and then grow on.
 pub fn net(alloc: Global, dice: &mut Dice) -> Result<MadeGraph, Deviation> {
     let (most, edges) = if dice.is_one_in(3) { (40, 60) } else { (5, 9) };
     let count = dice.below(most).saturating_add(1);

@@ -1,7 +1,8 @@
-//! Tries the library on random input, and writes random calls of the program: `ptree_fuzz TASK`. The
-//! tasks are `rules SEED CASES` and `calls FOLDER SEED CASES`. Without a task it is `rules`.
+//! Tries the library on random input, and writes random calls of the program: `ptree_fuzz TASK`.
+//! The tasks are `rules SEED CASES` and `calls FOLDER SEED CASES`. Without a task it is `rules`.
 #![tactic(auto)]
 
+mod building;
 mod calls;
 mod dice;
 mod documents;
@@ -9,6 +10,7 @@ mod graphs;
 mod loading;
 mod made;
 mod once;
+mod reading;
 mod rules;
 mod trees;
 

@@ -1,4 +1,5 @@
-//! Rules of graphs that are drawn with each node expanded once, beside what their definition by addresses gives.
+//! Rules of graphs that are drawn with each node expanded once, beside what their definition by
+//! addresses gives.
 
 use crate::dice::Dice;
 use crate::graphs::{few_walks, nothing_drawn};
@@ -14,7 +15,8 @@ use ptree_fixtures::failing::Failing;
 use ptree_fixtures::fronts::leaves_front;
 use std::alloc::{AllocError, Global};
 
-// An occurrence: its address, its node, and whether something stands below it or an earlier one of its node.
+// An occurrence: its address, its node, and whether something stands below it or an earlier one of
+// its node.
 #[derive(Drop, PartialEq, Eq)]
 struct Place {
     address: Vec<usize>,
@@ -123,8 +125,8 @@ fn places(
     Ok(places)
 }
 
-// The same by the definition, in the order of their addresses. A walk leads to one where it is that of the start, or where the
-// occurrence before its last step is expanded.
+// The same by the definition, in the order of their addresses. A walk leads to one where it is that
+// of the start, or where the occurrence before its last step is expanded.
 fn places_of_walks(
     alloc: Global,
     net: &MadeGraph,
@@ -200,43 +202,124 @@ fn once_drawn(
     Ok(String::from_utf8(out.into_inner())?)
 }
 
-/// Tries the rules on a graph.
-pub fn try_once(alloc: Global, dice: &mut Dice) -> Result<(), Deviation> {
-    let net = net(alloc, dice)?;
-    let mut config = config(alloc, dice)?;
-    config.depth = depth(dice);
-    let mark = text(alloc, dice)?;
-    let mark = mark.as_str();
-    let start = start(dice, &net);
-    let places = places(alloc, &net, start, config.depth)?;
-    if few_walks(alloc, &net, start, config.depth)? == config.depth {
-        let of_walks = places_of_walks(alloc, &net, start, config.depth)?;
-        expect(
-            places == of_walks,
-            "the occurrences one after the other are those by their addresses",
-        )?;
+// The occurrences one after the other are those by their addresses, where there are few walks.
+fn try_addresses(
+    alloc: Global,
+    net: &MadeGraph,
+    start: usize,
+    depth: u32,
+    places: &[Place],
+) -> Result<(), Deviation> {
+    if few_walks(alloc, net, start, depth)? < depth {
+        return Ok(());
     }
+    let of_walks = places_of_walks(alloc, net, start, depth)?;
     expect(
-        places.len() == edges_expanded(&net, &places).saturating_add(1),
+        of_walks.as_slice() == places,
+        "the occurrences one after the other are those by their addresses",
+    )
+}
+
+// The text of the occurrences, drawn as a tree; from what is no node nothing is drawn.
+fn places_drawn(
+    alloc: Global,
+    net: &MadeGraph,
+    places: &[Place],
+    (start, mark): (usize, &str),
+    config: &PrintConfig,
+) -> Result<String, Deviation> {
+    if start < net.texts.len() {
+        drawn(alloc, &tree(alloc, net, places, mark)?, config)
+    } else {
+        Ok(nothing_drawn(alloc, config)?)
+    }
+}
+
+// What must be drawn from a start, with a mark, once the rules of the occurrences are tried.
+fn wanted(
+    alloc: Global,
+    net: &MadeGraph,
+    (start, mark): (usize, &str),
+    config: &PrintConfig,
+) -> Result<String, Deviation> {
+    let places = places(alloc, net, start, config.depth)?;
+    try_addresses(alloc, net, start, config.depth, &places)?;
+    expect(
+        places.len() == edges_expanded(net, &places).saturating_add(1),
         "there is an occurrence for each edge from an expanded node, and one more",
     )?;
-    let of_places = if start < net.texts.len() {
-        drawn(alloc, &tree(alloc, &net, &places, mark)?, &config)?
-    } else {
-        nothing_drawn(alloc, &config)?
-    };
-    let drawing = once_drawn(alloc, &net, start, mark, &config)?;
+    places_drawn(alloc, net, &places, (start, mark), config)
+}
+
+// What was drawn from a start, with a mark, is what must be drawn.
+fn try_drawn(
+    alloc: Global,
+    net: &MadeGraph,
+    (start, mark): (usize, &str),
+    config: &PrintConfig,
+    drawing: &str,
+) -> Result<(), Deviation> {
+    let wanted = wanted(alloc, net, (start, mark), config)?;
     expect(
-        drawing == of_places,
+        wanted.as_str() == drawing,
         "a graph drawn once is what the definition by addresses gives",
-    )?;
+    )
+}
+
+// A writer that fails has a front of the drawing.
+fn try_writer(
+    alloc: Global,
+    dice: &mut Dice,
+    net: &MadeGraph,
+    (start, mark): (usize, &str),
+    config: &PrintConfig,
+    drawing: &str,
+) -> Result<(), Deviation> {
     let writer = writer(dice, drawing.len());
     let draw = |out: &mut Counted<Failing>| {
-        write_graph_once_with(alloc, &net.graph, NodeIndex(start), mark, out, &config)
+        write_graph_once_with(alloc, &net.graph, NodeIndex(start), mark, out, config)
     };
     let front = leaves_front(alloc, drawing.as_bytes(), writer, &draw)?;
     expect(
         front,
         "a writer that fails has a front of the drawing of a graph drawn once",
     )
+}
+
+// Tries the rules on a graph under a configuration, from a start with a mark.
+fn try_marked(
+    alloc: Global,
+    dice: &mut Dice,
+    net: &MadeGraph,
+    (start, mark): (usize, &str),
+    config: &PrintConfig,
+) -> Result<(), Deviation> {
+    let drawing = once_drawn(alloc, net, start, mark, config)?;
+    try_drawn(alloc, net, (start, mark), config, drawing.as_str())?;
+    try_writer(alloc, dice, net, (start, mark), config, drawing.as_str())
+}
+
+// Tries the rules on a graph under a configuration.
+fn try_under(
+    alloc: Global,
+    dice: &mut Dice,
+    net: &MadeGraph,
+    config: &PrintConfig,
+) -> Result<(), Deviation> {
+    let mark = text(alloc, dice)?;
+    let start = start(dice, net);
+    try_marked(alloc, dice, net, (start, mark.as_str()), config)
+}
+
+// Tries the rules on a graph.
+fn try_net(alloc: Global, dice: &mut Dice, net: &MadeGraph) -> Result<(), Deviation> {
+    let mut config = config(alloc, dice)?;
+    config.depth = depth(dice);
+    try_under(alloc, dice, net, &config)
+}
+
+/// Tries the rules on some graph.
+pub fn try_once(alloc: Global, dice: &mut Dice) -> Result<(), Deviation> {
+    let net = net(alloc, dice)?;
+    try_net(alloc, dice, &net)
 }

@@ -1,5 +1,6 @@
 //! Tries the rules that drawing, reading and loading keep, on random input.
 
+use crate::building::try_builders;
 use crate::dice::Dice;
 use crate::graphs::try_graphs;
 use crate::loading;
@@ -12,6 +13,7 @@ use std::io::{self, ErrorKind};
 // Tries all rules on what a case deals.
 fn try_case(alloc: Global, dice: &mut Dice) -> Result<(), Deviation> {
     try_trees(alloc, dice)?;
+    try_builders(alloc, dice)?;
     try_graphs(alloc, dice)?;
     loading::try_all(alloc, dice)?;
     try_once(alloc, dice)

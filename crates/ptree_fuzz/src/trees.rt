@@ -1,18 +1,15 @@
-//! Rules of trees: their drawings by those of their parts, reading, cutting, building and copying.
+//! Rules of trees: their drawings by those of their parts, printing and copying.
 
 use crate::dice::Dice;
-use crate::made::{config, damaged, text, tree};
-use ptree::TreeBuilder;
-use ptree::builder::AddError;
+use crate::made::{config, tree};
+use crate::reading::{cut, try_damaged, try_reading};
 use ptree::item::StringItem;
 use ptree::output::{Indent, print_tree_with, write_tree_with};
-use ptree::print_config::{ASCII_CHARS_PLUS, PrintConfig, StyleWhen};
-use ptree::read::pieces_readable;
+use ptree::print_config::{PrintConfig, StyleWhen};
 use ptree::style::{Counted, Style};
 use ptree_fixtures::deviation::{Deviation, expect};
 use ptree_fixtures::failing::{Answer, Failing};
 use ptree_fixtures::fronts::leaves_front;
-use ptree_fixtures::trees::{over, plain, read};
 use std::alloc::{AllocError, Global};
 use std::io::ErrorKind;
 
@@ -33,17 +30,6 @@ fn printed(
     let mut out = Counted::new(Vec::new(alloc));
     print_tree_with(alloc, tree, &mut out, terminal, config)?;
     Ok(String::from_utf8(out.into_inner())?)
-}
-
-// The tree without what is below a level.
-fn cut(alloc: Global, tree: &StringItem, depth: u32) -> Result<StringItem, AllocError> {
-    let mut children = Vec::new(alloc);
-    if depth > 0 {
-        for child in &tree.children {
-            children.push(cut(alloc, child, depth - 1)?)?;
-        }
-    }
-    over(alloc, tree.text.as_str(), children)
 }
 
 // A style where it is painted, and else the plain one.
@@ -91,7 +77,8 @@ fn root_entry(
     Ok(entry)
 }
 
-// Adds the lines of a child's own drawing, a turning piece in front of the first and passing pieces in front of the others.
+// Adds the lines of a child's own drawing, a turning piece in front of the first and passing pieces
+// in front of the others.
 fn add_lines(
     out: &mut String,
     drawing: &str,
@@ -121,27 +108,59 @@ fn pieces_of(pieces: &Indent, is_last: bool) -> (&str, &str) {
     }
 }
 
-// A drawing, made of the root's entry and the drawings of its children at the depth that is left.
-fn composed(alloc: Global, tree: &StringItem, config: &PrintConfig) -> Result<String, Deviation> {
-    let mut out = root_entry(alloc, tree, config)?;
-    if config.depth == 0 {
-        return Ok(out);
+// Adds the drawings of children under a configuration, each behind its pieces.
+fn add_drawings(
+    alloc: Global,
+    out: &mut String,
+    children: &[StringItem],
+    below: &PrintConfig,
+    (front, pieces): (&str, &Indent),
+) -> Result<(), Deviation> {
+    let count = children.len();
+    for (i, child) in children.iter().enumerate() {
+        let drawing = drawn(alloc, child, below)?;
+        let is_last = i.saturating_add(1) == count;
+        add_lines(out, drawing.as_str(), front, pieces_of(pieces, is_last))?;
     }
-    let front = front(alloc, config)?;
-    let pieces = Indent::from_config(alloc, config)?;
+    Ok(())
+}
+
+// Adds the drawings of a tree's children under a configuration.
+fn add_below(
+    alloc: Global,
+    out: &mut String,
+    tree: &StringItem,
+    below: &PrintConfig,
+) -> Result<(), Deviation> {
+    let front = front(alloc, below)?;
+    let pieces = Indent::from_config(alloc, below)?;
+    add_drawings(alloc, out, &tree.children, below, (front.as_str(), &pieces))
+}
+
+// Adds the drawings of a tree's children at the depth that is left.
+fn add_children(
+    alloc: Global,
+    out: &mut String,
+    tree: &StringItem,
+    config: &PrintConfig,
+) -> Result<(), Deviation> {
+    if config.depth == 0 {
+        return Ok(());
+    }
     let mut below = config.clone()?;
     below.depth = config.depth - 1;
-    let count = tree.children.len();
-    for (i, child) in tree.children.iter().enumerate() {
-        let drawing = drawn(alloc, child, &below)?;
-        let is_last = i.saturating_add(1) == count;
-        let pair = pieces_of(&pieces, is_last);
-        add_lines(&mut out, drawing.as_str(), front.as_str(), pair)?;
-    }
+    add_below(alloc, out, tree, &below)
+}
+
+// A drawing, made of the root's entry and the drawings of its children.
+fn composed(alloc: Global, tree: &StringItem, config: &PrintConfig) -> Result<String, Deviation> {
+    let mut out = root_entry(alloc, tree, config)?;
+    add_children(alloc, &mut out, tree, config)?;
     Ok(out)
 }
 
-// Whether a piece or the mark holds a line feed, so that the lines of a drawing aren't those of its texts.
+// Whether a piece or the mark holds a line feed, so that the lines of a drawing aren't those of its
+// texts.
 fn has_line_feed(alloc: Global, config: &PrintConfig) -> Result<bool, AllocError> {
     let pieces = Indent::from_config(alloc, config)?;
     let texts = [
@@ -154,117 +173,100 @@ fn has_line_feed(alloc: Global, config: &PrintConfig) -> Result<bool, AllocError
     Ok(texts.iter().any(|text| text.as_bytes().contains(&b'\n')))
 }
 
-// A drawing is that of its parts, and that of what is cut at the depth.
-fn try_drawing(alloc: Global, tree: &StringItem, config: &PrintConfig) -> Result<(), Deviation> {
-    let drawing = drawn(alloc, tree, config)?;
-    if !has_line_feed(alloc, config)? {
-        let composed = composed(alloc, tree, config)?;
-        expect(
-            drawing == composed,
-            "a drawing is made of the drawings of the children",
-        )?;
+// A drawing is that of its parts.
+fn try_composed(
+    alloc: Global,
+    tree: &StringItem,
+    config: &PrintConfig,
+    drawing: &str,
+) -> Result<(), Deviation> {
+    if has_line_feed(alloc, config)? {
+        return Ok(());
     }
+    let composed = composed(alloc, tree, config)?;
+    expect(
+        composed.as_str() == drawing,
+        "a drawing is made of the drawings of the children",
+    )
+}
+
+// What is drawn of all of a tree.
+fn drawn_whole(
+    alloc: Global,
+    tree: &StringItem,
+    config: &PrintConfig,
+) -> Result<String, Deviation> {
     let mut whole = config.clone()?;
     whole.depth = u32::MAX;
+    drawn(alloc, tree, &whole)
+}
+
+// What is drawn of a tree that is cut at the depth.
+fn cut_drawn(alloc: Global, tree: &StringItem, config: &PrintConfig) -> Result<String, Deviation> {
     let cut = cut(alloc, tree, config.depth)?;
-    let of_cut = drawn(alloc, &cut, &whole)?;
+    drawn_whole(alloc, &cut, config)
+}
+
+// A drawing is that of what is cut at the depth.
+fn try_cut(
+    alloc: Global,
+    tree: &StringItem,
+    config: &PrintConfig,
+    drawing: &str,
+) -> Result<(), Deviation> {
+    let of_cut = cut_drawn(alloc, tree, config)?;
     expect(
-        drawing == of_cut,
+        of_cut.as_str() == drawing,
         "a drawing to a depth is that of the cut tree",
     )
 }
 
-// On a terminal and elsewhere a tree is painted where the configuration says so.
-fn try_printing(alloc: Global, tree: &StringItem, config: &PrintConfig) -> Result<(), Deviation> {
-    for terminal in [false, true] {
-        let mut same = config.clone()?;
-        let is_painted = config.styled == StyleWhen::Always
-            || config.styled == StyleWhen::Tty && terminal;
-        same.styled = if is_painted {
-            StyleWhen::Always
-        } else {
-            StyleWhen::Never
-        };
-        let printed = printed(alloc, tree, terminal, config)?;
-        let drawing = drawn(alloc, tree, &same)?;
-        expect(
-            printed == drawing,
-            "a terminal is painted under `Tty`, and all output under `Always`",
-        )?;
-    }
-    Ok(())
-}
-
-// Where the pieces are readable, the drawing is read as the tree down to the depth, and that is drawn anew in other characters and
-// read again.
-fn try_reading(alloc: Global, tree: &StringItem, config: &PrintConfig) -> Result<(), Deviation> {
-    if !pieces_readable(alloc, config)? {
-        return Ok(());
-    }
+// A drawing is that of its parts, and that of what is cut at the depth.
+fn try_drawing(alloc: Global, tree: &StringItem, config: &PrintConfig) -> Result<(), Deviation> {
     let drawing = drawn(alloc, tree, config)?;
-    let found = read(alloc, drawing.as_str(), config)?.ok_or(Deviation::of("a drawing is read"))?;
-    let cut = cut(alloc, tree, config.depth)?;
-    expect(found == cut, "what is read of a drawing is its tree")?;
-    let plus = plain(alloc, ASCII_CHARS_PLUS, 3, u32::MAX)?;
-    let anew = drawn(alloc, &found, &plus)?;
-    let again = read(alloc, anew.as_str(), &plus)?.ok_or(Deviation::of(
-        "a drawing with plus signs is read",
-    ))?;
-    expect(again == cut, "what is drawn anew reads as the same tree")
+    try_composed(alloc, tree, config, drawing.as_str())?;
+    try_cut(alloc, tree, config, drawing.as_str())
 }
 
-// What is read of a text, if it is read, is a tree whose drawing the text is.
-fn try_text(alloc: Global, text: &str, config: &PrintConfig) -> Result<(), Deviation> {
-    if let Some(found) = read(alloc, text, config)? {
-        let again = drawn(alloc, &found, config)?;
-        expect(again.as_str() == text, "what is read is drawn as the text")?;
-    }
-    Ok(())
-}
-
-// The text with one of some pieces in the place of another, at one of the first places where that stands.
-fn exchanged(
+// What is drawn of a tree where styles are always painted, or never.
+fn drawn_in(
     alloc: Global,
-    dice: &mut Dice,
-    text: &str,
-    pieces: &[&str],
-) -> Result<String, AllocError> {
-    let from = pieces.get(dice.index(pieces.len())).copied().unwrap_or("");
-    let to = pieces.get(dice.index(pieces.len())).copied().unwrap_or("");
-    if from.is_empty() {
-        return String::from_str(alloc, text);
-    }
-    let place = dice.index(4).saturating_add(1);
-    let mut other = String::new(alloc);
-    for (i, part) in text.split(from).enumerate() {
-        if i > 0 {
-            other.push_str(if i == place { to } else { from })?;
-        }
-        other.push_str(part)?;
-    }
-    Ok(other)
-}
-
-// A text that is nearly a drawing is read as a tree whose drawing it is, or not at all.
-fn try_damaged(
-    alloc: Global,
-    dice: &mut Dice,
     tree: &StringItem,
+    is_painted: bool,
+    config: &PrintConfig,
+) -> Result<String, Deviation> {
+    let mut same = config.clone()?;
+    same.styled = if is_painted {
+        StyleWhen::Always
+    } else {
+        StyleWhen::Never
+    };
+    drawn(alloc, tree, &same)
+}
+
+// On a terminal or elsewhere a tree is painted where the configuration says so.
+fn try_printed(
+    alloc: Global,
+    tree: &StringItem,
+    terminal: bool,
     config: &PrintConfig,
 ) -> Result<(), Deviation> {
-    let drawing = drawn(alloc, tree, config)?;
-    let other = damaged(alloc, dice, drawing.as_str())?;
-    try_text(alloc, other.as_str(), config)?;
-    let indent = Indent::from_config(alloc, config)?;
-    let pieces = [
-        indent.regular_prefix.as_str(),
-        indent.child_prefix.as_str(),
-        indent.last_regular_prefix.as_str(),
-        indent.last_child_prefix.as_str(),
-        config.continued.as_str(),
-    ];
-    let other = exchanged(alloc, dice, drawing.as_str(), &pieces)?;
-    try_text(alloc, other.as_str(), config)
+    let is_painted = config.styled == StyleWhen::Always
+        || config.styled == StyleWhen::Tty && terminal;
+    let drawing = drawn_in(alloc, tree, is_painted, config)?;
+    let printed = printed(alloc, tree, terminal, config)?;
+    expect(
+        printed == drawing,
+        "a terminal is painted under `Tty`, and all output under `Always`",
+    )
+}
+
+// The same, on a terminal and elsewhere.
+fn try_printing(alloc: Global, tree: &StringItem, config: &PrintConfig) -> Result<(), Deviation> {
+    for terminal in [false, true] {
+        try_printed(alloc, tree, terminal, config)?;
+    }
+    Ok(())
 }
 
 /// A writer's room, the most that it takes a call, and its answer.
@@ -340,49 +342,29 @@ fn try_copies(
     expect(tree.clone()? == *tree, "a copy of a tree is the same tree")
 }
 
-// Builds by opening and ending children, and beside it by levels: the trees are the same. No item goes to a level that can't follow.
-fn try_builders(alloc: Global, dice: &mut Dice) -> Result<(), Deviation> {
-    let root = text(alloc, dice)?;
-    let mut opened = TreeBuilder::new(alloc, root.clone()?);
-    let mut leveled = TreeBuilder::new(alloc, root);
-    for _ in 0..dice.below(12) {
-        let level = opened.level();
-        if level > 0 && dice.is_one_in(3) {
-            opened.end_child();
-        } else if level < u32::MAX {
-            let text = text(alloc, dice)?;
-            leveled.add_at_level(level + 1, text.clone()?)?;
-            if dice.is_one_in(2) {
-                opened.begin_child(text)?;
-            } else {
-                opened.add_empty_child(text)?;
-            }
-        }
-        for bad in [0, leveled.level().saturating_add(2)] {
-            let refused = leveled.add_at_level(bad, String::new(alloc));
-            expect(
-                refused == Err(AddError::Level),
-                "a level that can't follow is refused",
-            )?;
-        }
-    }
-    let tree = opened.build()?;
-    expect(
-        tree == leveled.build()?,
-        "both ways of building make the same tree",
-    )?;
-    expect(tree == opened.build()?, "a builder builds again")
+// Tries the rules on a tree under a configuration.
+fn try_under(
+    alloc: Global,
+    dice: &mut Dice,
+    tree: &StringItem,
+    config: &PrintConfig,
+) -> Result<(), Deviation> {
+    try_drawing(alloc, tree, config)?;
+    try_printing(alloc, tree, config)?;
+    try_reading(alloc, tree, config)?;
+    try_damaged(alloc, dice, tree, config)?;
+    try_writer(alloc, dice, tree, config)?;
+    try_copies(alloc, dice, tree, config)
 }
 
-/// Tries the rules on a tree.
+// Tries the rules on a tree.
+fn try_tree(alloc: Global, dice: &mut Dice, tree: &StringItem) -> Result<(), Deviation> {
+    let config = config(alloc, dice)?;
+    try_under(alloc, dice, tree, &config)
+}
+
+/// Tries the rules on some tree.
 pub fn try_trees(alloc: Global, dice: &mut Dice) -> Result<(), Deviation> {
     let tree = tree(alloc, dice, 13)?;
-    let config = config(alloc, dice)?;
-    try_drawing(alloc, &tree, &config)?;
-    try_printing(alloc, &tree, &config)?;
-    try_reading(alloc, &tree, &config)?;
-    try_damaged(alloc, dice, &tree, &config)?;
-    try_writer(alloc, dice, &tree, &config)?;
-    try_copies(alloc, dice, &tree, &config)?;
-    try_builders(alloc, dice)
+    try_tree(alloc, dice, &tree)
 }

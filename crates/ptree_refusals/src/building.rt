@@ -1,7 +1,7 @@
 //! The calls of a builder.
 
-use crate::trial::Trial;
 use crate::failure::Failure;
+use crate::trial::Trial;
 use ptree::TreeBuilder;
 use ptree::print_config::PrintConfig;
 use std::alloc::Global;
@@ -87,11 +87,7 @@ impl Trial {
     }
 
     // The calls of a builder and of items.
-    pub fn call_builder(
-        &mut self,
-        alloc: Global,
-        config: &PrintConfig,
-    ) -> Result<(), Failure> {
+    pub fn call_builder(&mut self, alloc: Global, config: &PrintConfig) -> Result<(), Failure> {
         let mut builder = self.retried(|| Ok(TreeBuilder::new(
             alloc,
             String::from_str(alloc, "r")?,
@@ -107,11 +103,7 @@ impl Trial {
     }
 
     // The calls of a builder by levels.
-    pub fn call_levels(
-        &mut self,
-        alloc: Global,
-        config: &PrintConfig,
-    ) -> Result<(), Failure> {
+    pub fn call_levels(&mut self, alloc: Global, config: &PrintConfig) -> Result<(), Failure> {
         let root = self.retried(|| Ok(String::from_str(alloc, "r")?))?;
         let mut builder = TreeBuilder::new(alloc, root);
         for (level, text) in [(1, "a"), (2, "b"), (2, "c"), (1, "d"), (2, "e")] {

@@ -1,8 +1,8 @@
 //! The calls of values and documents.
 
-use crate::trial::Trial;
 use crate::failure::Failure;
 use crate::loading::sources;
+use crate::trial::Trial;
 use crate::written::{SHEET, entries_written};
 use ptree::print_config::{PrintConfig, Sources};
 use ptree::style::Counted;
@@ -79,11 +79,7 @@ impl Trial {
     }
 
     // The calls of values.
-    pub fn call_values(
-        &mut self,
-        alloc: Global,
-        config: &PrintConfig,
-    ) -> Result<(), Failure> {
+    pub fn call_values(&mut self, alloc: Global, config: &PrintConfig) -> Result<(), Failure> {
         let boxed = self.retried(|| Ok(boxed(alloc)?))?;
         self.note_value(alloc, boxed, config)?;
         let parsed = self.retried(|| Ok(serde_json::Value::from_str(alloc, JSON)?))?;
@@ -96,11 +92,7 @@ impl Trial {
     }
 
     // The calls of documents.
-    pub fn call_documents(
-        &mut self,
-        alloc: Global,
-        config: &PrintConfig,
-    ) -> Result<(), Failure> {
+    pub fn call_documents(&mut self, alloc: Global, config: &PrintConfig) -> Result<(), Failure> {
         let drawing = self.retried(|| json_drawn(alloc, config))?;
         self.notes.extend_from_slice(&drawing)?;
         let sources = self.retried(|| Ok(sources(alloc, "", ("PTREE_INDENT", "4"))?))?;

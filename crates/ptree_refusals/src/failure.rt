@@ -15,6 +15,11 @@ pub enum Failure {
     Other,
 }
 
+/// That an answer is the right one.
+pub fn expect(holds: bool) -> Result<(), Failure> {
+    if holds { Ok(()) } else { Err(Failure::Other) }
+}
+
 impl From<AllocError> for Failure {
     fn from(_e: AllocError) -> Failure {
         Failure::Memory

@@ -1,8 +1,8 @@
 //! The calls of graphs.
 
 use crate::failure::Failure;
-use crate::written::SHEET;
 use crate::trial::{DEPTH, Trial};
+use crate::written::SHEET;
 use ptree::graph::{
     Graph, Label, NodeIndex, REPEATED_MARK, write_graph_once_with, write_graph_with,
 };
@@ -67,11 +67,7 @@ impl Trial {
     }
 
     // The calls of a graph of texts.
-    pub fn call_graph(
-        &mut self,
-        alloc: Global,
-        config: &PrintConfig,
-    ) -> Result<(), Failure> {
+    pub fn call_graph(&mut self, alloc: Global, config: &PrintConfig) -> Result<(), Failure> {
         let mut graph = Graph::new(alloc);
         for text in ["v", "w", "x", "y", "z"] {
             let node = self.retried(|| Ok(graph.add_node(String::from_str(alloc, text)?)?))?;
@@ -88,11 +84,7 @@ impl Trial {
     }
 
     // The drawing of a graph of numbers, whose texts take memory.
-    pub fn call_numbers(
-        &mut self,
-        alloc: Global,
-        config: &PrintConfig,
-    ) -> Result<(), Failure> {
+    pub fn call_numbers(&mut self, alloc: Global, config: &PrintConfig) -> Result<(), Failure> {
         let mut graph = Graph::new(alloc);
         for number in [1u64, 22, 333] {
             self.retried(|| Ok(graph.add_node(number)?))?;

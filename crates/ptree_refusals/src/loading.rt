@@ -1,7 +1,7 @@
 //! The calls that load a configuration, and those that draw under sources.
 
-use crate::trial::Trial;
 use crate::failure::Failure;
+use crate::trial::Trial;
 use crate::written::{SHEET, entries_written};
 use ptree::TreeBuilder;
 use ptree::graph::{Graph, NodeIndex, REPEATED_MARK, print_graph, print_graph_once};
@@ -123,47 +123,101 @@ fn graph_printed_once(
 }
 
 impl Trial {
-    // Notes what is loaded of sources, their first fault, and what `from_env` returns.
-    fn note_loaded(&mut self, alloc: Global, sources: &Sources) -> Result<(), Failure> {
-        let tree = self.retried(|| Ok(small(alloc)?))?;
+    // Notes the drawing of a tree under what is loaded of sources.
+    fn note_loaded(
+        &mut self,
+        alloc: Global,
+        tree: &StringItem,
+        sources: &Sources,
+    ) -> Result<(), Failure> {
         match self.retried(|| Ok(load(alloc, sources)?))? {
-            Some(config) => self.note_drawing(alloc, &tree, &config)?,
-            None => self.note("nothing is loaded")?,
+            Some(config) => self.note_drawing(alloc, tree, &config),
+            None => self.note("nothing is loaded"),
         }
+    }
+
+    // Notes the first fault of sources.
+    fn note_fault(&mut self, alloc: Global, sources: &Sources) -> Result<(), Failure> {
         match self.retried(|| Ok(first_fault(alloc, sources)?))? {
             Some(fault) => writeln!(self.notes, "{fault}")?,
             None => self.note("no fault")?,
         }
-        match self.retried(|| Ok(syntax_line(alloc, &sources.file)?))? {
+        Ok(())
+    }
+
+    // Notes the wrong line of a file.
+    fn note_line(&mut self, alloc: Global, file: &FileSource) -> Result<(), Failure> {
+        match self.retried(|| Ok(syntax_line(alloc, file)?))? {
             Some(line) => writeln!(self.notes, "line {line}")?,
             None => self.note("no bad line")?,
         }
-        let config = self.retried(|| Ok(PrintConfig::from_env(alloc, sources)?))?;
-        self.note_drawing(alloc, &tree, &config)
+        Ok(())
     }
 
-    // The calls that draw under sources.
-    fn call_under(&mut self, alloc: Global, sources: &Sources) -> Result<(), Failure> {
+    // Notes the drawing of a tree under what `from_env` returns.
+    fn note_found(
+        &mut self,
+        alloc: Global,
+        tree: &StringItem,
+        sources: &Sources,
+    ) -> Result<(), Failure> {
+        let config = self.retried(|| Ok(PrintConfig::from_env(alloc, sources)?))?;
+        self.note_drawing(alloc, tree, &config)
+    }
+
+    // Notes what is loaded of sources, their first fault, and what `from_env` returns.
+    fn note_sources(&mut self, alloc: Global, sources: &Sources) -> Result<(), Failure> {
         let tree = self.retried(|| Ok(small(alloc)?))?;
-        let graph = self.retried(|| small_graph(alloc))?;
+        self.note_loaded(alloc, &tree, sources)?;
+        self.note_fault(alloc, sources)?;
+        self.note_line(alloc, &sources.file)?;
+        self.note_found(alloc, &tree, sources)
+    }
+
+    // The calls that draw a tree under sources.
+    fn call_trees_under(&mut self, alloc: Global, sources: &Sources) -> Result<(), Failure> {
+        let tree = self.retried(|| Ok(small(alloc)?))?;
         let written = self.retried(|| tree_written(alloc, &tree, sources))?;
         self.notes.extend_from_slice(&written)?;
         let printed = self.retried(|| tree_printed(alloc, &tree, sources))?;
         self.notes.extend_from_slice(&printed)?;
+        Ok(())
+    }
+
+    // The call that draws a graph under sources.
+    fn call_graph_under(&mut self, alloc: Global, sources: &Sources) -> Result<(), Failure> {
+        let graph = self.retried(|| small_graph(alloc))?;
         let printed = self.retried(|| graph_printed(alloc, &graph, sources))?;
         self.notes.extend_from_slice(&printed)?;
+        Ok(())
+    }
+
+    // The call that draws a graph under sources, each node expanded once.
+    fn call_once_under(&mut self, alloc: Global, sources: &Sources) -> Result<(), Failure> {
         let cyclic = self.retried(|| cyclic_graph(alloc))?;
         let printed = self.retried(|| graph_printed_once(alloc, &cyclic, sources))?;
         self.notes.extend_from_slice(&printed)?;
         Ok(())
     }
 
+    // The calls of sources with a fault.
+    fn call_faulty(&mut self, alloc: Global) -> Result<(), Failure> {
+        let faulty = self.retried(|| Ok(sources(alloc, FAULTY, VARIABLE)?))?;
+        self.note_sources(alloc, &faulty)
+    }
+
+    // The calls of sources without a fault.
+    fn call_good(&mut self, alloc: Global) -> Result<(), Failure> {
+        let good = self.retried(|| Ok(sources(alloc, FILE, VARIABLE)?))?;
+        self.note_sources(alloc, &good)?;
+        self.call_trees_under(alloc, &good)?;
+        self.call_graph_under(alloc, &good)?;
+        self.call_once_under(alloc, &good)
+    }
+
     // The calls of configurations that are loaded.
     pub fn call_loader(&mut self, alloc: Global) -> Result<(), Failure> {
-        let faulty = self.retried(|| Ok(sources(alloc, FAULTY, VARIABLE)?))?;
-        self.note_loaded(alloc, &faulty)?;
-        let good = self.retried(|| Ok(sources(alloc, FILE, VARIABLE)?))?;
-        self.note_loaded(alloc, &good)?;
-        self.call_under(alloc, &good)
+        self.call_faulty(alloc)?;
+        self.call_good(alloc)
     }
 }

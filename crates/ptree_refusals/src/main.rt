@@ -1,5 +1,5 @@
-//! Makes calls of the library that allocate, each once more if it was refused memory, and prints what
-//! they returned and how many were refused.
+//! Makes calls of the library that allocate, each once more if it was refused memory, and prints
+//! what they returned and how many were refused.
 #![tactic(auto)]
 
 mod building;
@@ -7,6 +7,7 @@ mod documents;
 mod failure;
 mod graphs;
 mod loading;
+mod own;
 mod reading;
 mod rows;
 mod styles;
@@ -65,7 +66,7 @@ impl Trial {
     }
 
     // The calls under configurations that are made here.
-    fn call_under(&mut self, alloc: Global) -> Result<(), Failure> {
+    fn call_configured(&mut self, alloc: Global) -> Result<(), Failure> {
         let mut plain = self.retried(|| Ok(PrintConfig::default(alloc)?))?;
         plain.depth = DEPTH;
         self.call_both(alloc, &plain)
@@ -73,7 +74,7 @@ impl Trial {
 
     // All the calls.
     fn call_all(&mut self, alloc: Global) -> Result<(), Failure> {
-        self.call_under(alloc)?;
+        self.call_configured(alloc)?;
         self.call_loader(alloc)?;
         self.call_rows(alloc)
     }

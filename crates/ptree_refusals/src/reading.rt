@@ -1,7 +1,7 @@
 //! The calls of the reader.
 
-use crate::trial::Trial;
 use crate::failure::Failure;
+use crate::trial::Trial;
 use crate::written::{SHEET, entries_written};
 use ptree::item::StringItem;
 use ptree::output::write_tree_with;
@@ -71,11 +71,7 @@ fn read_by_lines(alloc: Global, text: &str, config: &PrintConfig) -> Result<Stri
 
 impl Trial {
     // The calls of the reader.
-    pub fn call_reader(
-        &mut self,
-        alloc: Global,
-        config: &PrintConfig,
-    ) -> Result<(), Failure> {
+    pub fn call_reader(&mut self, alloc: Global, config: &PrintConfig) -> Result<(), Failure> {
         self.note_pieces(alloc, config)?;
         let readable = self.retried(|| Ok(pieces_readable(alloc, config)?))?;
         writeln!(self.notes, "readable: {readable}")?;
@@ -88,11 +84,7 @@ impl Trial {
     }
 
     // The reading and the drawing of texts of several lines.
-    pub fn call_lines(
-        &mut self,
-        alloc: Global,
-        config: &PrintConfig,
-    ) -> Result<(), Failure> {
+    pub fn call_lines(&mut self, alloc: Global, config: &PrintConfig) -> Result<(), Failure> {
         let text = self.retried(|| Ok(ENTRIES.concat(alloc)?))?;
         let Some(tree) = self.retried(|| read(alloc, text.as_str(), config))? else {
             return Err(Failure::Other);

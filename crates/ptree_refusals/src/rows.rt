@@ -1,36 +1,25 @@
-//! Calls whose answers are written here, each made once more where it was refused memory.
+//! Calls whose answers are written here.
 
-use crate::trial::Trial;
 use crate::building::{begin_child, end};
-use crate::failure::Failure;
+use crate::failure::{Failure, expect};
 use crate::graphs::graph_drawn;
+use crate::own::branched;
 use crate::reading::{read, wrong_line};
+use crate::trial::Trial;
 use crate::written::{SHEET, drawn};
 use ptree::TreeBuilder;
-use ptree::buffered::Buffered;
 use ptree::graph::{EdgeError, Graph, NodeIndex};
-use ptree::item::{Root, StringItem};
-use ptree::output::{print_tree_to, tree_bytes, tree_text};
-use ptree::presets::Preset;
+use ptree::item::StringItem;
 use ptree::print_config::{
     ASCII_CHARS_PLUS, ASCII_CHARS_TICK, FileSource, PrintConfig, Sources, StyleWhen, UTF_CHARS,
     load,
 };
 use ptree::read::pieces_readable;
-use ptree::style::{Color, Counted, Style, put_all};
+use ptree::style::{Color, Counted, Style};
 use ptree::value::{DocFormat, draw_document};
-use ptree_callers::own_types::{
-    Folder, Halved, Volume, drawing_of_folder, drawing_of_halved, drawing_of_volume,
-};
 use ptree_fixtures::drawings::PETGRAPH;
-use ptree_fixtures::screen::Screen;
-use ptree_fixtures::trees::{leaf, over, over_leaves, petgraph, plain};
+use ptree_fixtures::trees::{petgraph, plain};
 use std::alloc::{AllocError, Global};
-
-// That an answer is the right one.
-fn expect(holds: bool) -> Result<(), Failure> {
-    if holds { Ok(()) } else { Err(Failure::Other) }
-}
 
 // Sources of a file and variables.
 fn sources(alloc: Global, file: FileSource, pairs: &[(&str, &str)]) -> Result<Sources, AllocError> {
@@ -44,68 +33,12 @@ fn sources(alloc: Global, file: FileSource, pairs: &[(&str, &str)]) -> Result<So
     Ok(Sources { file, variables })
 }
 
-// r [a [b], c].
-fn branched(alloc: Global) -> Result<StringItem, AllocError> {
-    let a = over_leaves(alloc, "a", &["b"])?;
-    over(alloc, "r", vec![in alloc; a, leaf(alloc, "c")?]?)
-}
-
 // What is drawn of a document in JSON under the default configuration.
 fn document_drawn(alloc: Global, text: &str) -> Result<Vec<u8>, Failure> {
     let nothing = sources(alloc, FileSource::Absent, &[])?;
     let mut out = Counted::new(Vec::with_capacity(alloc, SHEET)?);
     draw_document(alloc, DocFormat::Json, text, "j", &nothing, false, &mut out)?;
     Ok(out.into_inner())
-}
-
-// What is printed of a tree where standard output is no terminal.
-fn printed(alloc: Global, tree: &StringItem, config: &PrintConfig) -> Result<Vec<u8>, Failure> {
-    let mut out = Counted::new(Screen {
-        bytes: Vec::with_capacity(alloc, SHEET)?,
-        is_terminal: false,
-    });
-    print_tree_to(alloc, tree, &mut out, config)?;
-    Ok(out.into_inner().bytes)
-}
-
-// What a sink has that was given these bytes through a buffer.
-fn passed_on(alloc: Global, parts: &[&[u8]]) -> Result<Vec<u8>, Failure> {
-    let sink = Counted::new(Vec::with_capacity(alloc, SHEET)?);
-    let mut buffered = Buffered::with_capacity(alloc, 4, sink)?;
-    for bytes in parts {
-        put_all(&mut buffered, bytes)?;
-    }
-    buffered.flush()?;
-    Ok(buffered.into_inner().into_inner())
-}
-
-// A root over a copy of this leaf and another one.
-fn over_two(alloc: Global, leaf: &StringItem) -> Result<StringItem, AllocError> {
-    let below = vec![in alloc; leaf.clone()?, StringItem::leaf(alloc, "c")?]?;
-    StringItem::new(alloc, "r", below)
-}
-
-// A folder of this name over folders.
-fn folder(alloc: Global, name: &str, folders: Vec<Folder>) -> Result<Folder, AllocError> {
-    Ok(Folder {
-        name: String::from_str(alloc, name)?,
-        folders,
-    })
-}
-
-// A folder of this name over the folder b.
-fn over_folder(alloc: Global, name: &str) -> Result<Folder, AllocError> {
-    let below = vec![in alloc; folder(alloc, "b", Vec::new(alloc))?]?;
-    folder(alloc, name, below)
-}
-
-// disk [a [b]].
-fn volume(alloc: Global) -> Result<Volume, AllocError> {
-    let folders = vec![in alloc; over_folder(alloc, "a")?]?;
-    Ok(Volume {
-        title: String::from_str(alloc, "disk")?,
-        folders,
-    })
 }
 
 impl Trial {
@@ -121,64 +54,124 @@ impl Trial {
         expect(drawing.as_slice() == text.as_bytes())
     }
 
-    // The drawing of a tree, its reading, the line of a text that is no drawing, and a set whose pieces can't be told apart.
-    fn call_trees(&mut self, alloc: Global) -> Result<(), Failure> {
-        let wide = self.retried(|| Ok(plain(alloc, UTF_CHARS, 4, u32::MAX)?))?;
+    // A wide drawing of a tree.
+    fn call_tree(&mut self, alloc: Global) -> Result<(), Failure> {
         let tree = self.retried(|| Ok(petgraph(alloc)?))?;
-        self.expect_drawn(alloc, &tree, &wide, PETGRAPH)?;
-        let plus = self.retried(|| Ok(plain(alloc, ASCII_CHARS_PLUS, 3, u32::MAX)?))?;
-        let text = "r\n+- a\n|  +- b\n+- c\n";
-        let Some(read) = self.retried(|| read(alloc, text, &plus))? else {
-            return Err(Failure::Other);
-        };
-        self.expect_drawn(alloc, &read, &plus, text)?;
-        let text = "r\n+- a\n|  : b\n   +- c\n+- d\n";
-        expect(self.retried(|| wrong_line(alloc, text, &plus))? == 4)?;
-        let tick = self.retried(|| Ok(plain(alloc, ASCII_CHARS_TICK, 2, u32::MAX)?))?;
-        expect(!self.retried(|| Ok(pieces_readable(alloc, &tick)?))?)?;
-        let tree = self.retried(|| Ok(branched(alloc)?))?;
-        self.expect_drawn(alloc, &tree, &tick, "r\n| a\n| ` b\n` c\n")
+        let wide = self.retried(|| Ok(plain(alloc, UTF_CHARS, 4, u32::MAX)?))?;
+        self.expect_drawn(alloc, &tree, &wide, PETGRAPH)
     }
 
-    // A painted text, and a drawn document.
-    fn call_texts(&mut self, alloc: Global) -> Result<(), Failure> {
+    // That a text is read, as a tree that is drawn as the text.
+    fn expect_read(
+        &mut self,
+        alloc: Global,
+        config: &PrintConfig,
+        text: &str,
+    ) -> Result<(), Failure> {
+        let Some(read) = self.retried(|| read(alloc, text, config))? else {
+            return Err(Failure::Other);
+        };
+        self.expect_drawn(alloc, &read, config, text)
+    }
+
+    // The reading of a drawing, and the line of a text that is no drawing.
+    fn call_read(&mut self, alloc: Global) -> Result<(), Failure> {
+        let plus = self.retried(|| Ok(plain(alloc, ASCII_CHARS_PLUS, 3, u32::MAX)?))?;
+        self.expect_read(alloc, &plus, "r\n+- a\n|  +- b\n+- c\n")?;
+        let text = "r\n+- a\n|  : b\n   +- c\n+- d\n";
+        expect(self.retried(|| wrong_line(alloc, text, &plus))? == 4)
+    }
+
+    // That a drawing of branches is this text.
+    fn expect_branched(
+        &mut self,
+        alloc: Global,
+        config: &PrintConfig,
+        text: &str,
+    ) -> Result<(), Failure> {
+        let tree = self.retried(|| Ok(branched(alloc)?))?;
+        self.expect_drawn(alloc, &tree, config, text)
+    }
+
+    // A set whose pieces can't be told apart.
+    fn call_tick(&mut self, alloc: Global) -> Result<(), Failure> {
+        let tick = self.retried(|| Ok(plain(alloc, ASCII_CHARS_TICK, 2, u32::MAX)?))?;
+        expect(!self.retried(|| Ok(pieces_readable(alloc, &tick)?))?)?;
+        self.expect_branched(alloc, &tick, "r\n| a\n| ` b\n` c\n")
+    }
+
+    // A painted text.
+    fn call_painted(&mut self, alloc: Global) -> Result<(), Failure> {
         let mut style = Style::default();
         style.bold = true;
         style.foreground = Some(Color::Red);
         style.background = Some(Color::Fixed(3));
         let painted = self.retried(|| Ok(style.paint(alloc, "x")?))?;
-        expect(painted.as_str() == "\x1b[1m\x1b[31m\x1b[48;5;3mx\x1b[0m")?;
+        expect(painted.as_str() == "\x1b[1m\x1b[31m\x1b[48;5;3mx\x1b[0m")
+    }
+
+    // A drawn document.
+    fn call_document(&mut self, alloc: Global) -> Result<(), Failure> {
         let drawing = self.retried(|| document_drawn(alloc, "{\"a\":[1,{\"b\":null}]}"))?;
         let text = "j\n└─ a\n   ├─ 1\n   └─ \n      └─ b = \n";
         expect(drawing.as_slice() == text.as_bytes())
     }
 
-    // A graph with a cycle; edges that are refused for want of a node leave it as it was.
-    fn call_cycle(&mut self, alloc: Global) -> Result<(), Failure> {
+    // That the drawing of a graph down to level 3 is this text.
+    fn expect_graph(
+        &mut self,
+        alloc: Global,
+        graph: &Graph<&str>,
+        text: &str,
+    ) -> Result<(), Failure> {
         let mut config = self.retried(|| Ok(PrintConfig::default(alloc)?))?;
         config.depth = 3;
+        let drawing = self.retried(|| graph_drawn(alloc, graph, &config))?;
+        expect(drawing.as_slice() == text.as_bytes())
+    }
+
+    // A graph with a cycle; edges that are refused for want of a node leave it as it was.
+    fn call_cycle(&mut self, alloc: Global) -> Result<(), Failure> {
         let mut graph = Graph::new(alloc);
         let x = self.retried(|| Ok(graph.add_node("x")?))?;
         let y = self.retried(|| Ok(graph.add_node("y")?))?;
         let refused = graph.extend_with_edges(&[(x, y), (x, NodeIndex(2))]);
         expect(refused == Err(EdgeError::NoNode))?;
         self.retried(|| Ok(graph.extend_with_edges(&[(x, y), (y, x)])?))?;
-        let drawing = self.retried(|| graph_drawn(alloc, &graph, &config))?;
-        expect(drawing.as_slice() == "x\n└─ y\n   └─ x\n      └─ y\n".as_bytes())
+        self.expect_graph(alloc, &graph, "x\n└─ y\n   └─ x\n      └─ y\n")
+    }
+
+    // That a builder's tree has this drawing.
+    fn expect_built(
+        &mut self,
+        alloc: Global,
+        builder: &mut TreeBuilder,
+        text: &str,
+    ) -> Result<(), Failure> {
+        let tree = self.retried(|| Ok(builder.build()?))?;
+        let config = self.retried(|| Ok(plain(alloc, UTF_CHARS, 3, u32::MAX)?))?;
+        self.expect_drawn(alloc, &tree, &config, text)
     }
 
     // A tree that is built with a child open, and once more with two.
     fn call_open_builder(&mut self, alloc: Global) -> Result<(), Failure> {
-        let config = self.retried(|| Ok(plain(alloc, UTF_CHARS, 3, u32::MAX)?))?;
         let root = self.retried(|| Ok(String::from_str(alloc, "test")?))?;
         let mut builder = TreeBuilder::new(alloc, root);
         self.retried(|| begin_child(alloc, &mut builder, "a"))?;
-        let tree = self.retried(|| Ok(builder.build()?))?;
-        self.expect_drawn(alloc, &tree, &config, "test\n└─ a\n")?;
+        self.expect_built(alloc, &mut builder, "test\n└─ a\n")?;
         end(&mut builder);
         self.add(alloc, &mut builder, &["b"])?;
-        let tree = self.retried(|| Ok(builder.build()?))?;
-        self.expect_drawn(alloc, &tree, &config, "test\n├─ a\n└─ b\n")
+        self.expect_built(alloc, &mut builder, "test\n├─ a\n└─ b\n")
+    }
+
+    // That sources mean a depth, and how a branch is painted.
+    fn expect_loaded(&mut self, alloc: Global, sources: &Sources) -> Result<(), Failure> {
+        let Some(found) = self.retried(|| Ok(load(alloc, sources)?))? else {
+            return Err(Failure::Other);
+        };
+        expect(found.depth == 5 && !found.branch.dimmed && found.styled == StyleWhen::Tty)?;
+        let painted = self.retried(|| Ok(found.paint_branch(alloc, "x")?))?;
+        expect(painted.as_str() == "\x1b[31mx\x1b[0m")
     }
 
     // The configuration of a file and variables; the last one counts.
@@ -189,12 +182,14 @@ impl Trial {
             let file = FileSource::Json(String::from_str(alloc, json)?);
             Ok(sources(alloc, file, &pairs)?)
         })?;
-        let Some(found) = self.retried(|| Ok(load(alloc, &both)?))? else {
-            return Err(Failure::Other);
-        };
-        expect(found.depth == 5 && !found.branch.dimmed && found.styled == StyleWhen::Tty)?;
-        let painted = self.retried(|| Ok(found.paint_branch(alloc, "x")?))?;
-        expect(painted.as_str() == "\x1b[31mx\x1b[0m")
+        self.expect_loaded(alloc, &both)
+    }
+
+    // That sources mean the default.
+    fn expect_default(&mut self, alloc: Global, sources: &Sources) -> Result<(), Failure> {
+        let default = self.retried(|| Ok(PrintConfig::default(alloc)?))?;
+        let found = self.retried(|| Ok(PrintConfig::from_env(alloc, sources)?))?;
+        expect(found == default)
     }
 
     // A bad variable gives the default whole, which a refusal never does.
@@ -202,9 +197,18 @@ impl Trial {
         let pairs = [("PTREE_INDENT", "9"), ("PTREE_DEPTH", "4x")];
         let bad = self.retried(|| Ok(sources(alloc, FileSource::Absent, &pairs)?))?;
         expect(self.retried(|| Ok(load(alloc, &bad)?))?.is_none())?;
-        let found = self.retried(|| Ok(PrintConfig::from_env(alloc, &bad)?))?;
-        let default = self.retried(|| Ok(PrintConfig::default(alloc)?))?;
-        expect(found == default)
+        self.expect_default(alloc, &bad)
+    }
+
+    // That a drawing of branches under sources is this text.
+    fn expect_under(
+        &mut self,
+        alloc: Global,
+        sources: &Sources,
+        text: &str,
+    ) -> Result<(), Failure> {
+        let found = self.retried(|| Ok(PrintConfig::from_env(alloc, sources)?))?;
+        self.expect_branched(alloc, &found, text)
     }
 
     // Characters of a file and of variables.
@@ -217,67 +221,21 @@ impl Trial {
             let file = FileSource::Toml(String::from_str(alloc, "characters = \"utf-bold\"")?);
             Ok(sources(alloc, file, &pairs)?)
         })?;
-        let found = self.retried(|| Ok(PrintConfig::from_env(alloc, &both)?))?;
-        let tree = self.retried(|| Ok(branched(alloc)?))?;
-        self.expect_drawn(alloc, &tree, &found, "r\n|= a\n|  `= b\n`= c\n")
-    }
-
-    // Trees that are made without a builder, their items and their drawings, under what another program draws with.
-    fn call_own(&mut self, alloc: Global) -> Result<(), Failure> {
-        let leaf = self.retried(|| Ok(StringItem::leaf(alloc, "a\nb")?))?;
-        let tree = self.retried(|| Ok(over_two(alloc, &leaf)?))?;
-        let items = self.retried(|| Ok(tree.items(alloc)?))?;
-        expect(items.len() == 3)?;
-        let findmnt = self.retried(|| Ok(Preset::Findmnt.config(alloc)?))?;
-        let wanted = "r\n├─a\n│ : b\n└─c\n";
-        let bytes = self.retried(|| Ok(tree_bytes(alloc, &tree, &findmnt)?))?;
-        expect(bytes.as_slice() == wanted.as_bytes())?;
-        let text = self.retried(|| Ok(tree.drawing(alloc, &findmnt)?))?;
-        expect(text.as_str() == wanted)?;
-        let printed = self.retried(|| printed(alloc, &tree, &findmnt))?;
-        expect(printed.as_slice() == wanted.as_bytes())
-    }
-
-    // Items of other types: lent ones, made ones, and a root over lent ones.
-    fn call_types(&mut self, alloc: Global) -> Result<(), Failure> {
-        let config = self.retried(|| Ok(PrintConfig::default(alloc)?))?;
-        let volume = self.retried(|| Ok(volume(alloc)?))?;
-        let drawing = self.retried(|| Ok(drawing_of_volume(alloc, &volume, &config)?))?;
-        expect(drawing.as_slice() == "disk\n└─ a\n   └─ b\n".as_bytes())?;
-        let folder = self.retried(|| Ok(over_folder(alloc, "c")?))?;
-        let drawing = self.retried(|| Ok(drawing_of_folder(alloc, &folder, &config)?))?;
-        expect(drawing.as_slice() == "c\n└─ b\n".as_bytes())?;
-        let drawing = self.retried(|| Ok(drawing_of_halved(alloc, Halved(3), &config)?))?;
-        expect(drawing.as_slice() == "3\n├─ 1\n└─ 2\n   ├─ 1\n   └─ 1\n".as_bytes())
-    }
-
-    // A text over a tree, and bytes that go through a buffer.
-    fn call_parts(&mut self, alloc: Global) -> Result<(), Failure> {
-        let config = self.retried(|| Ok(PrintConfig::default(alloc)?))?;
-        let below = self.retried(|| Ok(vec![in alloc; branched(alloc)?]?))?;
-        let root = Root {
-            text: "top",
-            children: &below,
-        };
-        let Some(text) = self.retried(|| Ok(tree_text(alloc, &root, &config)?))? else {
-            return Err(Failure::Other);
-        };
-        expect(text.as_str() == "top\n└─ r\n   ├─ a\n   │  └─ b\n   └─ c\n")?;
-        let bytes = self.retried(|| passed_on(alloc, &[b"ab", b"cde", b"fghijk", b"l"]))?;
-        expect(bytes.as_slice() == b"abcdefghijkl".as_slice())
+        self.expect_under(alloc, &both, "r\n|= a\n|  `= b\n`= c\n")
     }
 
     // All of them.
     pub fn call_rows(&mut self, alloc: Global) -> Result<(), Failure> {
-        self.call_trees(alloc)?;
-        self.call_texts(alloc)?;
+        self.call_tree(alloc)?;
+        self.call_read(alloc)?;
+        self.call_tick(alloc)?;
+        self.call_painted(alloc)?;
+        self.call_document(alloc)?;
         self.call_cycle(alloc)?;
         self.call_open_builder(alloc)?;
         self.call_sources(alloc)?;
         self.call_bad_source(alloc)?;
         self.call_set(alloc)?;
-        self.call_own(alloc)?;
-        self.call_parts(alloc)?;
-        self.call_types(alloc)
+        self.call_own(alloc)
     }
 }

@@ -37,11 +37,7 @@ impl Trial {
     }
 
     // Notes the pieces of a configuration.
-    pub fn note_pieces(
-        &mut self,
-        alloc: Global,
-        config: &PrintConfig,
-    ) -> Result<(), Failure> {
+    pub fn note_pieces(&mut self, alloc: Global, config: &PrintConfig) -> Result<(), Failure> {
         let indent = self.retried(|| Ok(Indent::from_config(alloc, config)?))?;
         self.note_indent(&indent)
     }
@@ -70,11 +66,7 @@ impl Trial {
     }
 
     // The calls of styles.
-    pub fn call_styles(
-        &mut self,
-        alloc: Global,
-        config: &PrintConfig,
-    ) -> Result<(), Failure> {
+    pub fn call_styles(&mut self, alloc: Global, config: &PrintConfig) -> Result<(), Failure> {
         let style = self.retried(|| Ok(config.leaf.clone()?))?;
         writeln!(self.notes, "{}", style == config.leaf)?;
         let painted = self.retried(|| Ok(style.paint(alloc, "painted")?))?;

@@ -1,5 +1,5 @@
-//! Makes each call of the library that allocates, at several sizes: `ptree_sizes MOST`. If memory is
-//! ample, none may fail. `MOST` is the greatest size; without it all are tried.
+//! Makes each call of the library that allocates, at several sizes: `ptree_sizes MOST`. If memory
+//! is ample, none may fail. `MOST` is the greatest size; without it all are tried.
 #![tactic(auto)]
 
 mod documents;

@@ -3,8 +3,8 @@
 use ptree_fixtures::deviation::Deviation;
 use std::alloc::{AllocError, Global};
 
-/// The most levels of what is drawn, and the longest text that is drawn once for each of many, since
-/// a drawing grows with their square.
+/// The most levels of what is drawn, and the longest text that is drawn once for each of many,
+/// since a drawing grows with their square.
 pub const LEVELS: usize = 300;
 
 /// What a call returned, which must not have failed.

@@ -105,7 +105,8 @@ fn chain(alloc: Global, items: usize) -> Result<StringItem, AllocError> {
     Ok(chain)
 }
 
-/// Draws what has this name: `chain`, `items`, `children`, `line`, `lines`, `characters`, `pieces` or `graph`.
+/// Draws what has this name: `chain`, `items`, `children`, `line`, `lines`, `characters`, `pieces`
+/// or `graph`.
 pub fn draw_extreme(rt: &HostRuntime, name: &str) -> io::Result<()> {
     let alloc = rt.alloc();
     let mut config = PrintConfig::default(alloc)?;

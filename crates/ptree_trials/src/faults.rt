@@ -1,4 +1,5 @@
-//! Drawings to writers that fail at each byte in each way: what a writer took is a front of the whole drawing, and its answer is told.
+//! Drawings to writers that fail at each byte in each way: what a writer took is a front of the
+//! whole drawing, and its answer is told.
 
 use ptree::graph::{
     Graph, NodeIndex, REPEATED_MARK, print_graph, print_graph_once, write_graph_once_with,
@@ -31,7 +32,8 @@ const JSON: &str = "{\"a\":[1,{\"b\":null}]}";
 
 const JSON_DRAWN: &str = "j\n└─ a\n   ├─ 1\n   └─ \n      └─ b = \n";
 
-// The writers of a drawing that were tried, by their room, by the most that they take a call, and by their answer.
+// The writers of a drawing that were tried, by their room, by the most that they take a call, and
+// by their answer.
 const MOST: [usize; 4] = [1, 2, 30, usize::MAX];
 
 const ANSWERS: [Answer; 3] = [

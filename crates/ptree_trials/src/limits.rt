@@ -1,5 +1,5 @@
-//! Tries long chains, a million lines, graphs of many walks, and documents nested as deep as they may be, each against the drawing that
-//! the rules give.
+//! Tries long chains, a million lines, graphs of many walks, and documents nested as deep as they
+//! may be, each against the drawing that the rules give.
 
 use ptree::TreeBuilder;
 use ptree::builder::AddError;
@@ -132,7 +132,8 @@ fn try_items(alloc: Global) -> Result<(), Deviation> {
     reads_back(alloc, &over(alloc, "r", children)?, text.as_str())
 }
 
-// A root over layers of a and b, each node with edges to both nodes below it: 2 to the power of 30 walks.
+// A root over layers of a and b, each node with edges to both nodes below it: 2 to the power of 30
+// walks.
 fn layers(alloc: Global) -> Result<Graph<&'static str>, Deviation> {
     let mut graph = Graph::new(alloc);
     let mut above = vec![in alloc; graph.add_node("r")?]?;
@@ -146,8 +147,8 @@ fn layers(alloc: Global) -> Result<Graph<&'static str>, Deviation> {
     Ok(graph)
 }
 
-// What is drawn of it where each node is expanded once, in 119 lines: each a stands below the one before it, and the other nodes follow
-// from the last layer up.
+// What is drawn of it where each node is expanded once, in 119 lines: each a stands below the one
+// before it, and the other nodes follow from the last layer up.
 fn layers_drawn(alloc: Global) -> Result<String, AllocError> {
     let mut drawing = String::from_str(alloc, "r\n")?;
     for layer in 0..LAYERS {
