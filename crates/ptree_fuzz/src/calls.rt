@@ -1,19 +1,18 @@
-//! Random calls of the program, in files, and beside each what the library's own calls give of the
-//! same words, sources and input.
+//! Random calls of the program, and what the library's own calls give of the same words, sources and
+//! input.
 
 use crate::dice::Dice;
 use crate::documents::{document, sources};
 use crate::made::{damaged, is_too_wide, text, tree};
 use ptree::item::StringItem;
 use ptree::output::print_tree;
-use ptree::print_config::{ASCII_CHARS_PLUS, FileSource, PrintConfig, Sources};
+use ptree::print_config::{ASCII_CHARS_PLUS, PrintConfig, Sources};
 use ptree::read::{pieces_readable, read_tree};
 use ptree::style::{Counted, DrawError};
 use ptree::value::{DocError, DocFormat, draw_document};
 use ptree_fixtures::deviation::{Deviation, expect};
 use ptree_fixtures::trees::plain;
 use std::alloc::{AllocError, Global};
-use std::{fs, io};
 
 // What the program tells where words have no known form.
 const USAGE: &str =
@@ -26,19 +25,19 @@ const HARD: [(&str, &str); 3] = [
     ("PTREE_INDENT", "18446744073709551615"),
 ];
 
-// What a call is given beside its sources: the words behind `--tty`, and the input.
+/// What a call is given beside its sources: the words behind `--tty`, and the input.
 #[derive(Drop)]
-struct Given {
-    words: Vec<String>,
-    input: Vec<u8>,
+pub struct Given {
+    pub words: Vec<String>,
+    pub input: Vec<u8>,
 }
 
-// What a call gives: what it draws, its status, and the line on standard error.
+/// What a call gives: what it draws, its status, and the line on standard error.
 #[derive(Drop)]
-struct Answer {
-    drawn: Vec<u8>,
-    status: u8,
-    line: &'static str,
+pub struct Answer {
+    pub drawn: Vec<u8>,
+    pub status: u8,
+    pub line: &'static str,
 }
 
 impl Answer {
@@ -114,8 +113,8 @@ fn hard(alloc: Global, dice: &mut Dice) -> Result<(String, String), AllocError> 
     ))
 }
 
-// Sources as an environment can hold them: each name once.
-fn surroundings(alloc: Global, dice: &mut Dice) -> Result<Sources, AllocError> {
+/// Sources as an environment can hold them: each name once.
+pub fn surroundings(alloc: Global, dice: &mut Dice) -> Result<Sources, AllocError> {
     let Sources { file, variables } = sources(alloc, dice)?;
     let mut kept = Vec::new(alloc);
     if dice.is_one_in(6) {
@@ -132,19 +131,24 @@ fn surroundings(alloc: Global, dice: &mut Dice) -> Result<Sources, AllocError> {
     })
 }
 
-// What is drawn of words: the first one over the others.
+// The tree of words: the first one over the others.
+fn words_tree(alloc: Global, words: &[String]) -> Result<StringItem, Deviation> {
+    let mut leaves = Vec::new(alloc);
+    for word in words.iter().skip(1) {
+        leaves.push(StringItem::leaf(alloc, word.as_str())?)?;
+    }
+    let root = words.first().ok_or(Deviation::of("words have a root"))?;
+    Ok(StringItem::new(alloc, root.as_str(), leaves)?)
+}
+
+// What is drawn of words.
 fn words_answer(
     alloc: Global,
     words: &[String],
     terminal: bool,
     sources: &Sources,
 ) -> Result<Answer, Deviation> {
-    let mut leaves = Vec::new(alloc);
-    for word in words.iter().skip(1) {
-        leaves.push(StringItem::leaf(alloc, word.as_str())?)?;
-    }
-    let root = words.first().ok_or(Deviation::of("words have a root"))?;
-    let tree = StringItem::new(alloc, root.as_str(), leaves)?;
+    let tree = words_tree(alloc, words)?;
     let mut out = Counted::new(Vec::new(alloc));
     match print_tree(alloc, &tree, &mut out, terminal, sources) {
         Ok(()) => Ok(Answer::done(out.into_inner())),
@@ -172,6 +176,13 @@ fn document_answer(
     }
 }
 
+// What is drawn of a tree by `redraw`.
+fn redrawn(alloc: Global, tree: &StringItem) -> Result<Answer, Deviation> {
+    let plus = plain(alloc, ASCII_CHARS_PLUS, 3, u32::MAX)?;
+    let drawing = tree.drawing(alloc, &plus)?;
+    Ok(Answer::done(drawing.into_bytes()))
+}
+
 // What is drawn of a drawing.
 fn redraw_answer(alloc: Global, text: &str, config: &PrintConfig) -> Result<Answer, Deviation> {
     match pieces_readable(alloc, config) {
@@ -179,12 +190,10 @@ fn redraw_answer(alloc: Global, text: &str, config: &PrintConfig) -> Result<Answ
         Ok(false) => return Ok(Answer::refused(alloc, 1, "pieces not readable\n")),
         Err(_) => return Answer::no_memory(alloc, config),
     }
-    let Some(tree) = read_tree(alloc, text, config)? else {
-        return Ok(Answer::refused(alloc, 1, "not a drawing\n"));
-    };
-    let plus = plain(alloc, ASCII_CHARS_PLUS, 3, u32::MAX)?;
-    let drawing = tree.drawing(alloc, &plus)?;
-    Ok(Answer::done(drawing.into_bytes()))
+    match read_tree(alloc, text, config)? {
+        Some(tree) => redrawn(alloc, &tree),
+        None => Ok(Answer::refused(alloc, 1, "not a drawing\n")),
+    }
 }
 
 // A call that draws words.
@@ -227,31 +236,52 @@ fn document_call(
     Ok((Given { words, input }, answer))
 }
 
-// A call that reads a drawing, which may be damaged.
+// A drawing, or an empty text where its pieces are too long.
+fn drawing(alloc: Global, dice: &mut Dice, config: &PrintConfig) -> Result<String, Deviation> {
+    let tree = tree(alloc, dice, 9)?;
+    match tree.drawing(alloc, config) {
+        Ok(drawing) => Ok(drawing),
+        Err(_) => {
+            expect(is_too_wide(config), "memory is there")?;
+            Ok(String::new(alloc))
+        }
+    }
+}
+
+// A drawing, which may be damaged.
+fn input(alloc: Global, dice: &mut Dice, config: &PrintConfig) -> Result<String, Deviation> {
+    let drawing = drawing(alloc, dice, config)?;
+    if dice.is_one_in(2) {
+        return Ok(damaged(alloc, dice, drawing.as_str())?);
+    }
+    Ok(drawing)
+}
+
+// A call that reads a drawing under a configuration.
+fn redraw_under(
+    alloc: Global,
+    dice: &mut Dice,
+    config: &PrintConfig,
+) -> Result<(Given, Answer), Deviation> {
+    let words = words(alloc, dice, "redraw", 0)?;
+    let input = input(alloc, dice, config)?;
+    let answer = redraw_answer(alloc, input.as_str(), config)?;
+    let input = input.into_bytes();
+    Ok((Given { words, input }, answer))
+}
+
+// A call that reads a drawing.
 fn redraw_call(
     alloc: Global,
     dice: &mut Dice,
     sources: &Sources,
 ) -> Result<(Given, Answer), Deviation> {
     let config = PrintConfig::from_env(alloc, sources)?;
-    let mut drawing = match tree(alloc, dice, 9)?.drawing(alloc, &config) {
-        Ok(drawing) => drawing,
-        Err(_) => {
-            expect(is_too_wide(&config), "memory is there")?;
-            String::new(alloc)
-        }
-    };
-    if dice.is_one_in(2) {
-        drawing = damaged(alloc, dice, drawing.as_str())?;
-    }
-    let answer = redraw_answer(alloc, drawing.as_str(), &config)?;
-    let words = words(alloc, dice, "redraw", 0)?;
-    let input = drawing.into_bytes();
-    Ok((Given { words, input }, answer))
+    redraw_under(alloc, dice, &config)
 }
 
-// Any call.
-fn call(
+/// Any call.
+pub fn call(
     alloc: Global,
     dice: &mut Dice,
     terminal: bool,
@@ -268,85 +298,4 @@ fn call(
             Ok((Given { words, input }, Answer::refused(alloc, 2, USAGE)))
         }
     }
-}
-
-// Writes the file of a configuration, and returns its path. A file that can't be read is one that
-// isn't there.
-fn write_file(rt: &HostRuntime, stem: &str, file: &FileSource) -> io::Result<Option<String>> {
-    let (path, text) = match file {
-        FileSource::Absent => return Ok(None),
-        FileSource::Unreadable => return Ok(Some(format!(in rt.alloc(); "{stem}.none")?)),
-        FileSource::Toml(text) => (format!(in rt.alloc(); "{stem}.toml")?, text),
-        FileSource::Json(text) => (format!(in rt.alloc(); "{stem}.json")?, text),
-    };
-    fs::write(rt, path.as_str(), text.as_str())?;
-    Ok(Some(path))
-}
-
-// Writes the variables, each with the byte 0 behind it.
-fn write_variables(rt: &HostRuntime, stem: &str, sources: &Sources) -> io::Result<()> {
-    let mut all = String::new(rt.alloc());
-    for (name, value) in &sources.variables {
-        all.push_str(format!(in rt.alloc(); "{name}={value}\0")?.as_str())?;
-    }
-    if let Some(path) = write_file(rt, stem, &sources.file)? {
-        all.push_str(format!(in rt.alloc(); "PTREE_CONFIG={path}\0")?.as_str())?;
-    }
-    fs::write(
-        rt,
-        format!(in rt.alloc(); "{stem}.variables")?.as_str(),
-        all.as_str(),
-    )
-}
-
-// Writes the words, each with the byte 0 behind it.
-fn write_words(rt: &HostRuntime, stem: &str, terminal: bool, words: &[String]) -> io::Result<()> {
-    let mut all = String::from_str(rt.alloc(), if terminal { "--tty\0" } else { "" })?;
-    for word in words {
-        all.push_str(word.as_str())?;
-        all.push('\0')?;
-    }
-    fs::write(
-        rt,
-        format!(in rt.alloc(); "{stem}.words")?.as_str(),
-        all.as_str(),
-    )
-}
-
-// Writes what a call gives: what is drawn, and behind it the status and the line.
-fn write_answer(rt: &HostRuntime, stem: &str, answer: Answer) -> io::Result<()> {
-    let mut all = answer.drawn;
-    let end = format!(in rt.alloc(); "status {}: {}", answer.status, answer.line)?;
-    all.extend_from_slice(end.as_bytes())?;
-    fs::write(
-        rt,
-        format!(in rt.alloc(); "{stem}.wanted")?.as_str(),
-        all.as_slice(),
-    )
-}
-
-// Writes a call, each of its parts in a file whose name begins so, and what it must give.
-fn write_call(rt: &HostRuntime, dice: &mut Dice, stem: &str) -> io::Result<()> {
-    let alloc = rt.alloc();
-    let terminal = dice.is_one_in(2);
-    let sources = surroundings(alloc, dice)?;
-    let (given, answer) = call(alloc, dice, terminal, &sources)?;
-    write_variables(rt, stem, &sources)?;
-    write_words(rt, stem, terminal, &given.words)?;
-    fs::write(
-        rt,
-        format!(in alloc; "{stem}.input")?.as_str(),
-        given.input.as_slice(),
-    )?;
-    write_answer(rt, stem, answer)
-}
-
-/// Writes so many calls of the program into a folder, with what each must give.
-pub fn write_calls(rt: &HostRuntime, folder: &str, seed: u64, cases: u32) -> io::Result<()> {
-    for case in 0..cases {
-        let mut dice = Dice::new(seed, u64::from(case));
-        let stem = format!(in rt.alloc(); "{folder}/{case}")?;
-        write_call(rt, &mut dice, stem.as_str())?;
-    }
-    Ok(())
 }

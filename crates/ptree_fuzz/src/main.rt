@@ -6,6 +6,7 @@ mod building;
 mod calls;
 mod dice;
 mod documents;
+mod files;
 mod graphs;
 mod loading;
 mod made;
@@ -14,7 +15,7 @@ mod reading;
 mod rules;
 mod trees;
 
-use calls::write_calls;
+use files::write_calls;
 use ptree_fixtures::words::number;
 use rules::try_cases;
 use std::{env, io};

@@ -123,20 +123,34 @@ fn try_document(
     )
 }
 
+// The value of a document in JSON.
+fn json_value(alloc: Global, document: &str) -> Result<Value, Deviation> {
+    let parsed = made(
+        serde_json::Value::from_str(alloc, document),
+        "a document is read",
+    )?;
+    made(
+        Value::from_json(alloc, &parsed),
+        "`Value::from_json` succeeds",
+    )
+}
+
 // A document in JSON.
 fn try_json(alloc: Global, size: usize, label: &str) -> Result<(), Deviation> {
     let mut document = String::new(alloc);
     push_json(alloc, &mut document, size)?;
     try_document(alloc, DocFormat::Json, document.as_str(), label)?;
-    let parsed = made(
-        serde_json::Value::from_str(alloc, document.as_str()),
-        "a document is read",
-    )?;
-    let value = made(
-        Value::from_json(alloc, &parsed),
-        "`Value::from_json` succeeds",
-    )?;
+    let value = json_value(alloc, document.as_str())?;
     try_value(alloc, &value, label)
+}
+
+// The value of a document in TOML.
+fn toml_value(alloc: Global, document: &str) -> Result<Value, Deviation> {
+    let table = made(toml::table_from_str(alloc, document), "a document is read")?;
+    made(
+        Value::from_toml(alloc, &toml::Value::Table(table)),
+        "`Value::from_toml` succeeds",
+    )
 }
 
 // A document in TOML.
@@ -144,14 +158,7 @@ fn try_toml(alloc: Global, size: usize, label: &str) -> Result<(), Deviation> {
     let mut document = String::new(alloc);
     push_toml(alloc, &mut document, size)?;
     try_document(alloc, DocFormat::Toml, document.as_str(), label)?;
-    let table = made(
-        toml::table_from_str(alloc, document.as_str()),
-        "a document is read",
-    )?;
-    let value = made(
-        Value::from_toml(alloc, &toml::Value::Table(table)),
-        "`Value::from_toml` succeeds",
-    )?;
+    let value = toml_value(alloc, document.as_str())?;
     try_value(alloc, &value, label)
 }
 

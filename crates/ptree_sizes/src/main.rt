@@ -2,6 +2,7 @@
 //! is ample, none may fail. `MOST` is the greatest size; without it all are tried.
 #![tactic(auto)]
 
+mod building;
 mod documents;
 mod graphs;
 mod loading;
@@ -21,6 +22,7 @@ const SIZES: [usize; 6] = [0, 1, 2, 40, 300, 70_000];
 fn try_size(alloc: Global, size: usize) -> Result<(), Deviation> {
     parts::try_all(alloc, size)?;
     trees::try_all(alloc, size)?;
+    building::try_all(alloc, size)?;
     graphs::try_all(alloc, size)?;
     documents::try_all(alloc, size)?;
     loading::try_all(alloc, size)

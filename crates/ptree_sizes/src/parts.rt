@@ -79,23 +79,29 @@ fn config(alloc: Global, size: usize) -> Result<PrintConfig, AllocError> {
     })
 }
 
-// The calls of styles and colours.
-fn try_styles(alloc: Global, size: usize) -> Result<(), Deviation> {
+// The calls of a style.
+fn try_style(alloc: Global, size: usize, input: &str) -> Result<(), Deviation> {
     let style = named(alloc, size)?;
-    let input = text(alloc, size)?;
-    made(
-        style.paint(alloc, input.as_str()),
-        "`Style::paint` succeeds",
-    )?;
+    made(style.paint(alloc, input), "`Style::paint` succeeds")?;
     let copy = made(style.clone(), "`Style::clone` succeeds")?;
-    expect(copy == style, "a copy of a style equals it")?;
-    let color = Color::Named(input);
-    let copy = made(color.clone(), "`Color::clone` succeeds")?;
-    expect(copy == color, "a copy of a colour equals it")
+    expect(copy == style, "a copy of a style equals it")
 }
 
-// The calls of sets of characters. No shipped set has a name of many letters.
-fn try_characters(alloc: Global, size: usize) -> Result<(), Deviation> {
+// The calls of a colour.
+fn try_color(color: &Color) -> Result<(), Deviation> {
+    let copy = made(color.clone(), "`Color::clone` succeeds")?;
+    expect(copy == *color, "a copy of a colour equals it")
+}
+
+// The calls of styles and colours.
+fn try_styles(alloc: Global, size: usize) -> Result<(), Deviation> {
+    let input = text(alloc, size)?;
+    try_style(alloc, size, input.as_str())?;
+    try_color(&Color::Named(input))
+}
+
+// The calls of shipped sets of characters.
+fn try_sets(alloc: Global) -> Result<(), Deviation> {
     for set in [ASCII_CHARS_PLUS, EMPTY] {
         made(
             IndentChars::from_static(alloc, set),
@@ -108,25 +114,39 @@ fn try_characters(alloc: Global, size: usize) -> Result<(), Deviation> {
             "`IndentChars::from_name` finds each shipped set",
         )?;
     }
+    Ok(())
+}
+
+// A name of no shipped set, none of which has a name of many letters.
+fn try_unknown(alloc: Global, size: usize) -> Result<(), Deviation> {
     let name = text(alloc, size)?;
     let is_unknown = matches!(
         IndentChars::from_name(alloc, name.as_str()),
         Err(CharsError::Unknown)
     );
-    expect(is_unknown, "a name of no set is unknown")?;
+    expect(is_unknown, "a name of no set is unknown")
+}
+
+// The copy of characters.
+fn try_characters(alloc: Global, size: usize) -> Result<(), Deviation> {
     let characters = characters(alloc, size)?;
     let copy = made(characters.clone(), "`IndentChars::clone` succeeds")?;
     expect(copy == characters, "a copy of characters equals them")
 }
 
-// The calls that make pieces: of wide characters, and of many.
-fn try_pieces(alloc: Global, size: usize) -> Result<(), Deviation> {
+// The calls that make pieces of wide characters.
+fn try_wide_pieces(alloc: Global, size: usize) -> Result<(), Deviation> {
     let wide = characters(alloc, size)?;
-    let single = characters(alloc, 1)?;
     made(
         Indent::from_characters(alloc, 3, &wide),
         "`Indent::from_characters` succeeds",
     )?;
+    Ok(())
+}
+
+// The calls that make pieces of many characters.
+fn try_long_pieces(alloc: Global, size: usize) -> Result<(), Deviation> {
+    let single = characters(alloc, 1)?;
     made(
         Indent::from_characters(alloc, size, &single),
         "`Indent::from_characters` succeeds",
@@ -137,6 +157,19 @@ fn try_pieces(alloc: Global, size: usize) -> Result<(), Deviation> {
             "`Indent::from_characters_and_padding` succeeds",
         )?;
     }
+    Ok(())
+}
+
+// The copy of a configuration.
+fn try_copy(config: &PrintConfig) -> Result<(), Deviation> {
+    let copy = made(config.clone(), "`PrintConfig::clone` succeeds")?;
+    expect(copy == *config, "a copy of a configuration equals it")
+}
+
+// A drawing under a configuration.
+fn try_drawing(alloc: Global, config: &PrintConfig) -> Result<(), Deviation> {
+    let tree = over_leaves(alloc, "r", &["a\nb", "c"])?;
+    made(tree_bytes(alloc, &tree, config), "`tree_bytes` succeeds")?;
     Ok(())
 }
 
@@ -155,16 +188,18 @@ fn try_config(alloc: Global, config: &PrintConfig) -> Result<(), Deviation> {
         config.paint_leaf(alloc, "a"),
         "`PrintConfig::paint_leaf` succeeds",
     )?;
-    let copy = made(config.clone(), "`PrintConfig::clone` succeeds")?;
-    expect(copy == *config, "a copy of a configuration equals it")?;
-    let tree = over_leaves(alloc, "r", &["a\nb", "c"])?;
-    made(tree_bytes(alloc, &tree, config), "`tree_bytes` succeeds")?;
-    Ok(())
+    try_copy(config)?;
+    try_drawing(alloc, config)
 }
 
-// The calls of configurations.
-fn try_configs(alloc: Global, size: usize) -> Result<(), Deviation> {
-    try_config(alloc, &config(alloc, size)?)?;
+// The calls of a configuration of long texts.
+fn try_texts(alloc: Global, size: usize) -> Result<(), Deviation> {
+    let config = config(alloc, size)?;
+    try_config(alloc, &config)
+}
+
+// The calls of a configuration of wide pieces.
+fn try_widths(alloc: Global, size: usize) -> Result<(), Deviation> {
     let mut wide = made(
         PrintConfig::default(alloc),
         "`PrintConfig::default` succeeds",
@@ -172,36 +207,49 @@ fn try_configs(alloc: Global, size: usize) -> Result<(), Deviation> {
     wide.indent = size;
     try_config(alloc, &wide)?;
     wide.padding = size;
-    try_config(alloc, &wide)?;
+    try_config(alloc, &wide)
+}
+
+// The calls of presets.
+fn try_presets(alloc: Global) -> Result<(), Deviation> {
     for preset in PRESETS {
         made(preset.config(alloc), "`Preset::config` succeeds")?;
     }
     Ok(())
 }
 
-// The calls of a buffer of a size, which is given as many bytes, and more.
-fn try_buffer(alloc: Global, size: usize) -> Result<(), Deviation> {
-    let bytes = text(alloc, size)?;
+// What a buffer of a size passes on of these bytes, and more.
+fn passed_on(alloc: Global, size: usize, bytes: &[u8]) -> Result<Vec<u8>, Deviation> {
     let sink = Counted::new(Vec::new(alloc));
     let mut buffered = made(
         Buffered::with_capacity(alloc, size, sink),
         "`Buffered::with_capacity` succeeds",
     )?;
-    for part in [bytes.as_bytes(), b"yz"] {
+    for part in [bytes, b"yz"] {
         made(put_all(&mut buffered, part), "a buffer takes all bytes")?;
     }
     made(buffered.flush(), "`Buffered::flush` succeeds")?;
-    let mut wanted = bytes.into_bytes();
-    wanted.extend_from_slice(b"yz")?;
-    let passed_on = buffered.into_inner().into_inner();
-    expect(passed_on == wanted, "a buffer passes on what it was given")
+    Ok(buffered.into_inner().into_inner())
+}
+
+// The calls of a buffer of a size, which is given as many bytes, and more.
+fn try_buffer(alloc: Global, size: usize) -> Result<(), Deviation> {
+    let mut bytes = text(alloc, size)?.into_bytes();
+    let passed_on = passed_on(alloc, size, &bytes)?;
+    bytes.extend_from_slice(b"yz")?;
+    expect(passed_on == bytes, "a buffer passes on what it was given")
 }
 
 /// Tries all of them.
 pub fn try_all(alloc: Global, size: usize) -> Result<(), Deviation> {
     try_styles(alloc, size)?;
+    try_sets(alloc)?;
+    try_unknown(alloc, size)?;
     try_characters(alloc, size)?;
-    try_pieces(alloc, size)?;
-    try_configs(alloc, size)?;
+    try_wide_pieces(alloc, size)?;
+    try_long_pieces(alloc, size)?;
+    try_texts(alloc, size)?;
+    try_widths(alloc, size)?;
+    try_presets(alloc)?;
     try_buffer(alloc, size)
 }
