@@ -211,7 +211,36 @@ fn words_call(
     Ok((Given { words, input }, answer))
 }
 
-// A call that draws a document, whose last byte may be none of UTF-8.
+// The input of a document, whose last byte may be none of UTF-8, and what is drawn of it.
+fn document_input(
+    alloc: Global,
+    dice: &mut Dice,
+    text: String,
+    answer: Answer,
+) -> Result<(Vec<u8>, Answer), AllocError> {
+    let mut input = text.into_bytes();
+    if dice.is_one_in(12) {
+        input.push(0xff)?;
+        Ok((input, Answer::refused(alloc, 1, "cannot read\n")))
+    } else {
+        Ok((input, answer))
+    }
+}
+
+// A document under a label, and what is drawn of it.
+fn labelled(
+    alloc: Global,
+    dice: &mut Dice,
+    (format, label): (DocFormat, &str),
+    terminal: bool,
+    sources: &Sources,
+) -> Result<(Vec<u8>, Answer), Deviation> {
+    let text = document(alloc, dice, format)?;
+    let answer = document_answer(alloc, (format, label), text.as_str(), terminal, sources)?;
+    Ok(document_input(alloc, dice, text, answer)?)
+}
+
+// A call that draws a document.
 fn document_call(
     alloc: Global,
     dice: &mut Dice,
@@ -225,14 +254,8 @@ fn document_call(
     };
     let words = words(alloc, dice, name, 1)?;
     let label = words.last().ok_or(Deviation::of("a document has a label"))?;
-    let text = document(alloc, dice, format)?;
     let named = (format, label.as_str());
-    let mut answer = document_answer(alloc, named, text.as_str(), terminal, sources)?;
-    let mut input = text.into_bytes();
-    if dice.is_one_in(12) {
-        input.push(0xff)?;
-        answer = Answer::refused(alloc, 1, "cannot read\n");
-    }
+    let (input, answer) = labelled(alloc, dice, named, terminal, sources)?;
     Ok((Given { words, input }, answer))
 }
 

@@ -142,30 +142,66 @@ fn characters(alloc: Global, dice: &mut Dice) -> Result<IndentChars, Deviation> 
     })
 }
 
-/// A configuration of any depth, width, characters, mark and styles.
-pub fn config(alloc: Global, dice: &mut Dice) -> Result<PrintConfig, Deviation> {
-    let depth = match dice.below(3) {
+// A depth below 5, or the greatest.
+fn any_depth(dice: &mut Dice) -> u32 {
+    match dice.below(3) {
         0 => dice.below(5),
         _ => u32::MAX,
-    };
-    let mark = match dice.below(3) {
+    }
+}
+
+// A mark of any kind, or most often the default one.
+fn mark(dice: &mut Dice) -> &'static str {
+    match dice.below(3) {
         0 => dice.text_of(&MARKS),
         _ => ": ",
-    };
-    Ok(PrintConfig {
-        depth,
-        indent: dice.index(7),
-        padding: dice.index(3),
-        styled: match dice.below(3) {
-            0 => StyleWhen::Never,
-            1 => StyleWhen::Always,
-            _ => StyleWhen::Tty,
-        },
-        characters: characters(alloc, dice)?,
-        branch: style(alloc, dice)?,
-        leaf: style(alloc, dice)?,
-        continued: String::from_str(alloc, mark)?,
-    })
+    }
+}
+
+// When styles are painted.
+fn styled(dice: &mut Dice) -> StyleWhen {
+    match dice.below(3) {
+        0 => StyleWhen::Never,
+        1 => StyleWhen::Always,
+        _ => StyleWhen::Tty,
+    }
+}
+
+// The configuration with other characters.
+fn with_characters(
+    alloc: Global,
+    dice: &mut Dice,
+    config: &mut PrintConfig,
+) -> Result<(), Deviation> {
+    config.characters = characters(alloc, dice)?;
+    Ok(())
+}
+
+// The configuration with other styles.
+fn with_styles(alloc: Global, dice: &mut Dice, config: &mut PrintConfig) -> Result<(), AllocError> {
+    config.branch = style(alloc, dice)?;
+    config.leaf = style(alloc, dice)?;
+    Ok(())
+}
+
+// The configuration with another mark.
+fn with_mark(alloc: Global, mark: &str, config: &mut PrintConfig) -> Result<(), AllocError> {
+    config.continued = String::from_str(alloc, mark)?;
+    Ok(())
+}
+
+/// A configuration of any depth, width, characters, mark and styles.
+pub fn config(alloc: Global, dice: &mut Dice) -> Result<PrintConfig, Deviation> {
+    let mut config = PrintConfig::default(alloc)?;
+    config.depth = any_depth(dice);
+    let mark = mark(dice);
+    config.indent = dice.index(7);
+    config.padding = dice.index(3);
+    config.styled = styled(dice);
+    with_characters(alloc, dice, &mut config)?;
+    with_styles(alloc, dice, &mut config)?;
+    with_mark(alloc, mark, &mut config)?;
+    Ok(config)
 }
 
 /// Whether a piece of a configuration may be longer than a text can be, so that memory for it runs
@@ -234,18 +270,31 @@ fn turned(net: MadeGraph) -> MadeGraph {
     }
 }
 
+// A graph of so many texts and less than so many edges.
+fn grown(alloc: Global, dice: &mut Dice, count: u32, edges: u32) -> Result<MadeGraph, Deviation> {
+    let mut net = nodes(alloc, dice, count)?;
+    add_edges(dice, &mut net, edges)?;
+    Ok(net)
+}
+
+// The graph turned round, and grown on.
+fn turned_and_grown(dice: &mut Dice, net: MadeGraph) -> Result<MadeGraph, Deviation> {
+    let mut net = turned(net);
+    add_edges(dice, &mut net, 5)?;
+    Ok(net)
+}
+
 /// A graph of a few texts and edges, or of up to 40 texts and more edges, with cycles, loops and
 /// parallel edges. Some are turned round, and then grow on.
 pub fn net(alloc: Global, dice: &mut Dice) -> Result<MadeGraph, Deviation> {
     let (most, edges) = if dice.is_one_in(3) { (40, 60) } else { (5, 9) };
     let count = dice.below(most).saturating_add(1);
-    let mut net = nodes(alloc, dice, count)?;
-    add_edges(dice, &mut net, edges)?;
+    let net = grown(alloc, dice, count, edges)?;
     if dice.is_one_in(3) {
-        net = turned(net);
-        add_edges(dice, &mut net, 5)?;
+        turned_and_grown(dice, net)
+    } else {
+        Ok(net)
     }
-    Ok(net)
 }
 
 /// A number that is a node's in most cases.

@@ -4,6 +4,7 @@
 
 mod building;
 mod calls;
+mod composed;
 mod dice;
 mod documents;
 mod files;

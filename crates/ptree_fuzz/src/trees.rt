@@ -1,12 +1,13 @@
 //! Rules of trees: their drawings by those of their parts, printing and copying.
 
+use crate::composed::composed;
 use crate::dice::Dice;
 use crate::made::{config, tree};
 use crate::reading::{cut, try_damaged, try_reading};
 use ptree::item::StringItem;
 use ptree::output::{Indent, print_tree_with, write_tree_with};
 use ptree::print_config::{PrintConfig, StyleWhen};
-use ptree::style::{Counted, Style};
+use ptree::style::Counted;
 use ptree_fixtures::deviation::{Deviation, expect};
 use ptree_fixtures::failing::{Answer, Failing};
 use ptree_fixtures::fronts::leaves_front;
@@ -30,133 +31,6 @@ fn printed(
     let mut out = Counted::new(Vec::new(alloc));
     print_tree_with(alloc, tree, &mut out, terminal, config)?;
     Ok(String::from_utf8(out.into_inner())?)
-}
-
-// A style where it is painted, and else the plain one.
-fn effective(style: &Style, config: &PrintConfig) -> Result<Style, AllocError> {
-    if config.styled == StyleWhen::Always {
-        style.clone()
-    } else {
-        Ok(Style::default())
-    }
-}
-
-// What stands before the text of each line: the codes of branches.
-fn front(alloc: Global, config: &PrintConfig) -> Result<String, AllocError> {
-    let painted = effective(&config.branch, config)?.paint(alloc, "x")?;
-    let (codes, _) = painted.as_str().split_once('x').unwrap_or(("", ""));
-    String::from_str(alloc, codes)
-}
-
-// A text, painted in a style of a configuration.
-fn painted(
-    alloc: Global,
-    style: &Style,
-    config: &PrintConfig,
-    text: &str,
-) -> Result<String, AllocError> {
-    effective(style, config)?.paint(alloc, text)
-}
-
-// The entry of a root: its painted text, and after each line feed in it the painted mark.
-fn root_entry(
-    alloc: Global,
-    tree: &StringItem,
-    config: &PrintConfig,
-) -> Result<String, AllocError> {
-    let mark = painted(alloc, &config.branch, config, config.continued.as_str())?;
-    let own = painted(alloc, &config.leaf, config, tree.text.as_str())?;
-    let mut entry = painted(alloc, &config.branch, config, "")?;
-    for c in own.as_str().chars() {
-        entry.push(c)?;
-        if c == '\n' {
-            entry.push_str(mark.as_str())?;
-        }
-    }
-    entry.push('\n')?;
-    Ok(entry)
-}
-
-// Adds the lines of a child's own drawing, a turning piece in front of the first and passing pieces
-// in front of the others.
-fn add_lines(
-    out: &mut String,
-    drawing: &str,
-    front: &str,
-    (turning, passing): (&str, &str),
-) -> Result<(), Deviation> {
-    for (i, line) in drawing.split_inclusive('\n').enumerate() {
-        let rest = line
-            .strip_prefix(front)
-            .ok_or(Deviation::of("a line begins with the codes of branches"))?;
-        out.push_str(front)?;
-        out.push_str(if i == 0 { turning } else { passing })?;
-        out.push_str(rest)?;
-    }
-    Ok(())
-}
-
-// The turning and the passing piece of a child.
-fn pieces_of(pieces: &Indent, is_last: bool) -> (&str, &str) {
-    if is_last {
-        (
-            pieces.last_regular_prefix.as_str(),
-            pieces.last_child_prefix.as_str(),
-        )
-    } else {
-        (pieces.regular_prefix.as_str(), pieces.child_prefix.as_str())
-    }
-}
-
-// Adds the drawings of children under a configuration, each behind its pieces.
-fn add_drawings(
-    alloc: Global,
-    out: &mut String,
-    children: &[StringItem],
-    below: &PrintConfig,
-    (front, pieces): (&str, &Indent),
-) -> Result<(), Deviation> {
-    let count = children.len();
-    for (i, child) in children.iter().enumerate() {
-        let drawing = drawn(alloc, child, below)?;
-        let is_last = i.saturating_add(1) == count;
-        add_lines(out, drawing.as_str(), front, pieces_of(pieces, is_last))?;
-    }
-    Ok(())
-}
-
-// Adds the drawings of a tree's children under a configuration.
-fn add_below(
-    alloc: Global,
-    out: &mut String,
-    tree: &StringItem,
-    below: &PrintConfig,
-) -> Result<(), Deviation> {
-    let front = front(alloc, below)?;
-    let pieces = Indent::from_config(alloc, below)?;
-    add_drawings(alloc, out, &tree.children, below, (front.as_str(), &pieces))
-}
-
-// Adds the drawings of a tree's children at the depth that is left.
-fn add_children(
-    alloc: Global,
-    out: &mut String,
-    tree: &StringItem,
-    config: &PrintConfig,
-) -> Result<(), Deviation> {
-    if config.depth == 0 {
-        return Ok(());
-    }
-    let mut below = config.clone()?;
-    below.depth = config.depth - 1;
-    add_below(alloc, out, tree, &below)
-}
-
-// A drawing, made of the root's entry and the drawings of its children.
-fn composed(alloc: Global, tree: &StringItem, config: &PrintConfig) -> Result<String, Deviation> {
-    let mut out = root_entry(alloc, tree, config)?;
-    add_children(alloc, &mut out, tree, config)?;
-    Ok(out)
 }
 
 // Whether a piece or the mark holds a line feed, so that the lines of a drawing aren't those of its
@@ -294,13 +168,13 @@ fn try_writer(
     expect(front, "a writer that fails has a front of a tree's drawing")
 }
 
-// The configuration with one field that differs.
-fn changed(
+// Changes one field of a copy of a configuration.
+fn change(
     alloc: Global,
     dice: &mut Dice,
+    other: &mut PrintConfig,
     config: &PrintConfig,
-) -> Result<PrintConfig, AllocError> {
-    let mut other = config.clone()?;
+) -> Result<(), AllocError> {
     match dice.below(10) {
         0 => other.depth = config.depth.wrapping_add(1),
         1 => other.indent = config.indent.wrapping_add(1),
@@ -322,23 +196,44 @@ fn changed(
     if other.leaf.background.is_none() && config.leaf.background.is_none() {
         other.branch.hidden = !config.branch.hidden;
     }
+    Ok(())
+}
+
+// The configuration with one field that differs.
+fn changed(
+    alloc: Global,
+    dice: &mut Dice,
+    config: &PrintConfig,
+) -> Result<PrintConfig, AllocError> {
+    let mut other = config.clone()?;
+    change(alloc, dice, &mut other, config)?;
     Ok(other)
 }
 
-// A copy equals its original and draws alike, and what differs in a field is not equal.
+// A copy of a configuration equals it.
+fn try_copy(config: &PrintConfig) -> Result<(), Deviation> {
+    let copy = config.clone()?;
+    expect(copy == *config, "a copy of a configuration equals it")
+}
+
+// What differs in a field is not equal.
+fn try_changed(alloc: Global, dice: &mut Dice, config: &PrintConfig) -> Result<(), Deviation> {
+    let other = changed(alloc, dice, config)?;
+    expect(
+        other != *config,
+        "configurations that differ in a field are not equal",
+    )
+}
+
+// A copy equals its original, and what differs in a field is not equal.
 fn try_copies(
     alloc: Global,
     dice: &mut Dice,
     tree: &StringItem,
     config: &PrintConfig,
 ) -> Result<(), Deviation> {
-    let copy = config.clone()?;
-    expect(copy == *config, "a copy of a configuration equals it")?;
-    let other = changed(alloc, dice, config)?;
-    expect(
-        other != *config,
-        "configurations that differ in a field are not equal",
-    )?;
+    try_copy(config)?;
+    try_changed(alloc, dice, config)?;
     expect(tree.clone()? == *tree, "a copy of a tree is the same tree")
 }
 

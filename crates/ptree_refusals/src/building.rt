@@ -86,29 +86,43 @@ impl Trial {
         self.note_drawing(alloc, &clone, config)
     }
 
+    // The calls of a builder of a root.
+    fn call_built(
+        &mut self,
+        alloc: Global,
+        builder: &mut TreeBuilder,
+        config: &PrintConfig,
+    ) -> Result<(), Failure> {
+        self.build(alloc, builder, config)?;
+        self.begin(alloc, builder, &["a", "b", "c"])?;
+        self.build(alloc, builder, config)?;
+        end(builder);
+        self.add(alloc, builder, &["d", "e", "f"])?;
+        end(builder);
+        self.begin(alloc, builder, &["g", "h", "i"])?;
+        self.build(alloc, builder, config)
+    }
+
     // The calls of a builder and of items.
     pub fn call_builder(&mut self, alloc: Global, config: &PrintConfig) -> Result<(), Failure> {
-        let mut builder = self.retried(|| Ok(TreeBuilder::new(
-            alloc,
-            String::from_str(alloc, "r")?,
-        )))?;
-        self.build(alloc, &mut builder, config)?;
-        self.begin(alloc, &mut builder, &["a", "b", "c"])?;
-        self.build(alloc, &mut builder, config)?;
-        end(&mut builder);
-        self.add(alloc, &mut builder, &["d", "e", "f"])?;
-        end(&mut builder);
-        self.begin(alloc, &mut builder, &["g", "h", "i"])?;
-        self.build(alloc, &mut builder, config)
+        let root = self.retried(|| Ok(String::from_str(alloc, "r")?))?;
+        let mut builder = TreeBuilder::new(alloc, root);
+        self.call_built(alloc, &mut builder, config)
+    }
+
+    // Adds items by their levels.
+    fn add_levels(&mut self, alloc: Global, builder: &mut TreeBuilder) -> Result<(), Failure> {
+        for (level, text) in [(1, "a"), (2, "b"), (2, "c"), (1, "d"), (2, "e")] {
+            self.retried(|| add_at_level(alloc, builder, level, text))?;
+        }
+        Ok(())
     }
 
     // The calls of a builder by levels.
     pub fn call_levels(&mut self, alloc: Global, config: &PrintConfig) -> Result<(), Failure> {
         let root = self.retried(|| Ok(String::from_str(alloc, "r")?))?;
         let mut builder = TreeBuilder::new(alloc, root);
-        for (level, text) in [(1, "a"), (2, "b"), (2, "c"), (1, "d"), (2, "e")] {
-            self.retried(|| add_at_level(alloc, &mut builder, level, text))?;
-        }
+        self.add_levels(alloc, &mut builder)?;
         self.build(alloc, &mut builder, config)
     }
 }

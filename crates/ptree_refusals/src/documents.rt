@@ -78,26 +78,52 @@ impl Trial {
         self.note_drawing(alloc, &(label, value), config)
     }
 
-    // The calls of values.
-    pub fn call_values(&mut self, alloc: Global, config: &PrintConfig) -> Result<(), Failure> {
+    // The calls of a value that no document has.
+    fn call_boxed(&mut self, alloc: Global, config: &PrintConfig) -> Result<(), Failure> {
         let boxed = self.retried(|| Ok(boxed(alloc)?))?;
-        self.note_value(alloc, boxed, config)?;
+        self.note_value(alloc, boxed, config)
+    }
+
+    // The calls of the value of a document in JSON.
+    fn call_json(&mut self, alloc: Global, config: &PrintConfig) -> Result<(), Failure> {
         let parsed = self.retried(|| Ok(serde_json::Value::from_str(alloc, JSON)?))?;
         let value = self.retried(|| Ok(Value::from_json(alloc, &parsed)?))?;
-        self.note_value(alloc, value, config)?;
+        self.note_value(alloc, value, config)
+    }
+
+    // The calls of the value of a document in TOML.
+    fn call_toml(&mut self, alloc: Global, config: &PrintConfig) -> Result<(), Failure> {
         let table = self.retried(|| Ok(toml::table_from_str(alloc, TOML)?))?;
         let parsed = toml::Value::Table(table);
         let value = self.retried(|| Ok(Value::from_toml(alloc, &parsed)?))?;
         self.note_value(alloc, value, config)
     }
 
-    // The calls of documents.
-    pub fn call_documents(&mut self, alloc: Global, config: &PrintConfig) -> Result<(), Failure> {
+    // The calls of values.
+    pub fn call_values(&mut self, alloc: Global, config: &PrintConfig) -> Result<(), Failure> {
+        self.call_boxed(alloc, config)?;
+        self.call_json(alloc, config)?;
+        self.call_toml(alloc, config)
+    }
+
+    // The drawing of a document in JSON.
+    fn call_json_drawn(&mut self, alloc: Global, config: &PrintConfig) -> Result<(), Failure> {
         let drawing = self.retried(|| json_drawn(alloc, config))?;
         self.notes.extend_from_slice(&drawing)?;
+        Ok(())
+    }
+
+    // The drawing of a document in TOML, under sources.
+    fn call_toml_drawn(&mut self, alloc: Global) -> Result<(), Failure> {
         let sources = self.retried(|| Ok(sources(alloc, "", ("PTREE_INDENT", "4"))?))?;
         let drawing = self.retried(|| toml_drawn(alloc, &sources))?;
         self.notes.extend_from_slice(&drawing)?;
         Ok(())
+    }
+
+    // The calls of documents.
+    pub fn call_documents(&mut self, alloc: Global, config: &PrintConfig) -> Result<(), Failure> {
+        self.call_json_drawn(alloc, config)?;
+        self.call_toml_drawn(alloc)
     }
 }

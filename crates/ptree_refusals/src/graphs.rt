@@ -66,31 +66,60 @@ impl Trial {
         Ok(())
     }
 
-    // The calls of a graph of texts.
-    pub fn call_graph(&mut self, alloc: Global, config: &PrintConfig) -> Result<(), Failure> {
-        let mut graph = Graph::new(alloc);
+    // Adds nodes to a graph.
+    fn add_nodes(&mut self, alloc: Global, graph: &mut Graph<String>) -> Result<(), Failure> {
         for text in ["v", "w", "x", "y", "z"] {
             let node = self.retried(|| Ok(graph.add_node(String::from_str(alloc, text)?)?))?;
             writeln!(self.notes, "node {}", node.0)?;
         }
+        Ok(())
+    }
+
+    // Adds edges to a graph, and notes its parts and its drawing.
+    fn add_edges(
+        &mut self,
+        alloc: Global,
+        graph: &mut Graph<String>,
+        pairs: [(usize, usize); 3],
+        config: &PrintConfig,
+    ) -> Result<(), Failure> {
+        let edges = pairs.map(|(source, target)| (NodeIndex(source), NodeIndex(target)));
+        self.retried(|| Ok(graph.extend_with_edges(&edges)?))?;
+        self.note_neighbors(graph)?;
+        self.note_occurrences(graph)?;
+        self.note_graph(alloc, graph, config)
+    }
+
+    // A graph of texts, each of its parts noted.
+    fn grown(&mut self, alloc: Global, config: &PrintConfig) -> Result<Graph<String>, Failure> {
+        let mut graph = Graph::new(alloc);
+        self.add_nodes(alloc, &mut graph)?;
         for pairs in [[(0, 1), (0, 2), (1, 3)], [(0, 4), (0, 3), (2, 0)]] {
-            let edges = pairs.map(|(source, target)| (NodeIndex(source), NodeIndex(target)));
-            self.retried(|| Ok(graph.extend_with_edges(&edges)?))?;
-            self.note_neighbors(&graph)?;
-            self.note_occurrences(&graph)?;
-            self.note_graph(alloc, &graph, config)?;
+            self.add_edges(alloc, &mut graph, pairs, config)?;
         }
+        Ok(graph)
+    }
+
+    // The calls of a graph of texts.
+    pub fn call_graph(&mut self, alloc: Global, config: &PrintConfig) -> Result<(), Failure> {
+        let graph = self.grown(alloc, config)?;
         self.note_graph(alloc, &graph.reversed(), config)
     }
 
-    // The drawing of a graph of numbers, whose texts take memory.
-    pub fn call_numbers(&mut self, alloc: Global, config: &PrintConfig) -> Result<(), Failure> {
+    // A chain of numbers.
+    fn numbers(&mut self, alloc: Global) -> Result<Graph<u64>, Failure> {
         let mut graph = Graph::new(alloc);
         for number in [1u64, 22, 333] {
             self.retried(|| Ok(graph.add_node(number)?))?;
         }
         let edges = [(NodeIndex(0), NodeIndex(1)), (NodeIndex(1), NodeIndex(2))];
         self.retried(|| Ok(graph.extend_with_edges(&edges)?))?;
+        Ok(graph)
+    }
+
+    // The drawing of a graph of numbers, whose texts take memory.
+    pub fn call_numbers(&mut self, alloc: Global, config: &PrintConfig) -> Result<(), Failure> {
+        let graph = self.numbers(alloc)?;
         self.note_graph(alloc, &graph, config)
     }
 }

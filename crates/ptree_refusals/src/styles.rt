@@ -42,27 +42,52 @@ impl Trial {
         self.note_indent(&indent)
     }
 
+    // The call that makes pieces of characters.
+    fn call_wide(&mut self, alloc: Global, bold: &IndentChars) -> Result<(), Failure> {
+        let indent = self.retried(|| Ok(Indent::from_characters(alloc, 4, bold)?))?;
+        self.note_indent(&indent)
+    }
+
+    // The same with a padding.
+    fn call_padded(&mut self, alloc: Global, bold: &IndentChars) -> Result<(), Failure> {
+        let padded = self.retried(|| {
+            Ok(Indent::from_characters_and_padding(alloc, 5, 2, bold)?)
+        })?;
+        self.note_indent(&padded)
+    }
+
     // The calls that make pieces of characters.
     pub fn call_pieces(&mut self, alloc: Global) -> Result<(), Failure> {
         let bold = self.retried(|| Ok(IndentChars::from_static(alloc, UTF_CHARS_BOLD)?))?;
-        let indent = self.retried(|| Ok(Indent::from_characters(alloc, 4, &bold)?))?;
-        self.note_indent(&indent)?;
-        let padded = self.retried(|| {
-            Ok(Indent::from_characters_and_padding(alloc, 5, 2, &bold)?)
-        })?;
-        self.note_indent(&padded)
+        self.call_wide(alloc, &bold)?;
+        self.call_padded(alloc, &bold)
+    }
+
+    // Notes characters.
+    fn note_characters(&mut self, characters: &IndentChars) -> Result<(), Failure> {
+        self.note(characters.down_and_right.as_str())?;
+        self.note(characters.down.as_str())?;
+        self.note(characters.turn_right.as_str())?;
+        self.note(characters.right.as_str())
+    }
+
+    // Notes a copy of characters, and whether both ways to make them give the same.
+    fn note_copy(&mut self, bold: &IndentChars, named: &IndentChars) -> Result<(), Failure> {
+        let copy = self.retried(|| Ok(bold.clone()?))?;
+        writeln!(self.notes, "{} {}", *bold == *named, *bold == copy)?;
+        self.note_characters(&copy)
+    }
+
+    // The calls of a set of characters by its name, beside one that was made.
+    fn call_named(&mut self, alloc: Global, bold: &IndentChars) -> Result<(), Failure> {
+        let named = self.retried(|| Ok(IndentChars::from_name(alloc, "utf-bold")?))?;
+        self.note_copy(bold, &named)
     }
 
     // The calls of sets of characters.
     pub fn call_characters(&mut self, alloc: Global) -> Result<(), Failure> {
         let bold = self.retried(|| Ok(IndentChars::from_static(alloc, UTF_CHARS_BOLD)?))?;
-        let named = self.retried(|| Ok(IndentChars::from_name(alloc, "utf-bold")?))?;
-        let clone = self.retried(|| Ok(bold.clone()?))?;
-        writeln!(self.notes, "{} {}", bold == named, bold == clone)?;
-        self.note(clone.down_and_right.as_str())?;
-        self.note(clone.down.as_str())?;
-        self.note(clone.turn_right.as_str())?;
-        self.note(clone.right.as_str())
+        self.call_named(alloc, &bold)
     }
 
     // The calls of styles.
