@@ -1,5 +1,5 @@
-//! Random calls of the program, and what the library's own calls give of the same words, sources and
-//! input.
+//! Random calls of the program, and what the library's own calls give for the same words, sources
+//! and input.
 
 use crate::dice::Dice;
 use crate::documents::{document, sources};

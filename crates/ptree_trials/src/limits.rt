@@ -274,7 +274,8 @@ fn is_refused(alloc: Global, format: DocFormat, text: &str) -> Result<(), Deviat
     expect(is_right, "a text past the limit is no document")
 }
 
-// That lists or objects of so many levels are drawn as 126 items with this text, one below the other.
+// That lists or objects of so many levels are drawn as 126 items with this text, one below the
+// other.
 fn try_json_at(alloc: Global, parts: Parts, levels: usize, text: &str) -> Result<(), Deviation> {
     let drawing = format!(in alloc; "d\n{}", steps(alloc, "", text, 126)?)?;
     let document = nested(alloc, "", levels, parts)?;
