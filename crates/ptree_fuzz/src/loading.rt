@@ -114,8 +114,8 @@ fn try_loading(alloc: Global, sources: &Sources, found: &PrintConfig) -> Result<
     )
 }
 
-// Without a terminal's part, what is drawn of an item under sources is what is drawn under the
-// configuration that they mean.
+// `write_tree` draws under sources what `write_tree_with` draws under the configuration that they
+// mean.
 fn try_written<T>(
     alloc: Global,
     item: &T,
@@ -142,7 +142,7 @@ where
     )
 }
 
-// And so it is on a terminal, or elsewhere.
+// `print_tree` draws under sources what `print_tree_with` draws, on a terminal or elsewhere.
 fn try_printed<T>(
     alloc: Global,
     item: &T,
@@ -168,7 +168,7 @@ where
     )
 }
 
-// What is drawn of a tree under sources is what is drawn under the configuration that they mean.
+// Tries the rules of a tree that is drawn under sources.
 fn try_tree(
     alloc: Global,
     dice: &mut Dice,
@@ -181,7 +181,7 @@ fn try_tree(
     try_printed(alloc, &tree, true, sources, config)
 }
 
-// And so it is of a document.
+// `draw_document` draws under sources what `draw_document_with` draws.
 fn try_text(
     alloc: Global,
     text: &str,
@@ -336,7 +336,7 @@ impl Case {
             "a writer that fails has a front of a document's drawing",
         )
     }
-    // Any other is drawn as its value is, and as a copy of that.
+    // The document is drawn as its value is, and as a copy of that.
     fn try_value(&self, alloc: Global, value: Value, found: &Outcome) -> Result<(), Deviation> {
         let copy = self.value_drawn(alloc, value.clone()?)?;
         let drawing = self.value_drawn(alloc, value)?;

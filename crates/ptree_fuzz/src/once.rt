@@ -220,7 +220,7 @@ fn try_addresses(
     )
 }
 
-// The text of the occurrences, drawn as a tree; from what is no node nothing is drawn.
+// The drawing of the tree of the occurrences; nothing is drawn from what is no node.
 fn places_drawn(
     alloc: Global,
     net: &MadeGraph,

@@ -33,7 +33,7 @@ fn drawn_and_read(
     read(alloc, drawing.as_str(), config)?.ok_or(Deviation::of(rule))
 }
 
-// What is read of the drawing in other characters.
+// What is read of a tree's drawing in other characters.
 fn read_anew(alloc: Global, tree: &StringItem) -> Result<StringItem, Deviation> {
     let plus = plain(alloc, ASCII_CHARS_PLUS, 3, u32::MAX)?;
     drawn_and_read(alloc, tree, &plus, "a drawing with plus signs is read")
@@ -133,7 +133,7 @@ fn try_one_off(
     try_text(alloc, other.as_str(), config)
 }
 
-// And so is one with a piece exchanged.
+// A drawing with a piece exchanged is read as a tree whose drawing it is, or not at all.
 fn try_exchanged(
     alloc: Global,
     dice: &mut Dice,
