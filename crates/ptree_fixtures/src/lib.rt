@@ -1,12 +1,15 @@
-//! What several tests of `ptree` share: trees, configurations and drawings, what a test expects,
-//! writers and readers that fail, a writer that may be a terminal, an item that cannot allocate its
-//! children, and sources with every field.
+//! What several tests and trials of `ptree` share: trees, configurations and drawings, what a test
+//! expects, writers and readers that fail, a writer that may be a terminal, an item that cannot
+//! allocate its children, sources with every field, broken rules, and a program's words.
 #![tactic(auto)]
 
 pub mod barren;
+pub mod deviation;
 pub mod drawings;
 pub mod expect;
 pub mod failing;
+pub mod fronts;
 pub mod full;
 pub mod screen;
 pub mod trees;
+pub mod words;

@@ -1,12 +1,12 @@
 //! Drawings of extreme sizes, to standard output.
 
-use crate::deviation::{Deviation, expect};
 use ptree::graph::{Graph, NodeIndex, write_graph_with};
 use ptree::item::StringItem;
 use ptree::output::write_tree_with;
 use ptree::print_config::PrintConfig;
 use ptree::read::{pieces_readable, read_tree};
 use ptree::style::Counted;
+use ptree_fixtures::deviation::{Deviation, expect};
 use ptree_fixtures::trees::{over, over_leaves};
 use std::alloc::{AllocError, Global};
 use std::io::{self, BufWriter, Write};
@@ -62,29 +62,38 @@ fn draw(rt: &HostRuntime, tree: &StringItem, config: &PrintConfig) -> io::Result
     out.into_inner().flush()
 }
 
-// Draws a tree into memory and reads the drawing back, which has to have the same drawing.
-fn draw_and_read(
-    alloc: Global,
-    tree: &StringItem,
-    config: &PrintConfig,
-) -> Result<Vec<u8>, Deviation> {
+// What is drawn of a tree.
+fn drawn(alloc: Global, tree: &StringItem, config: &PrintConfig) -> Result<Vec<u8>, Deviation> {
     let mut out = Counted::new(Vec::new(alloc));
     write_tree_with(alloc, tree, &mut out, config)?;
-    let drawn = out.into_inner();
-    let text = str::from_utf8(&drawn).map_err(|_| Deviation::of("a drawing is UTF-8"))?;
-    let readable = pieces_readable(alloc, config)?;
-    expect(readable, "the pieces are readable")?;
-    if readable {
-        let read = read_tree(alloc, text, config)?;
-        let tree = read.ok_or(Deviation::of("a drawing is read"))?;
-        let mut out = Counted::new(Vec::new(alloc));
-        write_tree_with(alloc, &tree, &mut out, config)?;
-        expect(
-            out.into_inner() == drawn,
-            "what is read is drawn as the text",
-        )?;
+    Ok(out.into_inner())
+}
+
+// What is read of a drawing.
+fn read(alloc: Global, drawing: &[u8], config: &PrintConfig) -> Result<StringItem, Deviation> {
+    let text = str::from_utf8(drawing).map_err(|_| Deviation::of("a drawing is UTF-8"))?;
+    if !pieces_readable(alloc, config)? {
+        return Err(Deviation::of("the pieces are readable"));
     }
-    Ok(drawn)
+    let read = read_tree(alloc, text, config)?;
+    read.ok_or(Deviation::of("a drawing is read"))
+}
+
+// That what is read of a drawing has the same drawing.
+fn read_back(alloc: Global, drawing: &[u8], config: &PrintConfig) -> Result<(), Deviation> {
+    let tree = read(alloc, drawing, config)?;
+    let again = drawn(alloc, &tree, config)?;
+    expect(
+        again.as_slice() == drawing,
+        "what is read is drawn as the text",
+    )
+}
+
+// Draws a tree into memory, reads the drawing back, and writes it to standard output.
+fn draw_and_read(rt: &HostRuntime, tree: &StringItem, config: &PrintConfig) -> io::Result<()> {
+    let drawing = drawn(rt.alloc(), tree, config)?;
+    read_back(rt.alloc(), &drawing, config)?;
+    io::writer(rt).write_all(&drawing)
 }
 
 // Draws the ring down to a level, to standard output.
@@ -105,29 +114,30 @@ fn chain(alloc: Global, items: usize) -> Result<StringItem, AllocError> {
     Ok(chain)
 }
 
-/// Draws what has this name: `chain`, `items`, `children`, `line`, `lines`, `characters`, `pieces` or `graph`.
-pub fn draw_extreme(rt: &HostRuntime, name: &str) -> io::Result<()> {
+// Draws a tree of this name to standard output, or the ring where no tree has it.
+fn draw_named(rt: &HostRuntime, name: &str, config: &mut PrintConfig) -> io::Result<()> {
     let alloc = rt.alloc();
-    let mut config = PrintConfig::default(alloc)?;
     match name {
-        "chain" => draw(rt, &chain(alloc, 10_000)?, &config),
-        "items" => draw(rt, &wide(alloc, 20_000_000, "item")?, &config),
-        "children" => draw(rt, &wide(alloc, 1_000_000, "item")?, &config),
-        "line" => draw(rt, &long(alloc, PART, 16_777_216)?, &config),
-        "lines" => draw(rt, &long(alloc, "line\n", 10_000_000)?, &config),
-        "characters" => {
-            let drawn = draw_and_read(alloc, &every_character(alloc)?, &config)?;
-            io::writer(rt).write_all(&drawn)
-        }
+        "chain" => draw(rt, &chain(alloc, 10_000)?, config),
+        "items" => draw(rt, &wide(alloc, 20_000_000, "item")?, config),
+        "children" => draw(rt, &wide(alloc, 1_000_000, "item")?, config),
+        "line" => draw(rt, &long(alloc, PART, 16_777_216)?, config),
+        "lines" => draw(rt, &long(alloc, "line\n", 10_000_000)?, config),
+        "characters" => draw_and_read(rt, &every_character(alloc)?, config),
         "pieces" => {
             config.indent = 1_000_000;
-            let tree = wide(alloc, 100, "a\nb")?;
-            let drawn = draw_and_read(alloc, &tree, &config)?;
-            io::writer(rt).write_all(&drawn)
+            draw_and_read(rt, &wide(alloc, 100, "a\nb")?, config)
         }
         _ => {
             config.depth = 20;
-            draw_ring(rt, &config)
+            draw_ring(rt, config)
         }
     }
+}
+
+/// Draws what has this name: `chain`, `items`, `children`, `line`, `lines`, `characters`, `pieces`
+/// or `graph`.
+pub fn draw_extreme(rt: &HostRuntime, name: &str) -> io::Result<()> {
+    let mut config = PrintConfig::default(rt.alloc())?;
+    draw_named(rt, name, &mut config)
 }

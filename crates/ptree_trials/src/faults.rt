@@ -1,17 +1,19 @@
-//! Drawings to writers that fail at each byte in each way: what a writer took is a front of the whole drawing, and its answer is told.
+//! Drawings to writers that fail at each byte in each way: what a writer took is a front of the
+//! whole drawing, and its answer is told.
 
-use crate::deviation::Deviation;
 use ptree::graph::{
-    Graph, NodeIndex, REPEATED_MARK, print_graph, print_graph_once, write_graph_once_with,
+    Graph, Label, NodeIndex, REPEATED_MARK, print_graph, print_graph_once, write_graph_once_with,
     write_graph_with,
 };
 use ptree::item::StringItem;
 use ptree::output::{print_tree_with, write_tree, write_tree_with};
 use ptree::print_config::{FileSource, PrintConfig, Sources, UTF_CHARS};
 use ptree::style::{Color, Counted, DrawError, Style, put_all};
-use ptree::value::{DocError, DocFormat, Value, draw_document, draw_document_with};
+use ptree::value::{DocFormat, Value, draw_document, draw_document_with};
+use ptree_fixtures::deviation::Deviation;
 use ptree_fixtures::drawings::{PETGRAPH, TOML, TOML_DRAWN};
 use ptree_fixtures::failing::{Answer, Failing};
+use ptree_fixtures::fronts::{drawing_of, leaves_front};
 use ptree_fixtures::trees::{leaf, over, over_leaves, petgraph, plain};
 use std::alloc::{AllocError, Global};
 use std::io::{self, ErrorKind};
@@ -30,7 +32,8 @@ const JSON: &str = "{\"a\":[1,{\"b\":null}]}";
 
 const JSON_DRAWN: &str = "j\n└─ a\n   ├─ 1\n   └─ \n      └─ b = \n";
 
-// The writers of a drawing that were tried, by their room, by the most that they take a call, and by their answer.
+// The writers of a drawing that were tried, by their room, by the most that they take a call, and
+// by their answer.
 const MOST: [usize; 4] = [1, 2, 30, usize::MAX];
 
 const ANSWERS: [Answer; 3] = [
@@ -38,23 +41,6 @@ const ANSWERS: [Answer; 3] = [
     Answer::Error(ErrorKind::StorageFull),
     Answer::Interrupted,
 ];
-
-/// Whether a call whose whole drawing is known leaves a front of it in a writer with so much room, and passes the writer's answer on.
-pub fn leaves_front<F: Fn(&mut Counted<Failing>) -> Result<(), DrawError>>(
-    alloc: Global,
-    whole: &[u8],
-    writer: (usize, usize, Answer),
-    draw: &F,
-) -> Result<bool, AllocError>
-    requires { F.IsAlwaysCallable draw.now }
-{
-    let (room, most, answer) = writer;
-    let mut out = Counted::new(Failing::new(alloc, whole.len(), room, most, answer)?);
-    let ended = draw(&mut out);
-    let taken = out.into_inner().taken;
-    let front = whole.get(..room).unwrap_or(whole);
-    Ok(answer.ends(&ended, room, whole.len()) && taken.as_slice() == front)
-}
 
 // Tries all writers on a call whose whole drawing is known, and tells how many there were.
 fn try_writers<F: Fn(&mut Counted<Failing>) -> Result<(), DrawError>>(
@@ -79,15 +65,6 @@ fn try_writers<F: Fn(&mut Counted<Failing>) -> Result<(), DrawError>>(
         }
     }
     println!(rt; "{name}: {} bytes, {tried} writers", whole.len())
-}
-
-// How a document's drawing ended; a refusal is none of a writer's answers.
-pub fn drawing_of(ended: Result<(), DocError>) -> Result<(), DrawError> {
-    match ended {
-        Ok(()) => Ok(()),
-        Err(DocError::Draw(e)) => Err(e),
-        Err(DocError::Syntax | DocError::Float | DocError::Date) => Err(DrawError::Memory),
-    }
 }
 
 // r [a [empty], c], where r, a and c have several lines.
@@ -120,81 +97,176 @@ fn sources(alloc: Global, pairs: &[(&str, &str)]) -> Result<Sources, AllocError>
     })
 }
 
+// Tries the drawing of a tree under a configuration.
+fn try_tree(
+    rt: &HostRuntime,
+    name: &str,
+    whole: &str,
+    tree: &StringItem,
+    config: &PrintConfig,
+) -> io::Result<()> {
+    let alloc = rt.alloc();
+    try_writers(
+        rt,
+        name,
+        whole,
+        |out| write_tree_with(alloc, tree, out, config),
+    )
+}
+
+// Tries the drawing of a tree on a terminal.
+fn try_terminal(
+    rt: &HostRuntime,
+    name: &str,
+    whole: &str,
+    tree: &StringItem,
+    config: &PrintConfig,
+) -> io::Result<()> {
+    let alloc = rt.alloc();
+    try_writers(
+        rt,
+        name,
+        whole,
+        |out| print_tree_with(alloc, tree, out, true, config),
+    )
+}
+
+// Tries the drawing of petgraph down to a depth.
+fn try_petgraph(rt: &HostRuntime, name: &str, whole: &str, depth: u32) -> io::Result<()> {
+    let alloc = rt.alloc();
+    let config = plain(alloc, UTF_CHARS, 4, depth)?;
+    let tree = petgraph(alloc)?;
+    try_tree(rt, name, whole, &tree, &config)
+}
+
+// Tries the drawing of a small tree on a terminal.
+fn try_small(rt: &HostRuntime, config: &PrintConfig) -> io::Result<()> {
+    let small = over_leaves(rt.alloc(), "r", &["a"])?;
+    try_terminal(rt, "a terminal", STYLED, &small, config)
+}
+
+// Tries the drawing of texts of several lines.
+fn try_lines(rt: &HostRuntime, config: &PrintConfig) -> io::Result<()> {
+    let tree = lines(rt.alloc())?;
+    try_tree(rt, "lines", LINES, &tree, config)
+}
+
+// Tries the drawing of a painted text of two lines.
+fn try_painted(rt: &HostRuntime, config: &PrintConfig) -> io::Result<()> {
+    let tree = leaf(rt.alloc(), "r\ns")?;
+    try_terminal(rt, "painted lines", STYLED_LINES, &tree, config)
+}
+
+// Tries the drawings of trees under the default configuration, and with bold texts.
+fn try_default(rt: &HostRuntime) -> io::Result<()> {
+    let mut config = PrintConfig::default(rt.alloc())?;
+    try_small(rt, &config)?;
+    try_lines(rt, &config)?;
+    config.leaf.bold = true;
+    try_painted(rt, &config)
+}
+
 // Tries the drawings of trees.
 fn try_trees(rt: &HostRuntime) -> io::Result<()> {
-    let alloc = rt.alloc();
-    let tree = petgraph(alloc)?;
-    let wide = plain(alloc, UTF_CHARS, 4, u32::MAX)?;
-    try_writers(
-        rt,
-        "a tree",
-        PETGRAPH,
-        |out| write_tree_with(alloc, &tree, out, &wide),
-    )?;
+    try_petgraph(rt, "a tree", PETGRAPH, u32::MAX)?;
     let root = "petgraph\n├── quickcheck\n└── fixedbitset\n";
-    let shallow = plain(alloc, UTF_CHARS, 4, 1)?;
-    try_writers(
-        rt,
-        "a depth",
-        root,
-        |out| write_tree_with(alloc, &tree, out, &shallow),
-    )?;
-    let small = over_leaves(alloc, "r", &["a"])?;
-    let mut config = PrintConfig::default(alloc)?;
-    try_writers(rt, "a terminal", STYLED, |out| {
-        print_tree_with(alloc, &small, out, true, &config)
-    })?;
-    let tree = lines(alloc)?;
-    try_writers(
-        rt,
-        "lines",
-        LINES,
-        |out| write_tree_with(alloc, &tree, out, &config),
-    )?;
-    config.leaf.bold = true;
-    let tree = leaf(alloc, "r\ns")?;
-    try_writers(rt, "painted lines", STYLED_LINES, |out| {
-        print_tree_with(alloc, &tree, out, true, &config)
+    try_petgraph(rt, "a depth", root, 1)?;
+    try_default(rt)
+}
+
+// Tries the drawing of a graph from a node under a configuration.
+fn try_graph<N: Label>(
+    rt: &HostRuntime,
+    name: &str,
+    whole: &str,
+    (graph, start): (&Graph<N>, NodeIndex),
+    config: &PrintConfig,
+) -> io::Result<()> {
+    let alloc = rt.alloc();
+    try_writers(rt, name, whole, |out| {
+        write_graph_with(alloc, graph, start, out, config)
     })
+}
+
+// Tries the drawing of a cycle under sources.
+fn try_cycle_under(rt: &HostRuntime, graph: &Graph<&str>, sources: &Sources) -> io::Result<()> {
+    let alloc = rt.alloc();
+    try_writers(rt, "a cycle under sources", CYCLE, |out| {
+        print_graph(alloc, graph, NodeIndex(0), out, false, sources)
+    })
+}
+
+// Tries the drawing of a cycle, each node expanded once.
+fn try_once(rt: &HostRuntime, graph: &Graph<&str>, config: &PrintConfig) -> io::Result<()> {
+    let alloc = rt.alloc();
+    try_writers(rt, "a cycle once", CYCLE_ONCE, |out| {
+        write_graph_once_with(alloc, graph, NodeIndex(0), REPEATED_MARK, out, config)
+    })
+}
+
+// Tries the same under sources.
+fn try_once_under(rt: &HostRuntime, graph: &Graph<&str>, sources: &Sources) -> io::Result<()> {
+    let alloc = rt.alloc();
+    let start = NodeIndex(0);
+    try_writers(rt, "a cycle once under sources", CYCLE_ONCE, |out| {
+        print_graph_once(alloc, graph, start, REPEATED_MARK, out, false, sources)
+    })
+}
+
+// Tries the drawings of a cycle, under a configuration and under sources that mean the same depth.
+fn try_cycle(
+    rt: &HostRuntime,
+    graph: &Graph<&str>,
+    config: &PrintConfig,
+    sources: &Sources,
+) -> io::Result<()> {
+    try_graph(rt, "a cycle", CYCLE, (graph, NodeIndex(0)), config)?;
+    try_cycle_under(rt, graph, sources)?;
+    try_once(rt, graph, config)?;
+    try_once_under(rt, graph, sources)?;
+    try_graph(rt, "no node", "\n", (graph, NodeIndex(7)), config)
+}
+
+// Tries the drawing of a graph of one number.
+fn try_number(rt: &HostRuntime, config: &PrintConfig) -> io::Result<()> {
+    let mut numbers = Graph::new(rt.alloc());
+    let number = numbers.add_node(18446744073709551615u64)?;
+    try_graph(
+        rt,
+        "a number",
+        "18446744073709551615\n",
+        (&numbers, number),
+        config,
+    )
+}
+
+// Tries the drawings of graphs under a configuration of depth 3.
+fn try_graphs_under(rt: &HostRuntime, config: &PrintConfig) -> io::Result<()> {
+    let depth = sources(rt.alloc(), &[("PTREE_DEPTH", "3")])?;
+    let graph = cycle(rt.alloc())?;
+    try_cycle(rt, &graph, config, &depth)?;
+    try_number(rt, config)
 }
 
 // Tries the drawings of graphs.
 fn try_graphs(rt: &HostRuntime) -> io::Result<()> {
-    let alloc = rt.alloc();
-    let mut config = PrintConfig::default(alloc)?;
+    let mut config = PrintConfig::default(rt.alloc())?;
     config.depth = 3;
-    let graph = cycle(alloc)?;
-    let start = NodeIndex(0);
-    try_writers(rt, "a cycle", CYCLE, |out| {
-        write_graph_with(alloc, &graph, start, out, &config)
-    })?;
-    let depth = sources(alloc, &[("PTREE_DEPTH", "3")])?;
-    try_writers(rt, "a cycle under sources", CYCLE, |out| {
-        print_graph(alloc, &graph, start, out, false, &depth)
-    })?;
-    try_writers(rt, "a cycle once", CYCLE_ONCE, |out| {
-        write_graph_once_with(alloc, &graph, start, REPEATED_MARK, out, &config)
-    })?;
-    try_writers(rt, "a cycle once under sources", CYCLE_ONCE, |out| {
-        print_graph_once(alloc, &graph, start, REPEATED_MARK, out, false, &depth)
-    })?;
-    try_writers(rt, "no node", "\n", |out| {
-        write_graph_with(alloc, &graph, NodeIndex(7), out, &config)
-    })?;
-    let mut numbers = Graph::new(alloc);
-    let number = numbers.add_node(18446744073709551615u64)?;
-    try_writers(rt, "a number", "18446744073709551615\n", |out| {
-        write_graph_with(alloc, &numbers, number, out, &config)
-    })
+    try_graphs_under(rt, &config)
 }
 
-// Tries the drawings of documents and values, and of a tree under sources.
-fn try_documents(rt: &HostRuntime) -> io::Result<()> {
+// Tries the drawing of a document in JSON.
+fn try_json(rt: &HostRuntime) -> io::Result<()> {
     let alloc = rt.alloc();
     let config = PrintConfig::default(alloc)?;
     try_writers(rt, "a document in JSON", JSON_DRAWN, |out| {
         drawing_of(draw_document_with(alloc, DocFormat::Json, JSON, "j", &config, false, out))
-    })?;
+    })
+}
+
+// Tries the drawing of a document in TOML, under sources.
+fn try_toml(rt: &HostRuntime) -> io::Result<()> {
+    let alloc = rt.alloc();
     let wide = sources(alloc, &[("PTREE_INDENT", "4")])?;
     try_writers(rt, "a document in TOML", TOML_DRAWN, |out| {
         drawing_of(draw_document(alloc, DocFormat::Toml, TOML, "toml", &wide, false, out))
@@ -204,8 +276,8 @@ fn try_documents(rt: &HostRuntime) -> io::Result<()> {
 // Tries the drawing of a value under a label.
 fn try_value(rt: &HostRuntime) -> io::Result<()> {
     let alloc = rt.alloc();
-    let config = PrintConfig::default(alloc)?;
     let pair = (String::from_str(alloc, "k")?, Value::I64(5));
+    let config = PrintConfig::default(alloc)?;
     try_writers(
         rt,
         "a value",
@@ -245,7 +317,8 @@ fn try_texts(rt: &HostRuntime) -> io::Result<()> {
 pub fn try_faults(rt: &HostRuntime) -> io::Result<()> {
     try_trees(rt)?;
     try_graphs(rt)?;
-    try_documents(rt)?;
+    try_json(rt)?;
+    try_toml(rt)?;
     try_value(rt)?;
     try_sources(rt)?;
     try_texts(rt)

@@ -1,7 +1,6 @@
-//! Tries long chains, a million lines, graphs of many walks, and documents nested as deep as they may be, each against the drawing that
-//! the rules give.
+//! Tries long chains, a million lines, graphs of many walks, and documents nested as deep as they
+//! may be, each against the drawing that the rules give.
 
-use crate::deviation::{Deviation, expect, report};
 use ptree::TreeBuilder;
 use ptree::builder::AddError;
 use ptree::graph::{Graph, NodeIndex, REPEATED_MARK, write_graph_once_with};
@@ -11,6 +10,7 @@ use ptree::print_config::PrintConfig;
 use ptree::read::read_tree;
 use ptree::style::Counted;
 use ptree::value::{DocError, DocFormat, draw_document_with};
+use ptree_fixtures::deviation::{Deviation, expect, report};
 use ptree_fixtures::trees::{leaf, over, over_leaves};
 use std::alloc::{AllocError, Global};
 use std::io;
@@ -43,9 +43,7 @@ fn steps(alloc: Global, blanks: &str, text: &str, levels: u32) -> Result<String,
 // A root over a chain, made by a builder.
 fn built_chain(alloc: Global) -> Result<StringItem, Deviation> {
     let mut builder = TreeBuilder::new(alloc, String::from_str(alloc, "x")?);
-    for level in 0..ITEMS {
-        builder.add_at_level(level.saturating_add(1), String::from_str(alloc, "x")?)?;
-    }
+    add_levels(alloc, &mut builder, ITEMS)?;
     Ok(builder.build()?)
 }
 
@@ -64,14 +62,19 @@ fn read_default(alloc: Global, text: &str) -> Result<Option<StringItem>, AllocEr
     read_tree(alloc, text, &config)
 }
 
-// That a tree has this drawing under the default configuration, and reads back.
-fn reads_back(alloc: Global, tree: &StringItem, drawing: &str) -> Result<(), Deviation> {
+// That a tree has this drawing under the default configuration.
+fn draws_as(alloc: Global, tree: &StringItem, drawing: &str) -> Result<(), Deviation> {
     let config = PrintConfig::default(alloc)?;
     let drawn = tree_bytes(alloc, tree, &config)?;
     expect(
         drawn.as_slice() == drawing.as_bytes(),
         "a long tree has this drawing",
-    )?;
+    )
+}
+
+// That a tree has this drawing under the default configuration, and reads back.
+fn reads_back(alloc: Global, tree: &StringItem, drawing: &str) -> Result<(), Deviation> {
+    draws_as(alloc, tree, drawing)?;
     match read_default(alloc, drawing)? {
         Some(read) => expect(read == *tree, "a long drawing is read as its tree"),
         None => Err(Deviation::of("a long drawing is read")),
@@ -85,17 +88,21 @@ fn try_chain(alloc: Global) -> Result<(), Deviation> {
     reads_back(alloc, &nested_chain(alloc)?, drawing.as_str())
 }
 
-// Items of a builder, each a level below the one before it.
-fn try_levels(alloc: Global) -> Result<(), Deviation> {
-    let mut builder = TreeBuilder::new(alloc, String::from_str(alloc, "x")?);
-    for level in 0..LEVELS {
+// Adds items to a builder, each a level below the one before it.
+fn add_levels(alloc: Global, builder: &mut TreeBuilder, levels: u32) -> Result<(), Deviation> {
+    for level in 0..levels {
         builder.add_at_level(level.saturating_add(1), String::from_str(alloc, "x")?)?;
     }
+    Ok(())
+}
+
+// That a builder of so many levels refuses a level that can't follow, and goes back to another one.
+fn changes_level(alloc: Global, builder: &mut TreeBuilder, levels: u32) -> Result<(), Deviation> {
     expect(
-        builder.level() == LEVELS,
+        builder.level() == levels,
         "the last item of a builder has its level",
     )?;
-    let refused = builder.add_at_level(LEVELS.saturating_add(2), String::new(alloc));
+    let refused = builder.add_at_level(levels.saturating_add(2), String::new(alloc));
     expect(
         refused == Err(AddError::Level),
         "a level that can't follow is refused",
@@ -104,35 +111,72 @@ fn try_levels(alloc: Global) -> Result<(), Deviation> {
     expect(builder.level() == 1, "a builder goes back to a level")
 }
 
+// Items of a builder, each a level below the one before it.
+fn try_levels(alloc: Global) -> Result<(), Deviation> {
+    let mut builder = TreeBuilder::new(alloc, String::from_str(alloc, "x")?);
+    add_levels(alloc, &mut builder, LEVELS)?;
+    changes_level(alloc, &mut builder, LEVELS)
+}
+
+// A text, and behind it another one for each further line.
+fn lines(alloc: Global, first: &str, further: &str) -> Result<String, AllocError> {
+    let mut text = String::from_str(alloc, first)?;
+    for _ in 1..LINES {
+        text.push_str(further)?;
+    }
+    Ok(text)
+}
+
+// A text of so many lines, of a root.
+fn try_root_lines(alloc: Global, text: &str) -> Result<(), Deviation> {
+    let drawing = lines(alloc, "a\n", ": a\n")?;
+    let tree = leaf(alloc, text)?;
+    reads_back(alloc, &tree, drawing.as_str())
+}
+
+// A text of so many lines, of a child.
+fn try_child_lines(alloc: Global, text: &str) -> Result<(), Deviation> {
+    let drawing = lines(alloc, "r\n└─ a\n", "   : a\n")?;
+    let tree = over_leaves(alloc, "r", &[text])?;
+    reads_back(alloc, &tree, drawing.as_str())
+}
+
 // Texts of so many lines, of a root and of a child.
 fn try_lines(alloc: Global) -> Result<(), Deviation> {
-    let mut text = String::from_str(alloc, "a")?;
-    let mut root = String::from_str(alloc, "a\n")?;
-    let mut child = String::from_str(alloc, "r\n└─ a\n")?;
-    for _ in 1..LINES {
-        text.push_str("\na")?;
-        root.push_str(": a\n")?;
-        child.push_str("   : a\n")?;
+    let text = lines(alloc, "a", "\na")?;
+    try_root_lines(alloc, text.as_str())?;
+    try_child_lines(alloc, text.as_str())
+}
+
+// The drawing of a root over half as many items, each over one, and over another one.
+fn items_drawn(alloc: Global) -> Result<String, AllocError> {
+    let mut text = String::from_str(alloc, "r\n")?;
+    for _ in 0..LINES / 2 {
+        text.push_str("├─ a\n│  └─ b\n")?;
     }
-    reads_back(alloc, &leaf(alloc, text.as_str())?, root.as_str())?;
-    let tree = over_leaves(alloc, "r", &[text.as_str()])?;
-    reads_back(alloc, &tree, child.as_str())
+    text.push_str("└─ c\n")?;
+    Ok(text)
+}
+
+// The tree of that drawing.
+fn items(alloc: Global) -> Result<StringItem, AllocError> {
+    let mut children = Vec::new(alloc);
+    for _ in 0..LINES / 2 {
+        children.push(over_leaves(alloc, "a", &["b"])?)?;
+    }
+    children.push(leaf(alloc, "c")?)?;
+    over(alloc, "r", children)
 }
 
 // A root over half as many items, each over one.
 fn try_items(alloc: Global) -> Result<(), Deviation> {
-    let mut text = String::from_str(alloc, "r\n")?;
-    let mut children = Vec::new(alloc);
-    for _ in 0..LINES / 2 {
-        text.push_str("├─ a\n│  └─ b\n")?;
-        children.push(over_leaves(alloc, "a", &["b"])?)?;
-    }
-    text.push_str("└─ c\n")?;
-    children.push(leaf(alloc, "c")?)?;
-    reads_back(alloc, &over(alloc, "r", children)?, text.as_str())
+    let text = items_drawn(alloc)?;
+    let tree = items(alloc)?;
+    reads_back(alloc, &tree, text.as_str())
 }
 
-// A root over layers of a and b, each node with edges to both nodes below it: 2 to the power of 30 walks.
+// A root over layers of a and b, each node with edges to both nodes below it: 2 to the power of 30
+// walks.
 fn layers(alloc: Global) -> Result<Graph<&'static str>, Deviation> {
     let mut graph = Graph::new(alloc);
     let mut above = vec![in alloc; graph.add_node("r")?]?;
@@ -146,8 +190,8 @@ fn layers(alloc: Global) -> Result<Graph<&'static str>, Deviation> {
     Ok(graph)
 }
 
-// What is drawn of it where each node is expanded once, in 119 lines: each a stands below the one before it, and the other nodes follow
-// from the last layer up.
+// What is drawn of it where each node is expanded once, in 119 lines: each a stands below the one
+// before it, and the other nodes follow from the last layer up.
 fn layers_drawn(alloc: Global) -> Result<String, AllocError> {
     let mut drawing = String::from_str(alloc, "r\n")?;
     for layer in 0..LAYERS {
@@ -166,22 +210,21 @@ fn layers_drawn(alloc: Global) -> Result<String, AllocError> {
     Ok(drawing)
 }
 
+// What is drawn of a graph of so many layers, each node expanded once.
+fn once_drawn(alloc: Global, config: &PrintConfig) -> Result<Vec<u8>, Deviation> {
+    let graph = layers(alloc)?;
+    let mut out = Counted::new(Vec::new(alloc));
+    write_graph_once_with(alloc, &graph, NodeIndex(0), REPEATED_MARK, &mut out, config)?;
+    Ok(out.into_inner())
+}
+
 // A graph with more walks than can be drawn, each node expanded once.
 fn try_layers(alloc: Global) -> Result<(), Deviation> {
     let config = PrintConfig::default(alloc)?;
-    let graph = layers(alloc)?;
-    let mut out = Counted::new(Vec::new(alloc));
-    write_graph_once_with(
-        alloc,
-        &graph,
-        NodeIndex(0),
-        REPEATED_MARK,
-        &mut out,
-        &config,
-    )?;
+    let drawn = once_drawn(alloc, &config)?;
     let drawing = layers_drawn(alloc)?;
     expect(
-        out.into_inner().as_slice() == drawing.as_bytes(),
+        drawn.as_slice() == drawing.as_bytes(),
         "a graph of many walks has this drawing",
     )
 }
@@ -231,18 +274,49 @@ fn is_refused(alloc: Global, format: DocFormat, text: &str) -> Result<(), Deviat
     expect(is_right, "a text past the limit is no document")
 }
 
+// That lists or objects of so many levels are drawn as 126 items with this text, one below the
+// other.
+fn try_json_at(alloc: Global, parts: Parts, levels: usize, text: &str) -> Result<(), Deviation> {
+    let drawing = format!(in alloc; "d\n{}", steps(alloc, "", text, 126)?)?;
+    let document = nested(alloc, "", levels, parts)?;
+    is_drawn(alloc, DocFormat::Json, document.as_str(), drawing.as_str())
+}
+
+// That so many levels behind a front are no document.
+fn try_past(
+    alloc: Global,
+    format: DocFormat,
+    front: &str,
+    levels: usize,
+    parts: Parts,
+) -> Result<(), Deviation> {
+    let document = nested(alloc, front, levels, parts)?;
+    is_refused(alloc, format, document.as_str())
+}
+
 // 127 lists and objects.
 fn try_json(alloc: Global) -> Result<(), Deviation> {
     for (parts, levels, text) in [(LISTS, 127, ""), (JSON_MAPS, 126, "k")] {
-        let drawing = format!(in alloc; "d\n{}", steps(alloc, "", text, 126)?)?;
-        let document = nested(alloc, "", levels, parts)?;
-        is_drawn(alloc, DocFormat::Json, document.as_str(), drawing.as_str())?;
+        try_json_at(alloc, parts, levels, text)?;
     }
     for (parts, levels) in [(LISTS, 128), (JSON_MAPS, 127), (JSON_BOTH, 64)] {
-        let document = nested(alloc, "", levels, parts)?;
-        is_refused(alloc, DocFormat::Json, document.as_str())?;
+        try_past(alloc, DocFormat::Json, "", levels, parts)?;
     }
     Ok(())
+}
+
+// That a document of so many levels is drawn as a key over 79 items with this text, one below the
+// other.
+fn try_toml_at(
+    alloc: Global,
+    (front, parts, levels): (&str, Parts, usize),
+    key: &str,
+    text: &str,
+) -> Result<(), Deviation> {
+    let below = steps(alloc, "   ", text, 79)?;
+    let drawing = format!(in alloc; "d\n└─ {key}\n{below}")?;
+    let document = nested(alloc, front, levels, parts)?;
+    is_drawn(alloc, DocFormat::Toml, document.as_str(), drawing.as_str())
 }
 
 // 80 arrays and inline tables, and keys of 80 parts.
@@ -252,18 +326,14 @@ fn try_toml(alloc: Global) -> Result<(), Deviation> {
         ("a = ", TOML_MAPS, 79, "a", "k"),
         ("", TOML_KEYS, 79, "k", "k"),
     ] {
-        let below = steps(alloc, "   ", text, 79)?;
-        let drawing = format!(in alloc; "d\n└─ {key}\n{below}")?;
-        let document = nested(alloc, front, levels, parts)?;
-        is_drawn(alloc, DocFormat::Toml, document.as_str(), drawing.as_str())?;
+        try_toml_at(alloc, (front, parts, levels), key, text)?;
     }
     for (front, parts, levels) in [
         ("a = ", LISTS, 81),
         ("a = ", TOML_MAPS, 80),
         ("", TOML_KEYS, 80),
     ] {
-        let document = nested(alloc, front, levels, parts)?;
-        is_refused(alloc, DocFormat::Toml, document.as_str())?;
+        try_past(alloc, DocFormat::Toml, front, levels, parts)?;
     }
     Ok(())
 }

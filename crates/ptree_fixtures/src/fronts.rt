@@ -1,0 +1,33 @@
+//! Whether a call leaves a prefix of its drawing in a writer that fails.
+
+use crate::failing::{Answer, Failing};
+use ptree::style::{Counted, DrawError};
+use ptree::value::DocError;
+use std::alloc::{AllocError, Global};
+
+/// Whether a call whose whole drawing is known leaves a prefix of it in a writer with so much room,
+/// and passes the writer's answer on.
+pub fn leaves_front<F: Fn(&mut Counted<Failing>) -> Result<(), DrawError>>(
+    alloc: Global,
+    whole: &[u8],
+    writer: (usize, usize, Answer),
+    draw: &F,
+) -> Result<bool, AllocError>
+    requires { F.IsAlwaysCallable draw.now }
+{
+    let (room, most, answer) = writer;
+    let mut out = Counted::new(Failing::new(alloc, whole.len(), room, most, answer)?);
+    let ended = draw(&mut out);
+    let taken = out.into_inner().taken;
+    let front = whole.get(..room).unwrap_or(whole);
+    Ok(answer.ends(&ended, room, whole.len()) && taken.as_slice() == front)
+}
+
+/// How a document's drawing ended. A refusal is none of a writer's answers.
+pub fn drawing_of(ended: Result<(), DocError>) -> Result<(), DrawError> {
+    match ended {
+        Ok(()) => Ok(()),
+        Err(DocError::Draw(e)) => Err(e),
+        Err(DocError::Syntax | DocError::Float | DocError::Date) => Err(DrawError::Memory),
+    }
+}
