@@ -28,9 +28,9 @@ fn four_at(bytes: &[u8], place: usize) -> u32
     ])
 }
 
-// Returns the number that the eight bytes at a place spell.
+/// Returns the number that the eight bytes at a place spell.
 #[inline(always)]
-fn eight_at(bytes: &[u8], place: usize) -> u64
+pub(crate) fn eight_at(bytes: &[u8], place: usize) -> u64
     requires { place + 8 ≤ length bytes.now }
     ensures spelled { result ≡ from_le_bytes w64 (take 8 (drop place bytes.now)) }
     ensures spelling { to_le_bytes w64 result ≡ take 8 (drop place bytes.now) }
