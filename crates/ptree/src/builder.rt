@@ -1,7 +1,7 @@
 //! Builds a tree item by item.
 ghost use Rattle.std.specs.Borrow.{sem};
-ghost use Rattle.std.specs.Prelude.{if◌then◌else◌, ◌≡◌, ◌↔◌, ◌⊎◌, ◌<◌, ◌+◌, ◌++◌, [], ◌∷◌, suc, map, IfOk, OnOk, OnErr, IsErrOf, string_bytes};
-ghost use Rattle.ptree.specs.Outline.{Line, line, outline, IsOutline, Steps};
+ghost use Rattle.std.specs.Prelude.{Bool, false, if◌then◌else◌, ◌≡◌, ◌↔◌, ◌⊎◌, ◌<◌, ◌+◌, ◌++◌, [], ◌∷◌, suc, map, IfOk, OnOk, OnErr, IsErrOf, string_bytes};
+ghost use Rattle.ptree.specs.Outline.{Line, line, outline, IsOutline, StartsAtMost, Steps};
 ghost use Rattle.ptree.specs.Rows.{IsRow};
 ghost use Rattle.ptree.specs.Tree.{Tree, tree_of};
 
@@ -304,6 +304,7 @@ fn count_at(counts: &[usize], place: usize) -> usize {
 }
 
 // Returns the trees at the front that are one level below `above`, and the lines after them.
+#[cycle(row)]
 fn row_from_outline<'a, T: OutlineLine>(
     alloc: Global,
     lines: &'a [T],
@@ -321,9 +322,38 @@ fn row_from_outline<'a, T: OutlineLine>(
             break;
         }
         let text = String::from_str(alloc, first.text())?;
-        let (children, after) = row_from_outline(alloc, tail, level, counts)?;
+        let (children, after) = row_below(alloc, tail, level, counts)?;
         items.push(StringItem { text, children })?;
         rest = after;
     }
     Ok((items, rest))
+}
+
+// Does what `row_from_outline` does. Most items are leaves, and take no further call.
+#[cycle(row)]
+#[inline(always)]
+fn row_below<'a, T: OutlineLine>(
+    alloc: Global,
+    lines: &'a [T],
+    above: u32,
+    counts: &[usize],
+) -> Result<(Vec<StringItem>, &'a [T]), AllocError>
+    requires steps { Steps above (map T.line lines.now) }
+    ensures { IfOk result (λ r. IsRow T.line above lines.now r.0.items r.1.now) }
+{
+    if !starts_below(lines, above) {
+        return Ok((Vec::new(alloc), lines));
+    }
+    row_from_outline(alloc, lines, above, counts)
+}
+
+// Whether the first line is below a level.
+#[inline(always)]
+fn starts_below<T: OutlineLine>(lines: &[T], above: u32) -> bool
+    ensures { result ≡ false → StartsAtMost above (map T.line lines.now) }
+{
+    match lines.first() {
+        Some(line) => line.level() > above,
+        None => false,
+    }
 }
