@@ -1,4 +1,5 @@
--- Graphs expanded once: a tree of occurrences is one by addresses exactly where the row below its root is.
+-- Graphs expanded once: a tree of occurrences is one by addresses exactly where the row below its
+-- root is.
 use Rattle.std.specs.Prelude.{slice_get, option_and_then, ◌↔◌, ◌≢◌, IsTrue, if◌then◌else◌, nat_lt}
 use Rattle.std.proofs.Common.{◌≡◌, ℕ, zero, suc, ◌<◌, ◌⊎◌, inl, inr, Bool, List, [], ◌∷◌, map, Option, Some, None, length, refl, sym, ap, subst, ◌∙◌, arith}
 use Rattle.std.proofs.lemmas.Bool.{lt-ltb, le-ltb, cases_lt}

@@ -38,6 +38,7 @@ each_style_field Strikethrough = at all_style_fields Strikethrough 9 refl refl
 abbrev painted : Part → List Field
 painted part = map (Paint part) all_style_fields
 
+-- each field of a part's style is among the fields of that style
 in_part : (part : Part) (field : StyleField) → Contains (painted part) (Paint part field)
 in_part part field = Contains-map (Paint part) all_style_fields field (each_style_field field)
 

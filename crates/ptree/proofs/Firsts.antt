@@ -1,4 +1,5 @@
--- Of the occurrences of one node above the depth exactly the first has its neighbours below it, and a node without neighbours is never repeated.
+-- Of the occurrences of one node above the depth exactly the first has its neighbours below it, and
+-- a node without neighbours is never repeated.
 use Rattle.std.specs.Prelude.{◌≢◌, if◌then◌else◌, nat_lt}
 use Rattle.std.proofs.Common.{◌≡◌, ℕ, ◌<◌, inl, inr, Bool, true, false, List, [], ◌∷◌, map, length, refl, sym, ap, ◌∙◌, arith}
 use Rattle.std.proofs.lemmas.Bool.{lt-ltb, le-ltb, cases_lt}

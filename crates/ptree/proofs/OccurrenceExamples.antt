@@ -9,7 +9,8 @@ use Rattle.ptree.specs.Occurrence.{OccurrenceTree, occurrence, none, item}
 abbrev occurrences_from_0 : List (ℕ × ℕ) → ℕ → OccurrenceTree
 occurrences_from_0 edges depth = (grow (neighbors_of edges) depth (replicate 5 false) 0).occurrence
 
--- 0 over 1 and 2, 1 over 2 and 3, and 4 below 2 and 3; a node's neighbours are its newest edges first
+-- 0 over 1 and 2, 1 over 2 and 3, and 4 below 2 and 3; a node's neighbours are its newest edges
+-- first
 abbrev shared : List (ℕ × ℕ)
 shared = (0, 2) ∷ (0, 1) ∷ (1, 3) ∷ (1, 2) ∷ (2, 4) ∷ (3, 4) ∷ []
 
@@ -18,10 +19,12 @@ once : occurrences_from_0 shared 9
     ≡ occurrence 0 false (item 1 false (item 2 false (item 4 false none none) (item 3 false (item 4 false none none) none)) (item 2 true none none))
 once = refl
 
--- to level 2: 0 [1 [2, 3], 2 [4]]. At level 2 nothing stands below 2, so its later occurrence has its neighbours
+-- to level 2: 0 [1 [2, 3], 2 [4]]. At level 2 nothing stands below 2, so its later occurrence has
+-- its neighbours
 cut : occurrences_from_0 shared 2 ≡ occurrence 0 false (item 1 false (item 2 false none (item 3 false none none)) (item 2 false (item 4 false none none) none))
 cut = refl
 
+-- at depth 0 the start is alone, and not repeated
 alone : occurrences_from_0 shared 0 ≡ occurrence 0 false none
 alone = refl
 
@@ -34,7 +37,8 @@ cycle = refl
 parallel : occurrences_from_0 ((0, 1) ∷ (0, 1) ∷ (1, 2) ∷ []) 9 ≡ occurrence 0 false (item 1 false (item 2 false none none) (item 1 true none none))
 parallel = refl
 
--- 3 comes first at the depth, below 2, and then at level 1, where its neighbours stand: 0 [1 [2 [3]], 3 [4]]
+-- 3 comes first at the depth, below 2, and then at level 1, where its neighbours stand: 0 [1 [2
+-- [3]], 3 [4]]
 late : occurrences_from_0 ((0, 3) ∷ (0, 1) ∷ (1, 2) ∷ (2, 3) ∷ (3, 4) ∷ []) 3
     ≡ occurrence 0 false (item 1 false (item 2 false (item 3 false none none) none) (item 3 false (item 4 false none none) none))
 late = refl

@@ -1,4 +1,5 @@
--- A graph expanded once: what the recursion makes meets the definition by addresses, and nothing else does.
+-- A graph expanded once: what the recursion makes meets the definition by addresses, and nothing
+-- else does.
 use Rattle.std.specs.Prelude.{slice_set, ◌↔◌, IsTrue, if◌then◌else◌, nat_lt}
 use Rattle.std.proofs.Common.{◌≡◌, ℕ, zero, suc, ◌<◌, ◌≤◌, ◌⊎◌, inl, inr, Bool, true, false, List, [], ◌∷◌, length, refl, sym, ap, subst, ◌∙◌, arith}
 use Rattle.std.proofs.lemmas.Bool.{false≢true, lt-ltb, cases_lt}

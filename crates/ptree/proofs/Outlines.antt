@@ -37,6 +37,8 @@ rows_higher : (l : Line) (o : List Line) (k : ℕ) → l.level < k → rows (l �
 unfolding rows
 rows_higher l o k h = rw (le-ltb k l.level (omega arith), ne_eqb k l.level (omega arith)) refl
 
+-- what the lines of a forest at level n leave: the later lines' forests below n, the two joined at
+-- n, and none above
 record Rows (n : ℕ) (f : Forest) (o : List Line) : Type 0 where
   lower : (k : ℕ) → k < n → rows (outline_at n f ++ o) k ≡ rows o k
   here : rows (outline_at n f ++ o) n ≡ join f (rows o n)

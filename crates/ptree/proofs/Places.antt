@@ -191,19 +191,23 @@ seen_none zero w = refl
 seen_none (suc k) zero = refl
 seen_none (suc k) (suc w) = seen_none k w
 
+-- unset flags after a list do not change which nodes are seen
 seen_front : (xs : List Bool) (k w : ℕ) → is_seen (xs ++ replicate k false) w ≡ is_seen xs w
 seen_front [] k w = seen_none k w
 seen_front (x ∷ xs) k zero = refl
 seen_front (x ∷ xs) k (suc w) = seen_front xs k w
 
+-- the flags of all nodes say the same as those without the unset ones at the end
 pub seen_all : (n : ℕ) (seen : List Bool) (w : ℕ) → is_seen (all_flags n seen) w ≡ is_seen seen w
 seen_all n seen w = seen_front seen (n - length seen) w
 
+-- a flag that is set in the first of two lists leaves the second
 set_front : (xs ys : List Bool) (v : ℕ) (b : Bool) → v < length xs → slice_set (xs ++ ys) v b ≡ slice_set xs v b ++ ys
 set_front [] ys v b h = absurd (omega arith)
 set_front (x ∷ xs) ys zero b h = refl
 set_front (x ∷ xs) ys (suc v) b h = ap (λ l. x ∷ l) (set_front xs ys v b (omega arith))
 
+-- setting a flag leaves the number of flags
 length_slice_set : (xs : List Bool) (v : ℕ) (b : Bool) → length (slice_set xs v b) ≡ length xs
 length_slice_set [] v b = refl
 length_slice_set (x ∷ xs) zero b = refl

@@ -43,6 +43,8 @@ at-append kids x y (i ∷ a) b h = step kids y (slice_get (kids x) i) a b (λ c.
 
 -- ## Lists
 
+-- a member of a list that keeps its first element or not is that element, and then it is kept, or
+-- one of the others
 in_cond : (k : Bool) (a x : Address) (xs : List Address) → In a (cond k (x ∷ xs) xs) → ((x ≡ a) × (k ≡ true)) ⊎ In a xs
 in_cond true a x xs (inl e) = inl (e, refl)
 in_cond true a x xs (inr h) = inr h
@@ -54,6 +56,7 @@ cond_in true a x xs f h = h
 cond_in false a x xs f (inl e) = let no_way = f e in absurd (cc)
 cond_in false a x xs f (inr h) = h
 
+-- a member of the filtered list is a member that passes the test
 in_filter : (p : Address → Bool) (a : Address) (xs : List Address) → In a (filter p xs) → In a xs × (p a ≡ true)
 in_filter p a [] h = absurd h
 in_filter p a (x ∷ xs) h = elim (in_cond (p x) a x (filter p xs) h) [
@@ -67,6 +70,7 @@ filter_in p a [] h k = absurd h
 filter_in p a (x ∷ xs) (inl e) k = cond_in (p x) a x (filter p xs) (λ q. ap p q ∙ k) (inl e)
 filter_in p a (x ∷ xs) (inr h) k = cond_in (p x) a x (filter p xs) (λ q. ap p q ∙ k) (inr (filter_in p a xs h k))
 
+-- an address of a list with a common start is that start and an address of the list
 in_behind : (a b : Address) (xs : List Address) → In b (map (λ c. a ++ c) xs) → (c : Address) × (a ++ c ≡ b) × In c xs
 in_behind a b [] h = absurd h
 in_behind a b (x ∷ xs) (inl e) = (x, e, inl refl)

@@ -25,33 +25,41 @@ use Rattle.ptree.specs.Pieces.{mark_of}
 use Rattle.ptree.specs.Style.{style_value}
 use Rattle.ptree.specs.Tree.{Forest, none, item, Tree, tree, tree_of}
 
+-- two tests decide two facts, so their conjunction decides both
 both : {P Q : Type 0} {x y : Bool} → IsTrue x ↔ P → IsTrue y ↔ Q → IsTrue (x && y) ↔ (P × Q)
 both {x = x} {y = y} p q = (λ h. (p.0 (and_parts x y h).0, q.0 (and_parts x y h).1), λ h. and_from x y (p.1 h.0) (q.1 h.1))
 
+-- the test of booleans decides whether they are equal
 bools : (a b : Bool) → IsTrue (beq a b) ↔ (a ≡ b)
 bools true true = (λ _. refl, λ _. refl)
 bools true false = (λ h. sym h, λ h. sym h)
 bools false true = (λ h. h, λ h. h)
 bools false false = (λ _. refl, λ _. refl)
 
+-- the test of numbers decides whether they are equal
 numbers : (a b : ℕ) → IsTrue (a == b) ↔ (a ≡ b)
 numbers a b = (λ h. eqb-true a b h, λ h. eq-eqb a b h)
 
+-- the test of texts decides whether they are equal
 texts : (a b : List ℕ) → IsTrue (bytes_eq a b) ↔ (a ≡ b)
 texts a b = let decides = bytes_eq-Decides a b in (λ h. decides.0 h, λ h. decides.1 h)
 
+-- the test of `StyleWhen` decides whether two values are equal
 whens : (a b : StyleWhen) → IsTrue (sameb the_type a b) ↔ (a ≡ b)
 whens a b = search rules
 
+-- the test of colours decides whether they hold the same
 color_decided : (a b : Color) → IsTrue (same_color a b) ↔ (color_value a ≡ color_value b)
 color_decided a b = search rules
 
+-- the test of optional colours decides whether they hold the same
 sides : (a b : Option Color) → IsTrue (option_eq same_color a b) ↔ (option_map color_value a ≡ option_map color_value b)
 sides None None = (λ _. refl, λ _. refl)
 sides None (Some b) = (λ h. cc, λ h. cc)
 sides (Some a) None = (λ h. cc, λ h. cc)
 sides (Some a) (Some b) = (λ h. ap Some ((color_decided a b).0 h), λ h. (color_decided a b).1 cc)
 
+-- the test of characters decides whether they are equal
 characters_decided : (a b : Characters) → IsTrue (same_characters a b) ↔ (a ≡ b)
 characters_decided a b = search rules
 
@@ -91,6 +99,7 @@ config_decided a b =
       λ e. h.1 (((((((ap (λ v. v.depth) e, ap (λ v. v.indent) e), ap (λ v. v.padding) e), ap (λ v. v.styled) e), ap (λ v. v.characters) e), ap (λ v. v.branch) e), ap (λ v. v.leaf) e), ap (λ v. v.continued) e),
     )
 
+-- the test of lists of trees decides whether they are equal
 forest_decided : (f g : Forest) → Decides (same_forest f g) (f ≡ g)
 forest_decided none none = (λ e. refl, λ e. refl)
 forest_decided none (item u d s) = (λ e. absurd (false≢true e), λ e. absurd cc)

@@ -1,4 +1,5 @@
--- The occurrences of a graph expanded once by recursion, as private functions say them. Public contracts say them by addresses.
+-- The occurrences of a graph expanded once by recursion, as private functions say them. Public
+-- contracts say them by addresses.
 use Rattle.std.specs.Prelude.{◌≡◌, ℕ, zero, suc, ◌+◌, ◌-◌, ◌^◌, ◌<◌, Bool, true, false, if◌then◌else◌, List, [], ◌∷◌, ◌++◌, length, drop, replicate, unwrap_or, slice_get, slice_set}
 use Rattle.ptree.specs.declared.graph.places.Place.{Place}
 use Rattle.ptree.specs.Occurrence.{OccurrenceTree, occurrence, none, row, is_repeated_size, size_below, trees_in}

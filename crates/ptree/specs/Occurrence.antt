@@ -1,4 +1,5 @@
--- A graph as a tree in which each node is expanded once: its neighbours stand below one of its occurrences, and the others are leaves.
+-- A graph as a tree in which each node is expanded once: its neighbours stand below one of its
+-- occurrences, and the others are leaves.
 use Rattle.std.specs.Prelude.{◌≡◌, ◌≢◌, ◌↔◌, IsTrue, ℕ, zero, suc, ◌+◌, ◌-◌, ◌^◌, ◌<◌, Bool, true, false, if◌then◌else◌, nat_lt, List, [], ◌∷◌, ◌++◌, length, drop, map, count_by, Some, option_map, unwrap_or, slice_get}
 use Rattle.ptree.specs.declared.graph.Graph.{Graph}
 use Rattle.ptree.specs.declared.graph.places.Occurrence.{Occurrence}
@@ -8,7 +9,8 @@ use Rattle.ptree.specs.Graph.{weights_of}
 use Rattle.ptree.specs.Shape.{Shape, unfolded_shape}
 use Rattle.ptree.specs.Style.{StyleValue, painted_text}
 
--- Occurrences side by side: none, or a node's number, whether it is repeated and what is below it, and then the occurrences after it.
+-- Occurrences side by side: none, or a node's number, whether it is repeated and what is below it,
+-- and then the occurrences after it.
 pub data Occurrences : Type 0 where
   none : Occurrences
   item : (node : ℕ) (repeated : Bool) (children rest : Occurrences) → Occurrences
@@ -45,8 +47,9 @@ StandsAt t a p = at occurrence_kids t a ≡ Some p
 abbrev pub IsExpandedBefore : OccurrenceTree → Address → ℕ → Type 0
 IsExpandedBefore t a v = (b : Address) × (q : OccurrenceTree) × StandsAt t b q × (q.node ≡ v) × (occurrence_kids q ≢ []) × Before b a
 
--- The graph expanded once, from start down to depth. An occurrence is repeated exactly where an earlier one of its node has something
--- below it. Below one that isn't repeated, and is above the depth, stand its node's neighbours in order; below any other stands nothing.
+-- The graph expanded once, from start down to depth. An occurrence is repeated exactly where an
+-- earlier one of its node has something below it. Below one that isn't repeated, and is above the
+-- depth, stand its node's neighbours in order; below any other stands nothing.
 pub record IsExpandedOnce (below : ℕ → List ℕ) (start depth : ℕ) (t : OccurrenceTree) : Type 0 where
   pub root : t.node ≡ start
   pub repeated : (a : Address) (p : OccurrenceTree) → StandsAt t a p → IsTrue p.repeated ↔ IsExpandedBefore t a p.node
@@ -70,7 +73,8 @@ LeavesUnrepeated below t = (a : Address) (p : OccurrenceTree) → StandsAt t a p
 abbrev pub IsMetBefore : ℕ → OccurrenceTree → Address → ℕ → Type 0
 IsMetBefore depth t a v = (b : Address) × (q : OccurrenceTree) × StandsAt t b q × (q.node ≡ v) × (length b < depth) × Before b a
 
--- of the occurrences above the depth of a node with neighbours, exactly the first has something below it
+-- of the occurrences above the depth of a node with neighbours, exactly the first has something
+-- below it
 abbrev pub ExpandsFirst : (ℕ → List ℕ) → ℕ → OccurrenceTree → Type 0
 ExpandsFirst below depth t =
     (a : Address) (p : OccurrenceTree) → StandsAt t a p → length a < depth → below p.node ≢ []
@@ -104,8 +108,9 @@ abbrev pub size_below : ℕ → ℕ
 size_below zero = 0
 size_below (suc n) = n
 
--- The trees that the places at the front are, as many of them as `left` places make, in at most so many steps. A place is a tree together
--- with those after it that stand below it by its size, and the next tree begins after these.
+-- The trees that the places at the front are, as many of them as `left` places make, in at most so
+-- many steps. A place is a tree together with those after it that stand below it by its size, and
+-- the next tree begins after these.
 abbrev pub trees_by : (steps left : ℕ) → List Place → List OccurrenceTree
 trees_by zero left ps = []
 trees_by (suc n) zero ps = []
@@ -117,7 +122,8 @@ trees_by (suc n) (suc left) (p ∷ ps) =
 abbrev pub trees_in : ℕ → List Place → List OccurrenceTree
 trees_in left ps = trees_by (length ps) left ps
 
--- the tree that begins with the first place; where there is none, a node of a number that no graph has
+-- the tree that begins with the first place; where there is none, a node of a number that no graph
+-- has
 abbrev pub tree_at_front : List Place → OccurrenceTree
 tree_at_front [] = occurrence (2 ^ 64 - 1) false none
 tree_at_front (p ∷ ps) = occurrence p.node.0 (is_repeated_size p.size) (row (trees_in (size_below p.size) ps))
@@ -134,7 +140,8 @@ occurrence_at o i = tree_at_front (drop i o.places.items)
 abbrev pub mark_text : List ℕ → Bool → List ℕ
 mark_text mark r = if r then mark else []
 
--- what an occurrence writes: its node's text and the mark, painted as one, and nothing where there is no such node
+-- what an occurrence writes: its node's text and the mark, painted as one, and nothing where there
+-- is no such node
 abbrev pub occurrence_own : {N : Type 0} → (N → List ℕ) → Graph N → List ℕ → OccurrenceTree → StyleValue → List ℕ
 occurrence_own text g mark p style =
     unwrap_or (option_map (λ w. painted_text style (text w ++ mark_text mark p.repeated)) (slice_get (weights_of g) p.node)) []

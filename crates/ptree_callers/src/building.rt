@@ -18,7 +18,8 @@ pub fn added(builder: &mut TreeBuilder, level: u32, text: String) -> bool
     builder.add_at_level(level, text).is_ok()
 }
 
-/// Adds a sibling of the current item, or where that is the root a child of it. The level is never the fault.
+/// Adds a sibling of the current item, or a child of it if it is the root. The level is never
+/// refused.
 pub fn add_sibling(builder: &mut TreeBuilder, text: String) -> Result<(), AddError>
     ensures outline { OnOk result
         (builder.new.outline

@@ -11,7 +11,8 @@ use ptree::style::{Counted, Sink};
 use ptree::value::{DocError, DocFormat, Value, draw_document_with};
 use std::alloc::{AllocError, Global};
 
-/// The drawing of a document, in memory. Where there is one, the document has a value, and the drawing is that of the label and it.
+/// The drawing of a document, in memory. If it is returned, the document has a value, and the
+/// drawing is that of the label and the value.
 pub fn drawing_of_document(
     alloc: Global,
     format: DocFormat,
@@ -28,7 +29,7 @@ pub fn drawing_of_document(
     Ok(out.into_inner())
 }
 
-/// Draws a document. Where all of it was drawn, it has a value, and in each of its tables the keys ascend.
+/// Draws a document. If all of it was drawn, it has a value, and the keys of each table ascend.
 pub fn draw_sorted<W: Sink>(
     alloc: Global,
     format: DocFormat,

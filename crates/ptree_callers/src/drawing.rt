@@ -15,7 +15,8 @@ use ptree::style::{DrawError, Sink, put_all};
 use std::alloc::Global;
 use std::io;
 
-/// Draws to any sink. Where memory runs out, the sink holds whole entries: a reader of it can go on at a line.
+/// Draws to any sink. If memory runs out, the sink holds whole entries, so a reader can continue at
+/// a line.
 pub fn draw_whole_entries<W: Sink>(
     alloc: Global,
     tree: &StringItem,
@@ -60,8 +61,9 @@ pub fn put_text<W: Sink>(f: &mut W, text: &str) -> Result<(), DrawError>
     put_all(f, text.as_bytes())
 }
 
-/// Prints where output is never styled: the drawing is that of any other sink, whatever this one says of itself. After an error the sink
-/// holds a beginning of it, and whole entries where memory ran out.
+/// Prints with output that is never styled: the drawing is that for any other sink, even if this
+/// one is a terminal. After an error the sink holds a prefix of it, and whole entries if memory ran
+/// out.
 pub fn print_unstyled<W: Sink + io::IsTerminal>(
     alloc: Global,
     tree: &StringItem,

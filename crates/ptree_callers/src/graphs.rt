@@ -48,7 +48,8 @@ pub fn needs(graph: &Graph<Package>, which: NodeIndex) -> Result<Vec<NodeIndex>,
     graph.neighbors(which)
 }
 
-/// The packages that need a package directly, in place of those that it needs. The graph is turned round, which takes no memory.
+/// The packages that need a package directly, in place of those that it needs. Reversing the graph
+/// does not allocate.
 pub fn needed_by(graph: Graph<Package>, which: NodeIndex) -> Result<Vec<NodeIndex>, AllocError>
     ensures { IfOk result (λ v.
         map (λ n. n.0) v.items ≡ neighbors_of (map turned (edges_of graph)) which.0) }
@@ -65,8 +66,8 @@ pub fn turned_twice(graph: Graph<Package>) -> Graph<Package>
     graph.reversed().reversed()
 }
 
-/// Each package's needs once. There is one tree of them and no other, and there is one occurrence more than there are needs of packages that
-/// are expanded.
+/// Each package's needs once. There is one tree of them and no other, and there is one occurrence
+/// more than there are needs of packages that are expanded.
 pub fn needs_once(graph: &Graph<Package>, which: NodeIndex) -> Result<Occurrence, AllocError>
     ensures tree { IfOk result (λ o.
         IsExpandedOnce (neighbors_of (edges_of graph.now)) which.0 9 (occurrence_tree o)) }
@@ -79,8 +80,8 @@ pub fn needs_once(graph: &Graph<Package>, which: NodeIndex) -> Result<Occurrence
     graph.expanded_once(which, 9)
 }
 
-/// The same, of a package that needs something: of its occurrences above the depth, the first has its needs below it, and the others have
-/// nothing.
+/// The same, of a package that needs something: of its occurrences above the depth, the first has
+/// its needs below it, and the others have nothing.
 pub fn first_needs_once(graph: &Graph<Package>, which: NodeIndex) -> Result<Occurrence, AllocError>
     requires { neighbors_of (edges_of graph.now) which.0 ≢ [] }
     ensures { IfOk result (λ o. (a : Address) (p : OccurrenceTree) → StandsAt (occurrence_tree o) a p
@@ -111,7 +112,8 @@ pub fn marked<'a>(graph: &'a Graph<Package>, occurrence: &'a Occurrence) -> Expa
     }
 }
 
-/// Writes what stands at a place of a graph that is expanded: the package's name, and the mark if it is repeated.
+/// Writes the item of a place of an expanded graph: the package's name, and the mark if it is
+/// repeated.
 pub fn write_need<W: Sink>(
     alloc: Global,
     expanded: &Expanded<'_, Package>,

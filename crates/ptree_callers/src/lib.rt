@@ -1,5 +1,5 @@
-//! What callers of `ptree` learn from its contracts: small functions, each with a contract of its own that is proved from those of the
-//! calls that it makes.
+//! What callers of `ptree` learn from its contracts: small functions, each with a contract of its
+//! own that is proved from those of the calls that it makes.
 #![tactic(auto)]
 
 pub mod building;

@@ -16,7 +16,8 @@ use ptree::print_config::{
 use ptree::style::{Counted, DrawError};
 use std::alloc::{AllocError, Global};
 
-/// The configuration of sources, or what is wrong with them: where there is no fault, `from_env` returns what they say.
+/// The configuration of sources, or their first fault: if there is no fault, `from_env` returns
+/// their configuration.
 pub fn load_or_fault(
     alloc: Global,
     sources: &Sources,
@@ -38,7 +39,7 @@ pub fn has_bad_syntax(alloc: Global, file: &FileSource) -> Result<bool, AllocErr
     Ok(syntax_line(alloc, file)?.is_some())
 }
 
-/// The value of a variable of exactly this name, the last one of them, and where there is none this one.
+/// The value of the last variable of exactly this name, or else the given value.
 pub fn value_or<'a>(name: &str, variables: &'a [(String, String)], otherwise: &'a str) -> &'a str
     ensures { result.now
         ≡ unwrap_or (last_value Spelling.Exact name.now (variables_of variables.now)) otherwise.now }
@@ -70,8 +71,8 @@ where
     Ok(out.into_inner())
 }
 
-/// The drawing of any item where there is no file, and no variable of a field: the default gives it, and every level is drawn that there
-/// can be.
+/// The drawing of any item without a file, and without a variable of a field: that under the
+/// default, with every level that there can be.
 pub fn drawing_unset<T>(alloc: Global, item: &T, sources: &Sources) -> Result<Vec<u8>, AllocError>
 where
     T: TreeItem,

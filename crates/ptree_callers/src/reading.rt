@@ -72,7 +72,8 @@ pub fn drawn_anew_by_lines(
     Ok(tree.drawing(alloc, config)?)
 }
 
-/// The first wrong line of a text that is no drawing, and none where it is one or ends too early. Before it stands no other wrong line.
+/// The first wrong line of a text that is no drawing, or none if it is a drawing or is incomplete.
+/// No line before it is wrong.
 pub fn wrong_line(
     alloc: Global,
     text: &str,
@@ -135,8 +136,8 @@ const TREE: StaticIndentChars = StaticIndentChars {
     empty: "    ",
 };
 
-/// Reads what `tree --noreport` writes. Indent, padding and characters are constants here, so that the pieces are known to be readable,
-/// and no test is needed.
+/// Reads what `tree --noreport` writes. Indent, padding and characters are constants here, so that
+/// the pieces are known to be readable, and no test is needed.
 pub fn read_listing(alloc: Global, text: &str) -> Result<Option<StringItem>, AllocError> {
     let mut config = PrintConfig::default(alloc)?;
     config.indent = 0;

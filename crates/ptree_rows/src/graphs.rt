@@ -6,7 +6,8 @@ use ptree::graph::{EdgeError, Graph, NodeIndex, REPEATED_MARK};
 use std::alloc::Global;
 use std::mem;
 
-/// A graph of texts, the node that it is drawn from, and the mark of repeated nodes, if it isn't the default one.
+/// A graph of texts, the node that it is drawn from, and the mark of repeated nodes, if it isn't
+/// the default one.
 #[derive(Drop)]
 pub struct Nodes {
     pub graph: Graph<String>,
@@ -58,7 +59,8 @@ impl Nodes {
         }
     }
 
-    /// Adds a `node`, sets the `start` or the `mark`, or turns all edges round, as `reversed` says. Returns whether the word is one of these.
+    /// Adds a `node`, sets the `start` or the `mark`, or turns all edges round, as `reversed` says.
+    /// Returns whether the word is one of these.
     pub fn call(&mut self, alloc: Global, word: &str, body: &str) -> Result<bool, Trouble> {
         match word {
             "node" => {

@@ -1,10 +1,10 @@
 //! What both conversions share: making an entry, and why a document's value cannot be converted.
-ghost use Rattle.std.specs.Prelude.{◌≡◌, [], ◌∷◌, ◌++◌, map, OnOk, string_bytes};
+ghost use Rattle.std.specs.Prelude.{◌≡◌, [], ◌∷◌, ◌++◌, map, OnOk};
 ghost use Rattle.ptree.specs.Data.{string};
 ghost use Rattle.ptree.specs.Value.{data_of, entry_meant};
 
 use super::Value;
-use std::alloc::{AllocError, AllocFailed};
+use std::alloc::{AllocError, AllocFailed, Global};
 use std::error::Error;
 use std::fmt;
 
@@ -59,14 +59,15 @@ impl Error for ConvertError {}
 // Puts a value under a key of its own.
 #[inline(always)]
 pub(super) fn push_entry(
+    alloc: Global,
     entries: &mut Vec<(Value, Value)>,
-    key: &String,
+    key: &str,
     value: Value,
 ) -> Result<(), AllocError>
     ensures { OnOk result (map entry_meant entries.new.items
         ≡ map entry_meant entries.old.items
-        ++ (string (string_bytes key.now), data_of value) ∷ []) }
+        ++ (string key.now, data_of value) ∷ []) }
 {
-    entries.push((Value::String(key.clone()?), value))?;
+    entries.push((Value::String(String::from_str(alloc, key)?), value))?;
     Ok(())
 }

@@ -126,7 +126,7 @@ fn entries_of(
 {
     let mut entries = Vec::with_capacity(alloc, members.len())?;
     for (key, member) in members.iter() {
-        push_entry(&mut entries, key, value_of(alloc, member)?)?;
+        push_entry(alloc, &mut entries, key.as_str(), value_of(alloc, member)?)?;
     }
     Ok(entries)
 }

@@ -1,4 +1,4 @@
-use Rattle.std.proofs.Common.{rules, arith, ◌≡◌, ◌∙◌, ap, refl, false, map, string_bytes}
+use Rattle.std.proofs.Common.{rules, arith, ◌≡◌, ◌∙◌, ap, refl, false, map}
 use Rattle.ptree.specs.declared.value.Value.{the_lemmas}
 use Rattle.std.proofs.lemmas.Grind.{common_steps}
 use Rattle.std.proofs.lemmas.List.{take_all}
@@ -23,8 +23,8 @@ entries_of-loop-key-preserved t c =
     let later : members_have_float (members_view left) ≡ false = search rules in
     let value = c.in_ok-value_of.field-0 in
     let made = made_more (member_data (λ v. json_data (view v))) c.args.members.now.entries l.key-iterator left (c.in-Some.key.now, c.in-Some.member.now)
-    (map entry_meant l.entries.items) (map entry_meant c.push_entry.new.entries.items) (string (string_bytes c.in-Some.key.now), data_of value)
-    l.invariant.3 c.in-Some.ensures.steps (ap (λ d. (string (string_bytes c.in-Some.key.now), d)) c.in_ok-value_of.ensures) c.in_ok-push_entry.ensures in
+    (map entry_meant l.entries.items) (map entry_meant c.push_entry.new.entries.items) (string c.as_str.result.now, data_of value)
+    l.invariant.3 c.in-Some.ensures.steps (ap (λ d. (string c.as_str.result.now, d)) c.in_ok-value_of.ensures ∙ ap (λ k. (string k, json_data (view c.in-Some.member.now))) c.as_str.ensures.value) c.in_ok-push_entry.ensures in
     (tt, tt, later, made)
 
 pub entries_of-returns : goal.entries_of-returns

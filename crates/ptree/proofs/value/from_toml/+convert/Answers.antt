@@ -1,4 +1,4 @@
-use Rattle.std.proofs.Common.{rules, arith, ◌≡◌, ◌∙◌, ap, sym, refl, Option, Some, None, map, string_bytes}
+use Rattle.std.proofs.Common.{rules, arith, ◌≡◌, ◌∙◌, ap, sym, refl, Option, Some, None, map}
 use Rattle.std.specs.Option.{option_or}
 use Rattle.toml.proofs.Views.{items_view-drop}
 use Rattle.ptree.specs.declared.value.convert.ConvertError.{ConvertError}
@@ -25,8 +25,8 @@ entries_of-loop-key-preserved t c =
     let later : toml_member_fault (members_view left) ≡ None = search rules in
     let value = c.in_ok-value_of.field-0 in
     let made = made_more (member_data (λ v. toml_data (view v))) c.args.members.now.entries l.key-iterator left (c.in-Some.key.now, c.in-Some.member.now)
-    (map entry_meant l.entries.items) (map entry_meant c.push_entry.new.entries.items) (string (string_bytes c.in-Some.key.now), data_of value)
-    l.invariant.3 c.in-Some.ensures.steps (ap (λ d. (string (string_bytes c.in-Some.key.now), d)) c.in_ok-value_of.ensures) c.in_ok-push_entry.ensures in
+    (map entry_meant l.entries.items) (map entry_meant c.push_entry.new.entries.items) (string c.as_str.result.now, data_of value)
+    l.invariant.3 c.in-Some.ensures.steps (ap (λ d. (string c.as_str.result.now, d)) c.in_ok-value_of.ensures ∙ ap (λ k. (string k, toml_data (view c.in-Some.member.now))) c.as_str.ensures.value) c.in_ok-push_entry.ensures in
     (tt, tt, later, made)
 
 pub entries_of-returns : goal.entries_of-returns
