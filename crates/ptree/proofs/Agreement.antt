@@ -7,7 +7,7 @@ use Rattle.std.proofs.lemmas.List.Elements.{All-nil, All-cons}
 use Rattle.ptree.specs.declared.graph.Graph.{Graph}
 use Rattle.ptree.specs.Address.{Address}
 use Rattle.ptree.specs.Drawing.{Look, entry_from, IsDrawing}
-use Rattle.ptree.specs.Entries.{entry_of, kid_entries, entries_below, drawn_entries}
+use Rattle.ptree.specs.Entries.{shape_entry, kid_entries, entries_below, drawn_entries}
 use Rattle.ptree.specs.Graph.{weights_of, edges_of, neighbors_of, node_own, node_shape}
 use Rattle.ptree.specs.Occurrence.{OccurrenceTree, occurrence_kids, StandsAt, IsExpandedOnce, NoneRepeated, mark_text, occurrence_own, occurrence_shape}
 use Rattle.ptree.specs.Style.{StyleValue, painted_text}
@@ -50,15 +50,15 @@ module _ {N : Type 0} (text : N → List ℕ) (g : Graph N) (mark : List ℕ) wh
   same_own d style t h = own_of_occurrence style (slice_get (weights_of g) t.node) t.repeated (h.none_repeated [] t refl)
 
   -- and have the same entries below them
-  same_entries : (look : Look) (d : ℕ) (t : OccurrenceTree) → IsFull d t → (front : List ℕ) → entries_below look d front (occurrence_shape text g mark t) ≡ entries_below look d front (node_shape text g t.node)
-  same_entries look zero t h front = refl
-  same_entries look (suc d) t h front =
-      let entries = kid_entries look (entries_below look d) front in
+  same_entries : (look : Look) (d : ℕ) (t : OccurrenceTree) → IsFull d t → (outer : List ℕ) → entries_below look d outer (occurrence_shape text g mark t) ≡ entries_below look d outer (node_shape text g t.node)
+  same_entries look zero t h outer = refl
+  same_entries look (suc d) t h outer =
+      let entries = kid_entries look (entries_below look d) outer in
       let within : nat_lt 0 (suc d) ≡ true = lt-ltb 0 (suc d) (omega arith) in
       let nodes : map (λ (q : OccurrenceTree). q.node) (occurrence_kids t) ≡ under t.node = h.children [] t refl ∙ ap (λ b. if b then under t.node else []) within in
       ap entries (sym (kids_of_unfold (occurrence_own text g mark) occurrence_kids t))
       ∙ (kid_entries_alike look (entries_below look d) (occurrence_shape text g mark) (λ p. node_shape text g p.node) (IsFull d)
-      (λ p k. same_own d look.leaf p k) (λ p k. same_entries look d p k) front (occurrence_kids t) (all_at (IsFull d) (occurrence_kids t) (λ i c e. full_below d t c i h e))
+      (λ p k. same_own d look.leaf p k) (λ p k. same_entries look d p k) outer (occurrence_kids t) (all_at (IsFull d) (occurrence_kids t) (λ i c e. full_below d t c i h e))
       ∙ ap entries (map_twice (λ (p : OccurrenceTree). p.node) (node_shape text g) (occurrence_kids t) ∙ (ap (map (node_shape text g)) nodes ∙ kids_of_unfold (node_own text g) under t.node)))
 
   -- the definition gives that
@@ -75,5 +75,5 @@ module _ {N : Type 0} (text : N → List ℕ) (g : Graph N) (mark : List ℕ) wh
       let full = full_of_drawn start depth t h u in
       same_drawings look (occurrence_shape text g mark t) (node_shape text g start) depth depth
       (ap (λ own. entry_from look [] [] own ∷ entries_below look depth [] (occurrence_shape text g mark t)) (same_own depth look.leaf t full)
-      ∙ (ap (λ z. entry_of look [] [] (node_shape text g t.node) ∷ z) (same_entries look depth t full [])
+      ∙ (ap (λ z. shape_entry look [] [] (node_shape text g t.node) ∷ z) (same_entries look depth t full [])
       ∙ ap (λ v. drawn_entries look depth (node_shape text g v)) h.root))

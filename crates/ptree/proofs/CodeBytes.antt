@@ -5,7 +5,7 @@ use Rattle.std.specs.Fmt.{digits, digits_onto, digit_glyph}
 use Rattle.std.specs.List.{join_with_byte}
 use Rattle.std.proofs.lemmas.List.Elements.{All-nil, All-cons, All-append}
 use Rattle.ptree.specs.Codes.{joined_codes}
-use Rattle.ptree.specs.Style.{StyleValue, code, front_codes}
+use Rattle.ptree.specs.Style.{StyleValue, code, start_codes}
 use Rattle.ptree.proofs.CodeLists.{parameters_of}
 
 -- an ASCII byte greater than the line feed
@@ -20,7 +20,7 @@ AreCodeBytes bs = All IsCodeByte bs
 empty : AreCodeBytes []
 empty = All-nil IsCodeByte
 
--- so has one with a byte of codes in front
+-- so has one with a byte of codes at the start
 one_more : (b : ℕ) (bs : List ℕ) → IsCodeByte b → AreCodeBytes bs → AreCodeBytes (b ∷ bs)
 one_more b bs h k = All-cons IsCodeByte b bs h k
 
@@ -67,7 +67,7 @@ codes_are [] = empty
 codes_are (ps ∷ pss) = both (code ps) _ (code_is ps) (codes_are pss)
 
 -- the codes before a painted text are such bytes
-pub front_is : (style : StyleValue) → AreCodeBytes (front_codes style)
-front_is style =
+pub start_is : (style : StyleValue) → AreCodeBytes (start_codes style)
+start_is style =
     let h = parameters_of style in
     subst (λ cs. AreCodeBytes (joined_codes cs)) (sym h.1) (codes_are h.0)

@@ -1,17 +1,16 @@
 -- Codes, one after the other.
 use Rattle.std.proofs.Common.{◌≡◌, ℕ, ◌+◌, ◌<◌, ◌≤◌, Bool, true, List, [], ◌∷◌, ◌++◌, length, map, take, set, Option, Some, None, refl, ap, sym, ◌∙◌, append_assoc, arith}
 use Rattle.std.specs.Prelude.{filter, option_map, option_to_list, option_and_then}
-use Rattle.std.proofs.lemmas.List.{append-nil, length-set}
+use Rattle.std.proofs.lemmas.List.{append-nil, length-set, map-append}
 use Rattle.std.proofs.lemmas.Fmt.{decimal_digit}
 use Rattle.std.proofs.lemmas.Grind.{flat_map-append, take-set_at}
 use Rattle.std.proofs.lemmas.List.Elements.{filter-append}
-use Rattle.std.proofs.lemmas.List.{map-append}
 use Rattle.std.proofs.lemmas.Simd.{map-map}
 use Rattle.ptree.specs.Codes.{joined_codes}
 use Rattle.ptree.specs.declared.colors.Side.{Side}
 use Rattle.ptree.specs.declared.colors.Side.TheVariants.{Foreground, Background}
 use Rattle.ptree.specs.Color.{ColorValue, color_parameters}
-use Rattle.ptree.specs.Style.{StyleValue, code, flags, flag_codes, side_codes, style_codes, front_codes, reset_after, back_codes}
+use Rattle.ptree.specs.Style.{StyleValue, code, flags, flag_codes, side_codes, style_codes, start_codes, reset_after, end_codes}
 
 -- the codes of two lists of flags are those of the first and those of the second
 flag_codes-append : (xs ys : List (Bool × ℕ)) → joined_codes (flag_codes (xs ++ ys)) ≡ joined_codes (flag_codes xs) ++ joined_codes (flag_codes ys)
@@ -47,9 +46,9 @@ flag_set bytes at digit b t small room =
     pieces old d = simp append_assoc
 
 -- the codes before a painted text, piece by piece
-pub front_codes_are : (style : StyleValue) → front_codes style ≡ (joined_codes (flag_codes (flags style)) ++ joined_codes (side_codes style.foreground Foreground)) ++ joined_codes (side_codes style.background Background)
+pub start_codes_are : (style : StyleValue) → start_codes style ≡ (joined_codes (flag_codes (flags style)) ++ joined_codes (side_codes style.foreground Foreground)) ++ joined_codes (side_codes style.background Background)
 unfolding style_codes
-front_codes_are style =
+start_codes_are style =
     flat_map-append (λ c. c) (flag_codes (flags style) ++ side_codes style.foreground Foreground) (side_codes style.background Background)
     ∙ ap (λ bs. bs ++ joined_codes (side_codes style.background Background)) (flat_map-append (λ c. c) (flag_codes (flags style)) (side_codes style.foreground Foreground))
 
@@ -69,13 +68,13 @@ unfolding style_codes
 parameters_of style =
     let set = filter (λ (flag : Bool × ℕ). flag.0) (flags style) in
     let one = map (λ (flag : Bool × ℕ). flag.1 ∷ []) set in
-    let front = option_to_list (option_and_then (λ c. color_parameters c Foreground) style.foreground) in
-    let back = option_to_list (option_and_then (λ c. color_parameters c Background) style.background) in (
-      (one ++ front) ++ back,
+    let start = option_to_list (option_and_then (λ c. color_parameters c Foreground) style.foreground) in
+    let end = option_to_list (option_and_then (λ c. color_parameters c Background) style.background) in (
+      (one ++ start) ++ end,
       ap (λ cs. (cs ++ side_codes style.foreground Foreground) ++ side_codes style.background Background) (sym (map-map code (λ (flag : Bool × ℕ). flag.1 ∷ []) set))
           ∙ ap (λ cs. (map code one ++ cs) ++ side_codes style.background Background) (side_code style.foreground Foreground)
-          ∙ ap (λ cs. (map code one ++ map code front) ++ cs) (side_code style.background Background)
-          ∙ ap (λ cs. cs ++ map code back) (sym (map-append code one front)) ∙ sym (map-append code (one ++ front) back),
+          ∙ ap (λ cs. (map code one ++ map code start) ++ cs) (side_code style.background Background)
+          ∙ ap (λ cs. cs ++ map code end) (sym (map-append code one start)) ∙ sym (map-append code (one ++ start) end),
     )
 
 -- the reset is the same after the codes as one text and as a list
@@ -84,7 +83,7 @@ reset_is [] = refl
 reset_is (ps ∷ pss) = refl
 
 -- there is a reset exactly when there is a code
-pub back_codes_are : (style : StyleValue) → reset_after (front_codes style) ≡ back_codes style
-back_codes_are style =
+pub end_codes_are : (style : StyleValue) → reset_after (start_codes style) ≡ end_codes style
+end_codes_are style =
     let h = parameters_of style in
     ap (λ cs. reset_after (joined_codes cs)) h.1 ∙ reset_is h.0 ∙ ap reset_after (sym h.1)

@@ -11,7 +11,7 @@ use Rattle.std.proofs.lemmas.List.Quantifiers.{position-Some}
 use Rattle.std.specs.Str.{str_eq_ignore_ascii_case}
 use Rattle.ptree.specs.declared.colors.Tone.{Tone}
 use Rattle.ptree.specs.declared.colors.Tone.TheVariants.{Eight, Direct}
-use Rattle.ptree.specs.Color.{NamedColor, named_color, named_colors, color_words, word_tone, is_hex_name, hex_tone, table_tone, named_tone}
+use Rattle.ptree.specs.Color.{NamedColor, named_color, named_colors, basic_names, basic_tone, is_hex_name, hex_tone, table_tone, named_tone}
 use Rattle.ptree.specs.Codes.{IsOfEight, HasHexDigits}
 
 -- the result of `map` whose closure computes f
@@ -46,9 +46,9 @@ table_found name table e =
     ∙ ap (λ cs. option_map (λ c. Direct c.red c.green c.blue) (find (λ c. str_eq_ignore_ascii_case c.name name) cs)) e
 
 -- the place of a word is less than eight
-word_is_of_eight : (o : Option ℕ) → IfSome o (λ k. k < 8) → IfSome (option_map Eight o) IsOfEight
-word_is_of_eight None h = tt
-word_is_of_eight (Some k) h = h
+basic_is_of_eight : (o : Option ℕ) → IfSome o (λ k. k < 8) → IfSome (option_map Eight o) IsOfEight
+basic_is_of_eight None h = tt
+basic_is_of_eight (Some k) h = h
 
 -- the place of a found element is within the list
 position_within : {X : Type 0} (p : X → Bool) (xs : List X) (d : X) (o : Option ℕ) → position p xs ≡ o → IfSome o (λ k. k < length xs)
@@ -74,8 +74,8 @@ found_is_of_eight (Some c) = tt
 pub named_is_of_eight : (name : List ℕ) → IfSome (named_tone name) IsOfEight
 unfolding named_tone
 named_is_of_eight name =
-    either_is_of_eight (word_tone name) (option_or (hex_tone name) (table_tone name))
-    (word_is_of_eight _ (position_within (λ word. bytes_eq word name) color_words [] _ refl))
+    either_is_of_eight (basic_tone name) (option_or (hex_tone name) (table_tone name))
+    (basic_is_of_eight _ (position_within (λ word. bytes_eq word name) basic_names [] _ refl))
     (either_is_of_eight (hex_tone name) (table_tone name) (hex_is_of_eight (is_hex_name name) _ _ _) (found_is_of_eight _))
 
 -- one of the digits after `#`

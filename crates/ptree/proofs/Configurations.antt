@@ -14,16 +14,16 @@ use Rattle.ptree.specs.declared.print_config.fields.Part.TheVariants.{Branch, Le
 use Rattle.ptree.specs.declared.print_config.fields.StyleField.{StyleField}
 use Rattle.ptree.specs.declared.print_config.fields.StyleField.TheVariants.{Foreground, Background, Bold, Dimmed, Italic, Underline, Blink, Reverse, Hidden, Strikethrough}
 use Rattle.ptree.specs.declared.print_config.loader.Fault.TheVariants as fault
-use Rattle.ptree.specs.declared.print_config.words.Spelling.TheVariants.{AnyCase}
-use Rattle.ptree.specs.Characters.{Characters as CharacterTexts, set_spelled, utf}
+use Rattle.ptree.specs.declared.print_config.parse.Spelling.TheVariants.{AnyCase}
+use Rattle.ptree.specs.Characters.{Characters as CharacterTexts, parse_set, utf}
 use Rattle.ptree.specs.Color.{ColorValue}
-use Rattle.ptree.specs.Configuration.{Configuration, default_configuration}
+use Rattle.ptree.specs.Config.{ConfigValue, default_config}
 use Rattle.ptree.specs.Fields.{field_key, table_key, part_key, kind_of, all_fields, all_style_fields}
-use Rattle.ptree.specs.File.{Node, get, is_table, as_text, as_flag, whole_node, when_node, set_node, color_node}
-use Rattle.ptree.specs.Loading.{SayNothing, look_up, characters, style_of, configuration, text_fits, node_fits, fault_unless, table_fault, field_fault, first_of, fault_in, file_fault, unless_fault, meant_by, has_variable, is_dimmed}
+use Rattle.ptree.specs.File.{FileNode, get, is_table, as_text, as_flag, whole_node, when_node, set_node, color_node}
+use Rattle.ptree.specs.Loading.{SayNothing, look_up, characters, loaded_style, configuration, text_fits, node_fits, fault_unless, table_fault, field_fault, first_of, fault_in, file_fault, unless_fault, effective_config, has_variable, is_dimmed}
 use Rattle.ptree.specs.Sources.{Variables, Given, variable, table_at, node, document, variables_of}
 use Rattle.ptree.specs.Style.{StyleValue, plain_value}
-use Rattle.ptree.specs.Words.{when_spelled, flag_text, number_text, color_text}
+use Rattle.ptree.specs.Parse.{parse_when, parse_flag, parse_number, parse_color}
 
 -- variables without a file
 abbrev without_file : Variables → Given
@@ -45,7 +45,7 @@ unfolding node
 node_none variables field = ap (option_and_then (get (field_key field))) (table_none variables (table_key field))
 
 -- without a file and a variable a look-up finds nothing
-nothing_found : {A : Type 0} (by_text : List ℕ → Option A) (by_node : Node → Option A) (variables : Variables) → HasNone variables → (field : Field)
+nothing_found : {A : Type 0} (by_text : List ℕ → Option A) (by_node : FileNode → Option A) (variables : Variables) → HasNone variables → (field : Field)
     → look_up by_text by_node (without_file variables) field ≡ None
 nothing_found by_text by_node variables none field =
     ap (λ text. option_or (option_and_then by_text text) (option_and_then by_node (node (without_file variables) field))) (none field)
@@ -76,11 +76,11 @@ no_style : (foreground background : Option ColorValue) (bold dimmed italic under
 no_style foreground background bold dimmed italic underline blink reverse hidden strikethrough dimming a b c d e f g h i j = cc (a, b, c, d, e, f, g, h, i, j)
 
 -- the style of a part if no source sets it
-style_none : (variables : Variables) → HasNone variables → (part : Part) → style_of (without_file variables) part ≡ record plain_value { dimmed = is_dimmed (without_file variables) part }
-unfolding style_of
+style_none : (variables : Variables) → HasNone variables → (part : Part) → loaded_style (without_file variables) part ≡ record plain_value { dimmed = is_dimmed (without_file variables) part }
+unfolding loaded_style
 style_none variables none part =
-    let flag = λ (f : StyleField). nothing_found flag_text as_flag variables none (Paint part f) in
-    let color = λ (f : StyleField). nothing_found (λ value. Some (color_text value)) color_node variables none (Paint part f) in
+    let flag = λ (f : StyleField). nothing_found parse_flag as_flag variables none (Paint part f) in
+    let color = λ (f : StyleField). nothing_found (λ value. Some (parse_color value)) color_node variables none (Paint part f) in
     no_style _ _ _ _ _ _ _ _ _ _ (is_dimmed (without_file variables) part)
     (color Foreground) (color Background) (flag Bold) (flag Dimmed) (flag Italic) (flag Underline) (flag Blink) (flag Reverse) (flag Hidden) (flag Strikethrough)
 
@@ -94,30 +94,30 @@ branches_dimmed variables none =
 characters_none : (variables : Variables) → HasNone variables → characters (without_file variables) ≡ utf
 unfolding characters
 characters_none variables none =
-    cc (nothing_found (set_spelled AnyCase) set_node variables none Characters, none DownAndRight, none Down, none TurnRight, none Right, none Empty)
+    cc (nothing_found (parse_set AnyCase) set_node variables none Characters, none DownAndRight, none Down, none TurnRight, none Right, none Empty)
 
 -- a configuration whose fields are all missing is the default
 no_fields : (depth indent padding : Option ℕ) (styled : Option StyleWhen) (set : CharacterTexts) (branch leaf : StyleValue) (continued : Option (List ℕ))
-    → depth ≡ None → indent ≡ None → padding ≡ None → styled ≡ None → set ≡ utf → branch ≡ default_configuration.branch → leaf ≡ plain_value → continued ≡ None
-    → (let value : Configuration = record {
-      depth = unwrap_or depth default_configuration.depth;
-      indent = unwrap_or indent default_configuration.indent;
-      padding = unwrap_or padding default_configuration.padding;
-      styled = unwrap_or styled default_configuration.styled;
+    → depth ≡ None → indent ≡ None → padding ≡ None → styled ≡ None → set ≡ utf → branch ≡ default_config.branch → leaf ≡ plain_value → continued ≡ None
+    → (let value : ConfigValue = record {
+      depth = unwrap_or depth default_config.depth;
+      indent = unwrap_or indent default_config.indent;
+      padding = unwrap_or padding default_config.padding;
+      styled = unwrap_or styled default_config.styled;
       characters = set;
       branch = branch;
       leaf = leaf;
-      continued = unwrap_or continued default_configuration.continued;
-    } in value ≡ default_configuration)
+      continued = unwrap_or continued default_config.continued;
+    } in value ≡ default_config)
 no_fields depth indent padding styled set branch leaf continued a b c d e f g h = rw a (rw b (rw c (rw d (rw e (rw f (rw g (rw h refl)))))))
 
 -- without a file and variables the configuration is the default
-configuration_none : (variables : Variables) → HasNone variables → configuration (without_file variables) ≡ default_configuration
+configuration_none : (variables : Variables) → HasNone variables → configuration (without_file variables) ≡ default_config
 unfolding configuration
 configuration_none variables none =
-    let size = λ (f : Field). nothing_found (number_text 18446744073709551615) (whole_node 18446744073709551615) variables none f in
-    no_fields _ _ _ _ _ _ _ _ (nothing_found (number_text 4294967295) (whole_node 4294967295) variables none Depth) (size Indent) (size Padding)
-    (nothing_found (when_spelled AnyCase) when_node variables none Styled) (characters_none variables none)
+    let size = λ (f : Field). nothing_found (parse_number 18446744073709551615) (whole_node 18446744073709551615) variables none f in
+    no_fields _ _ _ _ _ _ _ _ (nothing_found (parse_number 4294967295) (whole_node 4294967295) variables none Depth) (size Indent) (size Padding)
+    (nothing_found (parse_when AnyCase) when_node variables none Styled) (characters_none variables none)
     (style_none variables none Branch ∙ ap (λ b. record plain_value { dimmed = b }) (branches_dimmed variables none)) (style_none variables none Leaf)
     (nothing_found Some as_text variables none Continued)
 
@@ -142,13 +142,13 @@ fault_none variables none =
     ∙ ap (λ leaf. option_or leaf (first_of (map (field_fault given) all_fields))) (table Leaf) ∙ none_of variables none all_fields
 
 -- sources that set nothing mean the default
-pub nothing_meant : (sources : Sources) → SayNothing sources → meant_by sources ≡ default_configuration
-nothing_meant sources h = at sources.file h.file h.variables where
+pub nothing_said : (sources : Sources) → SayNothing sources → effective_config sources ≡ default_config
+nothing_said sources h = at sources.file h.file h.variables where
   at : (file : FileSource) → file ≡ Absent → ((field : Field) → variable (record { variables = variables_of sources.variables.items; document = document file }) field ≡ None)
-      → (let given : Given = record { variables = variables_of sources.variables.items; document = document file } in unwrap_or (unless_fault (fault_in (file_fault file) given) (configuration given)) default_configuration) ≡ default_configuration
+      → (let given : Given = record { variables = variables_of sources.variables.items; document = document file } in unwrap_or (unless_fault (fault_in (file_fault file) given) (configuration given)) default_config) ≡ default_config
   at Absent e none =
       let variables = variables_of sources.variables.items in
-      ap (λ fault. unwrap_or (unless_fault fault (configuration (without_file variables))) default_configuration) (fault_none variables none) ∙ configuration_none variables none
+      ap (λ fault. unwrap_or (unless_fault fault (configuration (without_file variables))) default_config) (fault_none variables none) ∙ configuration_none variables none
   at Unreadable e none = let no : ⊥ = cc e in absurd no
   at (Toml text) e none = let no : ⊥ = cc e in absurd no
   at (Json text) e none = let no : ⊥ = cc e in absurd no

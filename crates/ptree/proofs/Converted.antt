@@ -7,7 +7,7 @@ use Rattle.std.specs.Map.{keys_of}
 use Rattle.std.specs.String.{string_cmp}
 use Rattle.std.proofs.lemmas.List.{map-append}
 use Rattle.ptree.specs.Data.{Data, Items, no_items, item, Entries, no_entries, entry, string, key_texts, item_pairs, entry_pair, entry_pairs, Pair}
-use Rattle.ptree.specs.Value.{items_of, entries_of}
+use Rattle.ptree.specs.Value.{items_from, entries_from}
 
 -- a key and its value
 abbrev pub Member : Type 0 → Type 0
@@ -34,26 +34,26 @@ made_more f all left rest x made more y h steps is e = (
 
 -- the data of a list, value by value
 pub items_made : {V : Type 0} (meant : V → Data) (items : List V → Items) → items [] ≡ no_items → ((v : V) (vs : List V) → items (v ∷ vs) ≡ item (meant v) (items vs))
-    → (vs : List V) → items_of (map meant vs) ≡ items vs
+    → (vs : List V) → items_from (map meant vs) ≡ items vs
 items_made meant items none more [] = sym none
 items_made meant items none more (v ∷ vs) = ap (item (meant v)) (items_made meant items none more vs) ∙ sym (more v vs)
 
 -- the data of members, one by one
 pub entries_made : {V : Type 0} (meant : V → Data) (entries : List (Member V) → Entries) → entries [] ≡ no_entries
     → ((m : Member V) (ms : List (Member V)) → entries (m ∷ ms) ≡ entry (string (string_bytes m.0)) (meant m.1) (entries ms))
-    → (ms : List (Member V)) → entries_of (map (member_data meant) ms) ≡ entries ms
+    → (ms : List (Member V)) → entries_from (map (member_data meant) ms) ≡ entries ms
 entries_made meant entries none more [] = sym none
 entries_made meant entries none more (m ∷ ms) = ap (entry (string (string_bytes m.0)) (meant m.1)) (entries_made meant entries none more ms) ∙ sym (more m ms)
 
 -- a key below all keys of members is below those of the entries that they denote
 key_below : {V : Type 0} (meant : V → Data) (k : String Global) (ms : List (Member V)) → AllByRecursion (λ l. string_cmp k l ≡ Less) (keys_of ms)
-    → AllByRecursion (λ l. slice_cmp nat_cmp (string_bytes k) l ≡ Less) (key_texts (entries_of (map (member_data meant) ms)))
+    → AllByRecursion (λ l. slice_cmp nat_cmp (string_bytes k) l ≡ Less) (key_texts (entries_from (map (member_data meant) ms)))
 key_below meant k [] h = tt
 key_below meant k (m ∷ ms) h = (h.0, key_below meant k ms h.1)
 
 -- the keys of members ascend
 keys_ascend : {V : Type 0} (meant : V → Data) (ms : List (Member V)) → IsStrictlySortedBy string_cmp (keys_of ms)
-    → IsStrictlySortedBy (slice_cmp nat_cmp) (key_texts (entries_of (map (member_data meant) ms)))
+    → IsStrictlySortedBy (slice_cmp nat_cmp) (key_texts (entries_from (map (member_data meant) ms)))
 unfolding IsStrictlySortedBy
 keys_ascend meant [] h = tt
 keys_ascend meant (m ∷ ms) h = (key_below meant m.0 ms h.0, keys_ascend meant ms h.1)

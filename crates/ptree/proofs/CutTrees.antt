@@ -2,7 +2,7 @@
 use Rattle.std.proofs.Common.{◌≡◌, ℕ, zero, suc, ◌≤◌, List, [], ◌∷◌, map, sym, ◌∙◌, ap, refl, arith}
 use Rattle.ptree.specs.Drawing.{Look}
 use Rattle.ptree.specs.Laws.{HasTreeCuts}
-use Rattle.ptree.specs.Entries.{entry_of, kid_entries, entries_below}
+use Rattle.ptree.specs.Entries.{shape_entry, kid_entries, entries_below}
 use Rattle.ptree.specs.Shape.{kids}
 use Rattle.ptree.specs.Tree.{none, item, Forest, Tree, tree, trees, tree_kids, cut_forest, cut_tree, tree_own, shape_of_tree}
 use Rattle.ptree.proofs.Laws.{kid_entries-map, same_drawings}
@@ -27,19 +27,19 @@ kids_of_cut_tree d t =
     ∙ sym (map_twice (cut_tree d) shape_of_tree (tree_kids t))
 
 -- the entries below a cut tree are those below the tree, down to the cut
-entries_of_cut_tree : (look : Look) (d e : ℕ) → d ≤ e → (front : List ℕ) (t : Tree)
-    → entries_below look e front (shape_of_tree (cut_tree d t)) ≡ entries_below look d front (shape_of_tree t)
-entries_of_cut_tree look zero zero h front t = refl
-entries_of_cut_tree look zero (suc e) h front t =
-    ap (kid_entries look (entries_below look e) front) (sym (kids_of_unfold tree_own tree_kids (cut_tree 0 t)) ∙ ap (λ f. map shape_of_tree (trees f)) (none_at_zero t.children))
-entries_of_cut_tree look (suc d) zero h front t = absurd (omega arith)
-entries_of_cut_tree look (suc d) (suc e) h front t =
-    ap (kid_entries look (entries_below look e) front) (kids_of_cut_tree d t)
-    ∙ kid_entries-map look (λ s. shape_of_tree (cut_tree d s)) shape_of_tree (entries_below look d) (entries_below look e) (λ s. refl) (λ f s. entries_of_cut_tree look d e (omega arith) f s) front (tree_kids t)
-    ∙ ap (kid_entries look (entries_below look d) front) (kids_of_unfold tree_own tree_kids t)
+entries_of_cut_tree : (look : Look) (d e : ℕ) → d ≤ e → (outer : List ℕ) (t : Tree)
+    → entries_below look e outer (shape_of_tree (cut_tree d t)) ≡ entries_below look d outer (shape_of_tree t)
+entries_of_cut_tree look zero zero h outer t = refl
+entries_of_cut_tree look zero (suc e) h outer t =
+    ap (kid_entries look (entries_below look e) outer) (sym (kids_of_unfold tree_own tree_kids (cut_tree 0 t)) ∙ ap (λ f. map shape_of_tree (trees f)) (none_at_zero t.children))
+entries_of_cut_tree look (suc d) zero h outer t = absurd (omega arith)
+entries_of_cut_tree look (suc d) (suc e) h outer t =
+    ap (kid_entries look (entries_below look e) outer) (kids_of_cut_tree d t)
+    ∙ kid_entries-map look (λ s. shape_of_tree (cut_tree d s)) shape_of_tree (entries_below look d) (entries_below look e) (λ s. refl) (λ f s. entries_of_cut_tree look d e (omega arith) f s) outer (tree_kids t)
+    ∙ ap (kid_entries look (entries_below look d) outer) (kids_of_unfold tree_own tree_kids t)
 
 -- the drawings of a tree at a depth are those of the cut tree
 pub drawing_of_cut_tree : (look : Look) (d : ℕ) → HasTreeCuts look d
 drawing_of_cut_tree look d = λ t e text h.
     same_drawings look (shape_of_tree t) (shape_of_tree (cut_tree d t)) d e
-    (sym (ap (λ y. entry_of look [] [] (shape_of_tree t) ∷ y) (entries_of_cut_tree look d e h [] t))) text
+    (sym (ap (λ y. shape_entry look [] [] (shape_of_tree t) ∷ y) (entries_of_cut_tree look d e h [] t))) text

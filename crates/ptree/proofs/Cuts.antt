@@ -6,20 +6,20 @@ use Rattle.ptree.specs.Flags.{has_later, last_flags, pieces_by}
 use Rattle.ptree.specs.Outline.{Line}
 use Rattle.ptree.specs.Pieces.{Pieces, turning_piece, passing_piece, passing_all}
 use Rattle.ptree.specs.Readable.{IsReadable, IsReadableWith}
-use Rattle.ptree.specs.Style.{StyleValue, front_codes, back_codes, painted_text}
-use Rattle.ptree.specs.Text.{HasNoLineFeed}
-use Rattle.ptree.proofs.Styles.{no_line_feed_front, no_line_feed_back}
+use Rattle.ptree.specs.Style.{StyleValue, start_codes, end_codes, painted_text}
+use Rattle.ptree.specs.Texts.{HasNoLineFeed}
+use Rattle.ptree.proofs.Styles.{no_line_feed_start, no_line_feed_end}
 
 -- ## Lists
 
 -- the first line feed of a text comes after a prefix without one
-pub behind_front : (a x g e : List ℕ) → HasNoLineFeed a → a ++ x ≡ g ++ 10 ∷ e → (h : List ℕ) × (g ≡ a ++ h) × (x ≡ h ++ 10 ∷ e)
-behind_front [] x g e h is = (g, refl, is)
-behind_front (b ∷ a) x [] e h is = absurd (All-head (λ c. c ≢ 10) b a h (let heads : b ≡ 10 = cc in heads))
-behind_front (b ∷ a) x (c ∷ g) e h is =
+pub after_prefix : (a x g e : List ℕ) → HasNoLineFeed a → a ++ x ≡ g ++ 10 ∷ e → (h : List ℕ) × (g ≡ a ++ h) × (x ≡ h ++ 10 ∷ e)
+after_prefix [] x g e h is = (g, refl, is)
+after_prefix (b ∷ a) x [] e h is = absurd (All-head (λ c. c ≢ 10) b a h (let heads : b ≡ 10 = cc in heads))
+after_prefix (b ∷ a) x (c ∷ g) e h is =
     let heads : b ≡ c = cc in
     let tails : a ++ x ≡ g ++ 10 ∷ e = cc in
-    let rest = behind_front a x g e (All-tail (λ c. c ≢ 10) b a h) tails in
+    let rest = after_prefix a x g e (All-tail (λ c. c ≢ 10) b a h) tails in
     (rest.0, ap (λ z. z ∷ g) (sym heads) ∙ ap (λ z. b ∷ z) rest.1, rest.2)
 
 -- a text ends in a line feed
@@ -68,7 +68,7 @@ no_feed_pieces p h o (suc n) =
 -- a painted text without a line feed holds none
 pub no_feed_painted : (s : StyleValue) (text : List ℕ) → HasNoLineFeed text → HasNoLineFeed (painted_text s text)
 no_feed_painted s text h =
-    All-append (λ c. c ≢ 10) (front_codes s ++ text) (back_codes s) (All-append (λ c. c ≢ 10) (front_codes s) text (no_line_feed_front s) h) (no_line_feed_back s)
+    All-append (λ c. c ≢ 10) (start_codes s ++ text) (end_codes s) (All-append (λ c. c ≢ 10) (start_codes s) text (no_line_feed_start s) h) (no_line_feed_end s)
 
 -- the prefix of a further line holds no line feed
 pub no_feed_continued : (k : Look) → IsReadableWith k.pieces k.mark → (flags : List Bool) → HasNoLineFeed (continued_prefix k (passing_all k.pieces flags))

@@ -6,14 +6,14 @@ use Rattle.std.proofs.lemmas.List.Elements.{All-nil, All-cons}
 use Rattle.ptree.specs.Characters.{Characters, ascii_tick, IsShipped, IsShippedWithoutTicks}
 use Rattle.ptree.specs.Config.{default_mark}
 use Rattle.ptree.specs.Pieces.{turning_piece, passing_piece, pieces_from}
-use Rattle.ptree.specs.Readable.{AreApart, IsReadable, IsReadableWith}
-use Rattle.ptree.specs.Text.{HasNoLineFeed}
-use Rattle.ptree.proofs.Fronts.{differ, apart_when_differ}
+use Rattle.ptree.specs.Readable.{ArePrefixFree, IsReadable, IsReadableWith}
+use Rattle.ptree.specs.Texts.{HasNoLineFeed}
+use Rattle.ptree.proofs.Starts.{differ, apart_when_differ}
 use Rattle.ptree.proofs.Shipped.{shipped_readable, tick_readable}
 
--- a mark that differs from the front of a text is apart from the text
-mark_apart : (mark a y : List ℕ) → differ mark a ≡ true → AreApart mark (a ++ y)
-mark_apart mark a y h = subst (λ z. AreApart z (a ++ y)) (append-nil mark) (apart_when_differ mark a [] y h)
+-- a mark that differs from the start of a text is apart from the text
+mark_apart : (mark a y : List ℕ) → differ mark a ≡ true → ArePrefixFree mark (a ++ y)
+mark_apart mark a y h = subst (λ z. ArePrefixFree z (a ++ y)) (append-nil mark) (apart_when_differ mark a [] y h)
 
 -- a marker that differs from the first character of each piece is apart from each piece
 record MarkTold (mark : List ℕ) (c : Characters) : Type 0 where
@@ -23,14 +23,14 @@ record MarkTold (mark : List ℕ) (c : Characters) : Type 0 where
   last_child : differ mark c.empty ≡ true
 
 -- a mark that can be told from a set's characters is apart from the pieces of the set
-mark_told : (mark : List ℕ) (c : Characters) → MarkTold mark c → (indent padding : ℕ) → (last : Bool) → AreApart mark (turning_piece (pieces_from c indent padding) last) × AreApart mark (passing_piece (pieces_from c indent padding) last)
+mark_told : (mark : List ℕ) (c : Characters) → MarkTold mark c → (indent padding : ℕ) → (last : Bool) → ArePrefixFree mark (turning_piece (pieces_from c indent padding) last) × ArePrefixFree mark (passing_piece (pieces_from c indent padding) last)
 mark_told mark c h indent padding false = (
-  subst (λ z. AreApart mark z) (sym (append_assoc c.down_and_right _ _)) (mark_apart mark c.down_and_right _ h.regular),
-  subst (λ z. AreApart mark z) (sym (append_assoc c.down _ _)) (mark_apart mark c.down _ h.child),
+  subst (λ z. ArePrefixFree mark z) (sym (append_assoc c.down_and_right _ _)) (mark_apart mark c.down_and_right _ h.regular),
+  subst (λ z. ArePrefixFree mark z) (sym (append_assoc c.down _ _)) (mark_apart mark c.down _ h.child),
 )
 mark_told mark c h indent padding true = (
-  subst (λ z. AreApart mark z) (sym (append_assoc c.turn_right _ _)) (mark_apart mark c.turn_right _ h.last_regular),
-  subst (λ z. AreApart mark z) (sym (append_assoc c.empty _ _)) (mark_apart mark c.empty _ h.last_child),
+  subst (λ z. ArePrefixFree mark z) (sym (append_assoc c.turn_right _ _)) (mark_apart mark c.turn_right _ h.last_regular),
+  subst (λ z. ArePrefixFree mark z) (sym (append_assoc c.empty _ _)) (mark_apart mark c.empty _ h.last_child),
 )
 
 -- the default mark holds no line feed
@@ -38,7 +38,7 @@ default_mark_line : HasNoLineFeed default_mark
 default_mark_line = All-cons (λ b. b ≢ 10) 58 (32 ∷ []) (omega arith) (All-cons (λ b. b ≢ 10) 32 [] (omega arith) (All-nil (λ b. b ≢ 10)))
 
 -- the default marker is apart from the pieces of each shipped set
-pub default_mark_told : (c : Characters) → IsShipped c → (indent padding : ℕ) → (last : Bool) → AreApart default_mark (turning_piece (pieces_from c indent padding) last) × AreApart default_mark (passing_piece (pieces_from c indent padding) last)
+pub default_mark_told : (c : Characters) → IsShipped c → (indent padding : ℕ) → (last : Bool) → ArePrefixFree default_mark (turning_piece (pieces_from c indent padding) last) × ArePrefixFree default_mark (passing_piece (pieces_from c indent padding) last)
 default_mark_told c which i p = mark_told default_mark c (at which) i p where
   at : IsShipped c → MarkTold default_mark c
   at (inl e) = subst (MarkTold default_mark) (sym e) (record { regular = refl; child = refl; last_regular = refl; last_child = refl })

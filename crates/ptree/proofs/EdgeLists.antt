@@ -64,7 +64,7 @@ newest_from-push_other edges e v h =
 abbrev from : ℕ → List (ℕ × ℕ) → List (ℕ × ℕ)
 from v edges = filter (λ e. eqb e.0 v) edges
 
--- an edge from the node adds its target in front
+-- an edge from the node adds its target at the start
 neighbors_of-push_same : (edges : List (ℕ × ℕ)) (e : ℕ × ℕ) (v : ℕ) → e.0 ≡ v → neighbors_of (edges ++ e ∷ []) v ≡ e.1 ∷ neighbors_of edges v
 neighbors_of-push_same edges e v h =
     ap (λ r. map (λ x. x.1) (from v r)) (reverse-push edges e)

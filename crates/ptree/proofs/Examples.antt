@@ -6,7 +6,7 @@ use Rattle.ptree.specs.Drawing.{Look, look_from, with_inserted, IsDrawing}
 use Rattle.std.specs.List.{concat}
 use Rattle.ptree.specs.Entries.{drawn_entries}
 use Rattle.ptree.specs.Pieces.{pieces_from}
-use Rattle.ptree.specs.Style.{plain_value, style_codes, front_codes}
+use Rattle.ptree.specs.Style.{plain_value, style_codes, start_codes}
 use Rattle.ptree.specs.Tree.{none, item, tree, shape_of_tree}
 use Rattle.ptree.proofs.Join.{drawn_is_drawing}
 
@@ -51,16 +51,16 @@ unfolding style_codes
 open_end = refl
 
 -- the code of dimmed text
-dimmed_front : front_codes (record plain_value { dimmed = true }) ≡ 27 ∷ 91 ∷ 50 ∷ 109 ∷ []
+dimmed_start : start_codes (record plain_value { dimmed = true }) ≡ 27 ∷ 91 ∷ 50 ∷ 109 ∷ []
 unfolding style_codes
-dimmed_front = ap (λ d. (27 ∷ 91 ∷ d ++ 109 ∷ []) ++ []) (decimal_digit 2 (omega arith))
+dimmed_start = ap (λ d. (27 ∷ 91 ∷ d ++ 109 ∷ []) ++ []) (decimal_digit 2 (omega arith))
 
 -- the code of bold text
-bold_front : front_codes (record plain_value { bold = true }) ≡ 27 ∷ 91 ∷ 49 ∷ 109 ∷ []
+bold_start : start_codes (record plain_value { bold = true }) ≡ 27 ∷ 91 ∷ 49 ∷ 109 ∷ []
 unfolding style_codes
-bold_front = ap (λ d. (27 ∷ 91 ∷ d ++ 109 ∷ []) ++ []) (decimal_digit 1 (omega arith))
+bold_start = ap (λ d. (27 ∷ 91 ∷ d ++ 109 ∷ []) ++ []) (decimal_digit 1 (omega arith))
 
--- the root r\ns, given the front codes
+-- the root r\ns, given the start codes
 abbrev styled_root : List ℕ → List ℕ → List ℕ
 styled_root branch leaf =
     let reset : List ℕ = 27 ∷ 91 ∷ 48 ∷ 109 ∷ [] in
@@ -70,7 +70,7 @@ styled_root branch leaf =
 styled : concat (drawn_entries styled_look 9 (shape_of_tree (tree (114 ∷ 10 ∷ 115 ∷ []) none)))
     ≡ 27 ∷ 91 ∷ 50 ∷ 109 ∷ 27 ∷ 91 ∷ 48 ∷ 109 ∷ 27 ∷ 91 ∷ 49 ∷ 109 ∷ 114 ∷ 10 ∷ 27 ∷ 91 ∷ 50 ∷ 109 ∷ 58 ∷ 32 ∷ 27 ∷ 91 ∷ 48 ∷ 109 ∷ 115 ∷ 27 ∷ 91 ∷ 48 ∷ 109 ∷ 10 ∷ []
 unfolding style_codes
-styled = ap (λ z. styled_root z (front_codes (record plain_value { bold = true }))) dimmed_front ∙ ap (λ z. styled_root (27 ∷ 91 ∷ 50 ∷ 109 ∷ []) z) bold_front
+styled = ap (λ z. styled_root z (start_codes (record plain_value { bold = true }))) dimmed_start ∙ ap (λ z. styled_root (27 ∷ 91 ∷ 50 ∷ 109 ∷ []) z) bold_start
 
 -- the same drawing, by addresses
 by_addresses : IsDrawing plain_look (shape_of_tree (tree (114 ∷ 10 ∷ 115 ∷ []) none)) 9 (114 ∷ 10 ∷ 58 ∷ 32 ∷ 115 ∷ 10 ∷ [])

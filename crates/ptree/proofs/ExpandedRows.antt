@@ -26,18 +26,18 @@ rebuilt t v m ps e f g =
 
 -- ## Addresses
 
--- what stands below a child stands below the occurrence, one step longer
+-- what is below a child is below the occurrence, one step longer
 pub stands_cons : (t c p : OccurrenceTree) (i : ℕ) (a : Address) → slice_get (occurrence_kids t) i ≡ Some c → StandsAt c a p → StandsAt t (i ∷ a) p
 stands_cons t c p i a e s = ap (λ o. option_and_then (λ y. at occurrence_kids y a) o) e ∙ s
 
--- what stands at an address of one step or more stands below a child
+-- what is at an address of one step or more is below a child
 pub stands_step : (t p : OccurrenceTree) (i : ℕ) (a : Address) → StandsAt t (i ∷ a) p → (c : OccurrenceTree) × (slice_get (occurrence_kids t) i ≡ Some c) × StandsAt c a p
 stands_step t p i a s = step (slice_get (occurrence_kids t) i) refl s where
   step : (o : Option OccurrenceTree) → slice_get (occurrence_kids t) i ≡ o → option_and_then (λ y. at occurrence_kids y a) o ≡ Some p → (c : OccurrenceTree) × (slice_get (occurrence_kids t) i ≡ Some c) × StandsAt c a p
   step None e h = absurd (cc)
   step (Some c) e h = (c, e, h)
 
--- at the empty address stands the tree itself
+-- at the empty address is the tree itself
 pub stands_root : (t p : OccurrenceTree) → StandsAt t [] p → t ≡ p
 stands_root t p s = cc
 
@@ -46,7 +46,7 @@ pub none_within : {X : Type 0} (xs : List X) (i : ℕ) (x : X) → xs ≡ [] →
 none_within [] i x e s = absurd (cc)
 none_within (y ∷ ys) i x e s = absurd (cc)
 
--- a list with an element isn't empty
+-- a list with an element is not empty
 pub not_empty : {X : Type 0} (xs : List X) (i : ℕ) (x : X) → slice_get xs i ≡ Some x → xs ≢ []
 not_empty xs i x s e = none_within xs i x e s
 
@@ -80,7 +80,7 @@ deeper n d = elim (cases_lt n d) [
 ]
 
 module _ (below : ℕ → List ℕ) where
-  -- the nodes that may stand below an occurrence at a level
+  -- the nodes that may be below an occurrence at a level
   abbrev pub allowed : ℕ → OccurrenceTree → ℕ → List ℕ
   allowed d p n = if p.repeated then [] else (if nat_lt n d then below p.node else [])
 
@@ -168,7 +168,7 @@ module _ (below : ℕ → List ℕ) where
     kids [] p s = subst (λ (z : OccurrenceTree). nodes_of (occurrence_kids z) ≡ allowed d z 0) (stands_root t p s) (ap nodes_of e ∙ sym k)
     kids (i ∷ a) p s = let (c, f, u) = stands_step t p i a s in absurd (none_within (occurrence_kids t) i c e f)
 
-  -- one occurrence more at the front of a row
+  -- one occurrence more at the start of a row
   pub row_cons : (P : ℕ → Type 0) (d : ℕ) (c : OccurrenceTree) (cs : List OccurrenceTree) → OnceFrom P d c → RowFrom (λ w. P w ⊎ IsExpanded c w) d cs → RowFrom P d (c ∷ cs)
   row_cons P d c cs o r zero x e =
       let same : c ≡ x = cc in

@@ -4,7 +4,7 @@ use Rattle.std.specs.List.{prefix_len}
 use Rattle.std.proofs.lemmas.Bool.{eqb-true, eqb-false, eq-eqb, ne_eqb}
 use Rattle.std.proofs.lemmas.List.{get_or-take, drop_more, take-append-drop}
 use Rattle.std.proofs.lemmas.Simd.{first_set_mask_l, run_in_chunk_le, run_in_chunk_fails, run_in_chunk_stops, length-chunk}
-use Rattle.ptree.specs.Text.{HasNoLineFeed}
+use Rattle.ptree.specs.Texts.{HasNoLineFeed}
 use Rattle.ptree.proofs.Inserted.{no_line_feed_from_reads}
 use lib.Count.{count_trailing_zeros}
 use lib.Lanes.{chunk, mask_l}

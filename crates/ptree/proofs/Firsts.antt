@@ -47,7 +47,7 @@ module _ (below : ℕ → List ℕ) (start depth : ℕ) (t : OccurrenceTree) (h 
         let (b, q, r, n, k, o) = (h.repeated a p s).0 f in
         absurd (k (no_nodes (occurrence_kids q) (h.children b q r ∙ nothing q.repeated (nat_lt (length b) depth) q.node (ap below n ∙ e))))
 
-  -- where an earlier occurrence stands above the depth, an earlier one is expanded
+  -- where an earlier occurrence is above the depth, an earlier one is expanded
   met_to_shown : (a : Address) (v : ℕ) → below v ≢ [] → IsMetBefore depth t a v → IsExpandedBefore t a v
   met_to_shown a v e (b, q, r, n, l, o) = by_flag q.repeated refl where
     by_flag : (m : Bool) → q.repeated ≡ m → IsExpandedBefore t a v

@@ -1,4 +1,4 @@
--- The passing pieces at the front of a line restrict the flags of the open items.
+-- The passing pieces at the start of a line restrict the flags of the open items.
 use Rattle.std.proofs.Common.{◌≡◌, ◌≢◌, ℕ, suc, ◌+◌, ◌<◌, ◌≤◌, ◌⊎◌, inl, inr, Bool, true, false, not, List, ◌++◌, length, set, get_or, length-set, get_or-set_same, get_or-set_other, refl, sym, ap, ◌∙◌, subst, append_assoc, arith}
 use Rattle.std.specs.Prelude.{◌↔◌}
 use Rattle.std.proofs.lemmas.Bool.{cases_lt}
@@ -8,7 +8,7 @@ use Rattle.ptree.specs.Flags.{has_later, last_flags, passing_by}
 use Rattle.ptree.specs.Outline.{Line}
 use Rattle.ptree.specs.Pieces.{Pieces, passing_piece, passing_all}
 use Rattle.ptree.specs.Reached.{allows, any_flags, Allows, NoPiece, IsCutTo, AreSome, ArePath, ArePassed, IsFound}
-use Rattle.ptree.specs.Readable.{AreApart, IsReadable}
+use Rattle.ptree.specs.Readable.{ArePrefixFree, IsReadable}
 use Rattle.ptree.proofs.LastFlags.{length-last_flags}
 use Rattle.ptree.proofs.Marks.{passings_once}
 use Rattle.ptree.proofs.Prefixes.{apart_never}
@@ -19,7 +19,7 @@ use Rattle.ptree.proofs.OpenItems.{open_lines, some_flag, passing_push, passing_
 -- pieces that the open items may have, followed by something apart from passing pieces, are those
 -- that were found
 pub found_at : (p : Pieces) → IsReadable p → (fs new : List Flags) (text shown rest : List ℕ) (n : ℕ) → IsFound p fs new text shown rest n
-    → (m : ℕ) (o : List Line) (s z : List ℕ) → m ≤ length fs → Allows fs o → ((b : Bool) → AreApart s (passing_piece p b)) → text ≡ passing_by p o m ++ (s ++ z)
+    → (m : ℕ) (o : List Line) (s z : List ℕ) → m ≤ length fs → Allows fs o → ((b : Bool) → ArePrefixFree s (passing_piece p b)) → text ≡ passing_by p o m ++ (s ++ z)
     → (n ≡ m) × (passing_by p o m ≡ shown) × (rest ≡ s ++ z)
 found_at p readable fs new text shown rest n h m o s z high allowed apart e =
     let (above, len, is) = h.are_passing in
@@ -152,13 +152,13 @@ found_next p fs fs' count passed text shown shown' rest rest' flags new path h m
     (subst (λ z. IsCutTo (passing_piece p) z rest new rest') (is ∙ ap (λ z. get_or fs z any_flags) same) cut) e (set_is ∙ ap (λ z. set fs z new) same))
 
 -- the bytes before the rest
-pub found_front : (p : Pieces) (fs : List Flags) (count passed : ℕ) (text rest : List ℕ) → AreSome fs → ArePassed p fs count text passed rest → (front : List ℕ) × (text ≡ front ++ rest)
-found_front p fs count passed text rest some h = let (o, a) = open_lines fs some in (passing_by p o passed, h.passed o a)
+pub found_prefix : (p : Pieces) (fs : List Flags) (count passed : ℕ) (text rest : List ℕ) → AreSome fs → ArePassed p fs count text passed rest → (prefix : List ℕ) × (text ≡ prefix ++ rest)
+found_prefix p fs count passed text rest some h = let (o, a) = open_lines fs some in (passing_by p o passed, h.passed o a)
 
 -- the bytes before the rest, with one piece more
-pub found_front_next : (p : Pieces) (fs : List Flags) (count passed : ℕ) (text rest rest' : List ℕ) (flags new : Flags) → AreSome fs → ArePassed p fs count text passed rest → IsCutTo (passing_piece p) flags rest new rest'
-    → (front : List ℕ) × (text ≡ front ++ rest')
-found_front_next p fs count passed text rest rest' flags new some h cut =
+pub found_prefix_next : (p : Pieces) (fs : List Flags) (count passed : ℕ) (text rest rest' : List ℕ) (flags new : Flags) → AreSome fs → ArePassed p fs count text passed rest → IsCutTo (passing_piece p) flags rest new rest'
+    → (prefix : List ℕ) × (text ≡ prefix ++ rest')
+found_prefix_next p fs count passed text rest rest' flags new some h cut =
     let (o, a) = open_lines fs some in
     let piece : List ℕ = passing_piece p cut.last in
     (passing_by p o passed ++ piece, h.passed o a ∙ (ap (λ z. passing_by p o passed ++ z) cut.text_is ∙ sym (append_assoc (passing_by p o passed) piece rest')))

@@ -26,14 +26,14 @@ module _ (below : ℕ → List ℕ) where
   grow_seen (suc levels) seen v e =
       ap (λ b. if b then grown (occurrence v true none) seen else expand (grow below levels) (below v) seen v) e ∙ ap (λ b. grown (occurrence v b none) seen) (sym e)
 
-  -- of one that isn't, above the depth
+  -- of one that is not, above the depth
   grow_next : (levels : ℕ) (seen : List Bool) (v : ℕ) → levels ≢ 0 → is_seen seen v ≡ false → grow below levels seen v ≡ expand (grow below (levels - 1)) (below v) seen v
   grow_next zero seen v h e = absurd (h refl)
   grow_next (suc levels) seen v h e =
       let less : levels ≡ suc levels - 1 = omega arith in
       ap (λ b. if b then grown (occurrence v true none) seen else expand (grow below levels) (below v) seen v) e ∙ ap (λ n. expand (grow below n) (below v) seen v) less
 
-  -- nothing may stand below the occurrence
+  -- nothing may be below the occurrence
   pub stopped : (levels : ℕ) (seen : List Bool) (v : ℕ) → (is_seen seen v ≡ true) ⊎ (levels ≡ 0) → grow below levels seen v ≡ grown (occurrence v (is_seen seen v) none) seen
   stopped levels seen v h = elim h [ inl y ↦ grow_seen levels seen v y | inr y ↦ grow_zero levels seen v y ]
 

@@ -6,9 +6,9 @@ use Rattle.std.proofs.lemmas.List.{take_more, flat_map_more, get_or_default, get
 use Rattle.std.proofs.lemmas.List.Elements.{All-nil, All-cons, All-head, All-tail}
 use Rattle.ptree.specs.Drawing.{Look, with_inserted, entry_from}
 use Rattle.ptree.specs.Spelled.{has_line_feed}
-use Rattle.ptree.specs.Style.{StyleValue, front_codes, back_codes, painted_text}
-use Rattle.ptree.specs.Text.{HasNoLineFeed}
-use Rattle.ptree.proofs.Styles.{no_line_feed_front, no_line_feed_back}
+use Rattle.ptree.specs.Style.{StyleValue, start_codes, end_codes, painted_text}
+use Rattle.ptree.specs.Texts.{HasNoLineFeed}
+use Rattle.ptree.proofs.Styles.{no_line_feed_start, no_line_feed_end}
 
 -- a byte is a line feed or not
 pub is_feed : (b : ℕ) → (b ≡ 10) ⊎ (b ≢ 10)
@@ -17,11 +17,11 @@ is_feed b = at (eqb b 10) refl where
   at true e = inl (eqb-true b 10 e)
   at false e = inr (eqb-false b 10 e)
 
--- a line feed in front is followed by the inserted text
+-- a line feed at the start is followed by the inserted text
 pub inserted_feed : (inserted : List ℕ) (b : ℕ) (text : List ℕ) → b ≡ 10 → with_inserted inserted (b ∷ text) ≡ 10 ∷ (inserted ++ with_inserted inserted text)
 inserted_feed inserted b text e = ap (λ c. cond c (10 ∷ inserted) (b ∷ []) ++ with_inserted inserted text) (eq-eqb b 10 e)
 
--- another byte in front is followed by nothing
+-- another byte at the start is followed by nothing
 pub inserted_other : (inserted : List ℕ) (b : ℕ) (text : List ℕ) → b ≢ 10 → with_inserted inserted (b ∷ text) ≡ b ∷ with_inserted inserted text
 inserted_other inserted b text n = ap (λ c. cond c (10 ∷ inserted) (b ∷ []) ++ with_inserted inserted text) (ne_eqb b 10 n)
 
@@ -47,7 +47,7 @@ feed_head b bs e = ap (λ c. cond c true (has_line_feed bs)) (eq-eqb b 10 e)
 pub feed_tail : (b : ℕ) (bs : List ℕ) → b ≢ 10 → has_line_feed (b ∷ bs) ≡ has_line_feed bs
 feed_tail b bs n = ap (λ c. cond c true (has_line_feed bs)) (ne_eqb b 10 n)
 
--- a line feed in front counts
+-- a line feed at the start counts
 pub feed_here : (b : ℕ) (bs : List ℕ) → b ≡ 10 → has_line_feed (b ∷ bs) ≡ true
 feed_here b bs e = feed_head b bs e
 
@@ -68,40 +68,40 @@ no_feed_when (b ∷ bs) h = elim (is_feed b) [
   | inr n ↦ All-cons (λ c. c ≢ 10) b bs n (no_feed_when bs (sym (feed_tail b bs n) ∙ h))
 ]
 
--- a text without a line feed in front does not count
-pub feed_front : (a b : List ℕ) → HasNoLineFeed a → has_line_feed (a ++ b) ≡ has_line_feed b
-feed_front [] b h = refl
-feed_front (x ∷ a) b h = feed_tail x (a ++ b) (All-head (λ c. c ≢ 10) x a h) ∙ feed_front a b (All-tail (λ c. c ≢ 10) x a h)
+-- a text without a line feed at the start does not count
+pub feed_start : (a b : List ℕ) → HasNoLineFeed a → has_line_feed (a ++ b) ≡ has_line_feed b
+feed_start [] b h = refl
+feed_start (x ∷ a) b h = feed_tail x (a ++ b) (All-head (λ c. c ≢ 10) x a h) ∙ feed_start a b (All-tail (λ c. c ≢ 10) x a h)
 
 -- a text without a line feed at the end does not count
-pub feed_back : (a b : List ℕ) → HasNoLineFeed b → has_line_feed (a ++ b) ≡ has_line_feed a
-feed_back [] b h = no_feed b h
-feed_back (x ∷ a) b h = ap (λ z. cond (eqb x 10) true z) (feed_back a b h)
+pub feed_end : (a b : List ℕ) → HasNoLineFeed b → has_line_feed (a ++ b) ≡ has_line_feed a
+feed_end [] b h = no_feed b h
+feed_end (x ∷ a) b h = ap (λ z. cond (eqb x 10) true z) (feed_end a b h)
 
 -- codes hold no line feed
 pub feed_painted : (style : StyleValue) (text : List ℕ) → has_line_feed (painted_text style text) ≡ has_line_feed text
 feed_painted style text =
-    feed_back (front_codes style ++ text) (back_codes style) (no_line_feed_back style) ∙ feed_front (front_codes style) text (no_line_feed_front style)
+    feed_end (start_codes style ++ text) (end_codes style) (no_line_feed_end style) ∙ feed_start (start_codes style) text (no_line_feed_start style)
 
 -- one byte more was copied
-pub inserted_more : (inserted front xs done : List ℕ) (i : ℕ) → i < length xs → done ≡ front ++ with_inserted inserted (take i xs)
-    → done ++ cond (eqb (get_or xs i 0) 10) (10 ∷ inserted) (get_or xs i 0 ∷ []) ≡ front ++ with_inserted inserted (take (i + 1) xs)
-inserted_more inserted front xs done i h e =
+pub inserted_more : (inserted prefix xs done : List ℕ) (i : ℕ) → i < length xs → done ≡ prefix ++ with_inserted inserted (take i xs)
+    → done ++ cond (eqb (get_or xs i 0) 10) (10 ∷ inserted) (get_or xs i 0 ∷ []) ≡ prefix ++ with_inserted inserted (take (i + 1) xs)
+inserted_more inserted prefix xs done i h e =
     ap (λ z. z ++ cond (eqb (get_or xs i 0) 10) (10 ∷ inserted) (get_or xs i 0 ∷ [])) e
-    ∙ (flat_map_more (λ c. cond (eqb c 10) (10 ∷ inserted) (c ∷ [])) front (take i xs) (get_or xs i 0) ∙ ap (λ z. front ++ with_inserted inserted z) (sym (take_more xs i 0 h)))
+    ∙ (flat_map_more (λ c. cond (eqb c 10) (10 ∷ inserted) (c ∷ [])) prefix (take i xs) (get_or xs i 0) ∙ ap (λ z. prefix ++ with_inserted inserted z) (sym (take_more xs i 0 h)))
 
 -- a line feed was copied, and the text inserted
-pub more_feed : (inserted front xs done a b : List ℕ) (i : ℕ) → i < length xs → done ≡ front ++ with_inserted inserted (take i xs) → get_or xs i 0 ≡ 10 → a ≡ done ++ get_or xs i 0 ∷ [] → b ≡ a ++ inserted
-    → b ≡ front ++ with_inserted inserted (take (i + 1) xs)
-more_feed inserted front xs done a b i h e feed ea eb =
+pub more_feed : (inserted prefix xs done a b : List ℕ) (i : ℕ) → i < length xs → done ≡ prefix ++ with_inserted inserted (take i xs) → get_or xs i 0 ≡ 10 → a ≡ done ++ get_or xs i 0 ∷ [] → b ≡ a ++ inserted
+    → b ≡ prefix ++ with_inserted inserted (take (i + 1) xs)
+more_feed inserted prefix xs done a b i h e feed ea eb =
     eb ∙ (ap (λ z. z ++ inserted) (ea ∙ ap (λ z. done ++ z ∷ []) feed) ∙ (append_assoc done (10 ∷ []) inserted
-    ∙ (ap (λ c. done ++ cond c (10 ∷ inserted) (get_or xs i 0 ∷ [])) (sym (eq-eqb (get_or xs i 0) 10 feed)) ∙ inserted_more inserted front xs done i h e)))
+    ∙ (ap (λ c. done ++ cond c (10 ∷ inserted) (get_or xs i 0 ∷ [])) (sym (eq-eqb (get_or xs i 0) 10 feed)) ∙ inserted_more inserted prefix xs done i h e)))
 
 -- another byte was copied
-pub more_other : (inserted front xs done a : List ℕ) (i : ℕ) → i < length xs → done ≡ front ++ with_inserted inserted (take i xs) → (get_or xs i 0 ≡ 10 → ⊥) → a ≡ done ++ get_or xs i 0 ∷ []
-    → a ≡ front ++ with_inserted inserted (take (i + 1) xs)
-more_other inserted front xs done a i h e other ea =
-    ea ∙ (ap (λ c. done ++ cond c (10 ∷ inserted) (get_or xs i 0 ∷ [])) (sym (ne_eqb (get_or xs i 0) 10 other)) ∙ inserted_more inserted front xs done i h e)
+pub more_other : (inserted prefix xs done a : List ℕ) (i : ℕ) → i < length xs → done ≡ prefix ++ with_inserted inserted (take i xs) → (get_or xs i 0 ≡ 10 → ⊥) → a ≡ done ++ get_or xs i 0 ∷ []
+    → a ≡ prefix ++ with_inserted inserted (take (i + 1) xs)
+more_other inserted prefix xs done a i h e other ea =
+    ea ∙ (ap (λ c. done ++ cond c (10 ∷ inserted) (get_or xs i 0 ∷ [])) (sym (ne_eqb (get_or xs i 0) 10 other)) ∙ inserted_more inserted prefix xs done i h e)
 
 -- a fact about reads with a default holds for each read
 pub no_line_feed_from_reads : (xs : List ℕ) → ((i : ℕ) → i < length xs → get_or xs i 0 ≢ 10) → HasNoLineFeed xs

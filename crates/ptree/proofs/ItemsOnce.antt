@@ -7,12 +7,12 @@ use Rattle.ptree.specs.Address.{at}
 use Rattle.ptree.specs.Drawing.{Look, with_inserted, continued_prefix}
 use Rattle.ptree.specs.Readable.{IsReadableWith}
 use Rattle.ptree.specs.Spelled.{has_line_feed, SpelledItem, spelled_item, ArePassing, IsShown, IsSpelled, IsNotContinued, text_entry, spelled_text, HasItem, HasRoot}
-use Rattle.ptree.specs.Style.{front_codes, back_codes, painted_text}
+use Rattle.ptree.specs.Style.{start_codes, end_codes, painted_text}
 use Rattle.ptree.proofs.Prefixes.{same_pieces}
 use Rattle.ptree.proofs.Inserted.{is_feed, inserted_feed, inserted_other, feed_here, feed_tail, feed_behind, feed_painted}
 use Rattle.ptree.proofs.Marks.{behind, entry_is, mark_once, item_never, items_never}
 
--- the own bytes of two items of one level at the front of one text are the same
+-- the own bytes of two items of one level at the start of one text are the same
 pub record SameOwn (u u' q q' x y : List ℕ) : Type 0 where
   pub own : u ≡ u'
   pub passing : has_line_feed u ≡ true → q ≡ q'
@@ -73,15 +73,15 @@ own_once k h n (c ∷ u) (d ∷ u') q q' rest rest' a b s t e = elim (is_feed c)
 
 -- equal painted texts are of equal texts
 same_painted : (k : Look) (t u : List ℕ) → painted_text k.leaf t ≡ painted_text k.leaf u → t ≡ u
-same_painted k t u e = append_cancel_left (front_codes k.leaf) t u (append_cancel_right ((front_codes k.leaf) ++ t) ((front_codes k.leaf) ++ u) (back_codes k.leaf) e)
+same_painted k t u e = append_cancel_left (start_codes k.leaf) t u (append_cancel_right ((start_codes k.leaf) ++ t) ((start_codes k.leaf) ++ u) (end_codes k.leaf) e)
 
--- the texts of two items of one level at the front of one text are the same
+-- the texts of two items of one level at the start of one text are the same
 text_once : (k : Look) → IsReadableWith k.pieces k.mark → (n : ℕ) (t u q q' rest rest' : List ℕ) → (has_line_feed t ≡ true → ArePassing k.pieces n q) → (has_line_feed u ≡ true → ArePassing k.pieces n q')
     → IsNotContinued k n rest → IsNotContinued k n rest' → behind k q t rest ≡ behind k q' u rest' → SameOwn t u q q' rest rest'
 unfolding behind
 text_once k h n t u q q' rest rest' a b s r e =
     let same = own_once k h n (painted_text k.leaf t) (painted_text k.leaf u) q q' rest rest'
-    (λ i. a (sym (feed_painted k.leaf t) ∙ i)) (λ i. b (sym (feed_painted k.leaf u) ∙ i)) s r (append_cancel_left (back_codes k.branch) _ _ e) in
+    (λ i. a (sym (feed_painted k.leaf t) ∙ i)) (λ i. b (sym (feed_painted k.leaf u) ∙ i)) s r (append_cancel_left (end_codes k.branch) _ _ e) in
     record { own = same_painted k t u same.own; passing = λ i. same.passing (feed_painted k.leaf t ∙ i); rest = same.rest }
 
 -- items with equal parts are equal
@@ -97,12 +97,12 @@ same_shown k n m q q' t u a b e h = at (has_line_feed t) refl where
   at true i = h i
   at false i = a.single i ∙ sym (b.single (ap has_line_feed (sym e) ∙ i))
 
--- the item at the front of a text is unique
+-- the item at the start of a text is unique
 pub line_at_once : (k : Look) → IsReadableWith k.pieces k.mark → (r s : SpelledItem) (x rest rest' : List ℕ) → HasItem k r rest x → HasItem k s rest' x → (r ≡ s) × (rest ≡ rest')
 line_at_once k readable r s x rest rest' ((at, shown), is, stop) ((at', shown'), is', stop') =
-    let whole : (front_codes k.branch) ++ (r.pieces ++ behind k r.passing r.text rest) ≡ (front_codes k.branch) ++ (s.pieces ++ behind k s.passing s.text rest') =
+    let whole : (start_codes k.branch) ++ (r.pieces ++ behind k r.passing r.text rest) ≡ (start_codes k.branch) ++ (s.pieces ++ behind k s.passing s.text rest') =
     sym (entry_is k r.pieces r.passing r.text rest) ∙ (sym is ∙ (is' ∙ entry_is k s.pieces s.passing s.text rest')) in
-    let pieces = same_pieces k.pieces readable.pieces r.level s.level r.pieces s.pieces at at' _ _ (append_cancel_left (front_codes k.branch) _ _ whole) in
+    let pieces = same_pieces k.pieces readable.pieces r.level s.level r.pieces s.pieces at at' _ _ (append_cancel_left (start_codes k.branch) _ _ whole) in
     let level = pieces.level in
     let texts = text_once k readable s.level r.text s.text r.passing s.passing rest rest'
     (λ i. subst (λ n. ArePassing k.pieces n r.passing) level (shown.further i)) shown'.further (subst (λ n. IsNotContinued k n rest) level stop) stop' pieces.rest in
@@ -112,11 +112,11 @@ line_at_once k readable r s x rest rest' ((at, shown), is, stop) ((at', shown'),
 pub none_passing : (k : Look) → ArePassing k.pieces 0 []
 none_passing k = ([], refl, refl)
 
--- the root at the front of a text is unique
+-- the root at the start of a text is unique
 pub root_once : (k : Look) → IsReadableWith k.pieces k.mark → (a b x rest rest' : List ℕ) → HasRoot k a rest x → HasRoot k b rest' x → (a ≡ b) × (rest ≡ rest')
 root_once k readable a b x rest rest' (is, stop) (is', stop') =
     let same = text_once k readable 0 a b [] [] rest rest' (λ i. none_passing k) (λ i. none_passing k) stop stop'
-    (append_cancel_left (front_codes k.branch) _ _ (sym (entry_is k [] [] a rest) ∙ (sym is ∙ (is' ∙ entry_is k [] [] b rest')))) in
+    (append_cancel_left (start_codes k.branch) _ _ (sym (entry_is k [] [] a rest) ∙ (sym is ∙ (is' ∙ entry_is k [] [] b rest')))) in
     (same.own, same.rest)
 
 -- a text with an entry in it is not empty
@@ -143,7 +143,7 @@ stops_head k h l (m ∷ lines) rest are s =
     subst (λ z. IsNotContinued k l.level z) (sym (append_assoc (text_entry k m.pieces m.passing m.text) (spelled_text k lines) rest))
     (item_never k h l.level m.level m.pieces m.passing m.text (spelled_text k lines ++ rest) (All-head (IsSpelled k.pieces) m lines are).0)
 
--- if items are at the front of a text, and what follows does not continue the last one, then any
+-- if items are at the start of a text, and what follows does not continue the last one, then any
 -- items of that text begin with them
 pub record GoesOn (k : Look) (lines all : List SpelledItem) (rest : List ℕ) : Type 0 where
   pub more : List SpelledItem
@@ -151,7 +151,7 @@ pub record GoesOn (k : Look) (lines all : List SpelledItem) (rest : List ℕ) : 
   pub are_spelled : All (IsSpelled k.pieces) more
   pub rest_is : rest ≡ spelled_text k more
 
--- any items of a text begin with those at its front
+-- any items of a text begin with those at its start
 pub lines_once : (k : Look) → IsReadableWith k.pieces k.mark → (lines all : List SpelledItem) (rest : List ℕ)
     → All (IsSpelled k.pieces) lines → All (IsSpelled k.pieces) all → Stops k lines rest → spelled_text k lines ++ rest ≡ spelled_text k all → GoesOn k lines all rest
 lines_once k readable [] all rest h g s e = record { more = all; are = refl; are_spelled = g; rest_is = e }

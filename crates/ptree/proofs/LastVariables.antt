@@ -2,7 +2,7 @@
 use Rattle.std.proofs.Common.{◌≡◌, ◌∙◌, Bool, true, false, List, [], ◌∷◌, ◌++◌, Some, None, option_map, cond, reverse, String, Global, string_bytes, ℕ, length, refl, ap, arith}
 use Rattle.std.specs.Prelude.{find}
 use Rattle.std.proofs.lemmas.List.{map-append, reverse-append}
-use Rattle.ptree.specs.declared.print_config.words.Spelling.{Spelling}
+use Rattle.ptree.specs.declared.print_config.parse.Spelling.{Spelling}
 use Rattle.ptree.specs.Characters.{is_spelled}
 use Rattle.ptree.specs.Sources.{Variables, variables_of, last_value}
 

@@ -6,8 +6,8 @@ use Rattle.std.proofs.lemmas.Bool.Decides.{nat_tests}
 use Rattle.std.proofs.lemmas.List.{append-nil, map-id}
 use Rattle.ptree.specs.Address.{Address, at, is_last}
 use Rattle.ptree.specs.Drawing.{Look, passing_text, entry_from, entry_text, IsDrawing}
-use Rattle.ptree.specs.Laws.{HasOneList, entry_behind}
-use Rattle.ptree.specs.Entries.{is_empty, entry_of, with_below, kid_entries, entries_below, drawn_entries}
+use Rattle.ptree.specs.Laws.{HasOneList, entry_after}
+use Rattle.ptree.specs.Entries.{is_empty, shape_entry, with_below, kid_entries, entries_below, drawn_entries}
 use Rattle.ptree.specs.Pieces.{turning_piece, passing_piece}
 use Rattle.ptree.specs.Shape.{Shape, child, kids, cut_shape}
 use Rattle.ptree.proofs.Addresses.{one_list, walk, walk_is_list}
@@ -56,27 +56,27 @@ is_empty-map f [] = refl
 is_empty-map f (x ∷ xs) = refl
 
 -- two lists of children that are drawn alike have the same entries
-pub kid_entries-map : {C : Type 0} (look : Look) (f g : C → Shape) (below below' : List ℕ → Shape → List (List ℕ)) → ((c : C) → (f c).own [] look.leaf ≡ (g c).own [] look.leaf) → ((front : List ℕ) (c : C) → below' front (f c) ≡ below front (g c))
-    → (front : List ℕ) (cs : List C) → kid_entries look below' front (map f cs) ≡ kid_entries look below front (map g cs)
-kid_entries-map look f g below below' o h front [] = refl
-kid_entries-map look f g below below' o h front (c ∷ cs) =
+pub kid_entries-map : {C : Type 0} (look : Look) (f g : C → Shape) (below below' : List ℕ → Shape → List (List ℕ)) → ((c : C) → (f c).own [] look.leaf ≡ (g c).own [] look.leaf) → ((outer : List ℕ) (c : C) → below' outer (f c) ≡ below outer (g c))
+    → (outer : List ℕ) (cs : List C) → kid_entries look below' outer (map f cs) ≡ kid_entries look below outer (map g cs)
+kid_entries-map look f g below below' o h outer [] = refl
+kid_entries-map look f g below below' o h outer (c ∷ cs) =
     let last = is_empty (map g cs) in
-    let turned = front ++ turning_piece look.pieces last in
-    let passed = front ++ passing_piece look.pieces last in
-    ap (λ l. with_below look below' front l (f c) ++ kid_entries look below' front (map f cs)) (is_empty-map f cs ∙ sym (is_empty-map g cs))
-    ∙ ap (λ t. (entry_from look turned passed t ∷ below' passed (f c)) ++ kid_entries look below' front (map f cs)) (o c)
-    ∙ ap (λ t. (entry_of look turned passed (g c) ∷ t) ++ kid_entries look below' front (map f cs)) (h passed c)
-    ∙ ap (λ t. with_below look below front last (g c) ++ t) (kid_entries-map look f g below below' o h front cs)
+    let turned = outer ++ turning_piece look.pieces last in
+    let passed = outer ++ passing_piece look.pieces last in
+    ap (λ l. with_below look below' outer l (f c) ++ kid_entries look below' outer (map f cs)) (is_empty-map f cs ∙ sym (is_empty-map g cs))
+    ∙ ap (λ t. (entry_from look turned passed t ∷ below' passed (f c)) ++ kid_entries look below' outer (map f cs)) (o c)
+    ∙ ap (λ t. (shape_entry look turned passed (g c) ∷ t) ++ kid_entries look below' outer (map f cs)) (h passed c)
+    ∙ ap (λ t. with_below look below outer last (g c) ++ t) (kid_entries-map look f g below below' o h outer cs)
 
 -- the entries below a cut shape are those below the shape, down to the cut
-entries_of_cut : (look : Look) (d e : ℕ) → d ≤ e → (front : List ℕ) (t : Shape) → entries_below look e front (cut_shape d t) ≡ entries_below look d front t
-entries_of_cut look zero zero h front t = refl
-entries_of_cut look zero (suc e) h front t = refl
-entries_of_cut look (suc d) zero h front t = absurd (omega arith)
-entries_of_cut look (suc d) (suc e) h front t =
-    ap (kid_entries look (entries_below look e) front) (kids_of_cut d t)
-    ∙ kid_entries-map look (cut_shape d) (λ x. x) (entries_below look d) (entries_below look e) (λ x. refl) (λ f x. entries_of_cut look d e (omega arith) f x) front (kids t)
-    ∙ ap (kid_entries look (entries_below look d) front) (map-id (kids t))
+entries_of_cut : (look : Look) (d e : ℕ) → d ≤ e → (outer : List ℕ) (t : Shape) → entries_below look e outer (cut_shape d t) ≡ entries_below look d outer t
+entries_of_cut look zero zero h outer t = refl
+entries_of_cut look zero (suc e) h outer t = refl
+entries_of_cut look (suc d) zero h outer t = absurd (omega arith)
+entries_of_cut look (suc d) (suc e) h outer t =
+    ap (kid_entries look (entries_below look e) outer) (kids_of_cut d t)
+    ∙ kid_entries-map look (cut_shape d) (λ x. x) (entries_below look d) (entries_below look e) (λ x. refl) (λ f x. entries_of_cut look d e (omega arith) f x) outer (kids t)
+    ∙ ap (kid_entries look (entries_below look d) outer) (map-id (kids t))
 
 -- exactly one list is the address list
 pub the_list : (x : Shape) (d : ℕ) → HasOneList x d
@@ -96,24 +96,24 @@ same_drawings look x y d e h text = (
 -- the drawings at a depth are those of the cut shape at any greater depth
 pub drawing_of_cut : (look : Look) (d e : ℕ) (t : Shape) (text : List ℕ) → d ≤ e → IsDrawing look t d text ↔ IsDrawing look (cut_shape d t) e text
 drawing_of_cut look d e t text h =
-    same_drawings look t (cut_shape d t) d e (sym (ap (λ y. entry_of look [] [] t ∷ y) (entries_of_cut look d e h [] t))) text
+    same_drawings look t (cut_shape d t) d e (sym (ap (λ y. shape_entry look [] [] t ∷ y) (entries_of_cut look d e h [] t))) text
 
 -- ## Subtree
 
 -- the entry at an address below a is the entry of the item at a drawn alone, after a's passing text
-pub entry_below : (look : Look) (front : List ℕ) (x y : Shape) (a : Address) (j : ℕ) (r : Address) → at kids x a ≡ Some y
-    → entry_behind look front x (a ++ j ∷ r) ≡ entry_behind look (front ++ passing_text look x a) y (j ∷ r)
-entry_below look front x y [] j r h =
+pub entry_below : (look : Look) (outer : List ℕ) (x y : Shape) (a : Address) (j : ℕ) (r : Address) → at kids x a ≡ Some y
+    → entry_after look outer x (a ++ j ∷ r) ≡ entry_after look (outer ++ passing_text look x a) y (j ∷ r)
+entry_below look outer x y [] j r h =
     let same : x ≡ y = cc in
-    ap (λ z. entry_behind look front z (j ∷ r)) same ∙ ap (λ z. entry_behind look z y (j ∷ r)) (sym (append-nil front))
-entry_below look front x y (i ∷ a) j r h =
+    ap (λ z. entry_after look outer z (j ∷ r)) same ∙ ap (λ z. entry_after look z y (j ∷ r)) (sym (append-nil outer))
+entry_below look outer x y (i ∷ a) j r h =
     let s = found (slice_get (kids x) i) (λ c. at kids c a) y h in
     let rest = headed a j r in
-    ap (λ b. entry_behind look front x (i ∷ b)) rest.2
-    ∙ entry_under look front x s.0 i rest.0 rest.1 (is_last kids x (i ∷ [])) s.1 refl
-    ∙ ap (λ b. entry_behind look (front ++ passing_piece look.pieces (is_last kids x (i ∷ []))) s.0 b) (sym rest.2)
-    ∙ entry_below look (front ++ passing_piece look.pieces (is_last kids x (i ∷ []))) s.0 y a j r s.2
-    ∙ ap (λ z. entry_behind look z y (j ∷ r)) (append_assoc front (passing_piece look.pieces (is_last kids x (i ∷ []))) (passing_text look s.0 a) ∙ ap (λ z. front ++ z) (sym (passing_child look x s.0 i a s.1)))
+    ap (λ b. entry_after look outer x (i ∷ b)) rest.2
+    ∙ entry_under look outer x s.0 i rest.0 rest.1 (is_last kids x (i ∷ [])) s.1 refl
+    ∙ ap (λ b. entry_after look (outer ++ passing_piece look.pieces (is_last kids x (i ∷ []))) s.0 b) (sym rest.2)
+    ∙ entry_below look (outer ++ passing_piece look.pieces (is_last kids x (i ∷ []))) s.0 y a j r s.2
+    ∙ ap (λ z. entry_after look z y (j ∷ r)) (append_assoc outer (passing_piece look.pieces (is_last kids x (i ∷ []))) (passing_text look s.0 a) ∙ ap (λ z. outer ++ z) (sym (passing_child look x s.0 i a s.1)))
   where
     found : {X Y : Type 0} (o : Option X) (f : X → Option Y) (y : Y) → option_and_then f o ≡ Some y → (c : X) × (o ≡ Some c) × (f c ≡ Some y)
     found None f y h = absurd (cc)

@@ -16,11 +16,11 @@ use Rattle.ptree.proofs.TreeDrawing.{is_bare, forest_drawing, tree_drawing}
 abbrev pub lines_drawing : Look → List Line → List ℕ
 lines_drawing k o = spelled_text k (spelled_by k.pieces o)
 
--- a deeper line in front does not decide about level m
+-- a deeper line at the start does not decide about level m
 pub has_later_deeper : (l : Line) (o : List Line) (m : ℕ) → m < l.level → has_later (l ∷ o) m ≡ has_later o m
 has_later_deeper l o m h = rw (lt-ltb m l.level h) refl
 
--- a line in front that is not deeper decides about level m
+-- a line at the start that is not deeper decides about level m
 pub has_later_here : (l : Line) (o : List Line) (m : ℕ) → l.level ≤ m → has_later (l ∷ o) m ≡ eqb m l.level
 has_later_here l o m h = rw (le-ltb m l.level h) refl
 

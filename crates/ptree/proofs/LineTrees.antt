@@ -25,7 +25,7 @@ stack_none : (n : ℕ) → IsStack n []
 stack_none zero = ([], refl, refl)
 stack_none (suc n) = let (fs, len, is) = stack_none n in (none ∷ fs, ap suc len, is)
 
--- a line in front of those of a stack
+-- a line before those of a stack
 stack_put : (l : Line) (o : List Line) → 0 < l.level → IsStack (suc l.level) o → IsStack l.level (l ∷ o)
 stack_put l o low ([], len, is) = absurd (omega (arith, len))
 stack_put l o low (c ∷ [], len, is) = absurd (omega (arith, len))

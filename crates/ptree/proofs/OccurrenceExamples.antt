@@ -19,7 +19,7 @@ once : occurrences_from_0 shared 9
     ≡ occurrence 0 false (item 1 false (item 2 false (item 4 false none none) (item 3 false (item 4 false none none) none)) (item 2 true none none))
 once = refl
 
--- to level 2: 0 [1 [2, 3], 2 [4]]. At level 2 nothing stands below 2, so its later occurrence has
+-- to level 2: 0 [1 [2, 3], 2 [4]]. At level 2 nothing is below 2, so its later occurrence has
 -- its neighbours
 cut : occurrences_from_0 shared 2 ≡ occurrence 0 false (item 1 false (item 2 false none (item 3 false none none)) (item 2 false (item 4 false none none) none))
 cut = refl
@@ -37,13 +37,13 @@ cycle = refl
 parallel : occurrences_from_0 ((0, 1) ∷ (0, 1) ∷ (1, 2) ∷ []) 9 ≡ occurrence 0 false (item 1 false (item 2 false none none) (item 1 true none none))
 parallel = refl
 
--- 3 comes first at the depth, below 2, and then at level 1, where its neighbours stand: 0 [1 [2
+-- 3 comes first at the depth, below 2, and then at level 1, where its neighbours are: 0 [1 [2
 -- [3]], 3 [4]]
 late : occurrences_from_0 ((0, 3) ∷ (0, 1) ∷ (1, 2) ∷ (2, 3) ∷ (3, 4) ∷ []) 3
     ≡ occurrence 0 false (item 1 false (item 2 false (item 3 false none none) none) (item 3 false (item 4 false none none) none))
 late = refl
 
--- repeated at the depth where the neighbours stand above: 0 [1 [2], 3 [1 repeated]]
+-- repeated at the depth where the neighbours are above: 0 [1 [2], 3 [1 repeated]]
 repeated_at_depth : occurrences_from_0 ((0, 3) ∷ (0, 1) ∷ (1, 2) ∷ (3, 1) ∷ []) 2
     ≡ occurrence 0 false (item 1 false (item 2 false none none) (item 3 false (item 1 true none none) none))
 repeated_at_depth = refl

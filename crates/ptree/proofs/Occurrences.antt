@@ -27,12 +27,12 @@ plain_text text = append-nil text
 painted_without : (style : StyleValue) (text : List ℕ) → style_codes style ≡ [] → painted_text style text ≡ text
 painted_without style text e = ap (λ (codes : List (List ℕ)). flat_map (λ code. code) codes ++ text ++ reset_after codes) e ∙ append-nil text
 
--- a front of the label was written, in a style without codes
+-- a prefix of the label was written, in a style without codes
 pub plain_label_part : (style : StyleValue) (text mark : List ℕ) → style_codes style ≡ [] → (a b : Option (List ℕ)) → AppendsPart a b (painted_text style text) → AppendsPart a b (painted_text style (text ++ mark))
 plain_label_part style text mark e a b h =
     subst (λ (z : List ℕ). AppendsPart a b z) (sym (painted_without style (text ++ mark) e)) (part_more a b text mark (subst (λ (z : List ℕ). AppendsPart a b z) (painted_without style text e) h))
 
--- the label was, and then the mark or a front of it
+-- the label was, and then the mark or a prefix of it
 pub plain_written : {A E : Type 0} (style : StyleValue) (text mark : List ℕ) → style_codes style ≡ [] → (a b c : Option (List ℕ)) (r : Result A E) (y : List ℕ) → y ≡ mark
     → Appends a b (painted_text style text) → IsWritten b c r y → IsWritten a c r (painted_text style (text ++ mark))
 plain_written style text mark e a b c r y q h k =
@@ -43,36 +43,36 @@ plain_written style text mark e a b c r y q h k =
 painted_plain : (plain : StyleValue) (text : List ℕ) → plain ≡ plain_value → painted_text plain text ≡ text
 painted_plain plain text e = ap (λ s. painted_text s text) e ∙ plain_text text
 
-module _ (front text mark back : List ℕ) where
+module _ (start text mark end : List ℕ) where
   -- the label and the mark, painted as one
   abbrev whole : List ℕ
-  whole = front ++ (text ++ mark) ++ back
+  whole = start ++ (text ++ mark) ++ end
 
-  -- a front of the codes was written
-  pub front_part : (a b : Option (List ℕ)) (x : List ℕ) → x ≡ front → AppendsPart a b x → AppendsPart a b whole
-  front_part a b x e h = let k = subst (λ (z : List ℕ). AppendsPart a b z) e h in part_more a b (front ++ (text ++ mark)) back (part_more a b front (text ++ mark) k)
+  -- a prefix of the codes was written
+  pub start_part : (a b : Option (List ℕ)) (x : List ℕ) → x ≡ start → AppendsPart a b x → AppendsPart a b whole
+  start_part a b x e h = let k = subst (λ (z : List ℕ). AppendsPart a b z) e h in part_more a b (start ++ (text ++ mark)) end (part_more a b start (text ++ mark) k)
 
-  -- the codes and a front of the label were
-  pub label_part : (a b c : Option (List ℕ)) (x : List ℕ) (plain : StyleValue) → plain ≡ plain_value → x ≡ front → Appends a b x → AppendsPart b c (painted_text plain text) → AppendsPart a c whole
+  -- the codes and a prefix of the label were
+  pub label_part : (a b c : Option (List ℕ)) (x : List ℕ) (plain : StyleValue) → plain ≡ plain_value → x ≡ start → Appends a b x → AppendsPart b c (painted_text plain text) → AppendsPart a c whole
   label_part a b c x plain u e h k =
       let f = subst (λ (z : List ℕ). Appends a b z) e h in
       let l = subst (λ (z : List ℕ). AppendsPart b c z) (painted_plain plain text u) k in
-      part_more a c (front ++ (text ++ mark)) back (part_then a b c front (text ++ mark) f (part_more b c text mark l))
+      part_more a c (start ++ (text ++ mark)) end (part_then a b c start (text ++ mark) f (part_more b c text mark l))
 
-  -- the codes, the label and a front of the mark were
-  pub mark_part : (a b c d : Option (List ℕ)) (x y : List ℕ) (plain : StyleValue) → plain ≡ plain_value → x ≡ front → y ≡ mark → Appends a b x → Appends b c (painted_text plain text) → AppendsPart c d y → AppendsPart a d whole
+  -- the codes, the label and a prefix of the mark were
+  pub mark_part : (a b c d : Option (List ℕ)) (x y : List ℕ) (plain : StyleValue) → plain ≡ plain_value → x ≡ start → y ≡ mark → Appends a b x → Appends b c (painted_text plain text) → AppendsPart c d y → AppendsPart a d whole
   mark_part a b c d x y plain u e q h k l =
       let f = subst (λ (z : List ℕ). Appends a b z) e h in
       let t = subst (λ (z : List ℕ). Appends b c z) (painted_plain plain text u) k in
       let m = subst (λ (z : List ℕ). AppendsPart c d z) q l in
-      part_more a d (front ++ (text ++ mark)) back (part_then a b d front (text ++ mark) f (part_then b c d text mark t m))
+      part_more a d (start ++ (text ++ mark)) end (part_then a b d start (text ++ mark) f (part_then b c d text mark t m))
 
   -- all was written, or all but an end of the codes
-  pub all_repeated : {A E : Type 0} (a b c d e : Option (List ℕ)) (r : Result A E) (x y z : List ℕ) (plain : StyleValue) → plain ≡ plain_value → x ≡ front → y ≡ mark → z ≡ back
+  pub all_repeated : {A E : Type 0} (a b c d e : Option (List ℕ)) (r : Result A E) (x y z : List ℕ) (plain : StyleValue) → plain ≡ plain_value → x ≡ start → y ≡ mark → z ≡ end
       → Appends a b x → Appends b c (painted_text plain text) → Appends c d y → IsWritten d e r z → IsWritten a e r whole
   all_repeated a b c d e r x y z plain u p q s h k l n =
       let f = subst (λ (w : List ℕ). Appends a b w) p h in
       let t = subst (λ (w : List ℕ). Appends b c w) (painted_plain plain text u) k in
       let m = subst (λ (w : List ℕ). Appends c d w) q l in
       let w = subst (λ (w : List ℕ). IsWritten d e r w) s n in
-      written_then a d e r (front ++ (text ++ mark)) back (appends_then a b d front (text ++ mark) f (appends_then b c d text mark t m)) w
+      written_then a d e r (start ++ (text ++ mark)) end (appends_then a b d start (text ++ mark) f (appends_then b c d text mark t m)) w

@@ -81,7 +81,7 @@ module _ (below : ℕ → List ℕ) where
         let first = h seen u e in
         row_step seen d u us (f seen u) (row_occurrences f (f seen u).seen us) (row_seen f (f seen u).seen us) first (rows d f h us (f seen u).seen first.flags)
 
-    -- where nothing stands below an occurrence, no node is expanded in it
+    -- where nothing is below an occurrence, no node is expanded in it
     nothing_shown : (t : OccurrenceTree) (w : ℕ) → occurrence_kids t ≡ [] → IsExpanded t w → ⊥
     nothing_shown t w e x = elim (shown_to t w x) [ inl y ↦ y.1 e | inr y ↦ none_within (occurrence_kids t) y.0 y.1 e y.2 ]
 
@@ -93,7 +93,7 @@ module _ (below : ℕ → List ℕ) where
     root_flag : (seen : List Bool) (d v : ℕ) (t : OccurrenceTree) → OnceFrom below (IsSeen seen) d t → t.node ≡ v → t.repeated ≡ is_seen seen v
     root_flag seen d v t o e = same_marks t.repeated (is_seen seen t.node) (root_repeated (IsSeen seen) d t o) ∙ ap (is_seen seen) e
 
-    -- where nothing may stand below an occurrence
+    -- where nothing may be below an occurrence
     leaf_right : (seen : List Bool) (d v : ℕ) → length seen ≡ n → ((p : OccurrenceTree) → p.node ≡ v → p.repeated ≡ is_seen seen v → allowed below d p 0 ≡ [])
         → IsRight seen d v (grown (occurrence v (is_seen seen v) none) seen)
     leaf_right seen d v e h = record {
@@ -134,7 +134,7 @@ module _ (below : ℕ → List ℕ) where
       open_here : (p : OccurrenceTree) → (if nat_lt 0 (suc d) then below p.node else []) ≡ below p.node
       open_here p = ap (λ b. if b then below p.node else []) (lt-ltb 0 (suc d) (omega arith))
 
-      -- the row is what stands below the occurrence
+      -- the row is what is below the occurrence
       among : (w : ℕ) → IsExpandedAmong ps w ↔ IsExpandedAmong (occurrence_kids whole) w
       among w = (λ x. subst (λ (z : List OccurrenceTree). IsExpandedAmong z w) (sym (occurrences_of_row ps)) x, λ x. subst (λ (z : List OccurrenceTree). IsExpandedAmong z w) (occurrences_of_row ps) x)
 
@@ -177,12 +177,12 @@ module _ (below : ℕ → List ℕ) where
         only = only;
       }
 
-    -- nothing stands below in either case
+    -- nothing is below in either case
     nothing_either : (b : Bool) (xs : List ℕ) → xs ≡ [] → (if b then [] else xs) ≡ []
     nothing_either true xs e = refl
     nothing_either false xs e = e
 
-    -- nothing stands below a node without neighbours
+    -- nothing is below a node without neighbours
     nothing_below : (b : Bool) (xs : List ℕ) → xs ≡ [] → (if b then xs else []) ≡ []
     nothing_below true xs h = h
     nothing_below false xs h = refl
@@ -193,7 +193,7 @@ module _ (below : ℕ → List ℕ) where
       abbrev chosen : Bool → Grown
       chosen b = if b then grown (occurrence v true none) seen else expand (grow below d) (below v) seen v
 
-      -- of a node that isn't expanded yet
+      -- of a node that is not expanded yet
       by_list : (us : List ℕ) → below v ≡ us → is_seen seen v ≡ false → IsRight seen (suc d) v (expand (grow below d) us seen v)
       by_list [] q fresh =
           subst (λ (b : Bool). IsRight seen (suc d) v (grown (occurrence v b none) seen)) fresh

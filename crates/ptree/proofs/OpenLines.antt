@@ -8,38 +8,38 @@ use Rattle.ptree.specs.Drawing.{Look, continued_prefix}
 use Rattle.ptree.specs.Flags.{has_later, last_flags, pieces_by, passing_by}
 use Rattle.ptree.specs.Outline.{Line, line}
 use Rattle.ptree.specs.Pieces.{Pieces, turning_piece, passing_piece, passing_all}
-use Rattle.ptree.specs.Reached.{allows, any_flags, Allows, own_front, NoPiece, IsCutTo, AreSome, ArePath, IsFound, CanClose, CutsPassing, CutsPieces, IsFurtherLine, IsOwnLine, BeginsWrong}
+use Rattle.ptree.specs.Reached.{allows, any_flags, Allows, own_prefix, NoPiece, IsCutTo, AreSome, ArePath, IsFound, CanClose, CutsPassing, CutsPieces, IsFurtherLine, IsOwnLine, BeginsWrong}
 use Rattle.ptree.specs.Readable.{IsReadable, IsReadableWith}
 use Rattle.ptree.specs.Spelled.{ArePiecesAt, ArePassing}
-use Rattle.ptree.specs.Style.{front_codes, back_codes}
-use Rattle.ptree.specs.Text.{HasNoLineFeed}
+use Rattle.ptree.specs.Style.{start_codes, end_codes}
+use Rattle.ptree.specs.Texts.{HasNoLineFeed}
 use Rattle.ptree.proofs.LastFlags.{length-last_flags}
 use Rattle.ptree.proofs.Levels.{has_later_deeper, has_later_here}
 use Rattle.ptree.proofs.Marks.{passings_once, mark_is}
-use Rattle.ptree.proofs.Prefixes.{apart_never, same_front, same_kind}
-use Rattle.ptree.proofs.Styles.{no_line_feed_front, no_line_feed_back}
+use Rattle.ptree.proofs.Prefixes.{apart_never, same_prefix, same_kind}
+use Rattle.ptree.proofs.Styles.{no_line_feed_start, no_line_feed_end}
 use Rattle.ptree.proofs.OpenItems.{some_flag, allows_any, passing_deeper}
 use Rattle.ptree.proofs.FoundPieces.{found_at}
 
 -- ## Lines that cannot continue a drawing
 
 -- the parts of an own line
-pub front_split : (k : Look) (pieces x : List ℕ) → own_front k pieces ++ x ≡ front_codes k.branch ++ (pieces ++ (back_codes k.branch ++ (front_codes k.leaf ++ x)))
-front_split k pieces x = at (front_codes k.branch) (back_codes k.branch) (front_codes k.leaf) where
+pub own_prefix_split : (k : Look) (pieces x : List ℕ) → own_prefix k pieces ++ x ≡ start_codes k.branch ++ (pieces ++ (end_codes k.branch ++ (start_codes k.leaf ++ x)))
+own_prefix_split k pieces x = at (start_codes k.branch) (end_codes k.branch) (start_codes k.leaf) where
   at : (a b c : List ℕ) → ((a ++ pieces ++ b) ++ c) ++ x ≡ a ++ (pieces ++ (b ++ (c ++ x)))
   at a b c = simp append_assoc
 
 -- a text without the branch's codes begins with neither kind of line
-pub no_front : (k : Look) (depth : ℕ) (fs : List Flags) (x : List ℕ) → ((z : List ℕ) → x ≢ front_codes k.branch ++ z) → BeginsWrong k depth fs x
-no_front k depth fs x h = record {
+pub no_start : (k : Look) (depth : ℕ) (fs : List Flags) (x : List ℕ) → ((z : List ℕ) → x ≢ start_codes k.branch ++ z) → BeginsWrong k depth fs x
+no_start k depth fs x h = record {
   no_further = λ o z a e. h _ (e ∙ mark_is k (passing_by k.pieces o (length fs)) z);
-  no_own = λ n o z low high deep a e. h _ (e ∙ front_split k (pieces_by k.pieces o n) z);
+  no_own = λ n o z low high deep a e. h _ (e ∙ own_prefix_split k (pieces_by k.pieces o n) z);
 }
 
 -- what must still be shown wrong, given the pieces that were found
-pub begins_wrong : (k : Look) → IsReadableWith k.pieces k.mark → (depth : ℕ) (fs new : List Flags) (x text shown rest : List ℕ) (n : ℕ) → x ≡ front_codes k.branch ++ text → IsFound k.pieces fs new text shown rest n
-    → ((z : List ℕ) → n ≡ length fs → rest ≢ k.mark ++ (back_codes k.branch ++ z))
-    → ((b : Bool) (o : List Line) (z : List ℕ) → suc n ≤ depth → Allows new (line (suc n) [] ∷ o) → rest ≢ turning_piece k.pieces b ++ (back_codes k.branch ++ (front_codes k.leaf ++ z)))
+pub begins_wrong : (k : Look) → IsReadableWith k.pieces k.mark → (depth : ℕ) (fs new : List Flags) (x text shown rest : List ℕ) (n : ℕ) → x ≡ start_codes k.branch ++ text → IsFound k.pieces fs new text shown rest n
+    → ((z : List ℕ) → n ≡ length fs → rest ≢ k.mark ++ (end_codes k.branch ++ z))
+    → ((b : Bool) (o : List Line) (z : List ℕ) → suc n ≤ depth → Allows new (line (suc n) [] ∷ o) → rest ≢ turning_piece k.pieces b ++ (end_codes k.branch ++ (start_codes k.leaf ++ z)))
     → BeginsWrong k depth fs x
 begins_wrong k readable depth fs new x text shown rest n is h no_mark no_turn = record { no_further = further; no_own = own } where
   p : Pieces
@@ -47,17 +47,17 @@ begins_wrong k readable depth fs new x text shown rest n is h no_mark no_turn = 
 
   further : (o : List Line) (z : List ℕ) → Allows fs o → x ≢ continued_prefix k (passing_by p o (length fs)) ++ z
   further o z a e =
-      let whole : text ≡ passing_by p o (length fs) ++ (k.mark ++ (back_codes k.branch ++ z)) =
-      append_cancel_left (front_codes k.branch) _ _ (sym is ∙ (e ∙ mark_is k (passing_by p o (length fs)) z)) in
-      let there = found_at p readable.pieces fs new text shown rest n h (length fs) o k.mark (back_codes k.branch ++ z) (omega arith) a (λ b. (readable.apart b).1) whole in
+      let whole : text ≡ passing_by p o (length fs) ++ (k.mark ++ (end_codes k.branch ++ z)) =
+      append_cancel_left (start_codes k.branch) _ _ (sym is ∙ (e ∙ mark_is k (passing_by p o (length fs)) z)) in
+      let there = found_at p readable.pieces fs new text shown rest n h (length fs) o k.mark (end_codes k.branch ++ z) (omega arith) a (λ b. (readable.apart b).1) whole in
       no_mark z there.0 there.2
 
-  own : (m : ℕ) (o : List Line) (z : List ℕ) → 0 < m → m ≤ suc (length fs) → m ≤ depth → Allows fs (line m [] ∷ o) → x ≢ own_front k (pieces_by p o m) ++ z
+  own : (m : ℕ) (o : List Line) (z : List ℕ) → 0 < m → m ≤ suc (length fs) → m ≤ depth → Allows fs (line m [] ∷ o) → x ≢ own_prefix k (pieces_by p o m) ++ z
   own zero o z low high deep a e = absurd (omega arith)
   own (suc m) o z low high deep a e =
       let b : Bool = not (has_later o (suc m)) in
-      let tail : List ℕ = back_codes k.branch ++ (front_codes k.leaf ++ z) in
-      let start : text ≡ (passing_by p o m ++ turning_piece p b) ++ tail = append_cancel_left (front_codes k.branch) _ _ (sym is ∙ (e ∙ front_split k (pieces_by p o (suc m)) z)) in
+      let tail : List ℕ = end_codes k.branch ++ (start_codes k.leaf ++ z) in
+      let start : text ≡ (passing_by p o m ++ turning_piece p b) ++ tail = append_cancel_left (start_codes k.branch) _ _ (sym is ∙ (e ∙ own_prefix_split k (pieces_by p o (suc m)) z)) in
       let whole : text ≡ passing_by p (line (suc m) [] ∷ o) m ++ (turning_piece p b ++ tail) =
       start ∙ (append_assoc (passing_by p o m) (turning_piece p b) tail ∙ ap (λ y. y ++ (turning_piece p b ++ tail)) (sym (passing_deeper p m o))) in
       let there = found_at p readable.pieces fs new text shown rest n h m (line (suc m) [] ∷ o) (turning_piece p b) tail (omega (arith, high)) a (λ d. readable.pieces.turning_passing b d) whole in
@@ -66,20 +66,20 @@ begins_wrong k readable depth fs new x text shown rest n is h no_mark no_turn = 
       no_turn b o z (omega (arith, deep, same)) (subst (λ y. Allows new (line (suc y) [] ∷ o)) (sym same) kept) there.2
 
 -- a line with a turning piece there is wrong
-pub turned_wrong : (k : Look) → IsReadableWith k.pieces k.mark → (depth : ℕ) (fs new : List Flags) (x text shown rest turned : List ℕ) (n : ℕ) (flags : Flags) → x ≡ front_codes k.branch ++ text → IsFound k.pieces fs new text shown rest n
+pub turned_wrong : (k : Look) → IsReadableWith k.pieces k.mark → (depth : ℕ) (fs new : List Flags) (x text shown rest turned : List ℕ) (n : ℕ) (flags : Flags) → x ≡ start_codes k.branch ++ text → IsFound k.pieces fs new text shown rest n
     → IsCutTo (turning_piece k.pieces) any_flags rest flags turned
-    → ((o : List Line) (z : List ℕ) → suc n ≤ depth → Allows new (line (suc n) [] ∷ o) → turned ≢ back_codes k.branch ++ (front_codes k.leaf ++ z)) → BeginsWrong k depth fs x
+    → ((o : List Line) (z : List ℕ) → suc n ≤ depth → Allows new (line (suc n) [] ∷ o) → turned ≢ end_codes k.branch ++ (start_codes k.leaf ++ z)) → BeginsWrong k depth fs x
 turned_wrong k readable depth fs new x text shown rest turned n flags is h cut never =
     begins_wrong k readable depth fs new x text shown rest n is h
-    (λ z level e. apart_never k.mark (turning_piece k.pieces cut.last) (back_codes k.branch ++ z) turned (readable.apart cut.last).0 (sym e ∙ cut.text_is))
-    (λ b o z deep a e. never o z deep a (same_front (turning_piece k.pieces cut.last) (turning_piece k.pieces b) turned (back_codes k.branch ++ (front_codes k.leaf ++ z))
+    (λ z level e. apart_never k.mark (turning_piece k.pieces cut.last) (end_codes k.branch ++ z) turned (readable.apart cut.last).0 (sym e ∙ cut.text_is))
+    (λ b o z deep a e. never o z deep a (same_prefix (turning_piece k.pieces cut.last) (turning_piece k.pieces b) turned (end_codes k.branch ++ (start_codes k.leaf ++ z))
     (same_kind k.pieces.regular k.pieces.last_regular readable.pieces.turnings cut.last b) (sym cut.text_is ∙ e)).1)
 
 -- a line without a turning piece there is wrong
-pub unturned_wrong : (k : Look) → IsReadableWith k.pieces k.mark → (depth : ℕ) (fs new : List Flags) (x text shown rest : List ℕ) (n : ℕ) → x ≡ front_codes k.branch ++ text → IsFound k.pieces fs new text shown rest n
-    → NoPiece (turning_piece k.pieces) any_flags rest → ((z : List ℕ) → n ≡ length fs → rest ≢ k.mark ++ (back_codes k.branch ++ z)) → BeginsWrong k depth fs x
+pub unturned_wrong : (k : Look) → IsReadableWith k.pieces k.mark → (depth : ℕ) (fs new : List Flags) (x text shown rest : List ℕ) (n : ℕ) → x ≡ start_codes k.branch ++ text → IsFound k.pieces fs new text shown rest n
+    → NoPiece (turning_piece k.pieces) any_flags rest → ((z : List ℕ) → n ≡ length fs → rest ≢ k.mark ++ (end_codes k.branch ++ z)) → BeginsWrong k depth fs x
 unturned_wrong k readable depth fs new x text shown rest n is h none never =
-    begins_wrong k readable depth fs new x text shown rest n is h never (λ b o z deep a e. none b (back_codes k.branch ++ (front_codes k.leaf ++ z)) (allows_any b) e)
+    begins_wrong k readable depth fs new x text shown rest n is h never (λ b o z deep a e. none b (end_codes k.branch ++ (start_codes k.leaf ++ z)) (allows_any b) e)
 
 -- ## Lines that continue drawings
 
@@ -96,18 +96,18 @@ get_last (y ∷ xs) x = get_last xs x
 
 -- the parts of an item's own line
 pub record OwnParts (k : Look) (x text rest turned own more : List ℕ) (flags : Flags) : Type 0 where
-  pub is : x ≡ front_codes k.branch ++ text
+  pub is : x ≡ start_codes k.branch ++ text
   pub cut : IsCutTo (turning_piece k.pieces) any_flags rest flags turned
-  pub turned_is : turned ≡ back_codes k.branch ++ (front_codes k.leaf ++ (own ++ 10 ∷ more))
+  pub turned_is : turned ≡ end_codes k.branch ++ (start_codes k.leaf ++ (own ++ 10 ∷ more))
   pub one : HasNoLineFeed own
 
 -- the parts of an item's own line, as they were taken off one after the other
-pub own_parts : (k : Look) (x text rest turned closed start own more : List ℕ) (flags : Flags) → x ≡ front_codes k.branch ++ text → IsCutTo (turning_piece k.pieces) any_flags rest flags turned
-    → turned ≡ back_codes k.branch ++ closed → closed ≡ front_codes k.leaf ++ start → HasNoLineFeed own × (start ≡ own ++ 10 ∷ more) → OwnParts k x text rest turned own more flags
+pub own_parts : (k : Look) (x text rest turned closed start own more : List ℕ) (flags : Flags) → x ≡ start_codes k.branch ++ text → IsCutTo (turning_piece k.pieces) any_flags rest flags turned
+    → turned ≡ end_codes k.branch ++ closed → closed ≡ start_codes k.leaf ++ start → HasNoLineFeed own × (start ≡ own ++ 10 ∷ more) → OwnParts k x text rest turned own more flags
 own_parts k x text rest turned closed start own more flags is cut t c line = record {
   is = is;
   cut = cut;
-  turned_is = t ∙ ap (λ z. back_codes k.branch ++ z) (c ∙ ap (λ z. front_codes k.leaf ++ z) line.1);
+  turned_is = t ∙ ap (λ z. end_codes k.branch ++ z) (c ∙ ap (λ z. start_codes k.leaf ++ z) line.1);
   one = line.0;
 }
 
@@ -173,8 +173,8 @@ own_there k readable depth fs new fs' x text shown rest turned own more n flags 
         high = omega (arith, size, enough);
         deep = omega (arith, size, deep);
         are_pieces = subst (λ z. ArePiecesAt p z pieces) (sym size) (above, cut.last, len, ap (λ z. z ++ turn) shown_is);
-        text_is = parts.is ∙ (ap (λ z. front_codes k.branch ++ z) (h.text_is ∙ (ap (λ z. shown ++ z) (cut.text_is ∙ ap (λ z. turn ++ z) parts.turned_is) ∙ sym (append_assoc shown turn _)))
-            ∙ sym (front_split k pieces (own ++ 10 ∷ more)));
+        text_is = parts.is ∙ (ap (λ z. start_codes k.branch ++ z) (h.text_is ∙ (ap (λ z. shown ++ z) (cut.text_is ∙ ap (λ z. turn ++ z) parts.turned_is) ∙ sym (append_assoc shown turn _)))
+            ∙ sym (own_prefix_split k pieces (own ++ 10 ∷ more)));
         cuts = subst (λ z. CutsPieces p fs z pieces fs') (sym size) cuts;
       },
       record {
@@ -187,8 +187,8 @@ own_there k readable depth fs new fs' x text shown rest turned own more n flags 
     )
 
 -- a further line, from its parts
-pub further_there : (k : Look) (fs new : List Flags) (x text shown rest own more : List ℕ) (n : ℕ) → IsFound k.pieces fs new text shown rest n → x ≡ front_codes k.branch ++ text
-    → length new ≤ n → rest ≡ k.mark ++ (back_codes k.branch ++ (own ++ 10 ∷ more)) → HasNoLineFeed own → IsFurtherLine k fs x own more new × ArePath k.pieces new n shown
+pub further_there : (k : Look) (fs new : List Flags) (x text shown rest own more : List ℕ) (n : ℕ) → IsFound k.pieces fs new text shown rest n → x ≡ start_codes k.branch ++ text
+    → length new ≤ n → rest ≡ k.mark ++ (end_codes k.branch ++ (own ++ 10 ∷ more)) → HasNoLineFeed own → IsFurtherLine k fs x own more new × ArePath k.pieces new n shown
 further_there k fs new x text shown rest own more n h is all rest_is one =
     let enough = h.enough in
     let count = h.count in
@@ -197,7 +197,7 @@ further_there k fs new x text shown rest own more n h is all rest_is one =
         passing = shown;
         one = one;
         are_passing = subst (λ z. ArePassing k.pieces z shown) level h.are_passing;
-        text_is = is ∙ (ap (λ z. front_codes k.branch ++ z) (h.text_is ∙ ap (λ z. shown ++ z) rest_is) ∙ sym (mark_is k shown (own ++ 10 ∷ more)));
+        text_is = is ∙ (ap (λ z. start_codes k.branch ++ z) (h.text_is ∙ ap (λ z. shown ++ z) rest_is) ∙ sym (mark_is k shown (own ++ 10 ∷ more)));
         cuts = subst (λ z. CutsPassing k.pieces fs z shown new) level h.cut;
         count = count;
       },
@@ -221,23 +221,23 @@ feedless_passing p h (b ∷ flags) = All-append (λ c. c ≢ 10) (passing_piece 
 both_feedless : (a b : List ℕ) → HasNoLineFeed a → HasNoLineFeed b → HasNoLineFeed (a ++ b)
 both_feedless a b h g = All-append (λ c. c ≢ 10) a b h g
 
--- if no line feed follows an item's own front, the text has none
-pub own_feedless : (k : Look) → IsReadableWith k.pieces k.mark → (fs new : List Flags) (x text shown rest turned closed start : List ℕ) (n : ℕ) (flags : Flags) → x ≡ front_codes k.branch ++ text → IsFound k.pieces fs new text shown rest n
-    → IsCutTo (turning_piece k.pieces) any_flags rest flags turned → turned ≡ back_codes k.branch ++ closed → closed ≡ front_codes k.leaf ++ start → HasNoLineFeed start → HasNoLineFeed x
+-- if no line feed follows an item's own prefix, the text has none
+pub own_feedless : (k : Look) → IsReadableWith k.pieces k.mark → (fs new : List Flags) (x text shown rest turned closed start : List ℕ) (n : ℕ) (flags : Flags) → x ≡ start_codes k.branch ++ text → IsFound k.pieces fs new text shown rest n
+    → IsCutTo (turning_piece k.pieces) any_flags rest flags turned → turned ≡ end_codes k.branch ++ closed → closed ≡ start_codes k.leaf ++ start → HasNoLineFeed start → HasNoLineFeed x
 own_feedless k readable fs new x text shown rest turned closed start n flags is h cut t c s =
     let (above, len, shown_is) = h.are_passing in
     let pieces : HasNoLineFeed shown = subst HasNoLineFeed (sym shown_is) (feedless_passing k.pieces readable.pieces above) in
-    let closed_less : HasNoLineFeed closed = subst HasNoLineFeed (sym c) (both_feedless (front_codes k.leaf) start (no_line_feed_front k.leaf) s) in
-    let turned_less : HasNoLineFeed turned = subst HasNoLineFeed (sym t) (both_feedless (back_codes k.branch) closed (no_line_feed_back k.branch) closed_less) in
+    let closed_less : HasNoLineFeed closed = subst HasNoLineFeed (sym c) (both_feedless (start_codes k.leaf) start (no_line_feed_start k.leaf) s) in
+    let turned_less : HasNoLineFeed turned = subst HasNoLineFeed (sym t) (both_feedless (end_codes k.branch) closed (no_line_feed_end k.branch) closed_less) in
     let rest_less : HasNoLineFeed rest = subst HasNoLineFeed (sym cut.text_is) (both_feedless (turning_piece k.pieces cut.last) turned (readable.pieces.no_line_feed cut.last).0 turned_less) in
-    subst HasNoLineFeed (sym (is ∙ ap (λ z. front_codes k.branch ++ z) h.text_is)) (both_feedless (front_codes k.branch) (shown ++ rest) (no_line_feed_front k.branch) (both_feedless shown rest pieces rest_less))
+    subst HasNoLineFeed (sym (is ∙ ap (λ z. start_codes k.branch ++ z) h.text_is)) (both_feedless (start_codes k.branch) (shown ++ rest) (no_line_feed_start k.branch) (both_feedless shown rest pieces rest_less))
 
--- if no line feed follows a further line's front, the text has none
-pub further_feedless : (k : Look) → IsReadableWith k.pieces k.mark → (fs new : List Flags) (x text shown rest closed start : List ℕ) (n : ℕ) → x ≡ front_codes k.branch ++ text → IsFound k.pieces fs new text shown rest n
-    → rest ≡ k.mark ++ closed → closed ≡ back_codes k.branch ++ start → HasNoLineFeed start → HasNoLineFeed x
+-- if no line feed follows a further line's prefix, the text has none
+pub further_feedless : (k : Look) → IsReadableWith k.pieces k.mark → (fs new : List Flags) (x text shown rest closed start : List ℕ) (n : ℕ) → x ≡ start_codes k.branch ++ text → IsFound k.pieces fs new text shown rest n
+    → rest ≡ k.mark ++ closed → closed ≡ end_codes k.branch ++ start → HasNoLineFeed start → HasNoLineFeed x
 further_feedless k readable fs new x text shown rest closed start n is h m c s =
     let (above, len, shown_is) = h.are_passing in
     let pieces : HasNoLineFeed shown = subst HasNoLineFeed (sym shown_is) (feedless_passing k.pieces readable.pieces above) in
-    let closed_less : HasNoLineFeed closed = subst HasNoLineFeed (sym c) (both_feedless (back_codes k.branch) start (no_line_feed_back k.branch) s) in
+    let closed_less : HasNoLineFeed closed = subst HasNoLineFeed (sym c) (both_feedless (end_codes k.branch) start (no_line_feed_end k.branch) s) in
     let rest_less : HasNoLineFeed rest = subst HasNoLineFeed (sym m) (both_feedless k.mark closed readable.no_line_feed closed_less) in
-    subst HasNoLineFeed (sym (is ∙ ap (λ z. front_codes k.branch ++ z) h.text_is)) (both_feedless (front_codes k.branch) (shown ++ rest) (no_line_feed_front k.branch) (both_feedless shown rest pieces rest_less))
+    subst HasNoLineFeed (sym (is ∙ ap (λ z. start_codes k.branch ++ z) h.text_is)) (both_feedless (start_codes k.branch) (shown ++ rest) (no_line_feed_start k.branch) (both_feedless shown rest pieces rest_less))

@@ -15,7 +15,7 @@ unfolding join
 join_none none = refl
 join_none (item t c r) = ap (λ z. item t c z) (join_none r)
 
--- The forest at level k at the front of an outline. At the level of the first line it is a tree and
+-- The forest at level k at the start of an outline. At the level of the first line it is a tree and
 -- the forest after it. Below that level it is empty. Above that level it is the forest that the
 -- later lines have.
 rows : List Line → ℕ → Forest

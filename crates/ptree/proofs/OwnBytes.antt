@@ -4,7 +4,7 @@ use Rattle.std.specs.Prelude.{Option, Some, None, MatchOption}
 use denote.Ref.{Bor}
 use Rattle.ptree.specs.Drawing.{Look, with_inserted, continued_prefix}
 use Rattle.ptree.specs.Spelled.{has_line_feed}
-use Rattle.ptree.specs.Text.{HasNoLineFeed}
+use Rattle.ptree.specs.Texts.{HasNoLineFeed}
 use Rattle.ptree.proofs.Inserted.{no_line_feed_from_reads}
 
 -- what a split at the first line feed gives

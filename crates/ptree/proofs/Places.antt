@@ -5,7 +5,7 @@ use Rattle.std.proofs.lemmas.Bool.{cases_lt}
 use Rattle.std.proofs.lemmas.List.{append-nil, take_all, length-drop, drop_all, drop_at, length-replicate, replicate-append-replicate}
 use Rattle.ptree.specs.declared.graph.places.Place.{Place}
 use Rattle.ptree.specs.Growing.{is_seen, all_flags, place_of, place_at, leaf_size, ArePlaces, AppendsPlaces, IsNextPlace}
-use Rattle.ptree.specs.Occurrence.{OccurrenceTree, occurrence, occurrence_kids, none, row, is_repeated_size, size_below, trees_by, trees_in, tree_at_front}
+use Rattle.ptree.specs.Occurrence.{OccurrenceTree, occurrence, occurrence_kids, none, row, is_repeated_size, size_below, trees_by, trees_in, first_tree}
 use Rattle.ptree.proofs.Occurrences.{occurrences_of_row}
 
 -- more steps than places change nothing
@@ -30,12 +30,12 @@ pub trees_none : (ps : List Place) → trees_in 0 ps ≡ []
 trees_none [] = refl
 trees_none (p ∷ ps) = refl
 
--- the tree at the front, and those behind it
-pub trees_first : (left : ℕ) (p : Place) (ps : List Place) → trees_in (suc left) (p ∷ ps) ≡ tree_at_front (p ∷ ps) ∷ trees_in (left - size_below p.size) (drop (size_below p.size) ps)
+-- the first tree, and those after it
+pub trees_first : (left : ℕ) (p : Place) (ps : List Place) → trees_in (suc left) (p ∷ ps) ≡ first_tree (p ∷ ps) ∷ trees_in (left - size_below p.size) (drop (size_below p.size) ps)
 trees_first left p ps =
     let b = size_below p.size in
     let shorter = length-drop b ps in
-    ap (λ ts. tree_at_front (p ∷ ps) ∷ ts) (steps_alike (length ps) (length (drop b ps)) (left - b) (drop b ps) (omega (arith, shorter)) (omega arith))
+    ap (λ ts. first_tree (p ∷ ps) ∷ ts) (steps_alike (length ps) (length (drop b ps)) (left - b) (drop b ps) (omega (arith, shorter)) (omega arith))
 
 -- ## Places of trees
 
@@ -108,21 +108,21 @@ appends_over xs ys zs v index size ts (ps, e, h) i s z =
 pub appends_longer : (xs ys : List Place) (ts : List OccurrenceTree) → AppendsPlaces xs ys ts → length xs ≤ length ys
 appends_longer xs ys ts (ps, e, h) = let long : length ys ≡ length xs + length ps = ap length e ∙ length-append xs ps in omega arith
 
--- the tree at the front is the one whose places are appended to nothing
-pub tree_of_places : (ps : List Place) (t : OccurrenceTree) → AppendsPlaces [] ps (t ∷ []) → tree_at_front ps ≡ t
-tree_of_places ps t (qs, e, h) = ap tree_at_front e ∙ one qs h where
-  one : (qs : List Place) → ArePlaces qs (t ∷ []) → tree_at_front qs ≡ t
+-- the first tree is the one whose places are appended to nothing
+pub tree_of_places : (ps : List Place) (t : OccurrenceTree) → AppendsPlaces [] ps (t ∷ []) → first_tree ps ≡ t
+tree_of_places ps t (qs, e, h) = ap first_tree e ∙ one qs h where
+  one : (qs : List Place) → ArePlaces qs (t ∷ []) → first_tree qs ≡ t
   one [] h = let never : [] ≡ t ∷ [] = h 0 [] in absurd (cc)
   one (p ∷ qs) h =
       let count : suc (length qs) + 0 ≡ suc (length qs) = omega arith in
       let all : trees_in (suc (length qs)) (p ∷ qs) ≡ t ∷ [] = ap (λ l. trees_in (suc (length qs)) l) (sym (append-nil (p ∷ qs))) ∙ (ap (λ n. trees_in n ((p ∷ qs) ++ [])) (sym count) ∙ h 0 []) in
-      let front : tree_at_front (p ∷ qs) ∷ trees_in (length qs - size_below p.size) (drop (size_below p.size) qs) ≡ t ∷ [] = sym (trees_first (length qs) p qs) ∙ all in
+      let front : first_tree (p ∷ qs) ∷ trees_in (length qs - size_below p.size) (drop (size_below p.size) qs) ≡ t ∷ [] = sym (trees_first (length qs) p qs) ∙ all in
       cc
 
 -- ## Items
 
 -- the tree at a place, by its parts
-pub tree_at_place : (ps : List Place) (i : ℕ) → tree_at_front (drop i ps) ≡ occurrence (place_at ps i).node.0 (is_repeated_size (place_at ps i).size) (row (trees_in (size_below (place_at ps i).size) (drop (suc i) ps)))
+pub tree_at_place : (ps : List Place) (i : ℕ) → first_tree (drop i ps) ≡ occurrence (place_at ps i).node.0 (is_repeated_size (place_at ps i).size) (row (trees_in (size_below (place_at ps i).size) (drop (suc i) ps)))
 tree_at_place [] zero = refl
 tree_at_place [] (suc i) = refl
 tree_at_place (p ∷ ps) zero = refl
@@ -146,29 +146,29 @@ drop_past [] (suc i) h = refl
 drop_past (q ∷ ps) zero h = absurd (cc)
 drop_past (q ∷ ps) (suc i) h = drop_past ps i h
 
--- behind some places, and then some more
+-- after some places, and then some more
 drop_further : (i b : ℕ) (ps : List Place) → drop b (drop i ps) ≡ drop (i + b) ps
 drop_further zero b ps = let e : b ≡ 0 + b = omega arith in ap (λ n. drop n ps) e
 drop_further (suc i) b [] = drop_all b [] (omega arith) ∙ sym (drop_all (suc i + b) [] (omega arith))
 drop_further (suc i) b (p ∷ ps) = let e : suc (i + b) ≡ suc i + b = omega arith in drop_further i b ps ∙ ap (λ n. drop n (p ∷ ps)) e
 
--- behind a place and what is below it, by an index that stops at the greatest number
+-- after a place and what is below it, by an index that stops at the greatest number
 pub next_index : (ps : List Place) (i b next after : ℕ) → length ps < 2 ^ 64 → next ≡ min (i + 1) (2 ^ 64 - 1) → after ≡ min (next + b) (2 ^ 64 - 1) → drop after ps ≡ drop b (drop (suc i) ps)
 next_index ps i b next after h e f = elim (cases_lt (suc i + b) (2 ^ 64)) [
   | inl x ↦ (let same : after ≡ suc i + b = omega arith in ap (λ n. drop n ps) same ∙ sym (drop_further (suc i) b ps))
   | inr x ↦ drop_all after ps (omega arith) ∙ (sym (drop_all (suc i + b) ps (omega arith)) ∙ sym (drop_further (suc i) b ps))
 ]
 
--- behind a place, by an index that stops at the greatest number
+-- after a place, by an index that stops at the greatest number
 pub first_index : (ps : List Place) (i next : ℕ) → length ps < 2 ^ 64 → next ≡ min (i + 1) (2 ^ 64 - 1) → drop next ps ≡ drop (suc i) ps
 first_index ps i next h e = elim (cases_lt (suc i) (2 ^ 64)) [
   | inl x ↦ (let same : next ≡ suc i = omega arith in ap (λ n. drop n ps) same)
   | inr x ↦ drop_all next ps (omega arith) ∙ sym (drop_all (suc i) ps (omega arith))
 ]
 
--- the tree at the next place, and those behind it
+-- the tree at the next place, and those after it
 pub next_trees : (ps : List Place) (i left b left' next after : ℕ) → length ps < 2 ^ 64 → IsNextPlace ps i left b → left' ≡ (left - 1) - b → next ≡ min (i + 1) (2 ^ 64 - 1) → after ≡ min (next + b) (2 ^ 64 - 1)
-    → trees_in left (drop i ps) ≡ tree_at_front (drop i ps) ∷ trees_in left' (drop after ps)
+    → trees_in left (drop i ps) ≡ first_tree (drop i ps) ∷ trees_in left' (drop after ps)
 next_trees ps i left b left' next after h (p, some, below, split) e f k =
     let m = left - 1 in
     let rest = drop (suc i) ps in
@@ -176,36 +176,36 @@ next_trees ps i left b left' next after h (p, some, below, split) e f k =
     let fewer : m - size_below p.size ≡ left' = omega arith in
     let behind : drop (size_below p.size) rest ≡ drop after ps = ap (λ n. drop n rest) (sym below) ∙ sym (next_index ps i b next after h f k) in
     ap (λ n. trees_in n (drop i ps)) one ∙ (ap (trees_in (suc m)) split ∙ (trees_first m p rest
-    ∙ (ap (λ l. tree_at_front l ∷ trees_in (m - size_below p.size) (drop (size_below p.size) rest)) (sym split)
-    ∙ (ap (λ n. tree_at_front (drop i ps) ∷ trees_in n (drop (size_below p.size) rest)) fewer ∙ ap (λ l. tree_at_front (drop i ps) ∷ trees_in left' l) behind))))
+    ∙ (ap (λ l. first_tree l ∷ trees_in (m - size_below p.size) (drop (size_below p.size) rest)) (sym split)
+    ∙ (ap (λ n. first_tree (drop i ps) ∷ trees_in n (drop (size_below p.size) rest)) fewer ∙ ap (λ l. first_tree (drop i ps) ∷ trees_in left' l) behind))))
 
--- what stands below a place
-pub kids_at_place : (ps : List Place) (i : ℕ) → occurrence_kids (tree_at_front (drop i ps)) ≡ trees_in (size_below (place_at ps i).size) (drop (suc i) ps)
+-- what is below a place
+pub kids_at_place : (ps : List Place) (i : ℕ) → occurrence_kids (first_tree (drop i ps)) ≡ trees_in (size_below (place_at ps i).size) (drop (suc i) ps)
 kids_at_place ps i = ap occurrence_kids (tree_at_place ps i) ∙ occurrences_of_row (trees_in (size_below (place_at ps i).size) (drop (suc i) ps))
 
 -- ## Flags
 
--- flags that are left out aren't set
+-- flags that are left out are not set
 pub seen_none : (k w : ℕ) → is_seen (replicate k false) w ≡ false
 seen_none zero w = refl
 seen_none (suc k) zero = refl
 seen_none (suc k) (suc w) = seen_none k w
 
 -- unset flags after a list do not change which nodes are seen
-seen_front : (xs : List Bool) (k w : ℕ) → is_seen (xs ++ replicate k false) w ≡ is_seen xs w
-seen_front [] k w = seen_none k w
-seen_front (x ∷ xs) k zero = refl
-seen_front (x ∷ xs) k (suc w) = seen_front xs k w
+seen_start : (xs : List Bool) (k w : ℕ) → is_seen (xs ++ replicate k false) w ≡ is_seen xs w
+seen_start [] k w = seen_none k w
+seen_start (x ∷ xs) k zero = refl
+seen_start (x ∷ xs) k (suc w) = seen_start xs k w
 
 -- the flags of all nodes say the same as those without the unset ones at the end
 pub seen_all : (n : ℕ) (seen : List Bool) (w : ℕ) → is_seen (all_flags n seen) w ≡ is_seen seen w
-seen_all n seen w = seen_front seen (n - length seen) w
+seen_all n seen w = seen_start seen (n - length seen) w
 
 -- a flag that is set in the first of two lists leaves the second
-set_front : (xs ys : List Bool) (v : ℕ) (b : Bool) → v < length xs → slice_set (xs ++ ys) v b ≡ slice_set xs v b ++ ys
-set_front [] ys v b h = absurd (omega arith)
-set_front (x ∷ xs) ys zero b h = refl
-set_front (x ∷ xs) ys (suc v) b h = ap (λ l. x ∷ l) (set_front xs ys v b (omega arith))
+set_start : (xs ys : List Bool) (v : ℕ) (b : Bool) → v < length xs → slice_set (xs ++ ys) v b ≡ slice_set xs v b ++ ys
+set_start [] ys v b h = absurd (omega arith)
+set_start (x ∷ xs) ys zero b h = refl
+set_start (x ∷ xs) ys (suc v) b h = ap (λ l. x ∷ l) (set_start xs ys v b (omega arith))
 
 -- setting a flag leaves the number of flags
 length_slice_set : (xs : List Bool) (v : ℕ) (b : Bool) → length (slice_set xs v b) ≡ length xs
@@ -216,9 +216,9 @@ length_slice_set (x ∷ xs) (suc v) b = ap suc (length_slice_set xs v b)
 -- a flag among those that are there
 set_all : (n : ℕ) (seen last : List Bool) (v : ℕ) → v < length seen → last ≡ slice_set seen v true → all_flags n last ≡ slice_set (all_flags n seen) v true
 set_all n seen last v h e =
-    ap (all_flags n) e ∙ (ap (λ k. slice_set seen v true ++ replicate (n - k) false) (length_slice_set seen v true) ∙ sym (set_front seen (replicate (n - length seen) false) v true h))
+    ap (all_flags n) e ∙ (ap (λ k. slice_set seen v true ++ replicate (n - k) false) (length_slice_set seen v true) ∙ sym (set_start seen (replicate (n - length seen) false) v true h))
 
--- more flags that aren't set
+-- more flags that are not set
 more_flags : (n k : ℕ) (seen more : List Bool) → more ≡ seen ++ replicate k false → length seen + k ≤ n → all_flags n more ≡ all_flags n seen
 more_flags n k seen more e h =
     let long : length (seen ++ replicate k false) ≡ length seen + k = length-append seen (replicate k false) ∙ ap (λ m. length seen + m) (length-replicate k false) in

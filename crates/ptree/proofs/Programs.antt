@@ -1,10 +1,9 @@
 -- The pieces that other programs draw with are readable.
 use Rattle.std.proofs.Common.{rules, ℕ, ◌+◌, ◌<◌, refl, inl, inr, arith}
-use Rattle.ptree.specs.Config.{default_mark}
+use Rattle.ptree.specs.Config.{default_mark, ConfigValue}
 use Rattle.ptree.specs.Characters.{ascii_tick, utf}
-use Rattle.ptree.specs.Configuration.{Configuration}
 use Rattle.ptree.specs.Pieces.{pieces_from}
-use Rattle.ptree.specs.Preset.{preset_value}
+use Rattle.ptree.specs.Preset.{preset_of}
 use Rattle.ptree.specs.Readable.{IsReadableWith}
 use Rattle.ptree.specs.declared.presets.Preset.{Preset}
 use Rattle.ptree.specs.declared.presets.Preset.TheVariants.{Tree, TreeAscii, CargoTree, CargoTreeAscii, Findmnt, FindmntAscii, Sqlite, Maven, Clang, Ps}
@@ -12,7 +11,7 @@ use Rattle.ptree.proofs.DefaultMark.{default_mark_readable}
 use Rattle.ptree.proofs.Shipped.{shipped_readable, tick_readable}
 
 -- the pieces and the marker of a configuration are readable
-abbrev pub IsReadableValue : Configuration → Type 0
+abbrev pub IsReadableValue : ConfigValue → Type 0
 IsReadableValue v = IsReadableWith (pieces_from v.characters v.indent v.padding) v.continued
 
 -- the regular set is readable at every indent and padding
@@ -26,7 +25,7 @@ ticks_readable indent padding dash =
     default_mark_readable ascii_tick (inl refl) indent padding ((tick_readable indent padding).1 dash)
 
 -- the presets are readable
-pub preset_readable : (p : Preset) → IsReadableValue (preset_value p)
+pub preset_readable : (p : Preset) → IsReadableValue (preset_of p)
 preset_readable Tree = search (rules)
 preset_readable TreeAscii = ticks_readable 4 1 (omega arith)
 preset_readable CargoTree = utf_readable 4 1

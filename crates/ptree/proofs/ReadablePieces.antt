@@ -3,8 +3,8 @@ use Rattle.std.proofs.Common.{◌≡◌, ℕ, ◌<◌, Bool, true, false, not, L
 use Rattle.std.specs.Prelude.{IsTrue, ◌↔◌}
 use Rattle.std.proofs.lemmas.List.{get_or_default}
 use Rattle.ptree.specs.Pieces.{Pieces, turning_piece, passing_piece}
-use Rattle.ptree.specs.Readable.{AreApart}
-use Rattle.ptree.specs.Text.{HasNoLineFeed}
+use Rattle.ptree.specs.Readable.{ArePrefixFree}
+use Rattle.ptree.specs.Texts.{HasNoLineFeed}
 
 -- what a search for the line feed gives
 pub no_line_feed_test : (bs : List ℕ) (found : Bool) → (found ≡ true → (k : ℕ) × (k < length bs) × (get_or bs k 0 ≡ 10)) × ((k : ℕ) → k < length bs → get_or bs k 0 ≡ 10 → found ≡ true)
@@ -24,11 +24,11 @@ one_line_each p h true = (h.turning.1, h.passing.1)
 
 -- no turning piece is a prefix of a passing one, nor the reverse
 pub record KindsApart (p : Pieces) : Type 0 where
-  pub regular : AreApart (turning_piece p false) (passing_piece p false) × AreApart (turning_piece p false) (passing_piece p true)
-  pub last_regular : AreApart (turning_piece p true) (passing_piece p false) × AreApart (turning_piece p true) (passing_piece p true)
+  pub regular : ArePrefixFree (turning_piece p false) (passing_piece p false) × ArePrefixFree (turning_piece p false) (passing_piece p true)
+  pub last_regular : ArePrefixFree (turning_piece p true) (passing_piece p false) × ArePrefixFree (turning_piece p true) (passing_piece p true)
 
 -- each turning piece is apart from each passing one
-pub kinds_apart_each : (p : Pieces) → KindsApart p → (a b : Bool) → AreApart (turning_piece p a) (passing_piece p b)
+pub kinds_apart_each : (p : Pieces) → KindsApart p → (a b : Bool) → ArePrefixFree (turning_piece p a) (passing_piece p b)
 kinds_apart_each p h false false = h.regular.0
 kinds_apart_each p h false true = h.regular.1
 kinds_apart_each p h true false = h.last_regular.0

@@ -7,9 +7,9 @@ use Rattle.std.proofs.lemmas.List.{append-nil}
 use Rattle.std.proofs.lemmas.List.Elements.{All-append}
 use Rattle.ptree.specs.Characters.{Characters, ascii_tick, ascii_plus, utf, utf_double, utf_bold, utf_dashed, IsShippedWithoutTicks}
 use Rattle.ptree.specs.Pieces.{pieces_from}
-use Rattle.ptree.specs.Readable.{AreApart, IsReadable}
-use Rattle.ptree.specs.Text.{HasNoLineFeed}
-use Rattle.ptree.proofs.Fronts.{one_line, no_line_feed_when, no_line_feed_repeat, fronts, pieces_on, AreTold, told_readable}
+use Rattle.ptree.specs.Readable.{ArePrefixFree, IsReadable}
+use Rattle.ptree.specs.Texts.{HasNoLineFeed}
+use Rattle.ptree.proofs.Starts.{one_line, no_line_feed_when, no_line_feed_repeat, starts, pieces_on, AreTold, told_readable}
 
 -- ## The shipped sets
 
@@ -20,15 +20,15 @@ tail n padding m e h g =
 
 -- the pieces of a set, each by its first characters and the rest
 pieces_from-split : (c : Characters) (indent padding : ℕ) → let n = indent - (1 + padding) in
-    pieces_from c indent padding ≡ pieces_on (fronts c.down_and_right c.down c.turn_right c.empty) (repeat n c.right ++ repeat padding c.empty) (repeat n c.empty ++ repeat padding c.empty)
+    pieces_from c indent padding ≡ pieces_on (starts c.down_and_right c.down c.turn_right c.empty) (repeat n c.right ++ repeat padding c.empty) (repeat n c.empty ++ repeat padding c.empty)
 pieces_from-split c indent padding = simp append_assoc
 
 -- a set whose first characters can be told apart is readable at every indent and padding
-set_readable : (c : Characters) → AreTold (fronts c.down_and_right c.down c.turn_right c.empty) → one_line c.right ≡ true → one_line c.empty ≡ true → (indent padding : ℕ) → IsReadable (pieces_from c indent padding)
+set_readable : (c : Characters) → AreTold (starts c.down_and_right c.down c.turn_right c.empty) → one_line c.right ≡ true → one_line c.empty ≡ true → (indent padding : ℕ) → IsReadable (pieces_from c indent padding)
 set_readable c told right empty indent padding =
     let n = indent - (1 + padding) in
     subst IsReadable (sym (pieces_from-split c indent padding))
-    (told_readable (fronts c.down_and_right c.down c.turn_right c.empty) told _ _ (tail n padding c.right c.empty right empty) (tail n padding c.empty c.empty empty empty))
+    (told_readable (starts c.down_and_right c.down c.turn_right c.empty) told _ _ (tail n padding c.right c.empty right empty) (tail n padding c.empty c.empty empty empty))
 
 -- a shipped set other than the one with ticks is readable at every indent and padding
 pub shipped_readable : (c : Characters) → IsShippedWithoutTicks c → (indent padding : ℕ) → IsReadable (pieces_from c indent padding)
@@ -49,14 +49,14 @@ shipped_readable c (inr (inr (inr (inr e)))) i p = subst (λ (s : Characters). I
 -- pieces differ
 tick_apart : (n padding : ℕ) → (indent : ℕ) → indent - (1 + padding) ≡ suc n → IsReadable (pieces_from ascii_tick indent padding)
 tick_apart n padding indent e =
-    let told : AreTold (fronts (124 ∷ 45 ∷ []) (124 ∷ 32 ∷ []) (96 ∷ 45 ∷ []) (32 ∷ 32 ∷ [])) =
+    let told : AreTold (starts (124 ∷ 45 ∷ []) (124 ∷ 32 ∷ []) (96 ∷ 45 ∷ []) (32 ∷ 32 ∷ [])) =
     record { turning_lines = refl; passing_lines = refl; regular = refl; last_regular = refl; turnings = inr refl; passings = refl } in
     let with_one : pieces_from ascii_tick indent padding
-    ≡ pieces_on (fronts (124 ∷ 45 ∷ []) (124 ∷ 32 ∷ []) (96 ∷ 45 ∷ []) (32 ∷ 32 ∷ [])) (repeat n (45 ∷ []) ++ repeat padding (32 ∷ [])) (repeat n (32 ∷ []) ++ repeat padding (32 ∷ [])) =
+    ≡ pieces_on (starts (124 ∷ 45 ∷ []) (124 ∷ 32 ∷ []) (96 ∷ 45 ∷ []) (32 ∷ 32 ∷ [])) (repeat n (45 ∷ []) ++ repeat padding (32 ∷ [])) (repeat n (32 ∷ []) ++ repeat padding (32 ∷ [])) =
     pieces_from-split ascii_tick indent padding
-    ∙ ap (λ m. pieces_on (fronts (124 ∷ []) (124 ∷ []) (96 ∷ []) (32 ∷ [])) (repeat m (45 ∷ []) ++ repeat padding (32 ∷ [])) (repeat m (32 ∷ []) ++ repeat padding (32 ∷ []))) e in
+    ∙ ap (λ m. pieces_on (starts (124 ∷ []) (124 ∷ []) (96 ∷ []) (32 ∷ [])) (repeat m (45 ∷ []) ++ repeat padding (32 ∷ [])) (repeat m (32 ∷ []) ++ repeat padding (32 ∷ []))) e in
     subst IsReadable (sym with_one)
-    (told_readable (fronts (124 ∷ 45 ∷ []) (124 ∷ 32 ∷ []) (96 ∷ 45 ∷ []) (32 ∷ 32 ∷ [])) told _ _ (tail n padding (45 ∷ []) (32 ∷ []) refl refl) (tail n padding (32 ∷ []) (32 ∷ []) refl refl))
+    (told_readable (starts (124 ∷ 45 ∷ []) (124 ∷ 32 ∷ []) (96 ∷ 45 ∷ []) (32 ∷ 32 ∷ [])) told _ _ (tail n padding (45 ∷ []) (32 ∷ []) refl refl) (tail n padding (32 ∷ []) (32 ∷ []) refl refl))
 
 -- without a character between, the first piece of each kind is the same text
 tick_same : (indent padding : ℕ) → indent ≤ 1 + padding → (pieces_from ascii_tick indent padding).regular ≡ (pieces_from ascii_tick indent padding).child
@@ -65,7 +65,7 @@ tick_same indent padding h =
     ap (λ m. 124 ∷ (repeat m (45 ∷ []) ++ repeat padding (32 ∷ []))) none ∙ ap (λ m. 124 ∷ (repeat m (32 ∷ []) ++ repeat padding (32 ∷ []))) (sym none)
 
 -- two equal texts are not apart
-same_not_apart : (a b : List ℕ) → a ≡ b → AreApart a b → ⊥
+same_not_apart : (a b : List ℕ) → a ≡ b → ArePrefixFree a b → ⊥
 same_not_apart a b e h = h.0 ([], sym (append-nil a ∙ e))
 
 -- the set with ticks is readable exactly when a dash is drawn

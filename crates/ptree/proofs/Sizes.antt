@@ -26,7 +26,7 @@ tally_is : {X : Type 0} (p : X → Bool) (xs : List X) → length (filter p xs) 
 tally_is p [] = refl
 tally_is p (x ∷ xs) = tally_one x (filter p xs) (tally p xs) (tally_is p xs) (p x)
 
--- the source of an edge isn't seen
+-- the source of an edge is not seen
 abbrev unseen : List Bool → ℕ × ℕ → Bool
 unseen seen e = not (is_seen seen e.0)
 
@@ -57,14 +57,14 @@ one_split seen v w h f = at (w == v) refl where
 add_split : (a b c x y z : ℕ) → a + b ≡ c → x + y ≡ z → (a + x) + (b + y) ≡ c + z
 add_split a b c x y z h k = omega arith
 
--- the edges from v, and those from other nodes that aren't seen
+-- the edges from v, and those from other nodes that are not seen
 edges_split : (seen : List Bool) (v : ℕ) → v < length seen → is_seen seen v ≡ false → (es : List (ℕ × ℕ))
     → tally (λ e. e.0 == v) es + tally (unseen (slice_set seen v true)) es ≡ tally (unseen seen) es
 edges_split seen v h f [] = refl
 edges_split seen v h f (e ∷ es) = add_split _ _ _ _ _ _ (one_split seen v e.0 h f) (edges_split seen v h f es)
 
 module _ (edges : List (ℕ × ℕ)) (n : ℕ) (covers : (v : ℕ) → n ≤ v → neighbors_of edges v ≡ []) where
-  -- how many edges are from nodes that aren't seen
+  -- how many edges are from nodes that are not seen
   abbrev left : List Bool → ℕ
   left seen = tally (unseen seen) (reverse edges)
 

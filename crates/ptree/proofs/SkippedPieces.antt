@@ -86,7 +86,7 @@ skip_end p fs count width n end shown text rest path h low common rest_is = reco
   no_more = λ less o z a e.
       let next : List ℕ = passing_piece p (not (has_later o (suc n))) in
       let there : text ≡ passing_by p o (suc n) ++ z = passed o a ∙ (ap (λ y. passing_by p o n ++ y) e ∙ (sym (append_assoc (passing_by p o n) next z) ∙ ap (λ y. y ++ z) (sym (passing_push p o n)))) in
-      let (t, is) = front o a (suc n) less in
+      let (t, is) = prefix o a (suc n) less in
       let m : ℕ = length (passing_by p o (suc n)) in
       let past = h.past less o a in
       let left : m ≤ length text = let l = ap length there ∙ length-append (passing_by p o (suc n)) z in omega (arith, l) in
@@ -95,15 +95,15 @@ skip_end p fs count width n end shown text rest path h low common rest_is = reco
       let bound = common.most m left right both in
       omega (arith, past, bound);
 } where
-  front : (o : List Line) → Allows fs o → (m : ℕ) → m ≤ count → (t : List ℕ) × (shown ≡ passing_by p o m ++ t)
-  front o a m l = elim (cases_lt m count) [
+  prefix : (o : List Line) → Allows fs o → (m : ℕ) → m ≤ count → (t : List ℕ) × (shown ≡ passing_by p o m ++ t)
+  prefix o a m l = elim (cases_lt m count) [
     | inl less ↦ let (t, is) = passing_split p o m count less in (passing_piece p (not (has_later o (suc m))) ++ t, sym (path.shown_is o a) ∙ is)
     | inr more ↦ let e : count ≡ m = omega arith in ([], sym (path.shown_is o a) ∙ (ap (passing_by p o) e ∙ sym (append-nil (passing_by p o m))))
   ]
 
   passed : (o : List Line) → Allows fs o → text ≡ passing_by p o n ++ rest
   passed o a =
-      let (t, is) = front o a n h.few in
+      let (t, is) = prefix o a n h.few in
       let size = h.wide o a in
       let start : take end text ≡ passing_by p o n =
       sym (take_take end width text low) ∙ (ap (take end) common.same ∙ (take_take end width shown low ∙ (ap (λ z. take end z) is ∙ (ap (λ z. take z (passing_by p o n ++ t)) (sym size) ∙ take-append_seam (passing_by p o n) t)))) in
@@ -147,6 +147,6 @@ skip_boundary p fs count width n end shown text path h low common r l whole =
     let passed = skip_end p fs count width n end shown text (drop end text) path h low common refl in
     let in_text = common.left in
     let (o, a) = open_lines fs path.some in
-    let front : take end text ≡ passing_by p o n =
+    let prefix : take end text ≡ passing_by p o n =
     append_cancel_right (take end text) (passing_by p o n) (drop end text) (take-append-drop end text ∙ passed.passed o a) in
-    IsCharBoundary-from_take text end whole (omega (arith, low, in_text)) (subst IsUtf8 (sym front) (passing_utf8 p r l (last_flags o n)))
+    IsCharBoundary-from_take text end whole (omega (arith, low, in_text)) (subst IsUtf8 (sym prefix) (passing_utf8 p r l (last_flags o n)))

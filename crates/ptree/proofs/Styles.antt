@@ -5,12 +5,12 @@ use Rattle.std.proofs.lemmas.List.{append-nil}
 use Rattle.std.proofs.lemmas.List.Elements.{All-nil, All-cons, All-weaker}
 use Rattle.std.proofs.lemmas.Str.{IsUtf8-from_ascii}
 use Rattle.std.proofs.lemmas.Str.Ascii.{IsAscii-from_all}
-use Rattle.ptree.specs.Text.{HasNoLineFeed}
+use Rattle.ptree.specs.Texts.{HasNoLineFeed}
 use Rattle.ptree.specs.Color.{ColorValue}
 use Rattle.ptree.specs.declared.colors.Side.{Side}
 use Rattle.ptree.specs.declared.colors.Side.TheVariants.{Foreground, Background}
-use Rattle.ptree.specs.Style.{StyleValue, plain_value, code, flags, flag_codes, side_codes, SetsNone, IsPlain, style_codes, reset_after, front_codes, back_codes, painted_text}
-use Rattle.ptree.proofs.CodeBytes.{IsCodeByte, front_is}
+use Rattle.ptree.specs.Style.{StyleValue, plain_value, code, flags, flag_codes, side_codes, SetsNone, IsPlain, style_codes, reset_after, start_codes, end_codes, painted_text}
+use Rattle.ptree.proofs.CodeBytes.{IsCodeByte, start_is}
 
 -- the plain style has no code
 pub plain_codes : style_codes plain_value ≡ []
@@ -56,14 +56,14 @@ no_line_feed_reset (code ∷ codes) =
     All-cons (λ b. b ≢ 10) 27 (91 ∷ 48 ∷ 109 ∷ []) (omega arith) (All-cons (λ b. b ≢ 10) 91 (48 ∷ 109 ∷ []) (omega arith) (All-cons (λ b. b ≢ 10) 48 (109 ∷ []) (omega arith) (All-cons (λ b. b ≢ 10) 109 [] (omega arith) (All-nil (λ b. b ≢ 10)))))
 
 -- the codes after a painted text hold no line feed
-pub no_line_feed_back : (style : StyleValue) → HasNoLineFeed (back_codes style)
-no_line_feed_back style = no_line_feed_reset (style_codes style)
+pub no_line_feed_end : (style : StyleValue) → HasNoLineFeed (end_codes style)
+no_line_feed_end style = no_line_feed_reset (style_codes style)
 
 -- the codes before a painted text hold no line feed
-pub no_line_feed_front : (style : StyleValue) → HasNoLineFeed (front_codes style)
-no_line_feed_front style = All-weaker IsCodeByte (λ b. b ≢ 10) (λ b h. omega arith) (front_codes style) (front_is style)
+pub no_line_feed_start : (style : StyleValue) → HasNoLineFeed (start_codes style)
+no_line_feed_start style = All-weaker IsCodeByte (λ b. b ≢ 10) (λ b h. omega arith) (start_codes style) (start_is style)
 
 -- the codes before a painted text are UTF-8
-pub IsUtf8-front_codes : (style : StyleValue) → IsUtf8 (front_codes style)
-IsUtf8-front_codes style =
-    IsUtf8-from_ascii (front_codes style) (IsAscii-from_all (front_codes style) (All-weaker IsCodeByte (λ b. b < 128) (λ b h. h.0) (front_codes style) (front_is style)))
+pub IsUtf8-start_codes : (style : StyleValue) → IsUtf8 (start_codes style)
+IsUtf8-start_codes style =
+    IsUtf8-from_ascii (start_codes style) (IsAscii-from_all (start_codes style) (All-weaker IsCodeByte (λ b. b < 128) (λ b h. h.0) (start_codes style) (start_is style)))

@@ -5,7 +5,7 @@ use Rattle.std.proofs.lemmas.Bool.{and_parts}
 use Rattle.std.proofs.lemmas.List.Kept.{AllPairs-filter}
 use Rattle.ptree.specs.Address.{Address, at, Before, IsAddressList}
 use Rattle.ptree.specs.Drawing.{Look, passing_text, entry_text}
-use Rattle.ptree.specs.Laws.{begins_properly, entry_behind, HasSubtrees}
+use Rattle.ptree.specs.Laws.{is_proper_prefix, entry_after, HasSubtrees}
 use Rattle.ptree.specs.Shape.{Shape, kids}
 use Rattle.ptree.proofs.Addresses.{In, Sorted, sorted_from_pairs, same_sorted, in_contains, contains_in}
 use Rattle.ptree.proofs.Laws.{entry_below}
@@ -13,7 +13,7 @@ use Rattle.ptree.proofs.Laws.{entry_below}
 -- ## Addresses after a common start
 
 -- an address that properly begins another is followed there by a step
-begun : (a b : Address) → begins_properly a b ≡ true → (j : ℕ) × (r : Address) × (b ≡ a ++ j ∷ r)
+begun : (a b : Address) → is_proper_prefix a b ≡ true → (j : ℕ) × (r : Address) × (b ≡ a ++ j ∷ r)
 begun a [] h = absurd (cc)
 begun [] (j ∷ b) h = (j, b, refl)
 begun (i ∷ a) (j ∷ b) h =
@@ -22,9 +22,9 @@ begun (i ∷ a) (j ∷ b) h =
     (q.0, q.1, ap (λ k. k ∷ b) (sym (eqb-true i j s.0)) ∙ ap (λ z. i ∷ z) q.2)
 
 -- an address properly begins each one with a step more
-begins-append : (a : Address) (j : ℕ) (r : Address) → begins_properly a (a ++ j ∷ r) ≡ true
-begins-append [] j r = refl
-begins-append (i ∷ a) j r = ap (λ p. p && begins_properly a (a ++ j ∷ r)) (eq-eqb i i refl) ∙ begins-append a j r
+is_proper_prefix-append : (a : Address) (j : ℕ) (r : Address) → is_proper_prefix a (a ++ j ∷ r) ≡ true
+is_proper_prefix-append [] j r = refl
+is_proper_prefix-append (i ∷ a) j r = ap (λ p. p && is_proper_prefix a (a ++ j ∷ r)) (eq-eqb i i refl) ∙ is_proper_prefix-append a j r
 
 -- an order of addresses holds after a common start
 before_behind : (a b c : Address) → Before b c → Before (a ++ b) (a ++ c)
@@ -99,43 +99,43 @@ sorted_filter kids x d p xs s = sorted_from_pairs (filter p xs) (AllPairs-filter
 -- the addresses below an address are those of the item there, after that address
 addresses_below : {X : Type 0} (kids : X → List X) (x y : X) (a : Address) (d : ℕ) (whole part : List Address) → at kids x a ≡ Some y → length a ≤ d
     → IsAddressList kids x d whole → IsAddressList kids y (d - length a) part
-    → filter (begins_properly a) whole ≡ map (λ b. a ++ b) (filter (begins_properly []) part)
+    → filter (is_proper_prefix a) whole ≡ map (λ b. a ++ b) (filter (is_proper_prefix []) part)
 addresses_below kids x y a d whole part h k w p =
-    same_sorted (filter (begins_properly a) whole) (map (λ b. a ++ b) below)
-    (sorted_filter kids x d (begins_properly a) whole w)
-    (sorted_behind a below (sorted_filter kids y (d - length a) (begins_properly []) part p))
+    same_sorted (filter (is_proper_prefix a) whole) (map (λ b. a ++ b) below)
+    (sorted_filter kids x d (is_proper_prefix a) whole w)
+    (sorted_behind a below (sorted_filter kids y (d - length a) (is_proper_prefix []) part p))
     (λ b m.
-    let n = in_filter (begins_properly a) b whole m in
+    let n = in_filter (is_proper_prefix a) b whole m in
     let q = begun a b n.1 in
     let c = q.0 ∷ q.1 in
     let f = (w.members b).0 (contains_in whole b n.0) in
     let short : length c ≤ d - length a = omega (arith, f.1, ap length q.2, length-append a c) in
     let there = (p.members c).1 (λ e. f.0 (ap (at kids x) q.2 ∙ at-append kids x y a c h ∙ e), short) in
-    subst (λ (z : Address). In z (map (λ b. a ++ b) below)) (sym q.2) (behind_in a c below (filter_in (begins_properly []) c part (in_contains part c there) refl)))
+    subst (λ (z : Address). In z (map (λ b. a ++ b) below)) (sym q.2) (behind_in a c below (filter_in (is_proper_prefix []) c part (in_contains part c there) refl)))
     (λ b m.
     let n = in_behind a b below m in
     let c = n.0 in
-    let s = in_filter (begins_properly []) c part n.2 in
+    let s = in_filter (is_proper_prefix []) c part n.2 in
     let q = begun [] c s.1 in
     let f = (p.members c).0 (contains_in part c s.0) in
     let short : length (a ++ c) ≤ d = omega (arith, f.1, length-append a c) in
     let there = (w.members (a ++ c)).1 (λ e. f.0 (sym (at-append kids x y a c h) ∙ e), short) in
-    let test : begins_properly a (a ++ c) ≡ true = ap (λ z. begins_properly a (a ++ z)) q.2 ∙ begins-append a q.0 q.1 in
-    subst (λ (z : Address). In z (filter (begins_properly a) whole)) n.1 (filter_in (begins_properly a) (a ++ c) whole (in_contains whole (a ++ c) there) test))
+    let test : is_proper_prefix a (a ++ c) ≡ true = ap (λ z. is_proper_prefix a (a ++ z)) q.2 ∙ is_proper_prefix-append a q.0 q.1 in
+    subst (λ (z : Address). In z (filter (is_proper_prefix a) whole)) n.1 (filter_in (is_proper_prefix a) (a ++ c) whole (in_contains whole (a ++ c) there) test))
   where
     below : List Address
-    below = filter (begins_properly []) part
+    below = filter (is_proper_prefix []) part
 
 -- ## Entries
 
 -- an entry of the whole is the entry of the part after the passing text
 entries_alone : (look : Look) (x y : Shape) (a : Address) (part : List Address) → at kids x a ≡ Some y
-    → map (entry_text look x) (map (λ b. a ++ b) (filter (begins_properly []) part)) ≡ map (entry_behind look (passing_text look x a) y) (filter (begins_properly []) part)
+    → map (entry_text look x) (map (λ b. a ++ b) (filter (is_proper_prefix []) part)) ≡ map (entry_after look (passing_text look x a) y) (filter (is_proper_prefix []) part)
 entries_alone look x y a [] h = refl
 entries_alone look x y a ([] ∷ part) h = entries_alone look x y a part h
 entries_alone look x y a ((j ∷ r) ∷ part) h =
-    ap (λ t. t ∷ map (entry_text look x) (map (λ b. a ++ b) (filter (begins_properly []) part))) (entry_below look [] x y a j r h)
-    ∙ ap (λ t. entry_behind look (passing_text look x a) y (j ∷ r) ∷ t) (entries_alone look x y a part h)
+    ap (λ t. t ∷ map (entry_text look x) (map (λ b. a ++ b) (filter (is_proper_prefix []) part))) (entry_below look [] x y a j r h)
+    ∙ ap (λ t. entry_after look (passing_text look x a) y (j ∷ r) ∷ t) (entries_alone look x y a part h)
 
 -- the entries below each address are those of the item there, after its passing text
 pub subtrees : (look : Look) (x : Shape) (depth : ℕ) → HasSubtrees look x depth

@@ -8,7 +8,7 @@ use Rattle.ptree.specs.DrawnForm.{nested_tree, flat_tree, DrawAlike}
 use Rattle.ptree.specs.Outline.{line}
 use Rattle.ptree.specs.Spelled.{text_entry}
 use Rattle.ptree.specs.Style.{plain_value, style_codes, painted_text}
-use Rattle.ptree.specs.Text.{HasNoLineFeed}
+use Rattle.ptree.specs.Texts.{HasNoLineFeed}
 use Rattle.ptree.specs.Tree.{Tree}
 use Rattle.ptree.proofs.Styles.{painted_plain, plain_codes}
 use Rattle.ptree.proofs.Inserted.{inserted_none}

@@ -48,14 +48,14 @@ entries_of_forest : (look : Look) (d : ℕ) → ((above : List Bool) (t : Tree) 
 entries_of_forest look d ih above none h = refl
 entries_of_forest look d ih above (item t c r) h =
     let p = look.pieces in
-    let front : List ℕ = passing_all p above in
+    let outer : List ℕ = passing_all p above in
     let deep : List Bool = above ++ is_bare r ∷ [] in
     let x : Shape = shape_of_tree (tree t c) in
     let own : List ℕ = painted_text look.leaf t in
-    let others : List (List ℕ) = kid_entries look (entries_below look d) front (map shape_of_tree (trees r)) in
-    let here : List ℕ = entry_from look (front ++ turning_piece p (is_bare r)) (passing_all p deep) own in
-    ap (λ b. concat (with_below look (entries_below look d) front b x ++ others)) (bare_shapes r)
-    ∙ (ap (λ q. entry_from look (front ++ turning_piece p (is_bare r)) q own ++ concat (entries_below look d q x ++ others)) (passing_all_push p above (is_bare r))
+    let others : List (List ℕ) = kid_entries look (entries_below look d) outer (map shape_of_tree (trees r)) in
+    let here : List ℕ = entry_from look (outer ++ turning_piece p (is_bare r)) (passing_all p deep) own in
+    ap (λ b. concat (with_below look (entries_below look d) outer b x ++ others)) (bare_shapes r)
+    ∙ (ap (λ q. entry_from look (outer ++ turning_piece p (is_bare r)) q own ++ concat (entries_below look d q x ++ others)) (passing_all_push p above (is_bare r))
     ∙ (ap (λ z. here ++ z) (concat-append (entries_below look d (passing_all p deep) x) others)
     ∙ (ap (λ z. here ++ (z ++ concat others)) (ih deep (tree t c) (omega (arith, h)))
     ∙ ap (λ z. here ++ (forest_drawing look deep c ++ z)) (entries_of_forest look d ih above r (omega (arith, h))))))

@@ -1,4 +1,4 @@
--- Edges that are turned round one after another, and linked anew.
+-- Edges that are reversed one after another, and linked anew.
 use Rattle.std.specs.Prelude.{slice_get, All, map}
 use Rattle.std.proofs.Common.{◌≡◌, ℕ, zero, suc, ◌+◌, ◌<◌, ◌≤◌, List, [], ◌∷◌, ◌++◌, length, get_or, set, take, Some, sym, ◌∙◌, ap, subst, refl, arith}
 use Rattle.std.proofs.Math.Seq.{map-set_same, take-append_seam, take-suc-set}
@@ -28,7 +28,7 @@ first_all n [] h = refl
 first_all zero (e ∷ edges) h = absurd (omega arith)
 first_all (suc n) (e ∷ edges) h = ap (λ es. (e.1, e.0) ∷ es) (first_all n edges (omega arith))
 
--- an edge is replaced by one with its ends turned round
+-- an edge is replaced by one with its ends reversed
 pub ends_turned : (edges : List Edge) (i : ℕ) (e new : Edge) → slice_get edges i ≡ Some e → new.source ≡ e.target → new.target ≡ e.source
     → map ends_of (set edges i new) ≡ turned_at i (map ends_of edges)
 ends_turned [] i e new h s t = absurd (cc)
@@ -49,7 +49,7 @@ linked_none {N = N} nodes h = record {
   unlinked (x ∷ xs) a zero n s = let same : x ≡ n = cc in ap (λ (z : Node N). z.newest) (sym same) ∙ All-head (λ (z : Node N). z.newest ≡ 0) x xs a
   unlinked (x ∷ xs) a (suc v) n s = unlinked xs (All-tail (λ (z : Node N). z.newest ≡ 0) x xs a) v n s
 
--- the edge at i is turned round and linked after those before it
+-- the edge at i is reversed and linked after those before it
 module _ {N : Type 0} (nodes : List (Node N)) (edges : List Edge) (i degree : ℕ) (e' : Edge) (n' : Node N) (within : i < length edges) (ends : All (EndsBelow (length nodes)) edges) where
   -- the edge as it was
   abbrev old : Edge
@@ -80,7 +80,7 @@ module _ {N : Type 0} (nodes : List (Node N)) (edges : List Edge) (i degree : �
 pub written_back : {X : Type 0} (n : ℕ) (new rest : List X) → n ≡ length new → new ≡ take n (new ++ rest)
 written_back n new rest e = sym (ap (λ k. take k (new ++ rest)) e ∙ take-append_seam new rest)
 
--- the first edges are turned round and linked, and all weights are as they were
+-- the first edges are reversed and linked, and all weights are as they were
 pub record AreTurned {N : Type 0} (first : ℕ) (pairs : List (ℕ × ℕ)) (weights : List N) (ns : List (Node N)) (es : List Edge) : Type 0 where
   pub ends : All (EndsBelow (length ns)) es
   pub linked : IsLinked ns (take first es)
@@ -93,14 +93,14 @@ module _ {N : Type 0} (first : ℕ) (pairs : List (ℕ × ℕ)) (weights : List 
   turned_back nodes nodes' edges edges' h k t =
       subst (λ (ns : List (Node N)). AreTurned first pairs weights ns edges') h (subst (λ (es : List Edge). AreTurned first pairs weights nodes es) k t)
 
-  -- none is turned round yet
+  -- none is reversed yet
   pub turned_start : (nodes nodes' : List (Node N)) (edges : List Edge) → nodes ≡ nodes' → All (EndsBelow (length nodes)) edges → All (λ n. n.newest ≡ 0) nodes → map ends_of edges ≡ pairs → map (λ n. n.weight) nodes ≡ weights → first ≡ 0
       → AreTurned first pairs weights nodes' edges
   turned_start nodes nodes' edges h ends unlinked p w z =
       subst (λ (ns : List (Node N)). AreTurned first pairs weights ns edges) h
       (subst (λ k. AreTurned k pairs weights nodes edges) (sym z) (record { ends = ends; linked = linked_none nodes unlinked; turns = p ∙ first_none pairs; same = w }))
 
-  -- all edges are turned round
+  -- all edges are reversed
   pub turned_whole : (nodes : List (Node N)) (edges : List Edge) → length pairs ≤ first → AreTurned first pairs weights nodes edges → map ends_of edges ≡ map turned pairs
   turned_whole nodes edges h t = t.turns ∙ first_all first pairs h
 

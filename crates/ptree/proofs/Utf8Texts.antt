@@ -10,16 +10,16 @@ use Rattle.std.proofs.lemmas.Str.{IsUtf8-append, IsUtf8-nil, IsUtf8-from_ascii, 
 use Rattle.std.proofs.lemmas.Str.Ascii.{IsAscii-from_all}
 use Rattle.ptree.specs.declared.item.StringItem.{StringItem, out-StringItem}
 use Rattle.ptree.specs.declared.print_config.PrintConfig.{PrintConfig}
-use Rattle.ptree.specs.Address.{Address, at, beginnings, is_last, parent}
+use Rattle.ptree.specs.Address.{Address, at, prefixes, is_last, parent}
 use Rattle.ptree.specs.Drawing.{Look, written_look, passing_text, prefix_text, with_inserted, entry_text, own_at, IsDrawing}
 use Rattle.ptree.specs.Item.{text_own, text_shape}
 use Rattle.ptree.specs.Pieces.{turning_piece, passing_piece}
 use Rattle.ptree.specs.Shape.{Shape, kids}
-use Rattle.ptree.specs.Style.{StyleValue, painted_text, front_codes, back_codes, style_codes, reset_after}
+use Rattle.ptree.specs.Style.{StyleValue, painted_text, start_codes, end_codes, style_codes, reset_after}
 use Rattle.ptree.specs.Tree.{tree_of, tree_own, tree_kids, shape_of_tree}
 use Rattle.ptree.specs.Utf8.{HasUtf8Texts}
 use Rattle.ptree.proofs.Inserted.{is_feed, inserted_feed, inserted_other}
-use Rattle.ptree.proofs.Styles.{IsUtf8-front_codes}
+use Rattle.ptree.proofs.Styles.{IsUtf8-start_codes}
 use Rattle.ptree.proofs.TreeLemmas.{tree_of_item, kids_of_item, map_twice}
 use Rattle.ptree.proofs.Unfold.{kids_of_unfold}
 
@@ -87,7 +87,7 @@ reset (x ∷ xs) =
 -- so is a painted text
 painted : (style : StyleValue) (text : List ℕ) → IsUtf8 text → IsUtf8 (painted_text style text)
 painted style text h =
-    IsUtf8-append (front_codes style ++ text) (back_codes style) (IsUtf8-append (front_codes style) text (IsUtf8-front_codes style) h) (reset (style_codes style))
+    IsUtf8-append (start_codes style ++ text) (end_codes style) (IsUtf8-append (start_codes style) text (IsUtf8-start_codes style) h) (reset (style_codes style))
 
 -- the pieces and the marker are UTF-8
 record AreUtf8 (look : Look) : Type 0 where
@@ -97,7 +97,7 @@ record AreUtf8 (look : Look) : Type 0 where
 
 -- so is a passing text
 passed : (look : Look) → AreUtf8 look → (x : Shape) (a : Address) → IsUtf8 (passing_text look x a)
-passed look u x a = joined (λ b. passing_piece look.pieces (is_last kids x b)) (λ b. u.passing (is_last kids x b)) (beginnings a)
+passed look u x a = joined (λ b. passing_piece look.pieces (is_last kids x b)) (λ b. u.passing (is_last kids x b)) (prefixes a)
 
 -- so is a prefix
 prefixed : (look : Look) → AreUtf8 look → (x : Shape) (a : Address) → IsUtf8 (prefix_text look x a)

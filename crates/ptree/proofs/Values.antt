@@ -7,7 +7,7 @@ use Rattle.ptree.specs.Data.{Data, value_text, is_list, item_pairs, entry_pair, 
 use Rattle.ptree.specs.Shape.{kids}
 use Rattle.ptree.proofs.TreeLemmas.{map_twice}
 use Rattle.ptree.proofs.Unfold.{kids_of_unfold}
-use Rattle.ptree.specs.Value.{data_of, items_meant, entries_meant}
+use Rattle.ptree.specs.Value.{data_of, items_of, entries_of}
 use Rattle.ptree.specs.declared.value.Value.{Value, Option, Map, the_lemmas}
 
 -- the data of an option that holds a value
@@ -15,18 +15,18 @@ pub data_of-Some : (b : Box Value Global) → data_of (Option (Some b)) ≡ d.so
 data_of-Some b = search (rules, the_lemmas)
 
 -- the data of a map
-pub data_of-Map : (v : Vec (Value × Value) Global) → data_of (Map v) ≡ d.map (entries_meant v.items)
+pub data_of-Map : (v : Vec (Value × Value) Global) → data_of (Map v) ≡ d.map (entries_of v.items)
 data_of-Map v = search (rules, the_lemmas)
 
 -- the pairs of the elements
-pub item_pairs-meant : (vs : List Value) → item_pairs (items_meant vs) ≡ map (λ v. ([], data_of v)) vs
-item_pairs-meant [] = refl
-item_pairs-meant (v ∷ vs) = rw (item_pairs-meant vs) refl
+pub item_pairs-of : (vs : List Value) → item_pairs (items_of vs) ≡ map (λ v. ([], data_of v)) vs
+item_pairs-of [] = refl
+item_pairs-of (v ∷ vs) = rw (item_pairs-of vs) refl
 
 -- the pairs of the entries
-pub entry_pairs-meant : (es : List (Value × Value)) → entry_pairs (entries_meant es) ≡ map (λ e. entry_pair (data_of e.0) (data_of e.1)) es
-entry_pairs-meant [] = refl
-entry_pairs-meant (e ∷ es) = rw (entry_pairs-meant es) refl
+pub entry_pairs-of : (es : List (Value × Value)) → entry_pairs (entries_of es) ≡ map (λ e. entry_pair (data_of e.0) (data_of e.1)) es
+entry_pairs-of [] = refl
+entry_pairs-of (e ∷ es) = rw (entry_pairs-of es) refl
 
 -- the children of an entry are those of its value, which only a list or a map has
 pub entry_pair-below : (key value : Data) → value_pairs (entry_pair key value).1 ≡ value_pairs value

@@ -3,8 +3,8 @@ use Rattle.std.specs.Prelude.{◌≡◌, ◌⊎◌, ℕ, Bool, List, [], ◌∷�
 use Rattle.std.specs.Str.{bytes_eq, str_eq_ignore_ascii_case}
 use Rattle.ptree.specs.declared.print_config.characters.IndentChars.{IndentChars}
 use Rattle.ptree.specs.declared.print_config.characters.StaticIndentChars.{StaticIndentChars}
-use Rattle.ptree.specs.declared.print_config.words.Spelling.{Spelling}
-use Rattle.ptree.specs.declared.print_config.words.Spelling.TheVariants.{Exact, AnyCase}
+use Rattle.ptree.specs.declared.print_config.parse.Spelling.{Spelling}
+use Rattle.ptree.specs.declared.print_config.parse.Spelling.TheVariants.{Exact, AnyCase}
 
 -- the texts that pieces are made of
 pub record Characters : Type 0 where
@@ -25,8 +25,8 @@ characters_of c = record {
 }
 
 -- the characters of a static set
-abbrev pub static_characters : StaticIndentChars → Characters
-static_characters s = record {
+abbrev pub static_characters_of : StaticIndentChars → Characters
+static_characters_of s = record {
   down_and_right = s.down_and_right.now;
   down = s.down.now;
   turn_right = s.turn_right.now;
@@ -102,14 +102,14 @@ IsShippedWithoutTicks c = (c ≡ ascii_plus) ⊎ ((c ≡ utf) ⊎ ((c ≡ utf_do
 abbrev pub IsShipped : Characters → Type 0
 IsShipped c = (c ≡ ascii_tick) ⊎ IsShippedWithoutTicks c
 
--- a text is this word, exactly or in any ASCII case
+-- a text is this keyword, exactly or in any ASCII case
 abbrev pub is_spelled : Spelling → List ℕ → List ℕ → Bool
-is_spelled Exact text word = bytes_eq text word
-is_spelled AnyCase text word = str_eq_ignore_ascii_case text word
+is_spelled Exact text keyword = bytes_eq text keyword
+is_spelled AnyCase text keyword = str_eq_ignore_ascii_case text keyword
 
 -- the set with a name
-abbrev pub set_spelled : Spelling → List ℕ → Option Characters
-set_spelled spelling name =
+abbrev pub parse_set : Spelling → List ℕ → Option Characters
+parse_set spelling name =
     if is_spelled spelling name (codes "utf") then Some utf else
     if is_spelled spelling name (codes "ascii") then Some ascii_tick else
     if is_spelled spelling name (codes "ascii-tick") then Some ascii_tick else
@@ -120,4 +120,4 @@ set_spelled spelling name =
 
 -- the set with a name, exactly as spelled
 abbrev pub set_named : List ℕ → Option Characters
-set_named = set_spelled Exact
+set_named = parse_set Exact

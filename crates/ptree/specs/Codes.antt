@@ -18,8 +18,8 @@ pub record HasHexDigits (bytes : List ℕ) (at : ℕ) : Type 0 where
   pub low : is_ascii_hexdigit (slice_index bytes (at + 1)) ≡ true
 
 -- the bytes gathered so far
-abbrev pub gathered_codes : Codes → List ℕ
-gathered_codes c = take c.len c.bytes
+abbrev pub codes_of : Codes → List ℕ
+codes_of c = take c.len c.bytes
 
 -- codes, one after the other
 abbrev pub joined_codes : List (List ℕ) → List ℕ

@@ -19,9 +19,9 @@ abbrev pub ColorValue : Type 0
 ColorValue = Color ⊎ List ℕ
 
 -- the value of a colour
-abbrev pub color_value : Color → ColorValue
-color_value (Named name) = inr (string_bytes name)
-color_value color = inl color
+abbrev pub color_of : Color → ColorValue
+color_of (Named name) = inr (string_bytes name)
+color_of color = inl color
 
 -- the parameter of colour 0 on a side
 abbrev pub base : Side → ℕ
@@ -41,13 +41,13 @@ tone_parameters side (Indexed n) = extended side ∷ 5 ∷ n ∷ []
 tone_parameters side (Direct r g b) = extended side ∷ 2 ∷ r ∷ g ∷ b ∷ []
 
 -- the eight words, in the order of their colours
-abbrev pub color_words : List (List ℕ)
-color_words =
+abbrev pub basic_names : List (List ℕ)
+basic_names =
     codes "black" ∷ codes "red" ∷ codes "green" ∷ codes "yellow" ∷ codes "blue" ∷ codes "purple" ∷ codes "cyan" ∷ codes "white" ∷ []
 
 -- the tone of one of the eight words, exactly spelled
-abbrev pub word_tone : List ℕ → Option Tone
-word_tone name = option_map Eight (position (λ word. bytes_eq word name) color_words)
+abbrev pub basic_tone : List ℕ → Option Tone
+basic_tone name = option_map Eight (position (λ word. bytes_eq word name) basic_names)
 
 -- `#` and exactly six hexadecimal digits of any case
 abbrev pub is_hex_name : List ℕ → Bool
@@ -88,7 +88,7 @@ table_tone name = option_map (λ c. Direct c.red c.green c.blue) (find (λ c. st
 
 -- the tone that a text names, by the first rule that matches
 unfoldable pub named_tone : List ℕ → Option Tone
-named_tone name = option_or (word_tone name) (option_or (hex_tone name) (table_tone name))
+named_tone name = option_or (basic_tone name) (option_or (hex_tone name) (table_tone name))
 
 -- the tone of a colour; an unknown name has none
 abbrev pub tone_of : ColorValue → Option Tone

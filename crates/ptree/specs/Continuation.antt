@@ -2,12 +2,12 @@
 use Rattle.std.specs.Prelude.{◌≤◌, ◌-◌, ◌+◌, ℕ, zero, suc, nat_eq, if◌then◌else◌, List, [], ◌∷◌, ◌++◌}
 use Rattle.ptree.specs.Drawing.{Look}
 use Rattle.ptree.specs.DrawnForm.{IsDrawnForm}
-use Rattle.ptree.specs.Text.{line_feed}
+use Rattle.ptree.specs.Texts.{line_feed}
 use Rattle.ptree.specs.Tree.{Tree}
 
--- front is a prefix of some drawing within the depth
+-- prefix is a prefix of some drawing within the depth
 abbrev pub HasContinuation : Look → ℕ → List ℕ → Type 0
-HasContinuation look depth front = (t : Tree) × (rest : List ℕ) × IsDrawnForm look depth (front ++ rest) t
+HasContinuation look depth prefix = (t : Tree) × (rest : List ℕ) × IsDrawnForm look depth (prefix ++ rest) t
 
 -- the first n lines of x, with their line feeds
 abbrev pub first_lines : ℕ → List ℕ → List ℕ

@@ -4,13 +4,12 @@ use Rattle.std.specs.Prelude.{◌≡◌, ℕ, Bool, false, if◌then◌else◌, 
 use Rattle.ptree.specs.declared.print_config.OutputKind.{OutputKind}
 use Rattle.ptree.specs.declared.print_config.OutputKind.TheVariants.{Unknown}
 use Rattle.ptree.specs.declared.print_config.PrintConfig.{PrintConfig}
-use Rattle.ptree.specs.Address.{Address, at, IsAddressList, is_last, beginnings, parent}
-use Rattle.ptree.specs.Config.{is_styled}
-use Rattle.ptree.specs.Configuration.{Configuration, config_value}
+use Rattle.ptree.specs.Address.{Address, at, IsAddressList, is_last, prefixes, parent}
+use Rattle.ptree.specs.Config.{is_styled, ConfigValue, config_of}
 use Rattle.ptree.specs.Pieces.{Pieces, passing_piece, turning_piece, pieces_from}
 use Rattle.ptree.specs.Shape.{Shape, kids}
 use Rattle.ptree.specs.Style.{StyleValue, plain_value, painted_text}
-use Rattle.ptree.specs.Text.{line_feed}
+use Rattle.ptree.specs.Texts.{line_feed}
 
 -- how a drawing looks: the effective styles, the pieces, and the marker before an item's further
 -- lines
@@ -30,22 +29,22 @@ effective_style styled style = if styled then style else plain_value
 
 -- the look that a configuration's value gives output of a kind; the last argument says whether
 -- standard output is a terminal
-abbrev pub look_by : Configuration → OutputKind → Bool → Look
+abbrev pub look_by : ConfigValue → OutputKind → Bool → Look
 look_by value kind terminal =
     let styled = is_styled value.styled kind terminal in
     look_from (effective_style styled value.branch) (effective_style styled value.leaf) (pieces_from value.characters value.indent value.padding) value.continued
 
 -- the look that a configuration gives
-abbrev pub look_of : PrintConfig → OutputKind → Bool → Look
-look_of config = look_by (config_value config)
+abbrev pub config_look : PrintConfig → OutputKind → Bool → Look
+config_look config = look_by (config_of config)
 
 -- the look that a configuration gives output other than standard output
 abbrev pub written_look : PrintConfig → Look
-written_look config = look_of config Unknown false
+written_look config = config_look config Unknown false
 
 -- the passing text of an address: a passing piece for each nonempty prefix of it
 abbrev pub passing_text : Look → Shape → Address → List ℕ
-passing_text look x a = flat_map (λ b. passing_piece look.pieces (is_last kids x b)) (beginnings a)
+passing_text look x a = flat_map (λ b. passing_piece look.pieces (is_last kids x b)) (prefixes a)
 
 -- the prefix of an address: empty for the root, else the parent's passing text and a turning piece
 abbrev pub prefix_text : Look → Shape → Address → List ℕ

@@ -11,28 +11,28 @@ is_empty [] = true
 is_empty (x ∷ xs) = false
 
 -- the entry of x after this prefix, with this passing text
-abbrev pub entry_of : Look → List ℕ → List ℕ → Shape → List ℕ
-entry_of look prefix passing x = entry_from look prefix passing (x.own [] look.leaf)
+abbrev pub shape_entry : Look → List ℕ → List ℕ → Shape → List ℕ
+shape_entry look prefix passing x = entry_from look prefix passing (x.own [] look.leaf)
 
 -- the entry of an item and, by below, the entries under it, after its parent's passing text
 abbrev pub with_below : Look → (List ℕ → Shape → List (List ℕ)) → List ℕ → Bool → Shape → List (List ℕ)
-with_below look below front last x =
-    entry_of look (front ++ turning_piece look.pieces last) (front ++ passing_piece look.pieces last) x ∷ below (front ++ passing_piece look.pieces last) x
+with_below look below outer last x =
+    shape_entry look (outer ++ turning_piece look.pieces last) (outer ++ passing_piece look.pieces last) x ∷ below (outer ++ passing_piece look.pieces last) x
 
 -- the entries of children
 abbrev pub kid_entries : Look → (List ℕ → Shape → List (List ℕ)) → List ℕ → List Shape → List (List ℕ)
-kid_entries look below front [] = []
-kid_entries look below front (c ∷ cs) = with_below look below front (is_empty cs) c ++ kid_entries look below front cs
+kid_entries look below outer [] = []
+kid_entries look below outer (c ∷ cs) = with_below look below outer (is_empty cs) c ++ kid_entries look below outer cs
 
 -- the entries under x, down to a number of levels
 abbrev pub entries_below : Look → ℕ → List ℕ → Shape → List (List ℕ)
-entries_below look zero front x = []
-entries_below look (suc levels_left) front x = kid_entries look (entries_below look levels_left) front (kids x)
+entries_below look zero outer x = []
+entries_below look (suc levels_left) outer x = kid_entries look (entries_below look levels_left) outer (kids x)
 
--- the entries of an item that isn't the root
+-- the entries of an item that is not the root
 abbrev pub item_entries : Look → ℕ → List ℕ → Bool → Shape → List (List ℕ)
-item_entries look levels_left front last x = with_below look (entries_below look levels_left) front last x
+item_entries look levels_left outer last x = with_below look (entries_below look levels_left) outer last x
 
 -- the entries of a root and of the items under it
 abbrev pub drawn_entries : Look → ℕ → Shape → List (List ℕ)
-drawn_entries look depth x = entry_of look [] [] x ∷ entries_below look depth [] x
+drawn_entries look depth x = shape_entry look [] [] x ∷ entries_below look depth [] x

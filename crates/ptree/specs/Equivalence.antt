@@ -18,11 +18,11 @@ use Rattle.ptree.specs.declared.style.color.Color.{Color}
 use Rattle.ptree.specs.declared.style.Style.{Style}
 use Rattle.ptree.specs.contracts.print_config.StyleWhen.{the_type}
 use Rattle.ptree.specs.Characters.{Characters, characters_of}
-use Rattle.ptree.specs.Color.{color_value}
-use Rattle.ptree.specs.Configuration.{config_value}
+use Rattle.ptree.specs.Color.{color_of}
+use Rattle.ptree.specs.Config.{config_of}
 use Rattle.ptree.specs.Equality.{same_characters, same_color, same_style, same_config, same_forest, same_tree}
 use Rattle.ptree.specs.Pieces.{mark_of}
-use Rattle.ptree.specs.Style.{style_value}
+use Rattle.ptree.specs.Style.{style_of}
 use Rattle.ptree.specs.Tree.{Forest, none, item, Tree, tree, tree_of}
 
 -- two tests decide two facts, so their conjunction decides both
@@ -49,11 +49,11 @@ whens : (a b : StyleWhen) → IsTrue (sameb the_type a b) ↔ (a ≡ b)
 whens a b = search rules
 
 -- the test of colours decides whether they hold the same
-color_decided : (a b : Color) → IsTrue (same_color a b) ↔ (color_value a ≡ color_value b)
+color_decided : (a b : Color) → IsTrue (same_color a b) ↔ (color_of a ≡ color_of b)
 color_decided a b = search rules
 
 -- the test of optional colours decides whether they hold the same
-sides : (a b : Option Color) → IsTrue (option_eq same_color a b) ↔ (option_map color_value a ≡ option_map color_value b)
+sides : (a b : Option Color) → IsTrue (option_eq same_color a b) ↔ (option_map color_of a ≡ option_map color_of b)
 sides None None = (λ _. refl, λ _. refl)
 sides None (Some b) = (λ h. cc, λ h. cc)
 sides (Some a) None = (λ h. cc, λ h. cc)
@@ -64,7 +64,7 @@ characters_decided : (a b : Characters) → IsTrue (same_characters a b) ↔ (a 
 characters_decided a b = search rules
 
 -- the test of styles decides whether they hold the same
-pub style_decided : (a b : Style) → IsTrue (same_style a b) ↔ (style_value a ≡ style_value b)
+pub style_decided : (a b : Style) → IsTrue (same_style a b) ↔ (style_of a ≡ style_of b)
 style_decided a b =
     let h = both (both (both (both (both (both (both (both (both (sides a.foreground b.foreground) (sides a.background b.background)) (bools a.bold b.bold)) (bools a.dimmed b.dimmed)) (bools a.italic b.italic)) (bools a.underline b.underline)) (bools a.blink b.blink)) (bools a.reverse b.reverse)) (bools a.hidden b.hidden)) (bools a.strikethrough b.strikethrough) in (
       λ e. let p = h.0 e in λ i. record {
@@ -83,7 +83,7 @@ style_decided a b =
     )
 
 -- the test of configurations decides whether they hold the same
-pub config_decided : (a b : PrintConfig) → IsTrue (same_config a b) ↔ (config_value a ≡ config_value b)
+pub config_decided : (a b : PrintConfig) → IsTrue (same_config a b) ↔ (config_of a ≡ config_of b)
 config_decided a b =
     let h = both (both (both (both (both (both (both (numbers a.depth b.depth) (numbers a.indent b.indent)) (numbers a.padding b.padding)) (whens a.styled b.styled)) (characters_decided (characters_of a.characters) (characters_of b.characters))) (style_decided a.branch b.branch)) (style_decided a.leaf b.leaf)) (texts (mark_of a) (mark_of b)) in (
       λ e. let p = h.0 e in λ i. record {
@@ -135,15 +135,15 @@ characters_equivalence value = equivalence value (on value same_characters) (λ 
 
 -- `==` of colours is an equivalence
 pub color_equivalence : IsEquivalence same_color
-color_equivalence = equivalence color_value same_color color_decided
+color_equivalence = equivalence color_of same_color color_decided
 
 -- `==` of styles is an equivalence
 pub style_equivalence : IsEquivalence same_style
-style_equivalence = equivalence style_value same_style style_decided
+style_equivalence = equivalence style_of same_style style_decided
 
 -- `==` of configurations is an equivalence
 pub config_equivalence : IsEquivalence same_config
-config_equivalence = equivalence config_value same_config config_decided
+config_equivalence = equivalence config_of same_config config_decided
 
 -- `==` of items is an equivalence: that of their trees
 pub tree_equivalence : IsEquivalence (on tree_of same_tree)

@@ -54,14 +54,14 @@ table_key (Paint part field) = Some (part_key part)
 table_key _ = None
 
 -- a field's key after a table's, with `_` between
-abbrev pub behind_table : Option (List ℕ) → List ℕ → List ℕ
-behind_table None key = key
-behind_table (Some table) key = table ++ codes "_" ++ key
+abbrev pub after_table : Option (List ℕ) → List ℕ → List ℕ
+after_table None key = key
+after_table (Some table) key = table ++ codes "_" ++ key
 
 -- the name of a field's variable: ptree, the key of its table and its own key, with `_` between, in
 -- upper case
 abbrev pub variable_name : Field → List ℕ
-variable_name field = str_to_ascii_uppercase (codes "ptree_" ++ behind_table (table_key field) (field_key field))
+variable_name field = str_to_ascii_uppercase (codes "ptree_" ++ after_table (table_key field) (field_key field))
 
 -- what a field of a style accepts
 abbrev pub style_kind : StyleField → Kind

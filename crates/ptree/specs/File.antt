@@ -6,40 +6,40 @@ use Rattle.serde_json.specs.Data as j
 use Rattle.serde_json.specs.Find as jf
 use Rattle.toml.specs.Data as t
 use Rattle.ptree.specs.declared.print_config.StyleWhen.{StyleWhen}
-use Rattle.ptree.specs.declared.print_config.words.Spelling.TheVariants.{Exact}
+use Rattle.ptree.specs.declared.print_config.parse.Spelling.TheVariants.{Exact}
 use Rattle.ptree.specs.declared.style.color.Color.{Color}
 use Rattle.ptree.specs.declared.style.color.Color.TheVariants.{Fixed, RGB}
-use Rattle.ptree.specs.Characters.{Characters, set_spelled, utf}
+use Rattle.ptree.specs.Characters.{Characters, parse_set, utf}
 use Rattle.ptree.specs.Color.{ColorValue}
-use Rattle.ptree.specs.Words.{when_spelled}
+use Rattle.ptree.specs.Parse.{parse_when}
 
 -- a value in a file
-pub data Node : Type 0 where
-  json : j.Data → Node
-  toml : t.Data → Node
+pub data FileNode : Type 0 where
+  json : j.Data → FileNode
+  toml : t.Data → FileNode
 
 -- the value at a key, exactly as spelled, if the value is a table that has the key
-abbrev pub get : List ℕ → Node → Option Node
+abbrev pub get : List ℕ → FileNode → Option FileNode
 get key (json d) = option_map json (jf.get key d)
 get key (toml d) = option_map toml (t.get key d)
 
 -- whether a value is a table of TOML, or an object of JSON
-abbrev pub is_table : Node → Bool
+abbrev pub is_table : FileNode → Bool
 is_table (json d) = is_some (jf.as_object d)
 is_table (toml d) = is_some (t.as_table d)
 
 -- the text, if a value is one
-abbrev pub as_text : Node → Option (List ℕ)
+abbrev pub as_text : FileNode → Option (List ℕ)
 as_text (json d) = jf.as_str d
 as_text (toml d) = t.as_str d
 
 -- true or false, if a value is one of them
-abbrev pub as_flag : Node → Option Bool
+abbrev pub as_flag : FileNode → Option Bool
 as_flag (json d) = jf.as_bool d
 as_flag (toml d) = t.as_bool d
 
 -- whether a value is null, which TOML does not have
-abbrev pub is_null : Node → Bool
+abbrev pub is_null : FileNode → Bool
 is_null (json d) = is_some (jf.as_null d)
 is_null (toml d) = false
 
@@ -49,7 +49,7 @@ natural (pos n) = Some n
 natural (negsuc n) = None
 
 -- the whole number, if a value is one that is not negative
-abbrev pub as_whole : Node → Option ℕ
+abbrev pub as_whole : FileNode → Option ℕ
 as_whole (json d) = option_and_then jf.as_u64 (jf.as_number d)
 as_whole (toml d) = option_and_then natural (t.as_integer d)
 
@@ -58,19 +58,19 @@ abbrev pub at_most : ℕ → ℕ → Option ℕ
 at_most greatest n = if nat_le n greatest then Some n else None
 
 -- the whole number, if a value is one that is at most this one
-abbrev pub whole_node : ℕ → Node → Option ℕ
+abbrev pub whole_node : ℕ → FileNode → Option ℕ
 whole_node greatest node = option_and_then (at_most greatest) (as_whole node)
 
 -- when to style, by its word exactly as spelled
-abbrev pub when_node : Node → Option StyleWhen
-when_node node = option_and_then (when_spelled Exact) (as_text node)
+abbrev pub when_node : FileNode → Option StyleWhen
+when_node node = option_and_then (parse_when Exact) (as_text node)
 
 -- the text at a key, or else this one
-abbrev pub text_at : List ℕ → Node → List ℕ → List ℕ
+abbrev pub text_at : List ℕ → FileNode → List ℕ → List ℕ
 text_at key node other = unwrap_or (option_and_then as_text (get key node)) other
 
 -- the characters in a table, with those of the regular set for missing ones
-abbrev pub characters_in : Node → Characters
+abbrev pub characters_in : FileNode → Characters
 characters_in node = record {
   down_and_right = text_at (codes "down_and_right") node utf.down_and_right;
   down = text_at (codes "down") node utf.down;
@@ -80,12 +80,12 @@ characters_in node = record {
 }
 
 -- the characters, if a value is a table
-abbrev pub table_characters : Node → Option Characters
+abbrev pub table_characters : FileNode → Option Characters
 table_characters node = if is_table node then Some (characters_in node) else None
 
 -- the set that a text names, or the characters in a table
-abbrev pub set_node : Node → Option Characters
-set_node node = option_or (option_and_then (set_spelled Exact) (as_text node)) (table_characters node)
+abbrev pub set_node : FileNode → Option Characters
+set_node node = option_or (option_and_then (parse_set Exact) (as_text node)) (table_characters node)
 
 -- three numbers, if all are there
 abbrev pub all_three : Option ℕ → Option ℕ → Option ℕ → Option (ℕ × ℕ × ℕ)
@@ -103,14 +103,14 @@ toml_triple (t.item r (t.item g (t.item b t.no_items))) = all_three (whole_node 
 toml_triple _ = None
 
 -- the numbers of a list of exactly three bytes
-abbrev pub as_triple : Node → Option (ℕ × ℕ × ℕ)
+abbrev pub as_triple : FileNode → Option (ℕ × ℕ × ℕ)
 as_triple (json d) = option_and_then json_triple (jf.as_array d)
 as_triple (toml d) = option_and_then toml_triple (t.as_array d)
 
 -- the colour of a byte (one of the terminal's table), or of three bytes (red, green and blue)
-abbrev pub color_numbers : Node → Option Color
+abbrev pub color_numbers : FileNode → Option Color
 color_numbers node = option_or (option_map Fixed (whole_node 255 node)) (option_map (λ t. RGB t.0 t.1 t.2) (as_triple node))
 
 -- the colour of a text (a name), or of numbers
-abbrev pub color_node : Node → Option ColorValue
+abbrev pub color_node : FileNode → Option ColorValue
 color_node node = option_or (option_map inr (as_text node)) (option_map inl (color_numbers node))

@@ -23,7 +23,7 @@ numbers_of p = (p.0.0, p.1.0)
 abbrev pub LacksNode : ℕ → NodeIndex × NodeIndex → Type 0
 LacksNode count p = (count ≤ p.0.0) ⊎ (count ≤ p.1.0)
 
--- an edge turned round
+-- an edge reversed
 abbrev pub turned : ℕ × ℕ → ℕ × ℕ
 turned e = (e.1, e.0)
 

@@ -17,13 +17,13 @@ first_from (e ∷ older) v = if e.0 == v then suc (length older) else first_from
 abbrev pub newest_from : List (ℕ × ℕ) → ℕ → ℕ
 newest_from edges v = first_from (reverse edges) v
 
--- the edges, that at an index turned round
+-- the edges, that at an index reversed
 abbrev pub turned_at : ℕ → List (ℕ × ℕ) → List (ℕ × ℕ)
 turned_at i [] = []
 turned_at zero (e ∷ edges) = (e.1, e.0) ∷ edges
 turned_at (suc i) (e ∷ edges) = e ∷ turned_at i edges
 
--- the edges, the first so many of them turned round
+-- the edges, the first so many of them reversed
 abbrev pub turned_first : ℕ → List (ℕ × ℕ) → List (ℕ × ℕ)
 turned_first n [] = []
 turned_first zero (e ∷ edges) = e ∷ edges

@@ -13,7 +13,7 @@ pub record Grown : Type 0 where
 abbrev pub grown : OccurrenceTree → List Bool → Grown
 grown p seen = record { occurrence = p; seen = seen }
 
--- whether a node's neighbours stand by then
+-- whether a node's neighbours are placed by then
 abbrev pub is_seen : List Bool → ℕ → Bool
 is_seen seen v = unwrap_or (slice_get seen v) false
 

@@ -6,9 +6,9 @@ use Rattle.ptree.specs.Shape.{Shape, unfolded_shape, over_shape}
 use Rattle.ptree.specs.Style.{StyleValue, painted_text}
 
 -- a text's bytes, lent or made
-abbrev pub text_bytes : Text → List ℕ
-text_bytes (Lent s) = s.now
-text_bytes (Made s) = string_bytes s
+abbrev pub bytes_of : Text → List ℕ
+bytes_of (Lent s) = s.now
+bytes_of (Made s) = string_bytes s
 
 -- what an item writes: its text painted
 abbrev pub text_own : {X : Type 0} → (X → List ℕ) → X → StyleValue → List ℕ

@@ -4,7 +4,7 @@ use Rattle.ptree.specs.Address.{Address, at, IsAddressList}
 use Rattle.ptree.specs.Drawing.{Look, prefix_text, passing_text, entry_from, own_at, entry_text, IsDrawing}
 use Rattle.ptree.specs.Shape.{Shape, kids, cut_shape}
 use Rattle.ptree.specs.Style.{painted_text}
-use Rattle.ptree.specs.Text.{line_feed, HasNoLineFeed}
+use Rattle.ptree.specs.Texts.{line_feed, HasNoLineFeed}
 use Rattle.ptree.specs.Tree.{Tree, shape_of_tree, cut_tree}
 
 -- exactly one list is the address list of x at this depth
@@ -26,15 +26,15 @@ HasTreeCuts look depth =
     → IsDrawing look (shape_of_tree t) depth text ↔ IsDrawing look (shape_of_tree (cut_tree depth t)) deeper text
 
 -- a is a proper prefix of b
-abbrev pub begins_properly : Address → Address → Bool
-begins_properly a [] = false
-begins_properly [] (j ∷ b) = true
-begins_properly (i ∷ a) (j ∷ b) = i == j && begins_properly a b
+abbrev pub is_proper_prefix : Address → Address → Bool
+is_proper_prefix a [] = false
+is_proper_prefix [] (j ∷ b) = true
+is_proper_prefix (i ∷ a) (j ∷ b) = i == j && is_proper_prefix a b
 
--- the entry of an address, with a text in front of its prefix and of the prefix of each further
+-- the entry of an address, with a text before its prefix and of the prefix of each further
 -- line
-abbrev pub entry_behind : Look → List ℕ → Shape → Address → List ℕ
-entry_behind look front x a = entry_from look (front ++ prefix_text look x a) (front ++ passing_text look x a) (own_at look x a)
+abbrev pub entry_after : Look → List ℕ → Shape → Address → List ℕ
+entry_after look outer x a = entry_from look (outer ++ prefix_text look x a) (outer ++ passing_text look x a) (own_at look x a)
 
 -- the entries below each address are, in order, the entries of the item there drawn alone at the
 -- remaining depth, without its root's, each after the address's passing text
@@ -42,7 +42,7 @@ abbrev pub HasSubtrees : Look → Shape → ℕ → Type 0
 HasSubtrees look x depth =
     (a : Address) (y : Shape) (whole part : List Address) → at kids x a ≡ Some y → length a ≤ depth
     → IsAddressList kids x depth whole → IsAddressList kids y (depth - length a) part
-    → map (entry_text look x) (filter (begins_properly a) whole) ≡ map (entry_behind look (passing_text look x a) y) (filter (begins_properly []) part)
+    → map (entry_text look x) (filter (is_proper_prefix a) whole) ≡ map (entry_after look (passing_text look x a) y) (filter (is_proper_prefix []) part)
 
 -- if the own bytes at an address hold no line feed, its entry is the painted prefix, the own bytes
 -- unchanged and a line feed

@@ -15,31 +15,31 @@ use Rattle.ptree.specs.declared.print_config.fields.Part.TheVariants.{Branch, Le
 use Rattle.ptree.specs.declared.print_config.fields.StyleField.TheVariants.{Foreground, Background, Bold, Dimmed, Italic, Underline, Blink, Reverse, Hidden, Strikethrough}
 use Rattle.ptree.specs.declared.print_config.loader.Fault.{Fault}
 use Rattle.ptree.specs.declared.print_config.loader.Fault.TheVariants as fault
-use Rattle.ptree.specs.Characters.{Characters, set_spelled, utf}
+use Rattle.ptree.specs.Characters.{Characters, parse_set, utf}
 use Rattle.ptree.specs.Color.{ColorValue}
-use Rattle.ptree.specs.Configuration.{Configuration, default_configuration}
+use Rattle.ptree.specs.Config.{ConfigValue, default_config}
 use Rattle.ptree.specs.Fields.{part_key, kind_of, all_fields, all_style_fields}
-use Rattle.ptree.specs.File.{Node, is_table, is_null, as_text, as_flag, whole_node, when_node, set_node, color_node}
+use Rattle.ptree.specs.File.{FileNode, is_table, is_null, as_text, as_flag, whole_node, when_node, set_node, color_node}
 use Rattle.ptree.specs.Style.{StyleValue}
 use Rattle.ptree.specs.Sources.{Given, given_by, document, variable, table_at, node}
-use Rattle.ptree.specs.declared.print_config.words.Spelling.TheVariants.{AnyCase}
-use Rattle.ptree.specs.Words.{when_spelled, flag_text, number_text, color_text}
+use Rattle.ptree.specs.declared.print_config.parse.Spelling.TheVariants.{AnyCase}
+use Rattle.ptree.specs.Parse.{parse_when, parse_flag, parse_number, parse_color}
 
 -- the value of a field's variable, or else of its key
-abbrev pub look_up : {A : Type 0} → (List ℕ → Option A) → (Node → Option A) → Given → Field → Option A
+abbrev pub look_up : {A : Type 0} → (List ℕ → Option A) → (FileNode → Option A) → Given → Field → Option A
 look_up by_text by_node given field = option_or (option_and_then by_text (variable given field)) (option_and_then by_node (node given field))
 
 -- the value of a field that accepts whole numbers up to this one
 abbrev pub whole : ℕ → Given → Field → Option ℕ
-whole greatest = look_up (number_text greatest) (whole_node greatest)
+whole greatest = look_up (parse_number greatest) (whole_node greatest)
 
 -- the value of a field that says when to style
 abbrev pub when : Given → Field → Option StyleWhen
-when = look_up (when_spelled AnyCase) when_node
+when = look_up (parse_when AnyCase) when_node
 
 -- the value of a field that accepts a set of characters
 abbrev pub set : Given → Field → Option Characters
-set = look_up (set_spelled AnyCase) set_node
+set = look_up (parse_set AnyCase) set_node
 
 -- the value of a field that accepts any text
 abbrev pub text : Given → Field → Option (List ℕ)
@@ -47,11 +47,11 @@ text = look_up Some as_text
 
 -- the value of a field that accepts a colour
 abbrev pub color : Given → Field → Option ColorValue
-color = look_up (λ value. Some (color_text value)) color_node
+color = look_up (λ value. Some (parse_color value)) color_node
 
 -- the value of a field that accepts true or false
 abbrev pub flag : Given → Field → Option Bool
-flag = look_up flag_text as_flag
+flag = look_up parse_flag as_flag
 
 -- the characters: a set, or else the regular one, with single characters by their variables
 unfoldable pub characters : Given → Characters
@@ -76,8 +76,8 @@ is_dimmed given Branch = is_none (table_at given (Some (part_key Branch))) && no
 is_dimmed given Leaf = false
 
 -- the style of a part
-unfoldable pub style_of : Given → Part → StyleValue
-style_of given part = record {
+unfoldable pub loaded_style : Given → Part → StyleValue
+loaded_style given part = record {
   foreground = color given (field.Paint part Foreground);
   background = color given (field.Paint part Background);
   bold = unwrap_or (flag given (field.Paint part Bold)) false;
@@ -92,29 +92,29 @@ style_of given part = record {
 
 -- the configuration, each field by itself: its variable's value, or else its key's, or else the
 -- default
-unfoldable pub configuration : Given → Configuration
+unfoldable pub configuration : Given → ConfigValue
 configuration given = record {
-  depth = unwrap_or (whole 4294967295 given field.Depth) default_configuration.depth;
-  indent = unwrap_or (whole 18446744073709551615 given field.Indent) default_configuration.indent;
-  padding = unwrap_or (whole 18446744073709551615 given field.Padding) default_configuration.padding;
-  styled = unwrap_or (when given field.Styled) default_configuration.styled;
+  depth = unwrap_or (whole 4294967295 given field.Depth) default_config.depth;
+  indent = unwrap_or (whole 18446744073709551615 given field.Indent) default_config.indent;
+  padding = unwrap_or (whole 18446744073709551615 given field.Padding) default_config.padding;
+  styled = unwrap_or (when given field.Styled) default_config.styled;
   characters = characters given;
-  branch = style_of given Branch;
-  leaf = style_of given Leaf;
-  continued = unwrap_or (text given field.Continued) default_configuration.continued;
+  branch = loaded_style given Branch;
+  leaf = loaded_style given Leaf;
+  continued = unwrap_or (text given field.Continued) default_config.continued;
 }
 
 -- whether fields of a kind accept a variable's text
 abbrev pub text_fits : Kind → List ℕ → Bool
-text_fits (Whole greatest) value = is_some (number_text greatest value)
-text_fits When value = is_some (when_spelled AnyCase value)
-text_fits Set value = is_some (set_spelled AnyCase value)
+text_fits (Whole greatest) value = is_some (parse_number greatest value)
+text_fits When value = is_some (parse_when AnyCase value)
+text_fits Set value = is_some (parse_set AnyCase value)
 text_fits Text value = true
 text_fits Color value = true
-text_fits Flag value = is_some (flag_text value)
+text_fits Flag value = is_some (parse_flag value)
 
 -- whether fields of a kind accept a value of a file
-abbrev pub node_fits : Kind → Node → Bool
+abbrev pub node_fits : Kind → FileNode → Bool
 node_fits (Whole greatest) value = is_some (whole_node greatest value)
 node_fits When value = is_some (when_node value)
 node_fits Set value = is_some (set_node value)
@@ -163,12 +163,12 @@ unless_fault None value = Some value
 unless_fault (Some fault) value = None
 
 -- the configuration of sources, or none if there is a fault in them
-abbrev pub config_of : Sources → Option Configuration
-config_of sources = unless_fault (first_fault sources) (configuration (given_by sources))
+abbrev pub loaded_config : Sources → Option ConfigValue
+loaded_config sources = unless_fault (first_fault sources) (configuration (given_by sources))
 
 -- the configuration that sources mean: the complete default if there is a fault in them
-abbrev pub meant_by : Sources → Configuration
-meant_by sources = unwrap_or (config_of sources) default_configuration
+abbrev pub effective_config : Sources → ConfigValue
+effective_config sources = unwrap_or (loaded_config sources) default_config
 
 -- there is no file, and no variable of a field
 pub record SayNothing (sources : Sources) : Type 0 where

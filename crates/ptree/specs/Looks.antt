@@ -3,14 +3,14 @@ use Rattle.std.specs.Prelude.{◌≡◌, ℕ, Bool, true, false, Option, Some, N
 use Rattle.ptree.specs.declared.output.look.Look.{Look as HeldLook}
 use Rattle.ptree.specs.declared.read.lines.CodeTexts.{CodeTexts}
 use Rattle.ptree.specs.Drawing.{Look, look_from}
-use Rattle.ptree.specs.Entries.{entry_of}
+use Rattle.ptree.specs.Entries.{shape_entry}
 use Rattle.ptree.specs.Pieces.{Pieces, turning_piece, passing_piece, pieces_of}
 use Rattle.ptree.specs.Shape.{Shape}
-use Rattle.ptree.specs.Style.{StyleValue, style_value, front_codes, back_codes}
+use Rattle.ptree.specs.Style.{StyleValue, style_of, start_codes, end_codes}
 
 -- the look that the code's look means
-abbrev pub look_meant : HeldLook → Look
-look_meant l = look_from (style_value l.branch.now) (style_value l.leaf.now) (pieces_of l.pieces) l.mark.now
+abbrev pub look_of : HeldLook → Look
+look_of l = look_from (style_of l.branch.now) (style_of l.leaf.now) (pieces_of l.pieces) l.mark.now
 
 -- the piece on the own line of a root (none), or of a child by whether it is last
 abbrev pub own_piece : Pieces → Option Bool → List ℕ
@@ -22,13 +22,13 @@ abbrev pub below_piece : Pieces → Option Bool → List ℕ
 below_piece p None = []
 below_piece p (Some last) = passing_piece p last
 
--- the piece of the own line, and the branch's back codes
+-- the piece of the own line, and the branch's end codes
 abbrev pub own_text : Look → Option Bool → List ℕ
-own_text look last = own_piece look.pieces last ++ back_codes look.branch
+own_text look last = own_piece look.pieces last ++ end_codes look.branch
 
--- the piece of the lines below, the marker and the branch's back codes
+-- the piece of the lines below, the marker and the branch's end codes
 abbrev pub further_text : Look → Option Bool → List ℕ
-further_text look last = below_piece look.pieces last ++ look.mark ++ back_codes look.branch
+further_text look last = below_piece look.pieces last ++ look.mark ++ end_codes look.branch
 
 -- three texts are those on the own lines of a root, a child and a last child
 pub record AreOwnTexts (look : Look) (root child last_child : List ℕ) : Type 0 where
@@ -44,9 +44,9 @@ pub record AreFurtherTexts (look : Look) (root child last_child : List ℕ) : Ty
 
 -- the entry of a root or of a child, after its parent's passing text
 abbrev pub own_entry : Look → List ℕ → Option Bool → Shape → List ℕ
-own_entry look front last x = entry_of look (front ++ own_piece look.pieces last) (front ++ below_piece look.pieces last) x
+own_entry look outer last x = shape_entry look (outer ++ own_piece look.pieces last) (outer ++ below_piece look.pieces last) x
 
 -- two texts are the codes of a style
 pub record HasCodes (c : CodeTexts) (style : StyleValue) : Type 0 where
-  pub front : string_bytes c.front ≡ front_codes style
-  pub back : string_bytes c.back ≡ back_codes style
+  pub start : string_bytes c.start ≡ start_codes style
+  pub end : string_bytes c.end ≡ end_codes style

@@ -1,4 +1,4 @@
--- A graph as a tree in which each node is expanded once: its neighbours stand below one of its
+-- A graph as a tree in which each node is expanded once: its neighbours are below one of its
 -- occurrences, and the others are leaves.
 use Rattle.std.specs.Prelude.{◌≡◌, ◌≢◌, ◌↔◌, IsTrue, ℕ, zero, suc, ◌+◌, ◌-◌, ◌^◌, ◌<◌, Bool, true, false, if◌then◌else◌, nat_lt, List, [], ◌∷◌, ◌++◌, length, drop, map, count_by, Some, option_map, unwrap_or, slice_get}
 use Rattle.ptree.specs.declared.graph.Graph.{Graph}
@@ -39,17 +39,17 @@ row (p ∷ ps) = item p.node p.repeated p.children (row ps)
 abbrev pub occurrence_kids : OccurrenceTree → List OccurrenceTree
 occurrence_kids p = occurrences p.children
 
--- at the address a of t stands p
+-- at the address a of t is p
 abbrev pub StandsAt : OccurrenceTree → Address → OccurrenceTree → Type 0
 StandsAt t a p = at occurrence_kids t a ≡ Some p
 
--- before the address a, something stands below an occurrence of v
+-- before the address a, something is below an occurrence of v
 abbrev pub IsExpandedBefore : OccurrenceTree → Address → ℕ → Type 0
 IsExpandedBefore t a v = (b : Address) × (q : OccurrenceTree) × StandsAt t b q × (q.node ≡ v) × (occurrence_kids q ≢ []) × Before b a
 
 -- The graph expanded once, from start down to depth. An occurrence is repeated exactly where an
--- earlier one of its node has something below it. Below one that isn't repeated, and is above the
--- depth, stand its node's neighbours in order; below any other stands nothing.
+-- earlier one of its node has something below it. Below one that is not repeated, and is above the
+-- depth, are its node's neighbours in order; below any other is nothing.
 pub record IsExpandedOnce (below : ℕ → List ℕ) (start depth : ℕ) (t : OccurrenceTree) : Type 0 where
   pub root : t.node ≡ start
   pub repeated : (a : Address) (p : OccurrenceTree) → StandsAt t a p → IsTrue p.repeated ↔ IsExpandedBefore t a p.node
@@ -69,7 +69,7 @@ NoneRepeated t = (a : Address) (p : OccurrenceTree) → StandsAt t a p → p.rep
 abbrev pub LeavesUnrepeated : (ℕ → List ℕ) → OccurrenceTree → Type 0
 LeavesUnrepeated below t = (a : Address) (p : OccurrenceTree) → StandsAt t a p → below p.node ≡ [] → p.repeated ≡ false
 
--- before the address a, an occurrence of v stands above the depth
+-- before the address a, an occurrence of v is above the depth
 abbrev pub IsMetBefore : ℕ → OccurrenceTree → Address → ℕ → Type 0
 IsMetBefore depth t a v = (b : Address) × (q : OccurrenceTree) × StandsAt t b q × (q.node ≡ v) × (length b < depth) × Before b a
 
@@ -80,11 +80,11 @@ ExpandsFirst below depth t =
     (a : Address) (p : OccurrenceTree) → StandsAt t a p → length a < depth → below p.node ≢ []
     → (occurrence_kids p ≢ []) ↔ (IsMetBefore depth t a p.node → ⊥)
 
--- somewhere in t, something stands below an occurrence of v
+-- somewhere in t, something is below an occurrence of v
 abbrev pub IsExpanded : OccurrenceTree → ℕ → Type 0
 IsExpanded t v = (b : Address) × (q : OccurrenceTree) × StandsAt t b q × (q.node ≡ v) × (occurrence_kids q ≢ [])
 
--- how many occurrences stand in a row, and below
+-- how many occurrences are in a row, and below
 abbrev pub row_size : Occurrences → ℕ
 row_size none = 0
 row_size (item v r c rest) = suc (row_size c + row_size rest)
@@ -103,13 +103,13 @@ abbrev pub is_repeated_size : ℕ → Bool
 is_repeated_size zero = true
 is_repeated_size (suc n) = false
 
--- how many places stand below one of this size
+-- how many places are below one of this size
 abbrev pub size_below : ℕ → ℕ
 size_below zero = 0
 size_below (suc n) = n
 
--- The trees that the places at the front are, as many of them as `left` places make, in at most so
--- many steps. A place is a tree together with those after it that stand below it by its size, and
+-- The trees that the first places are, as many of them as `left` places make, in at most so
+-- many steps. A place is a tree together with those after it that are below it by its size, and
 -- the next tree begins after these.
 abbrev pub trees_by : (steps left : ℕ) → List Place → List OccurrenceTree
 trees_by zero left ps = []
@@ -118,23 +118,23 @@ trees_by (suc n) (suc left) [] = []
 trees_by (suc n) (suc left) (p ∷ ps) =
     occurrence p.node.0 (is_repeated_size p.size) (row (trees_by n (size_below p.size) ps)) ∷ trees_by n (left - size_below p.size) (drop (size_below p.size) ps)
 
--- the trees that so many places at the front are: there are no more steps than places
+-- the trees that so many first places are: there are no more steps than places
 abbrev pub trees_in : ℕ → List Place → List OccurrenceTree
 trees_in left ps = trees_by (length ps) left ps
 
 -- the tree that begins with the first place; where there is none, a node of a number that no graph
 -- has
-abbrev pub tree_at_front : List Place → OccurrenceTree
-tree_at_front [] = occurrence (2 ^ 64 - 1) false none
-tree_at_front (p ∷ ps) = occurrence p.node.0 (is_repeated_size p.size) (row (trees_in (size_below p.size) ps))
+abbrev pub first_tree : List Place → OccurrenceTree
+first_tree [] = occurrence (2 ^ 64 - 1) false none
+first_tree (p ∷ ps) = occurrence p.node.0 (is_repeated_size p.size) (row (trees_in (size_below p.size) ps))
 
 -- what an Occurrence means
 abbrev pub occurrence_tree : Occurrence → OccurrenceTree
-occurrence_tree o = tree_at_front o.places.items
+occurrence_tree o = first_tree o.places.items
 
 -- the occurrence at a place of it
 abbrev pub occurrence_at : Occurrence → ℕ → OccurrenceTree
-occurrence_at o i = tree_at_front (drop i o.places.items)
+occurrence_at o i = first_tree (drop i o.places.items)
 
 -- the mark of an occurrence, if it is repeated
 abbrev pub mark_text : List ℕ → Bool → List ℕ

@@ -3,7 +3,7 @@ use Rattle.std.specs.Prelude.{ℕ, [], ◌∷◌, codes}
 use Rattle.ptree.specs.declared.presets.Preset.{Preset}
 use Rattle.ptree.specs.declared.presets.Preset.TheVariants.{Tree, TreeAscii, CargoTree, CargoTreeAscii, Findmnt, FindmntAscii, Sqlite, Maven, Clang, Ps}
 use Rattle.ptree.specs.Characters.{Characters, ascii_tick, utf}
-use Rattle.ptree.specs.Configuration.{Configuration, default_configuration}
+use Rattle.ptree.specs.Config.{ConfigValue, default_config}
 
 -- the pieces of `tree`: `├── `, a bar with two no-break spaces and a space, `└── `, and four spaces
 abbrev pub tree_characters : Characters
@@ -26,18 +26,18 @@ ps_characters = record {
 }
 
 -- the default with other characters, indent and padding
-abbrev pub drawn_with : Characters → ℕ → ℕ → Configuration
-drawn_with c indent padding = record default_configuration { characters = c; indent = indent; padding = padding }
+abbrev pub drawn_with : Characters → ℕ → ℕ → ConfigValue
+drawn_with c indent padding = record default_config { characters = c; indent = indent; padding = padding }
 
 -- the configuration of a program
-abbrev pub preset_value : Preset → Configuration
-preset_value Tree = drawn_with tree_characters 0 0
-preset_value TreeAscii = drawn_with ascii_tick 4 1
-preset_value CargoTree = drawn_with utf 4 1
-preset_value CargoTreeAscii = drawn_with ascii_tick 4 1
-preset_value Findmnt = drawn_with utf 2 0
-preset_value FindmntAscii = drawn_with ascii_tick 2 0
-preset_value Sqlite = drawn_with ascii_tick 3 0
-preset_value Maven = drawn_with utf 3 1
-preset_value Clang = drawn_with ascii_tick 2 0
-preset_value Ps = drawn_with ps_characters 0 0
+abbrev pub preset_of : Preset → ConfigValue
+preset_of Tree = drawn_with tree_characters 0 0
+preset_of TreeAscii = drawn_with ascii_tick 4 1
+preset_of CargoTree = drawn_with utf 4 1
+preset_of CargoTreeAscii = drawn_with ascii_tick 4 1
+preset_of Findmnt = drawn_with utf 2 0
+preset_of FindmntAscii = drawn_with ascii_tick 2 0
+preset_of Sqlite = drawn_with ascii_tick 3 0
+preset_of Maven = drawn_with utf 3 1
+preset_of Clang = drawn_with ascii_tick 2 0
+preset_of Ps = drawn_with ps_characters 0 0

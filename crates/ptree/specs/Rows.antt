@@ -10,7 +10,7 @@ use Rattle.ptree.specs.Tree.{forest, tree_of}
 abbrev pub text_line : TextLine → Line
 text_line l = line l.level (string_bytes l.text)
 
--- the items are the trees of the front of the lines, one level below above, and the rest starts no
+-- the items are the trees of the first lines, one level below above, and the rest starts no
 -- deeper than above
 pub record IsRow {T : Type 0} (line_of : T → Line) (above : ℕ) (lines : List T) (items : List StringItem) (rest : List T) : Type 0 where
   pub are : map line_of lines ≡ outline_at (suc above) (forest (map tree_of items)) ++ map line_of rest

@@ -5,14 +5,14 @@ use Rattle.ptree.specs.Drawing.{Look, continued_prefix, entry_from}
 use Rattle.ptree.specs.Outline.{Line, line, Steps}
 use Rattle.ptree.specs.Pieces.{Pieces, turning_piece, passing_all}
 use Rattle.ptree.specs.Style.{painted_text}
-use Rattle.ptree.specs.Text.{line_feed}
+use Rattle.ptree.specs.Texts.{line_feed}
 
 -- whether a text has further lines
 abbrev pub has_line_feed : List ℕ → Bool
 has_line_feed [] = false
 has_line_feed (b ∷ bs) = if nat_eq b line_feed then true else has_line_feed bs
 
--- an item below the root: its level, the pieces in front of it, the passing pieces before each of
+-- an item below the root: its level, the pieces before it, the passing pieces before each of
 -- its further lines (none if it has no such line), and its text
 pub record SpelledItem : Type 0 where
   pub level : ℕ

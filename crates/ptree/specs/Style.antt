@@ -5,7 +5,7 @@ use Rattle.std.specs.List.{join_with_byte}
 use Rattle.ptree.specs.declared.style.Style.{Style}
 use Rattle.ptree.specs.declared.colors.Side.{Side}
 use Rattle.ptree.specs.declared.colors.Side.TheVariants.{Foreground, Background}
-use Rattle.ptree.specs.Color.{ColorValue, color_value, color_parameters}
+use Rattle.ptree.specs.Color.{ColorValue, color_of, color_parameters}
 
 -- a style, names of colours by their bytes
 pub record StyleValue : Type 0 where
@@ -21,10 +21,10 @@ pub record StyleValue : Type 0 where
   pub strikethrough : Bool
 
 -- the value that a style holds
-abbrev pub style_value : Style → StyleValue
-style_value style = record {
-  foreground = option_map color_value style.foreground;
-  background = option_map color_value style.background;
+abbrev pub style_of : Style → StyleValue
+style_of style = record {
+  foreground = option_map color_of style.foreground;
+  background = option_map color_of style.background;
   bold = style.bold;
   dimmed = style.dimmed;
   italic = style.italic;
@@ -52,7 +52,7 @@ plain_style = record {
 
 -- the value that the plain style holds
 abbrev pub plain_value : StyleValue
-plain_value = style_value plain_style
+plain_value = style_of plain_style
 
 -- ESC [, the parameters in decimal with `;` between them, and m
 abbrev pub code : List ℕ → List ℕ
@@ -98,8 +98,8 @@ pub record IsPlain (style : StyleValue) : Type 0 where
   pub background : SetsNone style.background Background
 
 -- the codes before a painted text
-abbrev pub front_codes : StyleValue → List ℕ
-front_codes style = flat_map (λ code. code) (style_codes style)
+abbrev pub start_codes : StyleValue → List ℕ
+start_codes style = flat_map (λ code. code) (style_codes style)
 
 -- the code that ends all styles: ESC [0m
 abbrev pub reset_code : List ℕ
@@ -111,9 +111,9 @@ reset_after [] = []
 reset_after (x ∷ xs) = reset_code
 
 -- the codes after a painted text
-abbrev pub back_codes : StyleValue → List ℕ
-back_codes style = reset_after (style_codes style)
+abbrev pub end_codes : StyleValue → List ℕ
+end_codes style = reset_after (style_codes style)
 
 -- the codes, the text and the reset; only the text if there is no code
 abbrev pub painted_text : StyleValue → List ℕ → List ℕ
-painted_text style text = front_codes style ++ text ++ back_codes style
+painted_text style text = start_codes style ++ text ++ end_codes style

@@ -7,14 +7,14 @@ use Rattle.ptree.specs.declared.value.Value.{Value, fold-Value}
 use Rattle.ptree.specs.declared.value.Value.TheOpen.{Value-F}
 
 -- a list of data as the elements of a list
-abbrev pub items_of : List Data → Items
-items_of [] = d.no_items
-items_of (x ∷ xs) = d.item x (items_of xs)
+abbrev pub items_from : List Data → Items
+items_from [] = d.no_items
+items_from (x ∷ xs) = d.item x (items_from xs)
 
 -- a list of keys and values as the entries of a map
-abbrev pub entries_of : List (Data × Data) → Entries
-entries_of [] = d.no_entries
-entries_of (e ∷ es) = d.entry e.0 e.1 (entries_of es)
+abbrev pub entries_from : List (Data × Data) → Entries
+entries_from [] = d.no_entries
+entries_from (e ∷ es) = d.entry e.0 e.1 (entries_from es)
 
 -- the data of a value whose inner values are replaced by their data
 abbrev pub data_step : Value-F Data → Data
@@ -33,8 +33,8 @@ data_step Value-F.Unit = d.unit
 data_step (Value-F.Option None) = d.nothing
 data_step (Value-F.Option (Some x)) = d.something x.value
 data_step (Value-F.Newtype x) = d.newtype x.value
-data_step (Value-F.Seq v) = d.seq (items_of v.items)
-data_step (Value-F.Map v) = d.map (entries_of v.items)
+data_step (Value-F.Seq v) = d.seq (items_from v.items)
+data_step (Value-F.Map v) = d.map (entries_from v.items)
 data_step (Value-F.Bytes v) = d.bytes v.items
 
 -- the data of a value
@@ -42,16 +42,16 @@ abbrev pub data_of : Value → Data
 data_of = fold-Value Data data_step
 
 -- the elements of a list of values
-abbrev pub items_meant : List Value → Items
-items_meant vs = items_of (map data_of vs)
+abbrev pub items_of : List Value → Items
+items_of vs = items_from (map data_of vs)
 
 -- the data of a key and a value
-abbrev pub entry_meant : Value × Value → Data × Data
-entry_meant e = (data_of e.0, data_of e.1)
+abbrev pub entry_of : Value × Value → Data × Data
+entry_of e = (data_of e.0, data_of e.1)
 
 -- the entries of a list of keys and values
-abbrev pub entries_meant : List (Value × Value) → Entries
-entries_meant es = entries_of (map entry_meant es)
+abbrev pub entries_of : List (Value × Value) → Entries
+entries_of es = entries_from (map entry_of es)
 
 -- the pair of a label and a value
 abbrev pub pair_of : String Global × Value → Pair

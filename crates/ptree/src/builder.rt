@@ -1,6 +1,6 @@
 //! Builds a tree item by item.
 ghost use Rattle.std.specs.Borrow.{sem};
-ghost use Rattle.std.specs.Prelude.{Bool, false, if◌then◌else◌, ◌≡◌, ◌↔◌, ◌⊎◌, ◌<◌, ◌+◌, ◌++◌, [], ◌∷◌, suc, map, IfOk, OnOk, OnErr, IsErrOf, string_bytes};
+ghost use Rattle.std.specs.Prelude.{false, if◌then◌else◌, ◌≡◌, ◌↔◌, ◌⊎◌, ◌<◌, ◌+◌, ◌++◌, [], ◌∷◌, map, IfOk, OnOk, OnErr, IsErrOf, string_bytes};
 ghost use Rattle.ptree.specs.Outline.{Line, line, outline, IsOutline, StartsAtMost, Steps};
 ghost use Rattle.ptree.specs.Rows.{IsRow};
 ghost use Rattle.ptree.specs.Tree.{Tree, tree_of};
@@ -303,7 +303,7 @@ fn count_at(counts: &[usize], place: usize) -> usize {
     counts.get(place).copied().unwrap_or(0)
 }
 
-// Returns the trees at the front that are one level below `above`, and the lines after them.
+// Returns the first trees that are one level below `above`, and the lines after them.
 #[cycle(row)]
 fn row_from_outline<'a, T: OutlineLine>(
     alloc: Global,

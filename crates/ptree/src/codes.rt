@@ -1,8 +1,8 @@
 //! The codes of a style, gathered without allocating.
-ghost use Rattle.std.specs.Prelude.{◌≡◌, ◌+◌, ◌*◌, ◌≤◌, ◌<◌, [], ◌∷◌, ◌++◌, length, IsUtf8, decimal, flat_map, option_map, option_to_list};
+ghost use Rattle.std.specs.Prelude.{◌≡◌, ◌+◌, ◌*◌, ◌≤◌, ◌<◌, [], ◌∷◌, ◌++◌, length, IsUtf8, decimal, option_map, option_to_list};
 ghost use Rattle.ptree.specs.declared.codes.TheConstants.{ROOM};
-ghost use Rattle.ptree.specs.Color.{color_value, tone_parameters};
-ghost use Rattle.ptree.specs.Style.{style_value, code, flags, flag_codes, color_code, side_codes, reset_after, front_codes, back_codes};
+ghost use Rattle.ptree.specs.Color.{color_of, tone_parameters};
+ghost use Rattle.ptree.specs.Style.{style_of, code, flags, flag_codes, color_code, side_codes, reset_after, start_codes, end_codes};
 
 use crate::colors::{Side, Tone, color_tone};
 use crate::style::{Color, Style};
@@ -20,7 +20,7 @@ pub struct Codes {
 }
 
 impl Codes {
-    ghost use Rattle.ptree.specs.Codes.{IsOfEight, gathered_codes, joined_codes};
+    ghost use Rattle.ptree.specs.Codes.{IsOfEight, codes_of, joined_codes};
 
     /// Starts with no code.
     #[inline(always)]
@@ -35,9 +35,9 @@ impl Codes {
 
     /// Returns the codes of a style, in order.
     pub fn of(style: &Style) -> Codes
-        ensures front { gathered_codes result ≡ front_codes (style_value style.now) }
-        ensures back { reset_after (gathered_codes result) ≡ back_codes (style_value style.now) }
-        ensures utf8 { IsUtf8 (gathered_codes result) }
+        ensures front { codes_of result ≡ start_codes (style_of style.now) }
+        ensures back { reset_after (codes_of result) ≡ end_codes (style_of style.now) }
+        ensures utf8 { IsUtf8 (codes_of result) }
     {
         let mut codes = Codes::none();
         codes.gather(style);
@@ -48,9 +48,9 @@ impl Codes {
     #[inline(always)]
     pub fn gather(&mut self, style: &Style)
         requires { self.old.len ≡ 0 }
-        ensures front { gathered_codes self.new ≡ front_codes (style_value style.now) }
-        ensures back { reset_after (gathered_codes self.new) ≡ back_codes (style_value style.now) }
-        ensures utf8 { IsUtf8 (gathered_codes self.new) }
+        ensures front { codes_of self.new ≡ start_codes (style_of style.now) }
+        ensures back { reset_after (codes_of self.new) ≡ end_codes (style_of style.now) }
+        ensures utf8 { IsUtf8 (codes_of self.new) }
     {
         self.push_flags(style);
         self.push_side(&style.foreground, Side::Foreground);
@@ -59,22 +59,22 @@ impl Codes {
 
     /// Returns the codes' bytes.
     pub fn as_bytes(&self) -> &[u8]
-        ensures { result.now ≡ gathered_codes self.now }
+        ensures { result.now ≡ codes_of self.now }
     {
         &self.bytes[..self.len]
     }
 
     /// Returns the codes as a text.
     pub fn as_str(&self) -> &str
-        requires { IsUtf8 (gathered_codes self.now) }
-        ensures { result.now ≡ gathered_codes self.now }
+        requires { IsUtf8 (codes_of self.now) }
+        ensures { result.now ≡ codes_of self.now }
     {
         str::from_utf8(self.as_bytes()).unwrap()
     }
 
     /// Returns the reset, if there is a code.
     pub fn reset(&self) -> &'static str
-        ensures { result.now ≡ reset_after (gathered_codes self.now) }
+        ensures { result.now ≡ reset_after (codes_of self.now) }
     {
         if self.len == 0 { "" } else { "\x1b[0m" }
     }
@@ -83,8 +83,8 @@ impl Codes {
     #[inline(always)]
     fn push_flags(&mut self, style: &Style)
         requires { self.old.len + 32 ≤ ROOM }
-        ensures text { gathered_codes self.new
-            ≡ gathered_codes self.old ++ joined_codes (flag_codes (flags (style_value style.now))) }
+        ensures text { codes_of self.new
+            ≡ codes_of self.old ++ joined_codes (flag_codes (flags (style_of style.now))) }
         ensures len { self.new.len ≤ self.old.len + 32 }
     {
         self.push_flag(style.bold, 1);
@@ -103,8 +103,8 @@ impl Codes {
     fn push_flag(&mut self, is_set: bool, digit: u8)
         requires digit { digit < 10 }
         requires room { self.old.len + 4 ≤ ROOM }
-        ensures text { gathered_codes self.new
-            ≡ gathered_codes self.old ++ joined_codes (flag_codes ((is_set, digit) ∷ [])) }
+        ensures text { codes_of self.new
+            ≡ codes_of self.old ++ joined_codes (flag_codes ((is_set, digit) ∷ [])) }
         ensures len { self.new.len ≤ self.old.len + 4 }
     {
         if is_set {
@@ -121,9 +121,9 @@ impl Codes {
     #[inline(always)]
     fn push_side(&mut self, color: &Option<Color>, side: Side)
         requires { self.old.len + 22 ≤ ROOM }
-        ensures text { gathered_codes self.new
-            ≡ gathered_codes self.old
-            ++ joined_codes (side_codes (option_map color_value color.now) side) }
+        ensures text { codes_of self.new
+            ≡ codes_of self.old
+            ++ joined_codes (side_codes (option_map color_of color.now) side) }
         ensures len { self.new.len ≤ self.old.len + 22 }
     {
         if let Some(color) = color {
@@ -136,9 +136,9 @@ impl Codes {
     #[inline(never)]
     fn push_color(&mut self, color: &Color, side: Side)
         requires { self.old.len + 22 ≤ ROOM }
-        ensures text { gathered_codes self.new
-            ≡ gathered_codes self.old
-            ++ joined_codes (option_to_list (color_code (color_value color.now) side)) }
+        ensures text { codes_of self.new
+            ≡ codes_of self.old
+            ++ joined_codes (option_to_list (color_code (color_of color.now) side)) }
         ensures len { self.new.len ≤ self.old.len + 22 }
     {
         if let Some(tone) = color_tone(color) {
@@ -150,8 +150,8 @@ impl Codes {
     fn push_tone(&mut self, tone: Tone, side: Side)
         requires room { self.old.len + 22 ≤ ROOM }
         requires eight { IsOfEight tone }
-        ensures text { gathered_codes self.new
-            ≡ gathered_codes self.old ++ code (tone_parameters side tone) }
+        ensures text { codes_of self.new
+            ≡ codes_of self.old ++ code (tone_parameters side tone) }
         ensures len { self.new.len ≤ self.old.len + 22 }
     {
         match tone {
@@ -165,8 +165,8 @@ impl Codes {
     #[tactic(auto, using(crate::proofs::Decimals::byte_lengths))]
     fn push_code(&mut self, first: u8, others: &[u8])
         requires { self.old.len + 4 * length others.now + 6 ≤ ROOM }
-        ensures text { gathered_codes self.new
-            ≡ gathered_codes self.old ++ code (first ∷ others.now) }
+        ensures text { codes_of self.new
+            ≡ codes_of self.old ++ code (first ∷ others.now) }
         ensures len { self.new.len ≤ self.old.len + 4 * length others.now + 6 }
     {
         self.push(27);
@@ -183,7 +183,7 @@ impl Codes {
     #[tactic(auto, using(crate::proofs::Decimals::byte_digits))]
     fn push_number(&mut self, n: u8)
         requires { self.old.len + length (decimal n) ≤ ROOM }
-        ensures text { gathered_codes self.new ≡ gathered_codes self.old ++ decimal n }
+        ensures text { codes_of self.new ≡ codes_of self.old ++ decimal n }
         ensures len { self.new.len ≡ self.old.len + length (decimal n) }
     {
         if n >= 10 {
@@ -195,7 +195,7 @@ impl Codes {
     // Adds one byte, for which there is room.
     fn push(&mut self, byte: u8)
         requires { self.old.len < ROOM }
-        ensures text { gathered_codes self.new ≡ gathered_codes self.old ++ byte ∷ [] }
+        ensures text { codes_of self.new ≡ codes_of self.old ++ byte ∷ [] }
         ensures len { self.new.len ≡ self.old.len + 1 }
     {
         self.bytes[self.len] = byte;

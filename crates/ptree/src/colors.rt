@@ -1,10 +1,10 @@
 //! Resolves colours to terminal codes, and holds the known names.
-ghost use Rattle.std.specs.Prelude.{◌≡◌, ◌+◌, ◌≤◌, ◌<◌, true, IfSome, length, slice_index, position, find, bytes_eq, option_copied};
+ghost use Rattle.std.specs.Prelude.{◌≡◌, ◌+◌, ◌≤◌, ◌<◌, true, IfSome, position, find};
 ghost use Rattle.std.specs.List.{list_all};
 ghost use Rattle.std.specs.Str.{str_eq_ignore_ascii_case};
 ghost use Rattle.std.specs.Char.{digit_value, is_ascii_hexdigit};
 ghost use Rattle.ptree.specs.Codes.{IsOfEight, HasHexDigits};
-ghost use Rattle.ptree.specs.Color.{is_hex_name, named_tone, word_tone, hex_tone, hex_byte, table_tone, color_value, tone_of};
+ghost use Rattle.ptree.specs.Color.{is_hex_name, named_tone, basic_tone, hex_tone, hex_byte, table_tone, color_of, tone_of};
 
 use crate::style::Color;
 
@@ -58,7 +58,7 @@ pub enum Tone {
 }
 
 // The words of the eight colours, in their order.
-const COLOR_WORDS: [&str; 8] = [
+const BASIC_NAMES: [&str; 8] = [
     "black", "red", "green", "yellow", "blue", "purple", "cyan", "white",
 ];
 
@@ -86,7 +86,7 @@ const NAMED_COLORS: [(&str, u8, u8, u8); 18] = [
 
 /// Returns the tone of a colour. An unknown name has none.
 pub fn color_tone(color: &Color) -> Option<Tone>
-    ensures value { result ≡ tone_of (color_value color.now) }
+    ensures value { result ≡ tone_of (color_of color.now) }
     ensures eight { IfSome result IsOfEight }
 {
     Some(match color {
@@ -108,16 +108,16 @@ pub fn color_tone(color: &Color) -> Option<Tone>
 fn named_tone(name: &str) -> Option<Tone>
     ensures { result ≡ named_tone name.now }
 {
-    word_tone(name)
+    basic_tone(name)
         .or_else(|| hex_tone(name))
         .or_else(|| table_tone(name))
 }
 
 // Returns the colour of one of the eight words, exactly spelled.
-fn word_tone(name: &str) -> Option<Tone>
-    ensures { result ≡ word_tone name.now }
+fn basic_tone(name: &str) -> Option<Tone>
+    ensures { result ≡ basic_tone name.now }
 {
-    COLOR_WORDS
+    BASIC_NAMES
         .iter()
         .position(|word| *word == name)
         .map(|k| Tone::Eight(k as u8))

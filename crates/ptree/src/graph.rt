@@ -192,7 +192,7 @@ impl<N> Graph<N> {
         self.targets(*self.nodes.allocator(), a, NodeIndex)
     }
 
-    /// Returns the graph with its edges turned round: the same nodes, and for each edge one from
+    /// Returns the graph with its edges reversed: the same nodes, and for each edge one from
     /// its target to its source, in the same order.
     ///
     /// So what needs a node is drawn as what the node needs. The call does not allocate. Its time

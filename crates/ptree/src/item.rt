@@ -1,8 +1,8 @@
 //! Items, which are what can be drawn.
 ghost use Rattle.std.specs.Prelude.{◌≡◌, [], map, IfOk, IsOkAnd};
-ghost use Rattle.ptree.specs.Children.{children_items};
+ghost use Rattle.ptree.specs.Children.{children_of};
 ghost use Rattle.ptree.specs.Shape.{Shape, kids};
-ghost use Rattle.ptree.specs.Style.{style_value};
+ghost use Rattle.ptree.specs.Style.{style_of};
 ghost use Rattle.ptree.specs.Writing.{IsWritten, HasCause, TakesNoMemory};
 
 mod lent;
@@ -44,7 +44,7 @@ pub trait TreeItem: Shaped {
     /// `Write` or `Zero` if `f` failed, and `Memory`. A prefix of the contents was written.
     fn write_self<W: Sink>(&self, alloc: Global, f: &mut W, style: &Style) -> Result<(), DrawError>
         ensures bytes { IsWritten (W.contents f.old) (W.contents f.new) result
-            ((Self.shape self.now).own [] (style_value style.now)) }
+            ((Self.shape self.now).own [] (style_of style.now)) }
         ensures cause { HasCause (W.faults f.old) (W.faults f.new) result };
 
     /// Returns the item's children, in order. A leaf has none.
@@ -54,7 +54,7 @@ pub trait TreeItem: Shaped {
     /// Memory ran out.
     fn children(&self, alloc: Global) -> Result<Children<'_, Self::Child>, AllocError>
         ensures { IfOk result
-            (λ c. map Self.Child.shape (children_items c) ≡ kids (Self.shape self.now)) };
+            (λ c. map Self.Child.shape (children_of c) ≡ kids (Self.shape self.now)) };
 }
 
 /// The children of an item: those that it holds, or those made for the call.
@@ -70,7 +70,7 @@ pub enum Children<'a, C> {
 impl<'a, C> Children<'a, C> {
     /// Returns the children, in order.
     pub fn as_slice(&self) -> &[C]
-        ensures { result.now ≡ children_items self.now }
+        ensures { result.now ≡ children_of self.now }
     {
         match self {
             Children::Lent(items) => items,
@@ -128,7 +128,7 @@ impl TreeItem for StringItem {
     #[inline(always)]
     fn write_self<W: Sink>(&self, _alloc: Global, f: &mut W, style: &Style) -> Result<(), DrawError>
         ensures bytes { IsWritten (W.contents f.old) (W.contents f.new) result
-            ((shape_of_tree (tree_of self.now)).own [] (style_value style.now)) }
+            ((shape_of_tree (tree_of self.now)).own [] (style_of style.now)) }
         ensures cause { HasCause (W.faults f.old) (W.faults f.new) result }
         ensures memory { TakesNoMemory result }
     {
@@ -138,10 +138,10 @@ impl TreeItem for StringItem {
     /// Lends the children. It does not allocate, and always succeeds.
     fn children(&self, _alloc: Global) -> Result<Children<'_, StringItem>, AllocError>
         ensures shapes { IfOk result (λ c.
-            map (λ s. shape_of_tree (tree_of s)) (children_items c)
+            map (λ s. shape_of_tree (tree_of s)) (children_of c)
             ≡ kids (shape_of_tree (tree_of self.now))) }
         ensures lent { IsOkAnd result (λ c.
-            children_items c ≡ (out-StringItem self.now).children.items) }
+            children_of c ≡ (out-StringItem self.now).children.items) }
     {
         Ok(Children::Lent(self.children.as_slice()))
     }

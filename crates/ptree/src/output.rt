@@ -1,9 +1,9 @@
 //! Pieces, and the calls that draw.
 ghost use Rattle.std.specs.Prelude.{Bool, false, List, ℕ, IfOk, IfSome, IfNone, IsSome, string_bytes};
 ghost use Rattle.std.specs.Str.{IsUtf8};
-ghost use Rattle.ptree.specs.Loading.{meant_by};
+ghost use Rattle.ptree.specs.Loading.{effective_config};
 ghost use Rattle.ptree.specs.Writing.{HasCause, IsDrawn, LeavesWholeEntries};
-ghost use Rattle.ptree.specs.Drawing.{look_by, look_of, written_look, IsDrawing};
+ghost use Rattle.ptree.specs.Drawing.{look_by, config_look, written_look, IsDrawing};
 ghost use Rattle.ptree.specs.Laws.{HasOneList, HasCuts, HasTreeCuts, HasSubtrees, HasOneLineEntries};
 ghost use Rattle.ptree.specs.Tree.{tree_of, shape_of_tree};
 ghost use Rattle.ptree.specs.Utf8.{HasUtf8Texts};
@@ -37,9 +37,9 @@ where
     T: TreeItem,
     T::Child: TreeItem<Child = T::Child> + Drop,
     W: Sink,
-    ensures bytes { IsDrawn (look_of config.now output_kind terminal) (T.shape item.now)
+    ensures bytes { IsDrawn (config_look config.now output_kind terminal) (T.shape item.now)
         config.now.depth (W.contents f.old) (W.contents f.new) result }
-    ensures whole { LeavesWholeEntries (look_of config.now output_kind terminal) (T.shape item.now)
+    ensures whole { LeavesWholeEntries (config_look config.now output_kind terminal) (T.shape item.now)
         config.now.depth (W.contents f.old) (W.contents f.new) result }
     ensures cause { HasCause (W.faults f.old) (W.faults f.new) result }
 {
@@ -49,7 +49,7 @@ where
 }
 
 // Draws to output of a kind, under the configuration that sources denote.
-fn draw_meant<T, W>(
+fn draw_by_sources<T, W>(
     alloc: Global,
     item: &T,
     f: &mut W,
@@ -61,11 +61,11 @@ where
     T: TreeItem,
     T::Child: TreeItem<Child = T::Child> + Drop,
     W: Sink,
-    ensures bytes { let meant = meant_by sources.now in
-        IsDrawn (look_by meant output_kind terminal) (T.shape item.now) meant.depth
+    ensures bytes { let effective = effective_config sources.now in
+        IsDrawn (look_by effective output_kind terminal) (T.shape item.now) effective.depth
         (W.contents f.old) (W.contents f.new) result }
-    ensures whole { let meant = meant_by sources.now in
-        LeavesWholeEntries (look_by meant output_kind terminal) (T.shape item.now) meant.depth
+    ensures whole { let effective = effective_config sources.now in
+        LeavesWholeEntries (look_by effective output_kind terminal) (T.shape item.now) effective.depth
         (W.contents f.old) (W.contents f.new) result }
     ensures cause { HasCause (W.faults f.old) (W.faults f.new) result }
 {
@@ -92,16 +92,16 @@ where
     W: Sink,
     // Success appends exactly the drawing under what the sources denote, and an error a prefix of
     // it.
-    ensures bytes { let meant = meant_by sources.now in
-        IsDrawn (look_by meant OutputKind.Stdout terminal) (T.shape item.now) meant.depth
+    ensures bytes { let effective = effective_config sources.now in
+        IsDrawn (look_by effective OutputKind.Stdout terminal) (T.shape item.now) effective.depth
         (W.contents out.old) (W.contents out.new) result }
     // If memory ran out, whole entries were appended.
-    ensures whole { let meant = meant_by sources.now in
-        LeavesWholeEntries (look_by meant OutputKind.Stdout terminal) (T.shape item.now) meant.depth
+    ensures whole { let effective = effective_config sources.now in
+        LeavesWholeEntries (look_by effective OutputKind.Stdout terminal) (T.shape item.now) effective.depth
         (W.contents out.old) (W.contents out.new) result }
     ensures cause { HasCause (W.faults out.old) (W.faults out.new) result }
 {
-    draw_meant(alloc, item, out, OutputKind::Stdout, terminal, sources)
+    draw_by_sources(alloc, item, out, OutputKind::Stdout, terminal, sources)
 }
 
 /// Draws as [`write_tree_with`], but to standard output. `terminal` says whether that is a
@@ -122,10 +122,10 @@ where
     T::Child: TreeItem<Child = T::Child> + Drop,
     W: Sink,
     // Success appends exactly the drawing, and an error a prefix of it.
-    ensures bytes { IsDrawn (look_of config.now OutputKind.Stdout terminal) (T.shape item.now)
+    ensures bytes { IsDrawn (config_look config.now OutputKind.Stdout terminal) (T.shape item.now)
         config.now.depth (W.contents out.old) (W.contents out.new) result }
     // If memory ran out, whole entries were appended.
-    ensures whole { LeavesWholeEntries (look_of config.now OutputKind.Stdout terminal)
+    ensures whole { LeavesWholeEntries (config_look config.now OutputKind.Stdout terminal)
         (T.shape item.now) config.now.depth (W.contents out.old) (W.contents out.new) result }
     ensures cause { HasCause (W.faults out.old) (W.faults out.new) result }
 {
@@ -151,11 +151,11 @@ where
     // Success appends exactly the drawing, and an error a prefix of it: as on a terminal or not, as
     // the sink says.
     ensures bytes { (terminal : Bool)
-        × IsDrawn (look_of config.now OutputKind.Stdout terminal) (T.shape item.now)
+        × IsDrawn (config_look config.now OutputKind.Stdout terminal) (T.shape item.now)
         config.now.depth (W.contents out.old) (W.contents out.new) result }
     // If memory ran out, whole entries were appended.
     ensures whole { (terminal : Bool)
-        × LeavesWholeEntries (look_of config.now OutputKind.Stdout terminal) (T.shape item.now)
+        × LeavesWholeEntries (config_look config.now OutputKind.Stdout terminal) (T.shape item.now)
         config.now.depth (W.contents out.old) (W.contents out.new) result }
     ensures cause { HasCause (W.faults out.old) (W.faults out.new) result }
 {
@@ -181,19 +181,19 @@ where
     W: Sink,
     // Success appends exactly the drawing under what the sources denote, and an error a prefix of
     // it.
-    ensures bytes { let meant = meant_by sources.now in
-        IsDrawn (look_by meant OutputKind.Unknown false) (T.shape item.now) meant.depth
+    ensures bytes { let effective = effective_config sources.now in
+        IsDrawn (look_by effective OutputKind.Unknown false) (T.shape item.now) effective.depth
         (W.contents f.old) (W.contents f.new) result }
     // If memory ran out, whole entries were appended.
-    ensures whole { let meant = meant_by sources.now in
-        LeavesWholeEntries (look_by meant OutputKind.Unknown false) (T.shape item.now) meant.depth
+    ensures whole { let effective = effective_config sources.now in
+        LeavesWholeEntries (look_by effective OutputKind.Unknown false) (T.shape item.now) effective.depth
         (W.contents f.old) (W.contents f.new) result }
     ensures cause { HasCause (W.faults f.old) (W.faults f.new) result }
 {
-    draw_meant(alloc, item, f, OutputKind::Unknown, false, sources)
+    draw_by_sources(alloc, item, f, OutputKind::Unknown, false, sources)
 }
 
-/// Draws an item and all below it, down to the configured depth, to a sink that isn't standard
+/// Draws an item and all below it, down to the configured depth, to a sink that is not standard
 /// output.
 ///
 /// Time grows with the bytes of the drawing. It takes memory for one entry and for a call a level,
@@ -257,7 +257,7 @@ where
 
 /// Returns the drawing of an item as a text, as [`write_tree_with`] writes it.
 ///
-/// The result is `None` if the drawing isn't UTF-8. Only an item that writes other bytes makes it
+/// The result is `None` if the drawing is not UTF-8. Only an item that writes other bytes makes it
 /// so.
 ///
 /// # Errors

@@ -1,8 +1,8 @@
 //! Configurations that draw as other programs do.
 ghost use Rattle.std.specs.Prelude.{◌≡◌, IfOk};
-ghost use Rattle.ptree.specs.Characters.{static_characters};
-ghost use Rattle.ptree.specs.Configuration.{config_value};
-ghost use Rattle.ptree.specs.Preset.{drawn_with, preset_value};
+ghost use Rattle.ptree.specs.Characters.{static_characters_of};
+ghost use Rattle.ptree.specs.Config.{config_of};
+ghost use Rattle.ptree.specs.Preset.{drawn_with, preset_of};
 ghost use Rattle.ptree.specs.Readable.{HasReadablePieces};
 
 use crate::print_config::{
@@ -63,7 +63,7 @@ const PS_CHARS: StaticIndentChars = StaticIndentChars {
 impl Preset {
     // Returns the characters, the indent and the padding.
     fn pieces(self) -> (StaticIndentChars, usize, usize)
-        ensures { drawn_with (static_characters result.0) result.1 result.2 ≡ preset_value self }
+        ensures { drawn_with (static_characters_of result.0) result.1 result.2 ≡ preset_of self }
     {
         match self {
             Preset::Tree => (TREE_CHARS, 0, 0),
@@ -84,7 +84,7 @@ impl Preset {
     ///
     /// Memory ran out.
     pub fn config(self, alloc: Global) -> Result<PrintConfig, AllocError>
-        ensures value { IfOk result (λ config. config_value config ≡ preset_value self) }
+        ensures value { IfOk result (λ config. config_of config ≡ preset_of self) }
         ensures readable { IfOk result HasReadablePieces }
     {
         let (characters, indent, padding) = self.pieces();

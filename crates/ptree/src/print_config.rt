@@ -1,9 +1,8 @@
 //! How trees are drawn: characters, the configuration, and its sources.
 ghost use Rattle.std.specs.Prelude.{◌≡◌, ◌↔◌, IfOk, IsTrue, true, string_bytes};
-ghost use Rattle.ptree.specs.Config.{IsDefault, is_styled};
-ghost use Rattle.ptree.specs.Configuration.{config_value, default_configuration};
-ghost use Rattle.ptree.specs.Loading.{SayNothing, meant_by};
-ghost use Rattle.ptree.specs.Style.{style_value, plain_style, painted_text};
+ghost use Rattle.ptree.specs.Config.{IsDefault, is_styled, config_of, default_config};
+ghost use Rattle.ptree.specs.Loading.{SayNothing, effective_config};
+ghost use Rattle.ptree.specs.Style.{style_of, plain_style, painted_text};
 ghost use Rattle.ptree.specs.declared.print_config.OutputKind.{OutputKind};
 ghost use Rattle.ptree.specs.declared.print_config.PrintConfig.{PrintConfig};
 
@@ -13,7 +12,7 @@ mod file;
 mod given;
 mod lent;
 mod loader;
-mod words;
+mod parse;
 
 use crate::style::Style;
 pub use characters::{
@@ -24,8 +23,8 @@ pub use fields::{Field, Part, StyleField};
 pub use file::syntax_line;
 pub use given::last_value;
 pub use loader::{Fault, first_fault, load};
+pub use parse::Spelling;
 use std::alloc::{AllocError, Global};
-pub use words::Spelling;
 
 /// When output is styled.
 #[derive(Debug, Clone, Copy)]
@@ -113,7 +112,7 @@ impl PartialEq for PrintConfig {
     #[tactic(auto, using(crate::specs::Equivalence::config_decided))]
     fn eq(&self, other: &PrintConfig) -> bool
         ensures value { result ≡ same_config self.now other.now }
-        ensures equality { IsTrue result ↔ (config_value self.now ≡ config_value other.now) }
+        ensures equality { IsTrue result ↔ (config_of self.now ≡ config_of other.now) }
     {
         (
             &self.depth,
@@ -185,11 +184,11 @@ impl PrintConfig {
     /// # Errors
     ///
     /// Memory ran out. The default is not used then.
-    #[tactic(auto, using(crate::proofs::Configurations::nothing_meant))]
+    #[tactic(auto, using(crate::proofs::Configurations::nothing_said))]
     pub fn from_env(alloc: Global, sources: &Sources) -> Result<PrintConfig, AllocError>
-        ensures value { IfOk result (λ config. config_value config ≡ meant_by sources.now) }
+        ensures value { IfOk result (λ config. config_of config ≡ effective_config sources.now) }
         // Without a file, and without a variable of any field, the sources mean the default.
-        ensures nothing { SayNothing sources.now → meant_by sources.now ≡ default_configuration }
+        ensures nothing { SayNothing sources.now → effective_config sources.now ≡ default_config }
     {
         match load(alloc, sources)? {
             Some(config) => Ok(config),
@@ -204,7 +203,7 @@ impl PrintConfig {
     /// Memory ran out.
     pub fn default(alloc: Global) -> Result<PrintConfig, AllocError>
         ensures fields { IfOk result IsDefault }
-        ensures value { IfOk result (λ config. config_value config ≡ default_configuration) }
+        ensures value { IfOk result (λ config. config_of config ≡ default_config) }
     {
         Ok(PrintConfig {
             depth: u32::MAX,
@@ -236,7 +235,7 @@ impl PrintConfig {
     /// Memory ran out.
     pub fn paint_branch(&self, alloc: Global, input: &str) -> Result<String, AllocError>
         ensures { IfOk result (λ text.
-            string_bytes text ≡ painted_text (style_value self.now.branch) input.now) }
+            string_bytes text ≡ painted_text (style_of self.now.branch) input.now) }
     {
         self.branch.paint(alloc, input)
     }
@@ -248,7 +247,7 @@ impl PrintConfig {
     /// Memory ran out.
     pub fn paint_leaf(&self, alloc: Global, input: &str) -> Result<String, AllocError>
         ensures { IfOk result (λ text.
-            string_bytes text ≡ painted_text (style_value self.now.leaf) input.now) }
+            string_bytes text ≡ painted_text (style_of self.now.leaf) input.now) }
     {
         self.leaf.paint(alloc, input)
     }
@@ -259,7 +258,7 @@ impl PrintConfig {
     ///
     /// Memory ran out.
     pub fn clone(&self) -> Result<PrintConfig, AllocError>
-        ensures { IfOk result (λ config. config_value config ≡ config_value self.now) }
+        ensures { IfOk result (λ config. config_of config ≡ config_of self.now) }
     {
         Ok(PrintConfig {
             depth: self.depth,

@@ -1,7 +1,7 @@
 //! Styles and colours, the byte streams `Sink` and `Feed`, and the loop that writes.
 ghost use Rattle.std.specs.Prelude.{◌≡◌, ◌≢◌, ◌↔◌, [], IfOk, OnOk, OnErr, IsTrue, string_bytes};
 ghost use Rattle.ptree.specs.declared.style.Style.{Style};
-ghost use Rattle.ptree.specs.Style.{style_value, IsPlain, plain_style, style_codes, painted_text, front_codes, back_codes};
+ghost use Rattle.ptree.specs.Style.{style_of, IsPlain, plain_style, style_codes, painted_text, start_codes, end_codes};
 ghost use Rattle.ptree.specs.Writing.{IsWritten, HasCause, HasErrorCause, TakesNoMemory};
 ghost use Rattle.ptree.specs.declared.style.DrawError.TheVariants.{Memory};
 
@@ -71,7 +71,7 @@ impl PartialEq for Style {
     #[tactic(auto, using(crate::specs::Equivalence::style_decided))]
     fn eq(&self, other: &Style) -> bool
         ensures value { result ≡ same_style self.now other.now }
-        ensures equality { IsTrue result ↔ (style_value self.now ≡ style_value other.now) }
+        ensures equality { IsTrue result ↔ (style_of self.now ≡ style_of other.now) }
     {
         self.has_fields_of(other)
     }
@@ -129,12 +129,12 @@ impl Style {
     /// Memory ran out.
     pub fn paint(&self, alloc: Global, input: &str) -> Result<String, AllocError>
         ensures text { IfOk result (λ text.
-            string_bytes text ≡ painted_text (style_value self.now) input.now) }
+            string_bytes text ≡ painted_text (style_of self.now) input.now) }
         // A style without codes leaves the text as it is.
-        ensures plain { style_codes (style_value self.now) ≡ []
+        ensures plain { style_codes (style_of self.now) ≡ []
             → IfOk result (λ text. string_bytes text ≡ input.now) }
         // A style with no flag set, and no colour that has a code, also leaves the text as it is.
-        ensures unset { IsPlain (style_value self.now)
+        ensures unset { IsPlain (style_of self.now)
             → IfOk result (λ text. string_bytes text ≡ input.now) }
     {
         let codes = Codes::of(self);
@@ -152,7 +152,7 @@ impl Style {
     #[inline(always)]
     pub fn write_painted<W: Sink>(&self, f: &mut W, input: &str) -> Result<(), DrawError>
         ensures bytes { IsWritten (W.contents f.old) (W.contents f.new) result
-            (painted_text (style_value self.now) input.now) }
+            (painted_text (style_of self.now) input.now) }
         ensures cause { HasCause (W.faults f.old) (W.faults f.new) result }
         ensures memory { TakesNoMemory result }
     {
@@ -178,7 +178,7 @@ impl Style {
     ) -> Result<(), Stop>
         requires { error.old ≡ Memory }
         ensures bytes { IsWritten (W.contents f.old) (W.contents f.new) result
-            (painted_text (style_value self.now) input.now) }
+            (painted_text (style_of self.now) input.now) }
         ensures cause { HasErrorCause (W.faults f.old) (W.faults f.new) error.new }
         ensures error { OnOk result (error.new ≡ Memory) }
         ensures memory { OnErr result (error.new ≢ Memory) }
@@ -196,7 +196,7 @@ impl Style {
     ///
     /// Memory ran out.
     pub fn clone(&self) -> Result<Style, AllocError>
-        ensures { IfOk result (λ style. style_value style ≡ style_value self.now) }
+        ensures { IfOk result (λ style. style_of style ≡ style_of self.now) }
     {
         Ok(Style {
             foreground: self.foreground.as_ref().map(Color::clone).transpose()?,
@@ -215,7 +215,7 @@ impl Style {
     /// Whether no flag and no colour is set.
     #[inline(always)]
     pub(crate) fn is_plain(&self) -> bool
-        ensures { IsTrue result → style_codes (style_value self.now) ≡ [] }
+        ensures { IsTrue result → style_codes (style_of self.now) ≡ [] }
     {
         if self.bold
             | self.dimmed
@@ -232,16 +232,16 @@ impl Style {
     }
 
     /// Returns the codes before a painted text.
-    pub(crate) fn front_text(&self, alloc: Global) -> Result<String, AllocError>
-        ensures { IfOk result (λ text. string_bytes text ≡ front_codes (style_value self.now)) }
+    pub(crate) fn start_text(&self, alloc: Global) -> Result<String, AllocError>
+        ensures { IfOk result (λ text. string_bytes text ≡ start_codes (style_of self.now)) }
     {
         let codes = Codes::of(self);
         String::from_str(alloc, codes.as_str())
     }
 
     /// Returns the codes after a painted text.
-    pub(crate) fn back_text(&self, alloc: Global) -> Result<String, AllocError>
-        ensures { IfOk result (λ text. string_bytes text ≡ back_codes (style_value self.now)) }
+    pub(crate) fn end_text(&self, alloc: Global) -> Result<String, AllocError>
+        ensures { IfOk result (λ text. string_bytes text ≡ end_codes (style_of self.now)) }
     {
         let codes = Codes::of(self);
         String::from_str(alloc, codes.reset())

@@ -1,10 +1,10 @@
 //! Values of documents, and how they are drawn.
 ghost use Rattle.std.specs.Prelude.{◌≡◌, [], map, IfOk};
-ghost use Rattle.ptree.specs.Children.{children_items};
+ghost use Rattle.ptree.specs.Children.{children_of};
 ghost use Rattle.ptree.specs.Data.{is_list, item_pairs, entry_pair, entry_pairs, value_pairs, pair_shape, value_shape};
 ghost use Rattle.ptree.specs.Shape.{kids};
-ghost use Rattle.ptree.specs.Style.{style_value};
-ghost use Rattle.ptree.specs.Value.{data_of, items_meant, entries_meant, pair_of};
+ghost use Rattle.ptree.specs.Style.{style_of};
+ghost use Rattle.ptree.specs.Value.{data_of, items_of, entries_of, pair_of};
 ghost use Rattle.ptree.specs.Writing.{IsWritten, HasCause, TakesNoMemory};
 
 mod convert;
@@ -144,7 +144,7 @@ fn clone_boxed(value: &Box<Value>) -> Result<Box<Value>, AllocError>
 
 #[cycle(clone)]
 fn clone_items(items: &Vec<Value>) -> Result<Vec<Value>, AllocError>
-    ensures { IfOk result (λ v. items_meant v.items ≡ items_meant items.now.items) }
+    ensures { IfOk result (λ v. items_of v.items ≡ items_of items.now.items) }
 {
     let mut copies = Vec::with_capacity(*items.allocator(), items.len())?;
     for item in items {
@@ -155,7 +155,7 @@ fn clone_items(items: &Vec<Value>) -> Result<Vec<Value>, AllocError>
 
 #[cycle(clone)]
 fn clone_entries(entries: &Vec<(Value, Value)>) -> Result<Vec<(Value, Value)>, AllocError>
-    ensures { IfOk result (λ v. entries_meant v.items ≡ entries_meant entries.now.items) }
+    ensures { IfOk result (λ v. entries_of v.items ≡ entries_of entries.now.items) }
 {
     let mut copies = Vec::with_capacity(*entries.allocator(), entries.len())?;
     for (key, value) in entries {
@@ -178,7 +178,7 @@ impl TreeItem for Value {
     /// Writes the value's text painted. It does not allocate.
     fn write_self<W: Sink>(&self, _alloc: Global, f: &mut W, style: &Style) -> Result<(), DrawError>
         ensures bytes { IsWritten (W.contents f.old) (W.contents f.new) result
-            ((value_shape (data_of self.now)).own [] (style_value style.now)) }
+            ((value_shape (data_of self.now)).own [] (style_of style.now)) }
         ensures cause { HasCause (W.faults f.old) (W.faults f.new) result }
         ensures memory { TakesNoMemory result }
     {
@@ -189,10 +189,10 @@ impl TreeItem for Value {
     /// have no children.
     fn children(&self, alloc: Global) -> Result<Children<'_, (String, Value)>, AllocError>
         ensures shapes { IfOk result (λ c.
-            map (λ p. pair_shape (pair_of p)) (children_items c)
+            map (λ p. pair_shape (pair_of p)) (children_of c)
             ≡ kids (value_shape (data_of self.now))) }
         ensures pairs { IfOk result (λ c.
-            map pair_of (children_items c) ≡ value_pairs (data_of self.now)) }
+            map pair_of (children_of c) ≡ value_pairs (data_of self.now)) }
     {
         Ok(Children::Made(self.pairs(alloc)?))
     }
@@ -211,7 +211,7 @@ impl TreeItem for (String, Value) {
     /// Writes the label painted, or the value's text if the label is empty. It does not allocate.
     fn write_self<W: Sink>(&self, alloc: Global, f: &mut W, style: &Style) -> Result<(), DrawError>
         ensures bytes { IsWritten (W.contents f.old) (W.contents f.new) result
-            ((pair_shape (pair_of self.now)).own [] (style_value style.now)) }
+            ((pair_shape (pair_of self.now)).own [] (style_of style.now)) }
         ensures cause { HasCause (W.faults f.old) (W.faults f.new) result }
         ensures memory { TakesNoMemory result }
     {
@@ -225,10 +225,10 @@ impl TreeItem for (String, Value) {
     /// Makes the children of the value.
     fn children(&self, alloc: Global) -> Result<Children<'_, (String, Value)>, AllocError>
         ensures shapes { IfOk result (λ c.
-            map (λ p. pair_shape (pair_of p)) (children_items c)
+            map (λ p. pair_shape (pair_of p)) (children_of c)
             ≡ kids (pair_shape (pair_of self.now))) }
         ensures pairs { IfOk result (λ c.
-            map pair_of (children_items c) ≡ value_pairs (pair_of self.now).1) }
+            map pair_of (children_of c) ≡ value_pairs (pair_of self.now).1) }
     {
         Ok(Children::Made(self.1.pairs(alloc)?))
     }
@@ -236,7 +236,7 @@ impl TreeItem for (String, Value) {
 
 // Makes a pair of the empty label and each element.
 fn item_pairs(alloc: Global, items: &[Value]) -> Result<Vec<(String, Value)>, AllocError>
-    ensures { IfOk result (λ pairs. map pair_of pairs.items ≡ item_pairs (items_meant items.now)) }
+    ensures { IfOk result (λ pairs. map pair_of pairs.items ≡ item_pairs (items_of items.now)) }
 {
     let mut pairs = Vec::with_capacity(alloc, items.len())?;
     for item in items {
@@ -251,7 +251,7 @@ fn entry_pairs(
     entries: &[(Value, Value)],
 ) -> Result<Vec<(String, Value)>, AllocError>
     ensures { IfOk result (λ pairs.
-        map pair_of pairs.items ≡ entry_pairs (entries_meant entries.now)) }
+        map pair_of pairs.items ≡ entry_pairs (entries_of entries.now)) }
 {
     let mut pairs = Vec::with_capacity(alloc, entries.len())?;
     for (key, value) in entries {

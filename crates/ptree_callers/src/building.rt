@@ -1,5 +1,5 @@
 //! Callers that build trees.
-ghost use Rattle.std.specs.Prelude.{◌≡◌, ◌≤◌, ◌<◌, ◌+◌, ◌++◌, [], ◌∷◌, max, IsTrue, IsFalse, OnOk, OnErr, IsErrOf, IfOk, length, string_bytes};
+ghost use Rattle.std.specs.Prelude.{◌≡◌, ◌<◌, ◌+◌, ◌++◌, [], ◌∷◌, max, IsTrue, IsFalse, OnOk, OnErr, IsErrOf, IfOk, length, string_bytes};
 ghost use Rattle.ptree.specs.Outline.{line, subtrees};
 ghost use Rattle.ptree.specs.Tree.{tree, none, forest, tree_of};
 ghost use Rattle.ptree.specs.declared.builder.AddError.{AddError};

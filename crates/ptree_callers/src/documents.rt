@@ -2,7 +2,7 @@
 ghost use Rattle.std.specs.Prelude.{◌≡◌, false, Ok, Err, IfOk, IsTrue};
 ghost use Rattle.ptree.specs.Data.{Data, KeysAscend, pair_shape, value_shape};
 ghost use Rattle.ptree.specs.Document.{document};
-ghost use Rattle.ptree.specs.Drawing.{look_of, written_look, IsDrawing};
+ghost use Rattle.ptree.specs.Drawing.{config_look, written_look, IsDrawing};
 ghost use Rattle.ptree.specs.Value.{data_of};
 
 use ptree::output::tree_bytes;
@@ -21,7 +21,7 @@ pub fn drawing_of_document(
     config: &PrintConfig,
 ) -> Result<Vec<u8>, DocError>
     ensures { IfOk result (λ drawn. (v : Data) × (document format text.now ≡ Ok v)
-        × IsDrawing (look_of config.now OutputKind.Stdout false) (pair_shape (label.now, v))
+        × IsDrawing (config_look config.now OutputKind.Stdout false) (pair_shape (label.now, v))
         config.now.depth drawn.items) }
 {
     let mut out = Counted::new(Vec::new(alloc));

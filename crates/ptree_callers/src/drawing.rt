@@ -1,9 +1,9 @@
 //! Callers that draw.
-ghost use Rattle.std.specs.Prelude.{◌≡◌, ℕ, ◌++◌, [], ◌∷◌, List, IsOk};
+ghost use Rattle.std.specs.Prelude.{◌≡◌, ◌++◌, [], ◌∷◌, IsOk};
 ghost use Rattle.ptree.specs.Address.{Address};
 ghost use Rattle.ptree.specs.Drawing.{written_look, own_at, prefix_text, entry_text};
 ghost use Rattle.ptree.specs.Style.{painted_text};
-ghost use Rattle.ptree.specs.Text.{HasNoLineFeed, line_feed};
+ghost use Rattle.ptree.specs.Texts.{HasNoLineFeed, line_feed};
 ghost use Rattle.ptree.specs.Tree.{tree_of, shape_of_tree};
 ghost use Rattle.ptree.specs.Writing.{HasCause, IsDrawn, IsWritten, LeavesWholeEntries};
 ghost use Rattle.ptree.specs.declared.print_config.StyleWhen.{StyleWhen};
@@ -52,7 +52,8 @@ pub fn draw_one_line_texts<W: Sink>(
     write_tree_with(alloc, tree, f, config)
 }
 
-/// Puts a text that may be empty. A sink isn't touched for an empty one, so such a call can't fail.
+/// Puts a text that may be empty. A sink is not touched for an empty one, so such a call cannot
+/// fail.
 pub fn put_text<W: Sink>(f: &mut W, text: &str) -> Result<(), DrawError>
     ensures bytes { IsWritten (W.contents f.old) (W.contents f.new) result text.now }
     ensures cause { HasCause (W.faults f.old) (W.faults f.new) result }

@@ -3,9 +3,9 @@ ghost use Rattle.std.specs.Prelude.{◌≡◌, ◌≢◌, ◌↔◌, ◌<◌, Is
 ghost use Rattle.ptree.specs.Address.{Address};
 ghost use Rattle.ptree.specs.Drawing.{look_by, written_look, IsDrawing};
 ghost use Rattle.ptree.specs.Graph.{weights_of, edges_of, neighbors_of, node_shape, turned};
-ghost use Rattle.ptree.specs.Loading.{meant_by};
+ghost use Rattle.ptree.specs.Loading.{effective_config};
 ghost use Rattle.ptree.specs.Occurrence.{OccurrenceTree, IsExpandedOnce, IsExpanded, IsMetBefore, HasOneTree, NoneRepeated, StandsAt, occurrence_at, occurrence_count, occurrence_kids, occurrence_own, occurrence_shape, occurrence_tree};
-ghost use Rattle.ptree.specs.Style.{style_value};
+ghost use Rattle.ptree.specs.Style.{style_of};
 ghost use Rattle.ptree.specs.Writing.{IsWritten, HasCause, IsDrawn, LeavesWholeEntries};
 ghost use Rattle.ptree.specs.declared.print_config.OutputKind.{OutputKind};
 ghost use Rattle.ptree_callers.specs.declared.graphs.Package.{Package};
@@ -123,13 +123,13 @@ pub fn write_need<W: Sink>(
 ) -> Result<(), DrawError>
     ensures bytes { IsWritten (W.contents f.old) (W.contents f.new) result
         (occurrence_own (λ p. string_bytes p.name) expanded.now.graph.now expanded.now.mark.now
-        (occurrence_at expanded.now.occurrence.now index) (style_value style.now)) }
+        (occurrence_at expanded.now.occurrence.now index) (style_of style.now)) }
     ensures cause { HasCause (W.faults f.old) (W.faults f.new) result }
 {
     OccurrenceItem { expanded, index }.write_self(alloc, f, style)
 }
 
-/// How many packages stand right below a place of it.
+/// How many packages are right below a place of it.
 pub fn needs_below(
     alloc: Global,
     expanded: &Expanded<'_, Package>,
@@ -183,26 +183,26 @@ pub fn print_needs_once<W: Sink>(
     terminal: bool,
     sources: &Sources,
 ) -> Result<(), DrawError>
-    ensures bytes { let meant = meant_by sources.now in (t : OccurrenceTree)
-        → IsExpandedOnce (neighbors_of (edges_of graph.now)) which.0 meant.depth t
-        → IsDrawn (look_by meant OutputKind.Stdout terminal)
-        (occurrence_shape (λ p. string_bytes p.name) graph.now REPEATED_MARK.now t) meant.depth
+    ensures bytes { let effective = effective_config sources.now in (t : OccurrenceTree)
+        → IsExpandedOnce (neighbors_of (edges_of graph.now)) which.0 effective.depth t
+        → IsDrawn (look_by effective OutputKind.Stdout terminal)
+        (occurrence_shape (λ p. string_bytes p.name) graph.now REPEATED_MARK.now t) effective.depth
         (W.contents out.old) (W.contents out.new) result }
-    ensures whole { let meant = meant_by sources.now in (t : OccurrenceTree)
-        → IsExpandedOnce (neighbors_of (edges_of graph.now)) which.0 meant.depth t
-        → LeavesWholeEntries (look_by meant OutputKind.Stdout terminal)
-        (occurrence_shape (λ p. string_bytes p.name) graph.now REPEATED_MARK.now t) meant.depth
+    ensures whole { let effective = effective_config sources.now in (t : OccurrenceTree)
+        → IsExpandedOnce (neighbors_of (edges_of graph.now)) which.0 effective.depth t
+        → LeavesWholeEntries (look_by effective OutputKind.Stdout terminal)
+        (occurrence_shape (λ p. string_bytes p.name) graph.now REPEATED_MARK.now t) effective.depth
         (W.contents out.old) (W.contents out.new) result }
     ensures cause { HasCause (W.faults out.old) (W.faults out.new) result }
     ensures one_tree { HasOneTree (neighbors_of (edges_of graph.now)) which.0
-        (meant_by sources.now).depth }
-    ensures walks { let meant = meant_by sources.now in
-        let look = look_by meant OutputKind.Stdout terminal in
+        (effective_config sources.now).depth }
+    ensures walks { let effective = effective_config sources.now in
+        let look = look_by effective OutputKind.Stdout terminal in
         let text = λ (p : Package). string_bytes p.name in (t : OccurrenceTree)
-        → IsExpandedOnce (neighbors_of (edges_of graph.now)) which.0 meant.depth t
+        → IsExpandedOnce (neighbors_of (edges_of graph.now)) which.0 effective.depth t
         → NoneRepeated t → (drawing : List ℕ)
-        → IsDrawing look (occurrence_shape text graph.now REPEATED_MARK.now t) meant.depth drawing
-        ↔ IsDrawing look (node_shape text graph.now which.0) meant.depth drawing }
+        → IsDrawing look (occurrence_shape text graph.now REPEATED_MARK.now t) effective.depth drawing
+        ↔ IsDrawing look (node_shape text graph.now which.0) effective.depth drawing }
 {
     print_graph_once(alloc, graph, which, REPEATED_MARK, out, terminal, sources)
 }

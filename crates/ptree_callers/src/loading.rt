@@ -1,11 +1,11 @@
 //! Callers that load configurations.
 ghost use Rattle.std.specs.Prelude.{◌≡◌, ◌↔◌, false, Some, None, IfOk, IsTrue, MatchResult, unwrap_or};
-ghost use Rattle.ptree.specs.Configuration.{config_value, default_configuration};
-ghost use Rattle.ptree.specs.Drawing.{IsDrawing, look_by, look_of};
-ghost use Rattle.ptree.specs.Loading.{SayNothing, file_fault, config_of, meant_by};
+ghost use Rattle.ptree.specs.Config.{config_of, default_config};
+ghost use Rattle.ptree.specs.Drawing.{IsDrawing, look_by, config_look};
+ghost use Rattle.ptree.specs.Loading.{SayNothing, file_fault, loaded_config, effective_config};
 ghost use Rattle.ptree.specs.Sources.{last_value, variables_of};
 ghost use Rattle.ptree.specs.declared.print_config.OutputKind.{OutputKind};
-ghost use Rattle.ptree.specs.declared.print_config.words.Spelling.{Spelling};
+ghost use Rattle.ptree.specs.declared.print_config.parse.Spelling.{Spelling};
 
 use ptree::item::TreeItem;
 use ptree::output::{tree_bytes, write_tree};
@@ -23,8 +23,8 @@ pub fn load_or_fault(
     sources: &Sources,
 ) -> Result<Result<PrintConfig, Fault>, AllocError>
     ensures { IfOk result (λ loaded. MatchResult loaded
-        (λ config. config_of sources.now ≡ Some (config_value config))
-        (λ _. config_of sources.now ≡ None)) }
+        (λ config. loaded_config sources.now ≡ Some (config_of config))
+        (λ _. loaded_config sources.now ≡ None)) }
 {
     match first_fault(alloc, sources)? {
         Some(fault) => Ok(Err(fault)),
@@ -49,7 +49,7 @@ pub fn value_or<'a>(name: &str, variables: &'a [(String, String)], otherwise: &'
 
 /// What no sources give is the default.
 pub fn load_nothing(alloc: Global) -> Result<PrintConfig, AllocError>
-    ensures { IfOk result (λ config. config_value config ≡ default_configuration) }
+    ensures { IfOk result (λ config. config_of config ≡ default_config) }
 {
     let sources = Sources {
         file: FileSource::Absent,
@@ -63,8 +63,8 @@ pub fn drawing_under<T>(alloc: Global, item: &T, sources: &Sources) -> Result<Ve
 where
     T: TreeItem,
     T::Child: TreeItem<Child = T::Child> + Drop,
-    ensures { IfOk result (λ v. let meant = meant_by sources.now in
-        IsDrawing (look_by meant OutputKind.Unknown false) (T.shape item.now) meant.depth v.items) }
+    ensures { IfOk result (λ v. let effective = effective_config sources.now in
+        IsDrawing (look_by effective OutputKind.Unknown false) (T.shape item.now) effective.depth v.items) }
 {
     let mut out = Counted::new(Vec::new(alloc));
     write_tree(alloc, item, &mut out, sources)?;
@@ -79,7 +79,7 @@ where
     T::Child: TreeItem<Child = T::Child> + Drop,
     requires { SayNothing sources.now }
     ensures { IfOk result (λ v.
-        IsDrawing (look_by default_configuration OutputKind.Unknown false) (T.shape item.now)
+        IsDrawing (look_by default_config OutputKind.Unknown false) (T.shape item.now)
         4294967295 v.items) }
 {
     tree_bytes(alloc, item, &PrintConfig::from_env(alloc, sources)?)
@@ -95,9 +95,9 @@ pub fn drawing_of_same<T>(
 where
     T: TreeItem,
     T::Child: TreeItem<Child = T::Child> + Drop,
-    requires { config_value config.now ≡ config_value other.now }
+    requires { config_of config.now ≡ config_of other.now }
     ensures { IfOk result (λ v.
-        IsDrawing (look_of other.now OutputKind.Unknown false) (T.shape item.now) other.now.depth
+        IsDrawing (config_look other.now OutputKind.Unknown false) (T.shape item.now) other.now.depth
         v.items) }
 {
     tree_bytes(alloc, item, config)
@@ -106,7 +106,7 @@ where
 /// Whether a configuration holds what the default does.
 pub fn is_default(alloc: Global, config: &PrintConfig) -> Result<bool, AllocError>
     ensures { IfOk result (λ is_it.
-        IsTrue is_it ↔ (config_value config.now ≡ default_configuration)) }
+        IsTrue is_it ↔ (config_of config.now ≡ default_config)) }
 {
     Ok(*config == PrintConfig::default(alloc)?)
 }

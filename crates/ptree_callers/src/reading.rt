@@ -1,10 +1,10 @@
 //! Callers that read drawings.
-ghost use Rattle.std.specs.Prelude.{◌≡◌, ◌≤◌, ◌<◌, ◌+◌, ◌-◌, false, IfOk, IsOkUnless, IfSome, IsTrue, IsSomeAnd, string_bytes};
+ghost use Rattle.std.specs.Prelude.{◌≡◌, ◌≤◌, ◌<◌, ◌-◌, false, IfOk, IsOkUnless, IfSome, IsTrue, IsSomeAnd, string_bytes};
 ghost use Rattle.ptree.specs.Continuation.{HasContinuation, first_lines};
 ghost use Rattle.ptree.specs.declared.read.ReadError.{ReadError};
 ghost use Rattle.ptree.specs.DrawnForm.{IsDrawnForm};
 ghost use Rattle.ptree.specs.Drawing.{look_by, written_look};
-ghost use Rattle.ptree.specs.Preset.{preset_value};
+ghost use Rattle.ptree.specs.Preset.{preset_of};
 ghost use Rattle.ptree.specs.Readable.{HasReadablePieces};
 ghost use Rattle.ptree.specs.Tree.{tree_of, height};
 ghost use Rattle.ptree.specs.declared.print_config.OutputKind.{OutputKind};
@@ -109,7 +109,7 @@ pub fn read_if_readable(
     }
 }
 
-/// With the set that has ticks no dash is drawn at indent 2, and then the pieces aren't readable.
+/// With the set that has ticks no dash is drawn at indent 2, and then the pieces are not readable.
 pub fn short_ticks(alloc: Global) -> Result<bool, AllocError>
     ensures { IfOk result (λ b. b ≡ false) }
 {
@@ -152,7 +152,7 @@ pub fn read_output(
     text: &str,
     program: Preset,
 ) -> Result<Option<StringItem>, AllocError>
-    ensures { let value = preset_value program in
+    ensures { let value = preset_of program in
         IfOk result (λ o. IfSome o (λ t.
         IsDrawnForm (look_by value OutputKind.Unknown false) value.depth text.now (tree_of t))) }
 {

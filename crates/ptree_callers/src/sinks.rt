@@ -1,6 +1,6 @@
 //! Sinks of a caller's own.
 ghost use Rattle.std.specs.Io.KnownBytes.{Appends};
-ghost use Rattle.std.specs.Prelude.{◌≡◌, ℕ, None, IfOk};
+ghost use Rattle.std.specs.Prelude.{◌≡◌, None, IfOk};
 
 use ptree::buffered::Buffered;
 use ptree::style::{DrawError, Sink, put_all};

@@ -1,6 +1,6 @@
 //! What a call gets from its surroundings: words, variables, and its configuration file.
 
-use crate::input::{ReadError, read_bytes};
+use crate::input::{InputError, read_input_bytes};
 use crate::opened::Opened;
 use crate::paths::Candidates;
 use ptree::print_config::FileSource;
@@ -61,9 +61,9 @@ where
         Err(e) if e.kind() == ErrorKind::OutOfMemory => return Err(AllocError),
         Err(_) => return Ok(Vec::new(alloc)),
     };
-    match read_bytes(alloc, &mut Counted::new(file)) {
+    match read_input_bytes(alloc, &mut Counted::new(file)) {
         Ok(bytes) => Ok(bytes),
-        Err(ReadError::Memory) => Err(AllocError),
+        Err(InputError::Memory) => Err(AllocError),
         Err(_) => Ok(Vec::new(alloc)),
     }
 }
@@ -154,9 +154,9 @@ fn is_null<R: Files>(rt: &R, found: &Metadata) -> bool {
 
 // Reads an open file. A read that fails or is interrupted is the last one.
 fn read<F: Read + Drop>(alloc: Global, file: F) -> Result<Opened, AllocError> {
-    match read_bytes(alloc, &mut Counted::new(file)) {
+    match read_input_bytes(alloc, &mut Counted::new(file)) {
         Ok(bytes) => Ok(Opened::Read(bytes)),
-        Err(ReadError::Memory) => Err(AllocError),
+        Err(InputError::Memory) => Err(AllocError),
         Err(_) => Ok(Opened::Refused),
     }
 }

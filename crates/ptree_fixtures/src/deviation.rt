@@ -8,7 +8,7 @@ use std::alloc::{AllocError, AllocFailed, Global};
 use std::string::FromUtf8Error;
 use std::{fmt, io};
 
-/// The rule that was broken. Where memory ran out, or a call failed that must not, that is the
+/// The rule that was broken. If memory ran out, or a call failed that must not, that is the
 /// rule.
 #[derive(Clone, Copy)]
 pub struct Deviation {

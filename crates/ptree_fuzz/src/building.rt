@@ -29,7 +29,7 @@ fn add_to_both(
     Ok(())
 }
 
-// No item goes to a level that can't follow.
+// No item goes to a level that cannot follow.
 fn try_bad_levels(alloc: Global, leveled: &mut TreeBuilder) -> Result<(), Deviation> {
     for bad in [0, leveled.level().saturating_add(2)] {
         let refused = leveled.add_at_level(bad, String::new(alloc));

@@ -18,7 +18,7 @@ use std::alloc::{AllocError, Global};
 const USAGE: &str =
     "usage: ptree_cli [--tty] (words ROOT [CHILD..] | json LABEL | toml LABEL | redraw)\n";
 
-// Variables that make pieces which can't be told apart, and ones that are too long.
+// Variables that make pieces which cannot be told apart, and ones that are too long.
 const HARD: [(&str, &str); 3] = [
     ("PTREE_CONTINUED", ""),
     ("PTREE_CONTINUED", "├"),
@@ -65,7 +65,7 @@ impl Answer {
         Ok(Answer::refused(alloc, 1, "no memory\n"))
     }
 
-    // A drawing to memory failed, which it does only where memory ran out.
+    // A drawing to memory failed, which it does only if memory ran out.
     fn failed(alloc: Global, e: DrawError, config: &PrintConfig) -> Result<Answer, Deviation> {
         match e {
             DrawError::Memory => Answer::no_memory(alloc, config),

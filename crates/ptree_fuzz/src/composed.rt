@@ -17,7 +17,7 @@ fn effective(style: &Style, config: &PrintConfig) -> Result<Style, AllocError> {
     }
 }
 
-// What stands before the text of each line: the codes of branches.
+// What is before the text of each line: the codes of branches.
 fn front(alloc: Global, config: &PrintConfig) -> Result<String, AllocError> {
     let painted = effective(&config.branch, config)?.paint(alloc, "x")?;
     let (codes, _) = painted.as_str().split_once('x').unwrap_or(("", ""));
@@ -69,8 +69,8 @@ fn root_entry(
     Ok(entry)
 }
 
-// Adds the lines of a child's own drawing, a turning piece in front of the first and passing pieces
-// in front of the others.
+// Adds the lines of a child's own drawing, a turning piece before the first and passing pieces
+// before the others.
 fn add_lines(
     out: &mut String,
     drawing: &str,

@@ -80,7 +80,7 @@ struct Draft {
 }
 
 impl Draft {
-    // Writes what stands before a value: what parts it from the one before, and its key.
+    // Writes what is before a value: what parts it from the one before, and its key.
     fn begin(&mut self, dice: &mut Dice) -> Result<(), AllocError> {
         let is_top = self.open.len() == 1;
         if !self.is_first {

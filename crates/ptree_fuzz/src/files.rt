@@ -5,8 +5,8 @@ use crate::dice::Dice;
 use ptree::print_config::{FileSource, Sources};
 use std::{fs, io};
 
-// Writes the file of a configuration, and returns its path. A file that can't be read is one that
-// isn't there.
+// Writes the file of a configuration, and returns its path. A file that cannot be read is one that
+// is not there.
 fn write_file(rt: &HostRuntime, stem: &str, file: &FileSource) -> io::Result<Option<String>> {
     let (path, text) = match file {
         FileSource::Absent => return Ok(None),

@@ -156,7 +156,7 @@ fn try_drawn(
     )
 }
 
-// A writer that fails has a front of the drawing.
+// A writer that fails has a prefix of the drawing.
 fn try_writer(
     alloc: Global,
     dice: &mut Dice,

@@ -81,7 +81,7 @@ fn written<F: FnMut(&mut Counted<Vec<u8>>) -> End>(alloc: Global, mut call: F) -
 }
 
 // That two calls under a configuration wrote the same, and ended alike. A writer to memory fails
-// only where memory runs out, for which a piece has to be longer than a text can be.
+// only if memory runs out, for which a piece has to be longer than a text can be.
 fn expect_alike(
     one: &Outcome,
     other: &Outcome,
@@ -218,7 +218,7 @@ fn add_earlier(
     Ok(())
 }
 
-// A variable of a name that another one has counts for nothing where it stands before that one,
+// A variable of a name that another one has counts for nothing where it is before that one,
 // whatever it says.
 fn try_earlier(
     alloc: Global,
@@ -326,7 +326,7 @@ impl Case {
         }))
     }
 
-    // A writer that fails has a front of a document's drawing.
+    // A writer that fails has a prefix of a document's drawing.
     fn try_writer(&self, alloc: Global, dice: &mut Dice, whole: &[u8]) -> Result<(), Deviation> {
         let writer = writer(dice, whole.len());
         let draw = |out: &mut Counted<Failing>| drawing_of(self.draw(alloc, out));

@@ -252,7 +252,7 @@ fn add_edges(dice: &mut Dice, net: &mut MadeGraph, count: u32) -> Result<(), Dev
     Ok(())
 }
 
-// The graph turned round, and beside it each edge by itself.
+// The graph reversed, and beside it each edge by itself.
 fn turned(net: MadeGraph) -> MadeGraph {
     let MadeGraph {
         texts,
@@ -277,7 +277,7 @@ fn grown(alloc: Global, dice: &mut Dice, count: u32, edges: u32) -> Result<MadeG
     Ok(net)
 }
 
-// The graph turned round, and grown on.
+// The graph reversed, and grown on.
 fn turned_and_grown(dice: &mut Dice, net: MadeGraph) -> Result<MadeGraph, Deviation> {
     let mut net = turned(net);
     add_edges(dice, &mut net, 5)?;
@@ -285,7 +285,7 @@ fn turned_and_grown(dice: &mut Dice, net: MadeGraph) -> Result<MadeGraph, Deviat
 }
 
 /// A graph of a few texts and edges, or of up to 40 texts and more edges, with cycles, loops and
-/// parallel edges. Some are turned round, and then grow on.
+/// parallel edges. Some are reversed, and then grow on.
 pub fn net(alloc: Global, dice: &mut Dice) -> Result<MadeGraph, Deviation> {
     let (most, edges) = if dice.is_one_in(3) { (40, 60) } else { (5, 9) };
     let count = dice.below(most).saturating_add(1);

@@ -21,7 +21,7 @@ use ptree_fixtures::words::number;
 use rules::try_cases;
 use std::{env, io};
 
-// How many cases are tried if the words don't say.
+// How many cases are tried if the words do not say.
 const CASES: u32 = 20;
 
 fn main(rt: HostRuntime) -> io::Result<()> {

@@ -15,7 +15,7 @@ use ptree_fixtures::failing::Failing;
 use ptree_fixtures::fronts::leaves_front;
 use std::alloc::{AllocError, Global};
 
-// An occurrence: its address, its node, and whether something stands below it or an earlier one of
+// An occurrence: its address, its node, and whether something is below it or an earlier one of
 // its node.
 #[derive(Drop, PartialEq, Eq)]
 struct Place {
@@ -266,7 +266,7 @@ fn try_drawn(
     )
 }
 
-// A writer that fails has a front of the drawing.
+// A writer that fails has a prefix of the drawing.
 fn try_writer(
     alloc: Global,
     dice: &mut Dice,

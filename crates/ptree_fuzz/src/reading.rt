@@ -81,7 +81,7 @@ fn try_text(alloc: Global, text: &str, config: &PrintConfig) -> Result<(), Devia
 }
 
 // The text with one of some pieces in the place of another, at one of the first places where that
-// stands.
+// is.
 fn exchanged(
     alloc: Global,
     dice: &mut Dice,

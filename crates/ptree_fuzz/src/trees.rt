@@ -33,8 +33,8 @@ fn printed(
     Ok(String::from_utf8(out.into_inner())?)
 }
 
-// Whether a piece or the mark holds a line feed, so that the lines of a drawing aren't those of its
-// texts.
+// Whether a piece or the mark holds a line feed, so that the lines of a drawing are not those of
+// its texts.
 fn has_line_feed(alloc: Global, config: &PrintConfig) -> Result<bool, AllocError> {
     let pieces = Indent::from_config(alloc, config)?;
     let texts = [
@@ -154,7 +154,7 @@ pub fn writer(dice: &mut Dice, whole: usize) -> (usize, usize, Answer) {
     (room, dice.index(40).saturating_add(1), answer)
 }
 
-// A writer that fails has a front of the drawing.
+// A writer that fails has a prefix of the drawing.
 fn try_writer(
     alloc: Global,
     dice: &mut Dice,

@@ -93,7 +93,7 @@ impl Trial {
         self.expect_drawn(alloc, &tree, config, text)
     }
 
-    // A set whose pieces can't be told apart.
+    // A set whose pieces cannot be told apart.
     fn call_tick(&mut self, alloc: Global) -> Result<(), Failure> {
         let tick = self.retried(|| Ok(plain(alloc, ASCII_CHARS_TICK, 2, u32::MAX)?))?;
         expect(!self.retried(|| Ok(pieces_readable(alloc, &tick)?))?)?;

@@ -44,7 +44,7 @@ fn push_form(alloc: Global, c: char, out: &mut String) -> Result<(), AllocError>
     }
 }
 
-// Returns the form of a text in one line. A blank at its end is escaped, and one at its front if
+// Returns the form of a text in one line. A blank at its end is escaped, and one at its start if
 // that would not be seen.
 fn line_form(alloc: Global, text: &str, hides_front: bool) -> Result<String, AllocError> {
     let mut out = String::new(alloc);
@@ -172,7 +172,7 @@ fn take(state: State, c: char, out: &mut String) -> Result<State, Trouble> {
 }
 
 // Appends the text of a line's form, and returns whether it ends in a backslash.
-fn push_meant(form: &str, out: &mut String) -> Result<bool, Trouble> {
+fn push_parsed(form: &str, out: &mut String) -> Result<bool, Trouble> {
     let mut state = State::Plain;
     for c in form.chars() {
         state = take(state, c, out)?;
@@ -189,9 +189,9 @@ const OTHERWISE: Trouble = Trouble::Bad(
 );
 
 /// Returns the text of a value, or of a line after the blanks of an outline.
-pub fn value_meant(alloc: Global, form: &str) -> Result<String, Trouble> {
+pub fn parse_value(alloc: Global, form: &str) -> Result<String, Trouble> {
     let mut text = String::new(alloc);
-    let is_open = push_meant(form, &mut text)?;
+    let is_open = push_parsed(form, &mut text)?;
     if is_open || value_form(alloc, text.as_str())?.as_str() != form {
         return Err(OTHERWISE);
     }
@@ -199,10 +199,10 @@ pub fn value_meant(alloc: Global, form: &str) -> Result<String, Trouble> {
 }
 
 /// Returns the text of lines.
-pub fn text_meant(alloc: Global, form: &str) -> Result<String, Trouble> {
+pub fn parse_text(alloc: Global, form: &str) -> Result<String, Trouble> {
     let mut text = String::new(alloc);
     for line in form.split_terminator('\n') {
-        if !push_meant(line, &mut text)? {
+        if !push_parsed(line, &mut text)? {
             text.push('\n')?;
         }
     }

@@ -1,12 +1,12 @@
 //! Makes the calls of a graph: its nodes, its edges, and the node that it is drawn from.
 
-use crate::form::value_meant;
+use crate::form::parse_value;
 use crate::trouble::Trouble;
 use ptree::graph::{EdgeError, Graph, NodeIndex, REPEATED_MARK};
 use std::alloc::Global;
 use std::mem;
 
-/// A graph of texts, the node that it is drawn from, and the mark of repeated nodes, if it isn't
+/// A graph of texts, the node that it is drawn from, and the mark of repeated nodes, if it is not
 /// the default one.
 #[derive(Drop)]
 pub struct Nodes {
@@ -64,10 +64,10 @@ impl Nodes {
     pub fn call(&mut self, alloc: Global, word: &str, body: &str) -> Result<bool, Trouble> {
         match word {
             "node" => {
-                self.graph.add_node(value_meant(alloc, body)?)?;
+                self.graph.add_node(parse_value(alloc, body)?)?;
             }
             "start" => self.start = node(body)?,
-            "mark" => self.mark = Some(value_meant(alloc, body)?),
+            "mark" => self.mark = Some(parse_value(alloc, body)?),
             "reversed" => {
                 let graph = mem::replace(&mut self.graph, Graph::new(alloc));
                 self.graph = graph.reversed();

@@ -1,7 +1,7 @@
 //! Writes a tree as lines, and reads it back: each item's text, after two blanks for each level. A
 //! backslash alone is the empty text, so that no line ends in a blank.
 
-use crate::form::{value_form, value_meant};
+use crate::form::{parse_value, value_form};
 use crate::trouble::Trouble;
 use ptree::TreeBuilder;
 use ptree::item::StringItem;
@@ -23,14 +23,14 @@ fn split_line(line: &str) -> Result<(u32, &str), Trouble> {
 const EMPTY: &str = "\\";
 
 // Returns the text of an item.
-fn text_meant(alloc: Global, form: &str) -> Result<String, Trouble> {
+fn parse_label(alloc: Global, form: &str) -> Result<String, Trouble> {
     if form == EMPTY {
         return Ok(String::new(alloc));
     }
     if form.is_empty() {
         return Err(Trouble::Bad("an item without a text: a backslash stands for the empty one"));
     }
-    value_meant(alloc, form)
+    parse_value(alloc, form)
 }
 
 // Returns the form of an item's text.
@@ -42,14 +42,14 @@ fn text_form(alloc: Global, text: &str) -> Result<String, AllocError> {
 }
 
 /// Returns the tree of an outline.
-pub fn tree_meant(alloc: Global, outline: &str) -> Result<StringItem, Trouble> {
+pub fn parse_tree(alloc: Global, outline: &str) -> Result<StringItem, Trouble> {
     let Some((root, below)) = outline.split_once('\n') else {
         return Err(Trouble::Bad("a tree without an item"));
     };
-    let mut builder = TreeBuilder::new(alloc, text_meant(alloc, root)?);
+    let mut builder = TreeBuilder::new(alloc, parse_label(alloc, root)?);
     for line in below.split_terminator('\n') {
         let (level, text) = split_line(line)?;
-        builder.add_at_level(level, text_meant(alloc, text)?)?;
+        builder.add_at_level(level, parse_label(alloc, text)?)?;
     }
     Ok(builder.build()?)
 }

@@ -1,6 +1,6 @@
 //! Sets fields of a configuration, by the keys of `docs/CONFIGURATION.md`.
 
-use crate::form::value_meant;
+use crate::form::parse_value;
 use crate::trouble::Trouble;
 use ptree::print_config::{IndentChars, PrintConfig, StyleWhen};
 use ptree::style::{Color, Style};
@@ -69,7 +69,7 @@ pub fn color(alloc: Global, text: &str) -> Result<Option<Color>, Trouble> {
         return Ok(Some(Color::Named(String::new(alloc))));
     }
     if let Some(name) = text.strip_prefix("name ") {
-        return Ok(Some(Color::Named(value_meant(alloc, name)?)));
+        return Ok(Some(Color::Named(parse_value(alloc, name)?)));
     }
     if let Some(number) = text.strip_prefix("number ") {
         return Ok(Some(Color::Fixed(byte(number)?)));
@@ -113,7 +113,7 @@ fn set_character(
     key: &str,
     body: &str,
 ) -> Result<bool, Trouble> {
-    let text = value_meant(alloc, body)?;
+    let text = parse_value(alloc, body)?;
     match key {
         "down_and_right" => characters.down_and_right = text,
         "down" => characters.down = text,
@@ -157,7 +157,7 @@ pub fn set(
         "indent" => config.indent = size(body)?,
         "padding" => config.padding = size(body)?,
         "styled" => config.styled = when(body)?,
-        "continued" => config.continued = value_meant(alloc, body)?,
+        "continued" => config.continued = parse_value(alloc, body)?,
         "characters" => config.characters = IndentChars::from_name(alloc, body)?,
         "branch" | "leaf" => return set_plain(config, word, body),
         _ => return Ok(false),

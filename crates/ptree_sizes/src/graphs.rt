@@ -103,7 +103,7 @@ fn try_parts<N: Label>(graph: &Graph<N>, targets: usize) -> Result<(), Deviation
     )
 }
 
-// All calls of a graph whose first node has so many neighbours, also with its edges turned round.
+// All calls of a graph whose first node has so many neighbours, also with its edges reversed.
 fn try_graph<N: Label + Drop>(
     alloc: Global,
     graph: Graph<N>,

@@ -10,9 +10,9 @@ use ptree::print_config::{
 };
 use ptree::style::{Counted, DrawError};
 use ptree::value::{DocError, DocFormat, draw_document, draw_document_with};
-use ptree_rows::form::{lines_form, text_meant, value_form, value_meant};
+use ptree_rows::form::{lines_form, parse_text, parse_value, value_form};
 use ptree_rows::graphs::Nodes;
-use ptree_rows::outline::tree_meant;
+use ptree_rows::outline::parse_tree;
 use ptree_rows::rows::Field;
 use ptree_rows::settings::set;
 use ptree_rows::tries::{Subject, Taken};
@@ -250,7 +250,7 @@ impl Given {
 
     // Adds a variable.
     fn add_variable(&mut self, alloc: Global, body: &str) -> Result<(), Trouble> {
-        let text = value_meant(alloc, body)?;
+        let text = parse_value(alloc, body)?;
         let Some((name, value)) = text.as_str().split_once('=') else {
             return Err(Trouble::Bad("a variable without its ="));
         };
@@ -270,7 +270,7 @@ impl Given {
         body: &str,
     ) -> Result<(), Trouble> {
         self.format = format;
-        self.document = text_meant(alloc, body)?;
+        self.document = parse_text(alloc, body)?;
         Ok(())
     }
 
@@ -288,15 +288,15 @@ impl Given {
         match word {
             "json" => self.set_document(alloc, DocFormat::Json, body)?,
             "toml" => self.set_document(alloc, DocFormat::Toml, body)?,
-            "label" => self.label = value_meant(alloc, body)?,
-            "tree" => self.tree = Some(tree_meant(alloc, body)?),
+            "label" => self.label = parse_value(alloc, body)?,
+            "tree" => self.tree = Some(parse_tree(alloc, body)?),
             "edges" => self.add_edges(alloc, body)?,
             "no_variables" => self.sources.variables = Vec::new(alloc),
             "variable" => self.add_variable(alloc, body)?,
             "no_file" => self.sources.file = FileSource::Absent,
             "unreadable_file" => self.sources.file = FileSource::Unreadable,
-            "json_file" => self.sources.file = FileSource::Json(text_meant(alloc, body)?),
-            "toml_file" => self.sources.file = FileSource::Toml(text_meant(alloc, body)?),
+            "json_file" => self.sources.file = FileSource::Json(parse_text(alloc, body)?),
+            "toml_file" => self.sources.file = FileSource::Toml(parse_text(alloc, body)?),
             _ => return self.nodes.call(alloc, word, body),
         }
         Ok(true)

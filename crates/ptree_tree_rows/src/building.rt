@@ -5,7 +5,7 @@ use ptree::graph::{write_graph_once_with, write_graph_with};
 use ptree::item::StringItem;
 use ptree::print_config::PrintConfig;
 use ptree::style::Counted;
-use ptree_rows::form::{lines_form, value_meant};
+use ptree_rows::form::{lines_form, parse_value};
 use ptree_rows::graphs::Nodes;
 use ptree_rows::trouble::Trouble;
 use std::alloc::Global;
@@ -63,7 +63,7 @@ impl Building {
     fn add_at(&mut self, alloc: Global, body: &str) -> Result<(), Trouble> {
         let (level, text) = body.split_once(' ').ok_or(NO_NUMBER)?;
         let level = level.parse::<u32>().ok().ok_or(NO_NUMBER)?;
-        let text = value_meant(alloc, text)?;
+        let text = parse_value(alloc, text)?;
         self.taken = self.builder.add_at_level(level, text).is_ok();
         Ok(())
     }
@@ -71,9 +71,9 @@ impl Building {
     /// Makes a call. Returns whether the word is one.
     pub fn call(&mut self, alloc: Global, word: &str, body: &str) -> Result<bool, Trouble> {
         match word {
-            "root" => self.builder = TreeBuilder::new(alloc, value_meant(alloc, body)?),
-            "begin" => self.begin(value_meant(alloc, body)?)?,
-            "leaf" => self.leaf(value_meant(alloc, body)?)?,
+            "root" => self.builder = TreeBuilder::new(alloc, parse_value(alloc, body)?),
+            "begin" => self.begin(parse_value(alloc, body)?)?,
+            "leaf" => self.leaf(parse_value(alloc, body)?)?,
             "end" => self.end()?,
             "at" => self.add_at(alloc, body)?,
             "edges" => self.taken = self.nodes.add_edges(alloc, body)?,

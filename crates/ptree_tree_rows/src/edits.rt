@@ -1,6 +1,6 @@
 //! Edits a text's lines, to damage a drawing.
 
-use ptree_rows::form::value_meant;
+use ptree_rows::form::parse_value;
 use ptree_rows::trouble::Trouble;
 use std::alloc::{AllocError, Global};
 
@@ -62,7 +62,7 @@ fn number(text: &str) -> Result<Option<usize>, Trouble> {
 /// Edits a text whose lines each end in a line feed. A line that the edit names must exist.
 pub fn edited(alloc: Global, text: &str, edit: Edit, body: &str) -> Result<String, Trouble> {
     let (first, form) = body.split_once(' ').unwrap_or((body, ""));
-    let (number, with) = (number(first)?, value_meant(alloc, form)?);
+    let (number, with) = (number(first)?, parse_value(alloc, form)?);
     let mut out = String::new(alloc);
     let mut is_edited = false;
     for (i, line) in text.split_terminator('\n').enumerate() {

@@ -9,8 +9,8 @@ use ptree::output::{Indent, print_tree_with, tree_bytes, write_tree_with};
 use ptree::print_config::{OutputKind, PrintConfig};
 use ptree::read::{ReadError, pieces_readable, read_tree, read_tree_or_line};
 use ptree::style::{Counted, DrawError};
-use ptree_rows::form::{lines_form, text_meant, value_form, value_meant};
-use ptree_rows::outline::{outline_of, tree_meant};
+use ptree_rows::form::{lines_form, parse_text, parse_value, value_form};
+use ptree_rows::outline::{outline_of, parse_tree};
 use ptree_rows::rows::Field;
 use ptree_rows::settings::set;
 use ptree_rows::tries::{Subject, Taken};
@@ -287,14 +287,14 @@ impl Trees {
     // Takes an input. Returns whether the word is one.
     fn keep(&mut self, alloc: Global, word: &str, body: &str) -> Result<bool, Trouble> {
         match word {
-            "tree" => self.tree = Some(tree_meant(alloc, body)?),
+            "tree" => self.tree = Some(parse_tree(alloc, body)?),
             "text" => {
-                self.text = text_meant(alloc, body)?;
+                self.text = parse_text(alloc, body)?;
                 self.edited = self.text.clone()?;
             }
             "whole" => self.edited = self.text.clone()?,
             "cut_end" => self.edited = cut_end(alloc, self.edited.as_str())?,
-            "word" => self.word = value_meant(alloc, body)?,
+            "word" => self.word = parse_value(alloc, body)?,
             "program" => self.config = program(alloc, body)?,
             _ => {
                 let Some(edit) = Edit::of(word) else {

@@ -1,4 +1,4 @@
-//! Drawings to writers that fail at each byte in each way: what a writer took is a front of the
+//! Drawings to writers that fail at each byte in each way: what a writer took is a prefix of the
 //! whole drawing, and its answer is told.
 
 use ptree::graph::{

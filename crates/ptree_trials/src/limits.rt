@@ -96,7 +96,8 @@ fn add_levels(alloc: Global, builder: &mut TreeBuilder, levels: u32) -> Result<(
     Ok(())
 }
 
-// That a builder of so many levels refuses a level that can't follow, and goes back to another one.
+// That a builder of so many levels refuses a level that cannot follow, and goes back to another
+// one.
 fn changes_level(alloc: Global, builder: &mut TreeBuilder, levels: u32) -> Result<(), Deviation> {
     expect(
         builder.level() == levels,
@@ -190,7 +191,7 @@ fn layers(alloc: Global) -> Result<Graph<&'static str>, Deviation> {
     Ok(graph)
 }
 
-// What is drawn of it where each node is expanded once, in 119 lines: each a stands below the one
+// What is drawn of it where each node is expanded once, in 119 lines: each a is below the one
 // before it, and the other nodes follow from the last layer up.
 fn layers_drawn(alloc: Global) -> Result<String, AllocError> {
     let mut drawing = String::from_str(alloc, "r\n")?;
@@ -229,7 +230,7 @@ fn try_layers(alloc: Global) -> Result<(), Deviation> {
     )
 }
 
-// What opens a level of a document, what stands in the last one, and what closes a level.
+// What opens a level of a document, what is in the last one, and what closes a level.
 type Parts = (&'static str, &'static str, &'static str);
 
 const LISTS: Parts = ("[", "", "]");
@@ -359,7 +360,7 @@ fn try_both(alloc: Global) -> Result<(), Deviation> {
     is_refused(alloc, DocFormat::Toml, tables(alloc, 81)?.as_str())
 }
 
-/// Tries all of them, names each, and stops at the first rule that isn't kept.
+/// Tries all of them, names each, and stops at the first rule that is not kept.
 pub fn try_limits(rt: &HostRuntime) -> io::Result<()> {
     let alloc = rt.alloc();
     report(rt, "a chain of 200 items", try_chain(alloc))?;

@@ -1,11 +1,11 @@
 //! Draws a graph.
 ghost use Rattle.std.specs.Prelude.{◌≡◌, ◌↔◌, ℕ, ◌<◌, List, length, map, All, IfOk};
-ghost use Rattle.ptree.specs.Children.{children_items};
+ghost use Rattle.ptree.specs.Children.{children_of};
 ghost use Rattle.ptree.specs.Drawing.{look_by, written_look, IsDrawing};
 ghost use Rattle.ptree.specs.Graph.{weights_of, edges_of, neighbors_of, node_shape, walks};
-ghost use Rattle.ptree.specs.Loading.{meant_by};
+ghost use Rattle.ptree.specs.Loading.{effective_config};
 ghost use Rattle.ptree.specs.Shape.{kids};
-ghost use Rattle.ptree.specs.Style.{style_value, painted_text};
+ghost use Rattle.ptree.specs.Style.{style_of, painted_text};
 ghost use Rattle.ptree.specs.Tree.{shape_of_tree};
 ghost use Rattle.ptree.specs.declared.print_config.OutputKind.{OutputKind};
 ghost use Rattle.ptree.specs.Writing.{IsWritten, HasCause, TakesNoMemory, IsDrawn, LeavesWholeEntries};
@@ -29,7 +29,7 @@ pub trait Label {
     /// `Write` or `Zero` if `f` failed, and `Memory`. A prefix of the painted text was written.
     fn write_label<W: Sink>(&self, alloc: Global, f: &mut W, style: &Style) -> Result<(), DrawError>
         ensures bytes { IsWritten (W.contents f.old) (W.contents f.new) result
-            (painted_text (style_value style.now) (text self.now)) }
+            (painted_text (style_of style.now) (text self.now)) }
         ensures cause { HasCause (W.faults f.old) (W.faults f.new) result };
 }
 
@@ -47,7 +47,7 @@ impl Label for String {
         style: &Style,
     ) -> Result<(), DrawError>
         ensures bytes { IsWritten (W.contents f.old) (W.contents f.new) result
-            (painted_text (style_value style.now) (string_bytes self.now)) }
+            (painted_text (style_of style.now) (string_bytes self.now)) }
         ensures cause { HasCause (W.faults f.old) (W.faults f.new) result }
         ensures memory { TakesNoMemory result }
     {
@@ -67,7 +67,7 @@ impl Label for &str {
         style: &Style,
     ) -> Result<(), DrawError>
         ensures bytes { IsWritten (W.contents f.old) (W.contents f.new) result
-            (painted_text (style_value style.now) self.now.now) }
+            (painted_text (style_of style.now) self.now.now) }
         ensures cause { HasCause (W.faults f.old) (W.faults f.new) result }
         ensures memory { TakesNoMemory result }
     {
@@ -142,14 +142,14 @@ impl<'a, N: Label> TreeItem for GraphNode<'a, N> {
     /// Returns an item for each neighbour, newest edge first.
     fn children(&self, alloc: Global) -> Result<Children<'_, GraphNode<'a, N>>, AllocError>
         ensures shapes { IfOk result (λ c.
-            map (λ x. node_shape N.text x.graph.now x.node.0) (children_items c)
+            map (λ x. node_shape N.text x.graph.now x.node.0) (children_of c)
             ≡ kids (node_shape N.text self.now.graph.now self.now.node.0)) }
         // They are the neighbours, in the same graph.
         ensures nodes { IfOk result (λ c.
-            map (λ x. x.node.0) (children_items c)
+            map (λ x. x.node.0) (children_of c)
             ≡ neighbors_of (edges_of self.now.graph.now) self.now.node.0) }
         ensures graph { IfOk result (λ c.
-            All (λ x. x.graph.now ≡ self.now.graph.now) (children_items c)) }
+            All (λ x. x.graph.now ≡ self.now.graph.now) (children_of c)) }
     {
         let graph = self.graph;
         let nodes = graph.targets(
@@ -164,7 +164,7 @@ impl<'a, N: Label> TreeItem for GraphNode<'a, N> {
     }
 }
 
-/// Draws a graph from a start node, to a sink that isn't standard output.
+/// Draws a graph from a start node, to a sink that is not standard output.
 ///
 /// If the graph has a cycle, only the configured depth ends its drawing.
 ///
@@ -210,20 +210,20 @@ pub fn print_graph<N: Label, W: Sink>(
     terminal: bool,
     sources: &Sources,
 ) -> Result<(), DrawError>
-    ensures bytes { let meant = meant_by sources.now in
-        IsDrawn (look_by meant OutputKind.Stdout terminal) (node_shape N.text graph.now start.0)
-        meant.depth (W.contents out.old) (W.contents out.new) result }
-    ensures whole { let meant = meant_by sources.now in
-        LeavesWholeEntries (look_by meant OutputKind.Stdout terminal)
-        (node_shape N.text graph.now start.0) meant.depth (W.contents out.old) (W.contents out.new)
+    ensures bytes { let effective = effective_config sources.now in
+        IsDrawn (look_by effective OutputKind.Stdout terminal) (node_shape N.text graph.now start.0)
+        effective.depth (W.contents out.old) (W.contents out.new) result }
+    ensures whole { let effective = effective_config sources.now in
+        LeavesWholeEntries (look_by effective OutputKind.Stdout terminal)
+        (node_shape N.text graph.now start.0) effective.depth (W.contents out.old) (W.contents out.new)
         result }
     ensures cause { HasCause (W.faults out.old) (W.faults out.new) result }
     // The drawings of a node are those of the tree of the walks from it.
-    ensures walks { let meant = meant_by sources.now in
-        let look = look_by meant OutputKind.Stdout terminal in
+    ensures walks { let effective = effective_config sources.now in
+        let look = look_by effective OutputKind.Stdout terminal in
         start.0 < length (weights_of graph.now) → (text : List ℕ)
-        → IsDrawing look (node_shape N.text graph.now start.0) meant.depth text
-        ↔ IsDrawing look (shape_of_tree (walks N.text graph.now start.0 meant.depth)) meant.depth
+        → IsDrawing look (node_shape N.text graph.now start.0) effective.depth text
+        ↔ IsDrawing look (shape_of_tree (walks N.text graph.now start.0 effective.depth)) effective.depth
         text }
 {
     print_tree(

@@ -1,11 +1,11 @@
 //! Graphs drawn with each node expanded once.
 ghost use Rattle.std.specs.Prelude.{◌≡◌, ◌↔◌, ◌++◌, [], ◌<◌, ℕ, List, drop, IfSome, IfNone};
-ghost use Rattle.ptree.specs.Drawing.{look_by, look_of, written_look, IsDrawing};
+ghost use Rattle.ptree.specs.Drawing.{look_by, config_look, written_look, IsDrawing};
 ghost use Rattle.ptree.specs.Graph.{edges_of, neighbors_of, node_shape};
 ghost use Rattle.ptree.specs.Growing.{place_at, alone_at, IsNextPlace};
-ghost use Rattle.ptree.specs.Loading.{meant_by};
+ghost use Rattle.ptree.specs.Loading.{effective_config};
 ghost use Rattle.ptree.specs.Occurrence.{OccurrenceTree, IsExpandedOnce, NoneRepeated, HasOneTree, trees_in, occurrence_own, occurrence_shape};
-ghost use Rattle.ptree.specs.Style.{style_value, painted_text};
+ghost use Rattle.ptree.specs.Style.{style_of, painted_text};
 ghost use Rattle.ptree.specs.Writing.{IsWritten, HasCause, IsDrawn, LeavesWholeEntries};
 ghost use Rattle.ptree.specs.declared.print_config.OutputKind.{OutputKind};
 
@@ -18,15 +18,16 @@ use crate::print_config::{OutputKind, PrintConfig, Sources};
 use crate::style::{DrawError, Sink, Style, put_all};
 use std::alloc::{AllocError, Global};
 
-/// The mark that `cargo tree` puts behind the label of a repeated package.
+/// The mark that `cargo tree` puts after the label of a repeated package.
 pub const REPEATED_MARK: &str = " (*)";
 
-/// A graph that is expanded once, and the text that marks what is repeated: what its items have in common.
+/// A graph that is expanded once, and the text that marks what is repeated: what its items have in
+/// common.
 pub struct Expanded<'a, N> {
     /// The graph.
     pub graph: &'a Graph<N>,
 
-    /// The text behind the label of a repeated occurrence.
+    /// The text after the label of a repeated occurrence.
     pub mark: &'a str,
 
     /// The places.
@@ -47,12 +48,13 @@ impl<N> Clone for Expanded<'_, N> {
 
 impl<N> Copy for Expanded<'_, N> {}
 
-/// An occurrence as an item: its node's weight, and the mark behind it where it is repeated.
+/// An occurrence as an item: its node's weight, and the mark after it where it is repeated.
 pub struct OccurrenceItem<'a, N> {
     /// The graph that is expanded.
     pub expanded: &'a Expanded<'a, N>,
 
-    /// The number of the occurrence's place. One that is no place's means an item that writes nothing and has no children.
+    /// The number of the occurrence's place. One that is no place's means an item that writes
+    /// nothing and has no children.
     pub index: usize,
 }
 
@@ -102,7 +104,8 @@ impl<N: Label> Shaped for OccurrenceItem<'_, N> {
 impl<'a, N: Label> TreeItem for OccurrenceItem<'a, N> {
     type Child = OccurrenceItem<'a, N>;
 
-    /// Writes the weight's text, and the mark of a repeated occurrence, painted as one; nothing at all where there is no such node.
+    /// Writes the weight's text, and the mark of a repeated occurrence, painted as one; nothing at
+    /// all where there is no such node.
     #[inline(always)]
     fn write_self<W: Sink>(
         &self,
@@ -131,7 +134,7 @@ impl<'a, N: Label> TreeItem for OccurrenceItem<'a, N> {
     }
 }
 
-// How many places stand below the one at an index, if it is one of those that are left.
+// How many places are below the one at an index, if it is one of those that are left.
 #[inline(always)]
 fn next_below(places: &[Place], index: usize, left: usize) -> Option<usize>
     ensures some { IfSome result (λ below. IsNextPlace places.now index left below) }
@@ -143,7 +146,7 @@ fn next_below(places: &[Place], index: usize, left: usize) -> Option<usize>
     Some(places.get(index)?.below())
 }
 
-// Writes what stands at a place.
+// Writes what is at a place.
 #[inline(always)]
 fn write_place<N: Label, W: Sink>(
     alloc: Global,
@@ -154,7 +157,7 @@ fn write_place<N: Label, W: Sink>(
     place: Place,
 ) -> Result<(), DrawError>
     ensures bytes { IsWritten (W.contents f.old) (W.contents f.new) result
-        (occurrence_own N.text graph.now mark.now (alone_at place) (style_value style.now)) }
+        (occurrence_own N.text graph.now mark.now (alone_at place) (style_of style.now)) }
     ensures cause { HasCause (W.faults f.old) (W.faults f.new) result }
 {
     match graph.node_weight(place.node) {
@@ -164,7 +167,7 @@ fn write_place<N: Label, W: Sink>(
     }
 }
 
-// Writes a weight's text and a mark behind it, painted as one.
+// Writes a weight's text and a mark after it, painted as one.
 #[inline(always)]
 fn write_repeated<N: Label, W: Sink>(
     alloc: Global,
@@ -174,7 +177,7 @@ fn write_repeated<N: Label, W: Sink>(
     mark: &str,
 ) -> Result<(), DrawError>
     ensures bytes { IsWritten (W.contents f.old) (W.contents f.new) result
-        (painted_text (style_value style.now) (N.text weight.now ++ mark.now)) }
+        (painted_text (style_of style.now) (N.text weight.now ++ mark.now)) }
     ensures cause { HasCause (W.faults f.old) (W.faults f.new) result }
 {
     if mark.is_empty() {
@@ -187,7 +190,8 @@ fn write_repeated<N: Label, W: Sink>(
     write_with_codes(alloc, f, style, weight, mark)
 }
 
-// Does what `write_repeated` does, in any style. It is a function of its own, since each call pays for the buffer of the codes.
+// Does what `write_repeated` does, in any style. It is a function of its own, since each call pays
+// for the buffer of the codes.
 #[inline(never)]
 fn write_with_codes<N: Label, W: Sink>(
     alloc: Global,
@@ -197,7 +201,7 @@ fn write_with_codes<N: Label, W: Sink>(
     mark: &str,
 ) -> Result<(), DrawError>
     ensures bytes { IsWritten (W.contents f.old) (W.contents f.new) result
-        (painted_text (style_value style.now) (N.text weight.now ++ mark.now)) }
+        (painted_text (style_of style.now) (N.text weight.now ++ mark.now)) }
     ensures cause { HasCause (W.faults f.old) (W.faults f.new) result }
 {
     let codes = Codes::of(style);
@@ -207,15 +211,15 @@ fn write_with_codes<N: Label, W: Sink>(
     put_all(f, codes.reset().as_bytes())
 }
 
-/// Draws a graph from a start node on to a writer that isn't standard output, each node expanded once ([`Graph::expanded_once`]), down to
-/// the configuration's depth.
+/// Draws a graph from a start node on to a writer that is not standard output, each node expanded
+/// once ([`Graph::expanded_once`]), down to the configuration's depth.
 ///
-/// A repeated occurrence has the mark behind its label, as [`REPEATED_MARK`]. An empty mark is none.
+/// A repeated occurrence has the mark after its label, as [`REPEATED_MARK`]. An empty mark is none.
 ///
 /// # Errors
 ///
-/// `Write` or `Zero` where `f` failed, and `Memory`. A beginning of the drawing was written; where memory ran out,
-/// whole entries.
+/// `Write` or `Zero` if `f` failed, and `Memory`. A prefix of the drawing was written; if memory
+/// ran out, whole entries.
 pub fn write_graph_once_with<N: Label, W: Sink>(
     alloc: Global,
     graph: &Graph<N>,
@@ -256,8 +260,8 @@ pub fn write_graph_once_with<N: Label, W: Sink>(
     )
 }
 
-/// Draws as [`write_graph_once_with`], but to standard output, `terminal` saying whether that is a terminal, and under the configuration
-/// that sources mean ([`PrintConfig::from_env`]).
+/// Draws as [`write_graph_once_with`], but to standard output, `terminal` saying whether that is a
+/// terminal, and under the configuration that sources mean ([`PrintConfig::from_env`]).
 ///
 /// # Errors
 ///
@@ -272,26 +276,26 @@ pub fn print_graph_once<N: Label, W: Sink>(
     sources: &Sources,
 ) -> Result<(), DrawError>
     // The drawing is that of the one tree that is the graph expanded once.
-    ensures bytes { let meant = meant_by sources.now in (t : OccurrenceTree)
-        → IsExpandedOnce (neighbors_of (edges_of graph.now)) start.0 meant.depth t
-        → IsDrawn (look_by meant OutputKind.Stdout terminal)
-        (occurrence_shape N.text graph.now mark.now t) meant.depth (W.contents out.old)
+    ensures bytes { let effective = effective_config sources.now in (t : OccurrenceTree)
+        → IsExpandedOnce (neighbors_of (edges_of graph.now)) start.0 effective.depth t
+        → IsDrawn (look_by effective OutputKind.Stdout terminal)
+        (occurrence_shape N.text graph.now mark.now t) effective.depth (W.contents out.old)
         (W.contents out.new) result }
-    ensures whole { let meant = meant_by sources.now in (t : OccurrenceTree)
-        → IsExpandedOnce (neighbors_of (edges_of graph.now)) start.0 meant.depth t
-        → LeavesWholeEntries (look_by meant OutputKind.Stdout terminal)
-        (occurrence_shape N.text graph.now mark.now t) meant.depth (W.contents out.old)
+    ensures whole { let effective = effective_config sources.now in (t : OccurrenceTree)
+        → IsExpandedOnce (neighbors_of (edges_of graph.now)) start.0 effective.depth t
+        → LeavesWholeEntries (look_by effective OutputKind.Stdout terminal)
+        (occurrence_shape N.text graph.now mark.now t) effective.depth (W.contents out.old)
         (W.contents out.new) result }
     ensures cause { HasCause (W.faults out.old) (W.faults out.new) result }
     ensures one_tree { HasOneTree (neighbors_of (edges_of graph.now)) start.0
-        (meant_by sources.now).depth }
+        (effective_config sources.now).depth }
     // Where none is repeated, the drawings are those of the walks.
-    ensures walks { let meant = meant_by sources.now in
-        let look = look_by meant OutputKind.Stdout terminal in (t : OccurrenceTree)
-        → IsExpandedOnce (neighbors_of (edges_of graph.now)) start.0 meant.depth t
+    ensures walks { let effective = effective_config sources.now in
+        let look = look_by effective OutputKind.Stdout terminal in (t : OccurrenceTree)
+        → IsExpandedOnce (neighbors_of (edges_of graph.now)) start.0 effective.depth t
         → NoneRepeated t → (text : List ℕ)
-        → IsDrawing look (occurrence_shape N.text graph.now mark.now t) meant.depth text
-        ↔ IsDrawing look (node_shape N.text graph.now start.0) meant.depth text }
+        → IsDrawing look (occurrence_shape N.text graph.now mark.now t) effective.depth text
+        ↔ IsDrawing look (node_shape N.text graph.now start.0) effective.depth text }
 {
     let config = PrintConfig::from_env(alloc, sources)?;
     draw_once(
@@ -319,12 +323,12 @@ fn draw_once<N: Label, W: Sink>(
 ) -> Result<(), DrawError>
     ensures bytes { (t : OccurrenceTree)
         → IsExpandedOnce (neighbors_of (edges_of graph.now)) start.0 config.now.depth t
-        → IsDrawn (look_of config.now output_kind terminal)
+        → IsDrawn (config_look config.now output_kind terminal)
         (occurrence_shape N.text graph.now mark.now t) config.now.depth (W.contents f.old)
         (W.contents f.new) result }
     ensures whole { (t : OccurrenceTree)
         → IsExpandedOnce (neighbors_of (edges_of graph.now)) start.0 config.now.depth t
-        → LeavesWholeEntries (look_of config.now output_kind terminal)
+        → LeavesWholeEntries (config_look config.now output_kind terminal)
         (occurrence_shape N.text graph.now mark.now t) config.now.depth (W.contents f.old)
         (W.contents f.new) result }
     ensures cause { HasCause (W.faults f.old) (W.faults f.new) result }

@@ -7,14 +7,14 @@ ghost use Rattle.ptree.specs.Occurrence.{IsExpandedOnce, LeavesUnrepeated, Expan
 use super::{Graph, NodeIndex};
 use std::alloc::AllocError;
 
-/// One of the places at which a node stands, where a graph is drawn with each node expanded once.
+/// One of the places at which a node is, where a graph is drawn with each node expanded once.
 #[derive(Debug, Clone, Copy)]
 pub struct Place {
     /// The node.
     pub node: NodeIndex,
 
-    /// How many places there are here and below. 0 says that the node is repeated: its neighbours stand below an earlier place of it, and
-    /// nothing stands below this one.
+    /// How many places there are here and below. 0 says that the node is repeated: its neighbours
+    /// are below an earlier place of it, and nothing is below this one.
     pub size: usize,
 }
 
@@ -30,7 +30,7 @@ impl Place {
         }
     }
 
-    /// Whether the node's neighbours stand below an earlier place of it.
+    /// Whether the node's neighbours are below an earlier place of it.
     #[inline(always)]
     pub fn is_repeated(&self) -> bool
         ensures { result ≡ is_repeated_size self.now.size }
@@ -38,7 +38,7 @@ impl Place {
         self.size == 0
     }
 
-    /// How many places stand below this one.
+    /// How many places are below this one.
     #[inline(always)]
     pub fn below(&self) -> usize
         ensures { result ≡ size_below self.now.size }
@@ -47,9 +47,10 @@ impl Place {
     }
 }
 
-/// A graph as a tree in which each node is expanded once: all its places, in the order of drawing. The first one is the root. Below a place
-/// stand the places right after it, as many as its size says beside itself: those of the node's neighbours, newest edge first, each followed
-/// by what is below it. Nothing stands below a place at the depth.
+/// A graph as a tree in which each node is expanded once: all its places, in the order of drawing.
+/// The first one is the root. Below a place are the places right after it, as many as its size says
+/// beside itself: those of the node's neighbours, newest edge first, each followed by what is below
+/// it. Nothing is below a place at the depth.
 #[derive(Debug, Drop)]
 pub struct Occurrence {
     /// The places.
@@ -59,12 +60,14 @@ pub struct Occurrence {
 impl<N> Graph<N> {
     /// The graph as a tree in which each node is expanded once, from a start node down to a depth.
     ///
-    /// A node is expanded at its first occurrence above the depth, in the order of drawing. Its later ones are repeated, unless it has no
-    /// neighbours. So a cycle ends at the first repeated node, and there is one occurrence more than there are edges from nodes that
-    /// are expanded. A start that is no node's number gives an occurrence of that number alone.
+    /// A node is expanded at its first occurrence above the depth, in the order of drawing. Its
+    /// later ones are repeated, unless it has no neighbours. So a cycle ends at the first repeated
+    /// node, and there is one occurrence more than there are edges from nodes that are expanded. A
+    /// start that is no node's number gives an occurrence of that number alone.
     ///
-    /// Time and memory grow with the occurrences, which take 16 bytes each, beside a flag for each node up to the last one that is expanded. The
-    /// stack grows with the levels of the tree, and a finite depth bounds it.
+    /// Time and memory grow with the occurrences, which take 16 bytes each, beside a flag for each
+    /// node up to the last one that is expanded. The stack grows with the levels of the tree, and a
+    /// finite depth bounds it.
     ///
     /// # Errors
     ///
@@ -87,7 +90,8 @@ impl<N> Graph<N> {
         Ok(Occurrence { places })
     }
 
-    // Appends the places of a node and of what is below it, down to so many levels, where the nodes that are seen are expanded already.
+    // Appends the places of a node and of what is below it, down to so many levels, where the nodes
+    // that are seen are expanded already.
     fn push_places(
         &self,
         node: NodeIndex,
@@ -126,7 +130,7 @@ impl<N> Graph<N> {
     }
 }
 
-// Whether a node is flagged; a number that is no node's isn't.
+// Whether a node is flagged; a number that is no node's is not.
 fn is_flagged(seen: &[bool], node: usize) -> bool
     ensures { result ≡ is_seen seen.now node }
 {

@@ -1,7 +1,7 @@
 //! Items whose text or children are computed on demand.
 ghost use Rattle.std.specs.Prelude.{◌≡◌, ℕ, List, map, IfOk};
-ghost use Rattle.ptree.specs.Children.{children_items};
-ghost use Rattle.ptree.specs.Item.{text_bytes, text_shape};
+ghost use Rattle.ptree.specs.Children.{children_of};
+ghost use Rattle.ptree.specs.Item.{bytes_of, text_shape};
 
 use crate::item::{Children, Shaped, TreeItem};
 use crate::style::{DrawError, Sink, Style};
@@ -20,7 +20,7 @@ pub enum Text<'a> {
 impl Text<'_> {
     /// Returns the text.
     pub fn as_str(&self) -> &str
-        ensures { result.now ≡ text_bytes self.now }
+        ensures { result.now ≡ bytes_of self.now }
     {
         match self {
             Text::Lent(text) => text,
@@ -53,7 +53,7 @@ pub trait MadeItem: Sized {
     ///
     /// Memory ran out.
     fn text(&self, alloc: Global) -> Result<Text<'_>, AllocError>
-        ensures { IfOk result (λ t. text_bytes t ≡ text_of (seen self.now)) };
+        ensures { IfOk result (λ t. bytes_of t ≡ text_of (seen self.now)) };
 
     /// Returns the item's children, in order.
     ///
@@ -61,7 +61,7 @@ pub trait MadeItem: Sized {
     ///
     /// Memory ran out.
     fn below(&self, alloc: Global) -> Result<Children<'_, Self>, AllocError>
-        ensures { IfOk result (λ c. map seen (children_items c) ≡ below_of (seen self.now)) };
+        ensures { IfOk result (λ c. map seen (children_of c) ≡ below_of (seen self.now)) };
 }
 
 impl<T: MadeItem> Shaped for T {

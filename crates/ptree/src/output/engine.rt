@@ -1,12 +1,12 @@
 //! The drawing engine.
-ghost use Rattle.std.specs.Prelude.{◌≡◌, ℕ, Bool, true, false, Some, length, take, ◌≤◌, ◌≢◌, ◌++◌, OnOk, OnErr, Err, List, map};
+ghost use Rattle.std.specs.Prelude.{◌≡◌, ℕ, true, false, Some, length, take, ◌≤◌, ◌≢◌, ◌++◌, OnOk, OnErr, Err, List, map};
 ghost use Rattle.std.specs.List.{concat};
 ghost use Rattle.ptree.specs.Pen.{brush_look, buffer_of, HoldsPassing, HoldsOwnText};
 ghost use Rattle.ptree.specs.Entries.{item_entries, kid_entries, entries_below, drawn_entries};
-ghost use Rattle.ptree.specs.Looks.{look_meant, own_entry};
+ghost use Rattle.ptree.specs.Looks.{look_of, own_entry};
 ghost use Rattle.ptree.specs.Pieces.{passing_piece};
 ghost use Rattle.ptree.specs.Shape.{kids};
-ghost use Rattle.ptree.specs.Style.{front_codes};
+ghost use Rattle.ptree.specs.Style.{start_codes};
 ghost use Rattle.ptree.specs.Writing.{AppendsFirst, IsWritten, AreWritten, HasCause, HasErrorCause};
 ghost use Rattle.ptree.specs.declared.style.DrawError.TheVariants.{Memory};
 
@@ -31,7 +31,7 @@ fn put_buffer<W: Sink>(f: &mut W, bytes: &[u8], error: &mut DrawError) -> Result
 }
 
 // Draws one entry: a root (`None`) or a child. The first `width` bytes of the buffer are the
-// branch's front codes and the passing text of its parent. Its turning piece with the back codes
+// branch's start codes and the passing text of its parent. Its turning piece with the end codes
 // follows them. The buffer holds the same afterwards.
 #[inline(always)]
 fn draw_entry<C: TreeItem, W: Sink>(
@@ -45,10 +45,10 @@ fn draw_entry<C: TreeItem, W: Sink>(
     requires error { pen.old.error ≡ Memory }
     requires width { width ≤ length (buffer_of pen.old) }
     requires turned { HoldsOwnText brush.now pen.old width last }
-    ensures bytes { (front : List ℕ)
-        → HoldsPassing brush.now pen.old width front
+    ensures bytes { (outer : List ℕ)
+        → HoldsPassing brush.now pen.old width outer
         → IsWritten (W.contents f.old) (W.contents f.new) result
-        (own_entry (brush_look brush.now) front last (C.shape item.now)) }
+        (own_entry (brush_look brush.now) outer last (C.shape item.now)) }
     ensures memory { OnErr result (pen.new.error ≡ Memory → W.contents f.new ≡ W.contents f.old) }
     ensures cause { HasErrorCause (W.faults f.old) (W.faults f.new) pen.new.error }
     ensures error { OnOk result (pen.new.error ≡ Memory) }
@@ -67,7 +67,7 @@ fn draw_entry<C: TreeItem, W: Sink>(
     Ok(())
 }
 
-// Draws an item and what is below it. The first `width` bytes of the buffer are the branch's front
+// Draws an item and what is below it. The first `width` bytes of the buffer are the branch's start
 // codes and the passing text of the item's parent. The item's turning piece follows them.
 #[cycle(draw)]
 #[inline(always)]
@@ -83,10 +83,10 @@ fn draw_item<C: TreeItem<Child = C> + Drop, W: Sink>(
     requires error { pen.old.error ≡ Memory }
     requires width { width ≤ length (buffer_of pen.old) }
     requires turned { HoldsOwnText brush.now pen.old width (Some is_last) }
-    ensures bytes { (front : List ℕ)
-        → HoldsPassing brush.now pen.old width front
+    ensures bytes { (outer : List ℕ)
+        → HoldsPassing brush.now pen.old width outer
         → AreWritten (W.contents f.old) (W.contents f.new) result pen.new.error
-        (item_entries (brush_look brush.now) levels_left front is_last
+        (item_entries (brush_look brush.now) levels_left outer is_last
         (C.shape item.now)) }
     ensures cause { HasErrorCause (W.faults f.old) (W.faults f.new) pen.new.error }
     ensures error { OnOk result (pen.new.error ≡ Memory) }
@@ -117,11 +117,11 @@ fn draw_below<C: TreeItem<Child = C> + Drop, W: Sink>(
 ) -> Result<(), Stop>
     requires error { pen.old.error ≡ Memory }
     requires width { width ≤ length (buffer_of pen.old) }
-    ensures bytes { (front : List ℕ)
-        → HoldsPassing brush.now pen.old width front
+    ensures bytes { (outer : List ℕ)
+        → HoldsPassing brush.now pen.old width outer
         → AreWritten (W.contents f.old) (W.contents f.new) result pen.new.error
         (let look = brush_look brush.now in kid_entries look
-        (entries_below look levels_left) (front ++ passing_piece look.pieces is_last)
+        (entries_below look levels_left) (outer ++ passing_piece look.pieces is_last)
         (kids (C.shape item.now))) }
     ensures cause { HasErrorCause (W.faults f.old) (W.faults f.new) pen.new.error }
     ensures error { OnOk result (pen.new.error ≡ Memory) }
@@ -138,7 +138,7 @@ fn draw_below<C: TreeItem<Child = C> + Drop, W: Sink>(
     draw_children(children.as_slice(), f, pen, brush, levels_left)
 }
 
-// Draws the children of one item, and what is below them. The buffer holds the branch's front codes
+// Draws the children of one item, and what is below them. The buffer holds the branch's start codes
 // and that item's passing text.
 #[cycle(draw)]
 fn draw_children<C: TreeItem<Child = C> + Drop, W: Sink>(
@@ -150,11 +150,11 @@ fn draw_children<C: TreeItem<Child = C> + Drop, W: Sink>(
 ) -> Result<(), Stop>
     requires error { pen.old.error ≡ Memory }
     requires turned { pen.old.turned ≡ false }
-    ensures bytes { (front : List ℕ)
-        → buffer_of pen.old ≡ front_codes (brush_look brush.now).branch ++ front
+    ensures bytes { (outer : List ℕ)
+        → buffer_of pen.old ≡ start_codes (brush_look brush.now).branch ++ outer
         → AreWritten (W.contents f.old) (W.contents f.new) result pen.new.error
         (let look = brush_look brush.now in kid_entries look
-        (entries_below look levels_left) front (map C.shape items.now)) }
+        (entries_below look levels_left) outer (map C.shape items.now)) }
     ensures cause { HasErrorCause (W.faults f.old) (W.faults f.new) pen.new.error }
     ensures error { OnOk result (pen.new.error ≡ Memory) }
     ensures kept { OnOk result (buffer_of pen.new ≡ buffer_of pen.old) }
@@ -172,7 +172,7 @@ fn draw_children<C: TreeItem<Child = C> + Drop, W: Sink>(
     Ok(())
 }
 
-// Draws a root and what is below it. The buffer holds the branch's front codes.
+// Draws a root and what is below it. The buffer holds the branch's start codes.
 fn draw_root<T, W>(
     item: &T,
     f: &mut W,
@@ -186,14 +186,14 @@ where
     W: Sink,
     requires error { pen.old.error ≡ Memory }
     requires turned { pen.old.turned ≡ false }
-    requires front { buffer_of pen.old ≡ front_codes (brush_look brush.now).branch }
+    requires start { buffer_of pen.old ≡ start_codes (brush_look brush.now).branch }
     ensures bytes { AreWritten (W.contents f.old) (W.contents f.new) result pen.new.error
         (drawn_entries (brush_look brush.now) depth (T.shape item.now)) }
     ensures error { OnOk result (pen.new.error ≡ Memory) }
     ensures cause { HasErrorCause (W.faults f.old) (W.faults f.new) pen.new.error }
 {
     let width = pen.line.bytes.len();
-    pen.line.bytes.extend_from_slice(brush.back.as_bytes())?;
+    pen.line.bytes.extend_from_slice(brush.end.as_bytes())?;
     draw_entry(item, f, pen, brush, width, None)?;
     pen.line.bytes.truncate(width);
     if depth == 0 {
@@ -217,10 +217,10 @@ where
     T::Child: TreeItem<Child = T::Child> + Drop,
     W: Sink,
     ensures bytes { IsWritten (W.contents f.old) (W.contents f.new) result
-        (concat (drawn_entries (look_meant look.now) depth (T.shape item.now))) }
+        (concat (drawn_entries (look_of look.now) depth (T.shape item.now))) }
     ensures whole { result ≡ Err Memory
         → AppendsFirst (W.contents f.old) (W.contents f.new)
-        (drawn_entries (look_meant look.now) depth (T.shape item.now)) }
+        (drawn_entries (look_of look.now) depth (T.shape item.now)) }
     ensures cause { HasCause (W.faults f.old) (W.faults f.new) result }
 {
     let brush = Brush::new(alloc, look)?;

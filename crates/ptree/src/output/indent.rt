@@ -2,8 +2,8 @@
 ghost use Rattle.std.specs.Prelude.{◌≡◌, ◌↔◌, Bool, IsTrue, true, false, ◌++◌, IfOk, string_bytes};
 ghost use Rattle.ptree.specs.Pieces.{turning_piece, passing_piece, pieces_from, config_pieces, pieces_of};
 ghost use Rattle.ptree.specs.Characters.{characters_of};
-ghost use Rattle.ptree.specs.Readable.{AreApart, AreEqualOrApart, IsReadable, IsReadableWith};
-ghost use Rattle.ptree.specs.Text.{HasNoLineFeed};
+ghost use Rattle.ptree.specs.Readable.{ArePrefixFree, AreEqualOrPrefixFree, IsReadable, IsReadableWith};
+ghost use Rattle.ptree.specs.Texts.{HasNoLineFeed};
 
 use crate::print_config::{IndentChars, PrintConfig};
 use std::alloc::{AllocError, Global};
@@ -11,10 +11,10 @@ use std::alloc::{AllocError, Global};
 /// The four pieces before items: two for an item's own line, and two for the lines below it.
 #[derive(Debug, Drop)]
 pub struct Indent {
-    /// Before an item that isn't its parent's last child.
+    /// Before an item that is not its parent's last child.
     pub regular_prefix: String,
 
-    /// Below an item that isn't its parent's last child.
+    /// Below an item that is not its parent's last child.
     pub child_prefix: String,
 
     /// Before a last child.
@@ -97,7 +97,7 @@ impl Indent {
         })
     }
 
-    /// Whether a drawing with these pieces can be read back: each piece at the front of a line can
+    /// Whether a drawing with these pieces can be read back: each piece at the start of a line can
     /// be recognised from the left, whatever follows it.
     ///
     /// Pieces are readable exactly when no piece holds a line feed, no piece of an item's own line
@@ -122,8 +122,8 @@ impl Indent {
     fn is_mark_apart(&self, mark: &str) -> bool
         ensures { IsTrue result
             ↔ ((last : Bool)
-            → AreApart mark.now (turning_piece (pieces_of self.now) last)
-            × AreApart mark.now (passing_piece (pieces_of self.now) last)) }
+            → ArePrefixFree mark.now (turning_piece (pieces_of self.now) last)
+            × ArePrefixFree mark.now (passing_piece (pieces_of self.now) last)) }
     {
         is_apart_from(mark, self.turning(false), self.passing(false))
             && is_apart_from(mark, self.turning(true), self.passing(true))
@@ -144,7 +144,7 @@ impl Indent {
     fn has_kinds_apart(&self) -> bool
         ensures { IsTrue result
             ↔ ((a b : Bool)
-            → AreApart (turning_piece (pieces_of self.now) a)
+            → ArePrefixFree (turning_piece (pieces_of self.now) a)
             (passing_piece (pieces_of self.now) b)) }
     {
         let (child, last_child) = (self.passing(false), self.passing(true));
@@ -155,9 +155,9 @@ impl Indent {
     // Whether the two pieces of each kind are equal, or neither is a prefix of the other.
     fn has_pairs_apart(&self) -> bool
         ensures { IsTrue result
-            ↔ (AreEqualOrApart (turning_piece (pieces_of self.now) false)
+            ↔ (AreEqualOrPrefixFree (turning_piece (pieces_of self.now) false)
             (turning_piece (pieces_of self.now) true)
-            × AreEqualOrApart (passing_piece (pieces_of self.now) false)
+            × AreEqualOrPrefixFree (passing_piece (pieces_of self.now) false)
             (passing_piece (pieces_of self.now) true)) }
     {
         are_equal_or_apart(self.turning(false), self.turning(true))
@@ -203,21 +203,21 @@ fn are_one_line(a: &str, b: &str) -> bool
 
 // Whether neither text is a prefix of the other.
 fn are_apart(a: &str, b: &str) -> bool
-    ensures { IsTrue result ↔ AreApart a.now b.now }
+    ensures { IsTrue result ↔ ArePrefixFree a.now b.now }
 {
     !a.starts_with(b) && !b.starts_with(a)
 }
 
 // Whether a text is a prefix of neither of two others, nor the reverse.
 fn is_apart_from(text: &str, a: &str, b: &str) -> bool
-    ensures { IsTrue result ↔ (AreApart text.now a.now × AreApart text.now b.now) }
+    ensures { IsTrue result ↔ (ArePrefixFree text.now a.now × ArePrefixFree text.now b.now) }
 {
     are_apart(text, a) && are_apart(text, b)
 }
 
 // Whether the texts are equal, or neither is a prefix of the other.
 fn are_equal_or_apart(a: &str, b: &str) -> bool
-    ensures { IsTrue result ↔ AreEqualOrApart a.now b.now }
+    ensures { IsTrue result ↔ AreEqualOrPrefixFree a.now b.now }
 {
     a == b || are_apart(a, b)
 }
@@ -237,10 +237,10 @@ pub(crate) fn joined_three(
 }
 
 /// Returns two texts, one after the other.
-pub(crate) fn joined(alloc: Global, front: &str, back: &str) -> Result<String, AllocError>
-    ensures { IfOk result (λ text. string_bytes text ≡ front.now ++ back.now) }
+pub(crate) fn joined(alloc: Global, first: &str, second: &str) -> Result<String, AllocError>
+    ensures { IfOk result (λ text. string_bytes text ≡ first.now ++ second.now) }
 {
-    let mut text = String::from_str(alloc, front)?;
-    text.push_str(back)?;
+    let mut text = String::from_str(alloc, first)?;
+    text.push_str(second)?;
     Ok(text)
 }

@@ -1,8 +1,8 @@
 //! How drawings look.
 ghost use Rattle.std.specs.Prelude.{◌≡◌, IfOk};
-ghost use Rattle.ptree.specs.Drawing.{effective_style, look_of};
-ghost use Rattle.ptree.specs.Looks.{look_meant};
-ghost use Rattle.ptree.specs.Style.{plain_style, style_value};
+ghost use Rattle.ptree.specs.Drawing.{effective_style, config_look};
+ghost use Rattle.ptree.specs.Looks.{look_of};
+ghost use Rattle.ptree.specs.Style.{plain_style, style_of};
 
 use crate::output::indent::Indent;
 use crate::print_config::{OutputKind, PrintConfig};
@@ -30,7 +30,7 @@ impl<'a> Look<'a> {
         terminal: bool,
     ) -> Result<Look<'a>, AllocError>
         requires { plain.now ≡ plain_style }
-        ensures { IfOk result (λ look. look_meant look ≡ look_of config.now output_kind terminal) }
+        ensures { IfOk result (λ look. look_of look ≡ config_look config.now output_kind terminal) }
     {
         let styled = config.should_style_output(output_kind, terminal);
         Ok(Look {
@@ -45,7 +45,7 @@ impl<'a> Look<'a> {
 // Returns a style if output is styled, else the plain one.
 fn effective_style<'a>(style: &'a Style, plain: &'a Style, styled: bool) -> &'a Style
     requires { plain.now ≡ plain_style }
-    ensures { style_value result.now ≡ effective_style styled (style_value style.now) }
+    ensures { style_of result.now ≡ effective_style styled (style_of style.now) }
 {
     if styled { style } else { plain }
 }

@@ -1,11 +1,11 @@
 //! The buffer in which the engine gathers an entry.
-ghost use Rattle.std.specs.Prelude.{◌≡◌, ℕ, Bool, true, false, Some, length, take, drop, ◌≤◌, ◌++◌, ◌∷◌, [], IfOk, OnOk, List};
+ghost use Rattle.std.specs.Prelude.{◌≡◌, true, false, Some, length, take, drop, ◌≤◌, ◌++◌, ◌∷◌, [], IfOk, OnOk};
 ghost use Rattle.ptree.specs.Drawing.{with_inserted};
 ghost use Rattle.ptree.specs.Looks.{own_text, further_text};
 ghost use Rattle.ptree.specs.Pen.{brush_look};
 ghost use Rattle.ptree.specs.Pieces.{passing_piece};
-ghost use Rattle.ptree.specs.Style.{style_value, front_codes};
-ghost use Rattle.ptree.specs.Text.{line_feed};
+ghost use Rattle.ptree.specs.Style.{style_of, start_codes};
+ghost use Rattle.ptree.specs.Texts.{line_feed};
 ghost use Rattle.ptree.specs.declared.style.DrawError.TheVariants.{Memory};
 
 use crate::faults::FaultCount;
@@ -118,14 +118,14 @@ pub(crate) struct Pen {
 }
 
 impl Pen {
-    // Makes a pen whose buffer holds the branch's front codes.
+    // Makes a pen whose buffer holds the branch's start codes.
     pub(crate) fn new(alloc: Global, branch: &Style) -> Result<Pen, AllocError>
         ensures line { IfOk result (λ p.
-            p.line.bytes.items ≡ front_codes (style_value branch.now)) }
+            p.line.bytes.items ≡ start_codes (style_of branch.now)) }
         ensures turned { IfOk result (λ p. p.turned ≡ false) }
         ensures error { IfOk result (λ p. p.error ≡ Memory) }
     {
-        let front = branch.front_text(alloc)?;
+        let front = branch.start_text(alloc)?;
         let mut bytes = Vec::new(alloc);
         bytes.extend_from_slice(front.as_bytes())?;
         let line = LineBuffer {

@@ -1,7 +1,7 @@
 //! Texts of several lines: finds their line feeds, and inserts after each.
-ghost use Rattle.std.specs.Prelude.{◌≡◌, ◌≢◌, ℕ, Bool, false, length, slice_index, take, drop, ◌≤◌, ◌<◌, ◌+◌, ◌++◌, IfOk};
+ghost use Rattle.std.specs.Prelude.{◌≡◌, ◌≢◌, ℕ, false, length, slice_index, take, drop, ◌≤◌, ◌<◌, ◌+◌, ◌++◌, IfOk};
 ghost use Rattle.ptree.specs.Drawing.{with_inserted};
-ghost use Rattle.ptree.specs.Text.{HasNoLineFeed, line_feed};
+ghost use Rattle.ptree.specs.Texts.{HasNoLineFeed, line_feed};
 
 use std::alloc::{AllocError, Global};
 use std::simd::prelude::*;

@@ -1,11 +1,11 @@
 //! The characters that branches are drawn with: the shipped sets, and others.
 ghost use Rattle.std.specs.Prelude.{◌≡◌, ◌↔◌, IfOk, IsTrue, IsErrOf, Some, None};
-ghost use Rattle.ptree.specs.Characters.{characters_of, static_characters, set_named};
+ghost use Rattle.ptree.specs.Characters.{characters_of, static_characters_of, set_named};
 ghost use Rattle.ptree.specs.declared.print_config.characters.CharsError.{CharsError};
 ghost use Rattle.ptree.specs.declared.print_config.characters.IndentChars.{IndentChars};
 ghost use Rattle.ptree.specs.declared.print_config.characters.StaticIndentChars.{StaticIndentChars};
 
-use crate::print_config::words::{Spelling, set_spelled};
+use crate::print_config::parse::{Spelling, parse_set};
 use std::alloc::{AllocError, AllocFailed, Global};
 use std::error::Error;
 use std::fmt;
@@ -64,7 +64,7 @@ impl IndentChars {
     ///
     /// Memory ran out.
     pub fn from_static(alloc: Global, s: StaticIndentChars) -> Result<IndentChars, AllocError>
-        ensures { IfOk result (λ c. characters_of c ≡ static_characters s) }
+        ensures { IfOk result (λ c. characters_of c ≡ static_characters_of s) }
     {
         IndentChars::from_texts(
             alloc,
@@ -130,7 +130,7 @@ impl IndentChars {
         ensures set { IfOk result (λ c. set_named s.now ≡ Some (characters_of c)) }
         ensures unknown { IsErrOf result CharsError.Unknown ↔ (set_named s.now ≡ None) }
     {
-        let Some(set) = set_spelled(Spelling::Exact, s) else {
+        let Some(set) = parse_set(Spelling::Exact, s) else {
             return Err(CharsError::Unknown);
         };
         Ok(IndentChars::from_static(alloc, set)?)
@@ -227,14 +227,14 @@ impl PartialEq for StaticIndentChars {
     ghost use Rattle.ptree.specs.Equivalence.{characters_equivalence};
     ghost use Rattle.ptree.specs.Equality.{same_characters};
 
-    ghost eq = { on static_characters same_characters };
+    ghost eq = { on static_characters_of same_characters };
 
-    ghost laws = { partial_equiv_from_equiv (characters_equivalence static_characters) };
+    ghost laws = { partial_equiv_from_equiv (characters_equivalence static_characters_of) };
 
     fn eq(&self, other: &StaticIndentChars) -> bool
-        ensures value { result ≡ on static_characters same_characters self.now other.now }
+        ensures value { result ≡ on static_characters_of same_characters self.now other.now }
         ensures equality { IsTrue result
-            ↔ (static_characters self.now ≡ static_characters other.now) }
+            ↔ (static_characters_of self.now ≡ static_characters_of other.now) }
     {
         self.down_and_right == other.down_and_right
             && self.down == other.down
@@ -247,7 +247,7 @@ impl PartialEq for StaticIndentChars {
 impl Eq for StaticIndentChars {
     ghost use Rattle.ptree.specs.Equivalence.{characters_equivalence};
 
-    ghost laws = { characters_equivalence static_characters };
+    ghost laws = { characters_equivalence static_characters_of };
 }
 
 /// ASCII characters, with a tick for turning right, as in `tree --charset=ascii`.

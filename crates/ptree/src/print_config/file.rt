@@ -1,15 +1,15 @@
 //! The document of a configuration file, in either format.
 ghost use Rattle.std.specs.Prelude.{◌≡◌, ◌↔◌, Some, option_map, option_copied, is_some, is_none, IsSome, IfOk};
-ghost use Rattle.ptree.specs.Color.{color_value};
+ghost use Rattle.ptree.specs.Color.{color_of};
 ghost use Rattle.ptree.specs.File.{get, is_table, as_whole, as_text, as_flag, is_null, whole_node, when_node, as_triple, json_triple, toml_triple, color_numbers, color_node};
-ghost use Rattle.ptree.specs.Lent.{node_view, document_view};
+ghost use Rattle.ptree.specs.Lent.{node_of, document_of};
 ghost use Rattle.ptree.specs.Loading.{file_fault};
 ghost use Rattle.ptree.specs.Sources.{document, json_document, toml_document};
 ghost use Rattle.ptree.specs.declared.print_config.loader.Fault.TheVariants.{Syntax};
 ghost use Rattle.serde_json.specs.View.{items_view as json_items};
 ghost use Rattle.toml.specs.View.{items_view as toml_items};
 
-use crate::print_config::words::{Spelling, when_spelled};
+use crate::print_config::parse::{Spelling, parse_when};
 use crate::print_config::{FileSource, StyleWhen};
 use crate::style::Color;
 use std::alloc::{AllocError, Global};
@@ -24,7 +24,7 @@ pub(crate) enum Document {
 impl Document {
     // Reads the document of a file, if it has one.
     pub(crate) fn read(alloc: Global, file: &FileSource) -> Result<Option<Document>, AllocError>
-        ensures { IfOk result (λ read. option_map document_view read ≡ document file.now) }
+        ensures { IfOk result (λ read. option_map document_of read ≡ document file.now) }
     {
         match file {
             FileSource::Absent | FileSource::Unreadable => Ok(None),
@@ -34,19 +34,19 @@ impl Document {
     }
 
     // Returns the value at the top.
-    pub(crate) fn top(&self) -> Node<'_>
-        ensures { node_view result ≡ document_view self.now }
+    pub(crate) fn top(&self) -> FileNode<'_>
+        ensures { node_of result ≡ document_of self.now }
     {
         match self {
-            Document::Json(value) => Node::Json(value),
-            Document::Toml(value) => Node::Toml(value),
+            Document::Json(value) => FileNode::Json(value),
+            Document::Toml(value) => FileNode::Toml(value),
         }
     }
 }
 
 // Reads a text as TOML.
 fn parse_toml(alloc: Global, text: &str) -> Result<Option<Document>, AllocError>
-    ensures { IfOk result (λ read. option_map document_view read ≡ toml_document text.now) }
+    ensures { IfOk result (λ read. option_map document_of read ≡ toml_document text.now) }
 {
     match toml::table_from_str(alloc, text) {
         Ok(table) => Ok(Some(Document::Toml(toml::Value::Table(table)))),
@@ -60,7 +60,7 @@ fn parse_toml(alloc: Global, text: &str) -> Result<Option<Document>, AllocError>
 
 // Reads a text as JSON.
 fn parse_json(alloc: Global, text: &str) -> Result<Option<Document>, AllocError>
-    ensures { IfOk result (λ read. option_map document_view read ≡ json_document text.now) }
+    ensures { IfOk result (λ read. option_map document_of read ≡ json_document text.now) }
 {
     match serde_json::Value::from_str(alloc, text) {
         Ok(value) => if value.is_object() {
@@ -184,23 +184,23 @@ fn line_at(text: &str, place: usize) -> usize {
 
 // A value in a document.
 #[derive(Clone, Copy)]
-pub(crate) enum Node<'a> {
+pub(crate) enum FileNode<'a> {
     Json(&'a serde_json::Value),
     Toml(&'a toml::Value),
 }
 
-impl<'a> Node<'a> {
+impl<'a> FileNode<'a> {
     // Returns the value at a key, if this is a table that has the key.
-    pub(crate) fn get(self, key: &str) -> Option<Node<'a>>
-        ensures { option_map node_view result ≡ get key.now (node_view self.entry) }
+    pub(crate) fn get(self, key: &str) -> Option<FileNode<'a>>
+        ensures { option_map node_of result ≡ get key.now (node_of self.entry) }
     {
         match self {
-            Node::Json(value) => match value.get(key) {
-                Some(found) => Some(Node::Json(found)),
+            FileNode::Json(value) => match value.get(key) {
+                Some(found) => Some(FileNode::Json(found)),
                 None => None,
             },
-            Node::Toml(value) => match value.get(key) {
-                Some(found) => Some(Node::Toml(found)),
+            FileNode::Toml(value) => match value.get(key) {
+                Some(found) => Some(FileNode::Toml(found)),
                 None => None,
             },
         }
@@ -208,61 +208,61 @@ impl<'a> Node<'a> {
 
     // Whether the value is a table or an object.
     pub(crate) fn is_table(self) -> bool
-        ensures { result ≡ is_table (node_view self.entry) }
+        ensures { result ≡ is_table (node_of self.entry) }
     {
         match self {
-            Node::Json(value) => value.is_object(),
-            Node::Toml(value) => value.is_table(),
+            FileNode::Json(value) => value.is_object(),
+            FileNode::Toml(value) => value.is_table(),
         }
     }
 
     // Whether the value is null.
     pub(crate) fn is_null(self) -> bool
-        ensures { result ≡ is_null (node_view self.entry) }
+        ensures { result ≡ is_null (node_of self.entry) }
     {
         match self {
-            Node::Json(value) => value.is_null(),
-            Node::Toml(_) => false,
+            FileNode::Json(value) => value.is_null(),
+            FileNode::Toml(_) => false,
         }
     }
 
     // Returns the text, if the value is one.
-    pub(crate) fn text(self) -> Option<&'a str>
-        ensures { option_copied result ≡ as_text (node_view self.entry) }
+    pub(crate) fn as_text(self) -> Option<&'a str>
+        ensures { option_copied result ≡ as_text (node_of self.entry) }
     {
         match self {
-            Node::Json(value) => value.as_str(),
-            Node::Toml(value) => value.as_str(),
+            FileNode::Json(value) => value.as_str(),
+            FileNode::Toml(value) => value.as_str(),
         }
     }
 
     // Returns true or false, if the value is one of them.
-    pub(crate) fn flag(self) -> Option<bool>
-        ensures { result ≡ as_flag (node_view self.entry) }
+    pub(crate) fn as_flag(self) -> Option<bool>
+        ensures { result ≡ as_flag (node_of self.entry) }
     {
         match self {
-            Node::Json(value) => value.as_bool(),
-            Node::Toml(value) => value.as_bool(),
+            FileNode::Json(value) => value.as_bool(),
+            FileNode::Toml(value) => value.as_bool(),
         }
     }
 
     // Returns the whole number, if the value is one that is at most `greatest`.
-    pub(crate) fn whole(self, greatest: u64) -> Option<u64>
-        ensures { result ≡ whole_node greatest (node_view self.entry) }
+    pub(crate) fn as_whole(self, greatest: u64) -> Option<u64>
+        ensures { result ≡ whole_node greatest (node_of self.entry) }
     {
-        match self.number() {
+        match self.as_number() {
             Some(n) if n <= greatest => Some(n),
             _ => None,
         }
     }
 
     // Returns the whole number, if the value is one that is not negative.
-    fn number(self) -> Option<u64>
-        ensures { result ≡ as_whole (node_view self.entry) }
+    fn as_number(self) -> Option<u64>
+        ensures { result ≡ as_whole (node_of self.entry) }
     {
         match self {
-            Node::Json(value) => value.as_u64(),
-            Node::Toml(value) => match value.as_integer() {
+            FileNode::Json(value) => value.as_u64(),
+            FileNode::Toml(value) => match value.as_integer() {
                 Some(n) => if n >= 0 { Some(n as u64) } else { None },
                 None => None,
             },
@@ -270,35 +270,35 @@ impl<'a> Node<'a> {
     }
 
     // Returns when to style, if the value says so.
-    pub(crate) fn when(self) -> Option<StyleWhen>
-        ensures { result ≡ when_node (node_view self.entry) }
+    pub(crate) fn as_when(self) -> Option<StyleWhen>
+        ensures { result ≡ when_node (node_of self.entry) }
     {
-        match self.text() {
-            Some(text) => when_spelled(Spelling::Exact, text),
+        match self.as_text() {
+            Some(text) => parse_when(Spelling::Exact, text),
             None => None,
         }
     }
 
     // Returns the byte, if the value is one.
-    fn byte(self) -> Option<u8>
-        ensures { result ≡ whole_node 255 (node_view self.entry) }
+    fn as_byte(self) -> Option<u8>
+        ensures { result ≡ whole_node 255 (node_of self.entry) }
     {
-        match self.whole(255) {
+        match self.as_whole(255) {
             Some(n) => Some(n as u8),
             None => None,
         }
     }
 
     // Returns the three bytes, if the value is a list of three.
-    fn triple(self) -> Option<(u8, u8, u8)>
-        ensures { result ≡ as_triple (node_view self.entry) }
+    fn as_triple(self) -> Option<(u8, u8, u8)>
+        ensures { result ≡ as_triple (node_of self.entry) }
     {
         match self {
-            Node::Json(value) => match value.as_array() {
+            FileNode::Json(value) => match value.as_array() {
                 Some(items) => json_triple(items.as_slice()),
                 None => None,
             },
-            Node::Toml(value) => match value.as_array() {
+            FileNode::Toml(value) => match value.as_array() {
                 Some(items) => toml_triple(items.as_slice()),
                 None => None,
             },
@@ -306,13 +306,13 @@ impl<'a> Node<'a> {
     }
 
     // Returns the colour, if the value gives one in numbers.
-    fn color_numbers(self) -> Option<Color>
-        ensures { result ≡ color_numbers (node_view self.entry) }
+    fn as_numbered_color(self) -> Option<Color>
+        ensures { result ≡ color_numbers (node_of self.entry) }
     {
-        if let Some(n) = self.byte() {
+        if let Some(n) = self.as_byte() {
             return Some(Color::Fixed(n));
         }
-        match self.triple() {
+        match self.as_triple() {
             Some((r, g, b)) => Some(Color::RGB(r, g, b)),
             None => None,
         }
@@ -320,20 +320,20 @@ impl<'a> Node<'a> {
 
     // Whether the value is a colour.
     pub(crate) fn is_color(self) -> bool
-        ensures { result ≡ is_some (color_node (node_view self.entry)) }
+        ensures { result ≡ is_some (color_node (node_of self.entry)) }
     {
-        self.text().is_some() || self.byte().is_some() || self.triple().is_some()
+        self.as_text().is_some() || self.as_byte().is_some() || self.as_triple().is_some()
     }
 
     // Returns the colour, if the value is one: a text is a name, other values are numbers.
-    pub(crate) fn color(self, alloc: Global) -> Result<Option<Color>, AllocError>
+    pub(crate) fn as_color(self, alloc: Global) -> Result<Option<Color>, AllocError>
         ensures { IfOk result (λ color.
-            option_map color_value color ≡ color_node (node_view self.entry)) }
+            option_map color_of color ≡ color_node (node_of self.entry)) }
     {
-        if let Some(text) = self.text() {
+        if let Some(text) = self.as_text() {
             return Ok(Some(Color::Named(String::from_str(alloc, text)?)));
         }
-        Ok(self.color_numbers())
+        Ok(self.as_numbered_color())
     }
 }
 
@@ -343,9 +343,9 @@ fn json_triple(items: &[serde_json::Value]) -> Option<(u8, u8, u8)>
 {
     if let [r, g, b] = items {
         Some((
-            Node::Json(r).byte()?,
-            Node::Json(g).byte()?,
-            Node::Json(b).byte()?,
+            FileNode::Json(r).as_byte()?,
+            FileNode::Json(g).as_byte()?,
+            FileNode::Json(b).as_byte()?,
         ))
     } else {
         None
@@ -358,9 +358,9 @@ fn toml_triple(items: &[toml::Value]) -> Option<(u8, u8, u8)>
 {
     if let [r, g, b] = items {
         Some((
-            Node::Toml(r).byte()?,
-            Node::Toml(g).byte()?,
-            Node::Toml(b).byte()?,
+            FileNode::Toml(r).as_byte()?,
+            FileNode::Toml(g).as_byte()?,
+            FileNode::Toml(b).as_byte()?,
         ))
     } else {
         None

@@ -2,20 +2,20 @@
 ghost use Rattle.std.specs.Prelude.{◌≡◌, option_map, option_copied, unwrap_or, is_some, string_bytes, IfOk};
 ghost use Rattle.std.specs.List.{list_any};
 ghost use Rattle.ptree.specs.Characters.{characters_of};
-ghost use Rattle.ptree.specs.Color.{color_value};
-ghost use Rattle.ptree.specs.Configuration.{config_value};
+ghost use Rattle.ptree.specs.Color.{color_of};
+ghost use Rattle.ptree.specs.Config.{config_of};
 ghost use Rattle.ptree.specs.Fields.{all_style_fields, HasEach};
-ghost use Rattle.ptree.specs.Lent.{document_view, node_view, given_view, lent_characters};
-ghost use Rattle.ptree.specs.Loading.{whole, when, set, text, color, flag, characters, is_dimmed, style_of, configuration};
+ghost use Rattle.ptree.specs.Lent.{document_of, node_of, given_of, lent_characters_of};
+ghost use Rattle.ptree.specs.Loading.{whole, when, set, text, color, flag, characters, is_dimmed, loaded_style, configuration};
 ghost use Rattle.ptree.specs.Sources.{variables_of, last_value, document, given_by, variable, table_at, node};
-ghost use Rattle.ptree.specs.Style.{style_value};
+ghost use Rattle.ptree.specs.Style.{style_of};
 ghost use Rattle.ptree.specs.declared.print_config.fields.Field.{Field};
 
 use crate::print_config::fields::{Field, Part, STYLE_FIELDS, StyleField};
-use crate::print_config::file::{Document, Node};
+use crate::print_config::file::{Document, FileNode};
 use crate::print_config::lent::{LentChars, set_node};
-use crate::print_config::words::{
-    Spelling, color_text, flag_text, number_text, set_spelled, when_spelled,
+use crate::print_config::parse::{
+    Spelling, parse_color, parse_flag, parse_number, parse_set, parse_when,
 };
 use crate::print_config::{
     DEFAULT_INDENT, DEFAULT_MARK, DEFAULT_PADDING, IndentChars, PrintConfig, Sources, StyleWhen,
@@ -28,14 +28,14 @@ use std::alloc::{AllocError, Global};
 #[derive(Clone, Copy)]
 pub(crate) struct Given<'a> {
     variables: &'a [(String, String)],
-    document: Option<Node<'a>>,
+    document: Option<FileNode<'a>>,
 }
 
 impl<'a> Given<'a> {
     // Returns what the sources give, with the document of their file.
     pub(crate) fn of(sources: &'a Sources, read: &'a Option<Document>) -> Given<'a>
-        requires { option_map document_view read.now ≡ document sources.now.file }
-        ensures { given_view result ≡ given_by sources.now }
+        requires { option_map document_of read.now ≡ document sources.now.file }
+        ensures { given_of result ≡ given_by sources.now }
     {
         Given {
             variables: &sources.variables,
@@ -49,16 +49,16 @@ impl<'a> Given<'a> {
     // Returns the text of a field's variable.
     #[tactic(auto, unfolding(crate::specs::Sources::variable))]
     pub(crate) fn variable(&self, field: Field) -> Option<&'a str>
-        ensures { option_copied result ≡ variable (given_view self.now) field }
+        ensures { option_copied result ≡ variable (given_of self.now) field }
     {
         last_value(Spelling::AnyCase, field.variable(), self.variables)
     }
 
     // Returns the top of the document, or its table of this key.
     #[tactic(auto, unfolding(crate::specs::Sources::table_at))]
-    pub(crate) fn table_at(&self, key: Option<&str>) -> Option<Node<'a>>
-        ensures { option_map node_view result
-            ≡ table_at (given_view self.now) (option_copied key.entry) }
+    pub(crate) fn table_at(&self, key: Option<&str>) -> Option<FileNode<'a>>
+        ensures { option_map node_of result
+            ≡ table_at (given_of self.now) (option_copied key.entry) }
     {
         match key {
             None => self.document,
@@ -68,76 +68,76 @@ impl<'a> Given<'a> {
 
     // Returns the value at a field's key.
     #[tactic(auto, unfolding(crate::specs::Sources::node))]
-    pub(crate) fn node(&self, field: Field) -> Option<Node<'a>>
-        ensures { option_map node_view result ≡ node (given_view self.now) field }
+    pub(crate) fn node(&self, field: Field) -> Option<FileNode<'a>>
+        ensures { option_map node_of result ≡ node (given_of self.now) field }
     {
         self.table_at(field.table())?.get(field.key())
     }
 
     // Returns the value of a field that accepts whole numbers up to `greatest`.
     fn whole(&self, greatest: u64, field: Field) -> Option<u64>
-        ensures { result ≡ whole greatest (given_view self.now) field }
+        ensures { result ≡ whole greatest (given_of self.now) field }
     {
         if let Some(value) = self.variable(field) {
-            if let Some(n) = number_text(greatest, value) {
+            if let Some(n) = parse_number(greatest, value) {
                 return Some(n);
             }
         }
-        self.node(field)?.whole(greatest)
+        self.node(field)?.as_whole(greatest)
     }
 
     // Returns the value of a field that says when to style.
     fn when(&self, field: Field) -> Option<StyleWhen>
-        ensures { result ≡ when (given_view self.now) field }
+        ensures { result ≡ when (given_of self.now) field }
     {
         if let Some(value) = self.variable(field) {
-            if let Some(when) = when_spelled(Spelling::AnyCase, value) {
+            if let Some(when) = parse_when(Spelling::AnyCase, value) {
                 return Some(when);
             }
         }
-        self.node(field)?.when()
+        self.node(field)?.as_when()
     }
 
     // Returns the value of a field that accepts any text.
     fn text(&self, field: Field) -> Option<&'a str>
-        ensures { option_copied result ≡ text (given_view self.now) field }
+        ensures { option_copied result ≡ text (given_of self.now) field }
     {
         if let Some(value) = self.variable(field) {
             return Some(value);
         }
-        self.node(field)?.text()
+        self.node(field)?.as_text()
     }
 
     // Returns the value of a field that accepts a colour.
     fn color(&self, alloc: Global, field: Field) -> Result<Option<Color>, AllocError>
         ensures { IfOk result (λ found.
-            option_map color_value found ≡ color (given_view self.now) field) }
+            option_map color_of found ≡ color (given_of self.now) field) }
     {
         if let Some(value) = self.variable(field) {
-            return Ok(Some(color_text(alloc, value)?));
+            return Ok(Some(parse_color(alloc, value)?));
         }
         match self.node(field) {
-            Some(value) => value.color(alloc),
+            Some(value) => value.as_color(alloc),
             None => Ok(None),
         }
     }
 
     // Returns the value of a field that accepts true or false.
     fn flag(&self, field: Field) -> Option<bool>
-        ensures { result ≡ flag (given_view self.now) field }
+        ensures { result ≡ flag (given_of self.now) field }
     {
         if let Some(value) = self.variable(field) {
-            if let Some(on) = flag_text(value) {
+            if let Some(on) = parse_flag(value) {
                 return Some(on);
             }
         }
-        self.node(field)?.flag()
+        self.node(field)?.as_flag()
     }
 
     // Returns the style of a part.
-    #[tactic(auto, unfolding(crate::specs::Loading::style_of))]
+    #[tactic(auto, unfolding(crate::specs::Loading::loaded_style))]
     fn style(&self, alloc: Global, part: Part) -> Result<Style, AllocError>
-        ensures { IfOk result (λ style. style_value style ≡ style_of (given_view self.now) part) }
+        ensures { IfOk result (λ style. style_of style ≡ loaded_style (given_of self.now) part) }
     {
         let dimmed = self.is_dimmed(part);
         Ok(Style {
@@ -156,14 +156,14 @@ impl<'a> Given<'a> {
 
     // Returns a flag of a part's style.
     fn is_set(&self, part: Part, field: StyleField, default: bool) -> bool
-        ensures { result ≡ unwrap_or (flag (given_view self.now) (Field.Paint part field)) default }
+        ensures { result ≡ unwrap_or (flag (given_of self.now) (Field.Paint part field)) default }
     {
         self.flag(Field::Paint(part, field)).unwrap_or(default)
     }
 
     // Whether a part is dimmed if no source says so.
     fn is_dimmed(&self, part: Part) -> bool
-        ensures dimmed { result ≡ is_dimmed (given_view self.now) part }
+        ensures dimmed { result ≡ is_dimmed (given_of self.now) part }
         ensures each { HasEach all_style_fields }
     {
         match part {
@@ -177,7 +177,7 @@ impl<'a> Given<'a> {
     // Whether there is a variable of one of these fields of a part.
     fn has_variable(&self, part: Part, fields: &[StyleField]) -> bool
         ensures { result
-            ≡ list_any (λ f. is_some (variable (given_view self.now) (Field.Paint part f)))
+            ≡ list_any (λ f. is_some (variable (given_of self.now) (Field.Paint part f)))
             fields.now }
     {
         for field in fields {
@@ -190,10 +190,10 @@ impl<'a> Given<'a> {
 
     // Returns the value of a field that accepts a set of characters.
     fn set(&self, field: Field) -> Option<LentChars<'a>>
-        ensures { option_map lent_characters result ≡ set (given_view self.now) field }
+        ensures { option_map lent_characters_of result ≡ set (given_of self.now) field }
     {
         if let Some(value) = self.variable(field) {
-            if let Some(set) = set_spelled(Spelling::AnyCase, value) {
+            if let Some(set) = parse_set(Spelling::AnyCase, value) {
                 return Some(LentChars::of(set));
             }
         }
@@ -203,7 +203,7 @@ impl<'a> Given<'a> {
     // Returns the characters.
     #[tactic(auto, unfolding(crate::specs::Loading::characters))]
     fn characters(&self, alloc: Global) -> Result<IndentChars, AllocError>
-        ensures { IfOk result (λ chars. characters_of chars ≡ characters (given_view self.now)) }
+        ensures { IfOk result (λ chars. characters_of chars ≡ characters (given_of self.now)) }
     {
         let base = self
             .set(Field::Characters)
@@ -220,7 +220,7 @@ impl<'a> Given<'a> {
     // Returns a single character: the value of its variable, or else `other`.
     fn character(&self, alloc: Global, field: Field, other: &str) -> Result<String, AllocError>
         ensures { IfOk result (λ s.
-            string_bytes s ≡ unwrap_or (variable (given_view self.now) field) other.now) }
+            string_bytes s ≡ unwrap_or (variable (given_of self.now) field) other.now) }
     {
         match self.variable(field) {
             Some(value) => String::from_str(alloc, value),
@@ -232,7 +232,7 @@ impl<'a> Given<'a> {
     #[tactic(auto, unfolding(crate::specs::Loading::configuration))]
     pub(crate) fn configuration(&self, alloc: Global) -> Result<PrintConfig, AllocError>
         ensures { IfOk result (λ config.
-            config_value config ≡ configuration (given_view self.now)) }
+            config_of config ≡ configuration (given_of self.now)) }
     {
         Ok(PrintConfig {
             depth: self

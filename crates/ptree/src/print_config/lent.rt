@@ -1,11 +1,11 @@
 //! The characters that sources lend.
 ghost use Rattle.std.specs.Prelude.{◌≡◌, option_map};
-ghost use Rattle.ptree.specs.Characters.{static_characters};
+ghost use Rattle.ptree.specs.Characters.{static_characters_of};
 ghost use Rattle.ptree.specs.File.{set_node, characters_in, text_at};
-ghost use Rattle.ptree.specs.Lent.{node_view, lent_characters};
+ghost use Rattle.ptree.specs.Lent.{node_of, lent_characters_of};
 
-use crate::print_config::file::Node;
-use crate::print_config::words::{Spelling, set_spelled};
+use crate::print_config::file::FileNode;
+use crate::print_config::parse::{Spelling, parse_set};
 use crate::print_config::{StaticIndentChars, UTF_CHARS};
 
 // Characters that sources lend.
@@ -21,7 +21,7 @@ pub(crate) struct LentChars<'a> {
 impl<'a> LentChars<'a> {
     // Returns the characters of a shipped set.
     pub(crate) fn of(set: StaticIndentChars) -> LentChars<'a>
-        ensures { lent_characters result ≡ static_characters set }
+        ensures { lent_characters_of result ≡ static_characters_of set }
     {
         LentChars {
             down_and_right: set.down_and_right,
@@ -34,11 +34,11 @@ impl<'a> LentChars<'a> {
 }
 
 // Returns the set that a text names, or the characters in a table.
-pub(crate) fn set_node<'a>(value: Node<'a>) -> Option<LentChars<'a>>
-    ensures { option_map lent_characters result ≡ set_node (node_view value.entry) }
+pub(crate) fn set_node<'a>(value: FileNode<'a>) -> Option<LentChars<'a>>
+    ensures { option_map lent_characters_of result ≡ set_node (node_of value.entry) }
 {
-    if let Some(text) = value.text() {
-        if let Some(set) = set_spelled(Spelling::Exact, text) {
+    if let Some(text) = value.as_text() {
+        if let Some(set) = parse_set(Spelling::Exact, text) {
             return Some(LentChars::of(set));
         }
     }
@@ -50,8 +50,8 @@ pub(crate) fn set_node<'a>(value: Node<'a>) -> Option<LentChars<'a>>
 }
 
 // Returns the characters in a table, with those of the regular set for missing ones.
-fn characters_in<'a>(table: Node<'a>) -> LentChars<'a>
-    ensures { lent_characters result ≡ characters_in (node_view table.entry) }
+fn characters_in<'a>(table: FileNode<'a>) -> LentChars<'a>
+    ensures { lent_characters_of result ≡ characters_in (node_of table.entry) }
 {
     let regular = UTF_CHARS;
     LentChars {
@@ -64,11 +64,11 @@ fn characters_in<'a>(table: Node<'a>) -> LentChars<'a>
 }
 
 // Returns the text at a key, or else `other`.
-fn text_at<'a>(key: &str, table: Node<'a>, other: &'static str) -> &'a str
-    ensures { result.now ≡ text_at key.now (node_view table.entry) other.now }
+fn text_at<'a>(key: &str, table: FileNode<'a>, other: &'static str) -> &'a str
+    ensures { result.now ≡ text_at key.now (node_of table.entry) other.now }
 {
     match table.get(key) {
-        Some(value) => value.text().unwrap_or(other),
+        Some(value) => value.as_text().unwrap_or(other),
         None => other,
     }
 }

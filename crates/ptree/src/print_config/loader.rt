@@ -1,16 +1,16 @@
 //! Loads a configuration from its sources, or finds the first fault in them.
 ghost use Rattle.std.specs.Prelude.{◌≡◌, map, option_map, IfOk};
-ghost use Rattle.ptree.specs.Configuration.{config_value};
+ghost use Rattle.ptree.specs.Config.{config_of};
 ghost use Rattle.ptree.specs.Fields.{all_fields, HasEach};
-ghost use Rattle.ptree.specs.Lent.{document_view, node_view, given_view};
-ghost use Rattle.ptree.specs.Loading.{text_fits, node_fits, field_fault, table_fault, file_fault, first_of, fault_in, first_fault, config_of};
+ghost use Rattle.ptree.specs.Lent.{document_of, node_of, given_of};
+ghost use Rattle.ptree.specs.Loading.{text_fits, node_fits, field_fault, table_fault, file_fault, first_of, fault_in, first_fault, loaded_config};
 ghost use Rattle.ptree.specs.Sources.{document};
 
 use crate::print_config::fields::{FIELDS, Field, Kind, Part};
-use crate::print_config::file::{Document, Node};
+use crate::print_config::file::{Document, FileNode};
 use crate::print_config::given::Given;
 use crate::print_config::lent::set_node;
-use crate::print_config::words::{Spelling, flag_text, number_text, set_spelled, when_spelled};
+use crate::print_config::parse::{Spelling, parse_flag, parse_number, parse_set, parse_when};
 use crate::print_config::{FileSource, PrintConfig, Sources};
 use std::alloc::{AllocError, Global};
 use std::error::Error;
@@ -75,7 +75,7 @@ impl Error for Fault {}
 ///
 /// Memory ran out.
 pub fn load(alloc: Global, sources: &Sources) -> Result<Option<PrintConfig>, AllocError>
-    ensures { IfOk result (λ config. option_map config_value config ≡ config_of sources.now) }
+    ensures { IfOk result (λ config. option_map config_of config ≡ loaded_config sources.now) }
 {
     let document = Document::read(alloc, &sources.file)?;
     load_with(alloc, sources, &document)
@@ -87,8 +87,8 @@ fn load_with(
     sources: &Sources,
     read: &Option<Document>,
 ) -> Result<Option<PrintConfig>, AllocError>
-    requires { option_map document_view read.now ≡ document sources.now.file }
-    ensures { IfOk result (λ config. option_map config_value config ≡ config_of sources.now) }
+    requires { option_map document_of read.now ≡ document sources.now.file }
+    ensures { IfOk result (λ config. option_map config_of config ≡ loaded_config sources.now) }
 {
     let given = Given::of(sources, read);
     if first_fault_in(&sources.file, read, &given).is_some() {
@@ -116,8 +116,8 @@ pub fn first_fault(alloc: Global, sources: &Sources) -> Result<Option<Fault>, Al
 // Returns the first fault in a file, its document and the variables.
 #[tactic(auto, unfolding(crate::specs::Loading::fault_in))]
 fn first_fault_in(file: &FileSource, read: &Option<Document>, given: &Given<'_>) -> Option<Fault>
-    requires { option_map document_view read.now ≡ document file.now }
-    ensures first { result ≡ fault_in (file_fault file.now) (given_view given.now) }
+    requires { option_map document_of read.now ≡ document file.now }
+    ensures first { result ≡ fault_in (file_fault file.now) (given_of given.now) }
     ensures each { HasEach all_fields }
 {
     if let Some(fault) = file_fault(file, read) {
@@ -134,7 +134,7 @@ fn first_fault_in(file: &FileSource, read: &Option<Document>, given: &Given<'_>)
 
 // Returns the fault of a file that has no document.
 fn file_fault(file: &FileSource, read: &Option<Document>) -> Option<Fault>
-    requires { option_map document_view read.now ≡ document file.now }
+    requires { option_map document_of read.now ≡ document file.now }
     ensures { result ≡ file_fault file.now }
 {
     match file {
@@ -153,7 +153,7 @@ fn file_fault(file: &FileSource, read: &Option<Document>) -> Option<Fault>
 impl<'a> Given<'a> {
     // Returns the first fault of these fields.
     fn first_field_fault(&self, fields: &[Field]) -> Option<Fault>
-        ensures { result ≡ first_of (map (field_fault (given_view self.now)) fields.now) }
+        ensures { result ≡ first_of (map (field_fault (given_of self.now)) fields.now) }
     {
         for field in fields {
             if let Some(fault) = self.field_fault(*field) {
@@ -165,7 +165,7 @@ impl<'a> Given<'a> {
 
     // Returns the fault of a field: that of its variable, or else that of its key.
     fn field_fault(&self, field: Field) -> Option<Fault>
-        ensures { result ≡ field_fault (given_view self.now) field }
+        ensures { result ≡ field_fault (given_of self.now) field }
     {
         if let Some(value) = self.variable(field) {
             if !text_fits(field.kind(), value) {
@@ -180,7 +180,7 @@ impl<'a> Given<'a> {
 
     // Returns the fault of a part whose key holds a value that is not a table.
     fn table_fault(&self, part: Part) -> Option<Fault>
-        ensures { result ≡ table_fault (given_view self.now) part }
+        ensures { result ≡ table_fault (given_of self.now) part }
     {
         match self.table_at(Some(part.key())) {
             Some(value) if !value.is_table() => Some(Fault::Table(part)),
@@ -194,24 +194,24 @@ fn text_fits(kind: Kind, value: &str) -> bool
     ensures { result ≡ text_fits kind value.now }
 {
     match kind {
-        Kind::Whole(greatest) => number_text(greatest, value).is_some(),
-        Kind::When => when_spelled(Spelling::AnyCase, value).is_some(),
-        Kind::Set => set_spelled(Spelling::AnyCase, value).is_some(),
+        Kind::Whole(greatest) => parse_number(greatest, value).is_some(),
+        Kind::When => parse_when(Spelling::AnyCase, value).is_some(),
+        Kind::Set => parse_set(Spelling::AnyCase, value).is_some(),
         Kind::Text | Kind::Color => true,
-        Kind::Flag => flag_text(value).is_some(),
+        Kind::Flag => parse_flag(value).is_some(),
     }
 }
 
 // Whether fields of a kind accept this value of a file.
-fn node_fits(kind: Kind, value: Node<'_>) -> bool
-    ensures { result ≡ node_fits kind (node_view value.entry) }
+fn node_fits(kind: Kind, value: FileNode<'_>) -> bool
+    ensures { result ≡ node_fits kind (node_of value.entry) }
 {
     match kind {
-        Kind::Whole(greatest) => value.whole(greatest).is_some(),
-        Kind::When => value.when().is_some(),
+        Kind::Whole(greatest) => value.as_whole(greatest).is_some(),
+        Kind::When => value.as_when().is_some(),
         Kind::Set => set_node(value).is_some(),
-        Kind::Text => value.text().is_some(),
+        Kind::Text => value.as_text().is_some(),
         Kind::Color => value.is_null() || value.is_color(),
-        Kind::Flag => value.flag().is_some(),
+        Kind::Flag => value.as_flag().is_some(),
     }
 }

@@ -1,6 +1,6 @@
 //! Finds line feeds.
 ghost use Rattle.std.specs.Prelude.{◌≡◌, ◌≢◌, ℕ, length, slice_index, ◌≤◌, ◌<◌, ◌+◌};
-ghost use Rattle.ptree.specs.Text.{line_feed};
+ghost use Rattle.ptree.specs.Texts.{line_feed};
 
 use std::simd::prelude::*;
 

@@ -1,6 +1,6 @@
 //! Colours.
 ghost use Rattle.std.specs.Prelude.{◌≡◌, ◌↔◌, IfOk, IsTrue};
-ghost use Rattle.ptree.specs.Color.{color_value};
+ghost use Rattle.ptree.specs.Color.{color_of};
 ghost use Rattle.ptree.specs.declared.style.color.Color.{Color};
 
 use std::alloc::AllocError;
@@ -70,7 +70,7 @@ impl PartialEq for Color {
 
     fn eq(&self, other: &Color) -> bool
         ensures value { result ≡ same_color self.now other.now }
-        ensures equality { IsTrue result ↔ (color_value self.now ≡ color_value other.now) }
+        ensures equality { IsTrue result ↔ (color_of self.now ≡ color_of other.now) }
     {
         match (self, other) {
             (Color::Fixed(m), Color::Fixed(n)) => m == n,
@@ -109,7 +109,7 @@ impl Color {
     ///
     /// Memory ran out.
     pub fn clone(&self) -> Result<Color, AllocError>
-        ensures { IfOk result (λ color. color_value color ≡ color_value self.now) }
+        ensures { IfOk result (λ color. color_of color ≡ color_of self.now) }
     {
         Ok(match self {
             Color::Black => Color::Black,

@@ -2,7 +2,7 @@
 ghost use Rattle.std.specs.Io.{ReadsAtMost};
 ghost use Rattle.std.specs.Io.KnownBytes.{WriteAppends, ReadConsumes};
 ghost use Rattle.std.specs.Prelude.{◌≡◌, ◌≢◌, ℕ, ◌+◌, ◌≤◌, List, [], IfOk, IsOk, OnOk, OnErr, Option, length};
-ghost use Rattle.ptree.specs.Counted.{fault_count, inner_value};
+ghost use Rattle.ptree.specs.Counted.{fault_count, inner_of};
 ghost use Rattle.ptree.specs.Writing.{IsWritten, put_faults, get_faults, HasCause, HasErrorCause, TakesNoMemory};
 ghost use Rattle.ptree.specs.declared.style.DrawError.TheVariants.{Memory};
 
@@ -60,7 +60,7 @@ impl<T> Counted<T> {
     /// Wraps a writer or a reader, with a fault count of 0.
     pub fn new(inner: T) -> Counted<T>
         ensures faults { fault_count result ≡ 0 }
-        ensures inner { inner_value result ≡ inner }
+        ensures inner { inner_of result ≡ inner }
     {
         Counted {
             inner,
@@ -70,7 +70,7 @@ impl<T> Counted<T> {
 
     /// Returns the writer or reader.
     pub fn into_inner(self) -> T
-        ensures { result ≡ inner_value self }
+        ensures { result ≡ inner_of self }
     {
         let Counted { inner, faults: _ } = self;
         inner
@@ -78,9 +78,9 @@ impl<T> Counted<T> {
 }
 
 impl<T: io::Write> Sink for Counted<T> {
-    ghost use Rattle.ptree.specs.Counted.{fault_count, inner_value};
+    ghost use Rattle.ptree.specs.Counted.{fault_count, inner_of};
 
-    ghost contents = { λ c. T.contents (inner_value c) };
+    ghost contents = { λ c. T.contents (inner_of c) };
 
     ghost faults = { fault_count };
 
@@ -105,9 +105,9 @@ impl<T: io::IsTerminal> io::IsTerminal for Counted<T> {
 }
 
 impl<T: io::Read> Feed for Counted<T> {
-    ghost use Rattle.ptree.specs.Counted.{fault_count, inner_value};
+    ghost use Rattle.ptree.specs.Counted.{fault_count, inner_of};
 
-    ghost remaining = { λ c. T.remaining (inner_value c) };
+    ghost remaining = { λ c. T.remaining (inner_of c) };
 
     ghost faults = { fault_count };
 

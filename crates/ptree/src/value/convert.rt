@@ -1,7 +1,7 @@
 //! What both conversions share: making an entry, and why a document's value cannot be converted.
 ghost use Rattle.std.specs.Prelude.{◌≡◌, [], ◌∷◌, ◌++◌, map, OnOk};
 ghost use Rattle.ptree.specs.Data.{string};
-ghost use Rattle.ptree.specs.Value.{data_of, entry_meant};
+ghost use Rattle.ptree.specs.Value.{data_of, entry_of};
 
 use super::Value;
 use std::alloc::{AllocError, AllocFailed, Global};
@@ -64,8 +64,8 @@ pub(super) fn push_entry(
     key: &str,
     value: Value,
 ) -> Result<(), AllocError>
-    ensures { OnOk result (map entry_meant entries.new.items
-        ≡ map entry_meant entries.old.items
+    ensures { OnOk result (map entry_of entries.new.items
+        ≡ map entry_of entries.old.items
         ++ (string key.now, data_of value) ∷ []) }
 {
     entries.push((Value::String(String::from_str(alloc, key)?), value))?;

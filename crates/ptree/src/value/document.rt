@@ -2,15 +2,15 @@
 ghost use Rattle.std.specs.Prelude.{◌≡◌, Ok, Err, IfOk, IfErr, IsOk, IsErrAnd, IsErrOf};
 ghost use Rattle.ptree.specs.Data.{Data, KeysAscend, pair_shape};
 ghost use Rattle.ptree.specs.Document.{document, document_error, IsRefusal, HasDocumentCause};
-ghost use Rattle.ptree.specs.Drawing.{look_by, look_of};
-ghost use Rattle.ptree.specs.Loading.{meant_by};
-ghost use Rattle.ptree.specs.Parts.{parsed_data};
+ghost use Rattle.ptree.specs.Drawing.{look_by, config_look};
+ghost use Rattle.ptree.specs.Loading.{effective_config};
+ghost use Rattle.ptree.specs.Parts.{parsed_of};
 ghost use Rattle.ptree.specs.Writing.{IsDrawn, AppendsWholeEntries};
 
 use super::ConvertError;
 use super::from_json::has_float;
 use super::from_toml::fault_of;
-use super::node::Node;
+use super::node::DocumentNode;
 use super::part::Parsed;
 use crate::output::print_tree_with;
 use crate::print_config::{OutputKind, PrintConfig, Sources};
@@ -126,16 +126,16 @@ pub fn draw_document<W: Sink>(
     ensures refused { IfErr (document format text.now) (λ _.
         IsErrAnd result (IsRefusal (document format text.now)) × (out.new ≡ out.old)) }
     // Any other document is drawn under the configuration of the sources.
-    ensures bytes { let meant = meant_by sources.now in
+    ensures bytes { let effective = effective_config sources.now in
         IfOk (document format text.now)
-        (λ v. IsDrawn (look_by meant OutputKind.Stdout terminal) (pair_shape (label.now, v))
-        meant.depth (W.contents out.old) (W.contents out.new) result) }
+        (λ v. IsDrawn (look_by effective OutputKind.Stdout terminal) (pair_shape (label.now, v))
+        effective.depth (W.contents out.old) (W.contents out.new) result) }
     ensures keys { (v : Data) → document format text.now ≡ Ok v → IsOk result → KeysAscend v }
     // If memory ran out, whole entries were appended.
-    ensures whole { let meant = meant_by sources.now in
+    ensures whole { let effective = effective_config sources.now in
         IfOk (document format text.now) (λ v. IsErrOf result (DocError.Draw DrawError.Memory) →
-        AppendsWholeEntries (look_by meant OutputKind.Stdout terminal)
-        (pair_shape (label.now, v)) meant.depth (W.contents out.old) (W.contents out.new)) }
+        AppendsWholeEntries (look_by effective OutputKind.Stdout terminal)
+        (pair_shape (label.now, v)) effective.depth (W.contents out.old) (W.contents out.new)) }
     ensures cause { HasDocumentCause (W.faults out.old) (W.faults out.new) result }
 {
     let config = PrintConfig::from_env(alloc, sources)?;
@@ -174,7 +174,7 @@ pub fn draw_document_with<W: Sink>(
         (λ _. IsErrAnd result (IsRefusal (document format text.now)) × (out.new ≡ out.old)) }
     // Any other document is drawn.
     ensures bytes { IfOk (document format text.now)
-        (λ v. IsDrawn (look_of config.now OutputKind.Stdout terminal) (pair_shape (label.now, v))
+        (λ v. IsDrawn (config_look config.now OutputKind.Stdout terminal) (pair_shape (label.now, v))
         config.now.depth (W.contents out.old) (W.contents out.new) result) }
     // In each table of a document that was drawn completely, the keys ascend, and none occurs
     // twice.
@@ -182,31 +182,37 @@ pub fn draw_document_with<W: Sink>(
     // If memory ran out, whole entries were appended.
     ensures whole { IfOk (document format text.now) (λ v.
         IsErrOf result (DocError.Draw DrawError.Memory) →
-        AppendsWholeEntries (look_of config.now OutputKind.Stdout terminal)
+        AppendsWholeEntries (config_look config.now OutputKind.Stdout terminal)
         (pair_shape (label.now, v)) config.now.depth (W.contents out.old)
         (W.contents out.new)) }
     ensures cause { HasDocumentCause (W.faults out.old) (W.faults out.new) result }
 {
-    let parsed = read_document(alloc, format, text)?;
-    print_tree_with(alloc, &Node::root(label, &parsed), out, terminal, config)?;
+    let parsed = parse_document(alloc, format, text)?;
+    print_tree_with(
+        alloc,
+        &DocumentNode::root(label, &parsed),
+        out,
+        terminal,
+        config,
+    )?;
     Ok(())
 }
 
 // Reads a text, and returns the document without floats and dates.
-fn read_document(alloc: Global, format: DocFormat, text: &str) -> Result<Parsed, DocError>
-    ensures value { IfOk result (λ p. document format text.now ≡ Ok (parsed_data p)) }
-    ensures keys { IfOk result (λ p. KeysAscend (parsed_data p)) }
+fn parse_document(alloc: Global, format: DocFormat, text: &str) -> Result<Parsed, DocError>
+    ensures value { IfOk result (λ p. document format text.now ≡ Ok (parsed_of p)) }
+    ensures keys { IfOk result (λ p. KeysAscend (parsed_of p)) }
     ensures refused { IfErr result (IsRefusal (document format text.now)) }
 {
     match format {
-        DocFormat::Toml => read_toml(alloc, text),
-        DocFormat::Json => read_json(alloc, text),
+        DocFormat::Toml => parse_toml_document(alloc, text),
+        DocFormat::Json => parse_json_document(alloc, text),
     }
 }
 
-fn read_json(alloc: Global, text: &str) -> Result<Parsed, DocError>
-    ensures value { IfOk result (λ p. document DocFormat.Json text.now ≡ Ok (parsed_data p)) }
-    ensures keys { IfOk result (λ p. KeysAscend (parsed_data p)) }
+fn parse_json_document(alloc: Global, text: &str) -> Result<Parsed, DocError>
+    ensures value { IfOk result (λ p. document DocFormat.Json text.now ≡ Ok (parsed_of p)) }
+    ensures keys { IfOk result (λ p. KeysAscend (parsed_of p)) }
     ensures refused { IfErr result (IsRefusal (document DocFormat.Json text.now)) }
 {
     match serde_json::Value::from_str(alloc, text) {
@@ -221,9 +227,9 @@ fn read_json(alloc: Global, text: &str) -> Result<Parsed, DocError>
     }
 }
 
-fn read_toml(alloc: Global, text: &str) -> Result<Parsed, DocError>
-    ensures value { IfOk result (λ p. document DocFormat.Toml text.now ≡ Ok (parsed_data p)) }
-    ensures keys { IfOk result (λ p. KeysAscend (parsed_data p)) }
+fn parse_toml_document(alloc: Global, text: &str) -> Result<Parsed, DocError>
+    ensures value { IfOk result (λ p. document DocFormat.Toml text.now ≡ Ok (parsed_of p)) }
+    ensures keys { IfOk result (λ p. KeysAscend (parsed_of p)) }
     ensures refused { IfErr result (IsRefusal (document DocFormat.Toml text.now)) }
 {
     match toml::table_from_str(alloc, text) {

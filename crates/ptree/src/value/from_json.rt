@@ -4,7 +4,7 @@ ghost use Rattle.serde_json.specs.Written.{has_float, items_have_float, members_
 ghost use Rattle.std.specs.Prelude.{◌≡◌, ◌↔◌, false, Ok, Err, IfOk, IsErrOf};
 ghost use Rattle.ptree.specs.Convert.{json_data, json_items, json_entries, json_conversion};
 ghost use Rattle.ptree.specs.Data.{KeysAscend, ItemsAscend, map};
-ghost use Rattle.ptree.specs.Value.{data_of, items_meant, entries_meant};
+ghost use Rattle.ptree.specs.Value.{data_of, items_of, entries_of};
 
 use super::convert::push_entry;
 use super::{ConvertError, Value};
@@ -30,7 +30,7 @@ impl Value {
         if has_float(v) {
             return Err(ConvertError::Float);
         }
-        Ok(value_of(alloc, v)?)
+        Ok(convert_value(alloc, v)?)
     }
 }
 
@@ -80,7 +80,7 @@ fn members_have_float(members: &Map<String, serde_json::Value>) -> bool
 
 // Converts a value without floats.
 #[cycle(convert)]
-fn value_of(alloc: Global, v: &serde_json::Value) -> Result<Value, AllocError>
+fn convert_value(alloc: Global, v: &serde_json::Value) -> Result<Value, AllocError>
     requires { has_float (view v.now) ≡ false }
     ensures { IfOk result (λ value. data_of value ≡ json_data (view v.now)) }
 {
@@ -97,36 +97,41 @@ fn value_of(alloc: Global, v: &serde_json::Value) -> Result<Value, AllocError>
             unreachable!()
         }
         serde_json::Value::String(text) => Ok(Value::String(text.clone()?)),
-        serde_json::Value::Array(items) => Ok(Value::Seq(values_of(alloc, items)?)),
-        serde_json::Value::Object(members) => Ok(Value::Map(entries_of(alloc, members)?)),
+        serde_json::Value::Array(items) => Ok(Value::Seq(convert_values(alloc, items)?)),
+        serde_json::Value::Object(members) => Ok(Value::Map(convert_entries(alloc, members)?)),
     }
 }
 
 #[cycle(convert)]
-fn values_of(alloc: Global, items: &Vec<serde_json::Value>) -> Result<Vec<Value>, AllocError>
+fn convert_values(alloc: Global, items: &Vec<serde_json::Value>) -> Result<Vec<Value>, AllocError>
     requires { items_have_float (items_view items.now.items) ≡ false }
     ensures { IfOk result (λ values.
-        items_meant values.items ≡ json_items (items_view items.now.items)) }
+        items_of values.items ≡ json_items (items_view items.now.items)) }
 {
     let mut values = Vec::with_capacity(alloc, items.len())?;
     for item in items {
-        values.push(value_of(alloc, item)?)?;
+        values.push(convert_value(alloc, item)?)?;
     }
     Ok(values)
 }
 
 #[cycle(convert)]
-fn entries_of(
+fn convert_entries(
     alloc: Global,
     members: &Map<String, serde_json::Value>,
 ) -> Result<Vec<(Value, Value)>, AllocError>
     requires { members_have_float (members_view members.now.entries) ≡ false }
     ensures { IfOk result (λ entries.
-        entries_meant entries.items ≡ json_entries (members_view members.now.entries)) }
+        entries_of entries.items ≡ json_entries (members_view members.now.entries)) }
 {
     let mut entries = Vec::with_capacity(alloc, members.len())?;
     for (key, member) in members.iter() {
-        push_entry(alloc, &mut entries, key.as_str(), value_of(alloc, member)?)?;
+        push_entry(
+            alloc,
+            &mut entries,
+            key.as_str(),
+            convert_value(alloc, member)?,
+        )?;
     }
     Ok(entries)
 }

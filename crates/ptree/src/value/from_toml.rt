@@ -3,7 +3,7 @@ ghost use Rattle.toml.specs.View.{view, items_view, members_view};
 ghost use Rattle.std.specs.Prelude.{◌≡◌, ◌↔◌, None, Ok, Err, IfOk, IsErrOf};
 ghost use Rattle.ptree.specs.Convert.{toml_fault, toml_item_fault, toml_member_fault, toml_data, toml_items, toml_entries, toml_conversion};
 ghost use Rattle.ptree.specs.Data.{KeysAscend, ItemsAscend, map};
-ghost use Rattle.ptree.specs.Value.{data_of, items_meant, entries_meant};
+ghost use Rattle.ptree.specs.Value.{data_of, items_of, entries_of};
 
 use super::convert::push_entry;
 use super::{ConvertError, Value};
@@ -30,7 +30,7 @@ impl Value {
         if let Some(fault) = fault_of(v) {
             return Err(fault);
         }
-        Ok(value_of(alloc, v)?)
+        Ok(convert_value(alloc, v)?)
     }
 }
 
@@ -81,7 +81,7 @@ fn fault_of_members(members: &Table) -> Option<ConvertError>
 
 // Converts a value without floats and dates.
 #[cycle(convert)]
-fn value_of(alloc: Global, v: &toml::Value) -> Result<Value, AllocError>
+fn convert_value(alloc: Global, v: &toml::Value) -> Result<Value, AllocError>
     requires { toml_fault (view v.now) ≡ None }
     ensures { IfOk result (λ value. data_of value ≡ toml_data (view v.now)) }
 {
@@ -91,33 +91,38 @@ fn value_of(alloc: Global, v: &toml::Value) -> Result<Value, AllocError>
         toml::Value::Float(_) => unreachable!(),
         toml::Value::Boolean(b) => Ok(Value::Bool(*b)),
         toml::Value::Datetime(_) => unreachable!(),
-        toml::Value::Array(items) => Ok(Value::Seq(values_of(alloc, items)?)),
-        toml::Value::Table(members) => Ok(Value::Map(entries_of(alloc, members)?)),
+        toml::Value::Array(items) => Ok(Value::Seq(convert_values(alloc, items)?)),
+        toml::Value::Table(members) => Ok(Value::Map(convert_entries(alloc, members)?)),
     }
 }
 
 #[cycle(convert)]
-fn values_of(alloc: Global, items: &Vec<toml::Value>) -> Result<Vec<Value>, AllocError>
+fn convert_values(alloc: Global, items: &Vec<toml::Value>) -> Result<Vec<Value>, AllocError>
     requires { toml_item_fault (items_view items.now.items) ≡ None }
     ensures { IfOk result (λ values.
-        items_meant values.items ≡ toml_items (items_view items.now.items)) }
+        items_of values.items ≡ toml_items (items_view items.now.items)) }
 {
     let mut values = Vec::with_capacity(alloc, items.len())?;
     for item in items {
-        values.push(value_of(alloc, item)?)?;
+        values.push(convert_value(alloc, item)?)?;
     }
     Ok(values)
 }
 
 #[cycle(convert)]
-fn entries_of(alloc: Global, members: &Table) -> Result<Vec<(Value, Value)>, AllocError>
+fn convert_entries(alloc: Global, members: &Table) -> Result<Vec<(Value, Value)>, AllocError>
     requires { toml_member_fault (members_view members.now.entries) ≡ None }
     ensures { IfOk result (λ entries.
-        entries_meant entries.items ≡ toml_entries (members_view members.now.entries)) }
+        entries_of entries.items ≡ toml_entries (members_view members.now.entries)) }
 {
     let mut entries = Vec::with_capacity(alloc, members.len())?;
     for (key, member) in members.iter() {
-        push_entry(alloc, &mut entries, key.as_str(), value_of(alloc, member)?)?;
+        push_entry(
+            alloc,
+            &mut entries,
+            key.as_str(),
+            convert_value(alloc, member)?,
+        )?;
     }
     Ok(entries)
 }

@@ -4,11 +4,11 @@ ghost use Rattle.std.specs.Prelude.{◌≡◌, ◌++◌, [], codes, map, IfOk};
 ghost use Rattle.toml.specs.View as toml;
 ghost use Rattle.ptree.specs.Convert.{json_items, json_entries, toml_items, toml_entries};
 ghost use Rattle.ptree.specs.Data.{item_pairs, entry_pairs, value_pairs, pair_shape};
-ghost use Rattle.ptree.specs.Parts.{part_data, pair_of_node, parsed_data};
-ghost use Rattle.ptree.specs.Style.{style_value, painted_text};
+ghost use Rattle.ptree.specs.Parts.{part_of, node_pair_of, parsed_of};
+ghost use Rattle.ptree.specs.Style.{style_of, painted_text};
 ghost use Rattle.ptree.specs.Writing.{IsWritten, HasCause, TakesNoMemory};
 
-use super::part::{Parsed, Part};
+use super::part::{Parsed, ParsedPart};
 use super::text::ROOM;
 use crate::codes::Codes;
 use crate::item::{Children, Shaped, TreeItem};
@@ -19,50 +19,50 @@ use toml::Table;
 
 /// A value in its place in a document, with its label or its key.
 #[derive(Clone, Copy)]
-pub(crate) enum Node<'a> {
+pub(crate) enum DocumentNode<'a> {
     /// A value under a label, which is empty if there is none.
-    Labelled(&'a str, Part<'a>),
+    Labelled(&'a str, ParsedPart<'a>),
 
     /// A key of a table and its value.
-    Entry(&'a str, Part<'a>),
+    Entry(&'a str, ParsedPart<'a>),
 }
 
-impl<'a> Node<'a> {
+impl<'a> DocumentNode<'a> {
     /// Returns the root of a document's drawing.
-    pub(crate) fn root(label: &'a str, parsed: &'a Parsed) -> Node<'a>
-        ensures { pair_of_node result ≡ (label.now, parsed_data parsed.now) }
+    pub(crate) fn root(label: &'a str, parsed: &'a Parsed) -> DocumentNode<'a>
+        ensures { node_pair_of result ≡ (label.now, parsed_of parsed.now) }
     {
         match parsed {
-            Parsed::Json(v) => Node::Labelled(label, Part::Json(v)),
-            Parsed::Toml(v) => Node::Labelled(label, Part::Toml(v)),
+            Parsed::Json(v) => DocumentNode::Labelled(label, ParsedPart::Json(v)),
+            Parsed::Toml(v) => DocumentNode::Labelled(label, ParsedPart::Toml(v)),
         }
     }
 }
 
-impl Shaped for Node<'_> {
-    ghost shape = { λ n. pair_shape (pair_of_node n) };
+impl Shaped for DocumentNode<'_> {
+    ghost shape = { λ n. pair_shape (node_pair_of n) };
 }
 
-impl<'a> TreeItem for Node<'a> {
-    type Child = Node<'a>;
+impl<'a> TreeItem for DocumentNode<'a> {
+    type Child = DocumentNode<'a>;
 
     /// Writes the text painted. It does not allocate.
     fn write_self<W: Sink>(&self, _alloc: Global, f: &mut W, style: &Style) -> Result<(), DrawError>
         ensures bytes { IsWritten (W.contents f.old) (W.contents f.new) result
-            ((pair_shape (pair_of_node self.now)).own [] (style_value style.now)) }
+            ((pair_shape (node_pair_of self.now)).own [] (style_of style.now)) }
         ensures cause { HasCause (W.faults f.old) (W.faults f.new) result }
         ensures memory { TakesNoMemory result }
     {
         let mut room = [0; ROOM];
         match self {
-            Node::Labelled(label, part) => {
+            DocumentNode::Labelled(label, part) => {
                 if label.is_empty() {
                     style.write_painted(f, part.text(&mut room))
                 } else {
                     style.write_painted(f, label)
                 }
             }
-            Node::Entry(key, part) => {
+            DocumentNode::Entry(key, part) => {
                 if part.is_list() {
                     style.write_painted(f, key)
                 } else {
@@ -73,25 +73,25 @@ impl<'a> TreeItem for Node<'a> {
     }
 
     /// Makes a node of each element of a list, and of each entry of a table.
-    fn children(&self, alloc: Global) -> Result<Children<'_, Node<'a>>, AllocError> {
+    fn children(&self, alloc: Global) -> Result<Children<'_, DocumentNode<'a>>, AllocError> {
         let nodes = match self {
-            Node::Labelled(_, part) => nodes_of(alloc, part)?,
-            Node::Entry(_, part) => nodes_of(alloc, part)?,
+            DocumentNode::Labelled(_, part) => nodes_of(alloc, part)?,
+            DocumentNode::Entry(_, part) => nodes_of(alloc, part)?,
         };
         Ok(Children::Made(nodes))
     }
 }
 
 // Makes a node of each child of a value.
-fn nodes_of<'a>(alloc: Global, part: &Part<'a>) -> Result<Vec<Node<'a>>, AllocError>
+fn nodes_of<'a>(alloc: Global, part: &ParsedPart<'a>) -> Result<Vec<DocumentNode<'a>>, AllocError>
     ensures { IfOk result (λ nodes.
-        map pair_of_node nodes.items ≡ value_pairs (part_data part.now)) }
+        map node_pair_of nodes.items ≡ value_pairs (part_of part.now)) }
 {
     match part {
-        Part::Json(serde_json::Value::Array(items)) => json_items(alloc, items),
-        Part::Json(serde_json::Value::Object(members)) => json_members(alloc, members),
-        Part::Toml(toml::Value::Array(items)) => toml_items(alloc, items),
-        Part::Toml(toml::Value::Table(members)) => toml_members(alloc, members),
+        ParsedPart::Json(serde_json::Value::Array(items)) => json_items(alloc, items),
+        ParsedPart::Json(serde_json::Value::Object(members)) => json_members(alloc, members),
+        ParsedPart::Toml(toml::Value::Array(items)) => toml_items(alloc, items),
+        ParsedPart::Toml(toml::Value::Table(members)) => toml_members(alloc, members),
         _ => Ok(Vec::new(alloc)),
     }
 }
@@ -100,13 +100,13 @@ fn nodes_of<'a>(alloc: Global, part: &Part<'a>) -> Result<Vec<Node<'a>>, AllocEr
 fn json_items<'a>(
     alloc: Global,
     items: &'a Vec<serde_json::Value>,
-) -> Result<Vec<Node<'a>>, AllocError>
+) -> Result<Vec<DocumentNode<'a>>, AllocError>
     ensures { IfOk result (λ nodes.
-        map pair_of_node nodes.items ≡ item_pairs (json_items (json.items_view items.now.items))) }
+        map node_pair_of nodes.items ≡ item_pairs (json_items (json.items_view items.now.items))) }
 {
     let mut nodes = Vec::with_capacity(alloc, items.len())?;
     for item in items {
-        nodes.push(Node::Labelled("", Part::Json(item)))?;
+        nodes.push(DocumentNode::Labelled("", ParsedPart::Json(item)))?;
     }
     Ok(nodes)
 }
@@ -115,39 +115,42 @@ fn json_items<'a>(
 fn json_members<'a>(
     alloc: Global,
     members: &'a Map<String, serde_json::Value>,
-) -> Result<Vec<Node<'a>>, AllocError>
+) -> Result<Vec<DocumentNode<'a>>, AllocError>
     ensures { IfOk result (λ nodes.
-        map pair_of_node nodes.items
+        map node_pair_of nodes.items
         ≡ entry_pairs (json_entries (json.members_view members.now.entries))) }
 {
     let mut nodes = Vec::with_capacity(alloc, members.len())?;
     for (key, member) in members.iter() {
-        nodes.push(Node::Entry(key.as_str(), Part::Json(member)))?;
+        nodes.push(DocumentNode::Entry(key.as_str(), ParsedPart::Json(member)))?;
     }
     Ok(nodes)
 }
 
 // Makes a node of each element of an array.
-fn toml_items<'a>(alloc: Global, items: &'a Vec<toml::Value>) -> Result<Vec<Node<'a>>, AllocError>
+fn toml_items<'a>(
+    alloc: Global,
+    items: &'a Vec<toml::Value>,
+) -> Result<Vec<DocumentNode<'a>>, AllocError>
     ensures { IfOk result (λ nodes.
-        map pair_of_node nodes.items ≡ item_pairs (toml_items (toml.items_view items.now.items))) }
+        map node_pair_of nodes.items ≡ item_pairs (toml_items (toml.items_view items.now.items))) }
 {
     let mut nodes = Vec::with_capacity(alloc, items.len())?;
     for item in items {
-        nodes.push(Node::Labelled("", Part::Toml(item)))?;
+        nodes.push(DocumentNode::Labelled("", ParsedPart::Toml(item)))?;
     }
     Ok(nodes)
 }
 
 // Makes a node of each entry of a table.
-fn toml_members<'a>(alloc: Global, members: &'a Table) -> Result<Vec<Node<'a>>, AllocError>
+fn toml_members<'a>(alloc: Global, members: &'a Table) -> Result<Vec<DocumentNode<'a>>, AllocError>
     ensures { IfOk result (λ nodes.
-        map pair_of_node nodes.items
+        map node_pair_of nodes.items
         ≡ entry_pairs (toml_entries (toml.members_view members.now.entries))) }
 {
     let mut nodes = Vec::with_capacity(alloc, members.len())?;
     for (key, member) in members.iter() {
-        nodes.push(Node::Entry(key.as_str(), Part::Toml(member)))?;
+        nodes.push(DocumentNode::Entry(key.as_str(), ParsedPart::Toml(member)))?;
     }
     Ok(nodes)
 }
@@ -155,7 +158,7 @@ fn toml_members<'a>(alloc: Global, members: &'a Table) -> Result<Vec<Node<'a>>, 
 // Writes `key = value` painted.
 fn write_entry<W: Sink>(f: &mut W, style: &Style, key: &str, value: &str) -> Result<(), DrawError>
     ensures bytes { IsWritten (W.contents f.old) (W.contents f.new) result
-        (painted_text (style_value style.now) (key.now ++ codes " = " ++ value.now)) }
+        (painted_text (style_of style.now) (key.now ++ codes " = " ++ value.now)) }
     ensures cause { HasCause (W.faults f.old) (W.faults f.new) result }
     ensures memory { TakesNoMemory result }
 {

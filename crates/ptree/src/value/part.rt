@@ -4,7 +4,7 @@ ghost use Rattle.std.specs.Prelude.{◌≡◌};
 ghost use Rattle.toml.specs.View.{view as toml_view};
 ghost use Rattle.ptree.specs.Convert.{json_data, toml_data};
 ghost use Rattle.ptree.specs.Data.{is_list, value_text};
-ghost use Rattle.ptree.specs.Parts.{part_data};
+ghost use Rattle.ptree.specs.Parts.{part_of};
 
 use super::text::{ROOM, signed, unsigned};
 
@@ -20,7 +20,7 @@ pub(crate) enum Parsed {
 
 /// A value in its place in a parsed document.
 #[derive(Clone, Copy)]
-pub(crate) enum Part<'a> {
+pub(crate) enum ParsedPart<'a> {
     /// A value of a JSON document.
     Json(&'a serde_json::Value),
 
@@ -28,25 +28,25 @@ pub(crate) enum Part<'a> {
     Toml(&'a toml::Value),
 }
 
-impl Part<'_> {
+impl ParsedPart<'_> {
     /// Returns the value's text: one that it holds, or one that is made in `room`.
     pub(crate) fn text<'a>(&'a self, room: &'a mut [u8; ROOM]) -> &'a str
-        ensures { result.now ≡ value_text (part_data self.now) }
+        ensures { result.now ≡ value_text (part_of self.now) }
     {
         match self {
-            Part::Json(v) => json_text(v, room),
-            Part::Toml(v) => toml_text(v, room),
+            ParsedPart::Json(v) => json_text(v, room),
+            ParsedPart::Toml(v) => toml_text(v, room),
         }
     }
 
     /// Whether the value is a list or a table.
     pub(crate) fn is_list(&self) -> bool
-        ensures { result ≡ is_list (part_data self.now) }
+        ensures { result ≡ is_list (part_of self.now) }
     {
         matches!(
             self,
-            Part::Json(serde_json::Value::Array(_) | serde_json::Value::Object(_))
-                | Part::Toml(toml::Value::Array(_) | toml::Value::Table(_))
+            ParsedPart::Json(serde_json::Value::Array(_) | serde_json::Value::Object(_))
+                | ParsedPart::Toml(toml::Value::Array(_) | toml::Value::Table(_))
         )
     }
 }

@@ -4,7 +4,7 @@ use Rattle.ptree.specs.Writing.{IsDrawn}
 use Rattle.ptree_cli.specs.Command as asked
 use Rattle.ptree_cli.specs.Redraw.{plus_look}
 use Rattle.ptree_cli.specs.Run.{ending_faults, EndsWith}
-use Rattle.ptree_cli.proofs.Endings.{told_ending}
+use Rattle.ptree_cli.proofs.Endings.{reported_ending}
 use Rattle.ptree_cli.proofs.Redraws.{redrawn_end}
 use Rattle.ptree_cli.proofs.redraw.draw_plus.Goals as goal
 
@@ -22,4 +22,4 @@ returns-clause-ends g c = λ sources text before after reads read terminal.
 
 pub returns-clause-cause : goal.returns-clause-cause
 returns-clause-cause g c =
-    c.write_tree_with.ensures.cause ∙ ap (λ n. g.W.Sink.faults c.args.out.now + n) (told_ending c.write_tree_with.result ∙ ap ending_faults (sym c.of_drawing.ensures))
+    c.write_tree_with.ensures.cause ∙ ap (λ n. g.W.Sink.faults c.args.out.now + n) (reported_ending c.write_tree_with.result ∙ ap ending_faults (sym c.of_drawing.ensures))

@@ -2,7 +2,7 @@ use Rattle.std.proofs.Common.{◌∷◌, [], Bool, List, length, ap, ◌∙◌, 
 use Rattle.ptree.specs.declared.graph.places.Place.{Place}
 use Rattle.ptree.specs.Graph.{weights_of, edges_of, neighbors_of}
 use Rattle.ptree.specs.Growing.{grow, all_flags, AppendsPlaces}
-use Rattle.ptree.specs.Occurrence.{OccurrenceTree, tree_at_front}
+use Rattle.ptree.specs.Occurrence.{OccurrenceTree, first_tree}
 use Rattle.ptree.proofs.Firsts.{expands_first, leaves_unrepeated}
 use Rattle.ptree.proofs.Growth.{no_flags, made_is_drawn, graph_has_one, made_has_size}
 use Rattle.ptree.proofs.Places.{tree_of_places}
@@ -22,14 +22,14 @@ returns-clause-tree g c =
     let flags : List Bool → List Bool = all_flags (length (weights_of graph)) in
     let pushed : AppendsPlaces c.new-places.result.items places (made (flags c.new-seen.result.items) ∷ []) = search c.in_ok-push_places.ensures.places in
     let appended = subst (λ (xs : List Place). AppendsPlaces xs places (made (flags c.new-seen.result.items) ∷ [])) c.new-places.ensures.items pushed in
-    made_is_drawn graph c.args.start.0 c.args.depth (tree_at_front places)
+    made_is_drawn graph c.args.start.0 c.args.depth (first_tree places)
     (tree_of_places places (made (flags c.new-seen.result.items)) appended ∙ ap made (ap flags c.new-seen.ensures.items ∙ no_flags graph))
 
 pub returns-clause-size : goal.returns-clause-size
-returns-clause-size g c = made_has_size c.args.self.now c.args.start.0 c.args.depth (tree_at_front c.push_places.new.places.items) (returns-clause-tree g c)
+returns-clause-size g c = made_has_size c.args.self.now c.args.start.0 c.args.depth (first_tree c.push_places.new.places.items) (returns-clause-tree g c)
 
 pub returns-clause-first : goal.returns-clause-first
-returns-clause-first g c = expands_first (neighbors_of (edges_of c.args.self.now)) c.args.start.0 c.args.depth (tree_at_front c.push_places.new.places.items) (returns-clause-tree g c)
+returns-clause-first g c = expands_first (neighbors_of (edges_of c.args.self.now)) c.args.start.0 c.args.depth (first_tree c.push_places.new.places.items) (returns-clause-tree g c)
 
 pub returns-clause-leaf : goal.returns-clause-leaf
-returns-clause-leaf g c = leaves_unrepeated (neighbors_of (edges_of c.args.self.now)) c.args.start.0 c.args.depth (tree_at_front c.push_places.new.places.items) (returns-clause-tree g c)
+returns-clause-leaf g c = leaves_unrepeated (neighbors_of (edges_of c.args.self.now)) c.args.start.0 c.args.depth (first_tree c.push_places.new.places.items) (returns-clause-tree g c)

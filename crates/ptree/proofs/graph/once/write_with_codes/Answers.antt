@@ -1,32 +1,32 @@
 use Rattle.std.proofs.Common.{◌∙◌, ap}
-use Rattle.ptree.specs.Style.{style_value, front_codes, back_codes}
-use Rattle.ptree.proofs.Occurrences.{front_part, label_part, mark_part, all_repeated}
+use Rattle.ptree.specs.Style.{style_of, start_codes, end_codes}
+use Rattle.ptree.proofs.Occurrences.{start_part, label_part, mark_part, all_repeated}
 use Rattle.ptree.proofs.Written.{written_err}
 use Rattle.ptree.proofs.graph.once.write_with_codes.Goals as goal
 
 pub returns-in_err-put_all-clause-bytes : goal.returns-in_err-put_all-clause-bytes
 returns-in_err-put_all-clause-bytes g c =
-    let style = style_value c.args.style.now in
+    let style = style_of c.args.style.now in
     written_err _ _ _ _ _ c.from_residual.ensures.1
-    (front_part (front_codes style) (g.N.Label.text c.args.weight.now) c.args.mark.now (back_codes style) _ _ _ (c.as_bytes.ensures ∙ c.of-codes.ensures.front) c.in_err-put_all.ensures.bytes)
+    (start_part (start_codes style) (g.N.Label.text c.args.weight.now) c.args.mark.now (end_codes style) _ _ _ (c.as_bytes.ensures ∙ c.of-codes.ensures.front) c.in_err-put_all.ensures.bytes)
 
 pub returns-in_err-write_label-clause-bytes : goal.returns-in_err-write_label-clause-bytes
 returns-in_err-write_label-clause-bytes g c =
-    let style = style_value c.args.style.now in
+    let style = style_of c.args.style.now in
     written_err _ _ _ _ _ c.from_residual-in_err-write_label.ensures.1
-    (label_part (front_codes style) (g.N.Label.text c.args.weight.now) c.args.mark.now (back_codes style) _ _ _ _ (style_value c.default.result) (ap style_value c.default.ensures)
+    (label_part (start_codes style) (g.N.Label.text c.args.weight.now) c.args.mark.now (end_codes style) _ _ _ _ (style_of c.default.result) (ap style_of c.default.ensures)
     (c.as_bytes.ensures ∙ c.of-codes.ensures.front) c.in_ok-put_all.ensures.bytes c.in_err-write_label.ensures.bytes)
 
 pub returns-in_err-put_all-2-clause-bytes : goal.returns-in_err-put_all-2-clause-bytes
 returns-in_err-put_all-2-clause-bytes g c =
-    let style = style_value c.args.style.now in
+    let style = style_of c.args.style.now in
     written_err _ _ _ _ _ c.from_residual-in_err-put_all-2.ensures.1
-    (mark_part (front_codes style) (g.N.Label.text c.args.weight.now) c.args.mark.now (back_codes style) _ _ _ _ _ _ (style_value c.default.result) (ap style_value c.default.ensures)
+    (mark_part (start_codes style) (g.N.Label.text c.args.weight.now) c.args.mark.now (end_codes style) _ _ _ _ _ _ (style_of c.default.result) (ap style_of c.default.ensures)
     (c.as_bytes.ensures ∙ c.of-codes.ensures.front) c.as_bytes-2.ensures.value c.in_ok-put_all.ensures.bytes c.in_ok-write_label.ensures.bytes c.in_err-put_all-2.ensures.bytes)
 
 pub returns-clause-bytes : goal.returns-clause-bytes
 returns-clause-bytes g c =
-    let style = style_value c.args.style.now in
-    all_repeated (front_codes style) (g.N.Label.text c.args.weight.now) c.args.mark.now (back_codes style) _ _ _ _ _ _ _ _ _ (style_value c.default.result) (ap style_value c.default.ensures)
+    let style = style_of c.args.style.now in
+    all_repeated (start_codes style) (g.N.Label.text c.args.weight.now) c.args.mark.now (end_codes style) _ _ _ _ _ _ _ _ _ (style_of c.default.result) (ap style_of c.default.ensures)
     (c.as_bytes.ensures ∙ c.of-codes.ensures.front) c.as_bytes-2.ensures.value (c.as_bytes-3.ensures.value ∙ (c.reset.ensures ∙ c.of-codes.ensures.back))
     c.in_ok-put_all.ensures.bytes c.in_ok-write_label.ensures.bytes c.in_ok-put_all-2.ensures.bytes c.put_all-3.ensures.bytes

@@ -1,7 +1,7 @@
 use Rattle.std.proofs.lemmas.List.{take_all}
 use Rattle.std.proofs.lemmas.Bool.{false≢true}
 use Rattle.std.proofs.Common.{Some, ◌≡◌, ◌++◌, ◌∙◌, ap, sym, map, take, length, refl, arith, append_assoc}
-use Rattle.ptree.specs.Looks.{look_meant, own_text}
+use Rattle.ptree.specs.Looks.{look_of, own_text}
 use Rattle.ptree.specs.Entries.{kid_entries, entries_below}
 use Rattle.ptree.specs.Pieces.{passing_piece}
 use Rattle.ptree.specs.Shape.{kids}
@@ -14,7 +14,7 @@ pub draw_children-loop-item-init : goal.draw_children-loop-item-init
 draw_children-loop-item-init g t c =
     let wide : c.len-width.result ≡ length c.args.pen.now.line.bytes.items = omega (arith, c.len-width.ensures, c.args.pen.now.line.bytes.ok.0) in
     record {
-      begun = λ front e. begun_none (look_meant c.args.brush.now.look.now) (entries_below (look_meant c.args.brush.now.look.now) c.args.levels_left) front _ _ _ refl;
+      begun = λ outer e. begun_none (look_of c.args.brush.now.look.now) (entries_below (look_of c.args.brush.now.look.now) c.args.levels_left) outer _ _ _ refl;
       no_fault = refl;
       error = c.requires.error;
       kept = take_all c.len-width.result _ (omega (arith, wide));
@@ -22,30 +22,30 @@ draw_children-loop-item-init g t c =
     }
 
 pub draw_children-returns-in_err-turn-clause-bytes : goal.draw_children-returns-in_err-turn-clause-bytes
-draw_children-returns-in_err-turn-clause-bytes g t c = λ front e.
-    let look = look_meant c.args.brush.now.look.now in
-    entries_err _ _ _ _ _ _ c.from_residual.ensures.1 (begun_part look (entries_below look c.args.levels_left) front _ _ _ _ c.turn.new.self.error (c.loop-item.invariant.begun front e))
+draw_children-returns-in_err-turn-clause-bytes g t c = λ outer e.
+    let look = look_of c.args.brush.now.look.now in
+    entries_err _ _ _ _ _ _ c.from_residual.ensures.1 (begun_part look (entries_below look c.args.levels_left) outer _ _ _ _ c.turn.new.self.error (c.loop-item.invariant.begun outer e))
 
 pub draw_children-turn-requires : goal.draw_children-turn-requires
 draw_children-turn-requires g t c = λ held last. c.loop-item.invariant.turned held (omega (arith, c.in-Some.ensures.cases.1))
 
 pub draw_children-returns-in_err-draw_item-clause-bytes : goal.draw_children-returns-in_err-draw_item-clause-bytes
-draw_children-returns-in_err-draw_item-clause-bytes g t c = λ front e.
-    let look = look_meant c.args.brush.now.look.now in
+draw_children-returns-in_err-draw_item-clause-bytes g t c = λ outer e.
+    let look = look_of c.args.brush.now.look.now in
     let inv = c.loop-item.invariant in
     let wide : c.len-width.result ≡ length c.args.pen.now.line.bytes.items = omega (arith, c.len-width.ensures, c.args.pen.now.line.bytes.ok.0) in
     let kept = take_again c.len-width.result c.loop-item.pen.line.bytes.items _ _ (long_enough _ _ _ inv.kept wide) c.in_ok-turn.ensures.line ∙ inv.kept in
     entries_err _ _ _ _ _ _ c.from_residual-in_err-draw_item.ensures.1
-    (begun_err g.C.Shaped.shape look (entries_below look c.args.levels_left) front _ _ _ _ c.is_empty-is_last.result _ _ _ _ c.in-Some.ensures.cases.0 c.is_empty-is_last.ensures (inv.begun front e) (c.in_err-draw_item.ensures.bytes front (kept ∙ e)))
+    (begun_err g.C.Shaped.shape look (entries_below look c.args.levels_left) outer _ _ _ _ c.is_empty-is_last.result _ _ _ _ c.in-Some.ensures.cases.0 c.is_empty-is_last.ensures (inv.begun outer e) (c.in_err-draw_item.ensures.bytes outer (kept ∙ e)))
 
 pub draw_children-loop-item-preserved : goal.draw_children-loop-item-preserved
 draw_children-loop-item-preserved g t c =
-    let look = look_meant c.args.brush.now.look.now in
+    let look = look_of c.args.brush.now.look.now in
     let inv = c.loop-item.invariant in
     let wide : c.len-width.result ≡ length c.args.pen.now.line.bytes.items = omega (arith, c.len-width.ensures, c.args.pen.now.line.bytes.ok.0) in
     let kept = take_again c.len-width.result c.loop-item.pen.line.bytes.items _ _ (long_enough _ _ _ inv.kept wide) c.in_ok-turn.ensures.line in
     record {
-      begun = λ front e. begun_then g.C.Shaped.shape look (entries_below look c.args.levels_left) front _ _ _ _ c.is_empty-is_last.result _ _ _ c.in-Some.ensures.cases.0 c.is_empty-is_last.ensures (inv.begun front e) (c.in_ok-draw_item.ensures.bytes front (kept ∙ inv.kept ∙ e));
+      begun = λ outer e. begun_then g.C.Shaped.shape look (entries_below look c.args.levels_left) outer _ _ _ _ c.is_empty-is_last.result _ _ _ c.in-Some.ensures.cases.0 c.is_empty-is_last.ensures (inv.begun outer e) (c.in_ok-draw_item.ensures.bytes outer (kept ∙ inv.kept ∙ e));
       no_fault = quiet _ _ c.draw_item.new.pen.error c.in_ok-draw_item.ensures.cause c.in_ok-draw_item.ensures.error ∙ inv.no_fault;
       error = c.in_ok-draw_item.ensures.error;
       kept = c.in_ok-draw_item.ensures.kept ∙ kept ∙ inv.kept;
@@ -53,40 +53,40 @@ draw_children-loop-item-preserved g t c =
     }
 
 pub draw_item-returns-in_err-draw_entry-clause-bytes : goal.draw_item-returns-in_err-draw_entry-clause-bytes
-draw_item-returns-in_err-draw_entry-clause-bytes g t c = λ front e.
-    let look = look_meant c.args.brush.now.look.now in
+draw_item-returns-in_err-draw_entry-clause-bytes g t c = λ outer e.
+    let look = look_of c.args.brush.now.look.now in
     entries_err _ _ _ _ _ _ c.from_residual.ensures.1
-    (entry_part _ _ _ _ (entries_below look c.args.levels_left (front ++ passing_piece look.pieces c.args.is_last) (g.C.Shaped.shape c.args.item.now)) (c.in_err-draw_entry.ensures.bytes front e) c.in_err-draw_entry.ensures.memory)
+    (entry_part _ _ _ _ (entries_below look c.args.levels_left (outer ++ passing_piece look.pieces c.args.is_last) (g.C.Shaped.shape c.args.item.now)) (c.in_err-draw_entry.ensures.bytes outer e) c.in_err-draw_entry.ensures.memory)
 
 pub draw_item-returns-clause-bytes : goal.draw_item-returns-clause-bytes
-draw_item-returns-clause-bytes g t c = λ front e.
-    item_written (look_meant c.args.brush.now.look.now) c.args.levels_left front c.args.is_last (g.C.Shaped.shape c.args.item.now) _ _ _ _ _ (λ z. c.if-levels_left-eq0.false z)
-    (c.in_ok-draw_entry.ensures.bytes front e) (c.draw_below.ensures.bytes front (ap (take c.args.width) c.in_ok-draw_entry.ensures.kept ∙ e))
+draw_item-returns-clause-bytes g t c = λ outer e.
+    item_written (look_of c.args.brush.now.look.now) c.args.levels_left outer c.args.is_last (g.C.Shaped.shape c.args.item.now) _ _ _ _ _ (λ z. c.if-levels_left-eq0.false z)
+    (c.in_ok-draw_entry.ensures.bytes outer e) (c.draw_below.ensures.bytes outer (ap (take c.args.width) c.in_ok-draw_entry.ensures.kept ∙ e))
 
 pub draw_below-returns-in_err-children-clause-bytes : goal.draw_below-returns-in_err-children-clause-bytes
-draw_below-returns-in_err-children-clause-bytes g t c = λ front e.
-    let look = look_meant c.args.brush.now.look.now in
-    let below = kid_entries look (entries_below look c.args.levels_left) (front ++ passing_piece look.pieces c.args.is_last) (kids (g.C.Shaped.shape c.args.item.now)) in
+draw_below-returns-in_err-children-clause-bytes g t c = λ outer e.
+    let look = look_of c.args.brush.now.look.now in
+    let below = kid_entries look (entries_below look c.args.levels_left) (outer ++ passing_piece look.pieces c.args.is_last) (kids (g.C.Shaped.shape c.args.item.now)) in
     entries_err _ _ _ _ _ _ c.from_residual.ensures.1 (entries_none _ c.args.pen.now.error below)
 
 pub draw_below-returns-in_err-pass-clause-bytes : goal.draw_below-returns-in_err-pass-clause-bytes
-draw_below-returns-in_err-pass-clause-bytes g t c = λ front e.
-    let look = look_meant c.args.brush.now.look.now in
-    let below = kid_entries look (entries_below look c.args.levels_left) (front ++ passing_piece look.pieces c.args.is_last) (kids (g.C.Shaped.shape c.args.item.now)) in
+draw_below-returns-in_err-pass-clause-bytes g t c = λ outer e.
+    let look = look_of c.args.brush.now.look.now in
+    let below = kid_entries look (entries_below look c.args.levels_left) (outer ++ passing_piece look.pieces c.args.is_last) (kids (g.C.Shaped.shape c.args.item.now)) in
     entries_err _ _ _ _ _ _ c.from_residual-in_err-pass.ensures.1 (entries_none _ c.pass.new.self.error below)
 
 pub draw_below-returns-clause-bytes : goal.draw_below-returns-clause-bytes
-draw_below-returns-clause-bytes g t c = λ front e.
-    let look = look_meant c.args.brush.now.look.now in
-    let passing = front ++ passing_piece look.pieces c.args.is_last in
+draw_below-returns-clause-bytes g t c = λ outer e.
+    let look = look_of c.args.brush.now.look.now in
+    let passing = outer ++ passing_piece look.pieces c.args.is_last in
     all_below look (entries_below look c.args.levels_left) passing (g.C.Shaped.shape c.args.item.now) _ _ _ _ g.C.Shaped.shape c.as_slice-2.result.now
     (ap (map g.C.Shaped.shape) c.as_slice-2.ensures ∙ c.in_ok-children.ensures)
-    (c.draw_children.ensures.bytes passing (c.in_ok-pass.ensures.line ∙ ap (λ xs. xs ++ passing_piece look.pieces c.args.is_last) e ∙ append_assoc _ front _))
+    (c.draw_children.ensures.bytes passing (c.in_ok-pass.ensures.line ∙ ap (λ xs. xs ++ passing_piece look.pieces c.args.is_last) e ∙ append_assoc _ outer _))
 
 pub draw_below-returns-then-is_empty-clause-bytes : goal.draw_below-returns-then-is_empty-clause-bytes
-draw_below-returns-then-is_empty-clause-bytes g t c = λ front e.
-    let look = look_meant c.args.brush.now.look.now in
-    none_below look (entries_below look c.args.levels_left) (front ++ passing_piece look.pieces c.args.is_last) (g.C.Shaped.shape c.args.item.now) _ g.C.Shaped.shape c.as_slice.result.now c.is_empty.result
+draw_below-returns-then-is_empty-clause-bytes g t c = λ outer e.
+    let look = look_of c.args.brush.now.look.now in
+    none_below look (entries_below look c.args.levels_left) (outer ++ passing_piece look.pieces c.args.is_last) (g.C.Shaped.shape c.args.item.now) _ g.C.Shaped.shape c.as_slice.result.now c.is_empty.result
     c.if-is_empty.true c.is_empty.ensures (ap (map g.C.Shaped.shape) c.as_slice.ensures ∙ c.in_ok-children.ensures)
 
 pub draw_below-returns-clause-kept : goal.draw_below-returns-clause-kept

@@ -1,6 +1,6 @@
 use Rattle.std.proofs.Common.{◌∙◌, ap, sym, subst}
 use Rattle.ptree.specs.Characters.{characters_of}
-use Rattle.ptree.specs.Configuration.{Configuration}
+use Rattle.ptree.specs.Config.{ConfigValue}
 use Rattle.ptree.specs.Preset.{drawn_with}
 use Rattle.ptree.proofs.Programs.{IsReadableValue, preset_readable}
 use Rattle.ptree.proofs.presets.Preset.config.Goals as goal
@@ -8,7 +8,7 @@ use Rattle.ptree.proofs.presets.Preset.config.Goals as goal
 pub returns-clause-value : goal.returns-clause-value
 returns-clause-value c =
     let drawn = c.pieces-indent.result in
-    ap (λ (v : Configuration). record v { characters = characters_of c.in_ok-config-2.field-0; indent = drawn.1; padding = drawn.2 }) c.in_ok-config.ensures.value
+    ap (λ (v : ConfigValue). record v { characters = characters_of c.in_ok-config-2.field-0; indent = drawn.1; padding = drawn.2 }) c.in_ok-config.ensures.value
     ∙ ap (λ z. drawn_with z drawn.1 drawn.2) c.in_ok-config-2.ensures ∙ c.pieces-indent.ensures
 
 pub returns-clause-readable : goal.returns-clause-readable

@@ -9,14 +9,14 @@ returns-in_default c = no_json_triple c.args.items.now (λ e. omega (arith, c.in
 pub returns-in_default-2 : goal.returns-in_default-2
 returns-in_default-2 c = no_json_triple c.args.items.now (λ e. omega (arith, c.in_default.len_at_least))
 
-pub returns-in_err-byte : goal.returns-in_err-byte
-returns-in_err-byte c = grind (arith, common_steps)
+pub returns-in_err-as_byte : goal.returns-in_err-as_byte
+returns-in_err-as_byte c = grind (arith, common_steps)
 
-pub returns-in_err-byte-2 : goal.returns-in_err-byte-2
-returns-in_err-byte-2 c = grind (arith, common_steps)
+pub returns-in_err-as_byte-2 : goal.returns-in_err-as_byte-2
+returns-in_err-as_byte-2 c = grind (arith, common_steps)
 
-pub returns-in_err-byte-3 : goal.returns-in_err-byte-3
-returns-in_err-byte-3 c = grind (arith, common_steps)
+pub returns-in_err-as_byte-3 : goal.returns-in_err-as_byte-3
+returns-in_err-as_byte-3 c = grind (arith, common_steps)
 
-pub returns-in_ok-byte-3 : goal.returns-in_ok-byte-3
-returns-in_ok-byte-3 c = grind (arith, common_steps)
+pub returns-in_ok-as_byte-3 : goal.returns-in_ok-as_byte-3
+returns-in_ok-as_byte-3 c = grind (arith, common_steps)

@@ -1,5 +1,5 @@
 use Rattle.ptree.specs.Document.{document}
-use Rattle.ptree.specs.Drawing.{look_of}
+use Rattle.ptree.specs.Drawing.{config_look}
 use Rattle.ptree.specs.declared.print_config.OutputKind.TheVariants.{Stdout}
 use Rattle.ptree.proofs.Documents.{nothing_drawn, no_entries, drawn_err, whole_err}
 use Rattle.std.proofs.Common.{arith}
@@ -8,20 +8,20 @@ use Rattle.ptree.proofs.value.document.draw_document_with.Goals as goal
 
 pub returns-in_err-parsed-clause-bytes : goal.returns-in_err-parsed-clause-bytes
 returns-in_err-parsed-clause-bytes g c =
-    nothing_drawn _ (document c.args.format c.args.text.now) (look_of c.args.config.now Stdout c.args.terminal) c.args.label.now c.args.config.now.depth _ c.from_residual.result c.from_residual.ensures.1
+    nothing_drawn _ (document c.args.format c.args.text.now) (config_look c.args.config.now Stdout c.args.terminal) c.args.label.now c.args.config.now.depth _ c.from_residual.result c.from_residual.ensures.1
 
 pub returns-in_err-parsed-clause-whole : goal.returns-in_err-parsed-clause-whole
 returns-in_err-parsed-clause-whole g c =
-    no_entries _ (document c.args.format c.args.text.now) (look_of c.args.config.now Stdout c.args.terminal) c.args.label.now c.args.config.now.depth _
+    no_entries _ (document c.args.format c.args.text.now) (config_look c.args.config.now Stdout c.args.terminal) c.args.label.now c.args.config.now.depth _
 
 pub returns-in_err-print_tree_with-clause-bytes : goal.returns-in_err-print_tree_with-clause-bytes
 returns-in_err-print_tree_with-clause-bytes g c =
-    drawn_err (document c.args.format c.args.text.now) _ (look_of c.args.config.now Stdout c.args.terminal) c.args.label.now _ c.args.config.now.depth _ _ c.in_ok-parsed.ensures.value c.root.ensures
+    drawn_err (document c.args.format c.args.text.now) _ (config_look c.args.config.now Stdout c.args.terminal) c.args.label.now _ c.args.config.now.depth _ _ c.in_ok-parsed.ensures.value c.root.ensures
     _ c.in_err-print_tree_with.field-0.0 c.from_residual-in_err-print_tree_with.result c.from_residual-in_err-print_tree_with.ensures.1 c.in_err-print_tree_with.ensures.bytes
 
 pub returns-in_err-print_tree_with-clause-whole : goal.returns-in_err-print_tree_with-clause-whole
 returns-in_err-print_tree_with-clause-whole g c =
-    whole_err (document c.args.format c.args.text.now) _ (look_of c.args.config.now Stdout c.args.terminal) c.args.label.now _ c.args.config.now.depth _ _ c.in_ok-parsed.ensures.value c.root.ensures
+    whole_err (document c.args.format c.args.text.now) _ (config_look c.args.config.now Stdout c.args.terminal) c.args.label.now _ c.args.config.now.depth _ _ c.in_ok-parsed.ensures.value c.root.ensures
     c.in_err-print_tree_with.field-0.0 c.from_residual-in_err-print_tree_with.result c.from_residual-in_err-print_tree_with.ensures.1 c.in_err-print_tree_with.ensures.whole
 
 pub returns-clause-bytes : goal.returns-clause-bytes

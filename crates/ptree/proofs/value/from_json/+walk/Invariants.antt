@@ -5,7 +5,7 @@ use Rattle.ptree.specs.Convert.{json_items, json_entries}
 use Rattle.ptree.specs.Data.{ItemsAscend, ValuesAscend}
 use Rattle.ptree.proofs.value.from_json.+walk.Given as goal
 
--- a float stands in all exactly where one stands in what is left, and the keys ascend in all if
+-- a float is in all exactly where one is in what is left, and the keys ascend in all if
 -- they do in that
 abbrev pub invariant-items_have_float-loop-item : goal.invariant-items_have_float-loop-item
 invariant-items_have_float-loop-item l =

@@ -1,7 +1,7 @@
 use Rattle.std.proofs.Common.{map}
 use Rattle.serde_json.specs.View.{view}
 use Rattle.ptree.specs.Convert.{json_data}
-use Rattle.ptree.specs.Parts.{pair_of_node}
+use Rattle.ptree.specs.Parts.{node_pair_of}
 use Rattle.ptree.proofs.Converted.{member_pair, AreMade}
 use Rattle.ptree.proofs.value.node.json_members.Given as goal
 
@@ -9,4 +9,4 @@ abbrev pub invariant-loop-key : goal.invariant-loop-key
 invariant-loop-key l =
     (goal.iterator-loop-key).can_next l.key-iterator ×
     (goal.iterator-loop-key).is_finite l.key-iterator ×
-    AreMade (member_pair (λ v. json_data (view v))) l.members.entries l.key-iterator (map pair_of_node l.nodes.items)
+    AreMade (member_pair (λ v. json_data (view v))) l.members.entries l.key-iterator (map node_pair_of l.nodes.items)

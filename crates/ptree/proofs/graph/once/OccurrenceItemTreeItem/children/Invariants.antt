@@ -3,7 +3,8 @@ use Rattle.ptree.specs.Growing.{place_at}
 use Rattle.ptree.specs.Occurrence.{occurrence_at, occurrence_shape, size_below, trees_in}
 use Rattle.ptree.proofs.graph.once.OccurrenceItemTreeItem.children.Given as goal
 
--- the items so far mean the first of the occurrences below, and the places that are left are the others
+-- the items so far mean the first of the occurrences below, and the places that are left are the
+-- others
 abbrev pub invariant-loop-below : goal.invariant-loop-below
 invariant-loop-below g l =
     let expanded = l.self.expanded.now in

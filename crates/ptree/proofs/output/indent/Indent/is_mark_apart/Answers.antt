@@ -1,10 +1,10 @@
 use Rattle.std.proofs.Common.{Bool, true, false, List, ℕ}
 use Rattle.ptree.specs.Pieces.{Pieces, turning_piece, passing_piece, pieces_of}
-use Rattle.ptree.specs.Readable.{AreApart}
+use Rattle.ptree.specs.Readable.{ArePrefixFree}
 use Rattle.ptree.proofs.output.indent.Indent.is_mark_apart.Goals as goal
 
-each : (p : Pieces) (mark : List ℕ) → AreApart mark (turning_piece p false) × AreApart mark (passing_piece p false) → AreApart mark (turning_piece p true) × AreApart mark (passing_piece p true)
-    → (last : Bool) → AreApart mark (turning_piece p last) × AreApart mark (passing_piece p last)
+each : (p : Pieces) (mark : List ℕ) → ArePrefixFree mark (turning_piece p false) × ArePrefixFree mark (passing_piece p false) → ArePrefixFree mark (turning_piece p true) × ArePrefixFree mark (passing_piece p true)
+    → (last : Bool) → ArePrefixFree mark (turning_piece p last) × ArePrefixFree mark (passing_piece p last)
 each p mark h g false = h
 each p mark h g true = g
 
