@@ -5,6 +5,7 @@ use Rattle.std.specs.Option.{option_or}
 use Rattle.serde_json.specs.Data as j
 use Rattle.serde_json.specs.Find as jf
 use Rattle.toml.specs.Data as t
+use Rattle.ptree.specs.declared.print_config.file.Rgb.{Rgb}
 use Rattle.ptree.specs.declared.print_config.StyleWhen.{StyleWhen}
 use Rattle.ptree.specs.declared.print_config.parse.Spelling.TheVariants.{Exact}
 use Rattle.ptree.specs.declared.style.color.Color.{Color}
@@ -87,29 +88,29 @@ table_characters node = if is_table node then Some (characters_in node) else Non
 abbrev pub set_node : FileNode → Option Characters
 set_node node = option_or (option_and_then (parse_set Exact) (as_text node)) (table_characters node)
 
--- three numbers, if all are there
-abbrev pub all_three : Option ℕ → Option ℕ → Option ℕ → Option (ℕ × ℕ × ℕ)
-all_three (Some r) (Some g) (Some b) = Some (r, g, b)
-all_three _ _ _ = None
+-- red, green and blue, if all are there
+abbrev pub rgb : Option ℕ → Option ℕ → Option ℕ → Option Rgb
+rgb (Some r) (Some g) (Some b) = Some (record { red = r; green = g; blue = b })
+rgb _ _ _ = None
 
--- the numbers of a list of exactly three bytes, in JSON
-abbrev pub json_triple : j.Items → Option (ℕ × ℕ × ℕ)
-json_triple (j.item r (j.item g (j.item b j.no_items))) = all_three (whole_node 255 (json r)) (whole_node 255 (json g)) (whole_node 255 (json b))
-json_triple _ = None
+-- the bytes of a list of exactly three, in JSON
+abbrev pub json_rgb : j.Items → Option Rgb
+json_rgb (j.item r (j.item g (j.item b j.no_items))) = rgb (whole_node 255 (json r)) (whole_node 255 (json g)) (whole_node 255 (json b))
+json_rgb _ = None
 
--- the numbers of a list of exactly three bytes, in TOML
-abbrev pub toml_triple : t.Items → Option (ℕ × ℕ × ℕ)
-toml_triple (t.item r (t.item g (t.item b t.no_items))) = all_three (whole_node 255 (toml r)) (whole_node 255 (toml g)) (whole_node 255 (toml b))
-toml_triple _ = None
+-- the bytes of a list of exactly three, in TOML
+abbrev pub toml_rgb : t.Items → Option Rgb
+toml_rgb (t.item r (t.item g (t.item b t.no_items))) = rgb (whole_node 255 (toml r)) (whole_node 255 (toml g)) (whole_node 255 (toml b))
+toml_rgb _ = None
 
--- the numbers of a list of exactly three bytes
-abbrev pub as_triple : FileNode → Option (ℕ × ℕ × ℕ)
-as_triple (json d) = option_and_then json_triple (jf.as_array d)
-as_triple (toml d) = option_and_then toml_triple (t.as_array d)
+-- the bytes of a list of exactly three: red, green and blue
+abbrev pub as_rgb : FileNode → Option Rgb
+as_rgb (json d) = option_and_then json_rgb (jf.as_array d)
+as_rgb (toml d) = option_and_then toml_rgb (t.as_array d)
 
 -- the colour of a byte (one of the terminal's table), or of three bytes (red, green and blue)
 abbrev pub color_numbers : FileNode → Option Color
-color_numbers node = option_or (option_map Fixed (whole_node 255 node)) (option_map (λ t. RGB t.0 t.1 t.2) (as_triple node))
+color_numbers node = option_or (option_map Fixed (whole_node 255 node)) (option_map (λ c. RGB c.red c.green c.blue) (as_rgb node))
 
 -- the colour of a text (a name), or of numbers
 abbrev pub color_node : FileNode → Option ColorValue

@@ -60,20 +60,47 @@ const PS_CHARS: StaticIndentChars = StaticIndentChars {
     empty: "    ",
 };
 
+// The settings of a program's pieces.
+#[derive(Drop)]
+struct PieceSettings {
+    characters: StaticIndentChars,
+    indent: usize,
+    padding: usize,
+}
+
+impl PieceSettings {
+    fn new(characters: StaticIndentChars, indent: usize, padding: usize) -> PieceSettings
+        ensures characters { result.characters ≡ characters }
+        ensures indent { result.indent ≡ indent }
+        ensures padding { result.padding ≡ padding }
+    {
+        PieceSettings {
+            characters,
+            indent,
+            padding,
+        }
+    }
+}
+
 impl Preset {
-    // Returns the characters, the indent and the padding.
-    fn pieces(self) -> (StaticIndentChars, usize, usize)
-        ensures { drawn_with (static_characters_of result.0) result.1 result.2 ≡ preset_of self }
+    // Returns the settings of the program's pieces.
+    fn pieces(self) -> PieceSettings
+        ensures { drawn_with (static_characters_of result.characters) result.indent result.padding
+            ≡ preset_of self }
     {
         match self {
-            Preset::Tree => (TREE_CHARS, 0, 0),
-            Preset::Ps => (PS_CHARS, 0, 0),
-            Preset::CargoTree => (UTF_CHARS, 4, 1),
-            Preset::TreeAscii | Preset::CargoTreeAscii => (ASCII_CHARS_TICK, 4, 1),
-            Preset::Findmnt => (UTF_CHARS, 2, 0),
-            Preset::FindmntAscii | Preset::Clang => (ASCII_CHARS_TICK, 2, 0),
-            Preset::Sqlite => (ASCII_CHARS_TICK, 3, 0),
-            Preset::Maven => (UTF_CHARS, 3, 1),
+            Preset::Tree => PieceSettings::new(TREE_CHARS, 0, 0),
+            Preset::Ps => PieceSettings::new(PS_CHARS, 0, 0),
+            Preset::CargoTree => PieceSettings::new(UTF_CHARS, 4, 1),
+            Preset::TreeAscii | Preset::CargoTreeAscii => PieceSettings::new(
+                ASCII_CHARS_TICK,
+                4,
+                1,
+            ),
+            Preset::Findmnt => PieceSettings::new(UTF_CHARS, 2, 0),
+            Preset::FindmntAscii | Preset::Clang => PieceSettings::new(ASCII_CHARS_TICK, 2, 0),
+            Preset::Sqlite => PieceSettings::new(ASCII_CHARS_TICK, 3, 0),
+            Preset::Maven => PieceSettings::new(UTF_CHARS, 3, 1),
         }
     }
 
@@ -87,11 +114,11 @@ impl Preset {
         ensures value { IfOk result (λ config. config_of config ≡ preset_of self) }
         ensures readable { IfOk result HasReadablePieces }
     {
-        let (characters, indent, padding) = self.pieces();
+        let pieces = self.pieces();
         let mut config = PrintConfig::default(alloc)?;
-        config.characters = IndentChars::from_static(alloc, characters)?;
-        config.indent = indent;
-        config.padding = padding;
+        config.characters = IndentChars::from_static(alloc, pieces.characters)?;
+        config.indent = pieces.indent;
+        config.padding = pieces.padding;
         Ok(config)
     }
 }

@@ -30,6 +30,19 @@ impl Answer {
     }
 }
 
+/// How a writer fails.
+#[derive(Clone, Copy)]
+pub struct Limits {
+    /// How many bytes it accepts in all.
+    pub room: usize,
+
+    /// The most that it accepts in a call.
+    pub most: usize,
+
+    /// What it returns after that.
+    pub answer: Answer,
+}
+
 /// Accepts `room` bytes in all, at most `most` a call, and then gives its answer.
 #[derive(Drop)]
 pub struct Failing {

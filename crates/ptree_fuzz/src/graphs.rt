@@ -2,14 +2,14 @@
 
 use crate::dice::Dice;
 use crate::made::{MadeGraph, config, depth, net, start};
-use crate::trees::{drawn, writer};
+use crate::trees::{drawn, writer_limits};
 use ptree::graph::{EdgeError, NodeIndex, write_graph_with};
 use ptree::item::StringItem;
 use ptree::print_config::{PrintConfig, StyleWhen};
 use ptree::style::Counted;
 use ptree_fixtures::deviation::{Deviation, expect};
 use ptree_fixtures::failing::Failing;
-use ptree_fixtures::fronts::leaves_front;
+use ptree_fixtures::prefixes::leaves_prefix;
 use ptree_fixtures::trees::over;
 use std::alloc::{AllocError, Global};
 
@@ -165,14 +165,14 @@ fn try_writer(
     config: &PrintConfig,
     drawing: &str,
 ) -> Result<(), Deviation> {
-    let writer = writer(dice, drawing.len());
+    let limits = writer_limits(dice, drawing.len());
     let draw = |out: &mut Counted<Failing>| {
         write_graph_with(alloc, &net.graph, NodeIndex(start), out, config)
     };
-    let front = leaves_front(alloc, drawing.as_bytes(), writer, &draw)?;
+    let is_prefix = leaves_prefix(alloc, drawing.as_bytes(), limits, &draw)?;
     expect(
-        front,
-        "a writer that fails has a front of a graph's drawing",
+        is_prefix,
+        "a writer that fails has a prefix of a graph's drawing",
     )
 }
 

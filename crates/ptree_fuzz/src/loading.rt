@@ -3,7 +3,7 @@
 use crate::dice::Dice;
 use crate::documents::{document, sources};
 use crate::made::{config, is_too_wide, text, tree};
-use crate::trees::writer;
+use crate::trees::writer_limits;
 use ptree::item::TreeItem;
 use ptree::output::{print_tree, print_tree_with, write_tree, write_tree_with};
 use ptree::print_config::{PrintConfig, Sources, first_fault, load};
@@ -11,7 +11,7 @@ use ptree::style::{Counted, DrawError, Sink};
 use ptree::value::{ConvertError, DocError, DocFormat, Value, draw_document, draw_document_with};
 use ptree_fixtures::deviation::{Deviation, expect};
 use ptree_fixtures::failing::Failing;
-use ptree_fixtures::fronts::{drawing_of, leaves_front};
+use ptree_fixtures::prefixes::{drawing_of, leaves_prefix};
 use std::alloc::{AllocError, Global};
 
 // What a call wrote, and how it ended.
@@ -328,12 +328,12 @@ impl Case {
 
     // A writer that fails has a prefix of a document's drawing.
     fn try_writer(&self, alloc: Global, dice: &mut Dice, whole: &[u8]) -> Result<(), Deviation> {
-        let writer = writer(dice, whole.len());
+        let limits = writer_limits(dice, whole.len());
         let draw = |out: &mut Counted<Failing>| drawing_of(self.draw(alloc, out));
-        let front = leaves_front(alloc, whole, writer, &draw)?;
+        let is_prefix = leaves_prefix(alloc, whole, limits, &draw)?;
         expect(
-            front,
-            "a writer that fails has a front of a document's drawing",
+            is_prefix,
+            "a writer that fails has a prefix of a document's drawing",
         )
     }
     // The document is drawn as its value is, and as a copy of that.

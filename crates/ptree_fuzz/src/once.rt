@@ -4,7 +4,7 @@
 use crate::dice::Dice;
 use crate::graphs::{few_walks, nothing_drawn};
 use crate::made::{MadeGraph, config, depth, net, start, text};
-use crate::trees::{drawn, writer};
+use crate::trees::{drawn, writer_limits};
 use ptree::TreeBuilder;
 use ptree::graph::{NodeIndex, write_graph_once_with};
 use ptree::item::StringItem;
@@ -12,7 +12,7 @@ use ptree::print_config::PrintConfig;
 use ptree::style::Counted;
 use ptree_fixtures::deviation::{Deviation, expect};
 use ptree_fixtures::failing::Failing;
-use ptree_fixtures::fronts::leaves_front;
+use ptree_fixtures::prefixes::leaves_prefix;
 use std::alloc::{AllocError, Global};
 
 // An occurrence: its address, its node, and whether something is below it or an earlier one of
@@ -275,14 +275,14 @@ fn try_writer(
     config: &PrintConfig,
     drawing: &str,
 ) -> Result<(), Deviation> {
-    let writer = writer(dice, drawing.len());
+    let limits = writer_limits(dice, drawing.len());
     let draw = |out: &mut Counted<Failing>| {
         write_graph_once_with(alloc, &net.graph, NodeIndex(start), mark, out, config)
     };
-    let front = leaves_front(alloc, drawing.as_bytes(), writer, &draw)?;
+    let is_prefix = leaves_prefix(alloc, drawing.as_bytes(), limits, &draw)?;
     expect(
-        front,
-        "a writer that fails has a front of the drawing of a graph drawn once",
+        is_prefix,
+        "a writer that fails has a prefix of the drawing of a graph drawn once",
     )
 }
 

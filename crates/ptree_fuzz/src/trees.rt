@@ -9,8 +9,8 @@ use ptree::output::{Indent, print_tree_with, write_tree_with};
 use ptree::print_config::{PrintConfig, StyleWhen};
 use ptree::style::Counted;
 use ptree_fixtures::deviation::{Deviation, expect};
-use ptree_fixtures::failing::{Answer, Failing};
-use ptree_fixtures::fronts::leaves_front;
+use ptree_fixtures::failing::{Answer, Failing, Limits};
+use ptree_fixtures::prefixes::leaves_prefix;
 use std::alloc::{AllocError, Global};
 use std::io::ErrorKind;
 
@@ -143,15 +143,16 @@ fn try_printing(alloc: Global, tree: &StringItem, config: &PrintConfig) -> Resul
     Ok(())
 }
 
-/// A writer's room, the most that it takes a call, and its answer.
-pub fn writer(dice: &mut Dice, whole: usize) -> (usize, usize, Answer) {
+/// The limits of a writer, of a drawing of so many bytes.
+pub fn writer_limits(dice: &mut Dice, whole: usize) -> Limits {
     let answer = match dice.below(3) {
         0 => Answer::Zero,
         1 => Answer::Error(ErrorKind::BrokenPipe),
         _ => Answer::Interrupted,
     };
     let room = dice.index(whole.saturating_add(1));
-    (room, dice.index(40).saturating_add(1), answer)
+    let most = dice.index(40).saturating_add(1);
+    Limits { room, most, answer }
 }
 
 // A writer that fails has a prefix of the drawing.
@@ -162,10 +163,13 @@ fn try_writer(
     config: &PrintConfig,
 ) -> Result<(), Deviation> {
     let drawing = drawn(alloc, tree, config)?;
-    let writer = writer(dice, drawing.len());
+    let limits = writer_limits(dice, drawing.len());
     let draw = |out: &mut Counted<Failing>| write_tree_with(alloc, tree, out, config);
-    let front = leaves_front(alloc, drawing.as_bytes(), writer, &draw)?;
-    expect(front, "a writer that fails has a front of a tree's drawing")
+    let is_prefix = leaves_prefix(alloc, drawing.as_bytes(), limits, &draw)?;
+    expect(
+        is_prefix,
+        "a writer that fails has a prefix of a tree's drawing",
+    )
 }
 
 // Changes one field of a copy of a configuration.

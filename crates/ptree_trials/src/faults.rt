@@ -12,8 +12,8 @@ use ptree::style::{Color, Counted, DrawError, Style, put_all};
 use ptree::value::{DocFormat, Value, draw_document, draw_document_with};
 use ptree_fixtures::deviation::Deviation;
 use ptree_fixtures::drawings::{PETGRAPH, TOML, TOML_DRAWN};
-use ptree_fixtures::failing::{Answer, Failing};
-use ptree_fixtures::fronts::{drawing_of, leaves_front};
+use ptree_fixtures::failing::{Answer, Failing, Limits};
+use ptree_fixtures::prefixes::{drawing_of, leaves_prefix};
 use ptree_fixtures::trees::{leaf, over, over_leaves, petgraph, plain};
 use std::alloc::{AllocError, Global};
 use std::io::{self, ErrorKind};
@@ -55,8 +55,8 @@ fn try_writers<F: Fn(&mut Counted<Failing>) -> Result<(), DrawError>>(
     for room in 0..whole.len().saturating_add(1) {
         for most in MOST {
             for answer in ANSWERS {
-                let writer = (room, most, answer);
-                if !leaves_front(rt.alloc(), whole.as_bytes(), writer, &draw)? {
+                let limits = Limits { room, most, answer };
+                if !leaves_prefix(rt.alloc(), whole.as_bytes(), limits, &draw)? {
                     println!(rt; "{name}: not at {room} bytes, {most} a call")?;
                     return Err(io::Error::from(ErrorKind::Other));
                 }

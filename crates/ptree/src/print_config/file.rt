@@ -1,7 +1,7 @@
 //! The document of a configuration file, in either format.
 ghost use Rattle.std.specs.Prelude.{◌≡◌, ◌↔◌, Some, option_map, option_copied, is_some, is_none, IsSome, IfOk};
 ghost use Rattle.ptree.specs.Color.{color_of};
-ghost use Rattle.ptree.specs.File.{get, is_table, as_whole, as_text, as_flag, is_null, whole_node, when_node, as_triple, json_triple, toml_triple, color_numbers, color_node};
+ghost use Rattle.ptree.specs.File.{get, is_table, as_whole, as_text, as_flag, is_null, whole_node, when_node, as_rgb, json_rgb, toml_rgb, color_numbers, color_node};
 ghost use Rattle.ptree.specs.Lent.{node_of, document_of};
 ghost use Rattle.ptree.specs.Loading.{file_fault};
 ghost use Rattle.ptree.specs.Sources.{document, json_document, toml_document};
@@ -182,6 +182,14 @@ fn line_at(text: &str, place: usize) -> usize {
     line
 }
 
+// The bytes of a colour in numbers.
+#[derive(Clone, Copy)]
+pub(crate) struct Rgb {
+    red: u8,
+    green: u8,
+    blue: u8,
+}
+
 // A value in a document.
 #[derive(Clone, Copy)]
 pub(crate) enum FileNode<'a> {
@@ -289,17 +297,17 @@ impl<'a> FileNode<'a> {
         }
     }
 
-    // Returns the three bytes, if the value is a list of three.
-    fn as_triple(self) -> Option<(u8, u8, u8)>
-        ensures { result ≡ as_triple (node_of self.entry) }
+    // Returns red, green and blue, if the value is a list of three bytes.
+    fn as_rgb(self) -> Option<Rgb>
+        ensures { result ≡ as_rgb (node_of self.entry) }
     {
         match self {
             FileNode::Json(value) => match value.as_array() {
-                Some(items) => json_triple(items.as_slice()),
+                Some(items) => json_rgb(items.as_slice()),
                 None => None,
             },
             FileNode::Toml(value) => match value.as_array() {
-                Some(items) => toml_triple(items.as_slice()),
+                Some(items) => toml_rgb(items.as_slice()),
                 None => None,
             },
         }
@@ -312,8 +320,8 @@ impl<'a> FileNode<'a> {
         if let Some(n) = self.as_byte() {
             return Some(Color::Fixed(n));
         }
-        match self.as_triple() {
-            Some((r, g, b)) => Some(Color::RGB(r, g, b)),
+        match self.as_rgb() {
+            Some(Rgb { red, green, blue }) => Some(Color::RGB(red, green, blue)),
             None => None,
         }
     }
@@ -322,7 +330,7 @@ impl<'a> FileNode<'a> {
     pub(crate) fn is_color(self) -> bool
         ensures { result ≡ is_some (color_node (node_of self.entry)) }
     {
-        self.as_text().is_some() || self.as_byte().is_some() || self.as_triple().is_some()
+        self.as_text().is_some() || self.as_byte().is_some() || self.as_rgb().is_some()
     }
 
     // Returns the colour, if the value is one: a text is a name, other values are numbers.
@@ -338,30 +346,30 @@ impl<'a> FileNode<'a> {
 }
 
 // Returns the bytes of a list of exactly three, in JSON.
-fn json_triple(items: &[serde_json::Value]) -> Option<(u8, u8, u8)>
-    ensures { result ≡ json_triple (json_items items.now) }
+fn json_rgb(items: &[serde_json::Value]) -> Option<Rgb>
+    ensures { result ≡ json_rgb (json_items items.now) }
 {
     if let [r, g, b] = items {
-        Some((
-            FileNode::Json(r).as_byte()?,
-            FileNode::Json(g).as_byte()?,
-            FileNode::Json(b).as_byte()?,
-        ))
+        Some(Rgb {
+            red: FileNode::Json(r).as_byte()?,
+            green: FileNode::Json(g).as_byte()?,
+            blue: FileNode::Json(b).as_byte()?,
+        })
     } else {
         None
     }
 }
 
 // Returns the bytes of a list of exactly three, in TOML.
-fn toml_triple(items: &[toml::Value]) -> Option<(u8, u8, u8)>
-    ensures { result ≡ toml_triple (toml_items items.now) }
+fn toml_rgb(items: &[toml::Value]) -> Option<Rgb>
+    ensures { result ≡ toml_rgb (toml_items items.now) }
 {
     if let [r, g, b] = items {
-        Some((
-            FileNode::Toml(r).as_byte()?,
-            FileNode::Toml(g).as_byte()?,
-            FileNode::Toml(b).as_byte()?,
-        ))
+        Some(Rgb {
+            red: FileNode::Toml(r).as_byte()?,
+            green: FileNode::Toml(g).as_byte()?,
+            blue: FileNode::Toml(b).as_byte()?,
+        })
     } else {
         None
     }

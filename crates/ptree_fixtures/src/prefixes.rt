@@ -1,26 +1,26 @@
 //! Whether a call leaves a prefix of its drawing in a writer that fails.
 
-use crate::failing::{Answer, Failing};
+use crate::failing::{Failing, Limits};
 use ptree::style::{Counted, DrawError};
 use ptree::value::DocError;
 use std::alloc::{AllocError, Global};
 
-/// Whether a call whose whole drawing is known leaves a prefix of it in a writer with so much room,
+/// Whether a call whose whole drawing is known leaves a prefix of it in a writer with these limits,
 /// and passes the writer's answer on.
-pub fn leaves_front<F: Fn(&mut Counted<Failing>) -> Result<(), DrawError>>(
+pub fn leaves_prefix<F: Fn(&mut Counted<Failing>) -> Result<(), DrawError>>(
     alloc: Global,
     whole: &[u8],
-    writer: (usize, usize, Answer),
+    limits: Limits,
     draw: &F,
 ) -> Result<bool, AllocError>
     requires { F.IsAlwaysCallable draw.now }
 {
-    let (room, most, answer) = writer;
+    let Limits { room, most, answer } = limits;
     let mut out = Counted::new(Failing::new(alloc, whole.len(), room, most, answer)?);
     let ended = draw(&mut out);
     let taken = out.into_inner().taken;
-    let front = whole.get(..room).unwrap_or(whole);
-    Ok(answer.ends(&ended, room, whole.len()) && taken.as_slice() == front)
+    let prefix = whole.get(..room).unwrap_or(whole);
+    Ok(answer.ends(&ended, room, whole.len()) && taken.as_slice() == prefix)
 }
 
 /// How a document's drawing ended. A refusal is none of a writer's answers.
