@@ -1,4 +1,5 @@
 //! The calls of items and of the reader, and those that draw.
+ghost use Rattle.ptree.specs.Readable.{HasReadablePieces};
 
 use crate::sizes::{LEVELS, made, text};
 use ptree::item::{Root, StringItem};
@@ -103,7 +104,9 @@ fn try_read(
     tree: &StringItem,
     config: &PrintConfig,
     drawing: &str,
-) -> Result<(), Deviation> {
+) -> Result<(), Deviation>
+    requires { HasReadablePieces config.now }
+{
     match read_tree(alloc, drawing, config) {
         Ok(Some(read)) => expect(read == *tree, "a drawing is read as its tree"),
         _ => Err(Deviation::of("`read_tree` reads a drawing")),
@@ -116,7 +119,9 @@ fn try_read_by_lines(
     tree: &StringItem,
     config: &PrintConfig,
     drawing: &str,
-) -> Result<(), Deviation> {
+) -> Result<(), Deviation>
+    requires { HasReadablePieces config.now }
+{
     match read_tree_or_line(alloc, drawing, config) {
         Ok(read) => expect(read == *tree, "a drawing is read as its tree"),
         Err(_) => Err(Deviation::of("`read_tree_or_line` reads a drawing")),
@@ -129,7 +134,9 @@ fn try_drawing(
     tree: &StringItem,
     config: &PrintConfig,
     drawing: &str,
-) -> Result<(), Deviation> {
+) -> Result<(), Deviation>
+    requires { HasReadablePieces config.now }
+{
     try_returned(alloc, tree, config, drawing)?;
     try_written(alloc, tree, config)?;
     try_shown(alloc, tree, config)?;
@@ -139,7 +146,9 @@ fn try_drawing(
 }
 
 // The calls of a tree under a configuration.
-fn try_drawn(alloc: Global, tree: &StringItem, config: &PrintConfig) -> Result<(), Deviation> {
+fn try_drawn(alloc: Global, tree: &StringItem, config: &PrintConfig) -> Result<(), Deviation>
+    requires { HasReadablePieces config.now }
+{
     let drawing = made(
         tree.drawing(alloc, config),
         "`StringItem::drawing` succeeds",
