@@ -155,13 +155,13 @@ live_in() {
 }
 
 # Checks that a signal to a command alone ends the build, with all that it has started. Arguments: signal, command. (A shell
-# starts a command beside itself with SIGINT ignored, so that is set back.)
+# starts a command beside itself with SIGINT ignored, and nohup starts all with SIGHUP ignored, so both are set back.)
 check_signal() {
     local name=$1 session got
     shift
     rm -rf "$there/crates/ptree_cli/out" "$there/session"
     echo 'rm "$at"; ps -o sid= $$ >"$there/session"; sleep 300' >"$there/at_lib"
-    PATH=$there/path:$PATH env --default-signal=INT "$@" </dev/null >"$scratch/out" 2>"$scratch/err" &
+    PATH=$there/path:$PATH env --default-signal=INT,TERM,HUP "$@" </dev/null >"$scratch/out" 2>"$scratch/err" &
     for _ in $(seq 100); do
         [ -s "$there/session" ] && break
         sleep 0.1

@@ -12,6 +12,8 @@ mod equality;
 #[cfg(test)]
 mod errors;
 #[cfg(test)]
+mod examples;
+#[cfg(test)]
 mod graph;
 #[cfg(test)]
 mod items;

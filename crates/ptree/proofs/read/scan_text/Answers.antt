@@ -1,5 +1,5 @@
 use Rattle.std.proofs.Common.{ap, ◌∙◌, subst}
-use Rattle.std.specs.Prelude.{IfOk}
+use Rattle.std.specs.Prelude.{ℕ, IfOk}
 use Rattle.ptree.specs.Drawing.{Look}
 use Rattle.ptree.specs.Looks.{look_of}
 use Rattle.ptree.specs.Scanned.{IsReading}
@@ -8,4 +8,6 @@ use Rattle.ptree.proofs.read.scan_text.Goals as goal
 pub returns : goal.returns
 returns c =
     subst (λ (k : Look). IfOk c.read_in_frame.result (λ r. IsReading k c.args.config.now.depth c.args.text.now r))
-    (ap look_of c.in_ok-frame.ensures ∙ c.in_ok-look.ensures) c.read_in_frame.ensures
+    (ap look_of c.in_ok-frame.ensures.0 ∙ c.in_ok-look.ensures)
+    (subst (λ (d : ℕ). IfOk c.read_in_frame.result (λ r. IsReading (look_of c.in_ok-frame.frame.look.now) d c.args.text.now r))
+    c.in_ok-frame.ensures.1 c.read_in_frame.ensures)

@@ -1,0 +1,7 @@
+pub mod Changes
+pub mod Differences
+pub mod IndentedReading
+pub mod IndentedTexts
+pub mod IndentedWriting
+pub mod PathTrees
+pub mod Sorting

@@ -1,0 +1,77 @@
+use Rattle.std.proofs.Common.{◌≡◌, ◌∙◌, ℕ, get_or, ◌∷◌, ◌++◌, [], Some, None, true, sym, ap, subst, reverse, arith, rules, string_bytes}
+use Rattle.std.specs.Str.{bytes_eq}
+use Rattle.std.specs.Prelude.{option_map}
+use Rattle.ptree.specs.declared.item.StringItem.{out-StringItem}
+use Rattle.std.proofs.lemmas.List.{reverse-append}
+use Rattle.ptree.specs.Address.{Address}
+use Rattle.ptree.specs.Tree.{tree_of}
+use Rattle.ptree_trees.specs.Found.{IsFound, IsFirst}
+use Rattle.ptree_trees.proofs.Differences.{child_there, child_not_there, same_texts, differ_at_child, differ_below, same_to_none, same_to_next, same_to_end}
+use Rattle.ptree_trees.proofs.difference.+find_difference.Goals as goal
+
+pub loop-i-init : goal.loop-i-init
+loop-i-init t c =
+    let a = c.args.left.now in
+    let b = c.args.right.now in
+    let texts : bytes_eq (string_bytes (out-StringItem a).text) (string_bytes (out-StringItem b).text) ≡ true = search (rules) in
+    same_to_none (tree_of a) (tree_of b) (same_texts a b texts)
+
+pub returns-in_default : goal.returns-in_default
+returns-in_default t c =
+    let a = c.args.left.now in
+    let b = c.args.right.now in
+    let i = c.loop-i.i in
+    let left = child_there a c.deref-child-items.result.now i c.child-item.result c.deref-child-items.ensures.value c.loop-i-test.true c.child-item.is in
+    let right = child_not_there b c.deref.result.now i c.deref.ensures.value (omega (arith, c.in_default.ensures.lookup)) in
+    let items : c.in_ok-vec.field-0.items ≡ i ∷ [] = search rules in
+    rw items (differ_at_child (tree_of a) (tree_of b) i (Some (tree_of c.child-item.result)) None c.loop-i.invariant left right (λ e. (cc)))
+
+pub returns-in-Some-2 : goal.returns-in-Some-2
+returns-in-Some-2 t c =
+    let a = c.args.left.now in
+    let b = c.args.right.now in
+    let i = c.loop-i.i in
+    let x = tree_of c.child-item.result in
+    let y = tree_of c.in-Some.other.now in
+    let left = child_there a c.deref-child-items.result.now i c.child-item.result c.deref-child-items.ensures.value c.loop-i-test.true c.child-item.is in
+    let right = child_there b c.deref.result.now i c.in-Some.other.now c.deref.ensures.value (omega (arith, c.in-Some.ensures.lookup)) c.in-Some.ensures.lookup.1 in
+    let found = subst (λ o. IsFound x y o) c.in-Some-2.is c.in_ok-found.ensures in
+    let d = c.in-Some-2.found in
+    let first = differ_below (tree_of a) (tree_of b) x y i _ _ _ c.loop-i.invariant left right found in
+    let items : c.push.new.self.items ≡ d.address.items ++ i ∷ [] = search rules in
+    let address = ap reverse items ∙ reverse-append d.address.items (i ∷ []) in
+    subst (λ (z : Address). IsFirst (tree_of a) (tree_of b) z (option_map (λ s. tree_of s.now) d.left) (option_map (λ s. tree_of s.now) d.right)) (sym address) first
+
+pub loop-i-preserved : goal.loop-i-preserved
+loop-i-preserved t c =
+    let a = c.args.left.now in
+    let b = c.args.right.now in
+    let i = c.loop-i.i in
+    let x = tree_of c.child-item.result in
+    let y = tree_of c.in-Some.other.now in
+    let left = child_there a c.deref-child-items.result.now i c.child-item.result c.deref-child-items.ensures.value c.loop-i-test.true c.child-item.is in
+    let right = child_there b c.deref.result.now i c.in-Some.other.now c.deref.ensures.value (omega (arith, c.in-Some.ensures.lookup)) c.in-Some.ensures.lookup.1 in
+    same_to_next (tree_of a) (tree_of b) x y i c.loop-i.invariant left right (subst (λ o. IsFound x y o) c.in_default-2.is c.in_ok-found.ensures)
+
+pub returns-in_default-get : goal.returns-in_default-get
+returns-in_default-get t c =
+    let a = c.args.left.now in
+    let b = c.args.right.now in
+    let i = c.loop-i.i in
+    let left = child_not_there a c.deref-child-items.result.now i c.deref-child-items.ensures.value (omega arith) in
+    let right = child_not_there b c.deref-2.result.now i c.deref-2.ensures.value (omega (arith, c.in_default-get.ensures.lookup)) in
+    same_to_end (tree_of a) (tree_of b) i c.loop-i.invariant left right
+
+pub returns : goal.returns
+returns t c =
+    let a = c.args.left.now in
+    let b = c.args.right.now in
+    let i = c.loop-i.i in
+    let y = c.in-Some-get.other.now in
+    let last : c.len.result ≡ i = omega arith in
+    let left = child_not_there a c.deref-child-items.result.now i c.deref-child-items.ensures.value (omega arith) in
+    let right = child_there b c.deref-2.result.now i y c.deref-2.ensures.value (omega (arith, c.in-Some-get.ensures.lookup)) (subst (λ (k : ℕ). y ≡ get_or c.deref-2.result.now k y) last c.in-Some-get.ensures.lookup.1) in
+    let step = c.in_ok-vec-2.ensures.items in
+    let position : c.len-2.result ≡ i = omega arith in
+    let items : c.in_ok-vec-2.field-0.items ≡ i ∷ [] = cc in
+    rw items ((differ_at_child (tree_of a) (tree_of b) i None (Some (tree_of y)) c.loop-i.invariant left right (λ e. (cc))))

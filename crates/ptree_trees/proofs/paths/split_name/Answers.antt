@@ -1,0 +1,5 @@
+use Rattle.ptree_trees.proofs.PathTrees.{split_names}
+use Rattle.ptree_trees.proofs.paths.split_name.Goals as goal
+
+pub returns : goal.returns
+returns c = split_names c.args.separator c.args.path.now c.split_once.result c.split_once.ensures.cases c.requires

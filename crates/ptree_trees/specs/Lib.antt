@@ -1,0 +1,7 @@
+pub mod Change
+pub mod Difference
+pub mod Found
+pub mod Indented
+pub mod IndentedReading
+pub mod Paths
+pub mod Sort

@@ -1,0 +1,8 @@
+//! For those who keep and compare trees: trees as indented text, trees of paths, the first
+//! difference of two trees, and trees changed.
+#![tactic(auto)]
+
+pub mod change;
+pub mod difference;
+pub mod indented;
+pub mod paths;

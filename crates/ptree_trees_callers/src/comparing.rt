@@ -1,0 +1,50 @@
+//! Callers that compare trees.
+ghost use Rattle.std.specs.Prelude.{◌≡◌, ◌≢◌, ◌↔◌, IsTrue, IfOk, IfSome, None};
+ghost use Rattle.ptree.specs.Address.{at};
+ghost use Rattle.ptree.specs.Tree.{tree_kids, tree_of};
+
+use ptree::item::StringItem;
+use ptree_trees::difference::first_difference;
+use std::alloc::{AllocError, Global};
+
+/// Whether two trees are equal.
+pub fn is_same(alloc: Global, left: &StringItem, right: &StringItem) -> Result<bool, AllocError>
+    ensures { IfOk result (λ b. IsTrue b ↔ (tree_of left.now ≡ tree_of right.now)) }
+{
+    Ok(first_difference(alloc, left, right)?.is_none())
+}
+
+/// Whether two trees differ at the root: then their texts differ, and otherwise they don't.
+pub fn differ_at_root(
+    alloc: Global,
+    left: &StringItem,
+    right: &StringItem,
+) -> Result<bool, AllocError>
+    ensures { IfOk result (λ b. IsTrue b
+        ↔ ((tree_of left.now).text ≢ (tree_of right.now).text)) }
+{
+    let Some(found) = first_difference(alloc, left, right)? else {
+        return Ok(false);
+    };
+    Ok(found.address.is_empty())
+}
+
+/// Returns where the right tree has no item in the place of one of the left tree, if that is the
+/// first difference.
+pub fn first_lost(
+    alloc: Global,
+    left: &StringItem,
+    right: &StringItem,
+) -> Result<Option<Vec<usize>>, AllocError>
+    ensures { IfOk result (λ o. IfSome o (λ a.
+        (at tree_kids (tree_of left.now) a.items ≢ None)
+        × (at tree_kids (tree_of right.now) a.items ≡ None))) }
+{
+    let Some(found) = first_difference(alloc, left, right)? else {
+        return Ok(None);
+    };
+    if found.left.is_some() && found.right.is_none() {
+        return Ok(Some(found.address));
+    }
+    Ok(None)
+}
