@@ -6,8 +6,9 @@
 make_launched() {
     there=$scratch/launched
     chmod a+rx "$scratch"
-    mkdir -p "$there"/{bin,path,few,crates/ptree/src,crates/ptree_cli/src}
+    mkdir -p "$there"/{bin/parts,path,few,crates/ptree/src,crates/ptree_cli/src}
     cp bin/build bin/ptree_cli "$there/bin"
+    cp bin/parts/launch "$there/bin/parts"
     sed -i 's/^BETWEEN = 30$/BETWEEN = 1/' "$there/bin/build"
     printf 'ptree: toml\nptree_cli: ptree\nother: ptree\n' >"$there/crates.txt"
     echo one >"$there/crates/ptree/src/lib.rt"

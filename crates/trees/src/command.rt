@@ -1,0 +1,243 @@
+//! The commands, their options and their pages of help.
+
+use crate::help;
+
+/// What a call does.
+#[derive(Clone, Copy, Debug, PartialEq, Eq)]
+pub enum Command {
+    /// Draws a JSON document.
+    Json,
+
+    /// Draws a TOML document.
+    Toml,
+
+    /// Draws dependencies.
+    Deps,
+
+    /// Draws paths.
+    Paths,
+
+    /// Draws indented text.
+    Outline,
+
+    /// Writes a drawing as indented text.
+    Indented,
+
+    /// Says whether a text is a drawing.
+    Check,
+
+    /// Draws a drawing with other pieces.
+    Convert,
+
+    /// Finds the first difference of two drawings.
+    Diff,
+}
+
+/// All commands, in the order of the page of help.
+pub const COMMANDS: [Command; 9] = [
+    Command::Json,
+    Command::Toml,
+    Command::Deps,
+    Command::Paths,
+    Command::Outline,
+    Command::Indented,
+    Command::Check,
+    Command::Convert,
+    Command::Diff,
+];
+
+impl Command {
+    /// Returns the command's word.
+    pub fn word(self) -> &'static str {
+        match self {
+            Command::Json => "json",
+            Command::Toml => "toml",
+            Command::Deps => "deps",
+            Command::Paths => "paths",
+            Command::Outline => "outline",
+            Command::Indented => "indented",
+            Command::Check => "check",
+            Command::Convert => "convert",
+            Command::Diff => "diff",
+        }
+    }
+
+    /// Returns the command with this word.
+    pub fn named(word: &str) -> Option<Command> {
+        for command in COMMANDS {
+            if command.word() == word {
+                return Some(command);
+            }
+        }
+        None
+    }
+
+    /// Returns the command that draws a file with such a name.
+    pub fn of_file(name: &str) -> Option<Command> {
+        if name.ends_with(".json") {
+            Some(Command::Json)
+        } else if name.ends_with(".toml") {
+            Some(Command::Toml)
+        } else {
+            None
+        }
+    }
+
+    /// Whether the command has this option.
+    pub fn takes(self, option: Opt) -> bool {
+        match option {
+            Opt::Help | Opt::As => true,
+            Opt::Color => self != Command::Indented && self != Command::Check,
+            Opt::Depth => self != Command::Indented && self != Command::Check && self != Command::Diff,
+            Opt::At => self == Command::Json || self == Command::Toml,
+            Opt::Label => {
+                self == Command::Json || self == Command::Toml || self == Command::Paths
+            }
+            Opt::To => self == Command::Convert,
+            Opt::Sort => self == Command::Convert || self == Command::Paths,
+            Opt::Keep => self == Command::Convert || self == Command::Paths,
+            Opt::Unit => self == Command::Outline || self == Command::Indented,
+            Opt::Null => self == Command::Paths,
+            Opt::Root | Opt::Inverse | Opt::Walks => self == Command::Deps,
+            Opt::All => self == Command::Diff,
+        }
+    }
+
+    /// Returns the page of help.
+    pub fn help(self) -> &'static str {
+        match self {
+            Command::Json => help::JSON,
+            Command::Toml => help::TOML,
+            Command::Deps => help::DEPS,
+            Command::Paths => help::PATHS,
+            Command::Outline => help::OUTLINE,
+            Command::Indented => help::INDENTED,
+            Command::Check => help::CHECK,
+            Command::Convert => help::CONVERT,
+            Command::Diff => help::DIFF,
+        }
+    }
+}
+
+/// An option.
+#[derive(Clone, Copy, Debug, PartialEq, Eq)]
+pub enum Opt {
+    /// Shows the page of help.
+    Help,
+
+    /// The greatest level that is drawn.
+    Depth,
+
+    /// The keys that lead to a part of a document.
+    At,
+
+    /// The text of the root.
+    Label,
+
+    /// The pieces of the drawing that is read, or drawn.
+    As,
+
+    /// The pieces of the converted drawing.
+    To,
+
+    /// Sorts the children of each item.
+    Sort,
+
+    /// Keeps the items that contain a text.
+    Keep,
+
+    /// What a level is indented by.
+    Unit,
+
+    /// Paths end in a zero byte.
+    Null,
+
+    /// The package at the root.
+    Root,
+
+    /// Draws who needs a package.
+    Inverse,
+
+    /// Draws a package's dependencies wherever it occurs.
+    Walks,
+
+    /// Draws both trees with all differences.
+    All,
+
+    /// When the drawing is coloured.
+    Color,
+}
+
+/// All options.
+pub const OPTIONS: [Opt; 15] = [
+    Opt::Help,
+    Opt::Depth,
+    Opt::At,
+    Opt::Label,
+    Opt::As,
+    Opt::To,
+    Opt::Sort,
+    Opt::Keep,
+    Opt::Unit,
+    Opt::Null,
+    Opt::Root,
+    Opt::Inverse,
+    Opt::Walks,
+    Opt::All,
+    Opt::Color,
+];
+
+impl Opt {
+    /// Returns the option's word.
+    pub fn word(self) -> &'static str {
+        match self {
+            Opt::Help => "--help",
+            Opt::Depth => "--depth",
+            Opt::At => "--at",
+            Opt::Label => "--label",
+            Opt::As => "--as",
+            Opt::To => "--to",
+            Opt::Sort => "--sort",
+            Opt::Keep => "--keep",
+            Opt::Unit => "--unit",
+            Opt::Null => "--null",
+            Opt::Root => "--root",
+            Opt::Inverse => "--inverse",
+            Opt::Walks => "--walks",
+            Opt::All => "--all",
+            Opt::Color => "--color",
+        }
+    }
+
+    /// Returns the option of a word, which may be one of a single letter.
+    pub fn named(word: &str) -> Option<Opt> {
+        if word == "-h" {
+            return Some(Opt::Help);
+        }
+        if word == "-0" {
+            return Some(Opt::Null);
+        }
+        for option in OPTIONS {
+            if option.word() == word {
+                return Some(option);
+            }
+        }
+        None
+    }
+
+    /// Whether a value follows the option.
+    pub fn takes_value(self) -> bool {
+        match self {
+            Opt::Help | Opt::Sort | Opt::Null | Opt::Inverse | Opt::Walks | Opt::All => false,
+            Opt::Depth
+            | Opt::At
+            | Opt::Label
+            | Opt::As
+            | Opt::To
+            | Opt::Keep
+            | Opt::Unit
+            | Opt::Root
+            | Opt::Color => true,
+        }
+    }
+}

@@ -1,0 +1,58 @@
+//! Why a call did not do what it was asked, and its exit status.
+
+use ptree::style::DrawError;
+use std::alloc::{AllocError, AllocFailed};
+use std::io::ErrorKind;
+
+/// Why a call did not do what it was asked.
+#[derive(Debug, Drop)]
+pub enum Failure {
+    /// The words are wrong. The text says what is, and what would be right.
+    Usage(String),
+
+    /// The text says what is wrong with an input, with its name and the line.
+    Input(String),
+
+    /// Two trees differ, or a text is no drawing. Standard output has said so.
+    Said,
+
+    /// Standard output failed.
+    Output(ErrorKind),
+
+    /// Memory ran out.
+    Memory,
+}
+
+impl Failure {
+    /// Returns the exit status. After a closed pipe it is the one that a shell reports of a program
+    /// that SIGPIPE ended.
+    pub fn status(&self) -> u8 {
+        match self {
+            Failure::Usage(_) => 2,
+            Failure::Output(ErrorKind::BrokenPipe) => 141,
+            Failure::Input(_) | Failure::Said | Failure::Output(_) | Failure::Memory => 1,
+        }
+    }
+}
+
+impl From<AllocError> for Failure {
+    fn from(_e: AllocError) -> Failure {
+        Failure::Memory
+    }
+}
+
+impl<T: Drop> From<AllocFailed<T>> for Failure {
+    fn from(_e: AllocFailed<T>) -> Failure {
+        Failure::Memory
+    }
+}
+
+impl From<DrawError> for Failure {
+    fn from(e: DrawError) -> Failure {
+        match e {
+            DrawError::Write(e) => Failure::Output(e.kind()),
+            DrawError::Zero => Failure::Output(ErrorKind::WriteZero),
+            DrawError::Memory => Failure::Memory,
+        }
+    }
+}

@@ -1,0 +1,85 @@
+//! Draws, keeps and compares trees from the command line.
+#![tactic(auto)]
+
+mod command;
+mod compare;
+mod deps;
+mod document;
+mod drawings;
+mod failure;
+mod help;
+mod lists;
+mod options;
+mod perform;
+mod pieces;
+mod run;
+mod source;
+mod suggest;
+
+use failure::Failure;
+use ptree::buffered::Buffered;
+use ptree::style::Counted;
+use run::run;
+use std::env;
+use std::io::{self, ErrorKind, IsTerminal};
+use std::process::ExitCode;
+
+// The size of the output's buffer.
+const ROOM: usize = 8192;
+
+// Returns the words of the call.
+fn words(rt: &HostRuntime) -> Result<Vec<String>, Failure> {
+    let words = match env::args(rt) {
+        Ok(words) => words.skip(1).collect(rt.alloc())?,
+        Err(e) if e.kind() == ErrorKind::OutOfMemory => return Err(Failure::Memory),
+        Err(_) => {
+            let text = String::from_str(rt.alloc(), "a word is not UTF-8")?;
+            return Err(Failure::Usage(text));
+        }
+    };
+    Ok(words)
+}
+
+// Whether drawings are coloured if no option says it: on a terminal, unless NO_COLOR is set.
+fn is_styled(rt: &HostRuntime) -> bool {
+    rt.stdout().is_terminal()
+        && match env::var(rt, "NO_COLOR") {
+            Ok(value) => value.is_empty(),
+            Err(_) => true,
+        }
+}
+
+// Runs the call over the streams of the process.
+fn run_process(rt: &HostRuntime) -> Result<(), Failure> {
+    let words = words(rt)?;
+    let styled = is_styled(rt);
+    let mut input = rt.stdin();
+    let mut out = Buffered::with_capacity(rt.alloc(), ROOM, Counted::new(io::writer(rt)))?;
+    let end = run(rt, words.as_slice(), &mut input, &mut out, styled);
+    match end {
+        Ok(()) | Err(Failure::Said) => out.flush()?,
+        Err(_) => {}
+    }
+    end
+}
+
+// Says on standard error why the call did not do what it was asked. A fault there changes nothing.
+fn tell(rt: &HostRuntime, failure: &Failure) {
+    let _ = match failure {
+        Failure::Usage(text) => eprintln!(rt; "trees: {text}"),
+        Failure::Input(text) => eprintln!(rt; "trees: {text}"),
+        Failure::Output(ErrorKind::BrokenPipe) | Failure::Said => Ok(()),
+        Failure::Output(_) => eprintln!(rt; "trees: cannot write"),
+        Failure::Memory => eprintln!(rt; "trees: out of memory"),
+    };
+}
+
+fn main(rt: HostRuntime) -> ExitCode {
+    match run_process(&rt) {
+        Ok(()) => ExitCode::from(0),
+        Err(failure) => {
+            tell(&rt, &failure);
+            ExitCode::from(failure.status())
+        }
+    }
+}

@@ -1,0 +1,217 @@
+//! Does what a command asks for, without writing anything.
+
+use crate::command::{Command, Opt};
+use crate::compare;
+use crate::deps::{Dependencies, read_dependencies};
+use crate::document;
+use crate::drawings;
+use crate::failure::Failure;
+use crate::lists;
+use crate::options::Options;
+use crate::pieces;
+use crate::source::Source;
+use ptree::item::StringItem;
+use ptree::print_config::{PrintConfig, StyleWhen};
+use ptree_trees::change::{kept, sorted};
+use std::alloc::{AllocError, Global};
+
+/// What a call writes.
+#[derive(Drop)]
+pub enum Shown {
+    /// A tree's drawing.
+    Tree(StringItem, PrintConfig),
+
+    /// The drawing of dependencies. The flag says that each package's are drawn wherever it stands.
+    Dependencies(Dependencies, PrintConfig, bool),
+
+    /// A text.
+    Text(String),
+}
+
+/// What a call writes, and whether it is a refusal.
+#[derive(Drop)]
+pub struct Outcome {
+    pub shown: Shown,
+    pub is_refusal: bool,
+}
+
+// An outcome that is no refusal.
+fn done(shown: Shown) -> Result<Outcome, Failure> {
+    Ok(Outcome {
+        shown,
+        is_refusal: false,
+    })
+}
+
+/// Does what a command asks for. `styled` says whether `auto` means coloured.
+///
+/// # Errors
+///
+/// `Usage` if an option's value or the number of files is wrong, `Input` if an input is, and
+/// `Memory`.
+pub fn perform(
+    alloc: Global,
+    command: Command,
+    options: &Options<'_>,
+    sources: &[Source],
+    styled: bool,
+) -> Result<Outcome, Failure> {
+    let config = config(alloc, options, Opt::As, styled)?;
+    match (command, sources) {
+        (Command::Check, _) => check(alloc, sources, &config),
+        (Command::Diff, [left, right]) => diff(alloc, options, left, right, config),
+        (Command::Diff, _) => usage(alloc, "diff needs two files"),
+        (_, [source]) => of_one(alloc, command, options, source, config, styled),
+        _ => usage(alloc, "more than one file"),
+    }
+}
+
+// Says that the words are wrong.
+fn usage(alloc: Global, text: &str) -> Result<Outcome, Failure> {
+    Err(Failure::Usage(String::from_str(alloc, text)?))
+}
+
+// Does what a command over one input asks for.
+fn of_one(
+    alloc: Global,
+    command: Command,
+    options: &Options<'_>,
+    source: &Source,
+    config: PrintConfig,
+    styled: bool,
+) -> Result<Outcome, Failure> {
+    let at = options.value(Opt::At);
+    let label = options.value(Opt::Label);
+    let unit = options.value(Opt::Unit);
+    match command {
+        Command::Json => done(Shown::Tree(document::json(alloc, source, at, label)?, config)),
+        Command::Toml => done(Shown::Tree(document::toml(alloc, source, at, label)?, config)),
+        Command::Paths => {
+            let tree = lists::paths(alloc, source, options.has(Opt::Null), label)?;
+            done(Shown::Tree(changed(alloc, source, tree, options)?, config))
+        }
+        Command::Outline => done(Shown::Tree(lists::outline(alloc, source, unit)?, config)),
+        Command::Indented => {
+            let tree = drawings::read(alloc, source, &config)?;
+            done(Shown::Text(lists::indented(alloc, source, &tree, unit)?))
+        }
+        Command::Deps => {
+            let root = options.value(Opt::Root);
+            let found = read_dependencies(alloc, source, root, options.has(Opt::Inverse))?;
+            done(Shown::Dependencies(found, config, options.has(Opt::Walks)))
+        }
+        Command::Convert => {
+            let tree = drawings::read(alloc, source, &config)?;
+            let to = self::config(alloc, options, Opt::To, styled)?;
+            done(Shown::Tree(changed(alloc, source, tree, options)?, to))
+        }
+        Command::Check | Command::Diff => usage(alloc, "more than one file"),
+    }
+}
+
+// Returns the configuration that an option names, or the default one, with the other options.
+fn config(
+    alloc: Global,
+    options: &Options<'_>,
+    named_by: Opt,
+    styled: bool,
+) -> Result<PrintConfig, Failure> {
+    let mut config = pieces::config(alloc, options.value(named_by).unwrap_or("utf"))?;
+    if let Some(depth) = options.value(Opt::Depth) {
+        config.depth = match depth.parse::<u32>() {
+            Ok(depth) => depth,
+            Err(_) => {
+                let text = format!(in alloc; "--depth needs a number up to 4294967295, not {depth}")?;
+                return Err(Failure::Usage(text));
+            }
+        };
+    }
+    config.styled = when(alloc, options.value(Opt::Color), styled)?;
+    Ok(config)
+}
+
+// Returns when a drawing is coloured.
+fn when(alloc: Global, color: Option<&str>, styled: bool) -> Result<StyleWhen, Failure> {
+    match color {
+        Some("always") => Ok(StyleWhen::Always),
+        Some("never") => Ok(StyleWhen::Never),
+        Some("auto") | None if styled => Ok(StyleWhen::Always),
+        Some("auto") | None => Ok(StyleWhen::Never),
+        Some(other) => Err(Failure::Usage(
+            format!(in alloc; "--color needs auto, always or never, not {other}")?,
+        )),
+    }
+}
+
+// Sorts a tree and keeps a part of it, as the options say.
+fn changed(
+    alloc: Global,
+    source: &Source,
+    tree: StringItem,
+    options: &Options<'_>,
+) -> Result<StringItem, Failure> {
+    let mut tree = tree;
+    if let Some(part) = options.value(Opt::Keep) {
+        tree = match kept(alloc, &tree, |text: &str| text.contains(part))? {
+            Some(tree) => tree,
+            None => {
+                let wrong = format!(in alloc; "nothing contains {part}")?;
+                return Err(source.wrong(alloc, wrong.as_str())?);
+            }
+        };
+    }
+    if options.has(Opt::Sort) {
+        tree = sorted(alloc, &tree)?;
+    }
+    Ok(tree)
+}
+
+// Says of each input whether it is a drawing.
+fn check(alloc: Global, sources: &[Source], config: &PrintConfig) -> Result<Outcome, Failure> {
+    let mut said = String::new(alloc);
+    let mut is_refusal = false;
+    for source in sources {
+        match drawings::read(alloc, source, config) {
+            Ok(tree) => {
+                let name = &source.name;
+                let n = drawings::count(alloc, &tree)?;
+                let line = format!(in alloc; "{name}: a drawing of {n} items\n")?;
+                said.push_str(line.as_str())?;
+            }
+            Err(Failure::Input(wrong)) => {
+                said.push_str(wrong.as_str())?;
+                said.push_str("\n")?;
+                is_refusal = true;
+            }
+            Err(other) => return Err(other),
+        }
+    }
+    Ok(Outcome {
+        shown: Shown::Text(said),
+        is_refusal,
+    })
+}
+
+// Compares two drawings.
+fn diff(
+    alloc: Global,
+    options: &Options<'_>,
+    left: &Source,
+    right: &Source,
+    config: PrintConfig,
+) -> Result<Outcome, Failure> {
+    let first = drawings::read(alloc, left, &config)?;
+    let second = drawings::read(alloc, right, &config)?;
+    let Some(said) = compare::first(alloc, &first, &second)? else {
+        return done(Shown::Text(String::new(alloc)));
+    };
+    let shown = if options.has(Opt::All) {
+        Shown::Tree(compare::both(alloc, &first, &second)?, config)
+    } else {
+        Shown::Text(said)
+    };
+    Ok(Outcome {
+        shown,
+        is_refusal: true,
+    })
+}

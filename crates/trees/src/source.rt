@@ -1,0 +1,84 @@
+//! The inputs of a call.
+
+use crate::failure::Failure;
+use std::alloc::{AllocError, Global};
+use std::fs;
+use std::io::{self, ErrorKind, Read};
+use std::rt::Files;
+
+/// A text, and the name that messages give it.
+#[derive(Drop)]
+pub struct Source {
+    pub name: String,
+    pub text: String,
+}
+
+impl Source {
+    /// Reads a file, or standard input if the path is `-`.
+    ///
+    /// # Errors
+    ///
+    /// `Input` if it cannot be read, or is not UTF-8, and `Memory`.
+    pub fn read<R: Files + AllocGlobal, I: Read>(
+        rt: &R,
+        path: &str,
+        input: &mut I,
+    ) -> Result<Source, Failure> {
+        let alloc = rt.alloc();
+        if path == "-" {
+            let name = String::from_str(alloc, "standard input")?;
+            let mut text = String::new(alloc);
+            return match input.read_to_string(&mut text) {
+                Ok(_) => Ok(Source { name, text }),
+                Err(e) => Err(unreadable(alloc, name.as_str(), e)?),
+            };
+        }
+        match fs::read_to_string(rt, path) {
+            Ok(text) => Ok(Source {
+                name: String::from_str(alloc, path)?,
+                text,
+            }),
+            Err(e) => Err(unreadable(alloc, path, e)?),
+        }
+    }
+
+    /// Returns what a document is called: the last part of its path.
+    pub fn label(&self) -> &str {
+        let name = self.name.as_str();
+        match name.rsplit_once('/') {
+            Some((_, last)) => last,
+            None => name,
+        }
+    }
+
+    /// Says what is wrong at a line of the text.
+    ///
+    /// # Errors
+    ///
+    /// Memory ran out.
+    pub fn wrong_at(&self, alloc: Global, line: usize, wrong: &str) -> Result<Failure, AllocError> {
+        let name = &self.name;
+        Ok(Failure::Input(format!(in alloc; "{name}:{line}: {wrong}")?))
+    }
+
+    /// Says what is wrong with the text.
+    ///
+    /// # Errors
+    ///
+    /// Memory ran out.
+    pub fn wrong(&self, alloc: Global, wrong: &str) -> Result<Failure, AllocError> {
+        let name = &self.name;
+        Ok(Failure::Input(format!(in alloc; "{name}: {wrong}")?))
+    }
+}
+
+// Says that an input was not read.
+fn unreadable(alloc: Global, name: &str, e: io::Error) -> Result<Failure, AllocError> {
+    if e.kind() == ErrorKind::OutOfMemory {
+        return Ok(Failure::Memory);
+    }
+    if e.kind() == ErrorKind::InvalidData {
+        return Ok(Failure::Input(format!(in alloc; "{name}: not UTF-8")?));
+    }
+    Ok(Failure::Input(format!(in alloc; "{name}: {e}")?))
+}
