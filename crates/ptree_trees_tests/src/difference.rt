@@ -36,13 +36,13 @@ fn expect_difference(
 #[test]
 fn first_of_several(rt: HostRuntime) -> Result<(), Fail> {
     let alloc = rt.alloc();
-    let left: Below = &[(1, "a"), (2, "b"), (3, "c"), (1, "d")];
-    let at_c: Below = &[(1, "a"), (2, "b"), (3, "x"), (1, "e")];
-    expect_difference(alloc, left, at_c, &[0, 0, 0], ("c", "x"))?;
-    let at_b: Below = &[(1, "a"), (2, "y"), (3, "x"), (1, "d")];
-    expect_difference(alloc, left, at_b, &[0, 0], ("b", "y"))?;
-    let at_d: Below = &[(1, "a"), (2, "b"), (3, "c"), (1, "e")];
-    expect_difference(alloc, left, at_d, &[1], ("d", "e"))
+    let left: Below = &[(1, "z"), (1, "a"), (2, "b"), (3, "c"), (1, "d")];
+    let at_c: Below = &[(1, "z"), (1, "a"), (2, "b"), (3, "x"), (1, "e")];
+    expect_difference(alloc, left, at_c, &[1, 0, 0], ("c", "x"))?;
+    let at_b: Below = &[(1, "z"), (1, "a"), (2, "y"), (3, "x"), (1, "d")];
+    expect_difference(alloc, left, at_b, &[1, 0], ("b", "y"))?;
+    let at_d: Below = &[(1, "z"), (1, "a"), (2, "b"), (3, "c"), (1, "e")];
+    expect_difference(alloc, left, at_d, &[2], ("d", "e"))
 }
 
 #[test]
