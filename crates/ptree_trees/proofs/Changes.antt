@@ -1,6 +1,7 @@
 -- Trees changed.
 use Rattle.std.specs.Prelude.{◌||◌, ◌≢◌, if◌then◌else◌, option_map}
-use Rattle.std.proofs.Common.{Option, string_bytes, ◌≡◌, ◌∙◌, ◌+◌, ◌<◌, ◌++◌, length, get_or, drop, map, append_assoc, arith, ◌≤◌, ◌⊎◌, inl, inr, ℕ, Bool, true, false, List, [], ◌∷◌, Some, None, ap, sym, refl}
+use Rattle.std.proofs.Common.{Option, Some, None, string_bytes, ◌≡◌, ◌∙◌, ap, sym, refl, ◌⊎◌, inl, inr, ℕ, ◌+◌, ◌<◌, ◌≤◌, arith}
+use Rattle.std.proofs.Common.{Bool, true, false, List, [], ◌∷◌, ◌++◌, length, get_or, drop, map, append_assoc}
 use Rattle.std.proofs.lemmas.List.{at_drop_more, append-nil, drop_all, map-append}
 use Rattle.ptree.specs.Tree.{Forest, none, item, Tree, tree, tree_of, trees, forest}
 use Rattle.ptree.specs.declared.item.StringItem.{StringItem, out-StringItem}
@@ -96,15 +97,16 @@ module _ (test : List ℕ → Bool) where
     kept_to_end xs kept i all l h = sym (rw (append-nil) at (ap (λ ys. map view kept ++ kept_trees test (map view ys)) (sym (drop_all i xs l)) ∙ h))
 
   -- an item is not kept if its text doesn't pass, and no children are kept
-  pub item_not_kept : (s : StringItem) (xs kept : List StringItem) (i : ℕ) → length xs ≤ i → map tree_of kept ++ kept_trees test (map tree_of (drop i xs)) ≡ trees (kept_forest test (tree_of s).children)
-      → length kept ≡ 0 → test (string_bytes (out-StringItem s).text) ≡ false → None ≡ kept_tree test (tree_of s)
+  pub item_not_kept : (s : StringItem) (xs kept : List StringItem) (i : ℕ) → length xs ≤ i
+      → map tree_of kept ++ kept_trees test (map tree_of (drop i xs)) ≡ trees (kept_forest test (tree_of s).children) → length kept ≡ 0 → test (string_bytes (out-StringItem s).text) ≡ false → None ≡ kept_tree test (tree_of s)
   item_not_kept s xs [] i l h e own = sym (not_kept (tree_of s) (rw tree_of_item own) (kept_to_end tree_of xs [] i (trees (kept_forest test (tree_of s).children)) l h))
   item_not_kept s xs (k ∷ ks) i l h e own = absurd (omega arith)
 
   -- an item is kept with what is kept of its children if its text passes, or there is one
   pub item_kept : (s : StringItem) (xs : List StringItem) (x : StringItem-F StringItem) (i : ℕ) → length xs ≤ i
       → map tree_of x.children.items ++ kept_trees test (map tree_of (drop i xs)) ≡ trees (kept_forest test (tree_of s).children)
-      → string_bytes x.text ≡ string_bytes (out-StringItem s).text → (test (string_bytes (out-StringItem s).text) ≡ true) ⊎ (length x.children.items ≢ 0) → Some (tree_of (roll-StringItem x)) ≡ kept_tree test (tree_of s)
+      → string_bytes x.text ≡ string_bytes (out-StringItem s).text → (test (string_bytes (out-StringItem s).text) ≡ true) ⊎ (length x.children.items ≢ 0)
+      → Some (tree_of (roll-StringItem x)) ≡ kept_tree test (tree_of s)
   item_kept s xs x i l h text passes =
       let ts = map tree_of x.children.items in
       let own : (tree_of s).text ≡ string_bytes (out-StringItem s).text = ap (λ t. t.text) (tree_of_item s) in

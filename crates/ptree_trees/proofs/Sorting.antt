@@ -73,7 +73,8 @@ module _ {X : Type 0} where
         rw (get_or-map view ts (k + 1) y d bound, get_or-map view ts k y d (omega arith)) (h k y low bound)
 
     -- elements with one text that keep their order have trees that do
-    stable_trees : (xs ys : List X) → IsStableBy (λ a b. is_text_less (view a) (view b)) xs ys → (text : List ℕ) → filter (λ t. bytes_eq t.text text) (map view ys) ≡ filter (λ t. bytes_eq t.text text) (map view xs)
+    stable_trees : (xs ys : List X) → IsStableBy (λ a b. is_text_less (view a) (view b)) xs ys → (text : List ℕ)
+        → filter (λ t. bytes_eq t.text text) (map view ys) ≡ filter (λ t. bytes_eq t.text text) (map view xs)
     stable_trees xs ys h text =
         filter-map (λ t. bytes_eq t.text text) ys ∙ ap (map view) (same_by_elements (λ x. bytes_eq (view x).text text) xs ys by_element) ∙ sym (filter-map (λ t. bytes_eq t.text text) xs)
       where
@@ -84,7 +85,8 @@ module _ {X : Type 0} where
             sym (ap (λ p. filter p ys) tests) ∙ h z ∙ ap (λ p. filter p xs) tests
 
     -- a sort of elements by the texts of their trees sorts the trees
-    pub sorts_trees : (xs ys : List X) → IsPermutation xs ys → IsSortedBy (λ a b. is_text_less (view a) (view b)) ys → IsStableBy (λ a b. is_text_less (view a) (view b)) xs ys → IsSortOf (map view xs) (map view ys)
+    pub sorts_trees : (xs ys : List X) → IsPermutation xs ys → IsSortedBy (λ a b. is_text_less (view a) (view b)) ys
+        → IsStableBy (λ a b. is_text_less (view a) (view b)) xs ys → IsSortOf (map view xs) (map view ys)
     sorts_trees xs ys p s t = record {
       permutation = IsPermutation-map view xs ys p;
       ascending = sorted_trees ys s;
@@ -106,8 +108,8 @@ next_sorted view xs done new i x s l is made before here =
     rw (front, made, map-append, map-append) (more_sorted (map view (take i xs)) (map view done) (view x) (view s) before here)
 
 -- a new item is a sorted item if it has its text, and the sort of its sorted children
-pub sorted_whole : (root : StringItem) (x : StringItem-F StringItem) (xs done : List StringItem) (i : ℕ) → xs ≡ (out-StringItem root).children.items → length xs ≤ i → string_bytes x.text ≡ string_bytes (out-StringItem root).text
-    → AreSorted (forest (map tree_of (take i xs))) (map tree_of done) → IsSortOf (map tree_of done) (map tree_of x.children.items) → IsSortedTree (tree_of root) (tree_of (roll-StringItem x))
+pub sorted_whole : (root : StringItem) (x : StringItem-F StringItem) (xs done : List StringItem) (i : ℕ) → xs ≡ (out-StringItem root).children.items → length xs ≤ i
+    → string_bytes x.text ≡ string_bytes (out-StringItem root).text → AreSorted (forest (map tree_of (take i xs))) (map tree_of done) → IsSortOf (map tree_of done) (map tree_of x.children.items) → IsSortedTree (tree_of root) (tree_of (roll-StringItem x))
 sorted_whole root x xs done i e l text before sort =
     let own = tree_of_item root in
     let new = tree_of_roll x in

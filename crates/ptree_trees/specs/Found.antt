@@ -15,4 +15,7 @@ pub record IsFirst (t u : Tree) (a : Address) (x y : Option Tree) : Type 0 where
 -- the first difference, with its address in reverse order, or the trees are equal
 abbrev pub IsFound : Tree → Tree → Option Difference → Type 0
 IsFound t u None = t ≡ u
-IsFound t u (Some d) = IsFirst t u (reverse d.address.items) (option_map (λ s. tree_of s.now) d.left) (option_map (λ s. tree_of s.now) d.right)
+IsFound t u (Some d) =
+    let left = option_map (λ s. tree_of s.now) d.left in
+    let right = option_map (λ s. tree_of s.now) d.right in
+    IsFirst t u (reverse d.address.items) left right

@@ -1,7 +1,8 @@
 use Rattle.std.proofs.Common.{◌≡◌, ◌∙◌, ◌∷◌, [], ◌++◌, inl, inr, false, length, vec_len, eqb-true, eq-eqb, string_bytes, ap, sym, refl, arith, rules}
 use Rattle.std.proofs.lemmas.Bool.{false≢true}
 use Rattle.std.proofs.lemmas.Fn.{says_at}
-use Rattle.ptree.specs.declared.item.StringItem.{out-StringItem}
+use Rattle.ptree.specs.declared.item.StringItem.{StringItem, out-StringItem}
+use Rattle.ptree.specs.declared.item.StringItem.TheOpen.{StringItem-F}
 use Rattle.ptree.specs.Tree.{tree_of, trees}
 use Rattle.ptree_trees.specs.Change.{kept_forest}
 use Rattle.ptree_trees.proofs.Changes.{next_is_kept, next_is_not_kept, item_not_kept, item_kept}
@@ -20,10 +21,12 @@ loop-child-preserved g t c = λ test tests.
       | in-Some+in_ok-push w ↦ (
           let k = w.in-Some.kept in
           let made : new ≡ kept ++ k ∷ [] = ap (λ v. v.items) w.children-is ∙ w.in_ok-push.ensures.items in
-          next_is_kept test tree_of xs kept new i x k c.in_ok-kept.field-0 all c.loop-child-test.true c.child-item.is w.in-Some.is made (c.in_ok-kept.ensures test tests) (c.loop-child.invariant test tests))
+          next_is_kept test tree_of xs kept new i x k c.in_ok-kept.field-0 all c.loop-child-test.true c.child-item.is w.in-Some.is made
+          (c.in_ok-kept.ensures test tests) (c.loop-child.invariant test tests))
       | in_default w ↦ (
           let made : new ≡ kept = ap (λ v. v.items) w.children-is in
-          next_is_not_kept test tree_of xs kept new i x c.in_ok-kept.field-0 all c.loop-child-test.true c.child-item.is w.in_default.is made (c.in_ok-kept.ensures test tests) (c.loop-child.invariant test tests))
+          next_is_not_kept test tree_of xs kept new i x c.in_ok-kept.field-0 all c.loop-child-test.true c.child-item.is w.in_default.is made
+          (c.in_ok-kept.ensures test tests) (c.loop-child.invariant test tests))
     ]
 
 pub returns-then-not-passes : goal.returns-then-not-passes
@@ -40,7 +43,9 @@ returns g t c = λ test tests.
     let item = c.args.item.now in
     let children = c.loop-child.children in
     let cloned : string_bytes c.in_ok-clone.field-0 ≡ string_bytes (out-StringItem item).text = search rules in
-    let whole = item_kept test item c.deref-child-items.result.now (record { text = c.in_ok-clone.field-0; children = children }) c.loop-child.child-index c.loop-child-test.false (c.loop-child.invariant test tests) cloned in
+    let made : StringItem-F StringItem = record { text = c.in_ok-clone.field-0; children = children } in
+    let whole =
+    item_kept test item c.deref-child-items.result.now made c.loop-child.child-index c.loop-child-test.false (c.loop-child.invariant test tests) cloned in
     elim c.else-is_empty.branch [
       | else-is_empty-via-then-is_empty+else-not-passes w ↦ (
           let own : w.passes.result ≡ test w.as_str.result.now = tests w.as_str.result.now w.passes.result (says_at g.F.Fn w.passes.ensures refl) in

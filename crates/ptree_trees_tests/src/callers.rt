@@ -1,0 +1,68 @@
+//! Runs each caller once.
+use crate::expect::{Below, expect_text, expect_tree, tree};
+use ptree_trees_callers::changing::{
+    at_nothing, at_two, keep_containing, keep_named, sorted_has_text,
+};
+use ptree_trees_callers::comparing::{differ_at_root, first_lost, is_same};
+use ptree_trees_callers::indenting::{
+    is_appended, is_cut_off, is_refused, read_by_unit, there_and_back, written_anew, wrong_line,
+};
+use std::test::Fail;
+
+// The items below the root of each tree.
+const BELOW: Below = &[(1, "b"), (2, "c"), (1, "ab")];
+
+#[test]
+fn comparing(rt: HostRuntime) -> Result<(), Fail> {
+    let alloc = rt.alloc();
+    let left = tree(alloc, "r", BELOW)?;
+    let right = tree(alloc, "r", &[(1, "b")])?;
+    assert!(rt; !is_same(alloc, &left, &right)?);
+    assert!(rt; !differ_at_root(alloc, &left, &right)?);
+    let lost = first_lost(alloc, &left, &right)?.ok_or("none lost")?;
+    assert!(rt; lost.as_slice() == [0, 0].as_slice());
+    Ok(())
+}
+
+#[test]
+fn changing(rt: HostRuntime) -> Result<(), Fail> {
+    let alloc = rt.alloc();
+    let root = tree(alloc, "r", BELOW)?;
+    let named = keep_named(alloc, &root, "c")?.ok_or("none kept")?;
+    expect_tree(alloc, &named, "r", &[(1, "b"), (2, "c")])?;
+    let containing = keep_containing(alloc, &root, "a")?.ok_or("none kept")?;
+    expect_tree(alloc, &containing, "r", &[(1, "ab")])
+}
+
+#[test]
+fn finding(rt: HostRuntime) -> Result<(), Fail> {
+    let alloc = rt.alloc();
+    let root = tree(alloc, "r", BELOW)?;
+    expect_tree(alloc, at_nothing(&root).ok_or("no root")?, "r", BELOW)?;
+    expect_tree(alloc, at_two(&root, "b", "c").ok_or("no item")?, "c", &[])?;
+    let sorted: Below = &[(1, "ab"), (1, "b"), (2, "c")];
+    expect_tree(alloc, &sorted_has_text(alloc, &root)?, "r", sorted)
+}
+
+#[test]
+fn writing(rt: HostRuntime) -> Result<(), Fail> {
+    let alloc = rt.alloc();
+    let root = tree(alloc, "r", BELOW)?;
+    let back = there_and_back(alloc, &root, "  ")?.ok_or("not written")?;
+    expect_tree(alloc, &back, "r", BELOW)?;
+    let mut out = String::new(alloc);
+    assert!(rt; is_appended(alloc, &root, " ", &mut out));
+    expect_text(out.as_str(), "r\n b\n  c\n ab\n")?;
+    assert!(rt; !is_refused(alloc, &root, " ", &mut out));
+    Ok(())
+}
+
+#[test]
+fn reading(rt: HostRuntime) -> Result<(), Fail> {
+    let alloc = rt.alloc();
+    expect_text(written_anew(alloc, "r\n a\n", " ")?.as_str(), "r\n a\n")?;
+    assert!(rt; wrong_line(alloc, "r\n a\nb\n", " ")? == Some(3));
+    assert!(rt; is_cut_off(alloc, "r\n a", " ")?);
+    assert!(rt; read_by_unit(alloc, "r\n", "")?.is_none());
+    Ok(())
+}

@@ -1,0 +1,24 @@
+//! Tests the texts of errors.
+use crate::expect::expect_text;
+use ptree_trees::indented::{IndentError, WriteError};
+use std::alloc::Global;
+use std::fmt::Display;
+use std::test::Fail;
+
+// Expects that an error has this text.
+fn expect_message(alloc: Global, error: &impl Display, wanted: &str) -> Result<(), Fail> {
+    let text = format!(in alloc; "{error}")?;
+    expect_text(text.as_str(), wanted)
+}
+
+#[test]
+fn texts(rt: HostRuntime) -> Result<(), Fail> {
+    let alloc = rt.alloc();
+    let line = "line 4 cannot continue the indented form";
+    expect_message(alloc, &IndentError::Line(4), line)?;
+    expect_message(alloc, &IndentError::End, "the text is incomplete")?;
+    expect_message(alloc, &IndentError::Memory, "out of memory")?;
+    let text = "the text of an item cannot stand behind an indent";
+    expect_message(alloc, &WriteError::Text, text)?;
+    expect_message(alloc, &WriteError::Memory, "out of memory")
+}
