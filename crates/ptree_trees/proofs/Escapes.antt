@@ -113,7 +113,8 @@ same_char c d r t e = by_forms (forms c) (forms d) where
       let four : digit_char (c % 16) ≡ digit_char (d % 16) = cc in
       let low = p.fits in
       let high = q.fits in (
-        code_whole c d p.fits q.fits (same_digit _ _ (omega arith) (omega arith) one) (same_digit _ _ (omega arith) (omega arith) two) (same_digit _ _ (omega arith) (omega arith) three) (same_digit _ _ (omega arith) (omega arith) four),
+        code_whole c d p.fits q.fits (same_digit _ _ (omega arith) (omega arith) one) (same_digit _ _ (omega arith) (omega arith) two)
+            (same_digit _ _ (omega arith) (omega arith) three) (same_digit _ _ (omega arith) (omega arith) four),
         cc,
       )
 
@@ -239,7 +240,8 @@ same_if text r u is = (
 -- ## The loop
 
 -- one character more
-pub char_pushed : (cs : List ℕ) (c : ℕ) (old new : List ℕ) → old ≡ encode_utf8_all (flat_map escape_char cs) → new ≡ old ++ encode_utf8_all (escape_char c) → new ≡ encode_utf8_all (flat_map escape_char (cs ++ c ∷ []))
+pub char_pushed : (cs : List ℕ) (c : ℕ) (old new : List ℕ) → old ≡ encode_utf8_all (flat_map escape_char cs) → new ≡ old ++ encode_utf8_all (escape_char c)
+    → new ≡ encode_utf8_all (flat_map escape_char (cs ++ c ∷ []))
 char_pushed cs c old new is pushed =
     pushed ∙ (ap (λ z. z ++ encode_utf8_all (escape_char c)) is ∙ (sym (encodes-append (flat_map escape_char cs) (escape_char c)) ∙ ap encode_utf8_all (flat_map_more escape_char [] cs c)))
 
@@ -259,8 +261,8 @@ module _ (f : List ℕ → List ℕ) where
       rw (front, made, map-append, map-append, map-append, before, here) refl
 
   -- a new item is the item with its texts replaced if its text and its children are
-  pub whole_mapped : (root : StringItem) (x : StringItem-F StringItem) (xs : List StringItem) (i : ℕ) → xs ≡ (out-StringItem root).children.items → length xs ≤ i → string_bytes x.text ≡ f (string_bytes (out-StringItem root).text)
-      → map tree_of x.children.items ≡ map (mapped_tree f) (map tree_of (take i xs)) → tree_of (roll-StringItem x) ≡ mapped_tree f (tree_of root)
+  pub whole_mapped : (root : StringItem) (x : StringItem-F StringItem) (xs : List StringItem) (i : ℕ) → xs ≡ (out-StringItem root).children.items → length xs ≤ i
+      → string_bytes x.text ≡ f (string_bytes (out-StringItem root).text) → map tree_of x.children.items ≡ map (mapped_tree f) (map tree_of (take i xs)) → tree_of (roll-StringItem x) ≡ mapped_tree f (tree_of root)
   whole_mapped root x xs i e l text kids =
       let all : take i xs ≡ (out-StringItem root).children.items = take_all i xs l ∙ e in
       let below : forest (map tree_of x.children.items) ≡ mapped_forest f (forest (map tree_of (out-StringItem root).children.items)) =

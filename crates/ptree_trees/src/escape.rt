@@ -53,7 +53,8 @@ pub fn escaped_item(alloc: Global, item: &StringItem) -> Result<StringItem, Allo
 {
     let mut children = Vec::with_capacity(alloc, item.children.len())?;
     for child in &item.children {
-        children.push(escaped_item(alloc, child)?)?;
+        let copy = escaped_item(alloc, child)?;
+        children.push(copy)?;
     }
     Ok(StringItem {
         text: escaped(alloc, item.text.as_str())?,

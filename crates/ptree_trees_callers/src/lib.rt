@@ -4,3 +4,4 @@
 
 pub mod changing;
 pub mod comparing;
+pub mod escaping;
