@@ -1,5 +1,6 @@
 pub mod Changes
 pub mod Differences
+pub mod Escapes
 pub mod IndentedReading
 pub mod IndentedTexts
 pub mod IndentedWriting

@@ -1,5 +1,6 @@
 pub mod Change
 pub mod Difference
+pub mod Escape
 pub mod Found
 pub mod Indented
 pub mod IndentedReading

@@ -4,4 +4,5 @@
 
 pub mod changing;
 pub mod comparing;
+pub mod escaping;
 pub mod indenting;

@@ -1,0 +1,270 @@
+-- Escaped texts.
+use Rattle.std.specs.Char.{digit_char}
+use Rattle.std.specs.Prelude.{All, ◌/◌, ◌%◌, ◌||◌, unwrap_or, option_map, ◌↔◌}
+use Rattle.std.specs.List.{list_any}
+use Rattle.std.specs.Str.{NonePass, NoCharPasses, chars, encode_utf8_all}
+use Rattle.std.proofs.Common.{◌≡◌, ◌≢◌, ◌⊎◌, ℕ, ◌+◌, ◌<◌, ◌≤◌, ◌++◌, Bool, true, false, cond, eqb, List, [], ◌∷◌, length, length-append, get_or, Option, Some, None, flat_map, map, take, string_bytes, IsUtf8, inl, inr, refl, sym, ap, ◌∙◌, subst, arith}
+use Rattle.std.proofs.lemmas.Bool.{false≢true, cases_lt}
+use Rattle.std.proofs.lemmas.Bool.Decides.{nat_tests}
+use Rattle.std.proofs.lemmas.List.Elements.{All-from_get_or}
+use Rattle.std.proofs.lemmas.List.{flat_map_more, take_more, take_all, map-append}
+use Rattle.std.proofs.lemmas.Str.{encodes_same, encodes-append, encodes-chars, NoCharPasses-byte}
+use Rattle.ptree.specs.Tree.{Tree, tree, item, tree_of, forest}
+use Rattle.ptree.specs.declared.item.StringItem.{StringItem, out-StringItem}
+use Rattle.ptree.specs.declared.item.StringItem.TheOpen.{StringItem-F}
+use Rattle.ptree.specs.declared.item.StringItem.TheViews.{roll-StringItem}
+use Rattle.ptree.proofs.TreeLemmas.{tree_of_item, tree_of_roll}
+use Rattle.ptree_trees.specs.Escape.{is_hidden, is_escaped, escape_letter, hex_digits, escape_char, escaped_text, mapped_forest, mapped_tree}
+
+-- ## Characters
+
+-- the character of a letter
+abbrev letter_char : ℕ → ℕ
+letter_char l = cond (eqb l 98) 8 (cond (eqb l 116) 9 (cond (eqb l 110) 10 (cond (eqb l 102) 12 (cond (eqb l 114) 13 92))))
+
+-- what a letter tells
+letter_tells : (c l : ℕ) → escape_letter c ≡ Some l → (letter_char l ≡ c) × (l ≢ 117) × (33 ≤ l) × (l ≤ 126)
+letter_tells c l e = grind (arith, nat_tests)
+
+-- a character without a letter is no backslash
+no_letter : (c : ℕ) → escape_letter c ≡ None → c ≢ 92
+no_letter c e = grind (arith, nat_tests)
+
+-- a hidden character has four digits
+hidden_fits : (c : ℕ) → is_hidden c ≡ true → c < 65536
+hidden_fits c e = grind (arith, nat_tests)
+
+-- characters that are shown
+shown_ascii : (c : ℕ) → 32 ≤ c → c ≤ 126 → is_hidden c ≡ false
+shown_ascii c l h = grind (arith, nat_tests)
+
+-- an ASCII character that is shown
+ascii_shown : (c : ℕ) → c < 128 → is_hidden c ≡ false → (32 ≤ c) × (c ≢ 127)
+ascii_shown c l h = grind (arith, nat_tests)
+
+-- where a digit is
+digit_range : (d : ℕ) → d < 16 → (48 ≤ digit_char d) × (digit_char d ≤ 102)
+digit_range d h = grind (arith, nat_tests)
+
+-- digits differ
+same_digit : (x y : ℕ) → x < 16 → y < 16 → digit_char x ≡ digit_char y → x ≡ y
+same_digit x y l h e = grind (arith, nat_tests)
+
+-- a code by its digits
+code_whole : (c d : ℕ) → c < 65536 → d < 65536 → c / 4096 ≡ d / 4096 → c / 256 % 16 ≡ d / 256 % 16 → c / 16 % 16 ≡ d / 16 % 16 → c % 16 ≡ d % 16 → c ≡ d
+code_whole c d l h e f g i = omega arith
+
+-- ## What stands for a character
+
+record IsPlain (c : ℕ) : Type 0 where
+  form : escape_char c ≡ c ∷ []
+  other : c ≢ 92
+  shown : is_hidden c ≡ false
+
+record HasLetter (c l : ℕ) : Type 0 where
+  form : escape_char c ≡ 92 ∷ l ∷ []
+  back : letter_char l ≡ c
+  not_u : l ≢ 117
+  low : 33 ≤ l
+  high : l ≤ 126
+
+record HasDigits (c : ℕ) : Type 0 where
+  form : escape_char c ≡ 92 ∷ 117 ∷ hex_digits c
+  fits : c < 65536
+
+-- the forms
+abbrev form_of : Option ℕ → Bool → ℕ → List ℕ
+form_of o b c = unwrap_or (option_map (λ l. 92 ∷ l ∷ []) o) (cond b (92 ∷ 117 ∷ hex_digits c) (c ∷ []))
+
+form_is : (c : ℕ) (o : Option ℕ) (b : Bool) → escape_letter c ≡ o → is_hidden c ≡ b → escape_char c ≡ form_of o b c
+form_is c o b d e = ap (λ x. form_of x (is_hidden c) c) d ∙ ap (λ x. form_of o x c) e
+
+-- a character has one of three forms
+forms : (c : ℕ) → IsPlain c ⊎ ((l : ℕ) × HasLetter c l) ⊎ HasDigits c
+forms c = by_tests (escape_letter c) (is_hidden c) refl refl where
+  by_tests : (o : Option ℕ) (b : Bool) → escape_letter c ≡ o → is_hidden c ≡ b → IsPlain c ⊎ ((l : ℕ) × HasLetter c l) ⊎ HasDigits c
+  by_tests (Some l) b d e = let k = letter_tells c l d in inr (inl (l, record { form = form_is c (Some l) b d e; back = k.0; not_u = k.1; low = k.2; high = k.3 }))
+  by_tests None true d e = inr (inr (record { form = form_is c None true d e; fits = hidden_fits c e }))
+  by_tests None false d e = inl (record { form = form_is c None false d e; other = no_letter c d; shown = e })
+
+-- no form is the beginning of another one
+same_char : (c d : ℕ) (r t : List ℕ) → escape_char c ++ r ≡ escape_char d ++ t → (c ≡ d) × (r ≡ t)
+same_char c d r t e = by_forms (forms c) (forms d) where
+  both : (xs ys : List ℕ) → escape_char c ≡ xs → escape_char d ≡ ys → xs ++ r ≡ ys ++ t
+  both xs ys a b = ap (λ z. z ++ r) (sym a) ∙ (e ∙ ap (λ z. z ++ t) b)
+
+  by_forms : IsPlain c ⊎ ((l : ℕ) × HasLetter c l) ⊎ HasDigits c → IsPlain d ⊎ ((l : ℕ) × HasLetter d l) ⊎ HasDigits d → (c ≡ d) × (r ≡ t)
+  by_forms (inl p) (inl q) = let h = both _ _ p.form q.form in (cc, cc)
+  by_forms (inl p) (inr (inl (m, q))) = let h = both _ _ p.form q.form in absurd (p.other cc)
+  by_forms (inl p) (inr (inr q)) = let h = both _ _ p.form q.form in absurd (p.other cc)
+  by_forms (inr (inl (l, p))) (inl q) = let h = both _ _ p.form q.form in absurd (q.other cc)
+  by_forms (inr (inl (l, p))) (inr (inl (m, q))) =
+      let h = both _ _ p.form q.form in
+      let same : l ≡ m = cc in
+      (sym p.back ∙ (ap letter_char same ∙ q.back), cc)
+  by_forms (inr (inl (l, p))) (inr (inr q)) = let h = both _ _ p.form q.form in absurd (p.not_u cc)
+  by_forms (inr (inr p)) (inl q) = let h = both _ _ p.form q.form in absurd (q.other cc)
+  by_forms (inr (inr p)) (inr (inl (m, q))) = let h = both _ _ p.form q.form in absurd (q.not_u cc)
+  by_forms (inr (inr p)) (inr (inr q)) =
+      let h = both _ _ p.form q.form in
+      let one : digit_char (c / 4096) ≡ digit_char (d / 4096) = cc in
+      let two : digit_char (c / 256 % 16) ≡ digit_char (d / 256 % 16) = cc in
+      let three : digit_char (c / 16 % 16) ≡ digit_char (d / 16 % 16) = cc in
+      let four : digit_char (c % 16) ≡ digit_char (d % 16) = cc in
+      let low = p.fits in
+      let high = q.fits in (
+        code_whole c d p.fits q.fits (same_digit _ _ (omega arith) (omega arith) one) (same_digit _ _ (omega arith) (omega arith) two)
+            (same_digit _ _ (omega arith) (omega arith) three) (same_digit _ _ (omega arith) (omega arith) four),
+        cc,
+      )
+
+-- a form is not empty
+form_some : (c : ℕ) (r : List ℕ) → escape_char c ++ r ≢ []
+form_some c r e = by_form (forms c) where
+  at : (xs : List ℕ) → escape_char c ≡ xs → xs ++ r ≡ []
+  at xs a = ap (λ z. z ++ r) (sym a) ∙ e
+
+  by_form : IsPlain c ⊎ ((l : ℕ) × HasLetter c l) ⊎ HasDigits c → ⊥
+  by_form (inl p) = let h = at _ p.form in absurd (cc)
+  by_form (inr (inl (l, p))) = let h = at _ p.form in absurd (cc)
+  by_form (inr (inr p)) = let h = at _ p.form in absurd (cc)
+
+-- ## Texts
+
+-- characters that are escaped alike are the same
+same_chars : (cs ds : List ℕ) → flat_map escape_char cs ≡ flat_map escape_char ds → cs ≡ ds
+same_chars [] [] e = refl
+same_chars [] (d ∷ ds) e = absurd (form_some d _ (sym e))
+same_chars (c ∷ cs) [] e = absurd (form_some c _ e)
+same_chars (c ∷ cs) (d ∷ ds) e =
+    let h = same_char c d _ _ e in
+    ap (λ z. z ∷ cs) h.0 ∙ ap (λ z. d ∷ z) (same_chars cs ds h.1)
+
+-- texts that are escaped alike are the same
+pub same_texts : (a b : List ℕ) → IsUtf8 a → IsUtf8 b → escaped_text a ≡ escaped_text b → a ≡ b
+same_texts a b u v e =
+    sym (encodes-chars a u) ∙ (ap encode_utf8_all (same_chars (chars a) (chars b) (encodes_same _ _ e)) ∙ encodes-chars b v)
+
+-- what none passes in two lists
+none_append : (p : ℕ → Bool) (xs ys : List ℕ) → NonePass p xs → NonePass p ys → NonePass p (xs ++ ys)
+none_append p [] ys h k = k
+none_append p (x ∷ xs) ys h k = (h.0, none_append p xs ys h.1 k)
+
+-- no character that stands for one is hidden
+form_shown : (c : ℕ) → NonePass is_hidden (escape_char c)
+form_shown c = by_form (forms c) where
+  digit : (d : ℕ) → d < 16 → is_hidden (digit_char d) ≡ false
+  digit d h = let k = digit_range d h in shown_ascii (digit_char d) (omega arith) (omega arith)
+
+  by_form : IsPlain c ⊎ ((l : ℕ) × HasLetter c l) ⊎ HasDigits c → NonePass is_hidden (escape_char c)
+  by_form (inl p) = subst (NonePass is_hidden) (sym p.form) (p.shown, tt)
+  by_form (inr (inl (l, p))) = let low = p.low in subst (NonePass is_hidden) (sym p.form) (refl, (shown_ascii l (omega arith) p.high, tt))
+  by_form (inr (inr p)) =
+      let low = p.fits in
+      let one : c / 4096 < 16 = omega arith in
+      let two : c / 256 % 16 < 16 = omega arith in
+      let three : c / 16 % 16 < 16 = omega arith in
+      let four : c % 16 < 16 = omega arith in
+      subst (NonePass is_hidden) (sym p.form) (refl, (refl, (digit _ one, (digit _ two, (digit _ three, (digit _ four, tt))))))
+
+-- no character of an escaped text is hidden
+all_shown : (cs : List ℕ) → NonePass is_hidden (flat_map escape_char cs)
+all_shown [] = tt
+all_shown (c ∷ cs) = none_append is_hidden (escape_char c) (flat_map escape_char cs) (form_shown c) (all_shown cs)
+
+pub text_shown : (text : List ℕ) → NoCharPasses is_hidden (escaped_text text)
+text_shown text = (flat_map escape_char (chars text), refl, all_shown (chars text))
+
+-- the bytes of a text without a hidden character
+pub bytes_shown : (bs : List ℕ) → NoCharPasses is_hidden bs → All (λ b. (32 ≤ b) × (b ≢ 127)) bs
+bytes_shown bs h = All-from_get_or (λ b. (32 ≤ b) × (b ≢ 127)) bs 0 (λ i l. elim (cases_lt (get_or bs i 0) 128) [
+  | inl low ↦ ascii_shown (get_or bs i 0) low (NoCharPasses-byte is_hidden bs i h l low)
+  | inr high ↦ (omega arith, λ e. omega arith)
+])
+
+-- ## What escaping changes
+
+-- what is not changed
+unchanged : (c : ℕ) → is_escaped c ≡ false → (escape_letter c ≡ None) × (is_hidden c ≡ false)
+unchanged c e = (grind (arith, nat_tests), grind (arith, nat_tests))
+
+-- what is plain is not changed
+plain_same : (c : ℕ) → c ≢ 92 → is_hidden c ≡ false → is_escaped c ≡ false
+plain_same c h e = ap (λ b. eqb c 92 || b) e ∙ grind (arith, nat_tests)
+
+-- a form is at least as long as its character, and longer if it is changed
+form_long : (c : ℕ) → (1 ≤ length (escape_char c)) × (is_escaped c ≡ true → 2 ≤ length (escape_char c))
+form_long c = by_form (forms c) where
+  long : (xs : List ℕ) → escape_char c ≡ xs → length (escape_char c) ≡ length xs
+  long xs a = ap length a
+
+  by_form : IsPlain c ⊎ ((l : ℕ) × HasLetter c l) ⊎ HasDigits c → (1 ≤ length (escape_char c)) × (is_escaped c ≡ true → 2 ≤ length (escape_char c))
+  by_form (inl p) = let h = ap length p.form in (omega (arith, h), λ e. absurd (false≢true (sym (plain_same c p.other p.shown) ∙ e)))
+  by_form (inr (inl (l, p))) = let h = ap length p.form in (omega (arith, h), λ e. omega (arith, h))
+  by_form (inr (inr p)) = let h = ap length p.form in (omega (arith, h), λ e. omega (arith, h))
+
+-- characters of which none is changed
+all_same : (cs : List ℕ) → list_any is_escaped cs ≡ false → flat_map escape_char cs ≡ cs
+all_same [] e = refl
+all_same (c ∷ cs) e = by_test (is_escaped c) refl e (all_same cs) where
+  by_test : (b : Bool) → is_escaped c ≡ b → (b || list_any is_escaped cs) ≡ false → (list_any is_escaped cs ≡ false → flat_map escape_char cs ≡ cs) → flat_map escape_char (c ∷ cs) ≡ c ∷ cs
+  by_test true k h rest = absurd (false≢true (sym h))
+  by_test false k h rest = let u = unchanged c k in ap (λ z. z ++ flat_map escape_char cs) (form_is c None false u.0 u.1) ∙ ap (λ z. c ∷ z) (rest h)
+
+-- the length of escaped characters
+all_long : (cs : List ℕ) → (length cs ≤ length (flat_map escape_char cs)) × (list_any is_escaped cs ≡ true → length cs < length (flat_map escape_char cs))
+all_long [] = (omega arith, λ e. absurd (false≢true e))
+all_long (c ∷ cs) = let more = all_long cs in let one = form_long c in (omega (arith, sum, one.0, more.0), λ e. by_test (is_escaped c) refl e more) where
+  sum : length (flat_map escape_char (c ∷ cs)) ≡ length (escape_char c) + length (flat_map escape_char cs)
+  sum = length-append (escape_char c) (flat_map escape_char cs)
+
+  by_test : (b : Bool) → is_escaped c ≡ b → (b || list_any is_escaped cs) ≡ true
+      → (length cs ≤ length (flat_map escape_char cs)) × (list_any is_escaped cs ≡ true → length cs < length (flat_map escape_char cs)) → length (c ∷ cs) < length (flat_map escape_char (c ∷ cs))
+  by_test true k h more = let one = form_long c in omega (arith, sum, one.1 k, more.0)
+  by_test false k h more = let one = form_long c in omega (arith, sum, one.0, more.1 h)
+
+-- a text has no escape exactly if escaping leaves it as it is
+pub same_if : (text : List ℕ) (r : Bool) → IsUtf8 text → r ≡ list_any is_escaped (chars text) → (r ≡ false) ↔ (escaped_text text ≡ text)
+same_if text r u is = (
+  λ h. ap encode_utf8_all (all_same (chars text) (sym is ∙ h)) ∙ encodes-chars text u,
+  λ same. by_test (list_any is_escaped (chars text)) is same,
+)
+  where
+    by_test : (b : Bool) → r ≡ b → escaped_text text ≡ text → r ≡ false
+    by_test false k same = k
+    by_test true k same =
+        let cs : flat_map escape_char (chars text) ≡ chars text = encodes_same _ _ (same ∙ sym (encodes-chars text u)) in
+        let long = (all_long (chars text)).1 (sym is ∙ k) in
+        absurd (omega (arith, long, ap length cs))
+
+-- ## The loop
+
+-- one character more
+pub char_pushed : (cs : List ℕ) (c : ℕ) (old new : List ℕ) → old ≡ encode_utf8_all (flat_map escape_char cs) → new ≡ old ++ encode_utf8_all (escape_char c)
+    → new ≡ encode_utf8_all (flat_map escape_char (cs ++ c ∷ []))
+char_pushed cs c old new is pushed =
+    pushed ∙ (ap (λ z. z ++ encode_utf8_all (escape_char c)) is ∙ (sym (encodes-append (flat_map escape_char cs) (escape_char c)) ∙ ap encode_utf8_all (flat_map_more escape_char [] cs c)))
+
+-- ## Trees
+
+module _ (f : List ℕ → List ℕ) where
+  -- a forest of trees whose texts are replaced
+  forest_mapped : (ts : List Tree) → forest (map (mapped_tree f) ts) ≡ mapped_forest f (forest ts)
+  forest_mapped [] = refl
+  forest_mapped (t ∷ ts) = ap (item (f t.text) (mapped_forest f t.children)) (forest_mapped ts)
+
+  -- the next of the elements
+  pub next_mapped : {X : Type 0} (view : X → Tree) (xs done new : List X) (i : ℕ) (x s : X) → i < length xs → x ≡ get_or xs i x → new ≡ done ++ s ∷ []
+      → map view done ≡ map (mapped_tree f) (map view (take i xs)) → view s ≡ mapped_tree f (view x) → map view new ≡ map (mapped_tree f) (map view (take (i + 1) xs))
+  next_mapped view xs done new i x s l is made before here =
+      let front : take (i + 1) xs ≡ take i xs ++ x ∷ [] = rw (← is) at (take_more xs i x l) in
+      rw (front, made, map-append, map-append, map-append, before, here) refl
+
+  -- a new item is the item with its texts replaced if its text and its children are
+  pub whole_mapped : (root : StringItem) (x : StringItem-F StringItem) (xs : List StringItem) (i : ℕ) → xs ≡ (out-StringItem root).children.items → length xs ≤ i
+      → string_bytes x.text ≡ f (string_bytes (out-StringItem root).text) → map tree_of x.children.items ≡ map (mapped_tree f) (map tree_of (take i xs)) → tree_of (roll-StringItem x) ≡ mapped_tree f (tree_of root)
+  whole_mapped root x xs i e l text kids =
+      let all : take i xs ≡ (out-StringItem root).children.items = take_all i xs l ∙ e in
+      let below : forest (map tree_of x.children.items) ≡ mapped_forest f (forest (map tree_of (out-StringItem root).children.items)) =
+      ap forest kids ∙ (forest_mapped (map tree_of (take i xs)) ∙ ap (λ ys. mapped_forest f (forest (map tree_of ys))) all) in
+      tree_of_roll x ∙ (ap (λ t. tree t (forest (map tree_of x.children.items))) text ∙ (ap (tree (f (string_bytes (out-StringItem root).text))) below ∙ ap (mapped_tree f) (sym (tree_of_item root))))
