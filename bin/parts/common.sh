@@ -61,6 +61,22 @@ expect_end() {
     fi
 }
 
+# Prints the Nth block of a page in a language. Arguments: page, language, N.
+block() {
+    awk -v fence="\`\`\`$2" -v n="$3" '$0 == fence && --n == 0 { inside = 1; next } /^```/ { inside = 0 } inside' "$1"
+}
+
+# Checks that a command of a page writes what the page shows. Arguments: name, the command, what it must write. The part sets
+# `launcher` to what is called in the place of `named`, the program's name in the page.
+expect_shown() {
+    # shellcheck disable=SC2154
+    if [ -n "$3" ] && [ "$(PATH=$scratch/shown:$PATH sh -c "${2//"$named"/$launcher}" 2>&1)" = "$3" ]; then
+        report ok "$1"
+    else
+        report no "$1: $2"
+    fi
+}
+
 # Clears the environment of all that could configure a call.
 leave_surroundings() {
     unset XDG_CONFIG_HOME "${!PTREE_@}"

@@ -18,14 +18,14 @@ pub fn first(
     let Some(found) = first_difference(alloc, left, right)? else {
         return Ok(None);
     };
-    let mut said = String::from_str(alloc, "below ")?;
+    let mut said = String::new(alloc);
     push_path(&mut said, left, &found)?;
     push_side(&mut said, "- ", found.left)?;
     push_side(&mut said, "+ ", found.right)?;
     Ok(Some(said))
 }
 
-// Adds the texts of the items above a difference.
+// Adds the texts of the items above a difference, and which child it is, counted from 1.
 fn push_path(
     said: &mut String,
     left: &StringItem,
@@ -40,7 +40,13 @@ fn push_path(
         said.push_str(" / ")?;
         item = above.children.get(*position);
     }
-    said.push_str("\n")
+    match found.address.last() {
+        Some(position) => {
+            let n = position.saturating_add(1);
+            writeln!(said, "child {n}")
+        }
+        None => said.push_str("root\n"),
+    }
 }
 
 // Adds the line of a side.

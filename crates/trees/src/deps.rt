@@ -14,10 +14,9 @@ pub struct Dependencies {
     pub root: NodeIndex,
 }
 
-// The nodes of a graph, found by their keys, which ascend.
+// The labels of nodes, and edges in the order in which they are drawn.
 #[derive(Drop)]
 struct Network {
-    keys: Vec<String>,
     labels: Vec<String>,
     edges: Vec<(NodeIndex, NodeIndex)>,
 }
@@ -54,7 +53,9 @@ pub fn read_dependencies(
         Some(name) => named(alloc, source, &network, name)?,
         None => top(alloc, source, &mut network)?,
     };
-    let Network { keys: _, labels, edges } = network;
+    let Network { labels, mut edges } = network;
+    // A node's neighbours are drawn newest edge first.
+    edges.reverse();
     let mut graph = Graph::new(alloc);
     for label in labels {
         graph.add_node(label)?;
@@ -113,8 +114,7 @@ fn top(alloc: Global, source: &Source, network: &mut Network) -> Result<NodeInde
     }
     let above = NodeIndex(network.labels.len());
     network.labels.push(String::from_str(alloc, source.label())?)?;
-    // A node's neighbours are drawn newest edge first.
-    for node in tops.iter().rev() {
+    for node in &tops {
         network.edges.push((above, *node))?;
     }
     Ok(above)
@@ -155,7 +155,7 @@ fn pairs(alloc: Global, source: &Source) -> Result<Network, Failure> {
     }
     once(&mut keys)?;
     let mut edges = Vec::new(alloc);
-    for (first, second) in lines.iter().rev() {
+    for (first, second) in &lines {
         // `tsort` takes a word twice as a node alone.
         if first == second {
             continue;
@@ -164,11 +164,10 @@ fn pairs(alloc: Global, source: &Source) -> Result<Network, Failure> {
             edges.push((from, to))?;
         }
     }
-    let mut labels = Vec::new(alloc);
-    for key in &keys {
-        labels.push(key.clone()?)?;
-    }
-    Ok(Network { keys, labels, edges })
+    Ok(Network {
+        labels: keys,
+        edges,
+    })
 }
 
 // Returns the dependencies of a `Cargo.lock`.
@@ -192,7 +191,7 @@ fn cargo_lock(alloc: Global, source: &Source) -> Result<Network, Failure> {
     for key in &keys {
         labels.push(key.replacen(alloc, " ", " v", 1)?)?;
     }
-    Ok(Network { keys, labels, edges })
+    Ok(Network { labels, edges })
 }
 
 // Returns the text at a key of a table.
@@ -219,7 +218,7 @@ fn push_needs(
     let Some(needs) = package.get("dependencies").and_then(|d| d.as_array()) else {
         return Ok(());
     };
-    for need in needs.iter().rev() {
+    for need in needs {
         if let Some(to) = cargo_need(alloc, keys, need.as_str().unwrap_or(""))? {
             edges.push((from, to))?;
         }
@@ -260,7 +259,7 @@ fn package_lock(alloc: Global, source: &Source) -> Result<Network, Failure> {
     once(&mut keys)?;
     let mut edges = Vec::new(alloc);
     for (path, package) in packages.iter() {
-        for kind in ["optionalDependencies", "devDependencies", "dependencies"] {
+        for kind in ["dependencies", "devDependencies", "optionalDependencies"] {
             let Some(needs) = package.get(kind).and_then(|d| d.as_object()) else {
                 continue;
             };
@@ -271,7 +270,7 @@ fn package_lock(alloc: Global, source: &Source) -> Result<Network, Failure> {
     for key in &keys {
         labels.push(npm_label(alloc, source, packages, key.as_str())?)?;
     }
-    Ok(Network { keys, labels, edges })
+    Ok(Network { labels, edges })
 }
 
 // Returns the label of a package: its name and version.
@@ -296,7 +295,7 @@ fn npm_label(
     }
 }
 
-// Adds the edges from a package of a `package-lock.json`, the last need first.
+// Adds the edges from a package of a `package-lock.json`.
 fn push_npm_needs(
     alloc: Global,
     path: &str,
@@ -307,14 +306,10 @@ fn push_npm_needs(
     let Some(from) = position(keys, path) else {
         return Ok(());
     };
-    let mut found = Vec::new(alloc);
     for (name, _) in needs.iter() {
         if let Some(to) = npm_need(alloc, path, name.as_str(), keys)? {
-            found.push(to)?;
+            edges.push((from, to))?;
         }
-    }
-    for to in found.iter().rev() {
-        edges.push((from, *to))?;
     }
     Ok(())
 }

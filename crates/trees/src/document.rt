@@ -11,7 +11,7 @@ use toml::Table;
 ///
 /// # Errors
 ///
-/// `Input` if the text is no JSON, or has nothing there, and `Memory`.
+/// `Input` with the line if the text is not JSON, or if nothing is there, and `Memory`.
 pub fn json(
     alloc: Global,
     source: &Source,
@@ -36,7 +36,7 @@ pub fn json(
 ///
 /// # Errors
 ///
-/// `Input` if the text is no TOML, or has nothing there, and `Memory`.
+/// `Input` with the line if the text is not TOML, or if nothing is there, and `Memory`.
 pub fn toml(
     alloc: Global,
     source: &Source,
@@ -61,14 +61,20 @@ pub fn toml(
 ///
 /// # Errors
 ///
-/// `Input` if the text is no TOML, and `Memory`.
+/// `Input` with the line if the text is not TOML, and `Memory`.
 pub fn toml_value(alloc: Global, source: &Source) -> Result<toml::Value, Failure> {
     match toml::table_from_str(alloc, source.text.as_str()) {
         Ok(table) => Ok(toml::Value::Table(table)),
         Err(e) if e.is_memory() => Err(Failure::Memory),
         Err(e) => {
-            let wrong = format!(in alloc; "no TOML: {e}")?;
-            Err(source.wrong(alloc, wrong.as_str())?)
+            let before = match e.span() {
+                Some(span) => source.text.as_str().get(..span.start).unwrap_or(""),
+                None => "",
+            };
+            let line = before.split('\n').count();
+            let why = e.message();
+            let wrong = format!(in alloc; "not TOML: {why}")?;
+            Err(source.wrong_at(alloc, line, wrong.as_str())?)
         }
     }
 }
@@ -77,16 +83,32 @@ pub fn toml_value(alloc: Global, source: &Source) -> Result<toml::Value, Failure
 ///
 /// # Errors
 ///
-/// `Input` with the line if the text is no JSON, and `Memory`.
+/// `Input` with the line if the text is not JSON, and `Memory`.
 pub fn json_value(alloc: Global, source: &Source) -> Result<serde_json::Value, Failure> {
     match serde_json::Value::from_str(alloc, source.text.as_str()) {
         Ok(value) => Ok(value),
         Err(e) if e.is_memory() => Err(Failure::Memory),
         Err(e) => {
-            let wrong = format!(in alloc; "no JSON: {e}")?;
-            Err(source.wrong(alloc, wrong.as_str())?)
+            let text = source.text.as_str();
+            let line = wrong_line(text, e.line(), e.column());
+            let wrong = if e.is_eof() {
+                "the JSON ends too early"
+            } else {
+                "not JSON"
+            };
+            Err(source.wrong_at(alloc, line, wrong)?)
         }
     }
+}
+
+// Returns the line of a wrong byte. The parser names the place behind it and the blanks that follow.
+fn wrong_line(text: &str, line: usize, column: usize) -> usize {
+    let mut at = column;
+    for found in text.split('\n').take(line.saturating_sub(1)) {
+        at = at.saturating_add(found.len()).saturating_add(1);
+    }
+    let before = text.get(..at).unwrap_or(text);
+    before.trim_end().split('\n').count()
 }
 
 // Returns the text of the root: the label, or else the last key, or else the file's name.

@@ -1,5 +1,7 @@
 //! Reads drawings, and says where a text is none.
+ghost use Rattle.ptree.specs.Readable.{HasReadablePieces};
 
+use crate::expected::beginnings;
 use crate::failure::Failure;
 use crate::pieces;
 use crate::source::Source;
@@ -24,7 +26,7 @@ pub fn read(alloc: Global, source: &Source, config: &PrintConfig) -> Result<Stri
         Ok(tree) => Ok(tree),
         Err(ReadError::Memory) => Err(Failure::Memory),
         Err(ReadError::Line(line)) => {
-            let wrong = wrong_line(alloc, text, line)?;
+            let wrong = wrong_line(alloc, text, line, config)?;
             Err(source.wrong_at(alloc, line, wrong.as_str())?)
         }
         Err(ReadError::End) => {
@@ -34,15 +36,39 @@ pub fn read(alloc: Global, source: &Source, config: &PrintConfig) -> Result<Stri
     }
 }
 
-// Says that a line is wrong, shows it, and says under which pieces the text is a drawing.
-fn wrong_line(alloc: Global, text: &str, line: usize) -> Result<String, Failure> {
-    let mut said = String::from_str(alloc, "cannot continue the drawing")?;
-    if let Some(wrong) = text.split('\n').nth(line.saturating_sub(1)) {
-        said.push_str(": ")?;
-        said.push_str(wrong)?;
+// Says that a line is wrong and shows it. Then it says with which pieces the text is a drawing or,
+// if there are none, what could stand there.
+fn wrong_line(
+    alloc: Global,
+    text: &str,
+    line: usize,
+    config: &PrintConfig,
+) -> Result<String, Failure>
+    requires { HasReadablePieces config.now }
+{
+    let (before, wrong) = split_at_line(text, line);
+    let mut said = format!(in alloc; "cannot continue the drawing:\n  {wrong}")?;
+    if push_other(alloc, &mut said, text)? {
+        return Ok(said);
     }
-    push_other(alloc, &mut said, text)?;
+    let could = beginnings(alloc, before, config)?;
+    if !could.is_empty() {
+        said.push_str("\nhere could stand, before a text:\n")?;
+        said.push_str(could.as_str().trim_end_matches('\n'))?;
+    }
     Ok(said)
+}
+
+// Returns the lines before a line, and the line.
+fn split_at_line(text: &str, line: usize) -> (&str, &str) {
+    let mut at = 0usize;
+    for (i, found) in text.split('\n').enumerate() {
+        if i.saturating_add(1) == line {
+            return (text.get(..at).unwrap_or(""), found);
+        }
+        at = at.saturating_add(found.len()).saturating_add(1);
+    }
+    (text, "")
 }
 
 // Says why a text is incomplete.
@@ -59,14 +85,14 @@ fn wrong_end(alloc: Global, text: &str) -> Result<String, Failure> {
     Ok(said)
 }
 
-// Adds the name of pieces under which the text is a drawing.
-fn push_other(alloc: Global, said: &mut String, text: &str) -> Result<(), Failure> {
-    if let Some(name) = pieces::reading(alloc, text)? {
-        said.push_str("\n  (it is a drawing with --as ")?;
-        said.push_str(name)?;
-        said.push_str(")")?;
-    }
-    Ok(())
+// Adds the name of pieces with which the text is a drawing, if there are some.
+fn push_other(alloc: Global, said: &mut String, text: &str) -> Result<bool, Failure> {
+    let Some(name) = pieces::reading(alloc, text)? else {
+        return Ok(false);
+    };
+    said.push_str("\nit is a drawing with --as ")?;
+    said.push_str(name)?;
+    Ok(true)
 }
 
 /// Returns how many items a tree has.

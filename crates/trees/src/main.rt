@@ -6,6 +6,7 @@ mod compare;
 mod deps;
 mod document;
 mod drawings;
+mod expected;
 mod failure;
 mod help;
 mod lists;
@@ -19,7 +20,7 @@ mod suggest;
 use failure::Failure;
 use ptree::buffered::Buffered;
 use ptree::style::Counted;
-use run::run;
+use run::{Screen, run};
 use std::env;
 use std::io::{self, ErrorKind, IsTerminal};
 use std::process::ExitCode;
@@ -40,22 +41,26 @@ fn words(rt: &HostRuntime) -> Result<Vec<String>, Failure> {
     Ok(words)
 }
 
-// Whether drawings are coloured if no option says it: on a terminal, unless NO_COLOR is set.
-fn is_styled(rt: &HostRuntime) -> bool {
-    rt.stdout().is_terminal()
-        && match env::var(rt, "NO_COLOR") {
-            Ok(value) => value.is_empty(),
-            Err(_) => true,
-        }
+// Returns what standard output is. Drawings are coloured on a terminal, unless NO_COLOR is set.
+fn screen(rt: &HostRuntime) -> Screen {
+    let is_terminal = rt.stdout().is_terminal();
+    let styled = match env::var(rt, "NO_COLOR") {
+        Ok(value) => is_terminal && value.is_empty(),
+        Err(_) => is_terminal,
+    };
+    Screen {
+        is_terminal,
+        styled,
+    }
 }
 
 // Runs the call over the streams of the process.
 fn run_process(rt: &HostRuntime) -> Result<(), Failure> {
     let words = words(rt)?;
-    let styled = is_styled(rt);
+    let screen = screen(rt);
     let mut input = rt.stdin();
     let mut out = Buffered::with_capacity(rt.alloc(), ROOM, Counted::new(io::writer(rt)))?;
-    let end = run(rt, words.as_slice(), &mut input, &mut out, styled);
+    let end = run(rt, words.as_slice(), &mut input, &mut out, screen);
     match end {
         Ok(()) | Err(Failure::Said) => out.flush()?,
         Err(_) => {}

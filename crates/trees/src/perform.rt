@@ -101,7 +101,8 @@ fn of_one(
             done(Shown::Dependencies(found, config, options.has(Opt::Walks)))
         }
         Command::Convert => {
-            let tree = drawings::read(alloc, source, &config)?;
+            let from = pieces::config(alloc, options.value(Opt::As).unwrap_or("utf"))?;
+            let tree = drawings::read(alloc, source, &from)?;
             let to = self::config(alloc, options, Opt::To, styled)?;
             done(Shown::Tree(changed(alloc, source, tree, options)?, to))
         }

@@ -10,11 +10,22 @@ use crate::suggest::nearest;
 use ptree::graph::{REPEATED_MARK, write_graph_once_with, write_graph_with};
 use ptree::output::write_tree_with;
 use ptree::style::{Sink, put_all};
+use ptree_trees::escape::escaped_item;
 use std::alloc::{AllocError, Global};
 use std::io::Read;
 use std::rt::Files;
 
-/// Runs the words of a call. `styled` says whether drawings are coloured if no option says it.
+/// What standard output is.
+#[derive(Clone, Copy)]
+pub struct Screen {
+    /// Whether it is a terminal. What a terminal would act on is escaped there.
+    pub is_terminal: bool,
+
+    /// Whether drawings are coloured if no option says it.
+    pub styled: bool,
+}
+
+/// Runs the words of a call.
 ///
 /// # Errors
 ///
@@ -25,7 +36,7 @@ pub fn run<R: Files + AllocGlobal, I: Read, W: Sink>(
     words: &[String],
     input: &mut I,
     out: &mut W,
-    styled: bool,
+    screen: Screen,
 ) -> Result<(), Failure> {
     let alloc = rt.alloc();
     let Some((first, others)) = words.split_first() else {
@@ -39,10 +50,10 @@ pub fn run<R: Files + AllocGlobal, I: Read, W: Sink>(
         return Ok(put_all(out, help::VERSION.as_bytes())?);
     }
     if let Some(command) = Command::named(first) {
-        return run_command(rt, command, others, input, out, styled);
+        return run_command(rt, command, others, input, out, screen);
     }
     match Command::of_file(first) {
-        Some(command) => run_command(rt, command, words, input, out, styled),
+        Some(command) => run_command(rt, command, words, input, out, screen),
         None => Err(unknown(alloc, first)?),
     }
 }
@@ -54,7 +65,7 @@ fn run_command<R: Files + AllocGlobal, I: Read, W: Sink>(
     words: &[String],
     input: &mut I,
     out: &mut W,
-    styled: bool,
+    screen: Screen,
 ) -> Result<(), Failure> {
     let alloc = rt.alloc();
     let options = Options::parse(alloc, command, words)?;
@@ -68,12 +79,25 @@ fn run_command<R: Files + AllocGlobal, I: Read, W: Sink>(
     if sources.is_empty() {
         sources.push(Source::read(rt, "-", input)?)?;
     }
-    let outcome = perform(alloc, command, &options, sources.as_slice(), styled)?;
+    let mut outcome = perform(alloc, command, &options, sources.as_slice(), screen.styled)?;
+    if screen.is_terminal {
+        outcome = escaped(alloc, outcome)?;
+    }
     show(alloc, &outcome, out)?;
     if outcome.is_refusal {
         return Err(Failure::Said);
     }
     Ok(())
+}
+
+// Escapes what a terminal would act on in a tree's texts.
+fn escaped(alloc: Global, outcome: Outcome) -> Result<Outcome, AllocError> {
+    let Outcome { shown, is_refusal } = outcome;
+    let shown = match shown {
+        Shown::Tree(tree, config) => Shown::Tree(escaped_item(alloc, &tree)?, config),
+        other => other,
+    };
+    Ok(Outcome { shown, is_refusal })
 }
 
 // Writes what a call shows.
