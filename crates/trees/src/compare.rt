@@ -2,10 +2,11 @@
 
 use ptree::item::StringItem;
 use ptree_trees::difference::{Difference, first_difference};
+use ptree_trees::escape::escaped;
 use std::alloc::{AllocError, Global};
 
 /// Returns what is said of the first difference of two trees, or `None` if they are equal: the path
-/// of texts to it, and what stands there in each.
+/// of texts to it, and what stands there in each. The texts are escaped, each on one line.
 ///
 /// # Errors
 ///
@@ -19,14 +20,15 @@ pub fn first(
         return Ok(None);
     };
     let mut said = String::new(alloc);
-    push_path(&mut said, left, &found)?;
-    push_side(&mut said, "- ", found.left)?;
-    push_side(&mut said, "+ ", found.right)?;
+    push_path(alloc, &mut said, left, &found)?;
+    push_side(alloc, &mut said, "- ", found.left)?;
+    push_side(alloc, &mut said, "+ ", found.right)?;
     Ok(Some(said))
 }
 
 // Adds the texts of the items above a difference, and which child it is, counted from 1.
 fn push_path(
+    alloc: Global,
     said: &mut String,
     left: &StringItem,
     found: &Difference<'_>,
@@ -36,7 +38,7 @@ fn push_path(
         let Some(above) = item else {
             break;
         };
-        said.push_str(above.text.as_str())?;
+        said.push_str(escaped(alloc, above.text.as_str())?.as_str())?;
         said.push_str(" / ")?;
         item = above.children.get(*position);
     }
@@ -51,13 +53,14 @@ fn push_path(
 
 // Adds the line of a side.
 fn push_side(
+    alloc: Global,
     said: &mut String,
     mark: &str,
     item: Option<&StringItem>,
 ) -> Result<(), AllocError> {
     said.push_str(mark)?;
     match item {
-        Some(item) => said.push_str(item.text.as_str())?,
+        Some(item) => said.push_str(escaped(alloc, item.text.as_str())?.as_str())?,
         None => said.push_str("(nothing)")?,
     }
     said.push_str("\n")

@@ -4,6 +4,7 @@ use crate::document::{json_value, toml_value};
 use crate::failure::Failure;
 use crate::source::Source;
 use ptree::graph::{EdgeError, Graph, NodeIndex};
+use ptree_trees::escape::escaped;
 use serde_json::Map;
 use std::alloc::{AllocError, Global};
 
@@ -25,7 +26,7 @@ struct Network {
 /// the first of which needs the second. With `inverse` they are what needs what.
 ///
 /// The root is the node named, or else what nothing needs. If there are several of those, they
-/// stand below a root with the name of the input.
+/// stand below a root with the name of the input. For a terminal the labels are escaped.
 ///
 /// # Errors
 ///
@@ -35,6 +36,7 @@ pub fn read_dependencies(
     source: &Source,
     root: Option<&str>,
     inverse: bool,
+    is_terminal: bool,
 ) -> Result<Dependencies, Failure> {
     let text = source.text.as_str();
     let mut network = if text.trim_start().starts_with('{') {
@@ -58,7 +60,11 @@ pub fn read_dependencies(
     edges.reverse();
     let mut graph = Graph::new(alloc);
     for label in labels {
-        graph.add_node(label)?;
+        if is_terminal {
+            graph.add_node(escaped(alloc, label.as_str())?)?;
+        } else {
+            graph.add_node(label)?;
+        }
     }
     match graph.extend_with_edges(&edges) {
         Ok(()) => Ok(Dependencies { graph, root: start }),

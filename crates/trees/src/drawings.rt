@@ -8,6 +8,7 @@ use crate::source::Source;
 use ptree::item::StringItem;
 use ptree::print_config::PrintConfig;
 use ptree::read::{ReadError, pieces_readable, read_tree_or_line};
+use ptree_trees::escape::escaped;
 use std::alloc::{AllocError, Global};
 
 /// Returns the tree that a text is the drawing of.
@@ -36,7 +37,7 @@ pub fn read(alloc: Global, source: &Source, config: &PrintConfig) -> Result<Stri
     }
 }
 
-// Says that a line is wrong and shows it. Then it says with which pieces the text is a drawing or,
+// Says that a line is wrong and shows it, escaped. Then it says with which pieces the text is a drawing or,
 // if there are none, what could stand there.
 fn wrong_line(
     alloc: Global,
@@ -47,6 +48,7 @@ fn wrong_line(
     requires { HasReadablePieces config.now }
 {
     let (before, wrong) = split_at_line(text, line);
+    let wrong = escaped(alloc, wrong)?;
     let mut said = format!(in alloc; "cannot continue the drawing:\n  {wrong}")?;
     if push_other(alloc, &mut said, text)? {
         return Ok(said);

@@ -14,13 +14,15 @@ mod options;
 mod perform;
 mod pieces;
 mod run;
+mod screen;
 mod source;
 mod suggest;
 
 use failure::Failure;
 use ptree::buffered::Buffered;
 use ptree::style::Counted;
-use run::{Screen, run};
+use run::run;
+use screen::Screen;
 use std::env;
 use std::io::{self, ErrorKind, IsTerminal};
 use std::process::ExitCode;
@@ -42,7 +44,7 @@ fn words(rt: &HostRuntime) -> Result<Vec<String>, Failure> {
 }
 
 // Returns what standard output is. Drawings are coloured on a terminal, unless NO_COLOR is set.
-fn screen(rt: &HostRuntime) -> Screen {
+fn find_screen(rt: &HostRuntime) -> Screen {
     let is_terminal = rt.stdout().is_terminal();
     let styled = match env::var(rt, "NO_COLOR") {
         Ok(value) => is_terminal && value.is_empty(),
@@ -57,7 +59,7 @@ fn screen(rt: &HostRuntime) -> Screen {
 // Runs the call over the streams of the process.
 fn run_process(rt: &HostRuntime) -> Result<(), Failure> {
     let words = words(rt)?;
-    let screen = screen(rt);
+    let screen = find_screen(rt);
     let mut input = rt.stdin();
     let mut out = Buffered::with_capacity(rt.alloc(), ROOM, Counted::new(io::writer(rt)))?;
     let end = run(rt, words.as_slice(), &mut input, &mut out, screen);

@@ -9,10 +9,12 @@ use crate::failure::Failure;
 use crate::lists;
 use crate::options::Options;
 use crate::pieces;
+use crate::screen::Screen;
 use crate::source::Source;
 use ptree::item::StringItem;
 use ptree::print_config::{PrintConfig, StyleWhen};
 use ptree_trees::change::{kept, sorted};
+use ptree_trees::escape::escaped_item;
 use std::alloc::{AllocError, Global};
 
 /// What a call writes.
@@ -43,7 +45,7 @@ fn done(shown: Shown) -> Result<Outcome, Failure> {
     })
 }
 
-/// Does what a command asks for. `styled` says whether `auto` means coloured.
+/// Does what a command asks for.
 ///
 /// # Errors
 ///
@@ -54,14 +56,14 @@ pub fn perform(
     command: Command,
     options: &Options<'_>,
     sources: &[Source],
-    styled: bool,
+    screen: Screen,
 ) -> Result<Outcome, Failure> {
-    let config = config(alloc, options, Opt::As, styled)?;
+    let config = config(alloc, options, Opt::As, screen.styled)?;
     match (command, sources) {
         (Command::Check, _) => check(alloc, sources, &config),
-        (Command::Diff, [left, right]) => diff(alloc, options, left, right, config),
+        (Command::Diff, [left, right]) => diff(alloc, options, left, right, config, screen),
         (Command::Diff, _) => usage(alloc, "diff needs two files"),
-        (_, [source]) => of_one(alloc, command, options, source, config, styled),
+        (_, [source]) => of_one(alloc, command, options, source, config, screen),
         _ => usage(alloc, "more than one file"),
     }
 }
@@ -78,36 +80,62 @@ fn of_one(
     options: &Options<'_>,
     source: &Source,
     config: PrintConfig,
-    styled: bool,
+    screen: Screen,
 ) -> Result<Outcome, Failure> {
     let at = options.value(Opt::At);
     let label = options.value(Opt::Label);
     let unit = options.value(Opt::Unit);
     match command {
-        Command::Json => done(Shown::Tree(document::json(alloc, source, at, label)?, config)),
-        Command::Toml => done(Shown::Tree(document::toml(alloc, source, at, label)?, config)),
+        Command::Json => {
+            let tree = document::json(alloc, source, at, label)?;
+            done(tree_on(alloc, screen, tree, config)?)
+        }
+        Command::Toml => {
+            let tree = document::toml(alloc, source, at, label)?;
+            done(tree_on(alloc, screen, tree, config)?)
+        }
         Command::Paths => {
             let tree = lists::paths(alloc, source, options.has(Opt::Null), label)?;
-            done(Shown::Tree(changed(alloc, source, tree, options)?, config))
+            let tree = changed(alloc, source, tree, options)?;
+            done(tree_on(alloc, screen, tree, config)?)
         }
-        Command::Outline => done(Shown::Tree(lists::outline(alloc, source, unit)?, config)),
+        Command::Outline => {
+            let tree = lists::outline(alloc, source, unit)?;
+            done(tree_on(alloc, screen, tree, config)?)
+        }
         Command::Indented => {
             let tree = drawings::read(alloc, source, &config)?;
             done(Shown::Text(lists::indented(alloc, source, &tree, unit)?))
         }
         Command::Deps => {
             let root = options.value(Opt::Root);
-            let found = read_dependencies(alloc, source, root, options.has(Opt::Inverse))?;
+            let inverse = options.has(Opt::Inverse);
+            let found = read_dependencies(alloc, source, root, inverse, screen.is_terminal)?;
             done(Shown::Dependencies(found, config, options.has(Opt::Walks)))
         }
         Command::Convert => {
             let from = pieces::config(alloc, options.value(Opt::As).unwrap_or("utf"))?;
             let tree = drawings::read(alloc, source, &from)?;
-            let to = self::config(alloc, options, Opt::To, styled)?;
-            done(Shown::Tree(changed(alloc, source, tree, options)?, to))
+            let to = self::config(alloc, options, Opt::To, screen.styled)?;
+            let tree = changed(alloc, source, tree, options)?;
+            done(tree_on(alloc, screen, tree, to)?)
         }
         Command::Check | Command::Diff => usage(alloc, "more than one file"),
     }
+}
+
+// Returns a drawing for a screen: on a terminal, with its texts escaped.
+fn tree_on(
+    alloc: Global,
+    screen: Screen,
+    tree: StringItem,
+    config: PrintConfig,
+) -> Result<Shown, AllocError> {
+    if screen.is_terminal {
+        let escaped = escaped_item(alloc, &tree)?;
+        return Ok(Shown::Tree(escaped, config));
+    }
+    Ok(Shown::Tree(tree, config))
 }
 
 // Returns the configuration that an option names, or the default one, with the other options.
@@ -200,6 +228,7 @@ fn diff(
     left: &Source,
     right: &Source,
     config: PrintConfig,
+    screen: Screen,
 ) -> Result<Outcome, Failure> {
     let first = drawings::read(alloc, left, &config)?;
     let second = drawings::read(alloc, right, &config)?;
@@ -207,7 +236,7 @@ fn diff(
         return done(Shown::Text(String::new(alloc)));
     };
     let shown = if options.has(Opt::All) {
-        Shown::Tree(compare::both(alloc, &first, &second)?, config)
+        tree_on(alloc, screen, compare::both(alloc, &first, &second)?, config)?
     } else {
         Shown::Text(said)
     };

@@ -5,25 +5,15 @@ use crate::failure::Failure;
 use crate::help;
 use crate::options::Options;
 use crate::perform::{Outcome, Shown, perform};
+use crate::screen::Screen;
 use crate::source::Source;
 use crate::suggest::nearest;
 use ptree::graph::{REPEATED_MARK, write_graph_once_with, write_graph_with};
 use ptree::output::write_tree_with;
 use ptree::style::{Sink, put_all};
-use ptree_trees::escape::escaped_item;
 use std::alloc::{AllocError, Global};
 use std::io::Read;
 use std::rt::Files;
-
-/// What standard output is.
-#[derive(Clone, Copy)]
-pub struct Screen {
-    /// Whether it is a terminal. What a terminal would act on is escaped there.
-    pub is_terminal: bool,
-
-    /// Whether drawings are coloured if no option says it.
-    pub styled: bool,
-}
 
 /// Runs the words of a call.
 ///
@@ -79,25 +69,12 @@ fn run_command<R: Files + AllocGlobal, I: Read, W: Sink>(
     if sources.is_empty() {
         sources.push(Source::read(rt, "-", input)?)?;
     }
-    let mut outcome = perform(alloc, command, &options, sources.as_slice(), screen.styled)?;
-    if screen.is_terminal {
-        outcome = escaped(alloc, outcome)?;
-    }
+    let outcome = perform(alloc, command, &options, sources.as_slice(), screen)?;
     show(alloc, &outcome, out)?;
     if outcome.is_refusal {
         return Err(Failure::Said);
     }
     Ok(())
-}
-
-// Escapes what a terminal would act on in a tree's texts.
-fn escaped(alloc: Global, outcome: Outcome) -> Result<Outcome, AllocError> {
-    let Outcome { shown, is_refusal } = outcome;
-    let shown = match shown {
-        Shown::Tree(tree, config) => Shown::Tree(escaped_item(alloc, &tree)?, config),
-        other => other,
-    };
-    Ok(Outcome { shown, is_refusal })
 }
 
 // Writes what a call shows.
