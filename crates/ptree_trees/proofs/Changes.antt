@@ -98,7 +98,8 @@ module _ (test : List ℕ → Bool) where
 
   -- an item is not kept if its text doesn't pass, and no children are kept
   pub item_not_kept : (s : StringItem) (xs kept : List StringItem) (i : ℕ) → length xs ≤ i
-      → map tree_of kept ++ kept_trees test (map tree_of (drop i xs)) ≡ trees (kept_forest test (tree_of s).children) → length kept ≡ 0 → test (string_bytes (out-StringItem s).text) ≡ false → None ≡ kept_tree test (tree_of s)
+      → map tree_of kept ++ kept_trees test (map tree_of (drop i xs)) ≡ trees (kept_forest test (tree_of s).children)
+      → length kept ≡ 0 → test (string_bytes (out-StringItem s).text) ≡ false → None ≡ kept_tree test (tree_of s)
   item_not_kept s xs [] i l h e own = sym (not_kept (tree_of s) (rw tree_of_item own) (kept_to_end tree_of xs [] i (trees (kept_forest test (tree_of s).children)) l h))
   item_not_kept s xs (k ∷ ks) i l h e own = absurd (omega arith)
 

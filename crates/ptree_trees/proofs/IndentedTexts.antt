@@ -1,5 +1,6 @@
 -- Lines with an indent, and how they are read.
-use Rattle.std.proofs.Common.{◌≡◌, ◌≢◌, ℕ, zero, suc, ◌+◌, ◌<◌, ◌≤◌, true, false, List, [], ◌∷◌, ◌++◌, Option, Some, None, length, length-append, refl, sym, ap, ◌∙◌, subst, append_assoc, add-one, arith}
+use Rattle.std.proofs.Common.{◌≡◌, ◌≢◌, ℕ, zero, suc, ◌+◌, ◌<◌, ◌≤◌, true, false, List, [], ◌∷◌, ◌++◌, Option, Some, None}
+use Rattle.std.proofs.Common.{length, length-append, refl, sym, ap, ◌∙◌, subst, append_assoc, add-one, arith}
 use Rattle.std.specs.List.{AllByRecursion}
 use Rattle.std.proofs.lemmas.Bool.{false≢true}
 use Rattle.std.proofs.lemmas.List.{append_cancel_left}
@@ -29,6 +30,17 @@ no_line a b x h e = holds b (subst HasNoLineFeed e h)
     holds : (g : List ℕ) → HasNoLineFeed (g ++ 10 ∷ x) → ⊥
     holds [] h = All-head (λ c. c ≢ 10) 10 x h refl
     holds (y ∷ g) h = holds g (All-tail (λ c. c ≢ 10) y (g ++ 10 ∷ x) h)
+
+-- the first of two texts holds no line feed if both together hold none
+pub no_feed_front : (a b : List ℕ) → HasNoLineFeed (a ++ b) → HasNoLineFeed a
+no_feed_front [] b h = All-nil (λ c. c ≢ 10)
+no_feed_front (c ∷ a) b h =
+    All-cons (λ c. c ≢ 10) c a (All-head (λ c. c ≢ 10) c (a ++ b) h) (no_feed_front a b (All-tail (λ c. c ≢ 10) c (a ++ b) h))
+
+-- nor does the second
+pub no_feed_end : (a b : List ℕ) → HasNoLineFeed (a ++ b) → HasNoLineFeed b
+no_feed_end [] b h = h
+no_feed_end (c ∷ a) b h = no_feed_end a b (All-tail (λ c. c ≢ 10) c (a ++ b) h)
 
 -- a blank or a tab is no line feed
 no_feed_blank : (b : ℕ) → is_blank b ≡ true → b ≢ 10
@@ -76,7 +88,8 @@ indent_once unit u (suc n) (suc m) t s h k e =
     record { level = ap suc less.level; text = less.text }
 
 -- if no unit follows, but a blank or a tab does, the line has no level
-pub indent_none : (unit : List ℕ) → IsUnit unit → (n m : ℕ) (t s : List ℕ) → begins_blank t ≡ false → begins_blank s ≡ true → ((x : List ℕ) → s ≢ unit ++ x) → indent unit n ++ t ≡ indent unit m ++ s → ⊥
+pub indent_none : (unit : List ℕ) → IsUnit unit → (n m : ℕ) (t s : List ℕ) → begins_blank t ≡ false → begins_blank s ≡ true
+    → ((x : List ℕ) → s ≢ unit ++ x) → indent unit n ++ t ≡ indent unit m ++ s → ⊥
 indent_none unit u zero zero t s h k none e = false≢true (sym h ∙ (ap begins_blank e ∙ k))
 indent_none unit u zero (suc m) t s h k none e = false≢true (sym h ∙ blank_indent unit u m t s e)
 indent_none unit u (suc n) zero t s h k none e = none (indent unit n ++ t) (sym e ∙ indent_left unit n t)
@@ -101,7 +114,8 @@ pub unit_shorter : (unit rest more : List ℕ) → IsUnit unit → rest ≡ unit
 unit_shorter unit rest more u e = let long = ap length e in omega (arith, simp length-append at long, unit_length unit u)
 
 -- what is found at the first line feed is the first line and the rest
-pub split_is : (text : List ℕ) (r : Option (Bor (List ℕ) × Bor (List ℕ))) → IsSplitOnceResult 10 text r → MatchOption r (HasNoLineFeed text) (λ x. HasNoLineFeed x.0.now × (text ≡ x.0.now ++ 10 ∷ x.1.now))
+pub split_is : (text : List ℕ) (r : Option (Bor (List ℕ) × Bor (List ℕ))) → IsSplitOnceResult 10 text r
+    → MatchOption r (HasNoLineFeed text) (λ x. HasNoLineFeed x.0.now × (text ≡ x.0.now ++ 10 ∷ x.1.now))
 split_is text None h = no_line_feed_from_reads text (split_parts 10 text None h (omega arith))
 split_is text (Some x) h =
     let parts = split_parts 10 text (Some x) h (omega arith) in

@@ -1,15 +1,17 @@
 -- How far the lines of a tree have been written.
-use Rattle.std.proofs.Common.{◌≡◌, ℕ, suc, ◌+◌, ◌<◌, ◌≤◌, List, [], ◌∷◌, ◌++◌, map, length, get_or, drop, refl, sym, ap, ◌∙◌, subst, append_assoc, add-one}
+use Rattle.std.proofs.Common.{◌≡◌, ◌≢◌, ℕ, suc, ◌+◌, ◌<◌, ◌≤◌, List, [], ◌∷◌, ◌++◌, map, length, get_or, drop, refl, sym, ap, ◌∙◌, subst, append_assoc, add-one}
 use Rattle.std.proofs.Math.Seq.{drop-cons}
 use Rattle.std.proofs.lemmas.List.{append-nil, drop_all, map-append}
+use Rattle.std.proofs.lemmas.List.Elements.{All-nil}
 use Rattle.std.specs.Borrow.{Bor}
 use Rattle.std.specs.Prelude.{◌↔◌, string_bytes}
 use Rattle.ptree.specs.Outline.{Line, line, outline, outline_at, subtrees, subtrees_at}
 use Rattle.ptree.specs.Tree.{Forest, none, item, Tree, tree_of}
 use Rattle.ptree.specs.declared.item.StringItem.{StringItem, out-StringItem}
 use Rattle.ptree.proofs.TreeLemmas.{tree_of_item}
+use Rattle.ptree_trees.specs.declared.indented.Form.{Form}
 use Rattle.ptree_trees.specs.Indented.{IsLineText, AreLineTexts, indent, indented_line, indented_lines}
-use Rattle.ptree_trees.proofs.IndentedTexts.{no_line, indent_right}
+use Rattle.ptree_trees.proofs.IndentedTexts.{no_line, no_feed_front, indent_right}
 
 -- a text with a line feed cannot stand behind an indent
 pub not_line : (text a x : List ℕ) → text ≡ a ++ 10 ∷ x → IsLineText text → ⊥
@@ -41,32 +43,34 @@ left_more g xs i x h e =
     ap (map g) (drop-cons xs i x h) ∙ (ap (λ y. g y ∷ map g (drop (suc i) xs)) (sym e) ∙ ap (λ n. g x ∷ map g (drop n xs)) (sym (add-one i)))
 
 -- one line more has been written
-pub write_more : {A : Type 0} (unit old new : List ℕ) (g : A → Line) (xs : List A) (i : ℕ) (x : A) (all : List ℕ) → i < length xs → x ≡ get_or xs i x
-    → old ++ indented_lines unit (map g (drop i xs)) ≡ all → new ≡ old ++ indented_line unit (g x) → new ++ indented_lines unit (map g (drop (i + 1) xs)) ≡ all
-write_more unit old new g xs i x all h e is more =
-    ap (λ z. z ++ indented_lines unit (map g (drop (i + 1) xs))) more
-    ∙ (append_assoc old (indented_line unit (g x)) (indented_lines unit (map g (drop (i + 1) xs)))
-    ∙ (ap (λ z. old ++ indented_lines unit z) (sym (left_more g xs i x h e)) ∙ is))
+pub write_more : {A : Type 0} (form : Form) (old new : List ℕ) (g : A → Line) (xs : List A) (i : ℕ) (x : A) (all : List ℕ) → i < length xs → x ≡ get_or xs i x
+    → old ++ indented_lines form (map g (drop i xs)) ≡ all → new ≡ old ++ indented_line form (g x) → new ++ indented_lines form (map g (drop (i + 1) xs)) ≡ all
+write_more form old new g xs i x all h e is more =
+    ap (λ z. z ++ indented_lines form (map g (drop (i + 1) xs))) more
+    ∙ (append_assoc old (indented_line form (g x)) (indented_lines form (map g (drop (i + 1) xs)))
+    ∙ (ap (λ z. old ++ indented_lines form z) (sym (left_more g xs i x h e)) ∙ is))
 
 -- one text more can stand behind an indent
-pub texts_more : {A : Type 0} (g : A → Line) (xs : List A) (i : ℕ) (x : A) (all : List Line) → i < length xs → x ≡ get_or xs i x → IsLineText (g x).text
-    → (AreLineTexts (map g (drop i xs)) ↔ AreLineTexts all) → (AreLineTexts (map g (drop (i + 1) xs)) ↔ AreLineTexts all)
-texts_more g xs i x all h e fits k =
+pub texts_more : {A : Type 0} (form : Form) (g : A → Line) (xs : List A) (i : ℕ) (x : A) (all : List Line) → i < length xs → x ≡ get_or xs i x
+    → IsLineText (form.bullet.now ++ (g x).text) → (AreLineTexts form (map g (drop i xs)) ↔ AreLineTexts form all)
+    → (AreLineTexts form (map g (drop (i + 1) xs)) ↔ AreLineTexts form all)
+texts_more form g xs i x all h e fits k =
     let same = left_more g xs i x h e in
-    (λ later. k.0 (subst AreLineTexts (sym same) (fits, later)), λ whole. (subst AreLineTexts same (k.1 whole)).1)
+    (λ later. k.0 (subst (AreLineTexts form) (sym same) (fits, later)), λ whole. (subst (AreLineTexts form) same (k.1 whole)).1)
 
 -- one text cannot, so not all can
-pub texts_not : {A : Type 0} (g : A → Line) (xs : List A) (i : ℕ) (x : A) (all : List Line) → i < length xs → x ≡ get_or xs i x → (IsLineText (g x).text → ⊥)
-    → (AreLineTexts (map g (drop i xs)) ↔ AreLineTexts all) → AreLineTexts all → ⊥
-texts_not g xs i x all h e not k whole = not (subst AreLineTexts (left_more g xs i x h e) (k.1 whole)).0
+pub texts_not : {A : Type 0} (form : Form) (g : A → Line) (xs : List A) (i : ℕ) (x : A) (all : List Line) → i < length xs → x ≡ get_or xs i x
+    → (IsLineText (form.bullet.now ++ (g x).text) → ⊥) → (AreLineTexts form (map g (drop i xs)) ↔ AreLineTexts form all) → AreLineTexts form all → ⊥
+texts_not form g xs i x all h e not k whole = not (subst (AreLineTexts form) (left_more g xs i x h e) (k.1 whole)).0
 
 -- all lines have been written
-pub write_all : {A : Type 0} (unit text : List ℕ) (g : A → Line) (xs : List A) (i : ℕ) → length xs ≤ i → text ++ indented_lines unit (map g (drop i xs)) ≡ indented_lines unit (map g xs)
-    → (AreLineTexts (map g (drop i xs)) ↔ AreLineTexts (map g xs)) → (o : List Line) → map g xs ≡ o → AreLineTexts o × (text ≡ indented_lines unit o)
-write_all unit text g xs i h is k o same =
+pub write_all : {A : Type 0} (form : Form) (text : List ℕ) (g : A → Line) (xs : List A) (i : ℕ) → length xs ≤ i
+    → text ++ indented_lines form (map g (drop i xs)) ≡ indented_lines form (map g xs) → (AreLineTexts form (map g (drop i xs)) ↔ AreLineTexts form (map g xs))
+    → (o : List Line) → map g xs ≡ o → AreLineTexts form o × (text ≡ indented_lines form o)
+write_all form text g xs i h is k o same =
     let nothing : map g (drop i xs) ≡ [] = ap (map g) (drop_all i xs h) in (
-      subst AreLineTexts same (k.0 (subst AreLineTexts (sym nothing) tt)),
-      sym (append-nil text) ∙ (ap (λ z. text ++ indented_lines unit z) (sym nothing) ∙ (is ∙ ap (indented_lines unit) same)),
+      subst (AreLineTexts form) same (k.0 (subst (AreLineTexts form) (sym nothing) tt)),
+      sym (append-nil text) ∙ (ap (λ z. text ++ indented_lines form z) (sym nothing) ∙ (is ∙ ap (indented_lines form) same)),
     )
 
 -- the level and the tree of an item
@@ -87,8 +91,9 @@ unit_more unit old a b n e f =
     f ∙ (ap (λ z. z ++ unit) e ∙ (append_assoc old (indent unit n) unit
     ∙ ap (λ z. old ++ z) (ap (λ z. indent unit n ++ z) (sym (append-nil unit)) ∙ (indent_right unit n [] ∙ (append-nil (indent unit (suc n)) ∙ ap (indent unit) (sym (add-one n)))))))
 
--- a line has been written
-pub line_written : (unit old a b c text : List ℕ) (n : ℕ) → a ≡ old ++ indent unit n → b ≡ a ++ text → c ≡ b ++ 10 ∷ [] → c ≡ old ++ indented_line unit (line n text)
-line_written unit old a b c text n e f g =
-    g ∙ (ap (λ z. z ++ 10 ∷ []) (f ∙ (ap (λ z. z ++ text) e ∙ append_assoc old (indent unit n) text))
-    ∙ (append_assoc old (indent unit n ++ text) (10 ∷ []) ∙ ap (λ z. old ++ z) (append_assoc (indent unit n) text (10 ∷ []))))
+-- ## Texts of items
+
+-- a bullet can stand behind an indent if a text behind it can
+pub bullet_fits : (bullet text : List ℕ) → IsLineText (bullet ++ text) → IsLineText bullet
+bullet_fits [] text h = (All-nil (λ c. c ≢ 10), refl)
+bullet_fits (c ∷ bullet) text h = (no_feed_front (c ∷ bullet) text h.0, h.1)

@@ -109,7 +109,8 @@ next_sorted view xs done new i x s l is made before here =
 
 -- a new item is a sorted item if it has its text, and the sort of its sorted children
 pub sorted_whole : (root : StringItem) (x : StringItem-F StringItem) (xs done : List StringItem) (i : ℕ) → xs ≡ (out-StringItem root).children.items → length xs ≤ i
-    → string_bytes x.text ≡ string_bytes (out-StringItem root).text → AreSorted (forest (map tree_of (take i xs))) (map tree_of done) → IsSortOf (map tree_of done) (map tree_of x.children.items) → IsSortedTree (tree_of root) (tree_of (roll-StringItem x))
+    → string_bytes x.text ≡ string_bytes (out-StringItem root).text → AreSorted (forest (map tree_of (take i xs))) (map tree_of done)
+    → IsSortOf (map tree_of done) (map tree_of x.children.items) → IsSortedTree (tree_of root) (tree_of (roll-StringItem x))
 sorted_whole root x xs done i e l text before sort =
     let own = tree_of_item root in
     let new = tree_of_roll x in

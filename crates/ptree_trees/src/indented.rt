@@ -1,9 +1,12 @@
 //! Writes a tree as indented text, and reads it back.
-ghost use Rattle.std.specs.Prelude.{◌≡◌, ◌≢◌, ℕ, ◌<◌, ◌↔◌, ◌++◌, [], ◌∷◌, true, false, List, MatchOption, IsTrue, IfOk, OnOk, OnErr, IsErrOf, IsOkUnless, string_bytes};
+ghost use Rattle.std.specs.Prelude.{◌≡◌, ◌≢◌, ℕ, ◌↔◌, ◌++◌, ◌∷◌, false, List, string_bytes};
+ghost use Rattle.std.specs.Prelude.{MatchOption, IsTrue, IfOk, OnOk, OnErr, IsErrOf, IsOkUnless};
 ghost use Rattle.ptree.specs.Outline.{line, outline};
 ghost use Rattle.ptree.specs.Texts.{HasNoLineFeed, line_feed};
 ghost use Rattle.ptree.specs.Tree.{Tree, tree_of};
-ghost use Rattle.ptree_trees.specs.Indented.{IsUnit, IsLineText, AreLineTexts, begins_blank, indent, indented_line, IsIndentedForm, IsFirstWrongLine, EndsWrong};
+ghost use Rattle.ptree_trees.specs.Indented.{IsUnit, IsLineText, AreLineTexts, IsIndentedForm};
+ghost use Rattle.ptree_trees.specs.Indented.{IsFirstWrongLine, EndsWrong};
+ghost use Rattle.ptree_trees.specs.Indented.{begins_blank, indent, indented_line};
 ghost use Rattle.ptree_trees.specs.IndentedReading.{IsNext, IsAdded, IsReading};
 
 use ptree::TreeBuilder;
@@ -11,6 +14,26 @@ use ptree::item::StringItem;
 use std::alloc::{AllocError, AllocFailed, Global};
 use std::error::Error;
 use std::fmt;
+
+/// How the lines of an indented form begin: with a unit once for each level, and then a bullet.
+///
+/// ```text
+/// - fruits
+///   - apples
+///   - pears
+/// ```
+///
+/// Here the unit is two blanks, and the bullet a dash and a blank.
+#[derive(Debug, Clone, Copy, PartialEq, Eq)]
+pub struct Form<'a> {
+    /// What stands at the start of a line once for each level: one or more blanks and tabs. The
+    /// root's line has none.
+    pub unit: &'a str,
+
+    /// What stands before the text of each line, the root's too: `- ` or `* `, for example, or
+    /// nothing. It must hold no line feed, and begin with no blank or tab.
+    pub bullet: &'a str,
+}
 
 /// Why a text was not read.
 #[derive(Debug, Clone, Copy, PartialEq, Eq)]
@@ -62,8 +85,8 @@ impl Error for IndentError {}
 /// Why a tree was not written.
 #[derive(Debug, Clone, Copy, PartialEq, Eq)]
 pub enum WriteError {
-    /// The text of some item holds a line feed, or begins with a blank or a tab, so that its line
-    /// would not be read back.
+    /// The line of some item would not be read back: its text or the bullet holds a line feed, or
+    /// what stands behind the indent begins with a blank or a tab.
     Text,
 
     /// Memory ran out, or a level exceeds 4294967295.
@@ -101,29 +124,45 @@ pub fn is_unit(text: &str) -> bool
     text.as_bytes().iter().all(|b| *b == b' ' || *b == b'\t')
 }
 
+/// Whether a text can stand behind an indent: it holds no line feed, and begins with no blank or
+/// tab. A bullet must be such a text, and so must be the text of each item if there is no bullet.
+pub fn is_line_text(text: &str) -> bool
+    ensures { IsTrue result ↔ IsLineText text.now }
+{
+    if is_indented(text) {
+        return false;
+    }
+    match split_line(text) {
+        Some(_) => false,
+        None => true,
+    }
+}
+
 /// Returns the indented form of a tree: a line for each item, in the order in which they are drawn,
-/// each with the unit once for each level, the item's text, and a line feed. The root has level 0.
+/// each with the unit once for each level, the bullet, the item's text, and a line feed. The root
+/// has level 0.
 ///
 /// [`read_indented`] reads it back. Time grows with the bytes of the result. Above the result it
 /// takes a constant for each item.
 ///
 /// # Errors
 ///
-/// [`WriteError::Text`] if the text of an item holds a line feed, or begins with a blank or a tab.
+/// [`WriteError::Text`] if the text of an item or the bullet holds a line feed, or what stands
+/// behind an indent begins with a blank or a tab: the bullet, or the item's text if there is none.
 /// [`WriteError::Memory`] if memory ran out.
-pub fn indented_text(alloc: Global, item: &StringItem, unit: &str) -> Result<String, WriteError>
-    ensures form { IfOk result (λ s.
-        IsIndentedForm unit.now (string_bytes s) (tree_of item.now)) }
-    ensures text { IsErrOf result WriteError.Text → AreLineTexts (outline (tree_of item.now)) → ⊥ }
+pub fn indented_text(alloc: Global, item: &StringItem, form: &Form) -> Result<String, WriteError>
+    ensures form { IfOk result (λ s. IsIndentedForm form.now (string_bytes s) (tree_of item.now)) }
+    ensures text { IsErrOf result WriteError.Text
+        → AreLineTexts form.now (outline (tree_of item.now)) → ⊥ }
 {
     let items = item.items(alloc)?;
     let mut text = String::new(alloc);
     for entry in &items {
         let (level, item) = *entry;
-        if !is_line_text(item.text.as_str()) {
+        if !is_item_text(item.text.as_str(), form.bullet) {
             return Err(WriteError::Text);
         }
-        push_line(&mut text, level, item.text.as_str(), unit)?;
+        push_line(&mut text, level, item.text.as_str(), form)?;
     }
     Ok(text)
 }
@@ -136,26 +175,27 @@ pub fn indented_text(alloc: Global, item: &StringItem, unit: &str) -> Result<Str
 pub fn write_indented(
     alloc: Global,
     item: &StringItem,
-    unit: &str,
+    form: &Form,
     out: &mut String,
 ) -> Result<(), WriteError>
-    ensures form { OnOk result ((form : List ℕ)
-        × IsIndentedForm unit.now form (tree_of item.now)
-        × (string_bytes out.new ≡ string_bytes out.old ++ form)) }
-    ensures text { IsErrOf result WriteError.Text → AreLineTexts (outline (tree_of item.now)) → ⊥ }
+    ensures form { OnOk result ((text : List ℕ)
+        × IsIndentedForm form.now text (tree_of item.now)
+        × (string_bytes out.new ≡ string_bytes out.old ++ text)) }
+    ensures text { IsErrOf result WriteError.Text
+        → AreLineTexts form.now (outline (tree_of item.now)) → ⊥ }
     ensures kept { OnErr result (string_bytes out.new ≡ string_bytes out.old) }
 {
-    let form = indented_text(alloc, item, unit)?;
-    out.push_str(form.as_str())?;
+    let text = indented_text(alloc, item, form)?;
+    out.push_str(text.as_str())?;
     Ok(())
 }
 
 /// Returns the tree whose indented form a text is.
 ///
-/// The first line is the root, at level 0. Each further line has at least one unit before its text,
-/// and at most one more than the line before it. What follows the units is the item's text: it may
-/// be empty, and it begins with no blank or tab. A carriage return is an ordinary character. The
-/// last line must end in a line feed.
+/// The first line is the root, at level 0. Each further line has at least one unit, and at most one
+/// more than the line before it. Behind the units stands the bullet, and then the item's text,
+/// which may be empty. If there is no bullet, the text begins with no blank or tab. A carriage
+/// return is an ordinary character. The last line must end in a line feed.
 ///
 /// Time grows with the text's bytes. Above the result it takes a copy of the texts, and a constant
 /// for each item.
@@ -164,17 +204,18 @@ pub fn write_indented(
 ///
 /// [`IndentError::Line`] or [`IndentError::End`] if the text is not the indented form of a tree,
 /// and [`IndentError::Memory`] if memory ran out, or a level exceeds 4294967295.
-pub fn read_indented(alloc: Global, text: &str, unit: &str) -> Result<StringItem, IndentError>
-    requires { IsUnit unit.now }
-    ensures some { IfOk result (λ t. IsIndentedForm unit.now text.now (tree_of t)) }
+pub fn read_indented(alloc: Global, text: &str, form: &Form) -> Result<StringItem, IndentError>
+    requires unit { IsUnit form.now.unit.now }
+    requires bullet { IsLineText form.now.bullet.now }
+    ensures some { IfOk result (λ t. IsIndentedForm form.now text.now (tree_of t)) }
     // The indented form of a tree reads back as that tree, unless memory runs out.
-    ensures back { (t : Tree) → IsIndentedForm unit.now text.now t
+    ensures back { (t : Tree) → IsIndentedForm form.now text.now t
         → IsOkUnless result IndentError.Memory × IfOk result (λ s. tree_of s ≡ t) }
     ensures line { (n : ℕ) → IsErrOf result (IndentError.Line n)
-        → IsFirstWrongLine unit.now text.now n }
-    ensures end { IsErrOf result IndentError.End → EndsWrong unit.now text.now }
+        → IsFirstWrongLine form.now text.now n }
+    ensures end { IsErrOf result IndentError.End → EndsWrong form.now text.now }
 {
-    read_lines(alloc, text, unit)
+    read_lines(alloc, text, form)
 }
 
 // Whether a text begins with a blank or a tab.
@@ -195,15 +236,16 @@ fn split_line(text: &str) -> Option<(&str, &str)>
     text.split_once('\n')
 }
 
-// Returns what follows a unit.
-fn strip_unit<'a>(text: &'a str, unit: &str) -> Option<&'a str>
-    ensures { MatchOption result ((rest : List ℕ) → text.now ≢ unit.now ++ rest)
-        (λ r. text.now ≡ unit.now ++ r.now) }
+// Returns what follows a unit or a bullet.
+fn strip_front<'a>(text: &'a str, front: &str) -> Option<&'a str>
+    ensures { MatchOption result ((rest : List ℕ) → text.now ≢ front.now ++ rest)
+        (λ r. text.now ≡ front.now ++ r.now) }
 {
-    text.strip_prefix(unit)
+    text.strip_prefix(front)
 }
 
-// Returns the level and the text of a line, or `None` if blanks or tabs remain.
+// Returns the level of a line, and what stands behind its indent, or `None` if blanks or tabs
+// remain.
 fn split_indent<'a>(line: &'a str, unit: &str) -> Option<(usize, &'a str)>
     requires { IsUnit unit.now }
     ensures { MatchOption result
@@ -212,7 +254,7 @@ fn split_indent<'a>(line: &'a str, unit: &str) -> Option<(usize, &'a str)>
 {
     let mut level = 0;
     let mut rest = line;
-    while let Some(more) = strip_unit(rest, unit) {
+    while let Some(more) = strip_front(rest, unit) {
         level += 1;
         rest = more;
     }
@@ -227,17 +269,20 @@ fn add_line(
     builder: &mut TreeBuilder,
     alloc: Global,
     line: &str,
-    unit: &str,
+    form: &Form,
     number: usize,
 ) -> Result<(), IndentError>
-    requires { IsUnit unit.now }
-    ensures added { OnOk result (IsAdded unit.now builder.old builder.new line.now) }
+    requires { IsUnit form.now.unit.now }
+    ensures added { OnOk result (IsAdded form.now builder.old builder.new line.now) }
     ensures number { (n : ℕ) → IsErrOf result (IndentError.Line n) → n ≡ number }
     ensures wrong { IsErrOf result (IndentError.Line number) → (level : ℕ) (text : List ℕ)
-        → IsNext unit.now builder.old.level line.now level text → ⊥ }
+        → IsNext form.now builder.old.level line.now level text → ⊥ }
     ensures end { IsErrOf result IndentError.End → ⊥ }
 {
-    let Some((level, own)) = split_indent(line, unit) else {
+    let Some((level, own)) = split_indent(line, form.unit) else {
+        return Err(IndentError::Line(number));
+    };
+    let Some(own) = strip_front(own, form.bullet) else {
         return Err(IndentError::Line(number));
     };
     if level == 0 || level - 1 > builder.level() as usize {
@@ -254,9 +299,10 @@ fn add_line(
 }
 
 // Reads an indented form.
-fn read_lines(alloc: Global, text: &str, unit: &str) -> Result<StringItem, IndentError>
-    requires { IsUnit unit.now }
-    ensures { IsReading unit.now text.now result }
+fn read_lines(alloc: Global, text: &str, form: &Form) -> Result<StringItem, IndentError>
+    requires unit { IsUnit form.now.unit.now }
+    requires bullet { IsLineText form.now.bullet.now }
+    ensures { IsReading form.now text.now result }
 {
     let Some((first, behind)) = split_line(text) else {
         return Err(IndentError::End);
@@ -264,12 +310,15 @@ fn read_lines(alloc: Global, text: &str, unit: &str) -> Result<StringItem, Inden
     if is_indented(first) {
         return Err(IndentError::Line(1));
     }
-    let mut builder = TreeBuilder::new(alloc, String::from_str(alloc, first)?);
+    let Some(root) = strip_front(first, form.bullet) else {
+        return Err(IndentError::Line(1));
+    };
+    let mut builder = TreeBuilder::new(alloc, String::from_str(alloc, root)?);
     let mut rest = behind;
     let mut lines = 1;
     while let Some((line, more)) = split_line(rest) {
         lines += 1;
-        add_line(&mut builder, alloc, line, unit, lines)?;
+        add_line(&mut builder, alloc, line, form, lines)?;
         rest = more;
     }
     if !rest.is_empty() {
@@ -278,11 +327,14 @@ fn read_lines(alloc: Global, text: &str, unit: &str) -> Result<StringItem, Inden
     Ok(builder.build()?)
 }
 
-// Whether a text can stand behind an indent.
-fn is_line_text(text: &str) -> bool
-    ensures { IsTrue result ↔ IsLineText text.now }
+// Whether a bullet and the text of an item can stand behind an indent.
+fn is_item_text(text: &str, bullet: &str) -> bool
+    ensures { IsTrue result ↔ IsLineText (bullet.now ++ text.now) }
 {
-    if is_indented(text) {
+    if bullet.is_empty() {
+        return is_line_text(text);
+    }
+    if !is_line_text(bullet) {
         return false;
     }
     match split_line(text) {
@@ -292,13 +344,14 @@ fn is_line_text(text: &str) -> bool
 }
 
 // Appends the line of an item.
-fn push_line(out: &mut String, level: u32, text: &str, unit: &str) -> Result<(), AllocError>
+fn push_line(out: &mut String, level: u32, text: &str, form: &Form) -> Result<(), AllocError>
     ensures { OnOk result (string_bytes out.new
-        ≡ string_bytes out.old ++ indented_line unit.now (line level text.now)) }
+        ≡ string_bytes out.old ++ indented_line form.now (line level text.now)) }
 {
     for _i in 0..level {
-        out.push_str(unit)?;
+        out.push_str(form.unit)?;
     }
+    out.push_str(form.bullet)?;
     out.push_str(text)?;
     out.push_str("\n")
 }

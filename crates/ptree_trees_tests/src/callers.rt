@@ -1,13 +1,20 @@
 //! Runs each caller once.
 use crate::expect::{Below, expect_text, expect_tree, tree};
+use ptree_trees::indented::Form;
 use ptree_trees_callers::changing::{
     at_nothing, at_two, keep_containing, keep_named, sorted_has_text,
 };
 use ptree_trees_callers::comparing::{differ_at_root, first_lost, is_same};
 use ptree_trees_callers::indenting::{
-    is_appended, is_cut_off, is_refused, read_by_unit, there_and_back, written_anew, wrong_line,
+    is_appended, is_cut_off, is_refused, read_by_form, there_and_back, written_anew, wrong_line,
 };
 use std::test::Fail;
+
+// Two blanks a level, and a dash.
+const FORM: Form = Form {
+    unit: "  ",
+    bullet: "- ",
+};
 
 // The items below the root of each tree.
 const BELOW: Below = &[(1, "b"), (2, "c"), (1, "ab")];
@@ -48,21 +55,34 @@ fn finding(rt: HostRuntime) -> Result<(), Fail> {
 fn writing(rt: HostRuntime) -> Result<(), Fail> {
     let alloc = rt.alloc();
     let root = tree(alloc, "r", BELOW)?;
-    let back = there_and_back(alloc, &root, "  ")?.ok_or("not written")?;
+    let back = there_and_back(alloc, &root, &FORM)?.ok_or("not written")?;
     expect_tree(alloc, &back, "r", BELOW)?;
     let mut out = String::new(alloc);
-    assert!(rt; is_appended(alloc, &root, " ", &mut out));
-    expect_text(out.as_str(), "r\n b\n  c\n ab\n")?;
-    assert!(rt; !is_refused(alloc, &root, " ", &mut out));
+    assert!(rt; is_appended(alloc, &root, &FORM, &mut out));
+    expect_text(out.as_str(), "- r\n  - b\n    - c\n  - ab\n")?;
+    assert!(rt; !is_refused(alloc, &root, &FORM, &mut out));
     Ok(())
 }
 
 #[test]
 fn reading(rt: HostRuntime) -> Result<(), Fail> {
     let alloc = rt.alloc();
-    expect_text(written_anew(alloc, "r\n a\n", " ")?.as_str(), "r\n a\n")?;
-    assert!(rt; wrong_line(alloc, "r\n a\nb\n", " ")? == Some(3));
-    assert!(rt; is_cut_off(alloc, "r\n a", " ")?);
-    assert!(rt; read_by_unit(alloc, "r\n", "")?.is_none());
+    expect_text(
+        written_anew(alloc, "- r\n  - a\n", &FORM)?.as_str(),
+        "- r\n  - a\n",
+    )?;
+    assert!(rt; wrong_line(alloc, "- r\n  - a\n- b\n", &FORM)? == Some(3));
+    assert!(rt; is_cut_off(alloc, "- r\n  - a", &FORM)?);
+    assert!(rt;
+        read_by_form(
+            alloc,
+            "r\n",
+            &Form {
+                unit: "",
+                bullet: ""
+            }
+        )?
+        .is_none()
+    );
     Ok(())
 }

@@ -4,4 +4,4 @@ use Rattle.ptree_trees.proofs.indented.push_line.Given as goal
 
 -- the units so far were added
 abbrev pub invariant-loop-i : goal.invariant-loop-i
-invariant-loop-i l = string_bytes l.out ≡ string_bytes l.fn.out ++ indent l.unit l._i
+invariant-loop-i l = string_bytes l.out ≡ string_bytes l.fn.out ++ indent l.form.unit.now l._i
