@@ -91,12 +91,15 @@ impl Command {
             Opt::Depth => self != Command::Indented && self != Command::Check && self != Command::Diff,
             Opt::At => self == Command::Json || self == Command::Toml,
             Opt::Label => {
-                self == Command::Json || self == Command::Toml || self == Command::Paths
+                self == Command::Json
+                    || self == Command::Toml
+                    || self == Command::Paths
+                    || self == Command::Outline
             }
             Opt::To => self == Command::Convert,
             Opt::Sort => self == Command::Convert || self == Command::Paths,
             Opt::Keep => self == Command::Convert || self == Command::Paths,
-            Opt::Unit => self == Command::Outline || self == Command::Indented,
+            Opt::Unit | Opt::Bullet => self == Command::Outline || self == Command::Indented,
             Opt::Null => self == Command::Paths,
             Opt::Root | Opt::Inverse | Opt::Walks => self == Command::Deps,
             Opt::All => self == Command::Diff,
@@ -149,6 +152,9 @@ pub enum Opt {
     /// What a level is indented by.
     Unit,
 
+    /// What stands before the text of each line of indented text.
+    Bullet,
+
     /// Paths end in a zero byte.
     Null,
 
@@ -169,7 +175,7 @@ pub enum Opt {
 }
 
 /// All options.
-pub const OPTIONS: [Opt; 15] = [
+pub const OPTIONS: [Opt; 16] = [
     Opt::Help,
     Opt::Depth,
     Opt::At,
@@ -179,6 +185,7 @@ pub const OPTIONS: [Opt; 15] = [
     Opt::Sort,
     Opt::Keep,
     Opt::Unit,
+    Opt::Bullet,
     Opt::Null,
     Opt::Root,
     Opt::Inverse,
@@ -200,6 +207,7 @@ impl Opt {
             Opt::Sort => "--sort",
             Opt::Keep => "--keep",
             Opt::Unit => "--unit",
+            Opt::Bullet => "--bullet",
             Opt::Null => "--null",
             Opt::Root => "--root",
             Opt::Inverse => "--inverse",
@@ -236,6 +244,7 @@ impl Opt {
             | Opt::To
             | Opt::Keep
             | Opt::Unit
+            | Opt::Bullet
             | Opt::Root
             | Opt::Color => true,
         }

@@ -84,22 +84,26 @@ Draws paths, one on each line.
 
 /// The page of `outline`.
 pub const OUTLINE: &str = "\
-usage: trees outline [--unit UNIT] [--depth N] [--as PIECES] [--color WHEN] [FILE]
+usage: trees outline [--unit UNIT] [--bullet TEXT] [--label TEXT] [--depth N] [--as PIECES]
+                     [--color WHEN] [FILE]
 
 Draws indented text. The first line is the root; each level further has one unit more before
 its text.
 
-  --unit UNIT   tab, or a number of blanks; else it is the indent of the first line that has one
+  --unit UNIT    tab, or a number of blanks; else it is the indent of the first line that has one
+  --bullet TEXT  what stands before each text; else it is -, * or + if the first line has it
+  --label TEXT   the text of a root above all lines, of which several may have no indent
 ";
 
 /// The page of `indented`.
 pub const INDENTED: &str = "\
-usage: trees indented [--unit UNIT] [--as PIECES] [FILE]
+usage: trees indented [--unit UNIT] [--bullet TEXT] [--as PIECES] [FILE]
 
 Writes a drawing as indented text.
 
-  --unit UNIT   tab, or a number of blanks; 2 by default
-  --as PIECES   the pieces of the drawing; utf by default
+  --unit UNIT    tab, or a number of blanks; 2 by default
+  --bullet TEXT  what to write before each text, as a dash and a blank
+  --as PIECES    the pieces of the drawing; utf by default
 ";
 
 /// The page of `check`.

@@ -3,7 +3,9 @@
 use crate::failure::Failure;
 use crate::source::Source;
 use ptree::item::StringItem;
-use ptree_trees::indented::{IndentError, WriteError, indented_text, is_unit, read_indented};
+use ptree_trees::indented::{
+    Form, IndentError, WriteError, indented_text, is_line_text, is_unit, read_indented,
+};
 use ptree_trees::paths::paths_tree;
 use std::alloc::{AllocError, Global};
 
@@ -41,28 +43,69 @@ pub fn paths(
 
 /// Returns the tree of an indented text.
 ///
+/// Without a unit or a bullet they are those of the first line that has some. With a label the
+/// lines stand one level deeper, below a root with that text. A last line feed may be missing.
+///
 /// # Errors
 ///
-/// `Input` with the line if the text has no such form, `Usage` if the unit is none, and `Memory`.
-pub fn outline(alloc: Global, source: &Source, unit: Option<&str>) -> Result<StringItem, Failure> {
-    let text = source.text.as_str();
+/// `Input` with the line if the text has no such form, `Usage` if unit or bullet is none, and
+/// `Memory`.
+pub fn outline(
+    alloc: Global,
+    source: &Source,
+    unit: Option<&str>,
+    bullet: Option<&str>,
+    label: Option<&str>,
+) -> Result<StringItem, Failure> {
+    let given = source.text.as_str();
     let unit = match unit {
         Some(unit) => parse_unit(alloc, unit)?,
-        None => String::from_str(alloc, first_indent(text))?,
+        None => String::from_str(alloc, first_indent(given))?,
     };
-    if !is_unit(unit.as_str()) {
-        return Err(Failure::Usage(String::from_str(alloc, "--unit needs a number or tab")?));
+    let form = Form {
+        unit: unit.as_str(),
+        bullet: bullet.unwrap_or(first_bullet(given)),
+    };
+    if !is_unit(form.unit) || !is_line_text(form.bullet) {
+        return Err(Failure::Usage(String::from_str(
+            alloc,
+            "a bullet is one line, and begins with no blank",
+        )?));
     }
-    match read_indented(alloc, text, unit.as_str()) {
+    let text = whole(alloc, given, &form, label)?;
+    let above = if label.is_some() { 1 } else { 0 };
+    match read_indented(alloc, text.as_str(), &form) {
         Ok(tree) => Ok(tree),
         Err(IndentError::Line(line)) => {
+            let line = line.saturating_sub(above);
             Err(source.wrong_at(alloc, line, "the line's indent fits no level")?)
         }
-        Err(IndentError::End) => {
-            Err(source.wrong(alloc, "the last line does not end in a line feed")?)
-        }
+        Err(IndentError::End) => Err(source.wrong(alloc, "empty")?),
         Err(IndentError::Memory) => Err(Failure::Memory),
     }
+}
+
+// Returns a text with its last line feed, below a line for the label if there is one.
+fn whole(
+    alloc: Global,
+    given: &str,
+    form: &Form<'_>,
+    label: Option<&str>,
+) -> Result<String, AllocError> {
+    let mut text = String::new(alloc);
+    if let Some(label) = label {
+        text.push_str(form.bullet)?;
+        text.push_str(label)?;
+        text.push_str("\n")?;
+    }
+    for line in given.lines() {
+        if label.is_some() {
+            text.push_str(form.unit)?;
+        }
+        text.push_str(line)?;
+        text.push_str("\n")?;
+    }
+    Ok(text)
 }
 
 /// Returns the indented form of a tree.
@@ -76,9 +119,14 @@ pub fn indented(
     source: &Source,
     tree: &StringItem,
     unit: Option<&str>,
+    bullet: Option<&str>,
 ) -> Result<String, Failure> {
     let unit = parse_unit(alloc, unit.unwrap_or("2"))?;
-    match indented_text(alloc, tree, unit.as_str()) {
+    let form = Form {
+        unit: unit.as_str(),
+        bullet: bullet.unwrap_or(""),
+    };
+    match indented_text(alloc, tree, &form) {
         Ok(text) => Ok(text),
         Err(WriteError::Text) => Err(source.wrong(
             alloc,
@@ -123,4 +171,14 @@ fn first_indent(text: &str) -> &str {
         }
     }
     "\t"
+}
+
+// Returns the bullet of the first line, `- `, `* ` or `+ `, or nothing.
+fn first_bullet(text: &str) -> &str {
+    for bullet in ["- ", "* ", "+ "] {
+        if text.starts_with(bullet) {
+            return bullet;
+        }
+    }
+    ""
 }

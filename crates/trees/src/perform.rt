@@ -85,6 +85,7 @@ fn of_one(
     let at = options.value(Opt::At);
     let label = options.value(Opt::Label);
     let unit = options.value(Opt::Unit);
+    let bullet = options.value(Opt::Bullet);
     match command {
         Command::Json => {
             let tree = document::json(alloc, source, at, label)?;
@@ -100,12 +101,12 @@ fn of_one(
             done(tree_on(alloc, screen, tree, config)?)
         }
         Command::Outline => {
-            let tree = lists::outline(alloc, source, unit)?;
+            let tree = lists::outline(alloc, source, unit, bullet, label)?;
             done(tree_on(alloc, screen, tree, config)?)
         }
         Command::Indented => {
             let tree = drawings::read(alloc, source, &config)?;
-            done(Shown::Text(lists::indented(alloc, source, &tree, unit)?))
+            done(Shown::Text(lists::indented(alloc, source, &tree, unit, bullet)?))
         }
         Command::Deps => {
             let root = options.value(Opt::Root);
