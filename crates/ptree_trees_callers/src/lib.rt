@@ -5,3 +5,4 @@
 pub mod changing;
 pub mod comparing;
 pub mod escaping;
+pub mod pathing;
