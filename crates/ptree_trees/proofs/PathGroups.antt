@@ -82,7 +82,8 @@ group_more s old new ps m q tail h same other made n = ap (option_map (map (name
       ∙ ap (λ b. cond b (Some (tails_of n (ps ++ (m ∷ q) ∷ []))) None) (sym (has_first_push n m q ps ∙ (ap (λ b. has_name (next_names [] ps) n || b) e ∙ or-true (has_name (next_names [] ps) n))))
   at false e =
       let ts : tails_of n (ps ++ (m ∷ q) ∷ []) ≡ tails_of n ps = tails_append n ps ((m ∷ q) ∷ []) ∙ (ap (λ z. tails_of n ps ++ z) (other n e) ∙ append-nil (tails_of n ps)) in
-      let hs : has_name (next_names [] (ps ++ (m ∷ q) ∷ [])) n ≡ has_name (next_names [] ps) n = has_first_push n m q ps ∙ (ap (λ b. has_name (next_names [] ps) n || b) e ∙ or-false (has_name (next_names [] ps) n)) in
+      let hs : has_name (next_names [] (ps ++ (m ∷ q) ∷ [])) n ≡ has_name (next_names [] ps) n =
+      has_first_push n m q ps ∙ (ap (λ b. has_name (next_names [] ps) n || b) e ∙ or-false (has_name (next_names [] ps) n)) in
       h n ∙ (ap (λ z. cond (has_name (next_names [] ps) n) (Some z) None) (sym ts) ∙ ap (λ b. cond b (Some (tails_of n (ps ++ (m ∷ q) ∷ []))) None) (sym hs))
 
 -- one path more of one name
@@ -117,11 +118,12 @@ paths_none s g e n = ap (λ es. option_map (map (names s)) (option_map (λ v. ma
 -- ## Taking
 
 -- the groups are those of the paths, without the names of a forest
-abbrev pub Leaves : ℕ → Groups → List (List ℕ) → List (List (List ℕ)) → Type 0
-Leaves s g done paths = (n : List ℕ) → option_map (map (names s)) (tails_at g n) ≡ cond (has_name done n) None (tails_if n paths)
+abbrev pub GroupsOthers : ℕ → Groups → List (List ℕ) → List (List (List ℕ)) → Type 0
+GroupsOthers s g done paths = (n : List ℕ) → option_map (map (names s)) (tails_at g n) ≡ cond (has_name done n) None (tails_if n paths)
 
 -- tails that were there are those of the paths, and their name was not among those before
-pub tails_taken : (s : ℕ) (g : Groups) (done : List (List ℕ)) (paths : List (List (List ℕ))) (n : List ℕ) (tails : List (Bor (List ℕ))) → Leaves s g done paths → Some (map (λ p. p.now) tails) ≡ tails_at g n
+pub tails_taken : (s : ℕ) (g : Groups) (done : List (List ℕ)) (paths : List (List (List ℕ))) (n : List ℕ) (tails : List (Bor (List ℕ))) → GroupsOthers s g done paths
+    → Some (map (λ p. p.now) tails) ≡ tails_at g n
     → (has_name done n ≡ false) × (names_of s tails ≡ tails_of n paths)
 tails_taken s g done paths n tails h e = at (has_name done n) (has_name (next_names [] paths) n) (ap (option_map (map (names s))) e ∙ h n) where
   at : (b a : Bool) → Some (map (names s) (map (λ p. p.now) tails)) ≡ cond b None (cond a (Some (tails_of n paths)) None) → (b ≡ false) × (names_of s tails ≡ tails_of n paths)
@@ -130,25 +132,29 @@ tails_taken s g done paths n tails h e = at (has_name done n) (has_name (next_na
   at false true k = let same : map (names s) (map (λ p. p.now) tails) ≡ tails_of n paths = cc in (refl, map_twice (λ p. p.now) (names s) tails ∙ same)
 
 -- a name of the paths whose tails were not there was among those before
-pub tails_gone : (s : ℕ) (g : Groups) (done : List (List ℕ)) (paths : List (List (List ℕ))) (n : List ℕ) → Leaves s g done paths → None ≡ tails_at g n → has_name (next_names [] paths) n ≡ true → has_name done n ≡ true
+pub tails_gone : (s : ℕ) (g : Groups) (done : List (List ℕ)) (paths : List (List (List ℕ))) (n : List ℕ) → GroupsOthers s g done paths → None ≡ tails_at g n
+    → has_name (next_names [] paths) n ≡ true → has_name done n ≡ true
 tails_gone s g done paths n h e first = at (has_name done n) (ap (option_map (map (names s))) e ∙ (h n ∙ ap (λ a. cond (has_name done n) None (cond a (Some (tails_of n paths)) None)) first)) where
   at : (b : Bool) → None ≡ cond b None (Some (tails_of n paths)) → b ≡ true
   at true k = refl
   at false k = absurd (cc)
 
 -- a path begins with its first name
-pub first_there : (s : ℕ) (xs : List (Bor (List ℕ))) (i : ℕ) (d : Bor (List ℕ)) (n : List ℕ) (rest : List (List ℕ)) → i < length xs → names s (get_or xs i d).now ≡ n ∷ rest → has_name (next_names [] (names_of s xs)) n ≡ true
+pub first_there : (s : ℕ) (xs : List (Bor (List ℕ))) (i : ℕ) (d : Bor (List ℕ)) (n : List ℕ) (rest : List (List ℕ)) → i < length xs → names s (get_or xs i d).now ≡ n ∷ rest
+    → has_name (next_names [] (names_of s xs)) n ≡ true
 first_there s [] i d n rest l e = absurd (omega arith)
-first_there s (x ∷ xs) zero d n rest l e = ap (λ p. has_name (option_to_list (next_name [] p) ++ next_names [] (names_of s xs)) n) e ∙ ap (λ b. b || has_name (next_names [] (names_of s xs)) n) ((bytes_eq-Decides n n).1 refl)
+first_there s (x ∷ xs) zero d n rest l e =
+    ap (λ p. has_name (option_to_list (next_name [] p) ++ next_names [] (names_of s xs)) n) e ∙ ap (λ b. b || has_name (next_names [] (names_of s xs)) n) ((bytes_eq-Decides n n).1 refl)
 first_there s (x ∷ xs) (suc i) d n rest l e = at (names s x.now) (first_there s xs i d n rest (omega arith) e) where
   at : (p : List (List ℕ)) → has_name (next_names [] (names_of s xs)) n ≡ true → has_name (option_to_list (next_name [] p) ++ next_names [] (names_of s xs)) n ≡ true
   at [] h = h
   at (m ∷ q) h = ap (λ b. bytes_eq m n || b) h ∙ or-true (bytes_eq m n)
 
 -- with a name more among those before
-pub leaves_more : (s : ℕ) (old new : Groups) (done : List (List ℕ)) (m : List ℕ) (paths : List (List (List ℕ))) → Leaves s old done paths → ((n : List ℕ) → tails_at new n ≡ cond (bytes_eq m n) None (tails_at old n))
-    → Leaves s new (done ++ m ∷ []) paths
-leaves_more s old new done m paths h made n =
+pub others_more : (s : ℕ) (old new : Groups) (done : List (List ℕ)) (m : List ℕ) (paths : List (List (List ℕ))) → GroupsOthers s old done paths
+    → ((n : List ℕ) → tails_at new n ≡ cond (bytes_eq m n) None (tails_at old n))
+    → GroupsOthers s new (done ++ m ∷ []) paths
+others_more s old new done m paths h made n =
     ap (option_map (map (names s))) (made n) ∙ (at (bytes_eq m n) (has_name done n) (h n) ∙ ap (λ b. cond b None (tails_if n paths)) (sym (has_push done m n)))
   where
     at : (b a : Bool) → option_map (map (names s)) (tails_at old n) ≡ cond a None (tails_if n paths) → option_map (map (names s)) (cond b None (tails_at old n)) ≡ cond (a || b) None (tails_if n paths)
@@ -158,17 +164,20 @@ leaves_more s old new done m paths h made n =
     at false false k = k
 
 -- and with one that was among them
-pub leaves_same : (s : ℕ) (old new : Groups) (done : List (List ℕ)) (m : List ℕ) (paths : List (List (List ℕ))) → Leaves s old done paths → ((n : List ℕ) → tails_at new n ≡ cond (bytes_eq m n) None (tails_at old n))
-    → has_name done m ≡ true → Leaves s new done paths
-leaves_same s old new done m paths h made there n = ap (option_map (map (names s))) (made n) ∙ at (bytes_eq m n) refl (h n) where
-  at : (b : Bool) → bytes_eq m n ≡ b → option_map (map (names s)) (tails_at old n) ≡ cond (has_name done n) None (tails_if n paths) → option_map (map (names s)) (cond b None (tails_at old n)) ≡ cond (has_name done n) None (tails_if n paths)
+pub others_same : (s : ℕ) (old new : Groups) (done : List (List ℕ)) (m : List ℕ) (paths : List (List (List ℕ))) → GroupsOthers s old done paths
+    → ((n : List ℕ) → tails_at new n ≡ cond (bytes_eq m n) None (tails_at old n))
+    → has_name done m ≡ true → GroupsOthers s new done paths
+others_same s old new done m paths h made there n = ap (option_map (map (names s))) (made n) ∙ at (bytes_eq m n) refl (h n) where
+  at : (b : Bool) → bytes_eq m n ≡ b → option_map (map (names s)) (tails_at old n) ≡ cond (has_name done n) None (tails_if n paths)
+      → option_map (map (names s)) (cond b None (tails_at old n)) ≡ cond (has_name done n) None (tails_if n paths)
   at false e k = k
   at true e k = ap (λ b. cond b None (tails_if n paths)) (sym (subst (λ z. has_name done z ≡ true) ((bytes_eq-Decides m n).0 e) there))
 
 -- with an item more
-pub item_leaves : (s : ℕ) (g h : Groups) (old new : List StringItem) (made : StringItem) (name : List ℕ) (children : Forest) (paths : List (List (List ℕ)))
-    → Leaves s g (tops (forest (map tree_of old))) paths → ((n : List ℕ) → tails_at h n ≡ cond (bytes_eq name n) None (tails_at g n)) → tree_of made ≡ tree name children → new ≡ old ++ made ∷ []
-    → Leaves s h (tops (forest (map tree_of new))) paths
-item_leaves s g h old new made name children paths so_far others is pushed =
+pub item_others : (s : ℕ) (g h : Groups) (old new : List StringItem) (made : StringItem) (name : List ℕ) (children : Forest) (paths : List (List (List ℕ)))
+    → GroupsOthers s g (tops (forest (map tree_of old))) paths → ((n : List ℕ) → tails_at h n ≡ cond (bytes_eq name n) None (tails_at g n)) → tree_of made ≡ tree name children → new ≡ old ++ made ∷ []
+    → GroupsOthers s h (tops (forest (map tree_of new))) paths
+item_others s g h old new made name children paths so_far others is pushed =
     let trees : map tree_of new ≡ map tree_of old ++ tree name children ∷ [] = ap (map tree_of) pushed ∙ (map-append tree_of old (made ∷ []) ∙ ap (λ z. map tree_of old ++ z ∷ []) is) in
-    subst (λ z. Leaves s h z paths) (sym (ap (λ z. tops (forest z)) trees ∙ tops_push (map tree_of old) (tree name children))) (leaves_more s g h (tops (forest (map tree_of old))) name paths so_far others)
+    subst (λ z. GroupsOthers s h z paths) (sym (ap (λ z. tops (forest z)) trees ∙ tops_push (map tree_of old) (tree name children)))
+    (others_more s g h (tops (forest (map tree_of old))) name paths so_far others)

@@ -51,7 +51,8 @@ pub tails_fewer : (n : List ℕ) (ps : List (List (List ℕ))) → has_name (nex
 tails_fewer n [] h = absurd (false≢true h)
 tails_fewer n ([] ∷ ps) h = still_lighter n [] ps (tails_fewer n ps h)
 tails_fewer n ((m ∷ q) ∷ ps) h = at (bytes_eq m n) refl h (λ k. tails_fewer n ps k) where
-  at : (b : Bool) → bytes_eq m n ≡ b → (b || has_name (next_names [] ps) n) ≡ true → (has_name (next_names [] ps) n ≡ true → weight (tails_of n ps) < weight ps) → weight (tails_of n ((m ∷ q) ∷ ps)) < weight ((m ∷ q) ∷ ps)
+  at : (b : Bool) → bytes_eq m n ≡ b → (b || has_name (next_names [] ps) n) ≡ true → (has_name (next_names [] ps) n ≡ true → weight (tails_of n ps) < weight ps)
+      → weight (tails_of n ((m ∷ q) ∷ ps)) < weight ((m ∷ q) ∷ ps)
   at true e h more = subst (λ z. weight (tails_of n ((z ∷ q) ∷ ps)) < weight ((z ∷ q) ∷ ps)) (sym ((bytes_eq-Decides m n).0 e)) (tails_lighter n q ps)
   at false e h more = still_lighter n (m ∷ q) ps (more h)
 
@@ -84,7 +85,8 @@ AreGrown s (t ∷ ts) [] = ⊥
 AreGrown s (t ∷ ts) (e ∷ es) = (t.text ≡ e.0.now) × IsSortedForestOfPaths t.children (names_of s e.1.items) × AreGrown s ts es
 
 -- one tree more
-grown_more : (s : ℕ) (ts : List Tree) (es : List (Bor (List ℕ) × Vec (Bor (List ℕ)))) (u : Tree) (e : Bor (List ℕ) × Vec (Bor (List ℕ))) → AreGrown s ts es → u.text ≡ e.0.now → IsSortedForestOfPaths u.children (names_of s e.1.items)
+grown_more : (s : ℕ) (ts : List Tree) (es : List (Bor (List ℕ) × Vec (Bor (List ℕ)))) (u : Tree) (e : Bor (List ℕ) × Vec (Bor (List ℕ))) → AreGrown s ts es → u.text ≡ e.0.now
+    → IsSortedForestOfPaths u.children (names_of s e.1.items)
     → AreGrown s (ts ++ u ∷ []) (es ++ e ∷ [])
 grown_more s [] [] u e h text kids = (text, kids, tt)
 grown_more s [] (d ∷ es) u e h text kids = absurd h
@@ -92,14 +94,18 @@ grown_more s (t ∷ ts) [] u e h text kids = absurd h
 grown_more s (t ∷ ts) (d ∷ es) u e h text kids = (h.0, h.1, grown_more s ts es u e h.2 text kids)
 
 -- one item more
-pub item_grown : {A : Type 0} (s : ℕ) (shows : A → Bor (List ℕ) × Vec (Bor (List ℕ))) (so_far : List A) (x : A) (old new : List StringItem) (made : StringItem) (children : List StringItem) (tails : List (Bor (List ℕ)))
-    → tree_of made ≡ tree (shows x).0.now (forest (map tree_of children)) → new ≡ old ++ made ∷ [] → tails ≡ (shows x).1.items → IsSortedForestOfPaths (forest (map tree_of children)) (names_of s tails)
+pub item_grown : {A : Type 0} (s : ℕ) (shows : A → Bor (List ℕ) × Vec (Bor (List ℕ))) (so_far : List A) (x : A) (old new : List StringItem) (made : StringItem) (children : List StringItem)
+    (tails : List (Bor (List ℕ)))
+    → tree_of made ≡ tree (shows x).0.now (forest (map tree_of children)) → new ≡ old ++ made ∷ [] → tails ≡ (shows x).1.items
+    → IsSortedForestOfPaths (forest (map tree_of children)) (names_of s tails)
     → AreGrown s (map tree_of old) (map shows so_far) → AreGrown s (map tree_of new) (map shows (so_far ++ x ∷ []))
 item_grown s shows so_far x old new made children tails is pushed same kids h =
-    let trees : map tree_of new ≡ map tree_of old ++ tree (shows x).0.now (forest (map tree_of children)) ∷ [] = ap (map tree_of) pushed ∙ (map-append tree_of old (made ∷ []) ∙ ap (λ z. map tree_of old ++ z ∷ []) is) in
+    let trees : map tree_of new ≡ map tree_of old ++ tree (shows x).0.now (forest (map tree_of children)) ∷ [] =
+    ap (map tree_of) pushed ∙ (map-append tree_of old (made ∷ []) ∙ ap (λ z. map tree_of old ++ z ∷ []) is) in
     subst (λ z. AreGrown s z (map shows (so_far ++ x ∷ []))) (sym trees)
     (subst (AreGrown s (map tree_of old ++ tree (shows x).0.now (forest (map tree_of children)) ∷ [])) (sym (map-append shows so_far (x ∷ [])))
-    (grown_more s (map tree_of old) (map shows so_far) (tree (shows x).0.now (forest (map tree_of children))) (shows x) h refl (subst (λ z. IsSortedForestOfPaths (forest (map tree_of children)) (names_of s z)) same kids)))
+    (grown_more s (map tree_of old) (map shows so_far) (tree (shows x).0.now (forest (map tree_of children))) (shows x) h refl
+    (subst (λ z. IsSortedForestOfPaths (forest (map tree_of children)) (names_of s z)) same kids)))
 
 -- the test of a name, as maps write it
 abbrev at_name : List ℕ → Bor (List ℕ) → Bool
@@ -115,29 +121,34 @@ grown_found s [] [] n h = refl
 grown_found s [] (e ∷ es) n h = absurd h
 grown_found s (t ∷ ts) [] n h = absurd h
 grown_found s (t ∷ ts) (e ∷ es) n h = at (bytes_eq t.text n) (entry_at t e.0 n h.0) (grown_found s ts es n h.2) where
-  at : (b : Bool) → at_name n e.0 ≡ b → has_name (tops (forest ts)) n ≡ is_some (lookup (at_name n) es) → (b || has_name (tops (forest ts)) n) ≡ is_some (cond (at_name n e.0) (Some e.1) (lookup (at_name n) es))
+  at : (b : Bool) → at_name n e.0 ≡ b → has_name (tops (forest ts)) n ≡ is_some (lookup (at_name n) es)
+      → (b || has_name (tops (forest ts)) n) ≡ is_some (cond (at_name n e.0) (Some e.1) (lookup (at_name n) es))
   at true k more = ap (λ c. is_some (cond c (Some e.1) (lookup (at_name n) es))) (sym k)
   at false k more = more ∙ ap (λ c. is_some (cond c (Some e.1) (lookup (at_name n) es))) (sym k)
 
 -- what is below a name
-grown_below : (s : ℕ) (ts : List Tree) (es : List (Bor (List ℕ) × Vec (Bor (List ℕ)))) (n : List ℕ) (v : Vec (Bor (List ℕ))) → AreGrown s ts es → lookup (at_name n) es ≡ Some v → IsSortedForestOfPaths (below (forest ts) n) (names_of s v.items)
+grown_below : (s : ℕ) (ts : List Tree) (es : List (Bor (List ℕ) × Vec (Bor (List ℕ)))) (n : List ℕ) (v : Vec (Bor (List ℕ))) → AreGrown s ts es → lookup (at_name n) es ≡ Some v
+    → IsSortedForestOfPaths (below (forest ts) n) (names_of s v.items)
 grown_below s [] [] n v h e = absurd (cc)
 grown_below s [] (d ∷ es) n v h e = absurd h
 grown_below s (t ∷ ts) [] n v h e = absurd h
 grown_below s (t ∷ ts) (d ∷ es) n v h e = at (bytes_eq t.text n) (ap (λ c. cond c (Some d.1) (lookup (at_name n) es)) (sym (entry_at t d.0 n h.0)) ∙ e) (λ k. grown_below s ts es n v h.2 k) where
-  at : (b : Bool) → cond b (Some d.1) (lookup (at_name n) es) ≡ Some v → (lookup (at_name n) es ≡ Some v → IsSortedForestOfPaths (below (forest ts) n) (names_of s v.items)) → IsSortedForestOfPaths (cond b t.children (below (forest ts) n)) (names_of s v.items)
+  at : (b : Bool) → cond b (Some d.1) (lookup (at_name n) es) ≡ Some v → (lookup (at_name n) es ≡ Some v → IsSortedForestOfPaths (below (forest ts) n) (names_of s v.items))
+      → IsSortedForestOfPaths (cond b t.children (below (forest ts) n)) (names_of s v.items)
   at true k more = let same : d.1 ≡ v = cc in subst (λ z. IsSortedForestOfPaths t.children (names_of s z.items)) same h.1
   at false k more = more k
 
 -- names above one
-above : (s : ℕ) (ts : List Tree) (es : List (Bor (List ℕ) × Vec (Bor (List ℕ)))) (a : Bor (List ℕ)) (m : List ℕ) → m ≡ a.now → AreGrown s ts es → AllByRecursion (λ b. name_cmp a b ≡ Less) (keys_of es) → AllByRecursion (λ n. slice_cmp nat_cmp m n ≡ Less) (tops (forest ts))
+above : (s : ℕ) (ts : List Tree) (es : List (Bor (List ℕ) × Vec (Bor (List ℕ)))) (a : Bor (List ℕ)) (m : List ℕ) → m ≡ a.now → AreGrown s ts es
+    → AllByRecursion (λ b. name_cmp a b ≡ Less) (keys_of es) → AllByRecursion (λ n. slice_cmp nat_cmp m n ≡ Less) (tops (forest ts))
 above s [] [] a m e h k = tt
 above s [] (d ∷ es) a m e h k = absurd h
 above s (t ∷ ts) [] a m e h k = absurd h
 above s (t ∷ ts) (d ∷ es) a m e h k = (ap (λ z. slice_cmp nat_cmp z t.text) e ∙ (ap (slice_cmp nat_cmp a.now) h.0 ∙ k.0), above s ts es a m e h.2 k.1)
 
 -- the names ascend as the keys do
-grown_ascend : (s : ℕ) (ts : List Tree) (es : List (Bor (List ℕ) × Vec (Bor (List ℕ)))) → AreGrown s ts es → IsStrictlySortedBy name_cmp (keys_of es) → IsStrictlySortedBy (slice_cmp nat_cmp) (tops (forest ts))
+grown_ascend : (s : ℕ) (ts : List Tree) (es : List (Bor (List ℕ) × Vec (Bor (List ℕ)))) → AreGrown s ts es → IsStrictlySortedBy name_cmp (keys_of es)
+    → IsStrictlySortedBy (slice_cmp nat_cmp) (tops (forest ts))
 unfolding IsStrictlySortedBy
 grown_ascend s [] [] h k = tt
 grown_ascend s [] (e ∷ es) h k = absurd h
@@ -150,7 +161,8 @@ unfolding IsStrictlySortedBy
 none_ascend = tt
 
 -- trees grown from all entries are the forest of the paths
-pub grown_done : (s : ℕ) (ts : List Tree) (g : Groups) (ps : List (List (List ℕ))) → AreGrown s ts g.entries → IsStrictlySortedBy name_cmp (keys_of g.entries) → GroupsTails s g ps → IsSortedForestOfPaths (forest ts) ps
+pub grown_done : (s : ℕ) (ts : List Tree) (g : Groups) (ps : List (List (List ℕ))) → AreGrown s ts g.entries → IsStrictlySortedBy name_cmp (keys_of g.entries) → GroupsTails s g ps
+    → IsSortedForestOfPaths (forest ts) ps
 grown_done s ts g ps h sorted groups [] = (grown_ascend s ts g.entries h sorted, λ n. there n) where
   some_map : {A B : Type 0} (f : A → B) (o : Option A) → is_some o ≡ is_some (option_map f o)
   some_map f None = refl
@@ -176,7 +188,8 @@ grown_done s ts g ps h sorted groups (n ∷ ns) = at (lookup (at_name n) g.entri
   at None e =
       let gone : has_name (tops (forest ts)) n ≡ false = grown_found s ts g.entries n h ∙ ap (λ o. is_some o) e in
       let empty : texts_below (below (forest ts) n) ns ≡ [] = ap (λ z. texts_below z ns) (below_none (forest ts) n gone) ∙ texts_none ns in
-      let first : has_name (next_names [] ps) n ≡ false = absent (has_name (next_names [] ps) n) (ap (λ o. is_some (option_map (map (names s)) (option_map (λ v. map (λ p. p.now) v.items) o))) (sym e) ∙ ap (λ o. is_some o) (groups n)) in (
+      let first : has_name (next_names [] ps) n ≡ false =
+      absent (has_name (next_names [] ps) n) (ap (λ o. is_some (option_map (map (names s)) (option_map (λ v. map (λ p. p.now) v.items) o))) (sym e) ∙ ap (λ o. is_some o) (groups n)) in (
         subst (IsStrictlySortedBy (slice_cmp nat_cmp)) (sym empty) none_ascend,
         λ k. ap (λ z. has_name z k) (empty ∙ sym (next_none n ns ps first)),
       )

@@ -37,8 +37,7 @@ pub fn paths_tree(
 }
 
 /// Returns the tree of paths as [`paths_tree`] does, but with the items below one item in the order
-/// of their texts, by bytes. So the order of the paths does not matter, and a path that is there
-/// twice counts once.
+/// of their texts, by bytes. So the order of the paths does not matter.
 ///
 /// It takes the time and the memory that [`paths_tree`] takes.
 ///
@@ -71,7 +70,7 @@ fn items_below(
         IsForestOfPaths (forest (map tree_of v.items)) (names_of separator paths.now)) }
 {
     let mut groups = tails_by_name(alloc, paths, separator)?;
-    let mut items = Vec::new(alloc);
+    let mut items = Vec::with_capacity(alloc, groups.len())?;
     for path in paths {
         let name = first_name(path, separator);
         let Some(tails) = take_tails(&mut groups, name) else {

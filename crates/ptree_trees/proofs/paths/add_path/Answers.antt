@@ -8,7 +8,8 @@ returns-in-Some c =
     let s = c.args.separator in
     let new = c.add_tail.new.groups in
     let path = c.args.path.now in
-    on_ok_weaker c.add_tail.result (λ made paths h. group_tail s c.args.groups.now new paths c.in-Some.name.now path c.in-Some.rest.now c.in-Some.ensures.0 h (λ n. let e = made n in search rules)) c.add_tail.ensures
+    on_ok_weaker c.add_tail.result (λ made paths h. group_tail s c.args.groups.now new paths c.in-Some.name.now path c.in-Some.rest.now c.in-Some.ensures.0 h (λ n. let e = made n in search rules))
+    c.add_tail.ensures
 
 pub returns-in-None : goal.returns-in-None
 returns-in-None c =
