@@ -4,5 +4,7 @@ pub mod Escapes
 pub mod IndentedReading
 pub mod IndentedTexts
 pub mod IndentedWriting
+pub mod PathGroups
 pub mod PathTrees
+pub mod SortedPaths
 pub mod Sorting

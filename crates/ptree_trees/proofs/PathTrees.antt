@@ -1,5 +1,5 @@
 -- Trees of paths.
-use Rattle.std.proofs.Common.{◌≡◌, ◌≢◌, ℕ, zero, suc, ◌+◌, ◌<◌, ◌≤◌, Bool, true, false, cond, eqb, Option, Some, None, List, [], ◌∷◌, ◌++◌, map, length, get_or, drop, refl, sym, ap, ◌∙◌, subst, append_assoc, arith}
+use Rattle.std.proofs.Common.{◌≡◌, ◌≢◌, ℕ, zero, suc, ◌+◌, ◌<◌, ◌≤◌, Bool, true, false, cond, eqb, Option, Some, None, List, [], ◌∷◌, ◌++◌, map, length, get_or, drop, refl, sym, ap, ◌∙◌, subst, arith}
 use Rattle.std.proofs.lemmas.Bool.{false≢true, eq-eqb, ne_eqb}
 use Rattle.std.proofs.lemmas.List.Elements.{All-head, All-tail}
 use Rattle.std.proofs.lemmas.List.{get_or_default, map-append, drop_more}
@@ -32,7 +32,7 @@ names_cut s (b ∷ n) rest h =
     ap (λ c. cond c ([] ∷ names s (n ++ s ∷ rest)) (with_first b (names s (n ++ s ∷ rest)))) (ne_eqb b s (All-head (λ b. b ≢ s) b n h)) ∙ ap (with_first b) (names_cut s n rest (All-tail (λ b. b ≢ s) b n h))
 
 -- a path has a name
-names_some : (s : ℕ) (text : List ℕ) → names s text ≢ []
+pub names_some : (s : ℕ) (text : List ℕ) → names s text ≢ []
 names_some s [] e = false≢true (ap (λ (xs : List (List ℕ)). eqb (length xs) 0) e)
 names_some s (b ∷ t) e = at (eqb b s) e where
   first : (ns : List (List ℕ)) → with_first b ns ≢ []
@@ -53,27 +53,9 @@ split_names s text (Some x) h low =
 -- ## Tails
 
 -- the tails of a path that goes on, and of others
-tails_cons : (n m : List ℕ) (q : List (List ℕ)) (paths : List (List (List ℕ))) → q ≢ [] → tails_of n ((m ∷ q) ∷ paths) ≡ cond (bytes_eq m n) (q ∷ tails_of n paths) (tails_of n paths)
+pub tails_cons : (n m : List ℕ) (q : List (List ℕ)) (paths : List (List (List ℕ))) → q ≢ [] → tails_of n ((m ∷ q) ∷ paths) ≡ cond (bytes_eq m n) (q ∷ tails_of n paths) (tails_of n paths)
 tails_cons n m [] paths h = absurd (h refl)
 tails_cons n m (k ∷ q) paths h = refl
-
--- a path of one name has no tail
-pub tail_none : (s : ℕ) (n text : List ℕ) (q all : List (List (List ℕ))) (done : List (List (List ℕ))) (left : List (List (List ℕ))) → left ≡ names s text ∷ q → names s text ≡ text ∷ [] → done ++ tails_of n left ≡ all → done ++ tails_of n q ≡ all
-tail_none s n text q all done left e one is = ap (λ p. done ++ tails_of n (p ∷ q)) (sym one) ∙ (ap (λ z. done ++ tails_of n z) (sym e) ∙ is)
-
--- a path that begins with another name has none
-pub tail_other : (s : ℕ) (n text first rest : List ℕ) (q all done left : List (List (List ℕ))) → left ≡ names s text ∷ q → names s text ≡ first ∷ names s rest → bytes_eq first n ≡ false → done ++ tails_of n left ≡ all → done ++ tails_of n q ≡ all
-tail_other s n text first rest q all done left e cut other is =
-    ap (λ c. done ++ cond c (names s rest ∷ tails_of n q) (tails_of n q)) (sym other)
-    ∙ (ap (λ z. done ++ z) (sym (tails_cons n first (names s rest) q (names_some s rest)))
-    ∙ (ap (λ p. done ++ tails_of n (p ∷ q)) (sym cut) ∙ (ap (λ z. done ++ tails_of n z) (sym e) ∙ is)))
-
--- a path that begins with the name and goes on
-pub tail_more : (s : ℕ) (n text first rest : List ℕ) (q all done left : List (List (List ℕ))) → left ≡ names s text ∷ q → names s text ≡ first ∷ names s rest → bytes_eq first n ≡ true → done ++ tails_of n left ≡ all → done ++ (names s rest ∷ tails_of n q) ≡ all
-tail_more s n text first rest q all done left e cut same is =
-    ap (λ c. done ++ cond c (names s rest ∷ tails_of n q) (tails_of n q)) (sym same)
-    ∙ (ap (λ z. done ++ z) (sym (tails_cons n first (names s rest) q (names_some s rest)))
-    ∙ (ap (λ p. done ++ tails_of n (p ∷ q)) (sym cut) ∙ (ap (λ z. done ++ tails_of n z) (sym e) ∙ is)))
 
 -- how many names paths have
 abbrev pub weight : List (List (List ℕ)) → ℕ
@@ -91,7 +73,7 @@ tails_light n ((m ∷ k ∷ path) ∷ paths) = at (tails_light n paths) (bytes_e
   at less false = omega (arith, less)
 
 -- and fewer, if a path begins with the name
-tails_lighter : (n : List ℕ) (rest : List (List ℕ)) (q : List (List (List ℕ))) → weight (tails_of n ((n ∷ rest) ∷ q)) < weight ((n ∷ rest) ∷ q)
+pub tails_lighter : (n : List ℕ) (rest : List (List ℕ)) (q : List (List (List ℕ))) → weight (tails_of n ((n ∷ rest) ∷ q)) < weight ((n ∷ rest) ∷ q)
 tails_lighter n [] q = let less = tails_light n q in omega (arith, less)
 tails_lighter n (k ∷ path) q = at (bytes_eq n n) where
   less : weight (tails_of n q) ≤ weight q
@@ -102,7 +84,7 @@ tails_lighter n (k ∷ path) q = at (bytes_eq n n) where
   at false = omega (arith, less)
 
 -- a path more adds no fewer names than its tail
-still_lighter : (n : List ℕ) (p : List (List ℕ)) (paths : List (List (List ℕ))) → weight (tails_of n paths) < weight paths → weight (tails_of n (p ∷ paths)) < weight (p ∷ paths)
+pub still_lighter : (n : List ℕ) (p : List (List ℕ)) (paths : List (List (List ℕ))) → weight (tails_of n paths) < weight paths → weight (tails_of n (p ∷ paths)) < weight (p ∷ paths)
 still_lighter n [] paths less = omega (arith, less)
 still_lighter n (m ∷ []) paths less = omega (arith, less)
 still_lighter n (m ∷ k ∷ path) paths less = at (bytes_eq m n) where
@@ -119,7 +101,7 @@ lighter f (x ∷ xs) (suc i) n rest q e = still_lighter n (f x) (map f xs) (ligh
 -- ## Forests
 
 -- the texts of trees with one more at the end
-tops_push : (ts : List Tree) (t : Tree) → tops (forest (ts ++ t ∷ [])) ≡ tops (forest ts) ++ t.text ∷ []
+pub tops_push : (ts : List Tree) (t : Tree) → tops (forest (ts ++ t ∷ [])) ≡ tops (forest ts) ++ t.text ∷ []
 tops_push [] t = refl
 tops_push (x ∷ ts) t = ap (λ z. x.text ∷ z) (tops_push ts t)
 
@@ -142,7 +124,7 @@ below_new (x ∷ ts) t n h e = at (bytes_eq x.text n) h (λ k. below_new ts t n 
   at false h more = more h
 
 -- below a name that is not there is nothing
-below_none : (f : Forest) (n : List ℕ) → has_name (tops f) n ≡ false → below f n ≡ none
+pub below_none : (f : Forest) (n : List ℕ) → has_name (tops f) n ≡ false → below f n ≡ none
 below_none none n h = refl
 below_none (item t c r) n h = at (bytes_eq t n) h (λ k. below_none r n k) where
   at : (b : Bool) → (b || has_name (tops r) n) ≡ false → (has_name (tops r) n ≡ false → below r n ≡ none) → cond b c (below r n) ≡ none
@@ -150,12 +132,12 @@ below_none (item t c r) n h = at (bytes_eq t n) h (λ k. below_none r n k) where
   at false h more = more h
 
 -- and so on
-texts_none : (ns : List (List ℕ)) → texts_below none ns ≡ []
+pub texts_none : (ns : List (List ℕ)) → texts_below none ns ≡ []
 texts_none [] = refl
 texts_none (n ∷ ns) = texts_none ns
 
 -- a name among names with one more at the end
-has_push : (ms : List (List ℕ)) (m n : List ℕ) → has_name (ms ++ m ∷ []) n ≡ (has_name ms n || bytes_eq m n)
+pub has_push : (ms : List (List ℕ)) (m n : List ℕ) → has_name (ms ++ m ∷ []) n ≡ (has_name ms n || bytes_eq m n)
 has_push [] m n = at (bytes_eq m n) where
   at : (b : Bool) → (b || false) ≡ b
   at true = refl
@@ -186,7 +168,7 @@ has_with ms (k ∷ ns) n = has_with (with_name ms k) ns n ∙ (ap (λ b. b || ha
   one false e = has_push ms k n
 
 -- what follows a name in the tails is what follows it and the names in the paths
-tails_next : (n : List ℕ) (ns : List (List ℕ)) (paths : List (List (List ℕ))) → next_names ns (tails_of n paths) ≡ next_names (n ∷ ns) paths
+pub tails_next : (n : List ℕ) (ns : List (List ℕ)) (paths : List (List (List ℕ))) → next_names ns (tails_of n paths) ≡ next_names (n ∷ ns) paths
 tails_next n ns [] = refl
 tails_next n ns ([] ∷ paths) = tails_next n ns paths
 tails_next n ns ((m ∷ []) ∷ paths) = at (bytes_eq m n) (tails_next n ns paths) where
@@ -199,7 +181,7 @@ tails_next n ns ((m ∷ k ∷ path) ∷ paths) = at (bytes_eq m n) (tails_next n
   at false e = e
 
 -- if no path begins with a name, nothing follows it
-next_none : (n : List ℕ) (ns : List (List ℕ)) (paths : List (List (List ℕ))) → has_name (next_names [] paths) n ≡ false → next_names (n ∷ ns) paths ≡ []
+pub next_none : (n : List ℕ) (ns : List (List ℕ)) (paths : List (List (List ℕ))) → has_name (next_names [] paths) n ≡ false → next_names (n ∷ ns) paths ≡ []
 next_none n ns [] h = refl
 next_none n ns ([] ∷ paths) h = next_none n ns paths h
 next_none n ns ((m ∷ path) ∷ paths) h = at (bytes_eq m n) h (λ k. next_none n ns paths k) where
@@ -244,15 +226,8 @@ names_new ts t rest q left all e new is =
 
 -- ## Loops
 
--- one tail more
-pub tails_pushed : (s : ℕ) (n : List ℕ) (old new : List (Bor (List ℕ))) (rest : Bor (List ℕ)) (all q : List (List (List ℕ))) → new ≡ old ++ rest ∷ []
-    → names_of s old ++ (names s rest.now ∷ tails_of n q) ≡ all → names_of s new ++ tails_of n q ≡ all
-tails_pushed s n old new rest all q e is =
-    ap (λ z. names_of s z ++ tails_of n q) e
-    ∙ (ap (λ z. z ++ tails_of n q) (map-append (λ (p : Bor (List ℕ)). names s p.now) old (rest ∷ [])) ∙ (append_assoc (names_of s old) (names s rest.now ∷ []) (tails_of n q) ∙ is))
-
 -- the paths that are left, with the first of them
-paths_left : (s : ℕ) (xs : List (Bor (List ℕ))) (i : ℕ) (d : Bor (List ℕ)) (path : List (List ℕ)) → i < length xs → names s (get_or xs i d).now ≡ path → names_of s (drop i xs) ≡ path ∷ names_of s (drop (i + 1) xs)
+pub paths_left : (s : ℕ) (xs : List (Bor (List ℕ))) (i : ℕ) (d : Bor (List ℕ)) (path : List (List ℕ)) → i < length xs → names s (get_or xs i d).now ≡ path → names_of s (drop i xs) ≡ path ∷ names_of s (drop (i + 1) xs)
 paths_left s xs i d path h e = ap (names_of s) (drop_more xs i d h) ∙ ap (λ z. z ∷ names_of s (drop (i + 1) xs)) e
 
 -- the tails have fewer names

@@ -4,5 +4,6 @@ pub mod Escape
 pub mod Found
 pub mod Indented
 pub mod IndentedReading
+pub mod PathGroups
 pub mod Paths
 pub mod Sort

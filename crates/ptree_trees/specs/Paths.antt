@@ -1,5 +1,8 @@
 -- Trees of paths.
 use Rattle.std.specs.Borrow.{Bor}
+use Rattle.std.specs.Cmp.Lexicographic.{slice_cmp}
+use Rattle.std.specs.List.Sorted.{IsStrictlySortedBy}
+use Rattle.std.specs.Ordering.{nat_cmp}
 use Rattle.std.specs.Prelude.{◌≡◌, ℕ, ◌==◌, if◌then◌else◌, Bool, false, ◌||◌, Option, Some, None, List, [], ◌∷◌, ◌++◌, map}
 use Rattle.std.specs.Option.{option_to_list}
 use Rattle.std.specs.Str.{bytes_eq}
@@ -59,6 +62,11 @@ texts_below f (n ∷ ns) = texts_below (below f n) ns
 -- which they come first
 abbrev pub IsForestOfPaths : Forest → List (List (List ℕ)) → Type 0
 IsForestOfPaths f paths = (ns : List (List ℕ)) → texts_below f ns ≡ with_names [] (next_names ns paths)
+
+-- below each list of names are the names that follow it in the paths, each once, in ascending order
+abbrev pub IsSortedForestOfPaths : Forest → List (List (List ℕ)) → Type 0
+IsSortedForestOfPaths f paths =
+    (ns : List (List ℕ)) → IsStrictlySortedBy (slice_cmp nat_cmp) (texts_below f ns) × ((n : List ℕ) → has_name (texts_below f ns) n ≡ has_name (next_names ns paths) n)
 
 -- the names of paths
 abbrev pub names_of : ℕ → List (Bor (List ℕ)) → List (List (List ℕ))

@@ -8,17 +8,18 @@ ghost use Rattle.ptree_trees.specs.Escape.{backslash, turns_text, is_hidden, is_
 use ptree::item::StringItem;
 use std::alloc::{AllocError, Global};
 
-/// Returns a text with an escape in the place of each backslash and of each character that a
+/// Returns a text with an escape in the place of each backslash, and of each character that a
 /// terminal would act on and not show.
 ///
 /// These characters are the controls (below 32, and 127 to 159), the changes of direction (U+061C,
 /// U+200E, U+200F, U+202A to U+202E, U+2066 to U+2069), and the separators of lines and paragraphs
 /// (U+2028, U+2029). Their escapes are those of JSON: `\b`, `\t`, `\n`, `\f`, `\r`, and for the
 /// others `\u` with four lowercase hexadecimal digits. A backslash becomes `\\`, so two different
-/// texts never get the same result. All else stays as it is, also quotes.
+/// texts never get the same result: the escapes can be read back. All else stays as it is, also
+/// quotes, and letters of scripts that run from right to left.
 ///
-/// Use it for a text from elsewhere: the result is of one line, and draws as it reads. It takes
-/// time for each character, and allocates the result.
+/// Use it before a text from elsewhere is drawn. It takes time for each character, and allocates
+/// the result.
 ///
 /// # Errors
 ///

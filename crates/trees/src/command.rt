@@ -88,7 +88,9 @@ impl Command {
         match option {
             Opt::Help | Opt::As => true,
             Opt::Color => self != Command::Indented && self != Command::Check,
-            Opt::Depth => self != Command::Indented && self != Command::Check && self != Command::Diff,
+            Opt::Depth => self != Command::Indented
+                && self != Command::Check
+                && self != Command::Diff,
             Opt::At => self == Command::Json || self == Command::Toml,
             Opt::Label => {
                 self == Command::Json

@@ -110,7 +110,14 @@ fn both_children(
         }
     }
     let all = right.children.len();
-    push_marked(alloc, &mut made, "+ ", right.children.as_slice(), taken, all)?;
+    push_marked(
+        alloc,
+        &mut made,
+        "+ ",
+        right.children.as_slice(),
+        taken,
+        all,
+    )?;
     Ok(made)
 }
 

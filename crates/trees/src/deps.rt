@@ -119,7 +119,9 @@ fn top(alloc: Global, source: &Source, network: &mut Network) -> Result<NodeInde
         return Ok(NodeIndex(0));
     }
     let above = NodeIndex(network.labels.len());
-    network.labels.push(String::from_str(alloc, source.label())?)?;
+    network
+        .labels
+        .push(String::from_str(alloc, source.label())?)?;
     for node in &tops {
         network.edges.push((above, *node))?;
     }
@@ -294,7 +296,9 @@ fn npm_label(
         (None, None) if path.is_empty() => source.label(),
         (None, None) => path,
     };
-    let version = package.and_then(|p| p.get("version")).and_then(|v| v.as_str());
+    let version = package
+        .and_then(|p| p.get("version"))
+        .and_then(|v| v.as_str());
     match version {
         Some(version) => format!(in alloc; "{name}@{version}"),
         None => String::from_str(alloc, name),

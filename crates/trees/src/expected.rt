@@ -17,11 +17,7 @@ const LEVELS: u8 = 32;
 /// # Errors
 ///
 /// Memory ran out.
-pub fn beginnings(
-    alloc: Global,
-    before: &str,
-    config: &PrintConfig,
-) -> Result<String, AllocError>
+pub fn beginnings(alloc: Global, before: &str, config: &PrintConfig) -> Result<String, AllocError>
     requires { HasReadablePieces config.now }
 {
     let indent = Indent::from_config(alloc, config)?;
@@ -29,7 +25,10 @@ pub fn beginnings(
     let mut front = String::new(alloc);
     let mut rest = last_line(before);
     for _level in 0..LEVELS {
-        for piece in [indent.regular_prefix.as_str(), indent.last_regular_prefix.as_str()] {
+        for piece in [
+            indent.regular_prefix.as_str(),
+            indent.last_regular_prefix.as_str(),
+        ] {
             if can_follow(alloc, before, front.as_str(), piece, config)? {
                 push_line(&mut found, front.as_str(), piece)?;
             }

@@ -6,13 +6,14 @@ use ptree::item::StringItem;
 use ptree_trees::indented::{
     Form, IndentError, WriteError, indented_text, is_line_text, is_unit, read_indented,
 };
-use ptree_trees::paths::paths_tree;
+use ptree_trees::paths::{paths_tree, sorted_paths_tree};
 use std::alloc::{AllocError, Global};
 
 /// Returns the tree of paths: one on each line, or each before a zero byte.
 ///
 /// `./` before a path, slashes at its end, and empty paths don't count. The root's text is the
-/// label, or else `/` if the first path begins with it, or else `.`.
+/// label, or else `/` if the first path begins with it, or else `.`. The names in a folder stand in
+/// the order in which they come first, or sorted by their bytes.
 ///
 /// # Errors
 ///
@@ -21,6 +22,7 @@ pub fn paths(
     alloc: Global,
     source: &Source,
     ends_in_zero: bool,
+    is_sorted: bool,
     label: Option<&str>,
 ) -> Result<StringItem, AllocError> {
     let end = if ends_in_zero { '\0' } else { '\n' };
@@ -38,6 +40,9 @@ pub fn paths(
         None if text.starts_with('/') => "/",
         None => ".",
     };
+    if is_sorted {
+        return sorted_paths_tree(alloc, root, paths.as_slice(), '/');
+    }
     paths_tree(alloc, root, paths.as_slice(), '/')
 }
 

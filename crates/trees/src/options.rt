@@ -74,9 +74,7 @@ impl<'a> Options<'a> {
         match value {
             Some(value) if option.takes_value() => self.given.push((option, value))?,
             Some(_) => {
-                return Err(Failure::Usage(
-                    format!(in alloc; "{name} takes no value")?,
-                ));
+                return Err(Failure::Usage(format!(in alloc; "{name} takes no value")?));
             }
             None if option.takes_value() => return Ok(Some(option)),
             None => self.given.push((option, ""))?,

@@ -1,16 +1,12 @@
 //! Does what a command asks for, without writing anything.
 
 use crate::command::{Command, Opt};
-use crate::compare;
 use crate::deps::{Dependencies, read_dependencies};
-use crate::document;
-use crate::drawings;
 use crate::failure::Failure;
-use crate::lists;
 use crate::options::Options;
-use crate::pieces;
 use crate::screen::Screen;
 use crate::source::Source;
+use crate::{compare, document, drawings, lists, pieces};
 use ptree::item::StringItem;
 use ptree::print_config::{PrintConfig, StyleWhen};
 use ptree_trees::change::{kept, sorted};
@@ -96,8 +92,10 @@ fn of_one(
             done(tree_on(alloc, screen, tree, config)?)
         }
         Command::Paths => {
-            let tree = lists::paths(alloc, source, options.has(Opt::Null), label)?;
-            let tree = changed(alloc, source, tree, options)?;
+            let ends_in_zero = options.has(Opt::Null);
+            let is_sorted = options.has(Opt::Sort);
+            let tree = lists::paths(alloc, source, ends_in_zero, is_sorted, label)?;
+            let tree = kept_part(alloc, source, tree, options)?;
             done(tree_on(alloc, screen, tree, config)?)
         }
         Command::Outline => {
@@ -151,7 +149,9 @@ fn config(
         config.depth = match depth.parse::<u32>() {
             Ok(depth) => depth,
             Err(_) => {
-                let text = format!(in alloc; "--depth needs a number up to 4294967295, not {depth}")?;
+                let text = format!(in alloc;
+                    "--depth needs a number up to 4294967295, not {depth}"
+                )?;
                 return Err(Failure::Usage(text));
             }
         };
@@ -167,31 +167,41 @@ fn when(alloc: Global, color: Option<&str>, styled: bool) -> Result<StyleWhen, F
         Some("never") => Ok(StyleWhen::Never),
         Some("auto") | None if styled => Ok(StyleWhen::Always),
         Some("auto") | None => Ok(StyleWhen::Never),
-        Some(other) => Err(Failure::Usage(
-            format!(in alloc; "--color needs auto, always or never, not {other}")?,
-        )),
+        Some(other) => Err(Failure::Usage(format!(in alloc;
+            "--color needs auto, always or never, not {other}"
+        )?)),
     }
 }
 
-// Sorts a tree and keeps a part of it, as the options say.
+// Keeps a part of a tree, as the options say.
+fn kept_part(
+    alloc: Global,
+    source: &Source,
+    tree: StringItem,
+    options: &Options<'_>,
+) -> Result<StringItem, Failure> {
+    let Some(part) = options.value(Opt::Keep) else {
+        return Ok(tree);
+    };
+    match kept(alloc, &tree, |text: &str| text.contains(part))? {
+        Some(tree) => Ok(tree),
+        None => {
+            let wrong = format!(in alloc; "nothing contains {part}")?;
+            Err(source.wrong(alloc, wrong.as_str())?)
+        }
+    }
+}
+
+// Keeps a part of a tree and sorts it, as the options say.
 fn changed(
     alloc: Global,
     source: &Source,
     tree: StringItem,
     options: &Options<'_>,
 ) -> Result<StringItem, Failure> {
-    let mut tree = tree;
-    if let Some(part) = options.value(Opt::Keep) {
-        tree = match kept(alloc, &tree, |text: &str| text.contains(part))? {
-            Some(tree) => tree,
-            None => {
-                let wrong = format!(in alloc; "nothing contains {part}")?;
-                return Err(source.wrong(alloc, wrong.as_str())?);
-            }
-        };
-    }
+    let tree = kept_part(alloc, source, tree, options)?;
     if options.has(Opt::Sort) {
-        tree = sorted(alloc, &tree)?;
+        return Ok(sorted(alloc, &tree)?);
     }
     Ok(tree)
 }
@@ -237,7 +247,12 @@ fn diff(
         return done(Shown::Text(String::new(alloc)));
     };
     let shown = if options.has(Opt::All) {
-        tree_on(alloc, screen, compare::both(alloc, &first, &second)?, config)?
+        tree_on(
+            alloc,
+            screen,
+            compare::both(alloc, &first, &second)?,
+            config,
+        )?
     } else {
         Shown::Text(said)
     };
