@@ -5,8 +5,5 @@
 pub mod changing;
 pub mod comparing;
 pub mod escaping;
-<<<<<<< HEAD
 pub mod indenting;
-=======
 pub mod pathing;
->>>>>>> e28f9dcdb2ee9924c8c1b83be459325e81d14457
