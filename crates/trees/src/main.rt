@@ -23,7 +23,7 @@ use ptree::buffered::Buffered;
 use ptree::style::Counted;
 use run::run;
 use screen::Screen;
-use std::env;
+use std::env::{self, VarError};
 use std::io::{self, ErrorKind, IsTerminal};
 use std::process::ExitCode;
 
@@ -44,22 +44,25 @@ fn words(rt: &HostRuntime) -> Result<Vec<String>, Failure> {
 }
 
 // Returns what standard output is. Drawings are coloured on a terminal, unless NO_COLOR is set.
-fn find_screen(rt: &HostRuntime) -> Screen {
+fn find_screen(rt: &HostRuntime) -> Result<Screen, Failure> {
     let is_terminal = rt.stdout().is_terminal();
-    let styled = match env::var(rt, "NO_COLOR") {
-        Ok(value) => is_terminal && value.is_empty(),
-        Err(_) => is_terminal,
-    };
-    Screen {
+    let styled = is_terminal
+        && match env::var(rt, "NO_COLOR") {
+            Ok(value) => value.is_empty(),
+            Err(VarError::NotPresent) => true,
+            Err(VarError::OutOfMemory) => return Err(Failure::Memory),
+            Err(_) => false,
+        };
+    Ok(Screen {
         is_terminal,
         styled,
-    }
+    })
 }
 
 // Runs the call over the streams of the process.
 fn run_process(rt: &HostRuntime) -> Result<(), Failure> {
     let words = words(rt)?;
-    let screen = find_screen(rt);
+    let screen = find_screen(rt)?;
     let mut input = rt.stdin();
     let mut out = Buffered::with_capacity(rt.alloc(), ROOM, Counted::new(io::writer(rt)))?;
     let end = run(rt, words.as_slice(), &mut input, &mut out, screen);
