@@ -101,7 +101,7 @@ pub fn json_value(alloc: Global, source: &Source) -> Result<serde_json::Value, F
     }
 }
 
-// Returns the line of a wrong byte. The parser names the place behind it and the blanks that follow.
+// Returns the line of a wrong byte. The parser names the place behind it and the blanks after it.
 fn wrong_line(text: &str, line: usize, column: usize) -> usize {
     let mut at = column;
     for found in text.split('\n').take(line.saturating_sub(1)) {

@@ -37,8 +37,8 @@ pub fn read(alloc: Global, source: &Source, config: &PrintConfig) -> Result<Stri
     }
 }
 
-// Says that a line is wrong and shows it, escaped. Then it says with which pieces the text is a drawing or,
-// if there are none, what could stand there.
+// Says that a line is wrong and shows it, escaped. Then it says with which pieces the text is a
+// drawing or, if there are none, what could stand there.
 fn wrong_line(
     alloc: Global,
     text: &str,

@@ -58,7 +58,8 @@ Draws a TOML document. Floats, dates and times are drawn as TOML writes them.
 
 /// The page of `deps`.
 pub const DEPS: &str = "\
-usage: trees deps [--root NAME] [--inverse] [--walks] [--depth N] [--as PIECES] [--color WHEN] [FILE]
+usage: trees deps [--root NAME] [--inverse] [--walks] [--depth N] [--as PIECES] [--color WHEN]
+                  [FILE]
 
 Draws dependencies, each package's once; (*) marks a package whose dependencies stand above.
 FILE is a Cargo.lock, a package-lock.json, or lines of two words, the first of which needs
