@@ -97,12 +97,7 @@ impl TreeItem for StyledItem {
 
     /// Writes the text in the item's own style if it has one, and else in the style of leaves. It
     /// does not allocate.
-    fn write_self<W: Sink>(
-        &self,
-        _alloc: Global,
-        f: &mut W,
-        style: &Style,
-    ) -> Result<(), DrawError>
+    fn write_self<W: Sink>(&self, _alloc: Global, f: &mut W, style: &Style) -> Result<(), DrawError>
         ensures bytes { IsWritten (W.contents f.old) (W.contents f.new) result
             (styled_own self.now (style_of style.now)) }
         ensures cause { HasCause (W.faults f.old) (W.faults f.new) result }
