@@ -7,3 +7,4 @@ pub mod IndentedReading
 pub mod PathGroups
 pub mod Paths
 pub mod Sort
+pub mod Styled

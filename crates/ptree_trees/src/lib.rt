@@ -7,3 +7,4 @@ pub mod difference;
 pub mod escape;
 pub mod indented;
 pub mod paths;
+pub mod styled;

@@ -7,3 +7,4 @@ pub mod comparing;
 pub mod escaping;
 pub mod indenting;
 pub mod pathing;
+pub mod styling;
