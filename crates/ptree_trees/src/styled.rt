@@ -65,8 +65,9 @@ impl StyledItem {
 
     /// Returns the tree of the same texts without their styles.
     ///
-    /// This is also what is read from a drawing, since reading ignores styles. It takes time for
-    /// each item, and allocates the result. It calls itself once for each level.
+    /// Its drawing reads back as it, while a drawing with codes reads back with the codes in its
+    /// texts. It takes time for each item, and allocates the result. It calls itself once for each
+    /// level.
     ///
     /// # Errors
     ///

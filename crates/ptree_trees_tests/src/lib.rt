@@ -13,3 +13,5 @@ mod errors;
 mod expect;
 #[cfg(test)]
 mod indented;
+#[cfg(test)]
+mod styled;
