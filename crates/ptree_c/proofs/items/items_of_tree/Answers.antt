@@ -1,0 +1,21 @@
+use Rattle.std.proofs.Common.{◌≡◌, ◌∙◌, map, ap}
+use Rattle.ptree.specs.Outline.{outline}
+use Rattle.ptree.specs.Tree.{tree_of}
+use Rattle.ptree_c.proofs.Flat.{item_tree, item_line, lines_of_items, items_whole, texts_whole}
+use Rattle.ptree_c.proofs.items.items_of_tree.Goals as goal
+
+pub returns-clause-items : goal.returns-clause-items
+returns-clause-items c =
+    let xs = c.deref-entry-items.result.now in
+    let t = tree_of c.args.tree.now in
+    let all = ap (map item_tree) c.deref-entry-items.ensures.value ∙ c.in_ok-entries.ensures in
+    let lines : map item_line xs ≡ outline t = lines_of_items item_tree xs t all in
+    items_whole item_line xs c.loop-entry.entry-index _ c.loop-entry.items.items c.loop-entry-test.false c.loop-entry.invariant.0 (outline t) lines
+
+pub returns-clause-texts : goal.returns-clause-texts
+returns-clause-texts c =
+    let xs = c.deref-entry-items.result.now in
+    let t = tree_of c.args.tree.now in
+    let all = ap (map item_tree) c.deref-entry-items.ensures.value ∙ c.in_ok-entries.ensures in
+    let lines : map item_line xs ≡ outline t = lines_of_items item_tree xs t all in
+    texts_whole item_line xs c.loop-entry.entry-index c.loop-entry.texts.items c.loop-entry-test.false c.loop-entry.invariant.1 (outline t) lines

@@ -1,0 +1,5 @@
+pub mod Calls
+pub mod Items
+pub mod Presets
+pub mod Refusals
+pub mod Rooms

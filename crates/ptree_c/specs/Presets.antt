@@ -1,0 +1,25 @@
+-- The configurations that C names by a number.
+use Rattle.std.specs.Prelude.{◌≡◌, ◌⊎◌, ℕ, false, ◌∷◌, map, get_or}
+use Rattle.ptree.specs.Config.{ConfigValue, default_config}
+use Rattle.ptree.specs.Drawing.{Look, look_by}
+use Rattle.ptree.specs.Preset.{preset_of}
+use Rattle.ptree.specs.declared.print_config.OutputKind.TheVariants.{Unknown}
+use Rattle.ptree_c.specs.declared.refusal.Refusal.{Refusal}
+use Rattle.ptree_c.specs.declared.refusal.Refusal.TheVariants.{Memory, Preset}
+use Rattle.ptree_c.specs.declared.preset.TheConstants.{PRESETS}
+
+-- the default for 0, and from 1 on the presets
+abbrev pub numbered_config : ℕ → ConfigValue
+numbered_config n = get_or (default_config ∷ map preset_of PRESETS) n default_config
+
+-- the configuration of a preset's number, with this depth
+abbrev pub config_at : ℕ → ℕ → ConfigValue
+config_at preset depth = record (numbered_config preset) { depth = depth }
+
+-- the look of a preset's number
+abbrev pub look_at : ℕ → ℕ → Look
+look_at preset depth = look_by (config_at preset depth) Unknown false
+
+-- memory ran out, or there is no preset of that number
+abbrev pub IsPresetRefusal : Refusal → Type 0
+IsPresetRefusal e = (e ≡ Memory) ⊎ (e ≡ Preset)

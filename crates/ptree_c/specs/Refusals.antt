@@ -1,0 +1,34 @@
+-- The numbers of refusals.
+use Rattle.std.specs.Prelude.{ℕ}
+use Rattle.ptree_c.specs.declared.refusal.Refusal.{Refusal}
+use Rattle.ptree_c.specs.declared.refusal.Refusal.TheVariants.{Memory, Utf8, Level, Preset, Pieces, Line, Incomplete, Syntax, Float, Date, End, Format}
+
+-- the number of a refusal
+abbrev pub refusal_number : Refusal → ℕ
+refusal_number Memory = 1
+refusal_number (Utf8 n) = 2
+refusal_number (Level n) = 3
+refusal_number Preset = 4
+refusal_number Pieces = 5
+refusal_number (Line n) = 6
+refusal_number Incomplete = 7
+refusal_number Syntax = 8
+refusal_number Float = 9
+refusal_number Date = 10
+refusal_number (End n) = 11
+refusal_number Format = 12
+
+-- the place of what was refused, or 0
+abbrev pub refusal_place : Refusal → ℕ
+refusal_place Memory = 0
+refusal_place (Utf8 n) = n
+refusal_place (Level n) = n
+refusal_place Preset = 0
+refusal_place Pieces = 0
+refusal_place (Line n) = n
+refusal_place Incomplete = 0
+refusal_place Syntax = 0
+refusal_place Float = 0
+refusal_place Date = 0
+refusal_place (End n) = n
+refusal_place Format = 0

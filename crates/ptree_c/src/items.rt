@@ -1,0 +1,125 @@
+//! Items as C gives and takes them: levels, and the places where their texts end.
+ghost use Rattle.std.specs.Prelude.{◌≡◌, ◌-◌, ◌++◌, ◌∷◌, [], List, IfOk, OnOk, take, drop, flat_map, string_bytes};
+ghost use Rattle.ptree.specs.Outline.{line, outline, IsOutline};
+ghost use Rattle.ptree.specs.Tree.{tree_of};
+ghost use Rattle.ptree_c.specs.Items.{lines_from, items_from, joined_texts};
+
+use crate::refusal::{Refusal, refused_item};
+use ptree::TreeBuilder;
+use ptree::item::StringItem;
+use std::alloc::{AllocError, Global};
+use std::str;
+
+/// An item of an outline. Its text is what the texts hold from the end of the item before it, or
+/// from their start, to its own end.
+#[repr(C)]
+#[derive(Debug, Clone, Copy)]
+pub struct Item {
+    /// Where the item's text ends in the texts of all items.
+    pub end: usize,
+
+    /// The item's level. The first item is the root, and has level 0; any other has at least level
+    /// 1, and at most one level more than the item before it.
+    pub level: u32,
+}
+
+/// The tree of items.
+pub(crate) fn tree_of_items(
+    alloc: Global,
+    items: &[Item],
+    texts: &[u8],
+) -> Result<StringItem, Refusal>
+    ensures { IfOk result (λ t. IsOutline (tree_of t) (lines_from 0 texts.now items.now)) }
+{
+    let mut builder = builder_of_items(alloc, items, texts)?;
+    Ok(builder.build()?)
+}
+
+// The builder to which all items were added.
+fn builder_of_items(alloc: Global, items: &[Item], texts: &[u8]) -> Result<TreeBuilder, Refusal>
+    ensures { IfOk result (λ builder. builder.outline ≡ lines_from 0 texts.now items.now) }
+{
+    let Some((root, below)) = items.split_first() else {
+        return Err(Refusal::Level(0));
+    };
+    if root.level != 0 {
+        return Err(Refusal::Level(0));
+    }
+    let mut builder = TreeBuilder::new(alloc, text_between(alloc, texts, 0, root.end, 0)?);
+    let mut from = root.end;
+    let mut rest = below;
+    while let Some((item, tail)) = rest.split_first() {
+        let place = items.len().saturating_sub(rest.len());
+        let text = text_between(alloc, texts, from, item.end, place)?;
+        add_item(&mut builder, item.level, text, place)?;
+        from = item.end;
+        rest = tail;
+    }
+    Ok(builder)
+}
+
+// Adds an item to a builder.
+fn add_item(
+    builder: &mut TreeBuilder,
+    level: u32,
+    text: String,
+    place: usize,
+) -> Result<(), Refusal>
+    ensures { OnOk result
+        (builder.new.outline ≡ builder.old.outline ++ line level (string_bytes text) ∷ []) }
+{
+    match builder.add_at_level(level, text) {
+        Ok(()) => Ok(()),
+        Err(error) => Err(refused_item(error, place)),
+    }
+}
+
+// The text of the item at a place, between two places of the texts.
+fn text_between(
+    alloc: Global,
+    texts: &[u8],
+    from: usize,
+    end: usize,
+    place: usize,
+) -> Result<String, Refusal>
+    ensures { IfOk result (λ text. string_bytes text ≡ take (end - from) (drop from texts.now)) }
+{
+    let Some(bytes) = texts.get(from..end) else {
+        return Err(Refusal::End(place));
+    };
+    match str::from_utf8(bytes) {
+        Ok(text) => Ok(String::from_str(alloc, text)?),
+        Err(_) => Err(Refusal::Utf8(place)),
+    }
+}
+
+/// The items of a tree, and their texts.
+#[derive(Debug, Drop)]
+pub(crate) struct Flat {
+    /// The items.
+    pub(crate) items: Vec<Item>,
+
+    /// The texts of all items, joined.
+    pub(crate) texts: Vec<u8>,
+}
+
+/// The items of a tree.
+pub(crate) fn items_of_tree(alloc: Global, tree: &StringItem) -> Result<Flat, AllocError>
+    ensures items { IfOk result (λ flat.
+        flat.items.items ≡ items_from 0 (outline (tree_of tree.now))) }
+    ensures texts { IfOk result (λ flat.
+        flat.texts.items ≡ joined_texts (outline (tree_of tree.now))) }
+{
+    let entries = tree.items(alloc)?;
+    let mut items = Vec::with_capacity(alloc, entries.len())?;
+    let mut texts = Vec::new(alloc);
+    for entry in &entries {
+        let (level, item) = *entry;
+        texts.extend_from_slice(item.text.as_bytes())?;
+        items.push(Item {
+            end: texts.len(),
+            level,
+        })?;
+    }
+    Ok(Flat { items, texts })
+}
