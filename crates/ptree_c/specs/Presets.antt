@@ -1,16 +1,21 @@
 -- The configurations that C names by a number.
-use Rattle.std.specs.Prelude.{◌≡◌, ◌⊎◌, ℕ, false, ◌∷◌, map, get_or}
+use Rattle.std.specs.Prelude.{◌≡◌, ◌⊎◌, ℕ, false, List, [], ◌∷◌, map, get_or}
 use Rattle.ptree.specs.Config.{ConfigValue, default_config}
 use Rattle.ptree.specs.Drawing.{Look, look_by}
 use Rattle.ptree.specs.Preset.{preset_of}
 use Rattle.ptree.specs.declared.print_config.OutputKind.TheVariants.{Unknown}
+use Rattle.ptree.specs.declared.presets.Preset.TheVariants.{Tree, TreeAscii, CargoTree, CargoTreeAscii, Findmnt, FindmntAscii, Sqlite, Maven, Clang, Ps}
 use Rattle.ptree_c.specs.declared.refusal.Refusal.{Refusal}
 use Rattle.ptree_c.specs.declared.refusal.Refusal.TheVariants.{Memory, Preset}
-use Rattle.ptree_c.specs.declared.preset.TheConstants.{PRESETS}
 
 -- the default for 0, and from 1 on the presets
+abbrev pub configs : List ConfigValue
+configs =
+    default_config ∷ map preset_of (Tree ∷ TreeAscii ∷ CargoTree ∷ CargoTreeAscii ∷ Findmnt ∷ FindmntAscii ∷ Sqlite ∷ Maven ∷ Clang ∷ Ps ∷ [])
+
+-- the configuration of a number
 abbrev pub numbered_config : ℕ → ConfigValue
-numbered_config n = get_or (default_config ∷ map preset_of PRESETS) n default_config
+numbered_config n = get_or configs n default_config
 
 -- the configuration of a preset's number, with this depth
 abbrev pub config_at : ℕ → ℕ → ConfigValue
