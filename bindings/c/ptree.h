@@ -11,7 +11,7 @@
  * `texts`, `found`) overlaps nothing else that the same call is given.
  *
  * There is no state: calls may run in any number of threads at once, each over memory of its own. A drawing takes stack for each level
- * of the tree, some hundred bytes.
+ * of the tree.
  */
 #ifndef PTREE_H
 #define PTREE_H
