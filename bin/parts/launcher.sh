@@ -142,7 +142,7 @@ check_progress() {
     echo 'rm "$at"; echo "5 of 10 functions checked"; sleep 5' >"$there/at_lib"
     expect_launch 'a build that takes long' 1 six
     if grep -q '^BETWEEN = 30$' bin/build && head -n 1 "$scratch/err" | grep -q 'not built from these sources yet' \
-        && [ "$(grep -c '^ptree_cli: proving the library, function 5 of 10; about [0-9]* min left$' "$scratch/err")" -ge 2 ]; then
+        && [ "$(grep -c '^ptree_cli: proving ptree, function 5 of 10; about [0-9]* min left$' "$scratch/err")" -ge 2 ]; then
         report ok 'the launcher: a line of progress now and then'
     else
         report no 'the launcher: a line of progress now and then'

@@ -28,7 +28,7 @@ enum ptree_refusal {
     PTREE_DONE = 0,        /* the call was done */
     PTREE_MEMORY = 1,      /* memory ran out */
     PTREE_UTF8 = 2,        /* a text is not UTF-8; `place` says which: an item's place, or the argument's as each call says */
-    PTREE_LEVEL = 3,       /* the item at `place` has a level that no item can have there, or there is no item */
+    PTREE_LEVEL = 3,       /* the item at `place` has a level that no item can have there, or there is no item; a step is deeper than the path */
     PTREE_PRESET = 4,      /* there is no preset of that number */
     PTREE_PIECES = 5,      /* the pieces of the preset are not readable */
     PTREE_LINE = 6,        /* line `place`, counted from 1, cannot continue the drawing */
@@ -37,7 +37,11 @@ enum ptree_refusal {
     PTREE_FLOAT = 9,       /* the document holds a float, before any date */
     PTREE_DATE = 10,       /* the document holds a date or a time, before any float */
     PTREE_END = 11,        /* the text of the item at `place` ends before it begins, or beyond the texts */
-    PTREE_NO_FORMAT = 12   /* there is no format of that number */
+    PTREE_NO_FORMAT = 12,  /* there is no format of that number */
+    PTREE_NAMES = 13,      /* a text of the configuration, a name or a mark is not UTF-8, ends before it begins, or lies beyond its texts */
+    PTREE_COLOR = 14,      /* there is no colour of that kind */
+    PTREE_FAULT = 15,      /* a source is at fault; `place` is the line of the file, if its syntax is wrong, and otherwise 0 */
+    PTREE_EDGE = 16        /* an end of the edge at `place` is no node */
 };
 
 /* The presets: what a drawing looks like. */
@@ -58,7 +62,31 @@ enum ptree_preset {
 /* The formats of documents. */
 enum ptree_format {
     PTREE_JSON = 0,
-    PTREE_TOML = 1
+    PTREE_TOML = 1,
+    PTREE_NO_FILE = 2  /* for ptree_load alone: there is no file */
+};
+
+/* The kinds of colours. */
+enum ptree_color_kind {
+    PTREE_NO_COLOR = 0,
+    PTREE_BLACK = 1,
+    PTREE_RED = 2,
+    PTREE_GREEN = 3,
+    PTREE_YELLOW = 4,
+    PTREE_BLUE = 5,
+    PTREE_PURPLE = 6,
+    PTREE_CYAN = 7,
+    PTREE_WHITE = 8,
+    PTREE_FIXED = 9,  /* the number `red` of the terminal's table of 256 */
+    PTREE_RGB = 10,   /* `red`, `green` and `blue` */
+    PTREE_NAMED = 11  /* the colour of the name `name`; an unknown name sets no colour */
+};
+
+/* When output is styled. */
+enum ptree_styled {
+    PTREE_NEVER = 0,
+    PTREE_ALWAYS = 1,
+    PTREE_TTY = 2  /* on a terminal: what is drawn into memory is not styled */
 };
 
 /* The depth that draws and reads every level. */
@@ -77,6 +105,141 @@ struct ptree_found {
     size_t items;  /* the number of items */
     size_t place;  /* after a refusal, the place of what was refused */
 };
+
+/* A text: the bytes from `start` to `end` of the texts that the call is given with it. */
+struct ptree_part {
+    size_t start;
+    size_t end;
+};
+
+/* An item that is given in the order of drawing: its text, its level, and whether it is its parent's last child. */
+struct ptree_step {
+    struct ptree_part text;
+    uint32_t level;   /* 0 for the root */
+    uint8_t is_last;  /* it is if this is not 0; of a root it is not read */
+};
+
+/* A colour, or none. Fields that its kind does not use are not read. */
+struct ptree_color {
+    uint32_t kind;
+    uint8_t red;
+    uint8_t green;
+    uint8_t blue;
+    struct ptree_part name;
+};
+
+/* A style. A flag is set if it is not 0. */
+struct ptree_style {
+    struct ptree_color foreground;
+    struct ptree_color background;
+    uint8_t bold;
+    uint8_t dimmed;
+    uint8_t italic;
+    uint8_t underline;
+    uint8_t blink;
+    uint8_t reverse;
+    uint8_t hidden;
+    uint8_t strikethrough;
+};
+
+/* The characters that branches are drawn with; each may be any text. */
+struct ptree_characters {
+    struct ptree_part down_and_right;
+    struct ptree_part down;
+    struct ptree_part turn_right;
+    struct ptree_part right;
+    struct ptree_part empty;
+};
+
+/* How a tree is drawn. Its texts are parts of `names`, which each call takes beside it. Let ptree_config or ptree_load fill it in,
+ * and change fields as you like; new texts go behind the old ones in `names`. */
+struct ptree_config {
+    uint32_t depth;                      /* the greatest level that is drawn; the root has level 0 */
+    uint32_t styled;                     /* PTREE_NEVER, PTREE_ALWAYS or PTREE_TTY */
+    size_t indent;                       /* the width of a piece in characters, including the padding */
+    size_t padding;                      /* how many blanks end a piece */
+    struct ptree_characters characters;
+    struct ptree_style branch;
+    struct ptree_style leaf;
+    struct ptree_part continued;         /* the marker before each further line of a text */
+};
+
+/* A variable: its name and its value. */
+struct ptree_variable {
+    struct ptree_part name;
+    struct ptree_part value;
+};
+
+/* An edge, by the places of its two nodes. */
+struct ptree_edge {
+    size_t source;
+    size_t target;
+};
+
+/* Puts the fields of a preset's configuration into `config`, with every level, and their texts into `names`. Done, `found->bytes` is
+ * the length of all texts: with less room the parts lie beyond `names`. Refusals: MEMORY, PRESET; `config` and `names` are unchanged. */
+uint32_t ptree_config(uint32_t preset, struct ptree_config *config, uint8_t *names, size_t names_length, struct ptree_found *found);
+
+/* Puts the fields of the configuration of a file's text and of variables into `config`, and their texts into `names`, as ptree_config
+ * does. The names and values of the variables are parts of `texts`; of other variables than the library's nothing is read. Refusals:
+ * MEMORY, UTF8 (of the file), NO_FORMAT, NAMES (of a variable), FAULT; `config` and `names` are unchanged. */
+uint32_t ptree_load(const uint8_t *file, size_t file_length, uint32_t format, const struct ptree_variable *variables,
+                    size_t variables_count, const uint8_t *texts, size_t texts_length, struct ptree_config *config, uint8_t *names,
+                    size_t names_length, struct ptree_found *found);
+
+/* Draws items into `out` as a configuration says. Done, `found->bytes` is the length of the whole drawing, and `found->items` the number
+ * of items given. Refusals: MEMORY, UTF8, LEVEL, END, NAMES, COLOR; `out` is unchanged.
+ *
+ * For styles of items of their own, paint their texts by ptree_paint, and give the configuration a plain style of leaves. */
+uint32_t ptree_draw_with(const struct ptree_item *items, size_t items_count, const uint8_t *texts, size_t texts_length,
+                         const struct ptree_config *config, const uint8_t *names, size_t names_length, uint8_t *out, size_t out_length,
+                         struct ptree_found *found);
+
+/* Draws items one by one, as many at a call as there is room for, and keeps none of them: so a tree of any size is drawn with little
+ * memory, while its items are made. Give the items in the order of drawing, in as many calls as you like.
+ *
+ * `path` says of each level from 1 on whether the last item there is its parent's last child. Give each call of a drawing the same bytes;
+ * they may hold anything at first, and need to be as many as the greatest level of the call's items. A call leaves them as they are
+ * for the next one; to make `path` longer, copy what it holds. The configuration's depth is not read: give no items below it.
+ *
+ * `found->items` is the number of items drawn, and `found->bytes` the length of their whole entries, after a refusal too. Done, all items
+ * were drawn if `found->place` is 0, and otherwise it is the length of the next entry, which has no room behind the others: take away
+ * what was drawn, and go on with that item. Refusals: MEMORY, UTF8, LEVEL (deeper than `path`), END, NAMES, COLOR; `place` is the
+ * item's. Nothing checks that the levels and flags are those of a tree: each entry is drawn as its flag and those of `path` say. */
+uint32_t ptree_draw_steps(const struct ptree_step *steps, size_t steps_count, const uint8_t *texts, size_t texts_length, uint8_t *path,
+                          size_t path_length, const struct ptree_config *config, const uint8_t *names, size_t names_length,
+                          uint8_t *out, size_t out_length, struct ptree_found *found);
+
+/* Reads what ptree_draw_with draws, as ptree_read does. Refusals: MEMORY, UTF8 (`place` is 0), PIECES, LINE, INCOMPLETE, NAMES, COLOR;
+ * `items` and `texts` are unchanged. */
+uint32_t ptree_read_with(const uint8_t *text, size_t text_length, const struct ptree_config *config, const uint8_t *names,
+                         size_t names_length, struct ptree_item *items, size_t items_count, uint8_t *texts, size_t texts_length,
+                         struct ptree_found *found);
+
+/* Draws a document as a configuration says, and otherwise as ptree_draw_document does. Refusals: those of ptree_draw_document without
+ * PRESET, and NAMES, COLOR; `out` is unchanged. */
+uint32_t ptree_draw_document_with(const uint8_t *text, size_t text_length, const uint8_t *label, size_t label_length, uint32_t format,
+                                  const struct ptree_config *config, const uint8_t *names, size_t names_length, uint8_t *out,
+                                  size_t out_length, struct ptree_found *found);
+
+/* Draws all walks of a graph from the node at place `start` into `out`. The texts of the nodes stand one behind the other; `ends` says
+ * where each one's ends. A node's neighbours are drawn newest edge first. In a graph with a cycle only the configuration's depth ends the
+ * drawing. A `start` that is no node's place is drawn as one empty line. Refusals: MEMORY, UTF8, END (`place` is the node's), EDGE, NAMES,
+ * COLOR; `out` is unchanged. */
+uint32_t ptree_draw_walks(const size_t *ends, size_t nodes, const uint8_t *texts, size_t texts_length, const struct ptree_edge *edges,
+                          size_t edges_count, size_t start, const struct ptree_config *config, const uint8_t *names,
+                          size_t names_length, uint8_t *out, size_t out_length, struct ptree_found *found);
+
+/* Draws a graph as ptree_draw_walks does, but with each node's neighbours below its first place only, and `mark` after its label at the
+ * later ones. So a cycle ends. Refusals: those of ptree_draw_walks, and NAMES for a mark that is not UTF-8; `out` is unchanged. */
+uint32_t ptree_draw_once(const size_t *ends, size_t nodes, const uint8_t *texts, size_t texts_length, const struct ptree_edge *edges,
+                         size_t edges_count, size_t start, const uint8_t *mark, size_t mark_length, const struct ptree_config *config,
+                         const uint8_t *names, size_t names_length, uint8_t *out, size_t out_length, struct ptree_found *found);
+
+/* Puts a text painted in a style into `out`: the codes, the text, and a reset if there is a code. Names of colours are parts of `names`.
+ * Done, `found->bytes` is the whole length. Refusals: MEMORY, UTF8 (`place` is 0), NAMES, COLOR; `out` is unchanged. */
+uint32_t ptree_paint(const uint8_t *text, size_t text_length, const struct ptree_style *style, const uint8_t *names,
+                     size_t names_length, uint8_t *out, size_t out_length, struct ptree_found *found);
 
 /* Draws items into `out`, down to a depth: level 0 is the root alone. Done, `found->bytes` is the length of the whole drawing, and
  * `found->items` the number of items given. Refusals: MEMORY, UTF8, LEVEL, PRESET, END; `out` is unchanged. */

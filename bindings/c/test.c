@@ -1,7 +1,7 @@
 /* Tries the calls of ptree.h. Each expectation was worked out by hand. Writes what failed, and ends with 1 then.
  *
- * Without arguments it makes all tests. `test draw`, `test read` and `test document` make one call, which must end in PTREE_DONE or
- * PTREE_MEMORY: the status is that number. */
+ * Without arguments it makes all tests. With the word of a call, as `test draw`, it makes that call alone, which must end in PTREE_DONE
+ * or PTREE_MEMORY: the status is that number. */
 #include "ptree.h"
 #include <stdio.h>
 #include <stdlib.h>
@@ -90,6 +90,82 @@ static void refuses_items(void) {
     refuses(root_again, 1, "\xc3\xa9", 2, PTREE_UTF8, 0);
 }
 
+/* The same tree, given one by one: the texts stand in another order than the items. */
+static const struct ptree_step steps[] = {{{0, 1}, 0, 9}, {{5, 6}, 1, 0}, {{4, 5}, 2, 1}, {{1, 4}, 1, 1}};
+
+/* The configuration of `cargo tree`. */
+static void give_cargo_tree(struct ptree_config *config, uint8_t names[64]) {
+    struct ptree_found found;
+    expect(ptree_config(PTREE_CARGO_TREE, config, names, 64, &found) == PTREE_DONE && found.bytes <= 64, "a configuration");
+}
+
+/* Draws the tree, some items at a call, each into so much room, and returns how many calls it took. */
+static size_t draws_steps_by(size_t most, size_t size) {
+    struct ptree_config config;
+    uint8_t names[64], path[] = {7, 7}, whole[sizeof drawn], *out = room(size);
+    size_t from = 0, length = 0, calls = 0;
+    give_cargo_tree(&config, names);
+    while (from < 4 && calls++ < 9) {
+        struct ptree_found found = {7, 7, 7};
+        size_t count = most < 4 - from ? most : 4 - from;
+        expect(ptree_draw_steps(steps + from, count, TEXT("rb\ncxa"), path, 2, &config, names, 64, out, size, &found) == PTREE_DONE, "steps");
+        expect((found.place == 0) == (found.items == count) && found.bytes <= size, "whole entries");
+        expect(found.place == 0 || found.bytes + found.place > size, "an entry that has no room");
+        expect(length + found.bytes < sizeof drawn, "no more than the drawing");
+        memcpy(whole + length, out, found.bytes);
+        length += found.bytes;
+        from += found.items;
+    }
+    expect(length == sizeof drawn - 1 && memcmp(whole, drawn, length) == 0, "the drawing of steps");
+    expect(path[0] == 1 && path[1] == 1, "the path after steps");
+    free(out);
+    return calls;
+}
+
+static void draws_steps(void) {
+    expect(draws_steps_by(4, 100) == 1, "all at once");
+    expect(draws_steps_by(1, 100) == 4, "one at a call");
+    expect(draws_steps_by(3, 100) == 2, "three at a call");
+    expect(draws_steps_by(4, sizeof drawn - 1) == 1, "as much room as the drawing needs");
+    expect(draws_steps_by(4, sizeof drawn - 2) == 2, "a byte less");
+    /* the longest entry, of `b`, has 12 and 8 bytes */
+    expect(draws_steps_by(4, 20) == 3, "room for the longest entry");
+}
+
+/* The steps must be refused at a place, and those before it be drawn. */
+static void refuses_steps(const struct ptree_step *bad, size_t count, const char *bytes, size_t length, uint32_t refusal, size_t place) {
+    struct ptree_config config;
+    struct ptree_found found = {7, 7, 7};
+    uint8_t names[64], path[] = {7, 7}, *given = room(length), *out = room(8);
+    give_cargo_tree(&config, names);
+    memcpy(given, bytes, length);
+    expect(ptree_draw_steps(bad, count, given, length, path, 2, &config, names, 64, out, 8, &found) == refusal, "a refusal of steps");
+    expect(found.items == place && found.place == place && found.bytes == 2 * place, "the place of a refused step");
+    expect(memcmp(out, place ? "a\n######" : "########", 8) == 0 && path[0] == 7 && path[1] == 7, "a refused step draws nothing");
+    free(given);
+    free(out);
+}
+
+static void refuses_some_steps(void) {
+    const struct ptree_step deep[] = {{{0, 1}, 0, 0}, {{0, 1}, 3, 0}}, back[] = {{{0, 1}, 0, 0}, {{2, 1}, 1, 0}};
+    const struct ptree_step beyond[] = {{{0, 1}, 0, 0}, {{1, 4}, 1, 0}}, halves[] = {{{0, 1}, 0, 0}, {{1, 2}, 1, 0}};
+    const struct ptree_step whole[] = {{{0, 1}, 0, 0}, {{1, 3}, 1, 0}}, last[] = {{{0, SIZE_MAX}, 0, 0}};
+    refuses_steps(deep, 2, "abc", 3, PTREE_LEVEL, 1);
+    refuses_steps(back, 2, "abc", 3, PTREE_END, 1);
+    refuses_steps(beyond, 2, "abc", 3, PTREE_END, 1);
+    refuses_steps(halves, 2, "a\xc3\xa9", 3, PTREE_UTF8, 1);
+    refuses_steps(whole, 2, "a\xff\xfe", 3, PTREE_UTF8, 1);
+    refuses_steps(last, 1, "abc", 3, PTREE_END, 0);
+    /* a part of texts that are not all UTF-8 */
+    struct ptree_config config;
+    struct ptree_found found;
+    uint8_t names[64], path[1], out[8];
+    give_cargo_tree(&config, names);
+    expect(ptree_draw_steps(whole, 1, TEXT("a\xff"), path, 0, &config, names, 64, out, 8, &found) == PTREE_DONE && found.bytes == 2, "a part");
+    config.characters.right.end = 99;
+    expect(ptree_draw_steps(whole, 1, TEXT("a"), path, 0, &config, names, 64, out, 8, &found) == PTREE_NAMES && found.items == 0, "bad names");
+}
+
 static void reads_into_each_size(void) {
     for (size_t size = 0; size <= 8; size++) {
         struct ptree_found found = {7, 7, 7};
@@ -173,6 +249,223 @@ static void draws_as_each_preset(void) {
     }
 }
 
+/* A configuration and its texts, in memory of exactly their size. */
+struct given {
+    struct ptree_config config;
+    uint8_t *names;
+    size_t length;
+};
+
+/* Returns a preset's configuration. Its texts are asked for with each smaller room first. */
+static struct given given_by(uint32_t preset) {
+    struct given got;
+    struct ptree_found found;
+    uint8_t *none = room(0);
+    expect(ptree_config(preset, &got.config, none, 0, &found) == PTREE_DONE && none[0] == '#', "the size of a configuration");
+    free(none);
+    got.length = found.bytes;
+    for (size_t size = 0; size < got.length; size++) {
+        uint8_t *names = room(size);
+        expect(ptree_config(preset, &got.config, names, size, &found) == PTREE_DONE && found.bytes == got.length, "part of a configuration");
+        free(names);
+    }
+    got.names = room(got.length);
+    expect(ptree_config(preset, &got.config, got.names, got.length, &found) == PTREE_DONE, "a configuration");
+    return got;
+}
+
+static int part_is(const struct given *given, struct ptree_part part, const char *text) {
+    return part.end - part.start == strlen(text) && part.end <= given->length && memcmp(given->names + part.start, text, strlen(text)) == 0;
+}
+
+static void makes_configurations(void) {
+    struct given given = given_by(PTREE_DEFAULT);
+    const struct ptree_config *config = &given.config;
+    expect(config->depth == ALL && config->styled == PTREE_TTY && config->indent == 3 && config->padding == 1, "the default's numbers");
+    expect(part_is(&given, config->characters.down_and_right, "├") && part_is(&given, config->characters.down, "│")
+        && part_is(&given, config->characters.turn_right, "└") && part_is(&given, config->characters.right, "─")
+        && part_is(&given, config->characters.empty, " ") && part_is(&given, config->continued, ": "), "the default's texts");
+    expect(config->branch.dimmed && !config->branch.bold && !config->leaf.dimmed, "the default's flags");
+    expect(config->branch.foreground.kind == PTREE_NO_COLOR && config->leaf.background.kind == PTREE_NO_COLOR, "the default's colours");
+    free(given.names);
+    for (uint32_t preset = 1; preset <= 10; preset++) free(given_by(preset).names);
+    struct ptree_found found = {7, 7, 7};
+    struct ptree_config other;
+    memset(&other, '#', sizeof other);
+    uint8_t none[1];
+    expect(ptree_config(11, &other, none, 0, &found) == PTREE_PRESET && found.bytes == 0 && other.depth == 0x23232323, "no preset");
+}
+
+/* What is drawn as the configuration says must be this. */
+static void draws_as(const struct given *given, const char *want, const char *name) {
+    struct ptree_found found;
+    uint8_t *out = room(strlen(want));
+    expect(ptree_draw_with(items, 4, texts, 6, &given->config, given->names, given->length, out, strlen(want), &found) == PTREE_DONE
+        && found.bytes == strlen(want) && found.items == 4 && memcmp(out, want, strlen(want)) == 0, name);
+    free(out);
+}
+
+/* Drawing as the configuration says must be refused. */
+static void refuses_config(const struct given *given, uint32_t refusal, const char *name) {
+    struct ptree_found found = {7, 7, 7};
+    struct ptree_item got[1];
+    uint8_t out[4] = "###";
+    expect(ptree_draw_with(items, 4, texts, 6, &given->config, given->names, given->length, out, 3, &found) == refusal
+        && found.bytes == 0 && found.place == 0 && memcmp(out, "###", 3) == 0, name);
+    expect(ptree_read_with(TEXT("r\n"), &given->config, given->names, given->length, got, 1, out, 3, &found) == refusal, name);
+    expect(ptree_draw_document_with(TEXT("1"), TEXT(""), PTREE_JSON, &given->config, given->names, given->length, out, 3, &found) == refusal,
+        name);
+}
+
+static void draws_by_fields(void) {
+    struct given given = given_by(PTREE_CARGO_TREE);
+    struct ptree_config *config = &given.config;
+    draws_as(&given, drawn, "the fields of a preset");
+    config->indent = 3;
+    config->depth = 1;
+    draws_as(&given, "r\n├─ a\n└─ b\n   : c\n", "other numbers");
+    config->characters.right = config->characters.empty;
+    config->continued = config->characters.down;
+    draws_as(&given, "r\n├  a\n└  b\n   │c\n", "other characters");
+    config->depth = 0;
+    config->styled = PTREE_ALWAYS;
+    config->branch.dimmed = 0;
+    config->leaf.bold = 200;
+    config->leaf.foreground = (struct ptree_color){.kind = PTREE_FIXED, .red = 9};
+    config->leaf.background = (struct ptree_color){.kind = PTREE_RGB, .red = 1, .green = 2, .blue = 3};
+    draws_as(&given, "\x1b[1m\x1b[38;5;9m\x1b[48;2;1;2;3mr\x1b[0m\n", "styles");
+    config->leaf.background = (struct ptree_color){.kind = PTREE_NAMED, .name = config->characters.empty};
+    draws_as(&given, "\x1b[1m\x1b[38;5;9mr\x1b[0m\n", "an unknown name");
+    config->styled = PTREE_TTY;
+    draws_as(&given, "r\n", "no terminal");
+    config->leaf.foreground.kind = 12;
+    refuses_config(&given, PTREE_COLOR, "no colour");
+    config->leaf.foreground.kind = UINT32_MAX;
+    refuses_config(&given, PTREE_COLOR, "no colour at all");
+    config->leaf.foreground.kind = PTREE_WHITE;
+    config->continued = (struct ptree_part){given.length, given.length + 1};
+    refuses_config(&given, PTREE_NAMES, "a text beyond the texts");
+    config->continued = (struct ptree_part){1, 0};
+    refuses_config(&given, PTREE_NAMES, "a text that ends before it begins");
+    config->continued = (struct ptree_part){SIZE_MAX, SIZE_MAX};
+    refuses_config(&given, PTREE_NAMES, "a text far beyond the texts");
+    config->continued = (struct ptree_part){0, 1};
+    refuses_config(&given, PTREE_NAMES, "a text that is not UTF-8");
+    free(given.names);
+}
+
+static void reads_by_fields(void) {
+    struct given given = given_by(PTREE_CARGO_TREE);
+    struct ptree_found found;
+    struct ptree_item got[4];
+    uint8_t labels[6];
+    expect(ptree_read_with(TEXT(drawn), &given.config, given.names, given.length, got, 4, labels, 6, &found) == PTREE_DONE
+        && found.items == 4 && found.bytes == 6 && memcmp(labels, texts, 6) == 0 && got[2].level == 2 && got[3].end == 6, "a reading by fields");
+    expect(ptree_read_with(TEXT("r\nx\n"), &given.config, given.names, given.length, got, 4, labels, 6, &found) == PTREE_LINE
+        && found.place == 2, "the first wrong line");
+    given.config.indent = 0;
+    given.config.padding = 0;
+    given.config.characters.down_and_right = given.config.characters.turn_right = given.config.characters.down;
+    given.config.characters.empty = given.config.characters.down;
+    expect(ptree_read_with(TEXT("r\n"), &given.config, given.names, given.length, got, 4, labels, 6, &found) == PTREE_PIECES, "pieces");
+    free(given.names);
+}
+
+static void paints(void) {
+    struct ptree_style style = {.underline = 1, .background = {.kind = PTREE_NAMED, .name = {1, 6}}};
+    struct ptree_found found;
+    uint8_t out[32];
+    const char want[] = "\x1b[4m\x1b[48;2;0;128;0mhi\x1b[0m";
+    expect(ptree_paint(TEXT("hi"), &style, TEXT("#Green#"), out, 32, &found) == PTREE_DONE && found.bytes == sizeof want - 1
+        && memcmp(out, want, sizeof want - 1) == 0, "a painted text");
+    expect(ptree_paint(TEXT("\xff"), &style, TEXT("#Green#"), out, 32, &found) == PTREE_UTF8 && found.place == 0, "no text to paint");
+    expect(ptree_paint(TEXT("hi"), &style, TEXT("#Gree"), out, 32, &found) == PTREE_NAMES, "a name that is cut off");
+}
+
+static void loads(void) {
+    const char file[] = "{\"indent\": 5, \"leaf\": {\"foreground\": \"teal\"}}";
+    const char named[] = "PTREE_DEPTH7ptree_indent8HOME/";
+    const struct ptree_variable variables[] = {{{0, 11}, {11, 12}}, {{12, 24}, {24, 25}}, {{25, 29}, {29, 30}}};
+    struct given given;
+    struct ptree_found found;
+    given.names = room(100);
+    given.length = 100;
+    expect(ptree_load(TEXT(file), PTREE_JSON, variables, 3, TEXT(named), &given.config, given.names, 100, &found) == PTREE_DONE
+        && given.config.depth == 7 && given.config.indent == 8 && given.config.leaf.foreground.kind == PTREE_NAMED
+        && part_is(&given, given.config.leaf.foreground.name, "teal"), "sources");
+    expect(ptree_load(TEXT(file), PTREE_NO_FILE, variables, 1, TEXT(named), &given.config, given.names, 100, &found) == PTREE_DONE
+        && given.config.depth == 7 && given.config.indent == 3, "no file");
+    expect(ptree_load(TEXT("indent = 5\ndepth = 1"), PTREE_TOML, variables, 0, TEXT(""), &given.config, given.names, 100, &found) == PTREE_DONE
+        && given.config.depth == 1 && given.config.indent == 5, "a TOML file");
+    given.config.depth = 77;
+    expect(ptree_load(TEXT("indent = 5\ndepth = \n"), PTREE_TOML, variables, 0, TEXT(""), &given.config, given.names, 100, &found)
+        == PTREE_FAULT && found.place == 2 && given.config.depth == 77, "a fault of syntax");
+    expect(ptree_load(TEXT("{\"depth\": -1}"), PTREE_JSON, variables, 0, TEXT(""), &given.config, given.names, 100, &found) == PTREE_FAULT
+        && found.place == 0, "a fault of a value");
+    expect(ptree_load(TEXT("\xff"), PTREE_JSON, variables, 0, TEXT(""), &given.config, given.names, 100, &found) == PTREE_UTF8, "no UTF-8");
+    expect(ptree_load(TEXT(""), 3, variables, 0, TEXT(""), &given.config, given.names, 100, &found) == PTREE_NO_FORMAT, "no format");
+    expect(ptree_load(TEXT(""), PTREE_TOML, variables, 3, TEXT("PTREE_DEPTH7"), &given.config, given.names, 100, &found) == PTREE_NAMES,
+        "a variable beyond the texts");
+    free(given.names);
+}
+
+static void draws_graphs(void) {
+    /* a to b, b to a, a to c */
+    const size_t ends[] = {1, 2, 3};
+    const struct ptree_edge edges[] = {{0, 1}, {1, 0}, {0, 2}}, wrong[] = {{0, 1}, {1, 3}}, far[] = {{SIZE_MAX, 0}};
+    struct given given = given_by(PTREE_DEFAULT);
+    struct ptree_found found;
+    uint8_t out[64];
+    const char once[] = "a\n├─ c\n└─ b\n   └─ a!\n", walks[] = "a\n├─ c\n└─ b\n   └─ a\n";
+    expect(ptree_draw_once(ends, 3, TEXT("abc"), edges, 3, 0, TEXT("!"), &given.config, given.names, given.length, out, 64, &found) == PTREE_DONE
+        && found.bytes == sizeof once - 1 && memcmp(out, once, sizeof once - 1) == 0, "a graph once");
+    given.config.depth = 2;
+    expect(ptree_draw_walks(ends, 3, TEXT("abc"), edges, 3, 0, &given.config, given.names, given.length, out, 64, &found) == PTREE_DONE
+        && found.bytes == sizeof walks - 1 && memcmp(out, walks, sizeof walks - 1) == 0, "the walks of a graph");
+    expect(ptree_draw_walks(ends, 3, TEXT("abc"), edges, 3, 3, &given.config, given.names, given.length, out, 64, &found) == PTREE_DONE
+        && found.bytes == 1 && out[0] == '\n', "a start that is no node");
+    expect(ptree_draw_walks(ends, 0, TEXT(""), edges, 0, 0, &given.config, given.names, given.length, out, 64, &found) == PTREE_DONE
+        && found.bytes == 1, "no node");
+    expect(ptree_draw_walks(ends, 3, TEXT("abc"), wrong, 2, 0, &given.config, given.names, given.length, out, 64, &found) == PTREE_EDGE
+        && found.place == 1, "an edge to no node");
+    expect(ptree_draw_once(ends, 3, TEXT("abc"), far, 1, 0, TEXT(""), &given.config, given.names, given.length, out, 64, &found) == PTREE_EDGE
+        && found.place == 0, "an edge from no node");
+    expect(ptree_draw_walks(ends, 3, TEXT("ab"), edges, 3, 0, &given.config, given.names, given.length, out, 64, &found) == PTREE_END
+        && found.place == 2, "a label beyond the texts");
+    expect(ptree_draw_once(ends, 3, TEXT("abc"), edges, 3, 0, TEXT("\xff"), &given.config, given.names, given.length, out, 64, &found)
+        == PTREE_NAMES, "a mark that is not UTF-8");
+    free(given.names);
+}
+
+static uint32_t call_by_fields(const char *call) {
+    static struct ptree_item got[8];
+    static uint8_t out[64], names[64];
+    static const size_t ends[] = {1, 2, 3};
+    static const struct ptree_edge edges[] = {{0, 1}, {1, 0}, {0, 2}};
+    static const struct ptree_variable variables[] = {{{0, 11}, {11, 12}}};
+    struct ptree_config config;
+    struct ptree_found found;
+    struct ptree_style style = {.bold = 1, .foreground = {.kind = PTREE_NAMED, .name = {0, 4}}};
+    if (strcmp(call, "paint") == 0) return ptree_paint(TEXT("hi"), &style, TEXT("teal"), out, 64, &found);
+    if (strcmp(call, "load") == 0) {
+        return ptree_load(TEXT("{\"indent\": 5}"), PTREE_JSON, variables, 1, TEXT("PTREE_DEPTH7"), &config, names, 64, &found);
+    }
+    uint32_t refusal = ptree_config(PTREE_CARGO_TREE, &config, names, 64, &found);
+    if (refusal || strcmp(call, "config") == 0) return refusal;
+    if (strcmp(call, "draw_with") == 0) return ptree_draw_with(items, 4, texts, 6, &config, names, 64, out, 64, &found);
+    if (strcmp(call, "read_with") == 0) return ptree_read_with(TEXT(drawn), &config, names, 64, got, 8, out, 64, &found);
+    if (strcmp(call, "walks") == 0) {
+        config.depth = 2;
+        return ptree_draw_walks(ends, 3, TEXT("abc"), edges, 3, 0, &config, names, 64, out, 64, &found);
+    }
+    if (strcmp(call, "steps") == 0) {
+        uint8_t path[2];
+        return ptree_draw_steps(steps, 4, TEXT("rb\ncxa"), path, 2, &config, names, 64, out, 64, &found);
+    }
+    if (strcmp(call, "once") == 0) return ptree_draw_once(ends, 3, TEXT("abc"), edges, 3, 0, TEXT("!"), &config, names, 64, out, 64, &found);
+    return 98;
+}
+
 static uint32_t call_once(const char *call) {
     static struct ptree_item got[8];
     static uint8_t out[64];
@@ -182,7 +475,8 @@ static uint32_t call_once(const char *call) {
     if (strcmp(call, "document") == 0) {
         return ptree_draw_document(TEXT("{\"b\": \"x\", \"a\": [1, 2]}"), TEXT("doc"), PTREE_JSON, PTREE_TREE, ALL, out, 64, &found);
     }
-    return ptree_is_readable(PTREE_TREE);
+    if (strcmp(call, "readable") == 0) return ptree_is_readable(PTREE_TREE);
+    return call_by_fields(call);
 }
 
 int main(int count, char **words) {
@@ -190,11 +484,19 @@ int main(int count, char **words) {
     draws_into_each_size();
     draws_to_a_depth();
     refuses_items();
+    draws_steps();
+    refuses_some_steps();
     reads_into_each_size();
     refuses_texts();
     draws_documents();
     knows_presets_and_refusals();
     draws_as_each_preset();
+    makes_configurations();
+    draws_by_fields();
+    reads_by_fields();
+    paints();
+    loads();
+    draws_graphs();
     if (!failed) puts("all calls are right");
     return failed;
 }

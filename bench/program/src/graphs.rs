@@ -211,7 +211,16 @@ fn once_tree(
     Ok(read_tree(alloc, text, config)?)
 }
 
-/// Times the drawing of a graph with each node expanded once, and that of the same tree as items.
+// How long a copy of a tree takes, in nanoseconds: each item is made again.
+fn copying(rt: &HostRuntime, tree: &StringItem) -> io::Result<u128> {
+    let start = Instant::now(rt)?;
+    let copy = tree.clone()?;
+    let copying = start.elapsed(rt)?.as_nanos();
+    drop(copy);
+    Ok(copying)
+}
+
+/// Times the drawing of a graph with each node expanded once, and the drawing and copying of the same tree as items.
 pub fn time_once(rt: &HostRuntime, shape: &str, nodes: u32, times: u32) -> io::Result<()> {
     let alloc = rt.alloc();
     let config = PrintConfig::default(alloc)?;
@@ -247,7 +256,8 @@ pub fn time_once(rt: &HostRuntime, shape: &str, nodes: u32, times: u32) -> io::R
         let made = graph.expanded_once(NodeIndex(0), u32::MAX)?;
         let making = start.elapsed(rt)?.as_nanos();
         let made = made.places.len();
-        println!(rt; "places drawn in {once} ns, items in {items} ns, {made} places made in {making} ns")?;
+        let copying = copying(rt, &tree)?;
+        println!(rt; "places drawn in {once} ns, items in {items} ns, {made} places made in {making} ns, items copied in {copying} ns")?;
     }
     Ok(())
 }

@@ -2,7 +2,7 @@
 //!
 //! A line that is no further line of the last item is a child of it or an item's next sibling. Only
 //! one item can have a next sibling: the innermost one of the last item and those above it that is
-//! no last child. So each line is compared with the path once, and the piece behind tells the rest.
+//! no last child. So each line is compared with the path once, and the piece after that decides.
 
 use crate::pieces::{line_feed, LAST_PASS, LAST_TURN, MARK, PASS, TURN};
 use crate::tree::{Growing, Item};

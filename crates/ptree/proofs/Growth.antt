@@ -9,9 +9,9 @@ use Rattle.ptree.specs.Growing.{Grown, grown, is_seen, enter, row_occurrences, r
 use Rattle.ptree.specs.Occurrence.{OccurrenceTree, none, occurrence, row, IsExpandedOnce, HasOneTree, HasSize}
 use Rattle.ptree.proofs.EdgeLists.{newest_starts}
 use Rattle.ptree.proofs.Links.{newest_of_none}
-use Rattle.ptree.proofs.NodeFlags.{AreClear}
+use Rattle.ptree.proofs.NodeFlags.{AreClear, seen_none}
 use Rattle.ptree.proofs.Once.{grown_is_drawn, one_tree}
-use Rattle.ptree.proofs.Places.{seen_none, appends_leaf}
+use Rattle.ptree.proofs.Places.{appends_leaf}
 use Rattle.ptree.proofs.Sizes.{size_of_drawn}
 use Rattle.std.proofs.lemmas.List.{length-map, length-replicate, append-nil}
 

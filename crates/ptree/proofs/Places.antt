@@ -1,10 +1,10 @@
 -- Lists of places, and the trees that they are.
-use Rattle.std.specs.Prelude.{slice_get, slice_set, ◌^◌, min, replicate}
-use Rattle.std.proofs.Common.{◌≡◌, ℕ, zero, suc, ◌+◌, ◌-◌, ◌<◌, ◌≤◌, inl, inr, Bool, true, false, List, [], ◌∷◌, ◌++◌, length, length-append, take, drop, Some, None, ap, refl, sym, ◌∙◌, append_assoc, arith}
+use Rattle.std.specs.Prelude.{slice_get, slice_set, ◌^◌, min}
+use Rattle.std.proofs.Common.{◌≡◌, ℕ, zero, suc, ◌+◌, ◌-◌, ◌<◌, ◌≤◌, inl, inr, Bool, true, false, List, [], ◌∷◌, ◌++◌, length, length-append, drop, Some, None, ap, refl, sym, ◌∙◌, append_assoc, arith}
 use Rattle.std.proofs.lemmas.Bool.{cases_lt}
-use Rattle.std.proofs.lemmas.List.{append-nil, take_all, length-drop, drop_all, drop_at, length-replicate, replicate-append-replicate}
+use Rattle.std.proofs.lemmas.List.{append-nil, length-drop, drop_all, drop_at}
 use Rattle.ptree.specs.declared.graph.places.Place.{Place}
-use Rattle.ptree.specs.Growing.{is_seen, all_flags, place_of, place_at, leaf_size, ArePlaces, AppendsPlaces, IsNextPlace}
+use Rattle.ptree.specs.Growing.{place_of, place_at, leaf_size, ArePlaces, AppendsPlaces, IsFirst, IsNextPlace}
 use Rattle.ptree.specs.Occurrence.{OccurrenceTree, occurrence, occurrence_kids, none, row, is_repeated_size, size_below, trees_by, trees_in, first_tree}
 use Rattle.ptree.proofs.Occurrences.{occurrences_of_row}
 
@@ -183,58 +183,19 @@ next_trees ps i left b left' next after h (p, some, below, split) e f k =
 pub kids_at_place : (ps : List Place) (i : ℕ) → occurrence_kids (first_tree (drop i ps)) ≡ trees_in (size_below (place_at ps i).size) (drop (suc i) ps)
 kids_at_place ps i = ap occurrence_kids (tree_at_place ps i) ∙ occurrences_of_row (trees_in (size_below (place_at ps i).size) (drop (suc i) ps))
 
--- ## Flags
+-- ## Rows
 
--- flags that are left out are not set
-pub seen_none : (k w : ℕ) → is_seen (replicate k false) w ≡ false
-seen_none zero w = refl
-seen_none (suc k) zero = refl
-seen_none (suc k) (suc w) = seen_none k w
+-- the tree of the first place that is left, and those after it
+pub row_next : (ps after others : List Place) (left left' b : ℕ) (p : Place) → IsFirst ps left p after → b ≡ size_below p.size → left' ≡ (left - 1) - b → others ≡ drop b after
+    → trees_in left ps ≡ first_tree (p ∷ after) ∷ trees_in left' others
+row_next ps after others left left' b p (some, is) below fewer behind =
+    let m = left - 1 in
+    let one : left ≡ suc m = omega arith in
+    let less : m - size_below p.size ≡ left' = omega arith in
+    ap (trees_in left) is ∙ (ap (λ n. trees_in n (p ∷ after)) one ∙ (trees_first m p after
+    ∙ (ap (λ n. first_tree (p ∷ after) ∷ trees_in n (drop (size_below p.size) after)) less
+    ∙ ap (λ l. first_tree (p ∷ after) ∷ trees_in left' l) (ap (λ n. drop n after) (sym below) ∙ sym behind))))
 
--- unset flags after a list do not change which nodes are seen
-seen_start : (xs : List Bool) (k w : ℕ) → is_seen (xs ++ replicate k false) w ≡ is_seen xs w
-seen_start [] k w = seen_none k w
-seen_start (x ∷ xs) k zero = refl
-seen_start (x ∷ xs) k (suc w) = seen_start xs k w
-
--- the flags of all nodes say the same as those without the unset ones at the end
-pub seen_all : (n : ℕ) (seen : List Bool) (w : ℕ) → is_seen (all_flags n seen) w ≡ is_seen seen w
-seen_all n seen w = seen_start seen (n - length seen) w
-
--- a flag that is set in the first of two lists leaves the second
-set_start : (xs ys : List Bool) (v : ℕ) (b : Bool) → v < length xs → slice_set (xs ++ ys) v b ≡ slice_set xs v b ++ ys
-set_start [] ys v b h = absurd (omega arith)
-set_start (x ∷ xs) ys zero b h = refl
-set_start (x ∷ xs) ys (suc v) b h = ap (λ l. x ∷ l) (set_start xs ys v b (omega arith))
-
--- setting a flag leaves the number of flags
-length_slice_set : (xs : List Bool) (v : ℕ) (b : Bool) → length (slice_set xs v b) ≡ length xs
-length_slice_set [] v b = refl
-length_slice_set (x ∷ xs) zero b = refl
-length_slice_set (x ∷ xs) (suc v) b = ap suc (length_slice_set xs v b)
-
--- a flag among those that are there
-set_all : (n : ℕ) (seen last : List Bool) (v : ℕ) → v < length seen → last ≡ slice_set seen v true → all_flags n last ≡ slice_set (all_flags n seen) v true
-set_all n seen last v h e =
-    ap (all_flags n) e ∙ (ap (λ k. slice_set seen v true ++ replicate (n - k) false) (length_slice_set seen v true) ∙ sym (set_start seen (replicate (n - length seen) false) v true h))
-
--- more flags that are not set
-more_flags : (n k : ℕ) (seen more : List Bool) → more ≡ seen ++ replicate k false → length seen + k ≤ n → all_flags n more ≡ all_flags n seen
-more_flags n k seen more e h =
-    let long : length (seen ++ replicate k false) ≡ length seen + k = length-append seen (replicate k false) ∙ ap (λ m. length seen + m) (length-replicate k false) in
-    let count : k + (n - length (seen ++ replicate k false)) ≡ n - length seen = omega arith in
-    ap (all_flags n) e ∙ (append_assoc seen (replicate k false) _ ∙ (ap (λ z. seen ++ z) (replicate-append-replicate k (n - length (seen ++ replicate k false)) false) ∙ ap (λ m. seen ++ replicate m false) count))
-
--- a flag was set that was there
-pub flag_set : (n : ℕ) (seen now last : List Bool) (v : ℕ) → v < length seen → length seen ≤ n → now ≡ seen → last ≡ slice_set now v true → (all_flags n last ≡ slice_set (all_flags n seen) v true) × (length last ≤ n)
-flag_set n seen now last v h k e f =
-    let same : last ≡ slice_set seen v true = f ∙ ap (λ l. slice_set l v true) e in
-    (set_all n seen last v h same, omega (arith, ap length same, length_slice_set seen v true))
-
--- one was set that had to be added
-pub flag_added : (n : ℕ) (seen now last : List Bool) (v m : ℕ) → m ≡ length seen → m ≤ v → v < n → now ≡ take (v + 1) seen ++ replicate (v + 1 - m) false → last ≡ slice_set now v true
-    → (all_flags n last ≡ slice_set (all_flags n seen) v true) × (length last ≤ n)
-flag_added n seen now last v m l h k e f =
-    let added : now ≡ seen ++ replicate (v + 1 - m) false = e ∙ ap (λ z. z ++ replicate (v + 1 - m) false) (take_all (v + 1) seen (omega arith)) in
-    let long : length now ≡ length seen + (v + 1 - m) = ap length added ∙ (length-append seen (replicate (v + 1 - m) false) ∙ ap (λ j. length seen + j) (length-replicate (v + 1 - m) false)) in
-    (set_all n now last v (omega arith) f ∙ ap (λ z. slice_set z v true) (more_flags n (v + 1 - m) seen now added (omega arith)), omega (arith, long, ap length f, length_slice_set now v true))
+-- what is below the first of some places
+pub kids_of_first : (p : Place) (after : List Place) → occurrence_kids (first_tree (p ∷ after)) ≡ trees_in (size_below p.size) after
+kids_of_first p after = occurrences_of_row (trees_in (size_below p.size) after)

@@ -1,5 +1,5 @@
 -- Trees made of lines.
-use Rattle.std.proofs.Common.{◌≡◌, ℕ, suc, ◌<◌, ◌≤◌, List, [], ◌∷◌, ◌++◌, length, map, sym, ap, ◌∙◌, append_assoc, subst, arith}
+use Rattle.std.proofs.Common.{◌≡◌, ℕ, suc, ◌<◌, ◌≤◌, List, [], ◌∷◌, ◌++◌, length, map, sym, ap, ◌∙◌, append_assoc, refl, subst, arith}
 use Rattle.std.proofs.lemmas.List.{append-nil, map-append}
 use Rattle.ptree.specs.Outline.{Line, line, outline_at, Steps, StartsAtMost}
 use Rattle.ptree.specs.Rows.{IsRow}
@@ -65,3 +65,13 @@ module _ {T : Type 0} (line_of : T → Line) where
         shorter = omega arith;
         steps = Steps-higher above o (subst (λ k. StartsAtMost k o) level below.stops) (subst (λ k. Steps k o) level below.steps);
       }
+
+  -- one leaf more, made of the first line
+  pub row-leaf : (above : ℕ) (lines : List T) (items : List StringItem) (rest tail : List T) (first : T) (x : StringItem)
+      → IsRowSoFar above lines items rest → rest ≡ first ∷ tail → above < (line_of first).level
+      → tree_of x ≡ tree ((line_of first).text) (forest (map tree_of []))
+      → StartsAtMost (line_of first).level (map line_of tail) → IsRowSoFar above lines (items ++ x ∷ []) tail
+  row-leaf above lines items rest tail first x h e deeper is stops =
+      let steps = subst (λ z. Steps above (map line_of z)) e h.steps in
+      row-more above lines items rest tail tail first x [] h e deeper is
+      (record { are = refl; shorter = omega arith; steps = steps.2; stops = stops })

@@ -127,11 +127,17 @@ abbrev pub fault_unless : {A : Type 0} → (A → Bool) → Fault → Option A �
 fault_unless fits fault None = None
 fault_unless fits fault (Some value) = if fits value then None else Some fault
 
+-- the fault of a field's variable
+abbrev pub variable_fault : Given → Field → Option Fault
+variable_fault given field = fault_unless (text_fits (kind_of field)) (fault.Variable field) (variable given field)
+
+-- the fault of a field's key
+abbrev pub key_fault : Given → Field → Option Fault
+key_fault given field = fault_unless (node_fits (kind_of field)) (fault.Key field) (node given field)
+
 -- the fault of a field: that of its variable, or else that of its key
 abbrev pub field_fault : Given → Field → Option Fault
-field_fault given field =
-    option_or (fault_unless (text_fits (kind_of field)) (fault.Variable field) (variable given field))
-    (fault_unless (node_fits (kind_of field)) (fault.Key field) (node given field))
+field_fault given field = option_or (variable_fault given field) (key_fault given field)
 
 -- the fault of a part whose key holds a value that is not a table
 abbrev pub table_fault : Given → Part → Option Fault

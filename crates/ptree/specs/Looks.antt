@@ -10,7 +10,7 @@ use Rattle.ptree.specs.Style.{StyleValue, style_of, start_codes, end_codes}
 
 -- the look that the code's look means
 abbrev pub look_of : HeldLook → Look
-look_of l = look_from (style_of l.branch.now) (style_of l.leaf.now) (pieces_of l.pieces) l.mark.now
+look_of l = look_from (style_of l.branch) (style_of l.leaf) (pieces_of l.pieces) l.mark.now
 
 -- the piece on the own line of a root (none), or of a child by whether it is last
 abbrev pub own_piece : Pieces → Option Bool → List ℕ

@@ -279,42 +279,42 @@ pub(crate) fn tree_from_outline<T: OutlineLine>(
     })
 }
 
-// Returns the number of children of each item. The number of an item is at the place that counts
-// the lines after the item's own; all lines are after the root's. These numbers only say how much
-// to reserve.
-fn child_counts<T: OutlineLine>(alloc: Global, lines: &[T]) -> Result<Vec<usize>, AllocError> {
-    let mut counts = Vec::with_capacity(alloc, lines.len().saturating_add(1))?;
-    // At the place of each level, the number of items of that level whose parent is still to come.
-    let mut orphans: Vec<usize> = Vec::new(alloc);
-    for line in lines.iter().rev() {
+// Returns the number of children of the root and of each item, in order. The last one has none and
+// is left out. These numbers only say how much to reserve.
+fn child_counts<T: OutlineLine>(alloc: Global, below: &[T]) -> Result<Vec<u32>, AllocError> {
+    let mut counts: Vec<u32> = Vec::with_capacity(alloc, below.len())?;
+    counts.resize(below.len(), 0)?;
+    // At the place of each level, the place of the last item of that level.
+    let mut open: Vec<usize> = Vec::new(alloc);
+    open.push(0)?;
+    for (i, line) in below.iter().enumerate() {
         let level = line.level() as usize;
-        counts.push(count_at(&orphans, level + 1))?;
-        orphans.resize(level + 1, 0)?;
-        if let Some(count) = orphans.last_mut() {
+        match open.get_mut(level) {
+            Some(place) => *place = i + 1,
+            None => open.push(i + 1)?,
+        }
+        let parent = open.get(level.saturating_sub(1)).copied().unwrap_or(0);
+        if let Some(count) = counts.get_mut(parent) {
             *count = count.saturating_add(1);
         }
     }
-    counts.push(count_at(&orphans, 1))?;
     Ok(counts)
 }
 
-// Returns the count at a place, or 0 beyond the end.
-fn count_at(counts: &[usize], place: usize) -> usize {
-    counts.get(place).copied().unwrap_or(0)
-}
-
-// Returns the first trees that are one level below `above`, and the lines after them.
-#[cycle(row)]
+// Returns the first trees that are one level below `above`, and the lines after them. Most items
+// are leaves, and take no further call.
 fn row_from_outline<'a, T: OutlineLine>(
     alloc: Global,
     lines: &'a [T],
     above: u32,
-    counts: &[usize],
+    counts: &[u32],
 ) -> Result<(Vec<StringItem>, &'a [T]), AllocError>
     requires steps { Steps above (map T.line lines.now) }
     ensures { IfOk result (λ r. IsRow T.line above lines.now r.0.items r.1.now) }
 {
-    let mut items = Vec::with_capacity(alloc, count_at(counts, lines.len()))?;
+    let place = counts.len().saturating_sub(lines.len());
+    let count = counts.get(place).copied().unwrap_or(0);
+    let mut items = Vec::with_capacity(alloc, count as usize)?;
     let mut rest = lines;
     while let Some((first, tail)) = rest.split_first() {
         let level = first.level();
@@ -322,29 +322,17 @@ fn row_from_outline<'a, T: OutlineLine>(
             break;
         }
         let text = String::from_str(alloc, first.text())?;
-        let (children, after) = row_below(alloc, tail, level, counts)?;
+        if !starts_below(tail, level) {
+            let children = Vec::new(alloc);
+            items.push(StringItem { text, children })?;
+            rest = tail;
+            continue;
+        }
+        let (children, after) = row_from_outline(alloc, tail, level, counts)?;
         items.push(StringItem { text, children })?;
         rest = after;
     }
     Ok((items, rest))
-}
-
-// Does what `row_from_outline` does. Most items are leaves, and take no further call.
-#[cycle(row)]
-#[inline(always)]
-fn row_below<'a, T: OutlineLine>(
-    alloc: Global,
-    lines: &'a [T],
-    above: u32,
-    counts: &[usize],
-) -> Result<(Vec<StringItem>, &'a [T]), AllocError>
-    requires steps { Steps above (map T.line lines.now) }
-    ensures { IfOk result (λ r. IsRow T.line above lines.now r.0.items r.1.now) }
-{
-    if !starts_below(lines, above) {
-        return Ok((Vec::new(alloc), lines));
-    }
-    row_from_outline(alloc, lines, above, counts)
 }
 
 // Whether the first line is below a level.

@@ -6,6 +6,7 @@ ghost use Rattle.ptree.specs.Matched.{AreMatched};
 mod drawing;
 mod once;
 mod places;
+mod row;
 
 pub use drawing::{GraphNode, Label, print_graph, write_graph_with};
 pub use once::{Expanded, OccurrenceItem, REPEATED_MARK, print_graph_once, write_graph_once_with};

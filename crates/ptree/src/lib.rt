@@ -22,6 +22,7 @@ pub mod buffered;
 pub mod builder;
 mod codes;
 mod colors;
+pub mod errors;
 mod faults;
 pub mod graph;
 pub mod item;

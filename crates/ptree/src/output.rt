@@ -17,7 +17,7 @@ mod spread;
 
 use crate::item::{StringItem, TreeItem};
 use crate::print_config::{OutputKind, PrintConfig, Sources};
-use crate::style::{Counted, DrawError, Sink, Style};
+use crate::style::{Counted, DrawError, Sink};
 use engine::draw;
 pub use indent::Indent;
 use look::Look;
@@ -43,8 +43,7 @@ where
         config.now.depth (W.contents f.old) (W.contents f.new) result }
     ensures cause { HasCause (W.faults f.old) (W.faults f.new) result }
 {
-    let plain = Style::default();
-    let look = Look::of_config(alloc, config, &plain, output_kind, terminal)?;
+    let look = Look::of_config(alloc, config, output_kind, terminal)?;
     draw(alloc, item, f, &look, config.depth)
 }
 

@@ -19,10 +19,10 @@ pub use characters::{
     ASCII_CHARS_PLUS, ASCII_CHARS_TICK, CharsError, IndentChars, StaticIndentChars, UTF_CHARS,
     UTF_CHARS_BOLD, UTF_CHARS_DASHED, UTF_CHARS_DOUBLE,
 };
-pub use fields::{Field, Part, StyleField};
+pub use fields::{FIELDS, Field, Part, StyleField};
 pub use file::syntax_line;
 pub use given::last_value;
-pub use loader::{Fault, first_fault, load};
+pub use loader::{Fault, faults, first_fault, load};
 pub use parse::Spelling;
 use std::alloc::{AllocError, Global};
 

@@ -1,2 +1,7 @@
+pub mod Codes
+pub mod Entries
 pub mod Flat
+pub mod Given
 pub mod Numbered
+pub mod Paths
+pub mod Walks

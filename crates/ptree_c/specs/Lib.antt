@@ -1,5 +1,11 @@
+pub mod Brushes
 pub mod Calls
+pub mod Fields
+pub mod Graphs
 pub mod Items
+pub mod Loads
+pub mod Pens
 pub mod Presets
 pub mod Refusals
 pub mod Rooms
+pub mod Steps

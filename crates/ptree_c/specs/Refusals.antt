@@ -1,7 +1,7 @@
 -- The numbers of refusals.
 use Rattle.std.specs.Prelude.{ℕ}
 use Rattle.ptree_c.specs.declared.refusal.Refusal.{Refusal}
-use Rattle.ptree_c.specs.declared.refusal.Refusal.TheVariants.{Memory, Utf8, Level, Preset, Pieces, Line, Incomplete, Syntax, Float, Date, End, Format}
+use Rattle.ptree_c.specs.declared.refusal.Refusal.TheVariants.{Memory, Utf8, Level, Preset, Pieces, Line, Incomplete, Syntax, Float, Date, End, Format, Part, Color, Fault, Edge}
 
 -- the number of a refusal
 abbrev pub refusal_number : Refusal → ℕ
@@ -17,6 +17,10 @@ refusal_number Float = 9
 refusal_number Date = 10
 refusal_number (End n) = 11
 refusal_number Format = 12
+refusal_number Part = 13
+refusal_number Color = 14
+refusal_number (Fault n) = 15
+refusal_number (Edge n) = 16
 
 -- the place of what was refused, or 0
 abbrev pub refusal_place : Refusal → ℕ
@@ -32,3 +36,7 @@ refusal_place Float = 0
 refusal_place Date = 0
 refusal_place (End n) = n
 refusal_place Format = 0
+refusal_place Part = 0
+refusal_place Color = 0
+refusal_place (Fault n) = n
+refusal_place (Edge n) = n

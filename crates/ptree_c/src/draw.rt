@@ -1,12 +1,18 @@
 //! Draws items.
 ghost use Rattle.std.specs.Prelude.{◌≡◌, ◌<◌, ℕ, List, IfOk, length};
+ghost use Rattle.ptree.specs.Drawing.{written_look};
 ghost use Rattle.ptree_c.specs.Calls.{IsItemsDrawing};
+ghost use Rattle.ptree_c.specs.Fields.{depth_of, look_of};
+ghost use Rattle.ptree_c.specs.Presets.{look_at};
 ghost use Rattle.ptree_c.specs.Rooms.{filled};
 
+use crate::answer::{put_bytes, refuse};
+use crate::fields::{ConfigFields, config_of_fields};
 use crate::items::{Item, tree_of_items};
 use crate::preset::config;
 use crate::refusal::Refusal;
-use crate::room::{Found, fill};
+use crate::room::Found;
+use ptree::PrintConfig;
 use ptree::output::tree_bytes;
 use std::alloc::Global;
 
@@ -15,15 +21,45 @@ fn drawing_of_items(
     alloc: Global,
     items: &[Item],
     texts: &[u8],
+    config: &PrintConfig,
+) -> Result<Vec<u8>, Refusal>
+    ensures { IfOk result (λ drawing.
+        IsItemsDrawing (written_look config.now) config.now.depth items.now texts.now
+        drawing.items) }
+{
+    let tree = tree_of_items(alloc, items, texts)?;
+    Ok(tree_bytes(alloc, &tree, config)?)
+}
+
+// The drawing of items as a preset does.
+fn drawing_by_preset(
+    alloc: Global,
+    items: &[Item],
+    texts: &[u8],
     preset: u32,
     depth: u32,
 ) -> Result<Vec<u8>, Refusal>
     ensures { IfOk result (λ drawing.
-        IsItemsDrawing preset depth items.now texts.now drawing.items) }
+        IsItemsDrawing (look_at preset depth) depth items.now texts.now drawing.items) }
 {
-    let tree = tree_of_items(alloc, items, texts)?;
     let config = config(alloc, preset, depth)?;
-    Ok(tree_bytes(alloc, &tree, &config)?)
+    drawing_of_items(alloc, items, texts, &config)
+}
+
+// The drawing of items as fields say.
+fn drawing_by_fields(
+    alloc: Global,
+    items: &[Item],
+    texts: &[u8],
+    fields: &ConfigFields,
+    names: &[u8],
+) -> Result<Vec<u8>, Refusal>
+    ensures { IfOk result (λ drawing.
+        IsItemsDrawing (look_of names.now fields.now) (depth_of names.now fields.now) items.now texts.now
+        drawing.items) }
+{
+    let config = config_of_fields(alloc, names, fields)?;
+    drawing_of_items(alloc, items, texts, &config)
 }
 
 /// Draws items into `out`, as much as there is room for, down to a depth, as a preset does. `found`
@@ -39,23 +75,35 @@ pub extern "C" fn ptree_draw(
     found: &mut Found,
 ) -> u32
     ensures drawn { result ≡ 0 → (drawing : List ℕ)
-        × IsItemsDrawing preset depth items.now texts.now drawing
+        × IsItemsDrawing (look_at preset depth) depth items.now texts.now drawing
         × (out.new ≡ filled out.old drawing) × (found.new.bytes ≡ length drawing) }
     ensures kept { 0 < result → out.new ≡ out.old }
 {
-    match drawing_of_items(alloc, items, texts, preset, depth) {
-        Ok(drawing) => {
-            fill(out, &drawing);
-            found.bytes = drawing.len();
-            found.items = items.len();
-            found.place = 0;
-            0
-        }
-        Err(refusal) => {
-            found.bytes = 0;
-            found.items = 0;
-            found.place = refusal.place();
-            refusal.number()
-        }
+    match drawing_by_preset(alloc, items, texts, preset, depth) {
+        Ok(drawing) => put_bytes(&drawing, items.len(), out, found),
+        Err(refusal) => refuse(refusal, found),
+    }
+}
+
+/// Draws items into `out`, as much as there is room for, as the fields of a configuration say. Its
+/// texts are parts of `names`. `found` gets the length of the whole drawing.
+#[unsafe(no_mangle)]
+pub extern "C" fn ptree_draw_with(
+    alloc: Global,
+    items: &[Item],
+    texts: &[u8],
+    config: &ConfigFields,
+    names: &[u8],
+    out: &mut [u8],
+    found: &mut Found,
+) -> u32
+    ensures drawn { result ≡ 0 → (drawing : List ℕ)
+        × IsItemsDrawing (look_of names.now config.now) (depth_of names.now config.now) items.now
+        texts.now drawing × (out.new ≡ filled out.old drawing) × (found.new.bytes ≡ length drawing) }
+    ensures kept { 0 < result → out.new ≡ out.old }
+{
+    match drawing_by_fields(alloc, items, texts, config, names) {
+        Ok(drawing) => put_bytes(&drawing, items.len(), out, found),
+        Err(refusal) => refuse(refusal, found),
     }
 }

@@ -74,8 +74,8 @@ fn add_item(
     }
 }
 
-// The text of the item at a place, between two places of the texts.
-fn text_between(
+/// The text of the item at a place, between two places of the texts.
+pub(crate) fn text_between(
     alloc: Global,
     texts: &[u8],
     from: usize,

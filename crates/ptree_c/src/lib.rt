@@ -2,10 +2,19 @@
 //! `docs/C.md` of the repository has the page for callers, and `bindings/c/ptree.h` the header.
 #![tactic(auto)]
 
+mod answer;
+mod brush;
 pub mod document;
 pub mod draw;
+pub mod fields;
+pub mod graph;
 pub mod items;
+pub mod load;
+pub mod paint;
+mod pen;
 pub mod preset;
 pub mod read;
 pub mod refusal;
 mod room;
+pub mod steps;
+mod texts;

@@ -1,9 +1,14 @@
 //! The configurations that C names by a number.
-ghost use Rattle.std.specs.Prelude.{◌≡◌, IfOk, IfErr};
+ghost use Rattle.std.specs.Prelude.{◌≡◌, ◌<◌, ℕ, List, IfOk, IfErr, length};
 ghost use Rattle.ptree.specs.Config.{config_of};
+ghost use Rattle.ptree_c.specs.Fields.{config_value};
 ghost use Rattle.ptree_c.specs.Presets.{config_at, numbered_config, IsPresetRefusal};
+ghost use Rattle.ptree_c.specs.Rooms.{filled};
 
+use crate::answer::{put_bytes, refuse};
+use crate::fields::{ConfigFields, Written, fields_of_config};
 use crate::refusal::Refusal;
+use crate::room::Found;
 use ptree::PrintConfig;
 use ptree::presets::Preset;
 use ptree::read::pieces_readable;
@@ -54,6 +59,52 @@ fn readable(alloc: Global, preset: u32) -> Result<(), Refusal> {
         Ok(())
     } else {
         Err(Refusal::Pieces)
+    }
+}
+
+// The fields of a preset.
+fn fields_of_preset(alloc: Global, preset: u32) -> Result<Written, Refusal>
+    ensures { IfOk result (λ written.
+        config_value written.names.items written.fields ≡ numbered_config preset) }
+{
+    let config = numbered(alloc, preset)?;
+    fields_of_config(alloc, &config)
+}
+
+/// Puts fields of a configuration into `config`, and their texts into `names`.
+pub(crate) fn put_fields(
+    written: &Written,
+    config: &mut ConfigFields,
+    names: &mut [u8],
+    found: &mut Found,
+) -> u32
+    ensures done { result ≡ 0 }
+    ensures fields { config.new ≡ written.now.fields }
+    ensures names { names.new ≡ filled names.old written.now.names.items }
+    ensures length { found.new.bytes ≡ length written.now.names.items }
+{
+    *config = written.fields;
+    put_bytes(&written.names, 0, names, found)
+}
+
+/// Puts the fields of a preset's configuration into `config`, and their texts into `names`, as much
+/// as there is room for. `found` gets the length of all texts.
+#[unsafe(no_mangle)]
+pub extern "C" fn ptree_config(
+    alloc: Global,
+    preset: u32,
+    config: &mut ConfigFields,
+    names: &mut [u8],
+    found: &mut Found,
+) -> u32
+    ensures made { result ≡ 0 → (texts : List ℕ)
+        × (config_value texts config.new ≡ numbered_config preset)
+        × (names.new ≡ filled names.old texts) × (found.new.bytes ≡ length texts) }
+    ensures kept { 0 < result → (config.new ≡ config.old) × (names.new ≡ names.old) }
+{
+    match fields_of_preset(alloc, preset) {
+        Ok(written) => put_fields(&written, config, names, found),
+        Err(refusal) => refuse(refusal, found),
     }
 }
 

@@ -1,38 +1,44 @@
 //! Reads a drawing.
 ghost use Rattle.std.specs.Prelude.{◌≡◌, ◌<◌, ℕ, List, IfOk, IsErrOf, length};
 ghost use Rattle.ptree.specs.Continuation.{EndsWrong, IsFirstWrongLine};
+ghost use Rattle.ptree.specs.Drawing.{written_look};
 ghost use Rattle.ptree.specs.DrawnForm.{IsDrawnForm};
 ghost use Rattle.ptree.specs.Outline.{outline};
 ghost use Rattle.ptree.specs.Tree.{Tree, tree_of};
+ghost use Rattle.ptree_c.specs.Calls.{AreItemsOf};
+ghost use Rattle.ptree_c.specs.Fields.{depth_of, look_of};
 ghost use Rattle.ptree_c.specs.Items.{items_from, joined_texts};
 ghost use Rattle.ptree_c.specs.Presets.{look_at};
 ghost use Rattle.ptree_c.specs.Rooms.{filled};
 
+use crate::answer::refuse;
+use crate::fields::{ConfigFields, config_of_fields};
 use crate::items::{Flat, Item, items_of_tree};
 use crate::preset::config;
 use crate::refusal::Refusal;
 use crate::room::{Found, fill};
+use ptree::PrintConfig;
 use ptree::item::StringItem;
 use ptree::read::{ReadError, pieces_readable, read_tree_or_line};
 use std::alloc::Global;
 use std::str;
 
 // The tree whose drawing a text is.
-fn tree_of_text(alloc: Global, text: &[u8], preset: u32, depth: u32) -> Result<StringItem, Refusal>
-    ensures some { IfOk result (λ t. IsDrawnForm (look_at preset depth) depth text.now (tree_of t)) }
+fn tree_of_text(alloc: Global, text: &[u8], config: &PrintConfig) -> Result<StringItem, Refusal>
+    ensures some { IfOk result (λ t.
+        IsDrawnForm (written_look config.now) config.now.depth text.now (tree_of t)) }
     ensures line { (n : ℕ) → IsErrOf result (Refusal.Line n)
-        → IsFirstWrongLine (look_at preset depth) depth text.now n }
+        → IsFirstWrongLine (written_look config.now) config.now.depth text.now n }
     ensures end { IsErrOf result Refusal.Incomplete
-        → EndsWrong (look_at preset depth) depth text.now }
+        → EndsWrong (written_look config.now) config.now.depth text.now }
 {
     let Ok(text) = str::from_utf8(text) else {
         return Err(Refusal::Utf8(0));
     };
-    let config = config(alloc, preset, depth)?;
-    if !pieces_readable(alloc, &config)? {
+    if !pieces_readable(alloc, config)? {
         return Err(Refusal::Pieces);
     }
-    match read_tree_or_line(alloc, text, &config) {
+    match read_tree_or_line(alloc, text, config) {
         Ok(tree) => Ok(tree),
         Err(ReadError::Line(line)) => Err(Refusal::Line(line)),
         Err(ReadError::End) => Err(Refusal::Incomplete),
@@ -41,14 +47,53 @@ fn tree_of_text(alloc: Global, text: &[u8], preset: u32, depth: u32) -> Result<S
 }
 
 // The items of the tree whose drawing a text is.
-fn items_of_text(alloc: Global, text: &[u8], preset: u32, depth: u32) -> Result<Flat, Refusal>
-    ensures some { IfOk result (λ flat. (t : Tree)
-        × IsDrawnForm (look_at preset depth) depth text.now t
-        × (flat.items.items ≡ items_from 0 (outline t))
-        × (flat.texts.items ≡ joined_texts (outline t))) }
+fn items_of_text(alloc: Global, text: &[u8], config: &PrintConfig) -> Result<Flat, Refusal>
+    ensures { IfOk result (λ flat.
+        AreItemsOf (written_look config.now) config.now.depth text.now flat.items.items
+        flat.texts.items) }
 {
-    let tree = tree_of_text(alloc, text, preset, depth)?;
+    let tree = tree_of_text(alloc, text, config)?;
     Ok(items_of_tree(alloc, &tree)?)
+}
+
+// The items of what a preset draws.
+fn items_by_preset(alloc: Global, text: &[u8], preset: u32, depth: u32) -> Result<Flat, Refusal>
+    ensures { IfOk result (λ flat.
+        AreItemsOf (look_at preset depth) depth text.now flat.items.items flat.texts.items) }
+{
+    let config = config(alloc, preset, depth)?;
+    items_of_text(alloc, text, &config)
+}
+
+// The items of what is drawn as fields say.
+fn items_by_fields(
+    alloc: Global,
+    text: &[u8],
+    fields: &ConfigFields,
+    names: &[u8],
+) -> Result<Flat, Refusal>
+    ensures { IfOk result (λ flat.
+        AreItemsOf (look_of names.now fields.now) (depth_of names.now fields.now) text.now flat.items.items
+        flat.texts.items) }
+{
+    let config = config_of_fields(alloc, names, fields)?;
+    items_of_text(alloc, text, &config)
+}
+
+// Puts items and their texts into the memory of the caller.
+fn put_items(flat: &Flat, items: &mut [Item], texts: &mut [u8], found: &mut Found) -> u32
+    ensures done { result ≡ 0 }
+    ensures items { items.new ≡ filled items.old flat.now.items.items }
+    ensures texts { texts.new ≡ filled texts.old flat.now.texts.items }
+    ensures count { found.new.items ≡ length flat.now.items.items }
+    ensures bytes { found.new.bytes ≡ length flat.now.texts.items }
+{
+    fill(items, &flat.items);
+    fill(texts, &flat.texts);
+    found.bytes = flat.texts.len();
+    found.items = flat.items.len();
+    found.place = 0;
+    0
 }
 
 /// Reads what a preset draws down to a depth, into `items` and `texts`, as much as there is room
@@ -64,28 +109,39 @@ pub extern "C" fn ptree_read(
     texts: &mut [u8],
     found: &mut Found,
 ) -> u32
-    ensures read { result ≡ 0 → (t : Tree)
-        × IsDrawnForm (look_at preset depth) depth text.now t
-        × (items.new ≡ filled items.old (items_from 0 (outline t)))
-        × (texts.new ≡ filled texts.old (joined_texts (outline t)))
-        × (found.new.items ≡ length (items_from 0 (outline t)))
-        × (found.new.bytes ≡ length (joined_texts (outline t))) }
+    ensures read { result ≡ 0 → (got : List Item) × (labels : List ℕ)
+        × AreItemsOf (look_at preset depth) depth text.now got labels
+        × (items.new ≡ filled items.old got) × (texts.new ≡ filled texts.old labels)
+        × (found.new.items ≡ length got) × (found.new.bytes ≡ length labels) }
     ensures kept { 0 < result → (items.new ≡ items.old) × (texts.new ≡ texts.old) }
 {
-    match items_of_text(alloc, text, preset, depth) {
-        Ok(flat) => {
-            fill(items, &flat.items);
-            fill(texts, &flat.texts);
-            found.bytes = flat.texts.len();
-            found.items = flat.items.len();
-            found.place = 0;
-            0
-        }
-        Err(refusal) => {
-            found.bytes = 0;
-            found.items = 0;
-            found.place = refusal.place();
-            refusal.number()
-        }
+    match items_by_preset(alloc, text, preset, depth) {
+        Ok(flat) => put_items(&flat, items, texts, found),
+        Err(refusal) => refuse(refusal, found),
+    }
+}
+
+/// Reads what is drawn as the fields of a configuration say, whose texts are parts of `names`, into
+/// `items` and `texts`, as much as there is room for in each. `found` gets the number of items and
+/// the bytes of all texts, or after a refusal the line that cannot continue the drawing.
+#[unsafe(no_mangle)]
+pub extern "C" fn ptree_read_with(
+    alloc: Global,
+    text: &[u8],
+    config: &ConfigFields,
+    names: &[u8],
+    items: &mut [Item],
+    texts: &mut [u8],
+    found: &mut Found,
+) -> u32
+    ensures read { result ≡ 0 → (got : List Item) × (labels : List ℕ)
+        × AreItemsOf (look_of names.now config.now) (depth_of names.now config.now) text.now got labels
+        × (items.new ≡ filled items.old got) × (texts.new ≡ filled texts.old labels)
+        × (found.new.items ≡ length got) × (found.new.bytes ≡ length labels) }
+    ensures kept { 0 < result → (items.new ≡ items.old) × (texts.new ≡ texts.old) }
+{
+    match items_by_fields(alloc, text, config, names) {
+        Ok(flat) => put_items(&flat, items, texts, found),
+        Err(refusal) => refuse(refusal, found),
     }
 }

@@ -47,6 +47,18 @@ pub enum Refusal {
 
     /// There is no format of that number.
     Format,
+
+    /// A text of the configuration is not UTF-8, ends before it begins, or lies beyond its texts.
+    Part,
+
+    /// There is no colour of that kind.
+    Color,
+
+    /// A source is at fault: the file's syntax in this line, counted from 1, or for 0 a value.
+    Fault(usize),
+
+    /// An end of the edge at this place, counted from 0, is no node.
+    Edge(usize),
 }
 
 impl From<AllocError> for Refusal {
@@ -88,6 +100,10 @@ impl Refusal {
             Refusal::Date => 10,
             Refusal::End(_) => 11,
             Refusal::Format => 12,
+            Refusal::Part => 13,
+            Refusal::Color => 14,
+            Refusal::Fault(_) => 15,
+            Refusal::Edge(_) => 16,
         }
     }
 
@@ -99,7 +115,9 @@ impl Refusal {
             Refusal::Utf8(place)
             | Refusal::Level(place)
             | Refusal::Line(place)
-            | Refusal::End(place) => place,
+            | Refusal::End(place)
+            | Refusal::Fault(place)
+            | Refusal::Edge(place) => place,
             _ => 0,
         }
     }
@@ -140,6 +158,10 @@ fn text_of_number(number: u32) -> &'static str {
         10 => "the document holds a date or a time",
         11 => "the text of an item ends before it begins, or beyond the texts",
         12 => "there is no format of that number",
+        13 => "a text of the configuration is not UTF-8, or lies beyond its texts",
+        14 => "there is no colour of that kind",
+        15 => "the file or a variable is at fault",
+        16 => "an end of an edge is no node",
         _ => "no such number",
     }
 }

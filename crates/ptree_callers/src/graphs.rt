@@ -4,7 +4,7 @@ ghost use Rattle.ptree.specs.Address.{Address};
 ghost use Rattle.ptree.specs.Drawing.{look_by, written_look, IsDrawing};
 ghost use Rattle.ptree.specs.Graph.{weights_of, edges_of, neighbors_of, node_shape, turned};
 ghost use Rattle.ptree.specs.Loading.{effective_config};
-ghost use Rattle.ptree.specs.Occurrence.{OccurrenceTree, IsExpandedOnce, IsExpanded, IsMetBefore, HasOneTree, NoneRepeated, StandsAt, occurrence_at, occurrence_count, occurrence_kids, occurrence_own, occurrence_shape, occurrence_tree};
+ghost use Rattle.ptree.specs.Occurrence.{OccurrenceTree, IsExpandedOnce, IsExpanded, IsMetBefore, HasOneTree, NoneRepeated, StandsAt, occurrence_at, occurrence_count, occurrence_kids, occurrence_own, occurrence_shape, occurrence_tree, is_repeated_size, size_below};
 ghost use Rattle.ptree.specs.Style.{style_of};
 ghost use Rattle.ptree.specs.Writing.{IsWritten, HasCause, IsDrawn, LeavesWholeEntries};
 ghost use Rattle.ptree.specs.declared.print_config.OutputKind.{OutputKind};
@@ -12,8 +12,8 @@ ghost use Rattle.ptree_callers.specs.declared.graphs.Package.{Package};
 
 use ptree::PrintConfig;
 use ptree::graph::{
-    Expanded, Graph, Label, NodeIndex, Occurrence, OccurrenceItem, REPEATED_MARK, print_graph_once,
-    write_graph_once_with,
+    Expanded, Graph, Label, NodeIndex, Occurrence, OccurrenceItem, Place, REPEATED_MARK,
+    print_graph_once, write_graph_once_with,
 };
 use ptree::item::TreeItem;
 use ptree::print_config::Sources;
@@ -141,6 +141,15 @@ pub fn needs_below(
     let item = OccurrenceItem { expanded, index };
     let below = item.children(alloc)?;
     Ok(below.as_slice().len())
+}
+
+/// Whether the needs of the package at a place are below an earlier one, and how many packages are
+/// below this one.
+pub fn at_place(place: &Place) -> (bool, usize)
+    ensures earlier { result.0 ≡ is_repeated_size place.now.size }
+    ensures below { result.1 ≡ size_below place.now.size }
+{
+    (place.is_repeated(), place.below())
 }
 
 /// Draws each package's needs once, as `cargo tree` does.

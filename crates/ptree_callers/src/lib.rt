@@ -5,6 +5,7 @@
 pub mod building;
 pub mod documents;
 pub mod drawing;
+pub mod errors;
 pub mod graphs;
 pub mod loading;
 pub mod own_types;

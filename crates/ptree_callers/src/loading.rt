@@ -1,5 +1,5 @@
 //! Callers that load configurations.
-ghost use Rattle.std.specs.Prelude.{◌≡◌, ◌↔◌, false, Some, None, IfOk, IsTrue, MatchResult, unwrap_or};
+ghost use Rattle.std.specs.Prelude.{◌≡◌, ◌↔◌, false, Some, None, IfOk, IfSome, IsTrue, MatchResult, unwrap_or};
 ghost use Rattle.ptree.specs.Config.{config_of, default_config};
 ghost use Rattle.ptree.specs.Drawing.{IsDrawing, look_by, config_look};
 ghost use Rattle.ptree.specs.Loading.{SayNothing, file_fault, loaded_config, effective_config};
@@ -10,7 +10,7 @@ ghost use Rattle.ptree.specs.declared.print_config.parse.Spelling.{Spelling};
 use ptree::item::TreeItem;
 use ptree::output::{tree_bytes, write_tree};
 use ptree::print_config::{
-    Fault, FileSource, OutputKind, PrintConfig, Sources, Spelling, first_fault, last_value,
+    Fault, FileSource, OutputKind, PrintConfig, Sources, Spelling, faults, first_fault, last_value,
     syntax_line,
 };
 use ptree::style::{Counted, DrawError};
@@ -29,6 +29,17 @@ pub fn load_or_fault(
     match first_fault(alloc, sources)? {
         Some(fault) => Ok(Err(fault)),
         None => Ok(Ok(PrintConfig::from_env(alloc, sources)?)),
+    }
+}
+
+/// How many faults there are after the first one. If there is a fault at all, nothing is loaded.
+pub fn faults_after_first(alloc: Global, sources: &Sources) -> Result<Option<usize>, AllocError>
+    ensures { IfOk result (λ o. IfSome o (λ _. loaded_config sources.now ≡ None)) }
+{
+    let found = faults(alloc, sources)?;
+    match found.as_slice() {
+        [] => Ok(None),
+        [_, others @ ..] => Ok(Some(others.len())),
     }
 }
 

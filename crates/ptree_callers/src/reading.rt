@@ -59,7 +59,7 @@ pub fn drawn_anew(
     }
 }
 
-/// The same where a text that is no drawing is told by its line.
+/// The same, but a text that is no drawing is reported by its first wrong line.
 pub fn drawn_anew_by_lines(
     alloc: Global,
     text: &str,

@@ -9,8 +9,6 @@ use Rattle.ptree_cli.specs.declared.ending.Ending.TheVariants.{Done, BadDocument
 use Rattle.ptree_cli.specs.declared.command.Command.{Command}
 use Rattle.ptree_cli.specs.declared.command.Command.TheVariants.{Words, Document, Redraw}
 use Rattle.ptree_cli.specs.declared.command.Request.{Request}
-use Rattle.ptree_cli.specs.declared.paths.Candidates.{Candidates}
-use Rattle.ptree_cli.specs.Candidates as looked_for
 use Rattle.ptree_cli.specs.Command as asked
 
 -- the meaning of a command
@@ -35,7 +33,3 @@ abbrev pub document_ending : {A : Type 0} → Result A DocError → Ending
 document_ending (Ok x) = Done
 document_ending (Err (Draw e)) = drawing_ending {A = Unit {0}} (Err e)
 document_ending (Err e) = BadDocument
-
--- the meaning of the paths that are tried
-abbrev pub candidates_of : Candidates → looked_for.Candidates
-candidates_of c = record { named = c.named; paths = map string_bytes c.paths.items }

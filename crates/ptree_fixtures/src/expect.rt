@@ -1,5 +1,6 @@
 //! What a test expects, and failures that say what was found instead. Each function makes its
 //! configuration itself, since a test that owns one takes five times as long to prove.
+use crate::held::hold;
 use crate::screen::Screen;
 use crate::trees::plain;
 use ptree::graph::{Graph, Label, NodeIndex, write_graph_with};
@@ -26,15 +27,16 @@ where
     T: TreeItem,
     T::Child: TreeItem<Child = T::Child> + Drop,
 {
-    let text = tree_text(alloc, item, &PrintConfig::default(alloc)?)?.ok_or("no text")?;
+    let config = hold(PrintConfig::default(alloc))?;
+    let text = tree_text(alloc, item, &config.value)?.ok_or("no text")?;
     expect_text(text.as_str(), wanted)
 }
 
 /// Expects that a graph has this drawing from its first node, under the default configuration.
 pub fn expect_graph<N: Label>(alloc: Global, graph: &Graph<N>, wanted: &str) -> Result<(), Fail> {
-    let config = PrintConfig::default(alloc)?;
+    let config = hold(PrintConfig::default(alloc))?;
     let mut out = Counted::new(Vec::new(alloc));
-    write_graph_with(alloc, graph, NodeIndex(0), &mut out, &config)?;
+    write_graph_with(alloc, graph, NodeIndex(0), &mut out, &config.value)?;
     expect_text(str::from_utf8(&out.into_inner())?, wanted)
 }
 
@@ -49,7 +51,8 @@ where
     T: TreeItem,
     T::Child: TreeItem<Child = T::Child> + Drop,
 {
-    write_tree_with(alloc, item, out, &plain(alloc, UTF_CHARS, 4, depth)?)
+    let config = hold(plain(alloc, UTF_CHARS, 4, depth))?;
+    write_tree_with(alloc, item, out, &config.value)
 }
 
 /// Expects that the drawing of a graph from a node, plain and with pieces of four characters, runs
@@ -60,9 +63,9 @@ pub fn expect_unfinished<N: Label>(
     start: NodeIndex,
     wanted: &str,
 ) -> Result<(), Fail> {
-    let config = plain(alloc, UTF_CHARS, 4, u32::MAX)?;
+    let config = hold(plain(alloc, UTF_CHARS, 4, u32::MAX))?;
     let mut out = Counted::new(Vec::new(alloc));
-    match write_graph_with(alloc, graph, start, &mut out, &config) {
+    match write_graph_with(alloc, graph, start, &mut out, &config.value) {
         Err(DrawError::Memory) => expect_text(str::from_utf8(&out.into_inner())?, wanted),
         _ => Err(Fail::new("memory was enough")),
     }
@@ -80,8 +83,9 @@ where
     T: TreeItem,
     T::Child: TreeItem<Child = T::Child> + Drop,
 {
+    let config = hold(PrintConfig::default(alloc))?;
     let bytes = Vec::new(alloc);
     let mut out = Counted::new(Screen { bytes, is_terminal });
-    print_tree_to(alloc, item, &mut out, &PrintConfig::default(alloc)?)?;
+    print_tree_to(alloc, item, &mut out, &config.value)?;
     expect_text(str::from_utf8(&out.into_inner().bytes)?, wanted)
 }

@@ -43,7 +43,7 @@ pub struct Limits {
     pub answer: Answer,
 }
 
-/// Accepts `room` bytes in all, at most `most` a call, and then gives its answer.
+/// Accepts `room` bytes in all, at most `most` a call, and then returns its answer.
 #[derive(Drop)]
 pub struct Failing {
     pub taken: Vec<u8>,

@@ -6,7 +6,7 @@ use ptree::value::DocError;
 use std::alloc::{AllocError, Global};
 
 /// Whether a call whose whole drawing is known leaves a prefix of it in a writer with these limits,
-/// and passes the writer's answer on.
+/// and returns the writer's answer as its own.
 pub fn leaves_prefix<F: Fn(&mut Counted<Failing>) -> Result<(), DrawError>>(
     alloc: Global,
     whole: &[u8],
@@ -23,7 +23,7 @@ pub fn leaves_prefix<F: Fn(&mut Counted<Failing>) -> Result<(), DrawError>>(
     Ok(answer.ends(&ended, room, whole.len()) && taken.as_slice() == prefix)
 }
 
-/// How a document's drawing ended. A refusal is none of a writer's answers.
+/// How a document's drawing ended. No writer's answer is a refusal.
 pub fn drawing_of(ended: Result<(), DocError>) -> Result<(), DrawError> {
     match ended {
         Ok(()) => Ok(()),

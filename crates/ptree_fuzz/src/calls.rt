@@ -14,7 +14,7 @@ use ptree_fixtures::deviation::{Deviation, expect};
 use ptree_fixtures::trees::plain;
 use std::alloc::{AllocError, Global};
 
-// What the program tells where words have no known form.
+// What the program writes on standard error for a usage error.
 const USAGE: &str =
     "usage: ptree_cli [--tty] (words ROOT [CHILD..] | json LABEL | toml LABEL | redraw)\n";
 
@@ -25,7 +25,7 @@ const HARD: [(&str, &str); 3] = [
     ("PTREE_INDENT", "18446744073709551615"),
 ];
 
-/// What a call is given beside its sources: the words behind `--tty`, and the input.
+/// What a call is given beside its sources: the words after `--tty`, and the input.
 #[derive(Drop)]
 pub struct Given {
     pub words: Vec<String>,
@@ -50,7 +50,7 @@ impl Answer {
         }
     }
 
-    // Nothing is drawn, and this is told.
+    // Nothing is drawn, and this is reported.
     fn refused(alloc: Global, status: u8, line: &'static str) -> Answer {
         Answer {
             drawn: Vec::new(alloc),

@@ -19,7 +19,7 @@ fn try_case(alloc: Global, dice: &mut Dice) -> Result<(), Deviation> {
     try_once(alloc, dice)
 }
 
-/// Tries so many cases of a seed. At the first broken rule it tells which case that was, and ends.
+/// Tries so many cases of a seed. At the first broken rule it reports the case, and ends.
 pub fn try_cases(rt: &HostRuntime, seed: u64, cases: u32) -> io::Result<()> {
     for case in 0..cases {
         let tried = try_case(rt.alloc(), &mut Dice::new(seed, u64::from(case)));

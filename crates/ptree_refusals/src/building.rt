@@ -1,14 +1,15 @@
-//! The calls of a builder.
+//! The calls of a builder. Those that change it are made once more on the same builder if they
+//! were refused memory.
 
 use crate::failure::Failure;
 use crate::trial::Trial;
 use ptree::TreeBuilder;
+use ptree::item::StringItem;
 use ptree::print_config::PrintConfig;
 use std::alloc::Global;
-use std::io::Write;
 
-/// Begins a child of the current item.
-pub fn begin_child(alloc: Global, builder: &mut TreeBuilder, text: &str) -> Result<(), Failure> {
+// Begins a child of the current item.
+fn begin_child(alloc: Global, builder: &mut TreeBuilder, text: &str) -> Result<(), Failure> {
     if builder.level() == u32::MAX {
         return Err(Failure::Other);
     }
@@ -42,7 +43,72 @@ fn add_at_level(
     Ok(builder.add_at_level(level, String::from_str(alloc, text)?)?)
 }
 
+/// A builder of a root.
+pub fn builder_of(alloc: Global, text: &str) -> Result<TreeBuilder, Failure> {
+    Ok(TreeBuilder::new(alloc, String::from_str(alloc, text)?))
+}
+
 impl Trial {
+    /// Begins a child of the current item.
+    pub fn begin_one(
+        &mut self,
+        alloc: Global,
+        builder: &mut TreeBuilder,
+        text: &str,
+    ) -> Result<(), Failure> {
+        match begin_child(alloc, builder, text) {
+            Err(Failure::Memory) => {
+                self.count_refusal();
+                begin_child(alloc, builder, text)
+            }
+            ended => ended,
+        }
+    }
+
+    // Adds a child without children to the current item.
+    fn add_one(
+        &mut self,
+        alloc: Global,
+        builder: &mut TreeBuilder,
+        text: &str,
+    ) -> Result<(), Failure> {
+        match add_child(alloc, builder, text) {
+            Err(Failure::Memory) => {
+                self.count_refusal();
+                add_child(alloc, builder, text)
+            }
+            ended => ended,
+        }
+    }
+
+    // Adds an item at a level.
+    fn add_leveled(
+        &mut self,
+        alloc: Global,
+        builder: &mut TreeBuilder,
+        level: u32,
+        text: &str,
+    ) -> Result<(), Failure> {
+        match add_at_level(alloc, builder, level, text) {
+            Err(Failure::Memory) => {
+                self.count_refusal();
+                add_at_level(alloc, builder, level, text)
+            }
+            ended => ended,
+        }
+    }
+
+    /// What a builder builds.
+    pub fn built(&mut self, builder: &mut TreeBuilder) -> Result<StringItem, Failure> {
+        match builder.build() {
+            Ok(tree) => Ok(tree),
+            Err(_) => {
+                self.count_refusal();
+                Ok(builder.build()?)
+            }
+        }
+    }
+
     // Begins children of the current item, each below the one before it.
     fn begin(
         &mut self,
@@ -51,14 +117,13 @@ impl Trial {
         texts: &[&str],
     ) -> Result<(), Failure> {
         for text in texts {
-            self.retried(|| begin_child(alloc, builder, text))?;
-            let level = builder.level();
-            writeln!(self.notes, "level {level}")?;
+            self.begin_one(alloc, builder, text)?;
+            self.note_number("level", builder.level() as usize)?;
         }
         Ok(())
     }
 
-    // Adds children without children to the current item.
+    /// Adds children without children to the current item.
     pub fn add(
         &mut self,
         alloc: Global,
@@ -66,11 +131,21 @@ impl Trial {
         texts: &[&str],
     ) -> Result<(), Failure> {
         for text in texts {
-            self.retried(|| add_child(alloc, builder, text))?;
-            let level = builder.level();
-            writeln!(self.notes, "level {level}")?;
+            self.add_one(alloc, builder, text)?;
+            self.note_number("level", builder.level() as usize)?;
         }
         Ok(())
+    }
+
+    // Notes a tree and its clone.
+    fn note_copies(
+        &mut self,
+        alloc: Global,
+        tree: &StringItem,
+        config: &PrintConfig,
+    ) -> Result<(), Failure> {
+        self.note_drawing(alloc, tree, config)?;
+        self.note_drawing(alloc, &tree.clone()?, config)
     }
 
     // Builds, and notes what was built and its clone.
@@ -80,10 +155,8 @@ impl Trial {
         builder: &mut TreeBuilder,
         config: &PrintConfig,
     ) -> Result<(), Failure> {
-        let tree = self.retried(|| Ok(builder.build()?))?;
-        self.note_drawing(alloc, &tree, config)?;
-        let clone = self.retried(|| Ok(tree.clone()?))?;
-        self.note_drawing(alloc, &clone, config)
+        let tree = self.built(builder)?;
+        self.note_copies(alloc, &tree, config)
     }
 
     // The calls of a builder of a root.
@@ -103,26 +176,28 @@ impl Trial {
         self.build(alloc, builder, config)
     }
 
-    // The calls of a builder and of items.
+    /// The calls of a builder and of items.
     pub fn call_builder(&mut self, alloc: Global, config: &PrintConfig) -> Result<(), Failure> {
-        let root = self.retried(|| Ok(String::from_str(alloc, "r")?))?;
-        let mut builder = TreeBuilder::new(alloc, root);
+        let mut builder = builder_of(alloc, "r")?;
         self.call_built(alloc, &mut builder, config)
     }
 
-    // Adds items by their levels.
-    fn add_levels(&mut self, alloc: Global, builder: &mut TreeBuilder) -> Result<(), Failure> {
+    // Adds items by their levels, and builds.
+    fn call_leveled(
+        &mut self,
+        alloc: Global,
+        builder: &mut TreeBuilder,
+        config: &PrintConfig,
+    ) -> Result<(), Failure> {
         for (level, text) in [(1, "a"), (2, "b"), (2, "c"), (1, "d"), (2, "e")] {
-            self.retried(|| add_at_level(alloc, builder, level, text))?;
+            self.add_leveled(alloc, builder, level, text)?;
         }
-        Ok(())
+        self.build(alloc, builder, config)
     }
 
-    // The calls of a builder by levels.
+    /// The calls of a builder by levels.
     pub fn call_levels(&mut self, alloc: Global, config: &PrintConfig) -> Result<(), Failure> {
-        let root = self.retried(|| Ok(String::from_str(alloc, "r")?))?;
-        let mut builder = TreeBuilder::new(alloc, root);
-        self.add_levels(alloc, &mut builder)?;
-        self.build(alloc, &mut builder, config)
+        let mut builder = builder_of(alloc, "r")?;
+        self.call_leveled(alloc, &mut builder, config)
     }
 }

@@ -64,66 +64,69 @@ fn toml_drawn(alloc: Global, sources: &Sources) -> Result<Vec<u8>, Failure> {
     entries_written(out, result, &TOML_ENTRIES)
 }
 
+// The value of the document in JSON.
+fn json_value(alloc: Global) -> Result<Value, Failure> {
+    let parsed = serde_json::Value::from_str(alloc, JSON)?;
+    Ok(Value::from_json(alloc, &parsed)?)
+}
+
+// The value of the document in TOML.
+fn toml_value(alloc: Global) -> Result<Value, Failure> {
+    let parsed = toml::Value::Table(toml::table_from_str(alloc, TOML)?);
+    Ok(Value::from_toml(alloc, &parsed)?)
+}
+
+// A value under a label.
+fn labelled(alloc: Global, value: Value) -> Result<(String, Value), Failure> {
+    Ok((String::from_str(alloc, "label")?, value))
+}
+
 impl Trial {
-    // Notes what is drawn of a value, of its copy, and of the two under a label.
+    // Notes what is drawn of a copy of a value.
+    fn note_copy(
+        &mut self,
+        alloc: Global,
+        value: &Value,
+        config: &PrintConfig,
+    ) -> Result<(), Failure> {
+        self.note_drawing(alloc, &value.clone()?, config)
+    }
+
+    // Notes what is drawn of a copy of a value, and of the value under a label.
     fn note_value(
         &mut self,
         alloc: Global,
         value: Value,
         config: &PrintConfig,
     ) -> Result<(), Failure> {
-        let copy = self.retried(|| Ok(value.clone()?))?;
-        self.note_drawing(alloc, &copy, config)?;
-        let label = self.retried(|| Ok(String::from_str(alloc, "label")?))?;
-        self.note_drawing(alloc, &(label, value), config)
+        self.note_copy(alloc, &value, config)?;
+        let pair = labelled(alloc, value)?;
+        self.note_drawing(alloc, &pair, config)
     }
 
-    // The calls of a value that no document has.
-    fn call_boxed(&mut self, alloc: Global, config: &PrintConfig) -> Result<(), Failure> {
-        let boxed = self.retried(|| Ok(boxed(alloc)?))?;
-        self.note_value(alloc, boxed, config)
+    /// The calls of a value that no document has.
+    pub fn call_boxed(&mut self, alloc: Global, config: &PrintConfig) -> Result<(), Failure> {
+        self.note_value(alloc, boxed(alloc)?, config)
     }
 
-    // The calls of the value of a document in JSON.
-    fn call_json(&mut self, alloc: Global, config: &PrintConfig) -> Result<(), Failure> {
-        let parsed = self.retried(|| Ok(serde_json::Value::from_str(alloc, JSON)?))?;
-        let value = self.retried(|| Ok(Value::from_json(alloc, &parsed)?))?;
-        self.note_value(alloc, value, config)
+    /// The calls of the value of a document in JSON.
+    pub fn call_json(&mut self, alloc: Global, config: &PrintConfig) -> Result<(), Failure> {
+        self.note_value(alloc, json_value(alloc)?, config)
     }
 
-    // The calls of the value of a document in TOML.
-    fn call_toml(&mut self, alloc: Global, config: &PrintConfig) -> Result<(), Failure> {
-        let table = self.retried(|| Ok(toml::table_from_str(alloc, TOML)?))?;
-        let parsed = toml::Value::Table(table);
-        let value = self.retried(|| Ok(Value::from_toml(alloc, &parsed)?))?;
-        self.note_value(alloc, value, config)
+    /// The calls of the value of a document in TOML.
+    pub fn call_toml(&mut self, alloc: Global, config: &PrintConfig) -> Result<(), Failure> {
+        self.note_value(alloc, toml_value(alloc)?, config)
     }
 
-    // The calls of values.
-    pub fn call_values(&mut self, alloc: Global, config: &PrintConfig) -> Result<(), Failure> {
-        self.call_boxed(alloc, config)?;
-        self.call_json(alloc, config)?;
-        self.call_toml(alloc, config)
+    /// The drawing of a document in JSON.
+    pub fn call_json_drawn(&mut self, alloc: Global, config: &PrintConfig) -> Result<(), Failure> {
+        self.note_bytes(json_drawn(alloc, config))
     }
 
-    // The drawing of a document in JSON.
-    fn call_json_drawn(&mut self, alloc: Global, config: &PrintConfig) -> Result<(), Failure> {
-        let drawing = self.retried(|| json_drawn(alloc, config))?;
-        self.notes.extend_from_slice(&drawing)?;
-        Ok(())
-    }
-
-    // The drawing of a document in TOML, under sources.
-    fn call_toml_drawn(&mut self, alloc: Global) -> Result<(), Failure> {
-        let sources = self.retried(|| Ok(sources(alloc, "", ("PTREE_INDENT", "4"))?))?;
-        let drawing = self.retried(|| toml_drawn(alloc, &sources))?;
-        self.notes.extend_from_slice(&drawing)?;
-        Ok(())
-    }
-
-    // The calls of documents.
-    pub fn call_documents(&mut self, alloc: Global, config: &PrintConfig) -> Result<(), Failure> {
-        self.call_json_drawn(alloc, config)?;
-        self.call_toml_drawn(alloc)
+    /// The drawing of a document in TOML, under sources.
+    pub fn call_toml_drawn(&mut self, alloc: Global) -> Result<(), Failure> {
+        let sources = sources(alloc, "", ("PTREE_INDENT", "4"))?;
+        self.note_bytes(toml_drawn(alloc, &sources))
     }
 }

@@ -9,7 +9,7 @@ use std::alloc::{AllocError, AllocFailed};
 use std::io;
 
 /// Why a call failed.
-#[derive(Drop)]
+#[derive(Clone, Copy)]
 pub enum Failure {
     Memory,
     Other,

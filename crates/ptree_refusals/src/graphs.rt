@@ -1,15 +1,31 @@
-//! The calls of graphs.
+//! The calls of graphs. Those that change one are made once more on the same graph if they were
+//! refused memory.
 
 use crate::failure::Failure;
 use crate::trial::{DEPTH, Trial};
 use crate::written::SHEET;
 use ptree::graph::{
-    Graph, Label, NodeIndex, REPEATED_MARK, write_graph_once_with, write_graph_with,
+    EdgeError, Graph, Label, NodeIndex, Occurrence, REPEATED_MARK, write_graph_once_with,
+    write_graph_with,
 };
 use ptree::print_config::PrintConfig;
 use ptree::style::Counted;
 use std::alloc::Global;
 use std::io::Write;
+
+// The edges that a graph of texts is given, in two calls.
+const EDGES: [[(NodeIndex, NodeIndex); 3]; 2] = [
+    [
+        (NodeIndex(0), NodeIndex(1)),
+        (NodeIndex(0), NodeIndex(2)),
+        (NodeIndex(1), NodeIndex(3)),
+    ],
+    [
+        (NodeIndex(0), NodeIndex(4)),
+        (NodeIndex(0), NodeIndex(3)),
+        (NodeIndex(2), NodeIndex(0)),
+    ],
+];
 
 /// What is drawn of a graph from its first node.
 pub fn graph_drawn<N: Label>(
@@ -33,7 +49,58 @@ fn graph_drawn_once<N: Label>(
     Ok(out.into_inner())
 }
 
+// Adds a node of this text to a graph.
+fn add_text(alloc: Global, graph: &mut Graph<String>, text: &str) -> Result<NodeIndex, Failure> {
+    Ok(graph.add_node(String::from_str(alloc, text)?)?)
+}
+
 impl Trial {
+    // Adds a node of this text to a graph.
+    fn add_node(
+        &mut self,
+        alloc: Global,
+        graph: &mut Graph<String>,
+        text: &str,
+    ) -> Result<NodeIndex, Failure> {
+        match add_text(alloc, graph, text) {
+            Err(Failure::Memory) => {
+                self.count_refusal();
+                add_text(alloc, graph, text)
+            }
+            ended => ended,
+        }
+    }
+
+    /// Adds a node of this weight to a graph.
+    pub fn add_weight<N: Copy>(
+        &mut self,
+        graph: &mut Graph<N>,
+        weight: N,
+    ) -> Result<NodeIndex, Failure> {
+        match graph.add_node(weight) {
+            Ok(node) => Ok(node),
+            Err(_) => {
+                self.count_refusal();
+                Ok(graph.add_node(weight)?)
+            }
+        }
+    }
+
+    /// Adds edges to a graph.
+    pub fn connect<N>(
+        &mut self,
+        graph: &mut Graph<N>,
+        edges: &[(NodeIndex, NodeIndex)],
+    ) -> Result<(), Failure> {
+        match graph.extend_with_edges(edges) {
+            Err(EdgeError::Memory) => {
+                self.count_refusal();
+                Ok(graph.extend_with_edges(edges)?)
+            }
+            ended => Ok(ended?),
+        }
+    }
+
     // Notes what is drawn of a graph.
     fn note_graph<N: Label>(
         &mut self,
@@ -41,36 +108,37 @@ impl Trial {
         graph: &Graph<N>,
         config: &PrintConfig,
     ) -> Result<(), Failure> {
-        let drawing = self.retried(|| graph_drawn(alloc, graph, config))?;
-        self.notes.extend_from_slice(&drawing)?;
-        let drawing = self.retried(|| graph_drawn_once(alloc, graph, config))?;
-        self.notes.extend_from_slice(&drawing)?;
-        Ok(())
+        self.note_bytes(graph_drawn(alloc, graph, config))?;
+        self.note_bytes(graph_drawn_once(alloc, graph, config))
     }
 
-    // Notes the neighbours of the first node.
-    fn note_neighbors(&mut self, graph: &Graph<String>) -> Result<(), Failure> {
-        let neighbors = self.retried(|| Ok(graph.neighbors(NodeIndex(0))?))?;
-        for neighbor in &neighbors {
-            writeln!(self.notes, "neighbour {}", neighbor.0)?;
+    // Notes the neighbours of a node.
+    fn note_neighbors(&mut self, neighbors: &[NodeIndex]) -> Result<(), Failure> {
+        for neighbor in neighbors {
+            self.note_number("neighbour", neighbor.0)?;
         }
         Ok(())
     }
 
-    // Notes the places of the graph from its first node, where each node is expanded once.
-    fn note_occurrences(&mut self, graph: &Graph<String>) -> Result<(), Failure> {
-        let first = self.retried(|| Ok(graph.expanded_once(NodeIndex(0), DEPTH)?))?;
+    // Notes the places of a graph where each node is expanded once.
+    fn note_occurrences(&mut self, first: &Occurrence) -> Result<(), Failure> {
         for place in &first.places {
             writeln!(self.notes, "occurrence {} {}", place.node.0, place.size)?;
         }
         Ok(())
     }
 
+    // Notes the neighbours of the first node, and the places of the graph from that node.
+    fn note_parts(&mut self, graph: &Graph<String>) -> Result<(), Failure> {
+        self.note_neighbors(&graph.neighbors(NodeIndex(0))?)?;
+        self.note_occurrences(&graph.expanded_once(NodeIndex(0), DEPTH)?)
+    }
+
     // Adds nodes to a graph.
     fn add_nodes(&mut self, alloc: Global, graph: &mut Graph<String>) -> Result<(), Failure> {
         for text in ["v", "w", "x", "y", "z"] {
-            let node = self.retried(|| Ok(graph.add_node(String::from_str(alloc, text)?)?))?;
-            writeln!(self.notes, "node {}", node.0)?;
+            let node = self.add_node(alloc, graph, text)?;
+            self.note_number("node", node.0)?;
         }
         Ok(())
     }
@@ -80,46 +148,48 @@ impl Trial {
         &mut self,
         alloc: Global,
         graph: &mut Graph<String>,
-        pairs: [(usize, usize); 3],
+        edges: &[(NodeIndex, NodeIndex)],
         config: &PrintConfig,
     ) -> Result<(), Failure> {
-        let edges = pairs.map(|(source, target)| (NodeIndex(source), NodeIndex(target)));
-        self.retried(|| Ok(graph.extend_with_edges(&edges)?))?;
-        self.note_neighbors(graph)?;
-        self.note_occurrences(graph)?;
+        self.connect(graph, edges)?;
+        self.note_parts(graph)?;
         self.note_graph(alloc, graph, config)
     }
 
-    // A graph of texts, each of its parts noted.
-    fn grown(&mut self, alloc: Global, config: &PrintConfig) -> Result<Graph<String>, Failure> {
-        let mut graph = Graph::new(alloc);
-        self.add_nodes(alloc, &mut graph)?;
-        for pairs in [[(0, 1), (0, 2), (1, 3)], [(0, 4), (0, 3), (2, 0)]] {
-            self.add_edges(alloc, &mut graph, pairs, config)?;
+    // Adds nodes and edges to a graph, each of its parts noted.
+    fn grow(
+        &mut self,
+        alloc: Global,
+        graph: &mut Graph<String>,
+        config: &PrintConfig,
+    ) -> Result<(), Failure> {
+        self.add_nodes(alloc, graph)?;
+        for edges in &EDGES {
+            self.add_edges(alloc, graph, edges, config)?;
         }
-        Ok(graph)
+        Ok(())
     }
 
-    // The calls of a graph of texts.
+    /// The calls of a graph of texts.
     pub fn call_graph(&mut self, alloc: Global, config: &PrintConfig) -> Result<(), Failure> {
-        let graph = self.grown(alloc, config)?;
+        let mut graph = Graph::new(alloc);
+        self.grow(alloc, &mut graph, config)?;
         self.note_graph(alloc, &graph.reversed(), config)
     }
 
-    // A chain of numbers.
-    fn numbers(&mut self, alloc: Global) -> Result<Graph<u64>, Failure> {
-        let mut graph = Graph::new(alloc);
+    // Makes a chain of numbers.
+    fn add_numbers(&mut self, graph: &mut Graph<u64>) -> Result<(), Failure> {
         for number in [1u64, 22, 333] {
-            self.retried(|| Ok(graph.add_node(number)?))?;
+            self.add_weight(graph, number)?;
         }
         let edges = [(NodeIndex(0), NodeIndex(1)), (NodeIndex(1), NodeIndex(2))];
-        self.retried(|| Ok(graph.extend_with_edges(&edges)?))?;
-        Ok(graph)
+        self.connect(graph, &edges)
     }
 
-    // The drawing of a graph of numbers, whose texts take memory.
+    /// The drawing of a graph of numbers, whose texts take memory.
     pub fn call_numbers(&mut self, alloc: Global, config: &PrintConfig) -> Result<(), Failure> {
-        let graph = self.numbers(alloc)?;
+        let mut graph = Graph::new(alloc);
+        self.add_numbers(&mut graph)?;
         self.note_graph(alloc, &graph, config)
     }
 }

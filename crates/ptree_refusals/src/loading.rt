@@ -7,8 +7,11 @@ use ptree::TreeBuilder;
 use ptree::graph::{Graph, NodeIndex, REPEATED_MARK, print_graph, print_graph_once};
 use ptree::item::StringItem;
 use ptree::output::{print_tree, write_tree};
-use ptree::print_config::{FileSource, PrintConfig, Sources, first_fault, load, syntax_line};
+use ptree::print_config::{
+    Fault, FileSource, PrintConfig, Sources, faults, first_fault, load, syntax_line,
+};
 use ptree::style::Counted;
+use ptree_fixtures::held::hold;
 use std::alloc::{AllocError, Global};
 use std::io::Write;
 
@@ -80,8 +83,7 @@ fn small_graph(alloc: Global) -> Result<Graph<&'static str>, Failure> {
 // The same with an edge from the second node to the first, and one from the third to the second.
 fn cyclic_graph(alloc: Global) -> Result<Graph<&'static str>, Failure> {
     let mut graph = small_graph(alloc)?;
-    let [r, a, b] = [0, 1, 2].map(NodeIndex);
-    graph.extend_with_edges(&[(a, r), (b, a)])?;
+    graph.extend_with_edges(&[(NodeIndex(1), NodeIndex(0)), (NodeIndex(2), NodeIndex(1))])?;
     Ok(graph)
 }
 
@@ -130,28 +132,39 @@ impl Trial {
         tree: &StringItem,
         sources: &Sources,
     ) -> Result<(), Failure> {
-        match self.retried(|| Ok(load(alloc, sources)?))? {
+        match load(alloc, sources)? {
             Some(config) => self.note_drawing(alloc, tree, &config),
             None => self.note("nothing is loaded"),
         }
     }
 
-    // Notes the first fault of sources.
-    fn note_fault(&mut self, alloc: Global, sources: &Sources) -> Result<(), Failure> {
-        match self.retried(|| Ok(first_fault(alloc, sources)?))? {
-            Some(fault) => writeln!(self.notes, "{fault}")?,
-            None => self.note("no fault")?,
+    // Notes a fault of sources.
+    fn note_fault(&mut self, fault: &Fault) -> Result<(), Failure> {
+        Ok(writeln!(self.notes, "{fault}")?)
+    }
+
+    // Notes faults of sources.
+    fn note_faults(&mut self, faults: &[Fault]) -> Result<(), Failure> {
+        for fault in faults {
+            self.note_fault(fault)?;
         }
         Ok(())
     }
 
-    // Notes the wrong line of a file.
-    fn note_line(&mut self, alloc: Global, file: &FileSource) -> Result<(), Failure> {
-        match self.retried(|| Ok(syntax_line(alloc, file)?))? {
-            Some(line) => writeln!(self.notes, "line {line}")?,
-            None => self.note("no bad line")?,
+    // Notes the first fault of sources.
+    fn note_first(&mut self, first: Option<Fault>) -> Result<(), Failure> {
+        match first {
+            Some(fault) => self.note_fault(&fault),
+            None => self.note("no fault"),
         }
-        Ok(())
+    }
+
+    // Notes the wrong line of a file.
+    fn note_line(&mut self, line: Option<usize>) -> Result<(), Failure> {
+        match line {
+            Some(line) => self.note_number("line", line),
+            None => self.note("no bad line"),
+        }
     }
 
     // Notes the drawing of a tree under what `from_env` returns.
@@ -161,63 +174,68 @@ impl Trial {
         tree: &StringItem,
         sources: &Sources,
     ) -> Result<(), Failure> {
-        let config = self.retried(|| Ok(PrintConfig::from_env(alloc, sources)?))?;
-        self.note_drawing(alloc, tree, &config)
+        let config = hold(PrintConfig::from_env(alloc, sources))?;
+        self.note_drawing(alloc, tree, &config.value)
     }
 
-    // Notes what is loaded of sources, their first fault, and what `from_env` returns.
-    fn note_sources(&mut self, alloc: Global, sources: &Sources) -> Result<(), Failure> {
-        let tree = self.retried(|| Ok(small(alloc)?))?;
-        self.note_loaded(alloc, &tree, sources)?;
-        self.note_fault(alloc, sources)?;
-        self.note_line(alloc, &sources.file)?;
-        self.note_found(alloc, &tree, sources)
+    // Notes the first fault of sources and all of them, and the wrong line of their file.
+    fn note_wrong(&mut self, alloc: Global, sources: &Sources) -> Result<(), Failure> {
+        self.note_first(first_fault(alloc, sources)?)?;
+        self.note_faults(&faults(alloc, sources)?)?;
+        self.note_line(syntax_line(alloc, &sources.file)?)
+    }
+
+    // Notes what is loaded of sources, their faults, and what `from_env` returns.
+    fn note_sources(
+        &mut self,
+        alloc: Global,
+        tree: &StringItem,
+        sources: &Sources,
+    ) -> Result<(), Failure> {
+        self.note_loaded(alloc, tree, sources)?;
+        self.note_wrong(alloc, sources)?;
+        self.note_found(alloc, tree, sources)
+    }
+
+    // The calls of sources.
+    fn call_sources(&mut self, alloc: Global, sources: &Sources) -> Result<(), Failure> {
+        let tree = small(alloc)?;
+        self.note_sources(alloc, &tree, sources)
     }
 
     // The calls that draw a tree under sources.
-    fn call_trees_under(&mut self, alloc: Global, sources: &Sources) -> Result<(), Failure> {
-        let tree = self.retried(|| Ok(small(alloc)?))?;
-        let written = self.retried(|| tree_written(alloc, &tree, sources))?;
-        self.notes.extend_from_slice(&written)?;
-        let printed = self.retried(|| tree_printed(alloc, &tree, sources))?;
-        self.notes.extend_from_slice(&printed)?;
-        Ok(())
+    fn draw_tree(
+        &mut self,
+        alloc: Global,
+        tree: &StringItem,
+        sources: &Sources,
+    ) -> Result<(), Failure> {
+        self.note_bytes(tree_written(alloc, tree, sources))?;
+        self.note_bytes(tree_printed(alloc, tree, sources))
     }
 
-    // The call that draws a graph under sources.
-    fn call_graph_under(&mut self, alloc: Global, sources: &Sources) -> Result<(), Failure> {
-        let graph = self.retried(|| small_graph(alloc))?;
-        let printed = self.retried(|| graph_printed(alloc, &graph, sources))?;
-        self.notes.extend_from_slice(&printed)?;
-        Ok(())
+    // The calls that draw trees and graphs under sources.
+    fn draw_all(&mut self, alloc: Global, sources: &Sources) -> Result<(), Failure> {
+        self.draw_tree(alloc, &small(alloc)?, sources)?;
+        self.note_bytes(graph_printed(alloc, &small_graph(alloc)?, sources))?;
+        self.note_bytes(graph_printed_once(alloc, &cyclic_graph(alloc)?, sources))
     }
 
-    // The call that draws a graph under sources, each node expanded once.
-    fn call_once_under(&mut self, alloc: Global, sources: &Sources) -> Result<(), Failure> {
-        let cyclic = self.retried(|| cyclic_graph(alloc))?;
-        let printed = self.retried(|| graph_printed_once(alloc, &cyclic, sources))?;
-        self.notes.extend_from_slice(&printed)?;
-        Ok(())
+    /// The calls of sources with a fault.
+    pub fn call_faulty(&mut self, alloc: Global) -> Result<(), Failure> {
+        let faulty = sources(alloc, FAULTY, VARIABLE)?;
+        self.call_sources(alloc, &faulty)
     }
 
-    // The calls of sources with a fault.
-    fn call_faulty(&mut self, alloc: Global) -> Result<(), Failure> {
-        let faulty = self.retried(|| Ok(sources(alloc, FAULTY, VARIABLE)?))?;
-        self.note_sources(alloc, &faulty)
+    /// The calls of sources without a fault.
+    pub fn call_good(&mut self, alloc: Global) -> Result<(), Failure> {
+        let good = sources(alloc, FILE, VARIABLE)?;
+        self.call_sources(alloc, &good)
     }
 
-    // The calls of sources without a fault.
-    fn call_good(&mut self, alloc: Global) -> Result<(), Failure> {
-        let good = self.retried(|| Ok(sources(alloc, FILE, VARIABLE)?))?;
-        self.note_sources(alloc, &good)?;
-        self.call_trees_under(alloc, &good)?;
-        self.call_graph_under(alloc, &good)?;
-        self.call_once_under(alloc, &good)
-    }
-
-    // The calls of configurations that are loaded.
-    pub fn call_loader(&mut self, alloc: Global) -> Result<(), Failure> {
-        self.call_faulty(alloc)?;
-        self.call_good(alloc)
+    /// The drawings under sources.
+    pub fn call_under(&mut self, alloc: Global) -> Result<(), Failure> {
+        let good = sources(alloc, FILE, VARIABLE)?;
+        self.draw_all(alloc, &good)
     }
 }

@@ -1,7 +1,7 @@
 //! Calls of trees and items that are made without a builder, whose answers are written here.
 
 use crate::failure::{Failure, expect};
-use crate::trial::Trial;
+use crate::rows::{expect_bytes, expect_text};
 use crate::written::SHEET;
 use ptree::buffered::Buffered;
 use ptree::item::{Root, StringItem};
@@ -12,6 +12,7 @@ use ptree::style::{Counted, put_all};
 use ptree_callers::own_types::{
     Folder, Halved, Volume, drawing_of_folder, drawing_of_halved, drawing_of_volume,
 };
+use ptree_fixtures::held::hold;
 use ptree_fixtures::screen::Screen;
 use ptree_fixtures::trees::{leaf, over, over_leaves};
 use std::alloc::{AllocError, Global};
@@ -72,110 +73,93 @@ fn volume(alloc: Global) -> Result<Volume, AllocError> {
     })
 }
 
-impl Trial {
-    // That all calls that draw a tree give this text, under what another program draws with.
-    fn expect_everywhere(
-        &mut self,
-        alloc: Global,
-        tree: &StringItem,
-        wanted: &str,
-    ) -> Result<(), Failure> {
-        let findmnt = self.retried(|| Ok(Preset::Findmnt.config(alloc)?))?;
-        let bytes = self.retried(|| Ok(tree_bytes(alloc, tree, &findmnt)?))?;
-        expect(bytes.as_slice() == wanted.as_bytes())?;
-        let text = self.retried(|| Ok(tree.drawing(alloc, &findmnt)?))?;
-        expect(text.as_str() == wanted)?;
-        let printed = self.retried(|| printed(alloc, tree, &findmnt))?;
-        expect(printed.as_slice() == wanted.as_bytes())
-    }
+// That all calls that draw a tree under a configuration give this text.
+fn expect_everywhere(
+    alloc: Global,
+    tree: &StringItem,
+    config: &PrintConfig,
+    wanted: &str,
+) -> Result<(), Failure> {
+    expect_bytes(tree_bytes(alloc, tree, config), wanted)?;
+    expect_text(tree.drawing(alloc, config), wanted)?;
+    expect_bytes(printed(alloc, tree, config), wanted)
+}
 
-    // That a tree has so many items.
-    fn expect_items(
-        &mut self,
-        alloc: Global,
-        tree: &StringItem,
-        count: usize,
-    ) -> Result<(), Failure> {
-        let items = self.retried(|| Ok(tree.items(alloc)?))?;
-        expect(items.len() == count)
-    }
+// The same under what another program draws with.
+fn expect_findmnt(alloc: Global, tree: &StringItem, wanted: &str) -> Result<(), Failure> {
+    let findmnt = hold(Preset::Findmnt.config(alloc))?;
+    expect_everywhere(alloc, tree, &findmnt.value, wanted)
+}
 
-    // A tree over a copy of a leaf and another one.
-    fn own_tree(&mut self, alloc: Global) -> Result<StringItem, Failure> {
-        let leaf = self.retried(|| Ok(StringItem::leaf(alloc, "a\nb")?))?;
-        self.retried(|| Ok(over_two(alloc, &leaf)?))
-    }
+// That a tree has so many items.
+fn expect_items(alloc: Global, tree: &StringItem, count: usize) -> Result<(), Failure> {
+    expect(tree.items(alloc)?.len() == count)
+}
 
-    // A tree that is made without a builder, its items and its drawings.
-    fn call_tree_alone(&mut self, alloc: Global) -> Result<(), Failure> {
-        let tree = self.own_tree(alloc)?;
-        self.expect_items(alloc, &tree, 3)?;
-        self.expect_everywhere(alloc, &tree, "r\n├─a\n│ : b\n└─c\n")
-    }
+// A tree over a copy of a leaf and another one.
+fn own_tree(alloc: Global) -> Result<StringItem, AllocError> {
+    let leaf = StringItem::leaf(alloc, "a\nb")?;
+    over_two(alloc, &leaf)
+}
 
-    // A root over lent items.
-    fn call_volume(&mut self, alloc: Global, config: &PrintConfig) -> Result<(), Failure> {
-        let volume = self.retried(|| Ok(volume(alloc)?))?;
-        let drawing = self.retried(|| Ok(drawing_of_volume(alloc, &volume, config)?))?;
-        expect(drawing.as_slice() == "disk\n└─ a\n   └─ b\n".as_bytes())
-    }
+/// A tree that is made without a builder, its items and its drawings.
+pub fn call_tree_alone(alloc: Global) -> Result<(), Failure> {
+    let tree = own_tree(alloc)?;
+    expect_items(alloc, &tree, 3)?;
+    expect_findmnt(alloc, &tree, "r\n├─a\n│ : b\n└─c\n")
+}
 
-    // Lent items.
-    fn call_folder(&mut self, alloc: Global, config: &PrintConfig) -> Result<(), Failure> {
-        let folder = self.retried(|| Ok(over_folder(alloc, "c")?))?;
-        let drawing = self.retried(|| Ok(drawing_of_folder(alloc, &folder, config)?))?;
-        expect(drawing.as_slice() == "c\n└─ b\n".as_bytes())
-    }
+// A root over lent items.
+fn call_volume(alloc: Global, config: &PrintConfig) -> Result<(), Failure> {
+    let volume = volume(alloc)?;
+    let drawing = drawing_of_volume(alloc, &volume, config);
+    expect_bytes(drawing, "disk\n└─ a\n   └─ b\n")
+}
 
-    // Made items.
-    fn call_halved(&mut self, alloc: Global, config: &PrintConfig) -> Result<(), Failure> {
-        let drawing = self.retried(|| Ok(drawing_of_halved(alloc, Halved(3), config)?))?;
-        expect(drawing.as_slice() == "3\n├─ 1\n└─ 2\n   ├─ 1\n   └─ 1\n".as_bytes())
-    }
+// Lent items.
+fn call_folder(alloc: Global, config: &PrintConfig) -> Result<(), Failure> {
+    let folder = over_folder(alloc, "c")?;
+    expect_bytes(drawing_of_folder(alloc, &folder, config), "c\n└─ b\n")
+}
 
-    // Items of other types.
-    fn call_types(&mut self, alloc: Global) -> Result<(), Failure> {
-        let config = self.retried(|| Ok(PrintConfig::default(alloc)?))?;
-        self.call_volume(alloc, &config)?;
-        self.call_folder(alloc, &config)?;
-        self.call_halved(alloc, &config)
-    }
+// Made items.
+fn call_halved(alloc: Global, config: &PrintConfig) -> Result<(), Failure> {
+    let drawing = drawing_of_halved(alloc, Halved(3), config);
+    expect_bytes(drawing, "3\n├─ 1\n└─ 2\n   ├─ 1\n   └─ 1\n")
+}
 
-    // That the drawing of a text over items is this text.
-    fn expect_root(
-        &mut self,
-        alloc: Global,
-        below: &[StringItem],
-        wanted: &str,
-    ) -> Result<(), Failure> {
-        let config = self.retried(|| Ok(PrintConfig::default(alloc)?))?;
-        let root = Root {
-            text: "top",
-            children: below,
-        };
-        let Some(text) = self.retried(|| Ok(tree_text(alloc, &root, &config)?))? else {
-            return Err(Failure::Other);
-        };
-        expect(text.as_str() == wanted)
-    }
+/// Items of other types.
+pub fn call_types(alloc: Global) -> Result<(), Failure> {
+    let config = hold(PrintConfig::default(alloc))?;
+    call_volume(alloc, &config.value)?;
+    call_folder(alloc, &config.value)?;
+    call_halved(alloc, &config.value)
+}
 
-    // A text over a tree.
-    fn call_root(&mut self, alloc: Global) -> Result<(), Failure> {
-        let below = self.retried(|| Ok(vec![in alloc; branched(alloc)?]?))?;
-        self.expect_root(alloc, &below, "top\n└─ r\n   ├─ a\n   │  └─ b\n   └─ c\n")
+// What is drawn of a text over items.
+fn root_text(alloc: Global, below: &[StringItem]) -> Result<String, Failure> {
+    let config = hold(PrintConfig::default(alloc))?;
+    let root = Root {
+        text: "top",
+        children: below,
+    };
+    match tree_text(alloc, &root, &config.value)? {
+        Some(text) => Ok(text),
+        None => Err(Failure::Other),
     }
+}
 
-    // Bytes that go through a buffer.
-    fn call_buffer(&mut self, alloc: Global) -> Result<(), Failure> {
-        let bytes = self.retried(|| passed_on(alloc, &[b"ab", b"cde", b"fghijk", b"l"]))?;
-        expect(bytes.as_slice() == b"abcdefghijkl".as_slice())
-    }
+/// A text over a tree.
+pub fn call_root(alloc: Global) -> Result<(), Failure> {
+    let below = vec![in alloc; branched(alloc)?]?;
+    let wanted = "top\n└─ r\n   ├─ a\n   │  └─ b\n   └─ c\n";
+    expect_text(root_text(alloc, &below), wanted)
+}
 
-    /// All of them.
-    pub fn call_own(&mut self, alloc: Global) -> Result<(), Failure> {
-        self.call_tree_alone(alloc)?;
-        self.call_root(alloc)?;
-        self.call_buffer(alloc)?;
-        self.call_types(alloc)
-    }
+/// Bytes that go through a buffer.
+pub fn call_buffer(alloc: Global) -> Result<(), Failure> {
+    expect_bytes(
+        passed_on(alloc, &[b"ab", b"cde", b"fghijk", b"l"]),
+        "abcdefghijkl",
+    )
 }

@@ -9,7 +9,6 @@ use ptree::print_config::PrintConfig;
 use ptree::read::{ReadError, pieces_readable, read_tree, read_tree_or_line};
 use ptree::style::Counted;
 use std::alloc::Global;
-use std::io::Write;
 
 // What is read back.
 const TEXT: &str = "r\n├─ a\n│  ├─ b\n│  └─ c\n├─ d\n└─ e\n";
@@ -23,18 +22,17 @@ const ENTRIES: [&str; 4] = [
 ];
 
 /// The tree whose drawing the text is.
-pub fn read(
-    alloc: Global,
-    text: &str,
-    config: &PrintConfig,
-) -> Result<Option<StringItem>, Failure> {
+pub fn read(alloc: Global, text: &str, config: &PrintConfig) -> Result<StringItem, Failure> {
     if !pieces_readable(alloc, config)? {
-        return Ok(None);
+        return Err(Failure::Other);
     }
-    Ok(read_tree(alloc, text, config)?)
+    match read_tree(alloc, text, config)? {
+        Some(tree) => Ok(tree),
+        None => Err(Failure::Other),
+    }
 }
 
-/// The first line of a text that no drawing goes on with.
+/// The first line of a text that cannot continue a drawing.
 pub fn wrong_line(alloc: Global, text: &str, config: &PrintConfig) -> Result<usize, Failure> {
     if !pieces_readable(alloc, config)? {
         return Err(Failure::Other);
@@ -70,27 +68,33 @@ fn read_by_lines(alloc: Global, text: &str, config: &PrintConfig) -> Result<Stri
 }
 
 impl Trial {
-    // The calls of the reader.
+    /// The calls of the reader.
     pub fn call_reader(&mut self, alloc: Global, config: &PrintConfig) -> Result<(), Failure> {
         self.note_pieces(alloc, config)?;
-        let readable = self.retried(|| Ok(pieces_readable(alloc, config)?))?;
-        writeln!(self.notes, "readable: {readable}")?;
-        match self.retried(|| read(alloc, TEXT, config))? {
-            Some(tree) => self.note_drawing(alloc, &tree, config)?,
-            None => return Err(Failure::Other),
-        }
-        let tree = self.retried(|| read_by_lines(alloc, TEXT, config))?;
-        self.note_drawing(alloc, &tree, config)
+        let readable = pieces_readable(alloc, config)?;
+        self.note(if readable {
+            "readable: true"
+        } else {
+            "readable: false"
+        })?;
+        self.note_tree(alloc, read(alloc, TEXT, config), config)?;
+        self.note_tree(alloc, read_by_lines(alloc, TEXT, config), config)
     }
 
-    // The reading and the drawing of texts of several lines.
+    // The reading and the drawing of a text of several lines.
+    fn note_entries(
+        &mut self,
+        alloc: Global,
+        text: &str,
+        config: &PrintConfig,
+    ) -> Result<(), Failure> {
+        let tree = read(alloc, text, config)?;
+        self.note_bytes(entries_drawn(alloc, &tree, config))
+    }
+
+    /// The reading and the drawing of texts of several lines.
     pub fn call_lines(&mut self, alloc: Global, config: &PrintConfig) -> Result<(), Failure> {
-        let text = self.retried(|| Ok(ENTRIES.concat(alloc)?))?;
-        let Some(tree) = self.retried(|| read(alloc, text.as_str(), config))? else {
-            return Err(Failure::Other);
-        };
-        let drawing = self.retried(|| entries_drawn(alloc, &tree, config))?;
-        self.notes.extend_from_slice(&drawing)?;
-        Ok(())
+        let text = ENTRIES.concat(alloc)?;
+        self.note_entries(alloc, text.as_str(), config)
     }
 }

@@ -5,6 +5,7 @@ use crate::trial::{DEPTH, Trial};
 use ptree::output::Indent;
 use ptree::print_config::{IndentChars, PrintConfig, StyleWhen, UTF_CHARS_BOLD, UTF_CHARS_DOUBLE};
 use ptree::style::{Color, Style};
+use ptree_fixtures::held::{Held, hold};
 use std::alloc::{AllocError, Global};
 use std::io::Write;
 
@@ -15,90 +16,93 @@ fn named(alloc: Global, name: &str) -> Result<Style, AllocError> {
     Ok(style)
 }
 
-/// A configuration whose colours take memory.
-pub fn colored(alloc: Global) -> Result<PrintConfig, Failure> {
-    let mut config = PrintConfig::default(alloc)?;
-    config.styled = StyleWhen::Always;
-    config.depth = DEPTH;
-    config.characters = IndentChars::from_static(alloc, UTF_CHARS_DOUBLE)?;
+// The two styles of a configuration whose colours take memory.
+fn set_styles(alloc: Global, config: &mut PrintConfig) -> Result<(), AllocError> {
     config.branch = named(alloc, "SteelBlue")?;
     config.leaf = named(alloc, "#fed009")?;
     config.leaf.background = Some(Color::Named(String::from_str(alloc, "navy")?));
+    Ok(())
+}
+
+/// A configuration whose colours take memory.
+pub fn colored(alloc: Global) -> Result<Held<PrintConfig>, AllocError> {
+    let mut config = hold(PrintConfig::default(alloc))?;
+    config.value.styled = StyleWhen::Always;
+    config.value.depth = DEPTH;
+    config.value.characters = IndentChars::from_static(alloc, UTF_CHARS_DOUBLE)?;
+    set_styles(alloc, &mut config.value)?;
     Ok(config)
 }
 
 impl Trial {
     // Notes pieces.
-    fn note_indent(&mut self, indent: &Indent) -> Result<(), Failure> {
-        self.note(indent.regular_prefix.as_str())?;
-        self.note(indent.child_prefix.as_str())?;
-        self.note(indent.last_regular_prefix.as_str())?;
-        self.note(indent.last_child_prefix.as_str())
+    fn note_indent(&mut self, indent: Result<Indent, AllocError>) -> Result<(), Failure> {
+        let indent = indent?;
+        self.note_all(&[
+            indent.regular_prefix.as_str(),
+            indent.child_prefix.as_str(),
+            indent.last_regular_prefix.as_str(),
+            indent.last_child_prefix.as_str(),
+        ])
     }
 
-    // Notes the pieces of a configuration.
+    // Notes a text that a call returned.
+    fn note_text(&mut self, text: Result<String, AllocError>) -> Result<(), Failure> {
+        self.note(text?.as_str())
+    }
+
+    /// Notes the pieces of a configuration.
     pub fn note_pieces(&mut self, alloc: Global, config: &PrintConfig) -> Result<(), Failure> {
-        let indent = self.retried(|| Ok(Indent::from_config(alloc, config)?))?;
-        self.note_indent(&indent)
+        self.note_indent(Indent::from_config(alloc, config))
     }
 
-    // The call that makes pieces of characters.
-    fn call_wide(&mut self, alloc: Global, bold: &IndentChars) -> Result<(), Failure> {
-        let indent = self.retried(|| Ok(Indent::from_characters(alloc, 4, bold)?))?;
-        self.note_indent(&indent)
-    }
-
-    // The same with a padding.
-    fn call_padded(&mut self, alloc: Global, bold: &IndentChars) -> Result<(), Failure> {
-        let padded = self.retried(|| {
-            Ok(Indent::from_characters_and_padding(alloc, 5, 2, bold)?)
-        })?;
-        self.note_indent(&padded)
-    }
-
-    // The calls that make pieces of characters.
+    /// The calls that make pieces of characters.
     pub fn call_pieces(&mut self, alloc: Global) -> Result<(), Failure> {
-        let bold = self.retried(|| Ok(IndentChars::from_static(alloc, UTF_CHARS_BOLD)?))?;
-        self.call_wide(alloc, &bold)?;
-        self.call_padded(alloc, &bold)
+        let bold = hold(IndentChars::from_static(alloc, UTF_CHARS_BOLD))?;
+        self.note_indent(Indent::from_characters(alloc, 4, &bold.value))?;
+        self.note_indent(Indent::from_characters_and_padding(alloc, 5, 2, &bold.value))
     }
 
     // Notes characters.
     fn note_characters(&mut self, characters: &IndentChars) -> Result<(), Failure> {
-        self.note(characters.down_and_right.as_str())?;
-        self.note(characters.down.as_str())?;
-        self.note(characters.turn_right.as_str())?;
-        self.note(characters.right.as_str())
+        self.note_all(&[
+            characters.down_and_right.as_str(),
+            characters.down.as_str(),
+            characters.turn_right.as_str(),
+            characters.right.as_str(),
+        ])
     }
 
     // Notes a copy of characters, and whether both ways to make them give the same.
-    fn note_copy(&mut self, bold: &IndentChars, named: &IndentChars) -> Result<(), Failure> {
-        let copy = self.retried(|| Ok(bold.clone()?))?;
-        writeln!(self.notes, "{} {}", *bold == *named, *bold == copy)?;
-        self.note_characters(&copy)
+    fn note_set(&mut self, bold: &IndentChars, named: &IndentChars) -> Result<(), Failure> {
+        let copy = hold(bold.clone())?;
+        writeln!(self.notes, "{} {}", *bold == *named, *bold == copy.value)?;
+        self.note_characters(&copy.value)
     }
 
     // The calls of a set of characters by its name, beside one that was made.
     fn call_named(&mut self, alloc: Global, bold: &IndentChars) -> Result<(), Failure> {
-        let named = self.retried(|| Ok(IndentChars::from_name(alloc, "utf-bold")?))?;
-        self.note_copy(bold, &named)
+        let named = hold(IndentChars::from_name(alloc, "utf-bold"))?;
+        self.note_set(bold, &named.value)
     }
 
-    // The calls of sets of characters.
+    /// The calls of sets of characters.
     pub fn call_characters(&mut self, alloc: Global) -> Result<(), Failure> {
-        let bold = self.retried(|| Ok(IndentChars::from_static(alloc, UTF_CHARS_BOLD)?))?;
-        self.call_named(alloc, &bold)
+        let bold = hold(IndentChars::from_static(alloc, UTF_CHARS_BOLD))?;
+        self.call_named(alloc, &bold.value)
     }
 
-    // The calls of styles.
+    // The calls of a style.
+    fn call_style(&mut self, alloc: Global, leaf: &Style) -> Result<(), Failure> {
+        let style = hold(leaf.clone())?;
+        self.note_flag(style.value == *leaf)?;
+        self.note_text(style.value.paint(alloc, "painted"))
+    }
+
+    /// The calls of styles.
     pub fn call_styles(&mut self, alloc: Global, config: &PrintConfig) -> Result<(), Failure> {
-        let style = self.retried(|| Ok(config.leaf.clone()?))?;
-        writeln!(self.notes, "{}", style == config.leaf)?;
-        let painted = self.retried(|| Ok(style.paint(alloc, "painted")?))?;
-        self.note(painted.as_str())?;
-        let branch = self.retried(|| Ok(config.paint_branch(alloc, "branch")?))?;
-        self.note(branch.as_str())?;
-        let leaf = self.retried(|| Ok(config.paint_leaf(alloc, "leaf")?))?;
-        self.note(leaf.as_str())
+        self.call_style(alloc, &config.leaf)?;
+        self.note_text(config.paint_branch(alloc, "branch"))?;
+        self.note_text(config.paint_leaf(alloc, "leaf"))
     }
 }

@@ -1,8 +1,8 @@
-//! Calls that are made once more if they were refused memory, and what they returned.
+//! What the calls returned, and how many of them were refused memory.
 
 use crate::failure::Failure;
 use crate::written::drawn;
-use ptree::item::TreeItem;
+use ptree::item::{StringItem, TreeItem};
 use ptree::print_config::PrintConfig;
 use std::alloc::Global;
 use std::io::Write;
@@ -18,25 +18,39 @@ pub struct Trial {
 }
 
 impl Trial {
-    /// What a call returns. Where it was refused memory, it is made once more.
-    pub fn retried<T: Drop, F: FnMut() -> Result<T, Failure>>(
-        &mut self,
-        mut call: F,
-    ) -> Result<T, Failure>
-        requires { F.IsAlwaysCallable call }
-    {
-        match call() {
-            Err(Failure::Memory) => {
-                self.refused = self.refused.saturating_add(1);
-                call()
-            }
-            answer => answer,
-        }
+    /// Counts a call that was refused memory.
+    pub fn count_refusal(&mut self) {
+        self.refused = self.refused.saturating_add(1);
     }
 
     /// Notes a text.
     pub fn note(&mut self, text: &str) -> Result<(), Failure> {
-        writeln!(self.notes, "{text}")?;
+        self.notes.extend_from_slice(text.as_bytes())?;
+        self.notes.push(b'\n')?;
+        Ok(())
+    }
+
+    /// Notes texts.
+    pub fn note_all(&mut self, texts: &[&str]) -> Result<(), Failure> {
+        for text in texts {
+            self.note(text)?;
+        }
+        Ok(())
+    }
+
+    /// Notes whether something holds.
+    pub fn note_flag(&mut self, holds: bool) -> Result<(), Failure> {
+        self.note(if holds { "true" } else { "false" })
+    }
+
+    /// Notes a number under a name.
+    pub fn note_number(&mut self, name: &str, number: usize) -> Result<(), Failure> {
+        Ok(writeln!(self.notes, "{name} {number}")?)
+    }
+
+    /// Notes bytes that a call wrote.
+    pub fn note_bytes(&mut self, bytes: Result<Vec<u8>, Failure>) -> Result<(), Failure> {
+        self.notes.extend_from_slice(&bytes?)?;
         Ok(())
     }
 
@@ -51,8 +65,16 @@ impl Trial {
         T: TreeItem,
         T::Child: TreeItem<Child = T::Child> + Drop,
     {
-        let drawing = self.retried(|| drawn(alloc, item, config))?;
-        self.notes.extend_from_slice(&drawing)?;
-        Ok(())
+        self.note_bytes(drawn(alloc, item, config))
+    }
+
+    /// Notes what is drawn of a tree that a call returned.
+    pub fn note_tree(
+        &mut self,
+        alloc: Global,
+        tree: Result<StringItem, Failure>,
+        config: &PrintConfig,
+    ) -> Result<(), Failure> {
+        self.note_drawing(alloc, &tree?, config)
     }
 }

@@ -1,7 +1,9 @@
 //! The calls that load a configuration.
 
 use crate::sizes::{made, text};
-use ptree::print_config::{FileSource, PrintConfig, Sources, first_fault, load, syntax_line};
+use ptree::print_config::{
+    FileSource, PrintConfig, Sources, faults, first_fault, load, syntax_line,
+};
 use ptree_fixtures::deviation::{Deviation, expect};
 use std::alloc::{AllocError, Global};
 
@@ -59,6 +61,8 @@ fn try_sources(alloc: Global, sources: &Sources, is_good: bool) -> Result<(), De
     expect(found.is_some() == is_good, "good sources are loaded")?;
     let fault = made(first_fault(alloc, sources), "`first_fault` succeeds")?;
     expect(fault.is_none() == is_good, "good sources have no fault")?;
+    let all = made(faults(alloc, sources), "`faults` succeeds")?;
+    expect(all.is_empty() == is_good, "good sources have no faults")?;
     made(
         PrintConfig::from_env(alloc, sources),
         "`PrintConfig::from_env` succeeds",

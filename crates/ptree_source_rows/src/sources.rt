@@ -6,7 +6,7 @@ use ptree::graph::{print_graph, print_graph_once};
 use ptree::item::StringItem;
 use ptree::output::{print_tree, write_tree};
 use ptree::print_config::{
-    Fault, Field as Key, FileSource, PrintConfig, Sources, first_fault, load, syntax_line,
+    Fault, Field as Key, FileSource, PrintConfig, Sources, faults, first_fault, load, syntax_line,
 };
 use ptree::style::{Counted, DrawError};
 use ptree::value::{DocError, DocFormat, draw_document, draw_document_with};
@@ -103,6 +103,16 @@ impl Given {
             }
             _ => Err(Trouble::Bad("load and first_fault differ")),
         }
+    }
+
+    // Returns all faults, one a line.
+    fn faults(&self, alloc: Global) -> Result<String, Trouble> {
+        let mut lines = String::new(alloc);
+        for fault in &faults(alloc, &self.sources)? {
+            lines.push_str(fault_form(alloc, *fault)?.as_str())?;
+            lines.push_str("\n")?;
+        }
+        Ok(lines)
     }
 
     // Returns the text of the first fault.
@@ -208,6 +218,7 @@ impl Given {
     fn answer(&self, alloc: Global, word: &str) -> Result<Option<String>, Trouble> {
         let found = match word {
             "loaded" => self.loaded(alloc)?,
+            "faults" => self.faults(alloc)?,
             "fault_text" => self.fault_text(alloc)?,
             "syntax_line" => self.line(alloc)?,
             "painted" => self.painted(alloc)?,

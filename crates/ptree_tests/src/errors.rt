@@ -2,7 +2,7 @@
 
 use ptree::builder::AddError;
 use ptree::graph::EdgeError;
-use ptree::print_config::CharsError;
+use ptree::print_config::{CharsError, Fault, Field};
 use ptree::read::ReadError;
 use ptree::style::{Counted, DrawError, put_all};
 use ptree::value::{ConvertError, DocError};
@@ -85,7 +85,7 @@ fn texts_of_documents(rt: HostRuntime) -> Result<(), Fail> {
     Ok(())
 }
 
-// That a writer's error of a kind is told as it is.
+// That a writer's error of a kind is returned as it is.
 fn expect_kind(alloc: Global, kind: ErrorKind) -> Result<(), Fail> {
     let failing = Failing::new(alloc, 0, 0, usize::MAX, Answer::Error(kind))?;
     match put_all(&mut Counted::new(failing), b"bytes") {
@@ -122,6 +122,90 @@ fn as_errors_of_std(rt: HostRuntime) -> Result<(), Fail> {
     assert!(rt; io::Error::from(DrawError::Zero).kind() == ErrorKind::WriteZero);
     assert!(rt; io::Error::from(DrawError::Memory).kind() == ErrorKind::OutOfMemory);
     Ok(())
+}
+
+// Expects that an error of std has this kind and this text.
+fn expect_told(alloc: Global, error: io::Error, kind: ErrorKind, wanted: &str) -> Result<(), Fail> {
+    if error.kind() != kind {
+        return Err(Fail::new("another kind"));
+    }
+    expect_message(alloc, &error, wanted)
+}
+
+#[test]
+fn of_arguments_as_errors_of_std(rt: HostRuntime) -> Result<(), Fail> {
+    for (error, wanted) in [
+        (
+            io::Error::from(AddError::Level),
+            "no item can follow at that level",
+        ),
+        (
+            io::Error::from(EdgeError::NoNode),
+            "an edge of a node that isn't in the graph",
+        ),
+        (
+            io::Error::from(CharsError::Unknown),
+            "no set of characters has that name",
+        ),
+    ] {
+        expect_told(rt.alloc(), error, ErrorKind::InvalidInput, wanted)?;
+    }
+    Ok(())
+}
+
+#[test]
+fn of_texts_as_errors_of_std(rt: HostRuntime) -> Result<(), Fail> {
+    for (error, wanted) in [
+        (
+            io::Error::from(ReadError::Line(usize::MAX)),
+            "line 18446744073709551615 cannot continue the drawing",
+        ),
+        (
+            io::Error::from(ConvertError::Float),
+            "a float, which is not drawn",
+        ),
+        (
+            io::Error::from(DocError::Syntax),
+            "no document of its format",
+        ),
+        (
+            io::Error::from(DocError::Date),
+            "a date or a time, which is not drawn",
+        ),
+        (
+            io::Error::from(Fault::Variable(Field::Padding)),
+            "the variable PTREE_PADDING isn't a whole number up to 18446744073709551615",
+        ),
+    ] {
+        expect_told(rt.alloc(), error, ErrorKind::InvalidData, wanted)?;
+    }
+    Ok(())
+}
+
+#[test]
+fn out_of_memory_as_errors_of_std(rt: HostRuntime) -> Result<(), Fail> {
+    for error in [
+        io::Error::from(AddError::Memory),
+        io::Error::from(EdgeError::Memory),
+        io::Error::from(CharsError::Memory),
+        io::Error::from(ReadError::Memory),
+        io::Error::from(ConvertError::Memory),
+        io::Error::from(DocError::Draw(DrawError::Memory)),
+    ] {
+        expect_told(rt.alloc(), error, ErrorKind::OutOfMemory, "out of memory")?;
+    }
+    Ok(())
+}
+
+#[test]
+fn other_errors_as_errors_of_std(rt: HostRuntime) -> Result<(), Fail> {
+    let alloc = rt.alloc();
+    let end = io::Error::from(ReadError::End);
+    let incomplete = "the text is incomplete";
+    expect_told(alloc, end, ErrorKind::UnexpectedEof, incomplete)?;
+    let full = DocError::Draw(DrawError::Write(io::Error::from(ErrorKind::StorageFull)));
+    let told = io::Error::from(full);
+    expect_told(alloc, told, ErrorKind::StorageFull, "no storage space")
 }
 
 // Draws with `?` alone, in a function that returns errors of std.

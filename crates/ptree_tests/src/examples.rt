@@ -1,4 +1,4 @@
-//! More examples of `docs/EXAMPLES.md`: levels, recursion, sources, and the line of a syntax error.
+//! More examples of `docs/EXAMPLES.md`: levels, recursion, sources, and the lines of syntax errors.
 ghost use Rattle.std.specs.Prelude.{◌≡◌, ◌<◌, OnOk};
 
 use ptree::TreeBuilder;
@@ -83,4 +83,14 @@ fn a_syntax_error_has_a_line(rt: HostRuntime) -> Result<(), Fail> {
         text.as_str(),
         "line 3: the file is no document of its format",
     )
+}
+
+#[test]
+fn a_document_has_a_wrong_line(rt: HostRuntime) -> Result<(), Fail> {
+    let alloc = rt.alloc();
+    let text = "{\n  \"name\": ptree\n}\n";
+    let file = FileSource::Json(String::from_str(alloc, text)?);
+    let line = syntax_line(alloc, &file)?.ok_or("no line")?;
+    assert!(rt; line == 2);
+    Ok(())
 }

@@ -3,18 +3,13 @@ use Rattle.std.specs.Char.{digit_char}
 use Rattle.std.specs.Prelude.{All, ◌/◌, ◌%◌, ◌||◌, unwrap_or, option_map, ◌↔◌}
 use Rattle.std.specs.List.{list_any}
 use Rattle.std.specs.Str.{NonePass, NoCharPasses, chars, encode_utf8_all}
-use Rattle.std.proofs.Common.{◌≡◌, ◌≢◌, ◌⊎◌, ℕ, ◌+◌, ◌<◌, ◌≤◌, ◌++◌, Bool, true, false, cond, eqb, List, [], ◌∷◌, length, length-append, get_or, Option, Some, None, flat_map, map, take, string_bytes, IsUtf8, inl, inr, refl, sym, ap, ◌∙◌, subst, arith}
+use Rattle.std.proofs.Common.{◌≡◌, ◌≢◌, ◌⊎◌, ℕ, ◌+◌, ◌<◌, ◌≤◌, ◌++◌, Bool, true, false, cond, eqb, List, [], ◌∷◌, length, length-append, get_or, Option, Some, None, flat_map, IsUtf8, inl, inr, refl, sym, ap, ◌∙◌, subst, arith}
 use Rattle.std.proofs.lemmas.Bool.{false≢true, cases_lt}
 use Rattle.std.proofs.lemmas.Bool.Decides.{nat_tests}
 use Rattle.std.proofs.lemmas.List.Elements.{All-from_get_or}
-use Rattle.std.proofs.lemmas.List.{flat_map_more, take_more, take_all, map-append}
+use Rattle.std.proofs.lemmas.List.{flat_map_more}
 use Rattle.std.proofs.lemmas.Str.{encodes_same, encodes-append, encodes-chars, NoCharPasses-byte}
-use Rattle.ptree.specs.Tree.{Tree, tree, item, tree_of, forest}
-use Rattle.ptree.specs.declared.item.StringItem.{StringItem, out-StringItem}
-use Rattle.ptree.specs.declared.item.StringItem.TheOpen.{StringItem-F}
-use Rattle.ptree.specs.declared.item.StringItem.TheViews.{roll-StringItem}
-use Rattle.ptree.proofs.TreeLemmas.{tree_of_item, tree_of_roll}
-use Rattle.ptree_trees.specs.Escape.{is_hidden, is_escaped, escape_letter, hex_digits, escape_char, escaped_text, mapped_forest, mapped_tree}
+use Rattle.ptree_trees.specs.Escape.{is_hidden, is_escaped, escape_letter, hex_digits, escape_char, escaped_text}
 
 -- ## Characters
 
@@ -56,11 +51,13 @@ code_whole c d l h e f g i = omega arith
 
 -- ## What stands for a character
 
+-- a character that stands for itself
 record IsPlain (c : ℕ) : Type 0 where
   form : escape_char c ≡ c ∷ []
   other : c ≢ 92
   shown : is_hidden c ≡ false
 
+-- a character whose escape is a backslash and a letter
 record HasLetter (c l : ℕ) : Type 0 where
   form : escape_char c ≡ 92 ∷ l ∷ []
   back : letter_char l ≡ c
@@ -68,6 +65,7 @@ record HasLetter (c l : ℕ) : Type 0 where
   low : 33 ≤ l
   high : l ≤ 126
 
+-- a character whose escape has its four digits
 record HasDigits (c : ℕ) : Type 0 where
   form : escape_char c ≡ 92 ∷ 117 ∷ hex_digits c
   fits : c < 65536
@@ -76,6 +74,7 @@ record HasDigits (c : ℕ) : Type 0 where
 abbrev form_of : Option ℕ → Bool → ℕ → List ℕ
 form_of o b c = unwrap_or (option_map (λ l. 92 ∷ l ∷ []) o) (cond b (92 ∷ 117 ∷ hex_digits c) (c ∷ []))
 
+-- which form a character has, by its letter and by whether it is hidden
 form_is : (c : ℕ) (o : Option ℕ) (b : Bool) → escape_letter c ≡ o → is_hidden c ≡ b → escape_char c ≡ form_of o b c
 form_is c o b d e = ap (λ x. form_of x (is_hidden c) c) d ∙ ap (λ x. form_of o x c) e
 
@@ -172,6 +171,7 @@ all_shown : (cs : List ℕ) → NonePass is_hidden (flat_map escape_char cs)
 all_shown [] = tt
 all_shown (c ∷ cs) = none_append is_hidden (escape_char c) (flat_map escape_char cs) (form_shown c) (all_shown cs)
 
+-- no character of an escaped text is hidden, as the contract says it
 pub text_shown : (text : List ℕ) → NoCharPasses is_hidden (escaped_text text)
 text_shown text = (flat_map escape_char (chars text), refl, all_shown (chars text))
 
@@ -244,27 +244,3 @@ pub char_pushed : (cs : List ℕ) (c : ℕ) (old new : List ℕ) → old ≡ enc
     → new ≡ encode_utf8_all (flat_map escape_char (cs ++ c ∷ []))
 char_pushed cs c old new is pushed =
     pushed ∙ (ap (λ z. z ++ encode_utf8_all (escape_char c)) is ∙ (sym (encodes-append (flat_map escape_char cs) (escape_char c)) ∙ ap encode_utf8_all (flat_map_more escape_char [] cs c)))
-
--- ## Trees
-
-module _ (f : List ℕ → List ℕ) where
-  -- a forest of trees whose texts are replaced
-  forest_mapped : (ts : List Tree) → forest (map (mapped_tree f) ts) ≡ mapped_forest f (forest ts)
-  forest_mapped [] = refl
-  forest_mapped (t ∷ ts) = ap (item (f t.text) (mapped_forest f t.children)) (forest_mapped ts)
-
-  -- the next of the elements
-  pub next_mapped : {X : Type 0} (view : X → Tree) (xs done new : List X) (i : ℕ) (x s : X) → i < length xs → x ≡ get_or xs i x → new ≡ done ++ s ∷ []
-      → map view done ≡ map (mapped_tree f) (map view (take i xs)) → view s ≡ mapped_tree f (view x) → map view new ≡ map (mapped_tree f) (map view (take (i + 1) xs))
-  next_mapped view xs done new i x s l is made before here =
-      let front : take (i + 1) xs ≡ take i xs ++ x ∷ [] = rw (← is) at (take_more xs i x l) in
-      rw (front, made, map-append, map-append, map-append, before, here) refl
-
-  -- a new item is the item with its texts replaced if its text and its children are
-  pub whole_mapped : (root : StringItem) (x : StringItem-F StringItem) (xs : List StringItem) (i : ℕ) → xs ≡ (out-StringItem root).children.items → length xs ≤ i
-      → string_bytes x.text ≡ f (string_bytes (out-StringItem root).text) → map tree_of x.children.items ≡ map (mapped_tree f) (map tree_of (take i xs)) → tree_of (roll-StringItem x) ≡ mapped_tree f (tree_of root)
-  whole_mapped root x xs i e l text kids =
-      let all : take i xs ≡ (out-StringItem root).children.items = take_all i xs l ∙ e in
-      let below : forest (map tree_of x.children.items) ≡ mapped_forest f (forest (map tree_of (out-StringItem root).children.items)) =
-      ap forest kids ∙ (forest_mapped (map tree_of (take i xs)) ∙ ap (λ ys. mapped_forest f (forest (map tree_of ys))) all) in
-      tree_of_roll x ∙ (ap (λ t. tree t (forest (map tree_of x.children.items))) text ∙ (ap (tree (f (string_bytes (out-StringItem root).text))) below ∙ ap (mapped_tree f) (sym (tree_of_item root))))

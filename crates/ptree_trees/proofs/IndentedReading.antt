@@ -1,100 +1,24 @@
 -- How far the lines of an indented form have been read.
-use Rattle.std.proofs.Common.{◌≡◌, ◌≢◌, ℕ, suc, ◌+◌, ◌-◌, ◌<◌, ◌≤◌, true, false, List, [], ◌∷◌, ◌++◌, Result, Ok, Err}
+use Rattle.std.proofs.Common.{◌≡◌, ◌≢◌, ℕ, suc, ◌+◌, ◌-◌, ◌<◌, ◌≤◌, true, false, List, [], ◌∷◌, ◌++◌}
 use Rattle.std.proofs.Common.{length, length-append, refl, sym, ap, ◌∙◌, subst, append_assoc, add-one, arith}
 use Rattle.std.proofs.lemmas.Bool.{false≢true}
-use Rattle.std.proofs.lemmas.List.{append-nil, append_cancel_left}
-use Rattle.std.proofs.lemmas.List.Elements.{All-append}
-use Rattle.std.specs.Prelude.{IfOk, IsErrOf, IsOkUnless}
+use Rattle.std.proofs.lemmas.List.{append-nil}
 use Rattle.ptree.specs.Continuation.{first_lines, line_count}
 use Rattle.ptree.specs.Outline.{Line, line, outline, outline_at, IsOutline, Steps, last_level}
 use Rattle.ptree.specs.Texts.{HasNoLineFeed}
-use Rattle.ptree.specs.Tree.{Tree, tree, none, tree_of}
+use Rattle.ptree.specs.Tree.{Tree, tree, none}
 use Rattle.ptree.specs.TreeBuilder.{Building}
-use Rattle.ptree.specs.declared.item.StringItem.{StringItem}
-use Rattle.ptree.proofs.FirstLines.{count_none, count_line, first_next, first_rest}
+use Rattle.ptree.proofs.FirstLines.{count_none, count_line, first_next}
 use Rattle.ptree.proofs.LineTrees.{tree_of_lines}
 use Rattle.ptree.proofs.OutlineAddresses.{outline_of_tree}
-use Rattle.ptree.proofs.Outlines.{same_tree}
 use Rattle.ptree.proofs.SpelledForms.{tree_steps}
 use Rattle.ptree.proofs.Steps.{Steps-push, last_level-push}
 use Rattle.ptree_trees.specs.Indented.{begins_blank, IsUnit, IsLineText, indent, indented_line, indented_lines, AreLineTexts}
 use Rattle.ptree_trees.specs.Indented.{IsIndentedForm, HasContinuation, IsFirstWrongLine, EndsWrong}
-use Rattle.ptree_trees.specs.IndentedReading.{IsNext, IsAdded, IsReading}
+use Rattle.ptree_trees.specs.IndentedReading.{IsNext, IsAdded}
 use Rattle.ptree_trees.specs.declared.indented.Form.{Form}
-use Rattle.ptree_trees.specs.declared.indented.IndentError.{IndentError}
-use Rattle.ptree_trees.specs.declared.indented.IndentError.TheVariants as error
-use Rattle.ptree_trees.proofs.IndentedTexts.{line_once, no_line, no_feed_end, no_feed_indent, SameIndent, indent_once}
-
--- ## Lines
-
--- what stands behind the indent of a line: the bullet and its text
-abbrev own : Form → List ℕ → List ℕ
-own form t = form.bullet.now ++ t
-
--- a line without its line feed
-abbrev whole : Form → Line → List ℕ
-whole form l = indent form.unit.now l.level ++ own form l.text
-
--- one line more at the end
-lines_push : (form : Form) (o : List Line) (l : Line) → indented_lines form (o ++ l ∷ []) ≡ indented_lines form o ++ indented_line form l
-lines_push form [] l = append-nil (indented_line form l)
-lines_push form (k ∷ o) l =
-    ap (λ z. indented_line form k ++ z) (lines_push form o l) ∙ sym (append_assoc (indented_line form k) (indented_lines form o) (indented_line form l))
-
--- a line and what follows
-line_parts : (form : Form) (l : Line) (x : List ℕ) → indented_line form l ++ x ≡ whole form l ++ 10 ∷ x
-line_parts form l x =
-    append_assoc (indent form.unit.now l.level) (own form l.text ++ 10 ∷ []) x
-    ∙ (ap (λ z. indent form.unit.now l.level ++ z) (append_assoc (own form l.text) (10 ∷ []) x)
-    ∙ sym (append_assoc (indent form.unit.now l.level) (own form l.text) (10 ∷ x)))
-
--- a line without its line feed holds none, if what stands behind its indent doesn't
-no_feed_join : (form : Form) → IsUnit form.unit.now → (l : Line) → HasNoLineFeed (own form l.text) → HasNoLineFeed (whole form l)
-no_feed_join form u l h = All-append (λ c. c ≢ 10) (indent form.unit.now l.level) (own form l.text) (no_feed_indent form.unit.now u l.level) h
-
--- a text that holds a line feed is not empty
-no_text : (a x : List ℕ) → [] ≡ a ++ 10 ∷ x → ⊥
-no_text a x e = let long = ap length e in omega (arith, simp length-append at long)
-
--- one line more that can stand behind an indent
-texts_push : (form : Form) (o : List Line) (l : Line) → AreLineTexts form o → HasNoLineFeed (own form l.text) → begins_blank (own form l.text) ≡ false
-    → AreLineTexts form (o ++ l ∷ [])
-texts_push form [] l h f b = ((f, b), tt)
-texts_push form (k ∷ o) l h f b = (h.0, texts_push form o l h.1 f b)
-
--- what stands behind lines of an indented form are its other lines
-pub record HasOthers (form : Form) (o p : List Line) (y : List ℕ) : Type 0 where
-  pub others : List Line
-  pub lines : p ≡ o ++ others
-  pub text : y ≡ indented_lines form others
-  pub texts : AreLineTexts form others
-
--- lines of an indented form, and what follows the first of them
-first_parts : (form : Form) (l : Line) (o : List Line) (y : List ℕ) → indented_lines form (l ∷ o) ++ y ≡ whole form l ++ 10 ∷ (indented_lines form o ++ y)
-first_parts form l o y = append_assoc (indented_line form l) (indented_lines form o) y ∙ line_parts form l (indented_lines form o ++ y)
-
--- lines with one level and one text behind the indent are one
-same_line : (form : Form) (l m : Line) → l.level ≡ m.level → own form l.text ≡ own form m.text → l ≡ m
-same_line form l m level text =
-    ap (λ n. line n l.text) level ∙ ap (λ t. line m.level t) (append_cancel_left form.bullet.now l.text m.text text)
-
--- lines at the start of an indented form are its first lines
-pub lines_front : (form : Form) → IsUnit form.unit.now → (o p : List Line) (y : List ℕ) → AreLineTexts form o → AreLineTexts form p
-    → indented_lines form o ++ y ≡ indented_lines form p → HasOthers form o p y
-lines_front form u [] p y h k e = record { others = p; lines = refl; text = e; texts = k }
-lines_front form u (l ∷ o) [] y h k e = absurd (no_text (whole form l) (indented_lines form o ++ y) (sym e ∙ first_parts form l o y))
-lines_front form u (l ∷ o) (m ∷ p) y h k e =
-    let same = line_once (whole form l) (whole form m) (indented_lines form o ++ y) (indented_lines form p)
-    (no_feed_join form u l h.0.0) (no_feed_join form u m k.0.0) (sym (first_parts form l o y) ∙ (e ∙ line_parts form m (indented_lines form p))) in
-    let one = indent_once form.unit.now u l.level m.level (own form l.text) (own form m.text) h.0.1 k.0.1 same.0 in
-    let heads : l ≡ m = same_line form l m one.level one.text in
-    let rest = lines_front form u o p y h.1 k.1 same.1 in
-    record {
-      others = rest.others;
-      lines = ap (λ z. z ∷ p) (sym heads) ∙ ap (λ z. l ∷ z) rest.lines;
-      text = rest.text;
-      texts = rest.texts;
-    }
+use Rattle.ptree_trees.proofs.IndentedTexts.{line_once, no_line, no_feed_end, SameIndent, indent_once}
+use Rattle.ptree_trees.proofs.IndentedLines.{line_parts, lines_front, lines_push, no_feed_join, no_text, own, texts_push, whole}
 
 -- ## Stages
 
@@ -296,50 +220,3 @@ stage_form form text b rest n s left t o =
       subst (AreLineTexts form) same s.texts,
       s.text_is ∙ (ap (λ z. indented_lines form all ++ z) left ∙ (append-nil (indented_lines form all) ∙ ap (λ z. indented_lines form z) same)),
     )
-
--- ## Results
-
--- trees with one indented form are equal
-pub same_form : (form : Form) → IsUnit form.unit.now → (text : List ℕ) (t s : Tree) → IsIndentedForm form text t → IsIndentedForm form text s → t ≡ s
-same_form form u text t s h k =
-    let front = lines_front form u (outline t) (outline s) [] h.0 k.0 (append-nil (indented_lines form (outline t)) ∙ (sym h.1 ∙ k.1)) in
-    same_tree t s (sym (front.lines ∙ (ap (λ z. outline t ++ z) (nothing front.others front.text) ∙ append-nil (outline t))))
-  where
-    nothing : (q : List Line) → [] ≡ indented_lines form q → q ≡ []
-    nothing [] e = refl
-    nothing (l ∷ q) e = absurd (no_text (whole form l) (indented_lines form q) (e ∙ line_parts form l (indented_lines form q)))
-
--- the indented form of a tree has no wrong line
-no_wrong_line : (form : Form) (text : List ℕ) (n : ℕ) → IsFirstWrongLine form text n → (t : Tree) → IsIndentedForm form text t → ⊥
-no_wrong_line form text n w t is = let cut = first_rest n text in w.wrong (t, cut.0, subst (λ z. IsIndentedForm form z t) cut.1 is)
-
--- a text that was read is the indented form of the result
-pub reading_some : (form : Form) (text : List ℕ) (r : Result StringItem IndentError) → IsReading form text r → IfOk r (λ t. IsIndentedForm form text (tree_of t))
-reading_some form text (Ok t) h = h
-reading_some form text (Err e) h = tt
-
--- an indented form is read as its tree, unless memory runs out
-pub reading_back : (form : Form) → IsUnit form.unit.now → (text : List ℕ) (r : Result StringItem IndentError) → IsReading form text r → (t : Tree) → IsIndentedForm form text t
-    → IsOkUnless r error.Memory × IfOk r (λ s. tree_of s ≡ t)
-reading_back form u text (Ok s) h t is = (tt, same_form form u text (tree_of s) t h is)
-reading_back form u text (Err (error.Line n)) h t is = absurd (no_wrong_line form text n h t is)
-reading_back form u text (Err error.End) h t is = absurd (h.wrong t is)
-reading_back form u text (Err error.Memory) h t is = (refl, tt)
-
--- a line that was reported is the first wrong one
-pub reading_line : (form : Form) (text : List ℕ) (r : Result StringItem IndentError) → IsReading form text r → (n : ℕ) → IsErrOf r (error.Line n) → IsFirstWrongLine form text n
-reading_line form text r h n e = subst (λ z. IsReading form text z) e h
-
--- a text that was reported as incomplete is
-pub reading_end : (form : Form) (text : List ℕ) (r : Result StringItem IndentError) → IsReading form text r → IsErrOf r error.End → EndsWrong form text
-reading_end form text r h e = subst (λ z. IsReading form text z) e h
-
--- an error at a line is the result
-pub reading_err : (form : Form) (text : List ℕ) (n : ℕ) (e : IndentError) → ((m : ℕ) → e ≡ error.Line m → m ≡ n) → (e ≡ error.Line n → IsFirstWrongLine form text n)
-    → (e ≡ error.End → ⊥) → (r : Result StringItem IndentError) → r ≡ Err e → IsReading form text r
-reading_err form text n e number wrong end r is = subst (λ z. IsReading form text z) (sym is) (at e number wrong end)
-  where
-    at : (e : IndentError) → ((m : ℕ) → e ≡ error.Line m → m ≡ n) → (e ≡ error.Line n → IsFirstWrongLine form text n) → (e ≡ error.End → ⊥) → IsReading form text (Err e)
-    at (error.Line m) number wrong end = let same = number m refl in subst (λ z. IsFirstWrongLine form text z) (sym same) (wrong (ap error.Line same))
-    at error.End number wrong end = absurd (end refl)
-    at error.Memory number wrong end = tt

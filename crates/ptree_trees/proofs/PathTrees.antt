@@ -2,16 +2,15 @@
 use Rattle.std.proofs.Common.{◌≡◌, ◌≢◌, ℕ, zero, suc, ◌+◌, ◌<◌, ◌≤◌, Bool, true, false, cond, eqb, Option, Some, None, List, [], ◌∷◌, ◌++◌, map, length, get_or, drop, refl, sym, ap, ◌∙◌, subst, arith}
 use Rattle.std.proofs.lemmas.Bool.{false≢true, eq-eqb, ne_eqb}
 use Rattle.std.proofs.lemmas.List.Elements.{All-head, All-tail}
-use Rattle.std.proofs.lemmas.List.{get_or_default, map-append, drop_more}
+use Rattle.std.proofs.lemmas.List.{get_or_default}
 use Rattle.std.proofs.lemmas.Slice.Eq.{bytes_eq-Decides}
 use Rattle.std.proofs.lemmas.Str.Pattern.{IsSplitOnceResult, split_parts}
 use Rattle.std.specs.Borrow.{Bor}
 use Rattle.std.specs.Option.{option_to_list}
 use Rattle.std.specs.Prelude.{MatchOption, All, ◌||◌}
 use Rattle.std.specs.Str.{bytes_eq}
-use Rattle.ptree.specs.Tree.{Forest, none, item, Tree, tree, forest, tree_of}
-use Rattle.ptree.specs.declared.item.StringItem.{StringItem}
-use Rattle.ptree_trees.specs.Paths.{with_first, names, next_name, next_names, has_name, with_name, with_names, tops, below, texts_below, IsForestOfPaths, names_of, tails_of}
+use Rattle.ptree.specs.Tree.{Forest, none, item, Tree, forest}
+use Rattle.ptree_trees.specs.Paths.{with_first, names, next_name, next_names, has_name, with_name, with_names, tops, below, texts_below, IsForestOfPaths, tails_of}
 
 -- ## Names
 
@@ -212,43 +211,15 @@ tails_push ts t paths h new = record { each = λ n k. at n k (has_name (tops (fo
       let same : bytes_eq t.text n ≡ true = ap (λ b. b || bytes_eq t.text n) (sym e) ∙ (sym (has_push (tops (forest ts)) t.text n) ∙ (ap (λ z. has_name z n) (sym (tops_push ts t)) ∙ k)) in
       subst (λ z. IsForestOfPaths z (tails_of n paths)) (sym (below_new ts t n e same)) (subst (λ z. IsForestOfPaths t.children (tails_of z paths)) ((bytes_eq-Decides t.text n).0 same) new)
 
--- a name that was there, and one that was not
+-- a name that was there already
 pub names_old : (ts : List Tree) (name : List ℕ) (rest : List (List ℕ)) (q left : List (List (List ℕ))) (all : List (List ℕ)) → left ≡ (name ∷ rest) ∷ q → has_name (tops (forest ts)) name ≡ true
     → with_names (tops (forest ts)) (next_names [] left) ≡ all → with_names (tops (forest ts)) (next_names [] q) ≡ all
 names_old ts name rest q left all e old is =
     ap (λ b. with_names (cond b (tops (forest ts)) (tops (forest ts) ++ name ∷ [])) (next_names [] q)) (sym old) ∙ (ap (λ z. with_names (tops (forest ts)) (next_names [] z)) (sym e) ∙ is)
 
+-- a name that was not there is added
 pub names_new : (ts : List Tree) (t : Tree) (rest : List (List ℕ)) (q left : List (List (List ℕ))) (all : List (List ℕ)) → left ≡ (t.text ∷ rest) ∷ q → has_name (tops (forest ts)) t.text ≡ false
     → with_names (tops (forest ts)) (next_names [] left) ≡ all → with_names (tops (forest (ts ++ t ∷ []))) (next_names [] q) ≡ all
 names_new ts t rest q left all e new is =
     ap (λ z. with_names z (next_names [] q)) (tops_push ts t)
     ∙ (ap (λ b. with_names (cond b (tops (forest ts)) (tops (forest ts) ++ t.text ∷ [])) (next_names [] q)) (sym new) ∙ (ap (λ z. with_names (tops (forest ts)) (next_names [] z)) (sym e) ∙ is))
-
--- ## Loops
-
--- the paths that are left, with the first of them
-pub paths_left : (s : ℕ) (xs : List (Bor (List ℕ))) (i : ℕ) (d : Bor (List ℕ)) (path : List (List ℕ)) → i < length xs → names s (get_or xs i d).now ≡ path → names_of s (drop i xs) ≡ path ∷ names_of s (drop (i + 1) xs)
-paths_left s xs i d path h e = ap (names_of s) (drop_more xs i d h) ∙ ap (λ z. z ∷ names_of s (drop (i + 1) xs)) e
-
--- the tails have fewer names
-pub fewer_names : (s : ℕ) (xs : List (Bor (List ℕ))) (i : ℕ) (d : Bor (List ℕ)) (name : List ℕ) (rest : List (List ℕ)) (tails passed : List (Bor (List ℕ))) → i < length xs → names s (get_or xs i d).now ≡ name ∷ rest
-    → names_of s tails ≡ tails_of name (names_of s xs) → passed ≡ tails → (t : ℕ) → weight (names_of s xs) ≡ t → weight (names_of s passed) < t
-fewer_names s xs i d name rest tails passed h e is same t bound =
-    let fewer = lighter (λ (p : Bor (List ℕ)). names s p.now) xs i name rest (names_of s (drop (i + 1) xs)) (paths_left s xs i d (name ∷ rest) h e) in
-    let counted : weight (names_of s passed) ≡ weight (tails_of name (names_of s xs)) = ap (λ z. weight (names_of s z)) same ∙ ap weight is in
-    omega (arith, fewer, counted, bound)
-
--- one item more
-pub item_pushed : (s : ℕ) (xs : List (Bor (List ℕ))) (i : ℕ) (d : Bor (List ℕ)) (name : List ℕ) (rest : List (List ℕ)) (tails : List (Bor (List ℕ))) (old new : List StringItem) (made : StringItem) (children : List StringItem)
-    → i < length xs → names s (get_or xs i d).now ≡ name ∷ rest → names_of s tails ≡ tails_of name (names_of s xs) → tree_of made ≡ tree name (forest (map tree_of children)) → new ≡ old ++ made ∷ []
-    → has_name (tops (forest (map tree_of old))) name ≡ false → IsForestOfPaths (forest (map tree_of children)) (names_of s tails)
-    → with_names (tops (forest (map tree_of old))) (next_names [] (names_of s (drop i xs))) ≡ with_names [] (next_names [] (names_of s xs)) → HasTails (forest (map tree_of old)) (names_of s xs)
-    → (with_names (tops (forest (map tree_of new))) (next_names [] (names_of s (drop (i + 1) xs))) ≡ with_names [] (next_names [] (names_of s xs))) × HasTails (forest (map tree_of new)) (names_of s xs)
-item_pushed s xs i d name rest tails old new made children h e is tree_is pushed absent below_is so_far each =
-    let t : Tree = tree name (forest (map tree_of children)) in
-    let trees : map tree_of new ≡ map tree_of old ++ t ∷ [] = ap (map tree_of) pushed ∙ (map-append tree_of old (made ∷ []) ∙ ap (λ z. map tree_of old ++ z ∷ []) tree_is) in
-    let next = names_new (map tree_of old) t rest (names_of s (drop (i + 1) xs)) (names_of s (drop i xs)) (with_names [] (next_names [] (names_of s xs))) (paths_left s xs i d (name ∷ rest) h e) absent so_far in
-    let more = tails_push (map tree_of old) t (names_of s xs) each (subst (λ z. IsForestOfPaths (forest (map tree_of children)) z) is below_is) in (
-      subst (λ z. with_names (tops (forest z)) (next_names [] (names_of s (drop (i + 1) xs))) ≡ with_names [] (next_names [] (names_of s xs))) (sym trees) next,
-      subst (λ z. HasTails (forest z) (names_of s xs)) (sym trees) more,
-    )

@@ -1,10 +1,17 @@
 pub mod Change
 pub mod Difference
+pub mod Errors
 pub mod Escape
+pub mod FaultLine
 pub mod Found
 pub mod Indented
 pub mod IndentedReading
+pub mod KeyLists
 pub mod PathGroups
 pub mod Paths
+pub mod Settings
 pub mod Sort
 pub mod Styled
+pub mod Warnings
+pub mod WrittenDocument
+pub mod WrittenValue

@@ -86,7 +86,7 @@ impl Error for IndentError {}
 #[derive(Debug, Clone, Copy, PartialEq, Eq)]
 pub enum WriteError {
     /// The line of some item would not be read back: its text or the bullet holds a line feed, or
-    /// what stands behind the indent begins with a blank or a tab.
+    /// what follows the indent begins with a blank or a tab.
     Text,
 
     /// Memory ran out, or a level exceeds 4294967295.
@@ -124,7 +124,7 @@ pub fn is_unit(text: &str) -> bool
     text.as_bytes().iter().all(|b| *b == b' ' || *b == b'\t')
 }
 
-/// Whether a text can stand behind an indent: it holds no line feed, and begins with no blank or
+/// Whether a text can follow an indent: it holds no line feed, and begins with no blank or
 /// tab. A bullet must be such a text, and so must be the text of each item if there is no bullet.
 pub fn is_line_text(text: &str) -> bool
     ensures { IsTrue result ↔ IsLineText text.now }
@@ -147,8 +147,8 @@ pub fn is_line_text(text: &str) -> bool
 ///
 /// # Errors
 ///
-/// [`WriteError::Text`] if the text of an item or the bullet holds a line feed, or what stands
-/// behind an indent begins with a blank or a tab: the bullet, or the item's text if there is none.
+/// [`WriteError::Text`] if the text of an item or the bullet holds a line feed, or what follows
+/// an indent begins with a blank or a tab: the bullet, or the item's text if there is none.
 /// [`WriteError::Memory`] if memory ran out.
 pub fn indented_text(alloc: Global, item: &StringItem, form: &Form) -> Result<String, WriteError>
     ensures form { IfOk result (λ s. IsIndentedForm form.now (string_bytes s) (tree_of item.now)) }
@@ -244,7 +244,7 @@ fn strip_front<'a>(text: &'a str, front: &str) -> Option<&'a str>
     text.strip_prefix(front)
 }
 
-// Returns the level of a line, and what stands behind its indent, or `None` if blanks or tabs
+// Returns the level of a line, and what follows its indent, or `None` if blanks or tabs
 // remain.
 fn split_indent<'a>(line: &'a str, unit: &str) -> Option<(usize, &'a str)>
     requires { IsUnit unit.now }
@@ -327,7 +327,7 @@ fn read_lines(alloc: Global, text: &str, form: &Form) -> Result<StringItem, Inde
     Ok(builder.build()?)
 }
 
-// Whether a bullet and the text of an item can stand behind an indent.
+// Whether a bullet and the text of an item can follow an indent.
 fn is_item_text(text: &str, bullet: &str) -> bool
     ensures { IsTrue result ↔ IsLineText (bullet.now ++ text.now) }
 {

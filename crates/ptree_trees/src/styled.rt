@@ -15,8 +15,8 @@ use std::alloc::{AllocError, Global};
 /// An item with a text, a style of its own, and children.
 ///
 /// It is drawn as any other item. Its own style is painted in every drawing, also in one that is
-/// not styled, since an item is not told whether the output is styled. For a drawing without codes
-/// draw [`StyledItem::plain`] under a configuration that is not styled
+/// not styled, since an item does not know whether the output is styled. For a drawing without
+/// codes draw [`StyledItem::plain`] under a configuration that is not styled
 /// (`PrintConfig::should_style_output` says whether it is).
 #[derive(Debug, Drop)]
 pub struct StyledItem {

@@ -15,7 +15,7 @@ use ptree_trees::indented::{
 use std::alloc::{AllocError, Global};
 
 /// Writes a tree and reads it back: what comes back is the tree. The result is `None` only if some
-/// text cannot stand behind an indent.
+/// text cannot follow an indent.
 pub fn there_and_back(
     alloc: Global,
     tree: &StringItem,
@@ -110,7 +110,7 @@ pub fn is_appended(alloc: Global, tree: &StringItem, form: &Form, out: &mut Stri
     write_indented(alloc, tree, form, out).is_ok()
 }
 
-/// Whether a tree is refused for its texts. Then not each of them can stand behind an indent.
+/// Whether a tree is refused for its texts. Then not each of them can follow an indent.
 pub fn is_refused(alloc: Global, tree: &StringItem, form: &Form, out: &mut String) -> bool
     ensures { IsTrue result → AreLineTexts form.now (outline (tree_of tree.now)) → ⊥ }
 {

@@ -4,6 +4,8 @@
 
 pub mod changing;
 pub mod comparing;
+pub mod configuring;
+pub mod documenting;
 pub mod escaping;
 pub mod indenting;
 pub mod pathing;

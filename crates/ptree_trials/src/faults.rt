@@ -1,5 +1,5 @@
 //! Drawings to writers that fail at each byte in each way: what a writer took is a prefix of the
-//! whole drawing, and its answer is told.
+//! whole drawing, and its answer is reported.
 
 use ptree::graph::{
     Graph, Label, NodeIndex, REPEATED_MARK, print_graph, print_graph_once, write_graph_once_with,
@@ -42,7 +42,7 @@ const ANSWERS: [Answer; 3] = [
     Answer::Interrupted,
 ];
 
-// Tries all writers on a call whose whole drawing is known, and tells how many there were.
+// Tries all writers on a call whose whole drawing is known, and prints how many there were.
 fn try_writers<F: Fn(&mut Counted<Failing>) -> Result<(), DrawError>>(
     rt: &HostRuntime,
     name: &str,
@@ -313,7 +313,7 @@ fn try_texts(rt: &HostRuntime) -> io::Result<()> {
     try_writers(rt, "no bytes", "", |out| put_all(out, b""))
 }
 
-/// Tries all the drawings on all the writers, and tells how many there were of each.
+/// Tries all the drawings on all the writers, and prints how many there were of each.
 pub fn try_faults(rt: &HostRuntime) -> io::Result<()> {
     try_trees(rt)?;
     try_graphs(rt)?;

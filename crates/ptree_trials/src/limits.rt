@@ -7,7 +7,7 @@ use ptree::graph::{Graph, NodeIndex, REPEATED_MARK, write_graph_once_with};
 use ptree::item::StringItem;
 use ptree::output::tree_bytes;
 use ptree::print_config::PrintConfig;
-use ptree::read::read_tree;
+use ptree::read::{ReadError, read_tree, read_tree_or_line};
 use ptree::style::Counted;
 use ptree::value::{DocError, DocFormat, draw_document_with};
 use ptree_fixtures::deviation::{Deviation, expect, report};
@@ -147,6 +147,49 @@ fn try_lines(alloc: Global) -> Result<(), Deviation> {
     let text = lines(alloc, "a", "\na")?;
     try_root_lines(alloc, text.as_str())?;
     try_child_lines(alloc, text.as_str())
+}
+
+// A root's line and such lines by turns, of which the one after so many has no piece and no mark.
+fn with_wrong_line(
+    alloc: Global,
+    odd: &str,
+    even: &str,
+    before: u32,
+) -> Result<String, AllocError> {
+    let mut text = String::from_str(alloc, "r\n")?;
+    for n in 1..LINES {
+        let line = if n % 2 == 1 { odd } else { even };
+        text.push_str(if n == before { "x\n" } else { line })?;
+    }
+    Ok(text)
+}
+
+// That the line after so many is the first wrong one of such a text.
+fn is_wrong_after(alloc: Global, odd: &str, even: &str, before: u32) -> Result<(), Deviation> {
+    let text = with_wrong_line(alloc, odd, even, before)?;
+    let config = PrintConfig::default(alloc)?;
+    match read_tree_or_line(alloc, text.as_str(), &config) {
+        Err(ReadError::Line(line)) => expect(
+            line == before as usize + 1,
+            "the first wrong line of a long text is reported",
+        ),
+        _ => Err(Deviation::of("a long text with a wrong line is refused")),
+    }
+}
+
+// Such a text whose second, middle or last line is wrong.
+fn try_wrong_line(alloc: Global, odd: &str, even: &str) -> Result<(), Deviation> {
+    for before in [1, LINES / 2, LINES - 1] {
+        is_wrong_after(alloc, odd, even, before)?;
+    }
+    Ok(())
+}
+
+// Items below the root, items each over one, and further lines of a text, with a wrong line.
+fn try_wrong_lines(alloc: Global) -> Result<(), Deviation> {
+    try_wrong_line(alloc, "├─ a\n", "├─ a\n")?;
+    try_wrong_line(alloc, "├─ a\n", "│  └─ b\n")?;
+    try_wrong_line(alloc, ": a\n", ": a\n")
 }
 
 // The drawing of a root over half as many items, each over one, and over another one.
@@ -367,6 +410,11 @@ pub fn try_limits(rt: &HostRuntime) -> io::Result<()> {
     report(rt, "a builder of 70,000 levels", try_levels(alloc))?;
     report(rt, "a text of a million lines", try_lines(alloc))?;
     report(rt, "a million items", try_items(alloc))?;
+    report(
+        rt,
+        "a million lines with a wrong one",
+        try_wrong_lines(alloc),
+    )?;
     report(rt, "a graph of 30 layers, expanded once", try_layers(alloc))?;
     report(rt, "JSON nested to the limit, and past it", try_json(alloc))?;
     report(rt, "TOML nested to the limit, and past it", try_toml(alloc))?;

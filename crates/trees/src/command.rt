@@ -31,10 +31,13 @@ pub enum Command {
 
     /// Finds the first difference of two drawings.
     Diff,
+
+    /// Says which settings hold.
+    Config,
 }
 
 /// All commands, in the order of the page of help.
-pub const COMMANDS: [Command; 9] = [
+pub const COMMANDS: [Command; 10] = [
     Command::Json,
     Command::Toml,
     Command::Deps,
@@ -44,6 +47,7 @@ pub const COMMANDS: [Command; 9] = [
     Command::Check,
     Command::Convert,
     Command::Diff,
+    Command::Config,
 ];
 
 impl Command {
@@ -59,6 +63,7 @@ impl Command {
             Command::Check => "check",
             Command::Convert => "convert",
             Command::Diff => "diff",
+            Command::Config => "config",
         }
     }
 
@@ -83,14 +88,18 @@ impl Command {
         }
     }
 
+    // Whether the command can write a drawing.
+    fn draws(self) -> bool {
+        self != Command::Indented && self != Command::Check && self != Command::Config
+    }
+
     /// Whether the command has this option.
     pub fn takes(self, option: Opt) -> bool {
         match option {
-            Opt::Help | Opt::As => true,
-            Opt::Color => self != Command::Indented && self != Command::Check,
-            Opt::Depth => self != Command::Indented
-                && self != Command::Check
-                && self != Command::Diff,
+            Opt::Help => true,
+            Opt::As => self != Command::Config,
+            Opt::Color => self.draws(),
+            Opt::Depth => self.draws() && self != Command::Diff,
             Opt::At => self == Command::Json || self == Command::Toml,
             Opt::Label => {
                 self == Command::Json
@@ -120,6 +129,7 @@ impl Command {
             Command::Check => help::CHECK,
             Command::Convert => help::CONVERT,
             Command::Diff => help::DIFF,
+            Command::Config => help::CONFIG,
         }
     }
 }

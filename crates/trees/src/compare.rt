@@ -1,8 +1,10 @@
 //! Compares two trees.
 
 use ptree::item::StringItem;
+use ptree::style::{Color, Style};
 use ptree_trees::difference::{Difference, first_difference};
 use ptree_trees::escape::escaped;
+use ptree_trees::styled::StyledItem;
 use std::alloc::{AllocError, Global};
 
 /// Returns what is said of the first difference of two trees, or `None` if they are equal: the path
@@ -66,8 +68,38 @@ fn push_side(
     said.push_str("\n")
 }
 
+// Which of two trees alone has an item.
+#[derive(Clone, Copy)]
+enum Side {
+    Left,
+    Right,
+}
+
+impl Side {
+    // Returns the mark before a text that is in one tree alone.
+    fn mark(self) -> &'static str {
+        match self {
+            Side::Left => "- ",
+            Side::Right => "+ ",
+        }
+    }
+
+    // Returns the style of such a text.
+    fn style(self, is_colored: bool) -> Option<Style> {
+        if !is_colored {
+            return None;
+        }
+        let mut style = Style::default();
+        style.foreground = Some(match self {
+            Side::Left => Color::Red,
+            Side::Right => Color::Green,
+        });
+        Some(style)
+    }
+}
+
 /// Returns a tree of both trees: the items of each in order, where the text of an item is only in
-/// the left one behind `- `, and only in the right one behind `+ `.
+/// the left one behind `- `, in red, and only in the right one behind `+ `, in green.
 ///
 /// # Errors
 ///
@@ -77,14 +109,14 @@ pub fn both(
     alloc: Global,
     left: &StringItem,
     right: &StringItem,
-) -> Result<StringItem, AllocError> {
+    is_colored: bool,
+) -> Result<StyledItem, AllocError> {
+    let children = both_children(alloc, left, right, is_colored)?;
     if left.text != right.text {
         let text = format!(in alloc; "- {}\n+ {}", left.text, right.text)?;
-        let children = both_children(alloc, left, right)?;
-        return StringItem::new(alloc, text.as_str(), children);
+        return StyledItem::new(alloc, text.as_str(), None, children);
     }
-    let children = both_children(alloc, left, right)?;
-    StringItem::new(alloc, left.text.as_str(), children)
+    StyledItem::new(alloc, left.text.as_str(), None, children)
 }
 
 // Returns the children of both items. An item of the left one goes with the next item of the right
@@ -94,30 +126,24 @@ fn both_children(
     alloc: Global,
     left: &StringItem,
     right: &StringItem,
-) -> Result<Vec<StringItem>, AllocError> {
+    is_colored: bool,
+) -> Result<Vec<StyledItem>, AllocError> {
     let mut made = Vec::new(alloc);
     let mut taken = 0;
     for child in &left.children {
         match next_with(right.children.as_slice(), taken, child.text.as_str()) {
             Some(at) => {
-                push_marked(alloc, &mut made, "+ ", right.children.as_slice(), taken, at)?;
+                push_right(alloc, &mut made, right, taken, at, is_colored)?;
                 if let Some(other) = right.children.get(at) {
-                    made.push(both(alloc, child, other)?)?;
+                    made.push(both(alloc, child, other, is_colored)?)?;
                 }
                 taken = at.saturating_add(1);
             }
-            None => made.push(marked(alloc, "- ", child)?)?,
+            None => made.push(marked(alloc, Side::Left, child, is_colored)?)?,
         }
     }
     let all = right.children.len();
-    push_marked(
-        alloc,
-        &mut made,
-        "+ ",
-        right.children.as_slice(),
-        taken,
-        all,
-    )?;
+    push_right(alloc, &mut made, right, taken, all, is_colored)?;
     Ok(made)
 }
 
@@ -131,29 +157,34 @@ fn next_with(items: &[StringItem], from: usize, text: &str) -> Option<usize> {
     None
 }
 
-// Adds the items between two positions, marked.
-fn push_marked(
+// Adds the children between two positions, which are only in the right tree.
+fn push_right(
     alloc: Global,
-    made: &mut Vec<StringItem>,
-    mark: &str,
-    items: &[StringItem],
+    made: &mut Vec<StyledItem>,
+    right: &StringItem,
     from: usize,
     to: usize,
+    is_colored: bool,
 ) -> Result<(), AllocError> {
-    for (i, item) in items.iter().enumerate().skip(from) {
+    for (i, item) in right.children.iter().enumerate().skip(from) {
         if i < to {
-            made.push(marked(alloc, mark, item)?)?;
+            made.push(marked(alloc, Side::Right, item, is_colored)?)?;
         }
     }
     Ok(())
 }
 
-// Returns an item with a mark before its text and those below it.
-fn marked(alloc: Global, mark: &str, item: &StringItem) -> Result<StringItem, AllocError> {
+// Returns an item and those below it with a mark before their texts, in its colour.
+fn marked(
+    alloc: Global,
+    side: Side,
+    item: &StringItem,
+    is_colored: bool,
+) -> Result<StyledItem, AllocError> {
     let mut children = Vec::new(alloc);
     for child in &item.children {
-        children.push(marked(alloc, mark, child)?)?;
+        children.push(marked(alloc, side, child, is_colored)?)?;
     }
-    let text = format!(in alloc; "{mark}{}", item.text)?;
-    StringItem::new(alloc, text.as_str(), children)
+    let text = format!(in alloc; "{}{}", side.mark(), item.text)?;
+    StyledItem::new(alloc, text.as_str(), side.style(is_colored), children)
 }

@@ -3,9 +3,8 @@
 use crate::failure::Failure;
 use crate::source::Source;
 use ptree::item::StringItem;
-use serde_json::Map;
+use ptree_trees::documents::{json_tree, toml_tree};
 use std::alloc::{AllocError, Global};
-use toml::Table;
 
 /// Returns the tree of a JSON document, or of the part at the keys `at`.
 ///
@@ -29,7 +28,7 @@ pub fn json(
         }
     }
     let label = root_label(source, at, label);
-    Ok(json_item(alloc, label, part)?)
+    Ok(json_tree(alloc, label, part)?)
 }
 
 /// Returns the tree of a TOML document, or of the part at the keys `at`.
@@ -54,7 +53,7 @@ pub fn toml(
         }
     }
     let label = root_label(source, at, label);
-    Ok(toml_item(alloc, label, part)?)
+    Ok(toml_tree(alloc, label, part)?)
 }
 
 /// Returns the value of a TOML document.
@@ -141,150 +140,5 @@ fn toml_part<'a>(value: &'a toml::Value, key: &str) -> Option<&'a toml::Value> {
         toml::Value::Table(table) => table.get(key),
         toml::Value::Array(items) => items.get(key.parse::<usize>().ok()?),
         _ => None,
-    }
-}
-
-// Returns the item of a value under a label.
-#[cycle(json)]
-fn json_item(
-    alloc: Global,
-    label: &str,
-    value: &serde_json::Value,
-) -> Result<StringItem, AllocError> {
-    let children = match value {
-        serde_json::Value::Array(items) => json_items(alloc, items)?,
-        serde_json::Value::Object(members) => json_members(alloc, members)?,
-        scalar => {
-            let mut children = Vec::new(alloc);
-            if !label.is_empty() {
-                let text = json_text(alloc, scalar)?;
-                children.push(StringItem::leaf(alloc, text.as_str())?)?;
-            }
-            children
-        }
-    };
-    StringItem::new(alloc, label, children)
-}
-
-// Returns the items of the elements of a list.
-#[cycle(json)]
-fn json_items(
-    alloc: Global,
-    items: &Vec<serde_json::Value>,
-) -> Result<Vec<StringItem>, AllocError> {
-    let mut made = Vec::new(alloc);
-    for item in items {
-        if is_json_list(item) {
-            made.push(json_item(alloc, "", item)?)?;
-        } else {
-            let text = json_text(alloc, item)?;
-            made.push(StringItem::leaf(alloc, text.as_str())?)?;
-        }
-    }
-    Ok(made)
-}
-
-// Returns the items of the members of an object.
-#[cycle(json)]
-fn json_members(
-    alloc: Global,
-    members: &Map<String, serde_json::Value>,
-) -> Result<Vec<StringItem>, AllocError> {
-    let mut made = Vec::new(alloc);
-    for (key, member) in members.iter() {
-        if is_json_list(member) {
-            made.push(json_item(alloc, key.as_str(), member)?)?;
-        } else {
-            let text = json_text(alloc, member)?;
-            made.push(entry(alloc, key.as_str(), text.as_str())?)?;
-        }
-    }
-    Ok(made)
-}
-
-// Whether a value is a list or an object, which has items below it.
-fn is_json_list(value: &serde_json::Value) -> bool {
-    value.is_array() || value.is_object()
-}
-
-// Returns the text of a value that is no list.
-fn json_text(alloc: Global, value: &serde_json::Value) -> Result<String, AllocError> {
-    match value {
-        serde_json::Value::Null => Ok(String::new(alloc)),
-        serde_json::Value::Bool(b) => format!(in alloc; "{b}"),
-        serde_json::Value::Number(n) => format!(in alloc; "{n}"),
-        serde_json::Value::String(text) => text.clone(),
-        _ => Ok(String::new(alloc)),
-    }
-}
-
-// Returns the item of a key and a text.
-fn entry(alloc: Global, key: &str, text: &str) -> Result<StringItem, AllocError> {
-    let entry = format!(in alloc; "{key} = {text}")?;
-    StringItem::leaf(alloc, entry.as_str())
-}
-
-// Returns the item of a value under a label.
-#[cycle(toml)]
-fn toml_item(alloc: Global, label: &str, value: &toml::Value) -> Result<StringItem, AllocError> {
-    let children = match value {
-        toml::Value::Array(items) => toml_items(alloc, items)?,
-        toml::Value::Table(table) => toml_members(alloc, table)?,
-        scalar => {
-            let mut children = Vec::new(alloc);
-            if !label.is_empty() {
-                let text = toml_text(alloc, scalar)?;
-                children.push(StringItem::leaf(alloc, text.as_str())?)?;
-            }
-            children
-        }
-    };
-    StringItem::new(alloc, label, children)
-}
-
-// Returns the items of the elements of a list.
-#[cycle(toml)]
-fn toml_items(alloc: Global, items: &Vec<toml::Value>) -> Result<Vec<StringItem>, AllocError> {
-    let mut made = Vec::new(alloc);
-    for item in items {
-        if is_toml_list(item) {
-            made.push(toml_item(alloc, "", item)?)?;
-        } else {
-            let text = toml_text(alloc, item)?;
-            made.push(StringItem::leaf(alloc, text.as_str())?)?;
-        }
-    }
-    Ok(made)
-}
-
-// Returns the items of the entries of a table.
-#[cycle(toml)]
-fn toml_members(alloc: Global, table: &Table) -> Result<Vec<StringItem>, AllocError> {
-    let mut made = Vec::new(alloc);
-    for (key, member) in table.iter() {
-        if is_toml_list(member) {
-            made.push(toml_item(alloc, key.as_str(), member)?)?;
-        } else {
-            let text = toml_text(alloc, member)?;
-            made.push(entry(alloc, key.as_str(), text.as_str())?)?;
-        }
-    }
-    Ok(made)
-}
-
-// Whether a value is a list or a table, which has items below it.
-fn is_toml_list(value: &toml::Value) -> bool {
-    value.is_array() || value.is_table()
-}
-
-// Returns the text of a value that is no list.
-fn toml_text(alloc: Global, value: &toml::Value) -> Result<String, AllocError> {
-    match value {
-        toml::Value::String(text) => text.clone(),
-        toml::Value::Integer(n) => format!(in alloc; "{n}"),
-        toml::Value::Float(x) => format!(in alloc; "{x:?}"),
-        toml::Value::Boolean(b) => format!(in alloc; "{b}"),
-        toml::Value::Datetime(date) => format!(in alloc; "{date}"),
-        _ => Ok(String::new(alloc)),
     }
 }

@@ -9,8 +9,8 @@ use std::alloc::{AllocError, Global};
 // How many levels are tried. Each takes a reading of the text before.
 const LEVELS: u8 = 32;
 
-/// Returns the beginnings of lines that could stand after these lines of a drawing, each on a line
-/// of its own behind two blanks. A text follows each of them.
+/// Returns the prefixes of lines that could follow these lines of a drawing, each on a line of its
+/// own after two blanks. A text follows each of them.
 ///
 /// It tries the first 32 levels, from the root on.
 ///

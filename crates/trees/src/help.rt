@@ -22,6 +22,7 @@ commands:
   check     say whether a text is a drawing, and else which line is wrong
   convert   draw a drawing with other pieces, sorted, or a part of it
   diff      find the first difference of two drawings
+  config    show the settings that hold, and where each comes from
 
 options of commands that draw:
   --depth N       draw N levels below the root
@@ -104,7 +105,7 @@ Writes a drawing as indented text.
 
   --unit UNIT    tab, or a number of blanks; 2 by default
   --bullet TEXT  what to write before each text, as a dash and a blank
-  --as PIECES    the pieces of the drawing; utf by default
+  --as PIECES    the pieces of the drawing; else those of the settings
 ";
 
 /// The page of `check`.
@@ -114,7 +115,7 @@ usage: trees check [--as PIECES] [FILE..]
 Says whether texts are drawings. If one isn't, it says which line cannot continue the drawing,
 and with which pieces it would be one; the status is 1 then.
 
-  --as PIECES   the pieces of the drawings; utf by default
+  --as PIECES   the pieces of the drawings; else those of the settings
 ";
 
 /// The page of `convert`.
@@ -124,8 +125,8 @@ usage: trees convert [--as PIECES] [--to PIECES] [--sort] [--keep TEXT] [--depth
 
 Draws a drawing with other pieces.
 
-  --as PIECES   the pieces of the drawing that is read; utf by default
-  --to PIECES   those of the drawing that is written; utf by default
+  --as PIECES   the pieces of the drawing that is read; else those of the settings
+  --to PIECES   those of the drawing that is written; else those of the settings
   --sort        sort the children of each item by their texts
   --keep TEXT   draw what contains a text, and the items above it
 ";
@@ -138,5 +139,16 @@ Shows the first difference of two drawings: the items above it, and what stands 
 Nothing is shown if they draw the same tree. The status is 1 if they differ.
 
   --all         draw both in one tree, what is only in one behind - or +
-  --as PIECES   the pieces of both drawings; utf by default
+  --as PIECES   the pieces of both drawings; else those of the settings
+";
+
+/// The page of `config`.
+pub const CONFIG: &str = "\
+usage: trees config
+
+Shows the settings that hold, and whether each comes from a variable, from the file of the
+configuration, or is the default. Faults are shown with the value that is there and what may
+stand there, and then the status is 1. Warnings name what has no effect.
+
+PTREE_CONFIG names the file; else it is ptree.toml or ptree.json in ~/.config.
 ";

@@ -15,12 +15,14 @@ mod perform;
 mod pieces;
 mod run;
 mod screen;
+mod settings;
 mod source;
 mod suggest;
 
 use failure::Failure;
 use ptree::buffered::Buffered;
 use ptree::style::Counted;
+use ptree_sources::surroundings::gather;
 use run::run;
 use screen::Screen;
 use std::env::{self, VarError};
@@ -63,9 +65,10 @@ fn find_screen(rt: &HostRuntime) -> Result<Screen, Failure> {
 fn run_process(rt: &HostRuntime) -> Result<(), Failure> {
     let words = words(rt)?;
     let screen = find_screen(rt)?;
+    let found = gather(rt, rt.alloc())?;
     let mut input = rt.stdin();
     let mut out = Buffered::with_capacity(rt.alloc(), ROOM, Counted::new(io::writer(rt)))?;
-    let end = run(rt, words.as_slice(), &mut input, &mut out, screen);
+    let end = run(rt, words.as_slice(), &mut input, &mut out, screen, &found);
     match end {
         Ok(()) | Err(Failure::Said) => out.flush()?,
         Err(_) => {}

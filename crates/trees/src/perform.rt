@@ -6,11 +6,13 @@ use crate::failure::Failure;
 use crate::options::Options;
 use crate::screen::Screen;
 use crate::source::Source;
-use crate::{compare, document, drawings, lists, pieces};
+use crate::{compare, document, drawings, lists, pieces, settings};
 use ptree::item::StringItem;
 use ptree::print_config::{PrintConfig, StyleWhen};
+use ptree_sources::surroundings::Surroundings;
 use ptree_trees::change::{kept, sorted};
 use ptree_trees::escape::escaped_item;
+use ptree_trees::styled::StyledItem;
 use std::alloc::{AllocError, Global};
 
 /// What a call writes.
@@ -18,6 +20,9 @@ use std::alloc::{AllocError, Global};
 pub enum Shown {
     /// A tree's drawing.
     Tree(StringItem, PrintConfig),
+
+    /// The drawing of a tree with styles of its own.
+    Styled(StyledItem, PrintConfig),
 
     /// The drawing of dependencies. The flag says that each package's are drawn wherever it stands.
     Dependencies(Dependencies, PrintConfig, bool),
@@ -53,15 +58,25 @@ pub fn perform(
     options: &Options<'_>,
     sources: &[Source],
     screen: Screen,
+    found: &Surroundings,
 ) -> Result<Outcome, Failure> {
-    let config = config(alloc, options, Opt::As, screen.styled)?;
     match (command, sources) {
-        (Command::Check, _) => check(alloc, sources, &config),
-        (Command::Diff, [left, right]) => diff(alloc, options, left, right, config, screen),
+        (Command::Config, _) => config_report(alloc, found),
+        (Command::Check, _) => check(alloc, sources, &read_config(alloc, options, found)?),
+        (Command::Diff, [left, right]) => diff(alloc, options, left, right, screen, found),
         (Command::Diff, _) => usage(alloc, "diff needs two files"),
-        (_, [source]) => of_one(alloc, command, options, source, config, screen),
+        (_, [source]) => of_one(alloc, command, options, source, screen, found),
         _ => usage(alloc, "more than one file"),
     }
+}
+
+// Says which settings hold.
+fn config_report(alloc: Global, found: &Surroundings) -> Result<Outcome, Failure> {
+    let report = settings::describe(alloc, found)?;
+    Ok(Outcome {
+        shown: Shown::Text(report.text),
+        is_refusal: report.has_faults,
+    })
 }
 
 // Says that the words are wrong.
@@ -75,9 +90,10 @@ fn of_one(
     command: Command,
     options: &Options<'_>,
     source: &Source,
-    config: PrintConfig,
     screen: Screen,
+    found: &Surroundings,
 ) -> Result<Outcome, Failure> {
+    let config = config(alloc, options, Opt::As, screen, found)?;
     let at = options.value(Opt::At);
     let label = options.value(Opt::Label);
     let unit = options.value(Opt::Unit);
@@ -103,7 +119,7 @@ fn of_one(
             done(tree_on(alloc, screen, tree, config)?)
         }
         Command::Indented => {
-            let tree = drawings::read(alloc, source, &config)?;
+            let tree = drawings::read(alloc, source, &read_config(alloc, options, found)?)?;
             done(Shown::Text(lists::indented(alloc, source, &tree, unit, bullet)?))
         }
         Command::Deps => {
@@ -113,13 +129,12 @@ fn of_one(
             done(Shown::Dependencies(found, config, options.has(Opt::Walks)))
         }
         Command::Convert => {
-            let from = pieces::config(alloc, options.value(Opt::As).unwrap_or("utf"))?;
-            let tree = drawings::read(alloc, source, &from)?;
-            let to = self::config(alloc, options, Opt::To, screen.styled)?;
+            let tree = drawings::read(alloc, source, &read_config(alloc, options, found)?)?;
+            let to = self::config(alloc, options, Opt::To, screen, found)?;
             let tree = changed(alloc, source, tree, options)?;
             done(tree_on(alloc, screen, tree, to)?)
         }
-        Command::Check | Command::Diff => usage(alloc, "more than one file"),
+        Command::Check | Command::Diff | Command::Config => usage(alloc, "more than one file"),
     }
 }
 
@@ -137,14 +152,44 @@ fn tree_on(
     Ok(Shown::Tree(tree, config))
 }
 
-// Returns the configuration that an option names, or the default one, with the other options.
+// Returns the configuration of the sources, with the pieces that an option names.
+fn with_pieces(
+    alloc: Global,
+    name: Option<&str>,
+    found: &Surroundings,
+) -> Result<PrintConfig, Failure> {
+    let mut config = PrintConfig::from_env(alloc, &found.sources)?;
+    if let Some(name) = name {
+        let named = pieces::config(alloc, name)?;
+        config.characters = named.characters.clone()?;
+        config.indent = named.indent;
+        config.padding = named.padding;
+    }
+    Ok(config)
+}
+
+// Returns the configuration by which a drawing is read: all its levels, without colours.
+fn read_config(
+    alloc: Global,
+    options: &Options<'_>,
+    found: &Surroundings,
+) -> Result<PrintConfig, Failure> {
+    let mut config = with_pieces(alloc, options.value(Opt::As), found)?;
+    config.depth = u32::MAX;
+    config.styled = StyleWhen::Never;
+    Ok(config)
+}
+
+// Returns the configuration by which a drawing is written: that of the sources, with the pieces
+// that an option names, and the other options.
 fn config(
     alloc: Global,
     options: &Options<'_>,
     named_by: Opt,
-    styled: bool,
+    screen: Screen,
+    found: &Surroundings,
 ) -> Result<PrintConfig, Failure> {
-    let mut config = pieces::config(alloc, options.value(named_by).unwrap_or("utf"))?;
+    let mut config = with_pieces(alloc, options.value(named_by), found)?;
     if let Some(depth) = options.value(Opt::Depth) {
         config.depth = match depth.parse::<u32>() {
             Ok(depth) => depth,
@@ -156,17 +201,28 @@ fn config(
             }
         };
     }
-    config.styled = when(alloc, options.value(Opt::Color), styled)?;
+    config.styled = when(alloc, options.value(Opt::Color), config.styled, screen)?;
     Ok(config)
 }
 
-// Returns when a drawing is coloured.
-fn when(alloc: Global, color: Option<&str>, styled: bool) -> Result<StyleWhen, Failure> {
+// Returns when a drawing is coloured: as the option says, or else as the configuration does.
+fn when(
+    alloc: Global,
+    color: Option<&str>,
+    loaded: StyleWhen,
+    screen: Screen,
+) -> Result<StyleWhen, Failure> {
+    let auto = if screen.styled {
+        StyleWhen::Always
+    } else {
+        StyleWhen::Never
+    };
     match color {
         Some("always") => Ok(StyleWhen::Always),
         Some("never") => Ok(StyleWhen::Never),
-        Some("auto") | None if styled => Ok(StyleWhen::Always),
-        Some("auto") | None => Ok(StyleWhen::Never),
+        Some("auto") => Ok(auto),
+        None if loaded == StyleWhen::Tty => Ok(auto),
+        None => Ok(loaded),
         Some(other) => Err(Failure::Usage(format!(in alloc;
             "--color needs auto, always or never, not {other}"
         )?)),
@@ -238,21 +294,18 @@ fn diff(
     options: &Options<'_>,
     left: &Source,
     right: &Source,
-    config: PrintConfig,
     screen: Screen,
+    found: &Surroundings,
 ) -> Result<Outcome, Failure> {
-    let first = drawings::read(alloc, left, &config)?;
-    let second = drawings::read(alloc, right, &config)?;
+    let read = read_config(alloc, options, found)?;
+    let first = drawings::read(alloc, left, &read)?;
+    let second = drawings::read(alloc, right, &read)?;
     let Some(said) = compare::first(alloc, &first, &second)? else {
         return done(Shown::Text(String::new(alloc)));
     };
     let shown = if options.has(Opt::All) {
-        tree_on(
-            alloc,
-            screen,
-            compare::both(alloc, &first, &second)?,
-            config,
-        )?
+        let config = config(alloc, options, Opt::As, screen, found)?;
+        both_on(alloc, &first, &second, screen, config)?
     } else {
         Shown::Text(said)
     };
@@ -260,4 +313,23 @@ fn diff(
         shown,
         is_refusal: true,
     })
+}
+
+// Returns a drawing of two trees for a screen. Two texts are equal exactly if their escapes are.
+fn both_on(
+    alloc: Global,
+    first: &StringItem,
+    second: &StringItem,
+    screen: Screen,
+    config: PrintConfig,
+) -> Result<Shown, AllocError> {
+    let is_colored = config.styled == StyleWhen::Always;
+    let tree = if screen.is_terminal {
+        let first = escaped_item(alloc, first)?;
+        let second = escaped_item(alloc, second)?;
+        compare::both(alloc, &first, &second, is_colored)?
+    } else {
+        compare::both(alloc, first, second, is_colored)?
+    };
+    Ok(Shown::Styled(tree, config))
 }

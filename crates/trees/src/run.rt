@@ -11,6 +11,7 @@ use crate::suggest::nearest;
 use ptree::graph::{REPEATED_MARK, write_graph_once_with, write_graph_with};
 use ptree::output::write_tree_with;
 use ptree::style::{Sink, put_all};
+use ptree_sources::surroundings::Surroundings;
 use std::alloc::{AllocError, Global};
 use std::io::Read;
 use std::rt::Files;
@@ -27,6 +28,7 @@ pub fn run<R: Files + AllocGlobal, I: Read, W: Sink>(
     input: &mut I,
     out: &mut W,
     screen: Screen,
+    found: &Surroundings,
 ) -> Result<(), Failure> {
     let alloc = rt.alloc();
     let Some((first, others)) = words.split_first() else {
@@ -40,10 +42,10 @@ pub fn run<R: Files + AllocGlobal, I: Read, W: Sink>(
         return Ok(put_all(out, help::VERSION.as_bytes())?);
     }
     if let Some(command) = Command::named(first) {
-        return run_command(rt, command, others, input, out, screen);
+        return run_command(rt, command, others, input, out, screen, found);
     }
     match Command::of_file(first) {
-        Some(command) => run_command(rt, command, words, input, out, screen),
+        Some(command) => run_command(rt, command, words, input, out, screen, found),
         None => Err(unknown(alloc, first)?),
     }
 }
@@ -56,20 +58,24 @@ fn run_command<R: Files + AllocGlobal, I: Read, W: Sink>(
     input: &mut I,
     out: &mut W,
     screen: Screen,
+    found: &Surroundings,
 ) -> Result<(), Failure> {
     let alloc = rt.alloc();
     let options = Options::parse(alloc, command, words)?;
     if options.has(Opt::Help) {
         return Ok(put_all(out, command.help().as_bytes())?);
     }
+    if command == Command::Config && !options.files.is_empty() {
+        return Err(Failure::Usage(String::from_str(alloc, "config reads no file")?));
+    }
     let mut sources = Vec::new(alloc);
     for path in &options.files {
         sources.push(Source::read(rt, path, input)?)?;
     }
-    if sources.is_empty() {
+    if sources.is_empty() && command != Command::Config {
         sources.push(Source::read(rt, "-", input)?)?;
     }
-    let outcome = perform(alloc, command, &options, sources.as_slice(), screen)?;
+    let outcome = perform(alloc, command, &options, sources.as_slice(), screen, found)?;
     show(alloc, &outcome, out)?;
     if outcome.is_refusal {
         return Err(Failure::Said);
@@ -81,6 +87,7 @@ fn run_command<R: Files + AllocGlobal, I: Read, W: Sink>(
 fn show<W: Sink>(alloc: Global, outcome: &Outcome, out: &mut W) -> Result<(), Failure> {
     match &outcome.shown {
         Shown::Tree(tree, config) => write_tree_with(alloc, tree, out, config)?,
+        Shown::Styled(tree, config) => write_tree_with(alloc, tree, out, config)?,
         Shown::Dependencies(found, config, true) => {
             write_graph_with(alloc, &found.graph, found.root, out, config)?;
         }

@@ -10,10 +10,10 @@ ghost use Rattle.ptree.specs.Writing.{IsWritten, HasCause, IsDrawn, LeavesWholeE
 ghost use Rattle.ptree.specs.declared.print_config.OutputKind.{OutputKind};
 
 use super::places::{Occurrence, Place};
+use super::row::draw_expanded;
 use super::{Graph, Label, NodeIndex};
 use crate::codes::Codes;
 use crate::item::{Children, Shaped, TreeItem};
-use crate::output::draw_for;
 use crate::print_config::{OutputKind, PrintConfig, Sources};
 use crate::style::{DrawError, Sink, Style, put_all};
 use std::alloc::{AllocError, Global};
@@ -148,7 +148,7 @@ fn next_below(places: &[Place], index: usize, left: usize) -> Option<usize>
 
 // Writes what is at a place.
 #[inline(always)]
-fn write_place<N: Label, W: Sink>(
+pub(super) fn write_place<N: Label, W: Sink>(
     alloc: Global,
     f: &mut W,
     style: &Style,
@@ -184,10 +184,26 @@ fn write_repeated<N: Label, W: Sink>(
         return weight.write_label(alloc, f, style);
     }
     if style.is_plain() {
-        weight.write_label(alloc, f, style)?;
-        return put_all(f, mark.as_bytes());
+        // A `?` would hold the error twice in the stack of each level.
+        return match weight.write_label(alloc, f, style) {
+            Ok(()) => put_mark(f, mark.as_bytes()),
+            Err(e) => Err(e),
+        };
     }
     write_with_codes(alloc, f, style, weight, mark)
+}
+
+// Writes a mark. One of four bytes, as [`REPEATED_MARK`] is, is copied at once, because their
+// number is known.
+#[inline(always)]
+fn put_mark<W: Sink>(f: &mut W, mark: &[u8]) -> Result<(), DrawError>
+    ensures bytes { IsWritten (W.contents f.old) (W.contents f.new) result mark.now }
+    ensures cause { HasCause (W.faults f.old) (W.faults f.new) result }
+{
+    match mark {
+        [a, b, c, d] => put_all(f, &[*a, *b, *c, *d]),
+        _ => put_all(f, mark),
+    }
 }
 
 // Does what `write_repeated` does, in any style. It is a function of its own, since each call pays
@@ -339,9 +355,5 @@ fn draw_once<N: Label, W: Sink>(
         mark,
         occurrence: &occurrence,
     };
-    let item = OccurrenceItem {
-        expanded: &expanded,
-        index: 0,
-    };
-    draw_for(alloc, &item, f, output_kind, terminal, config)
+    draw_expanded(alloc, &expanded, f, output_kind, terminal, config)
 }

@@ -1,8 +1,9 @@
 //! The places of a graph in which each node is expanded once.
-ghost use Rattle.std.specs.Prelude.{◌≡◌, ◌∷◌, [], ◌≤◌, ◌<◌, ◌^◌, ℕ, true, length, slice_set, IfOk, OnOk};
+ghost use Rattle.std.specs.Prelude.{◌≡◌, ◌≢◌, ◌∷◌, [], ◌≤◌, ◌<◌, ◌^◌, ℕ, true, false, length, slice_set, IfOk, OnOk};
 ghost use Rattle.ptree.specs.Graph.{weights_of, edges_of, neighbors_of};
+ghost use Rattle.ptree.specs.GraphLinks.{newest_from};
 ghost use Rattle.ptree.specs.Growing.{is_seen, grow, all_flags, place_of, leaf_size, AppendsPlaces};
-ghost use Rattle.ptree.specs.Occurrence.{IsExpandedOnce, LeavesUnrepeated, ExpandsFirst, HasOneTree, HasSize, is_repeated_size, size_below, occurrence_tree};
+ghost use Rattle.ptree.specs.Occurrence.{IsExpandedOnce, LeavesUnrepeated, ExpandsFirst, HasOneTree, HasSize, is_repeated_size, size_below, first_tree, occurrence_tree};
 
 use super::{Graph, NodeIndex};
 use std::alloc::AllocError;
@@ -57,6 +58,19 @@ pub struct Occurrence {
     pub places: Vec<Place>,
 }
 
+impl Occurrence {
+    // The first place and those after it. Where there is none, it is one of a number that no node
+    // has.
+    pub(super) fn root(&self) -> (Place, &[Place])
+        ensures { first_tree (result.0 ∷ result.1.now) ≡ occurrence_tree self.now }
+    {
+        match self.places.split_first() {
+            Some((place, after)) => (*place, after),
+            None => (Place::leaf(NodeIndex(usize::MAX), false), &[]),
+        }
+    }
+}
+
 impl<N> Graph<N> {
     /// The graph as a tree in which each node is expanded once, from a start node down to a depth.
     ///
@@ -92,6 +106,8 @@ impl<N> Graph<N> {
 
     // Appends the places of a node and of what is below it, down to so many levels, where the nodes
     // that are seen are expanded already.
+    #[cycle(push)]
+    #[inline(always)]
     fn push_places(
         &self,
         node: NodeIndex,
@@ -108,17 +124,49 @@ impl<N> Graph<N> {
             (all_flags (length (weights_of self.now)) seen.old.items) node.0).seen) }
         ensures length { OnOk result (length seen.new.items ≤ length (weights_of self.now)) }
     {
-        let index = places.len();
         let repeated = is_flagged(seen, node.0);
-        places.push(Place::leaf(node, repeated))?;
         if repeated || levels == 0 {
+            places.push(Place::leaf(node, repeated))?;
             return Ok(());
         }
-        let mut number = self.newest(node);
-        if number == 0 {
+        let newest = self.newest(node);
+        if newest == 0 {
+            places.push(Place::leaf(node, false))?;
             return Ok(());
         }
+        self.push_expanded(node, newest, levels, seen, places)
+    }
+
+    // Does what `push_places` does, for a node that is expanded here: the newest edge from it is
+    // given. It is a function of its own, so that a place with nothing below it costs no call.
+    #[cycle(push)]
+    #[inline(never)]
+    fn push_expanded(
+        &self,
+        node: NodeIndex,
+        newest: usize,
+        levels: u32,
+        seen: &mut Vec<bool>,
+        places: &mut Vec<Place>,
+    ) -> Result<(), AllocError>
+        requires length { length seen.old.items ≤ length (weights_of self.now) }
+        requires node { node.0 < length (weights_of self.now) }
+        requires newest { newest ≡ newest_from (edges_of self.now) node.0 }
+        requires some { newest ≢ 0 }
+        requires levels { levels ≢ 0 }
+        requires unseen { is_seen seen.old.items node.0 ≡ false }
+        ensures places { OnOk result (AppendsPlaces places.old.items places.new.items
+            ((grow (neighbors_of (edges_of self.now)) levels
+            (all_flags (length (weights_of self.now)) seen.old.items) node.0).occurrence ∷ [])) }
+        ensures seen { OnOk result (all_flags (length (weights_of self.now)) seen.new.items
+            ≡ (grow (neighbors_of (edges_of self.now)) levels
+            (all_flags (length (weights_of self.now)) seen.old.items) node.0).seen) }
+        ensures length { OnOk result (length seen.new.items ≤ length (weights_of self.now)) }
+    {
+        let index = places.len();
+        places.push(Place::leaf(node, false))?;
         set_flag(seen, node.0)?;
+        let mut number = newest;
         while number > 0 {
             let edge = &self.edges[number - 1];
             self.push_places(NodeIndex(edge.target), levels - 1, seen, places)?;
@@ -131,6 +179,7 @@ impl<N> Graph<N> {
 }
 
 // Whether a node is flagged; a number that is no node's is not.
+#[inline(always)]
 fn is_flagged(seen: &[bool], node: usize) -> bool
     ensures { result ≡ is_seen seen.now node }
 {

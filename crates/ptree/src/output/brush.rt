@@ -2,7 +2,6 @@
 ghost use Rattle.std.specs.Prelude.{◌≡◌, Some, IfOk, string_bytes};
 ghost use Rattle.ptree.specs.Looks.{look_of, AreOwnTexts, AreFurtherTexts, own_text, further_text};
 
-use crate::output::indent::{joined, joined_three};
 use crate::output::look::Look;
 use std::alloc::{AllocError, Global};
 
@@ -33,11 +32,11 @@ impl<'a> Brush<'a> {
         Ok(Brush {
             alloc,
             look,
-            regular: joined(alloc, pieces.turning(false), end.as_str())?,
-            last_regular: joined(alloc, pieces.turning(true), end.as_str())?,
-            root_further: joined(alloc, mark, end.as_str())?,
-            further: joined_three(alloc, pieces.passing(false), mark, end.as_str())?,
-            last_further: joined_three(alloc, pieces.passing(true), mark, end.as_str())?,
+            regular: [pieces.turning(false), end.as_str()].concat(alloc)?,
+            last_regular: [pieces.turning(true), end.as_str()].concat(alloc)?,
+            root_further: [mark, end.as_str()].concat(alloc)?,
+            further: [pieces.passing(false), mark, end.as_str()].concat(alloc)?,
+            last_further: [pieces.passing(true), mark, end.as_str()].concat(alloc)?,
             end,
         })
     }

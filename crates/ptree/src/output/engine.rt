@@ -17,10 +17,34 @@ use crate::output::pen::Pen;
 use crate::style::{DrawError, Sink, Stop, put_or_stop};
 use std::alloc::Global;
 
-// Writes the buffer. It is a function of its own, so that what a sink needs while it takes an entry
-// is no part of the stack of each level.
+// Writes the buffer, which a sink mostly takes at once. It is a function of its own, so that what a
+// sink needs while it takes an entry is no part of the stack of each level.
 #[inline(never)]
 fn put_buffer<W: Sink>(f: &mut W, bytes: &[u8], error: &mut DrawError) -> Result<(), Stop>
+    requires { error.old ≡ Memory }
+    ensures bytes { IsWritten (W.contents f.old) (W.contents f.new) result bytes.now }
+    ensures cause { HasErrorCause (W.faults f.old) (W.faults f.new) error.new }
+    ensures error { OnOk result (error.new ≡ Memory) }
+    ensures memory { OnErr result (error.new ≢ Memory) }
+{
+    match f.put(bytes) {
+        Ok(n) if n == bytes.len() => Ok(()),
+        Ok(0) => {
+            *error = DrawError::Zero;
+            Err(Stop)
+        }
+        Ok(n) => put_rest(f, &bytes[n..], error),
+        Err(e) => {
+            *error = DrawError::Write(e);
+            Err(Stop)
+        }
+    }
+}
+
+// Writes what a sink has not taken at once. It is a function of its own, since it is seldom called.
+#[cold]
+#[inline(never)]
+fn put_rest<W: Sink>(f: &mut W, bytes: &[u8], error: &mut DrawError) -> Result<(), Stop>
     requires { error.old ≡ Memory }
     ensures bytes { IsWritten (W.contents f.old) (W.contents f.new) result bytes.now }
     ensures cause { HasErrorCause (W.faults f.old) (W.faults f.new) error.new }
@@ -34,7 +58,7 @@ fn put_buffer<W: Sink>(f: &mut W, bytes: &[u8], error: &mut DrawError) -> Result
 // branch's start codes and the passing text of its parent. Its turning piece with the end codes
 // follows them. The buffer holds the same afterwards.
 #[inline(always)]
-fn draw_entry<C: TreeItem, W: Sink>(
+pub(crate) fn draw_entry<C: TreeItem, W: Sink>(
     item: &C,
     f: &mut W,
     pen: &mut Pen,
@@ -56,7 +80,7 @@ fn draw_entry<C: TreeItem, W: Sink>(
     ensures turned { pen.new.turned ≡ pen.old.turned }
 {
     let start = pen.line.bytes.len();
-    match item.write_self(brush.alloc, &mut pen.line, brush.look.leaf) {
+    match item.write_self(brush.alloc, &mut pen.line, &brush.look.leaf) {
         Ok(()) => {}
         Err(_) => return Err(Stop),
     }
@@ -224,7 +248,7 @@ where
     ensures cause { HasCause (W.faults f.old) (W.faults f.new) result }
 {
     let brush = Brush::new(alloc, look)?;
-    let mut pen = Pen::new(alloc, look.branch)?;
+    let mut pen = Pen::new(alloc, &look.branch)?;
     match draw_root(item, f, &mut pen, &brush, depth) {
         Ok(()) => Ok(()),
         Err(_) => Err(pen.into_error()),

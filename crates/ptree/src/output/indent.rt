@@ -80,20 +80,15 @@ impl Indent {
         let (right_pad, empty_pad) = (right_pad.as_str(), empty_pad.as_str());
         let item_pad = item_pad.as_str();
         Ok(Indent {
-            regular_prefix: joined_three(
+            regular_prefix: piece(
                 alloc,
                 characters.down_and_right.as_str(),
                 right_pad,
                 item_pad,
             )?,
-            child_prefix: joined_three(alloc, characters.down.as_str(), empty_pad, item_pad)?,
-            last_regular_prefix: joined_three(
-                alloc,
-                characters.turn_right.as_str(),
-                right_pad,
-                item_pad,
-            )?,
-            last_child_prefix: joined_three(alloc, characters.empty.as_str(), empty_pad, item_pad)?,
+            child_prefix: piece(alloc, characters.down.as_str(), empty_pad, item_pad)?,
+            last_regular_prefix: piece(alloc, characters.turn_right.as_str(), right_pad, item_pad)?,
+            last_child_prefix: piece(alloc, characters.empty.as_str(), empty_pad, item_pad)?,
         })
     }
 
@@ -187,6 +182,13 @@ impl Indent {
     }
 }
 
+// Returns a piece: its first character, what fills it, and its padding.
+fn piece(alloc: Global, first: &str, filling: &str, padding: &str) -> Result<String, AllocError>
+    ensures { IfOk result (λ text. string_bytes text ≡ first.now ++ filling.now ++ padding.now) }
+{
+    [first, filling, padding].concat(alloc)
+}
+
 // Whether a text holds no line feed.
 fn is_one_line(text: &str) -> bool
     ensures { IsTrue result ↔ HasNoLineFeed text.now }
@@ -220,27 +222,4 @@ fn are_equal_or_apart(a: &str, b: &str) -> bool
     ensures { IsTrue result ↔ AreEqualOrPrefixFree a.now b.now }
 {
     a == b || are_apart(a, b)
-}
-
-/// Returns three texts, one after the other.
-pub(crate) fn joined_three(
-    alloc: Global,
-    first: &str,
-    middle: &str,
-    end: &str,
-) -> Result<String, AllocError>
-    ensures { IfOk result (λ text. string_bytes text ≡ first.now ++ middle.now ++ end.now) }
-{
-    let mut text = joined(alloc, first, middle)?;
-    text.push_str(end)?;
-    Ok(text)
-}
-
-/// Returns two texts, one after the other.
-pub(crate) fn joined(alloc: Global, first: &str, second: &str) -> Result<String, AllocError>
-    ensures { IfOk result (λ text. string_bytes text ≡ first.now ++ second.now) }
-{
-    let mut text = String::from_str(alloc, first)?;
-    text.push_str(second)?;
-    Ok(text)
 }

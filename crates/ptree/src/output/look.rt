@@ -2,7 +2,7 @@
 ghost use Rattle.std.specs.Prelude.{◌≡◌, IfOk};
 ghost use Rattle.ptree.specs.Drawing.{effective_style, config_look};
 ghost use Rattle.ptree.specs.Looks.{look_of};
-ghost use Rattle.ptree.specs.Style.{plain_style, style_of};
+ghost use Rattle.ptree.specs.Style.{style_of};
 
 use crate::output::indent::Indent;
 use crate::print_config::{OutputKind, PrintConfig};
@@ -13,8 +13,8 @@ use std::alloc::{AllocError, Global};
 /// lines.
 #[derive(Drop)]
 pub(crate) struct Look<'a> {
-    pub(crate) branch: &'a Style,
-    pub(crate) leaf: &'a Style,
+    pub(crate) branch: Style,
+    pub(crate) leaf: Style,
     pub(crate) pieces: Indent,
     pub(crate) mark: &'a str,
 }
@@ -25,17 +25,15 @@ impl<'a> Look<'a> {
     pub(crate) fn of_config(
         alloc: Global,
         config: &'a PrintConfig,
-        plain: &'a Style,
         output_kind: OutputKind,
         terminal: bool,
     ) -> Result<Look<'a>, AllocError>
-        requires { plain.now ≡ plain_style }
         ensures { IfOk result (λ look. look_of look ≡ config_look config.now output_kind terminal) }
     {
         let styled = config.should_style_output(output_kind, terminal);
         Ok(Look {
-            branch: effective_style(&config.branch, plain, styled),
-            leaf: effective_style(&config.leaf, plain, styled),
+            branch: effective_style(&config.branch, styled)?,
+            leaf: effective_style(&config.leaf, styled)?,
             pieces: Indent::from_config(alloc, config)?,
             mark: config.continued.as_str(),
         })
@@ -43,9 +41,13 @@ impl<'a> Look<'a> {
 }
 
 // Returns a style if output is styled, else the plain one.
-fn effective_style<'a>(style: &'a Style, plain: &'a Style, styled: bool) -> &'a Style
-    requires { plain.now ≡ plain_style }
-    ensures { style_of result.now ≡ effective_style styled (style_of style.now) }
+fn effective_style(style: &Style, styled: bool) -> Result<Style, AllocError>
+    ensures { IfOk result (λ effective.
+        style_of effective ≡ effective_style styled (style_of style.now)) }
 {
-    if styled { style } else { plain }
+    if styled {
+        style.clone()
+    } else {
+        Ok(Style::default())
+    }
 }

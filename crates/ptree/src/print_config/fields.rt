@@ -138,8 +138,8 @@ impl fmt::Display for Kind {
     }
 }
 
-// All fields, in the order in which faults are looked for.
-pub(crate) const FIELDS: [Field; 31] = [
+/// All fields, in the order in which faults are looked for.
+pub const FIELDS: [Field; 31] = [
     Field::Depth,
     Field::Indent,
     Field::Padding,

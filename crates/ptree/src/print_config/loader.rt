@@ -1,9 +1,10 @@
 //! Loads a configuration from its sources, or finds the first fault in them.
-ghost use Rattle.std.specs.Prelude.{◌≡◌, map, option_map, IfOk};
+ghost use Rattle.std.specs.Prelude.{◌≡◌, ◌++◌, flat_map, map, option_map, IfOk, OnOk, slice_get};
 ghost use Rattle.ptree.specs.Config.{config_of};
+ghost use Rattle.ptree.specs.AllFaults.{listed, field_faults, faults_in, all_faults};
 ghost use Rattle.ptree.specs.Fields.{all_fields, HasEach};
 ghost use Rattle.ptree.specs.Lent.{document_of, node_of, given_of};
-ghost use Rattle.ptree.specs.Loading.{text_fits, node_fits, field_fault, table_fault, file_fault, first_of, fault_in, first_fault, loaded_config};
+ghost use Rattle.ptree.specs.Loading.{text_fits, node_fits, variable_fault, key_fault, field_fault, table_fault, file_fault, first_of, fault_in, first_fault, loaded_config};
 ghost use Rattle.ptree.specs.Sources.{document};
 
 use crate::print_config::fields::{FIELDS, Field, Kind, Part};
@@ -113,6 +114,54 @@ pub fn first_fault(alloc: Global, sources: &Sources) -> Result<Option<Fault>, Al
     Ok(first_fault_in(&sources.file, &document, &given))
 }
 
+/// Returns all faults in the sources, in the order in which [`first_fault`] looks for them: the
+/// file as a whole, the tables of the two styles, and then field by field the variable and the key.
+///
+/// It takes the time of [`load`], and allocates the result.
+///
+/// # Errors
+///
+/// Memory ran out.
+#[tactic(auto, using(crate::proofs::FaultLists::front_of_faults))]
+pub fn faults(alloc: Global, sources: &Sources) -> Result<Vec<Fault>, AllocError>
+    ensures all { IfOk result (λ found. found.items ≡ all_faults sources.now) }
+    ensures first { IfOk result (λ found. slice_get found.items 0 ≡ first_fault sources.now) }
+{
+    let document = Document::read(alloc, &sources.file)?;
+    let given = Given::of(sources, &document);
+    faults_in(alloc, &sources.file, &document, &given)
+}
+
+// Returns all faults in a file, its document and the variables.
+#[tactic(auto, unfolding(crate::specs::AllFaults::faults_in))]
+fn faults_in(
+    alloc: Global,
+    file: &FileSource,
+    read: &Option<Document>,
+    given: &Given<'_>,
+) -> Result<Vec<Fault>, AllocError>
+    requires { option_map document_of read.now ≡ document file.now }
+    ensures { IfOk result (λ found.
+        found.items ≡ faults_in (file_fault file.now) (given_of given.now)) }
+{
+    let mut found = Vec::new(alloc);
+    push_fault(&mut found, file_fault(file, read))?;
+    push_fault(&mut found, given.table_fault(Part::Branch))?;
+    push_fault(&mut found, given.table_fault(Part::Leaf))?;
+    given.push_field_faults(&mut found, &FIELDS)?;
+    Ok(found)
+}
+
+// Adds a fault, if there is one.
+fn push_fault(found: &mut Vec<Fault>, fault: Option<Fault>) -> Result<(), AllocError>
+    ensures { OnOk result (found.new.items ≡ found.old.items ++ listed fault) }
+{
+    if let Some(fault) = fault {
+        found.push(fault)?;
+    }
+    Ok(())
+}
+
 // Returns the first fault in a file, its document and the variables.
 #[tactic(auto, unfolding(crate::specs::Loading::fault_in))]
 fn first_fault_in(file: &FileSource, read: &Option<Document>, given: &Given<'_>) -> Option<Fault>
@@ -151,6 +200,18 @@ fn file_fault(file: &FileSource, read: &Option<Document>) -> Option<Fault>
 }
 
 impl<'a> Given<'a> {
+    // Adds all faults of these fields.
+    fn push_field_faults(&self, found: &mut Vec<Fault>, fields: &[Field]) -> Result<(), AllocError>
+        ensures { OnOk result (found.new.items
+            ≡ found.old.items ++ flat_map (field_faults (given_of self.now)) fields.now) }
+    {
+        for field in fields {
+            push_fault(found, self.variable_fault(*field))?;
+            push_fault(found, self.key_fault(*field))?;
+        }
+        Ok(())
+    }
+
     // Returns the first fault of these fields.
     fn first_field_fault(&self, fields: &[Field]) -> Option<Fault>
         ensures { result ≡ first_of (map (field_fault (given_of self.now)) fields.now) }
@@ -167,11 +228,26 @@ impl<'a> Given<'a> {
     fn field_fault(&self, field: Field) -> Option<Fault>
         ensures { result ≡ field_fault (given_of self.now) field }
     {
-        if let Some(value) = self.variable(field) {
-            if !text_fits(field.kind(), value) {
-                return Some(Fault::Variable(field));
-            }
+        if let Some(fault) = self.variable_fault(field) {
+            return Some(fault);
         }
+        self.key_fault(field)
+    }
+
+    // Returns the fault of a field's variable.
+    fn variable_fault(&self, field: Field) -> Option<Fault>
+        ensures { result ≡ variable_fault (given_of self.now) field }
+    {
+        match self.variable(field) {
+            Some(value) if !text_fits(field.kind(), value) => Some(Fault::Variable(field)),
+            _ => None,
+        }
+    }
+
+    // Returns the fault of a field's key.
+    fn key_fault(&self, field: Field) -> Option<Fault>
+        ensures { result ≡ key_fault (given_of self.now) field }
+    {
         match self.node(field) {
             Some(value) if !node_fits(field.kind(), value) => Some(Fault::Key(field)),
             _ => None,

@@ -83,20 +83,25 @@ fn begins_by_eight(text: &[u8], prefix: &[u8]) -> bool
     eight_at(text, 0) == eight_at(prefix, 0) && eight_at(text, last) == eight_at(prefix, last)
 }
 
-/// Whether a text begins with a prefix of at most sixteen bytes.
+/// Whether a text begins with a prefix of at most sixteen bytes. Most pieces have four to eight, so
+/// these are tried first.
 #[inline(always)]
 pub(crate) fn begins(text: &[u8], prefix: &[u8]) -> bool
     requires { length prefix.now ≤ 16 }
     ensures { IsTrue result ↔ IsPrefixOf prefix.now text.now }
 {
-    if text.len() < prefix.len() {
+    let width = prefix.len();
+    if text.len() < width {
         return false;
     }
-    match prefix.len() {
-        0 => true,
-        1 => text[0] == prefix[0],
-        2..4 => begins_by_two(text, prefix),
-        4..8 => begins_by_four(text, prefix),
-        _ => begins_by_eight(text, prefix),
+    if width >= 4 {
+        if width <= 8 {
+            return begins_by_four(text, prefix);
+        }
+        return begins_by_eight(text, prefix);
     }
+    if width >= 2 {
+        return begins_by_two(text, prefix);
+    }
+    width == 0 || text[0] == prefix[0]
 }

@@ -1,18 +1,19 @@
 //! Items that draw the values of a document in place, without a copy.
 ghost use Rattle.serde_json.specs.View as json;
-ghost use Rattle.std.specs.Prelude.{◌≡◌, ◌++◌, [], codes, map, IfOk};
+ghost use Rattle.std.specs.Prelude.{◌≡◌, ◌≢◌, ◌++◌, [], codes, map, IfOk, OnOk, OnErr};
 ghost use Rattle.toml.specs.View as toml;
 ghost use Rattle.ptree.specs.Convert.{json_items, json_entries, toml_items, toml_entries};
-ghost use Rattle.ptree.specs.Data.{item_pairs, entry_pairs, value_pairs, pair_shape};
+ghost use Rattle.ptree.specs.Data.{item_pairs, entry_pairs, value_pairs, pair_text, pair_shape};
 ghost use Rattle.ptree.specs.Parts.{part_of, node_pair_of, parsed_of};
 ghost use Rattle.ptree.specs.Style.{style_of, painted_text};
-ghost use Rattle.ptree.specs.Writing.{IsWritten, HasCause, TakesNoMemory};
+ghost use Rattle.ptree.specs.Writing.{IsWritten, HasCause, HasErrorCause, TakesNoMemory};
+ghost use Rattle.ptree.specs.declared.style.DrawError.TheVariants.{Memory};
 
 use super::part::{Parsed, ParsedPart};
 use super::text::ROOM;
 use crate::codes::Codes;
 use crate::item::{Children, Shaped, TreeItem};
-use crate::style::{DrawError, Sink, Style, put_all};
+use crate::style::{DrawError, Sink, Stop, Style, put_or_stop};
 use serde_json::Map;
 use std::alloc::{AllocError, Global};
 use toml::Table;
@@ -47,6 +48,7 @@ impl<'a> TreeItem for DocumentNode<'a> {
     type Child = DocumentNode<'a>;
 
     /// Writes the text painted. It does not allocate.
+    #[inline(always)]
     fn write_self<W: Sink>(&self, _alloc: Global, f: &mut W, style: &Style) -> Result<(), DrawError>
         ensures bytes { IsWritten (W.contents f.old) (W.contents f.new) result
             ((pair_shape (node_pair_of self.now)).own [] (style_of style.now)) }
@@ -56,11 +58,7 @@ impl<'a> TreeItem for DocumentNode<'a> {
         let mut room = [0; ROOM];
         match self {
             DocumentNode::Labelled(label, part) => {
-                if label.is_empty() {
-                    style.write_painted(f, part.text(&mut room))
-                } else {
-                    style.write_painted(f, label)
-                }
+                style.write_painted(f, labelled_text(label, part, &mut room))
             }
             DocumentNode::Entry(key, part) => {
                 if part.is_list() {
@@ -79,6 +77,18 @@ impl<'a> TreeItem for DocumentNode<'a> {
             DocumentNode::Entry(_, part) => nodes_of(alloc, part)?,
         };
         Ok(Children::Made(nodes))
+    }
+}
+
+// Returns the label, or the value's text if the label is empty.
+#[inline(always)]
+fn labelled_text<'a>(label: &'a str, part: &'a ParsedPart<'_>, room: &'a mut [u8; ROOM]) -> &'a str
+    ensures { result.now ≡ pair_text (label.now, part_of part.now) }
+{
+    if label.is_empty() {
+        part.text(room)
+    } else {
+        label
     }
 }
 
@@ -156,26 +166,59 @@ fn toml_members<'a>(alloc: Global, members: &'a Table) -> Result<Vec<DocumentNod
 }
 
 // Writes `key = value` painted.
+#[inline(always)]
 fn write_entry<W: Sink>(f: &mut W, style: &Style, key: &str, value: &str) -> Result<(), DrawError>
     ensures bytes { IsWritten (W.contents f.old) (W.contents f.new) result
         (painted_text (style_of style.now) (key.now ++ codes " = " ++ value.now)) }
     ensures cause { HasCause (W.faults f.old) (W.faults f.new) result }
     ensures memory { TakesNoMemory result }
 {
-    let codes = Codes::of(style);
-    put_all(f, codes.as_bytes())?;
-    put_entry(f, key, value)?;
-    put_all(f, codes.reset().as_bytes())
+    let mut error = DrawError::Memory;
+    let written = if style.is_plain() {
+        put_entry(f, key, value, &mut error)
+    } else {
+        put_painted(f, style, key, value, &mut error)
+    };
+    match written {
+        Ok(()) => Ok(()),
+        Err(_) => Err(error),
+    }
 }
 
-// Writes `key = value`.
-fn put_entry<W: Sink>(f: &mut W, key: &str, value: &str) -> Result<(), DrawError>
+// Writes `key = value` painted in any style, and stores a failure of the sink in `error`. It is a
+// function of its own, since each call pays for the buffer of the codes.
+#[inline(never)]
+fn put_painted<W: Sink>(
+    f: &mut W,
+    style: &Style,
+    key: &str,
+    value: &str,
+    error: &mut DrawError,
+) -> Result<(), Stop>
+    requires { error.old ≡ Memory }
+    ensures bytes { IsWritten (W.contents f.old) (W.contents f.new) result
+        (painted_text (style_of style.now) (key.now ++ codes " = " ++ value.now)) }
+    ensures cause { HasErrorCause (W.faults f.old) (W.faults f.new) error.new }
+    ensures error { OnOk result (error.new ≡ Memory) }
+    ensures memory { OnErr result (error.new ≢ Memory) }
+{
+    let codes = Codes::of(style);
+    put_or_stop(f, codes.as_bytes(), error)?;
+    put_entry(f, key, value, error)?;
+    put_or_stop(f, codes.reset().as_bytes(), error)
+}
+
+// Writes `key = value`, and stores a failure of the sink in `error`.
+#[inline(always)]
+fn put_entry<W: Sink>(f: &mut W, key: &str, value: &str, error: &mut DrawError) -> Result<(), Stop>
+    requires { error.old ≡ Memory }
     ensures bytes { IsWritten (W.contents f.old) (W.contents f.new) result
         (key.now ++ codes " = " ++ value.now) }
-    ensures cause { HasCause (W.faults f.old) (W.faults f.new) result }
-    ensures memory { TakesNoMemory result }
+    ensures cause { HasErrorCause (W.faults f.old) (W.faults f.new) error.new }
+    ensures error { OnOk result (error.new ≡ Memory) }
+    ensures memory { OnErr result (error.new ≢ Memory) }
 {
-    put_all(f, key.as_bytes())?;
-    put_all(f, b" = ")?;
-    put_all(f, value.as_bytes())
+    put_or_stop(f, key.as_bytes(), error)?;
+    put_or_stop(f, b" = ", error)?;
+    put_or_stop(f, value.as_bytes(), error)
 }

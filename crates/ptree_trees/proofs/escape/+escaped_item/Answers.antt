@@ -2,7 +2,7 @@ use Rattle.std.proofs.Common.{◌≡◌, string_bytes, ap, rules, ◌∙◌}
 use Rattle.ptree.specs.Tree.{tree_of}
 use Rattle.ptree.specs.declared.item.StringItem.{out-StringItem}
 use Rattle.ptree_trees.specs.Escape.{escaped_text}
-use Rattle.ptree_trees.proofs.Escapes.{next_mapped, whole_mapped}
+use Rattle.ptree_trees.proofs.EscapedTrees.{next_mapped, whole_mapped}
 use Rattle.ptree_trees.proofs.escape.+escaped_item.Goals as goal
 
 pub loop-child-preserved : goal.loop-child-preserved

@@ -1,4 +1,4 @@
-use Rattle.ptree_trees.proofs.IndentedReading.{reading_some, reading_back, reading_line, reading_end}
+use Rattle.ptree_trees.proofs.IndentedResults.{reading_some, reading_back, reading_line, reading_end}
 use Rattle.ptree_trees.proofs.indented.read_indented.Goals as goal
 
 pub returns-clause-some : goal.returns-clause-some

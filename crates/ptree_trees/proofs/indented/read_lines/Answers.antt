@@ -5,7 +5,8 @@ use Rattle.ptree.specs.Outline.{line}
 use Rattle.ptree.specs.Texts.{HasNoLineFeed}
 use Rattle.ptree.specs.Tree.{tree_of}
 use Rattle.ptree_trees.specs.Indented.{begins_blank}
-use Rattle.ptree_trees.proofs.IndentedReading.{stage_root, stage_more, stage_wrong, root_wrong, no_root, root_missing, stage_ends, stage_form, reading_err}
+use Rattle.ptree_trees.proofs.IndentedReading.{stage_root, stage_more, stage_wrong, root_wrong, no_root, root_missing, stage_ends, stage_form}
+use Rattle.ptree_trees.proofs.IndentedResults.{reading_err}
 use Rattle.ptree_trees.proofs.indented.read_lines.Goals as goal
 
 pub returns-in_default : goal.returns-in_default

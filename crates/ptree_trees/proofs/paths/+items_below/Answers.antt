@@ -5,7 +5,8 @@ use Rattle.ptree.specs.Tree.{tree_of, forest}
 use Rattle.ptree_trees.specs.Paths.{IsForestOfPaths, names_of, next_names, with_names, tops}
 use Rattle.ptree_trees.specs.PathGroups.{tails_at}
 use Rattle.ptree_trees.proofs.PathGroups.{tails_taken, tails_gone, first_there, others_same, item_others}
-use Rattle.ptree_trees.proofs.PathTrees.{forest_done, fewer_names, item_pushed, names_old, paths_left}
+use Rattle.ptree_trees.proofs.PathLoops.{fewer_names, item_pushed, paths_left}
+use Rattle.ptree_trees.proofs.PathTrees.{forest_done, names_old}
 use Rattle.ptree_trees.proofs.paths.+items_below.Goals as goal
 
 pub loop-path-preserved-in_default : goal.loop-path-preserved-in_default

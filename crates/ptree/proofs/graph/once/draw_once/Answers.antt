@@ -20,12 +20,12 @@ pub returns-clause-bytes : goal.returns-clause-bytes
 returns-clause-bytes g c =
     let config = c.args.config.now in
     λ t h. subst (λ (z : OccurrenceTree). IsDrawn (config_look config c.args.output_kind c.args.terminal) (occurrence_shape g.N.Label.text c.args.graph.now c.args.mark.now z) config.depth
-    (g.W.Sink.contents c.args.f.now) (g.W.Sink.contents c.draw_for.new.f) c.draw_for.result)
-    (only_one c.args.graph.now c.args.start.0 config.depth _ (occurrence_tree c.in_ok-occurrence.occurrence) t c.in_ok-occurrence.ensures.tree h (omega arith)) c.draw_for.ensures.bytes
+    (g.W.Sink.contents c.args.f.now) (g.W.Sink.contents c.draw_expanded.new.f) c.draw_expanded.result)
+    (only_one c.args.graph.now c.args.start.0 config.depth _ (occurrence_tree c.in_ok-occurrence.occurrence) t c.in_ok-occurrence.ensures.tree h (omega arith)) c.draw_expanded.ensures.bytes
 
 pub returns-clause-whole : goal.returns-clause-whole
 returns-clause-whole g c =
     let config = c.args.config.now in
     λ t h. subst (λ (z : OccurrenceTree). LeavesWholeEntries (config_look config c.args.output_kind c.args.terminal) (occurrence_shape g.N.Label.text c.args.graph.now c.args.mark.now z) config.depth
-    (g.W.Sink.contents c.args.f.now) (g.W.Sink.contents c.draw_for.new.f) c.draw_for.result)
-    (only_one c.args.graph.now c.args.start.0 config.depth _ (occurrence_tree c.in_ok-occurrence.occurrence) t c.in_ok-occurrence.ensures.tree h (omega arith)) c.draw_for.ensures.whole
+    (g.W.Sink.contents c.args.f.now) (g.W.Sink.contents c.draw_expanded.new.f) c.draw_expanded.result)
+    (only_one c.args.graph.now c.args.start.0 config.depth _ (occurrence_tree c.in_ok-occurrence.occurrence) t c.in_ok-occurrence.ensures.tree h (omega arith)) c.draw_expanded.ensures.whole

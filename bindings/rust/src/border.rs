@@ -1,0 +1,299 @@
+//! The calls of the static library, and what is passed to them. All `unsafe` code of this crate is here.
+//!
+//! Every pointer comes from a slice or a reference, so it is aligned and never null, and each length is that of its slice. What a call
+//! writes to is borrowed mutably, so it overlaps nothing else. The library keeps no pointer, calls nothing back and has no state.
+mod calls;
+mod fields;
+mod steps;
+
+use crate::print_config::PrintConfig;
+use crate::read::ReadError;
+use crate::style::Style;
+use crate::value::DocFormat;
+use calls::*;
+use fields::{config_of, fields_for, part_of, style_fields};
+use std::io::{self, Error, ErrorKind};
+pub(crate) use steps::Steps;
+
+// The numbers of refusals that are told apart here.
+const DONE: u32 = 0;
+const MEMORY: u32 = 1;
+const PIECES: u32 = 5;
+const LINE: u32 = 6;
+const INCOMPLETE: u32 = 7;
+const FAULT: u32 = 15;
+
+/// Items by their levels and the ends of their texts, which stand one behind the other.
+pub(crate) struct Outline {
+    items: Vec<Item>,
+    texts: Vec<u8>,
+}
+
+impl Outline {
+    /// Returns each item's level and text.
+    pub(crate) fn items(&self) -> impl Iterator<Item = (u32, io::Result<String>)> + '_ {
+        let mut from = 0;
+        self.items.iter().map(move |item| {
+            let bytes = self.texts.get(from..item.end).unwrap_or_default();
+            from = item.end;
+            (item.level, text_of(bytes))
+        })
+    }
+}
+
+/// The nodes of a graph by the ends of their texts, and its edges.
+#[derive(Default)]
+pub(crate) struct Nodes {
+    ends: Vec<usize>,
+    edges: Vec<Edge>,
+
+    /// The texts of all nodes, one behind the other.
+    pub(crate) texts: Vec<u8>,
+}
+
+impl Nodes {
+    /// Adds a node. Its text is what the texts have got since the node before it.
+    pub(crate) fn end_node(&mut self) {
+        self.ends.push(self.texts.len());
+    }
+
+    /// Adds an edge, by the places of its nodes.
+    pub(crate) fn add_edge(&mut self, source: usize, target: usize) {
+        self.edges.push(Edge { source, target });
+    }
+}
+
+/// What is drawn of a graph.
+#[derive(Clone, Copy)]
+pub(crate) enum Expansion<'a> {
+    /// All walks.
+    Walks,
+
+    /// Each node's neighbours once, and this mark after its label at later places.
+    Once(&'a str),
+}
+
+/// The drawing of a graph from the node at a place.
+pub(crate) fn draw_graph(nodes: &Nodes, start: usize, expansion: Expansion<'_>, config: &PrintConfig, is_styled: bool) -> io::Result<Vec<u8>> {
+    let (fields, names) = fields_for(config, is_styled, &config.leaf);
+    let guess = nodes.texts.len() + 16 * (nodes.ends.len() + nodes.edges.len());
+    bytes_of(guess, |out, found| match expansion {
+        Expansion::Walks => unsafe {
+            ptree_draw_walks(
+                nodes.ends.as_ptr(),
+                nodes.ends.len(),
+                nodes.texts.as_ptr(),
+                nodes.texts.len(),
+                nodes.edges.as_ptr(),
+                nodes.edges.len(),
+                start,
+                &fields,
+                names.as_ptr(),
+                names.len(),
+                out.as_mut_ptr(),
+                out.len(),
+                found,
+            )
+        },
+        Expansion::Once(mark) => unsafe {
+            ptree_draw_once(
+                nodes.ends.as_ptr(),
+                nodes.ends.len(),
+                nodes.texts.as_ptr(),
+                nodes.texts.len(),
+                nodes.edges.as_ptr(),
+                nodes.edges.len(),
+                start,
+                mark.as_ptr(),
+                mark.len(),
+                &fields,
+                names.as_ptr(),
+                names.len(),
+                out.as_mut_ptr(),
+                out.len(),
+                found,
+            )
+        },
+    })
+}
+
+/// The outline of the tree whose drawing a text is.
+pub(crate) fn read(text: &str, config: &PrintConfig) -> io::Result<Outline> {
+    let (fields, names) = fields_for(config, false, &Style::default());
+    // There are no more items than line feeds, and no more bytes of texts than of the text.
+    let lines = text.bytes().filter(|byte| *byte == b'\n').count();
+    let mut outline = Outline { items: room(lines)?, texts: room(text.len())? };
+    let mut found = Found::default();
+    let refusal = unsafe {
+        ptree_read_with(
+            text.as_ptr(),
+            text.len(),
+            &fields,
+            names.as_ptr(),
+            names.len(),
+            outline.items.as_mut_ptr(),
+            outline.items.len(),
+            outline.texts.as_mut_ptr(),
+            outline.texts.len(),
+            &mut found,
+        )
+    };
+    if refusal != DONE {
+        return Err(error_of(refusal, found.place));
+    }
+    outline.items.truncate(found.items);
+    outline.texts.truncate(found.bytes);
+    Ok(outline)
+}
+
+/// The drawing of a document.
+pub(crate) fn draw_document(format: DocFormat, text: &str, label: &str, config: &PrintConfig, is_styled: bool) -> io::Result<Vec<u8>> {
+    let (fields, names) = fields_for(config, is_styled, &config.leaf);
+    bytes_of(4 * text.len() + label.len() + 1, |out, found| unsafe {
+        ptree_draw_document_with(
+            text.as_ptr(),
+            text.len(),
+            label.as_ptr(),
+            label.len(),
+            format_number(format),
+            &fields,
+            names.as_ptr(),
+            names.len(),
+            out.as_mut_ptr(),
+            out.len(),
+            found,
+        )
+    })
+}
+
+/// A text painted in a style.
+pub(crate) fn paint(style: &Style, text: &str) -> io::Result<String> {
+    let mut names = Vec::new();
+    let fields = style_fields(&mut names, style);
+    // The codes of two colours and eight flags take at most 82 bytes.
+    let painted = bytes_of(text.len() + 96, |out, found| unsafe {
+        ptree_paint(
+            text.as_ptr(),
+            text.len(),
+            &fields,
+            names.as_ptr(),
+            names.len(),
+            out.as_mut_ptr(),
+            out.len(),
+            found,
+        )
+    })?;
+    text_of(&painted)
+}
+
+/// The configuration of a preset's number.
+pub(crate) fn preset(number: u32) -> io::Result<PrintConfig> {
+    config_from(|config, names, found| unsafe { ptree_config(number, config, names.as_mut_ptr(), names.len(), found) })
+}
+
+/// The configuration of a file and of variables. There is none if a value is at fault.
+pub(crate) fn load(file: Option<(DocFormat, &str)>, variables: &[(String, String)]) -> io::Result<Option<PrintConfig>> {
+    let mut texts = Vec::new();
+    let mut fields = Vec::new();
+    for (name, value) in variables {
+        fields.push(Variable { name: part_of(&mut texts, name), value: part_of(&mut texts, value) });
+    }
+    let (format, text) = match file {
+        Some((format, text)) => (format_number(format), text),
+        None => (2, ""),
+    };
+    let loaded = config_from(|config, names, found| unsafe {
+        ptree_load(
+            text.as_ptr(),
+            text.len(),
+            format,
+            fields.as_ptr(),
+            fields.len(),
+            texts.as_ptr(),
+            texts.len(),
+            config,
+            names.as_mut_ptr(),
+            names.len(),
+            found,
+        )
+    });
+    match loaded {
+        Ok(config) => Ok(Some(config)),
+        Err(error) if error.kind() == ErrorKind::InvalidInput => Ok(None),
+        Err(error) => Err(error),
+    }
+}
+
+// The number of a format.
+fn format_number(format: DocFormat) -> u32 {
+    match format {
+        DocFormat::Json => 0,
+        DocFormat::Toml => 1,
+    }
+}
+
+// The bytes that a call makes. It gets room for as many as are expected, and is called again if there are more.
+fn bytes_of(expected: usize, call: impl Fn(&mut [u8], &mut Found) -> u32) -> io::Result<Vec<u8>> {
+    let mut out = room(expected)?;
+    let mut found = Found::default();
+    let mut refusal = call(&mut out, &mut found);
+    if refusal == DONE && found.bytes > out.len() {
+        out = room(found.bytes)?;
+        refusal = call(&mut out, &mut found);
+    }
+    if refusal != DONE {
+        return Err(error_of(refusal, found.place));
+    }
+    out.truncate(found.bytes);
+    Ok(out)
+}
+
+// The configuration whose fields a call makes.
+fn config_from(call: impl Fn(&mut ConfigFields, &mut [u8], &mut Found) -> u32) -> io::Result<PrintConfig> {
+    let mut found = Found::default();
+    let mut fields = ConfigFields::default();
+    let mut names = room(256)?;
+    let mut refusal = call(&mut fields, &mut names, &mut found);
+    if refusal == DONE && found.bytes > names.len() {
+        names = room(found.bytes)?;
+        refusal = call(&mut fields, &mut names, &mut found);
+    }
+    if refusal != DONE {
+        return Err(error_of(refusal, found.place));
+    }
+    config_of(&fields, &names)
+}
+
+// Values that are not set yet. Out of memory is an error.
+fn room<T: Clone + Default>(count: usize) -> io::Result<Vec<T>> {
+    let mut room = Vec::new();
+    room.try_reserve_exact(count).map_err(|_| Error::from(ErrorKind::OutOfMemory))?;
+    room.resize(count, T::default());
+    Ok(room)
+}
+
+// The error of a refusal.
+fn error_of(refusal: u32, place: usize) -> Error {
+    match refusal {
+        MEMORY => Error::from(ErrorKind::OutOfMemory),
+        LINE => Error::new(ErrorKind::InvalidData, ReadError::Line(place)),
+        INCOMPLETE => Error::new(ErrorKind::InvalidData, ReadError::End),
+        PIECES | FAULT => Error::new(ErrorKind::InvalidInput, refusal_text(refusal)),
+        _ => Error::new(ErrorKind::InvalidData, refusal_text(refusal)),
+    }
+}
+
+// The text of a refusal.
+fn refusal_text(refusal: u32) -> String {
+    let mut out = [0; 100];
+    let length = unsafe { ptree_refusal_text(refusal, out.as_mut_ptr(), out.len()) };
+    String::from_utf8_lossy(&out[..length.min(out.len())]).into_owned()
+}
+
+// The text of bytes.
+fn text_of(bytes: &[u8]) -> io::Result<String> {
+    match std::str::from_utf8(bytes) {
+        Ok(text) => Ok(text.to_string()),
+        Err(error) => Err(Error::new(ErrorKind::InvalidData, error)),
+    }
+}

@@ -1,0 +1,32 @@
+//! Draws trees as text, and reads the drawings back exactly.
+//!
+//! The names and types are those of the crate `ptree` 0.5.2. What draws and reads is a static library that is proved; this
+//! crate gathers items, passes them on and writes what comes back. `docs/RUST.md` of the repository says what holds.
+//!
+//! ```
+//! use ptree::{write_tree_with, PrintConfig, TreeBuilder};
+//!
+//! let tree = TreeBuilder::new("notes".to_string()).add_empty_child("shopping".to_string()).build();
+//! let mut out = Vec::new();
+//! write_tree_with(&tree, &mut out, &PrintConfig::default())?;
+//! assert_eq!(String::from_utf8_lossy(&out), "notes\n└─ shopping\n");
+//! # Ok::<(), std::io::Error>(())
+//! ```
+#![warn(missing_docs)]
+
+mod border;
+pub mod builder;
+pub mod graph;
+pub mod item;
+pub mod output;
+pub mod print_config;
+pub mod read;
+pub mod style;
+pub mod value;
+
+pub use crate::builder::TreeBuilder;
+pub use crate::item::TreeItem;
+pub use crate::output::{print_tree, print_tree_with, write_tree, write_tree_with};
+pub use crate::print_config::{IndentChars, PrintConfig};
+pub use crate::read::read_tree;
+pub use crate::style::{Color, Style};

@@ -1,0 +1,123 @@
+//! Errors as errors of std, with their texts.
+ghost use Rattle.std.specs.IoError.{error_kind};
+ghost use Rattle.std.specs.Prelude.{◌≡◌};
+ghost use Rattle.ptree.specs.Errors.{add_kind, chars_kind, convert_kind, edge_kind, read_kind, IsDocIoError};
+
+use crate::builder::AddError;
+use crate::graph::EdgeError;
+use crate::print_config::{CharsError, Fault};
+use crate::read::ReadError;
+use crate::value::{ConvertError, DocError};
+use std::fmt::Display;
+use std::io::{self, Cursor, ErrorKind, Write};
+use std::str;
+
+// No text of this library's errors is longer.
+const ROOM: usize = 128;
+
+/// Returns an error of std of this kind with the text of another error.
+///
+/// Std keeps 80 bytes of the text, and ends a longer one in three dots. A text of more than 128
+/// bytes may be left out. It does not allocate.
+pub fn io_error<E: Display>(kind: ErrorKind, error: &E) -> io::Error
+    ensures { error_kind result ≡ kind }
+{
+    let mut room = Cursor::new([0u8; ROOM]);
+    let _ = write!(room, "{error}");
+    let end = room.position() as usize;
+    match str::from_utf8(room.get_ref().get(..end).unwrap_or(b"")) {
+        Ok(text) => io::Error::new(kind, text),
+        Err(_) => io::Error::from(kind),
+    }
+}
+
+impl From<AddError> for io::Error {
+    ghost from_gives = { λ e told. error_kind told ≡ add_kind e };
+
+    /// Returns an error with the same text, of the kind `InvalidInput` or `OutOfMemory`.
+    fn from(e: AddError) -> io::Error {
+        let kind = match e {
+            AddError::Level => ErrorKind::InvalidInput,
+            AddError::Memory => ErrorKind::OutOfMemory,
+        };
+        io_error(kind, &e)
+    }
+}
+
+impl From<EdgeError> for io::Error {
+    ghost from_gives = { λ e told. error_kind told ≡ edge_kind e };
+
+    /// Returns an error with the same text, of the kind `InvalidInput` or `OutOfMemory`.
+    fn from(e: EdgeError) -> io::Error {
+        let kind = match e {
+            EdgeError::NoNode => ErrorKind::InvalidInput,
+            EdgeError::Memory => ErrorKind::OutOfMemory,
+        };
+        io_error(kind, &e)
+    }
+}
+
+impl From<CharsError> for io::Error {
+    ghost from_gives = { λ e told. error_kind told ≡ chars_kind e };
+
+    /// Returns an error with the same text, of the kind `InvalidInput` or `OutOfMemory`.
+    fn from(e: CharsError) -> io::Error {
+        let kind = match e {
+            CharsError::Unknown => ErrorKind::InvalidInput,
+            CharsError::Memory => ErrorKind::OutOfMemory,
+        };
+        io_error(kind, &e)
+    }
+}
+
+impl From<ReadError> for io::Error {
+    ghost from_gives = { λ e told. error_kind told ≡ read_kind e };
+
+    /// Returns an error with the same text, of the kind `InvalidData`, `UnexpectedEof` if the text
+    /// is incomplete, or `OutOfMemory`.
+    fn from(e: ReadError) -> io::Error {
+        let kind = match e {
+            ReadError::Line(_) => ErrorKind::InvalidData,
+            ReadError::End => ErrorKind::UnexpectedEof,
+            ReadError::Memory => ErrorKind::OutOfMemory,
+        };
+        io_error(kind, &e)
+    }
+}
+
+impl From<ConvertError> for io::Error {
+    ghost from_gives = { λ e told. error_kind told ≡ convert_kind e };
+
+    /// Returns an error with the same text, of the kind `InvalidData` or `OutOfMemory`.
+    fn from(e: ConvertError) -> io::Error {
+        let kind = match e {
+            ConvertError::Float | ConvertError::Date => ErrorKind::InvalidData,
+            ConvertError::Memory => ErrorKind::OutOfMemory,
+        };
+        io_error(kind, &e)
+    }
+}
+
+impl From<DocError> for io::Error {
+    ghost from_gives = { IsDocIoError };
+
+    /// Returns what a failed drawing's error gives, or else an error with the same text, of the
+    /// kind `InvalidData`.
+    fn from(e: DocError) -> io::Error {
+        match e {
+            DocError::Draw(e) => io::Error::from(e),
+            refused => io_error(ErrorKind::InvalidData, &refused),
+        }
+    }
+}
+
+impl From<Fault> for io::Error {
+    ghost use Rattle.std.specs.declared.io.ErrorKind.TheVariants.{InvalidData};
+
+    ghost from_gives = { λ _ told. error_kind told ≡ InvalidData };
+
+    /// Returns an error with the same text, of the kind `InvalidData`.
+    fn from(e: Fault) -> io::Error {
+        io_error(ErrorKind::InvalidData, &e)
+    }
+}

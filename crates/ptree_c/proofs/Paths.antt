@@ -1,0 +1,38 @@
+-- What an entry begins with, from level to level.
+use Rattle.std.proofs.Common.{◌≡◌, ℕ, ◌+◌, ◌-◌, ◌<◌, Bool, List, [], ◌∷◌, ◌++◌, length, map, take, get_or, refl, sym, ap, ◌∙◌, append_assoc, arith}
+use Rattle.std.proofs.Math.Seq.{take-append_seam}
+use Rattle.std.proofs.lemmas.List.{append-nil, length-append, map-append, take_more}
+use Rattle.ptree.specs.Pieces.{Pieces, passing_piece, passing_all}
+use Rattle.ptree_c.specs.Fields.{is_set}
+use Rattle.ptree_c.specs.Steps.{path_flags}
+
+-- the passing pieces of one level more
+pub passing_more : (p : Pieces) (above : List Bool) (b : Bool) → passing_all p (above ++ b ∷ []) ≡ passing_all p above ++ passing_piece p b
+passing_more p [] b = append-nil (passing_piece p b)
+passing_more p (d ∷ above) b = ap (λ z. passing_piece p d ++ z) (passing_more p above b) ∙ sym (append_assoc (passing_piece p d) (passing_all p above) (passing_piece p b))
+
+-- the flags of one level more
+pub flags_more : (path : List ℕ) (n : ℕ) → n < length path → path_flags path (n + 1) ≡ path_flags path n ++ is_set (get_or path n 0) ∷ []
+flags_more path n h = ap (map is_set) (take_more path n 0 h) ∙ map-append is_set (take n path) (get_or path n 0 ∷ [])
+
+-- the pieces of one level more
+pieces_more : (p : Pieces) (path : List ℕ) (n : ℕ) → n < length path → passing_all p (path_flags path (n + 1)) ≡ passing_all p (path_flags path n) ++ passing_piece p (is_set (get_or path n 0))
+pieces_more p path n h = ap (passing_all p) (flags_more path n h) ∙ passing_more p (path_flags path n) (is_set (get_or path n 0))
+
+-- a level down
+pub front_down : (p : Pieces) (path start front : List ℕ) (n : ℕ) → n < length path → front ≡ start ++ passing_all p (path_flags path n)
+    → front ++ passing_piece p (is_set (get_or path n 0)) ≡ start ++ passing_all p (path_flags path (n + 1))
+front_down p path start front n h is =
+    let piece : List ℕ = passing_piece p (is_set (get_or path n 0)) in
+    ap (λ z. z ++ piece) is ∙ (append_assoc start (passing_all p (path_flags path n)) piece ∙ ap (λ z. start ++ z) (sym (pieces_more p path n h)))
+
+-- a level up
+pub front_up : (p : Pieces) (path start front : List ℕ) (n width : ℕ) → n < length path → front ≡ start ++ passing_all p (path_flags path (n + 1))
+    → width ≡ length front - length (passing_piece p (is_set (get_or path n 0))) → take width front ≡ start ++ passing_all p (path_flags path n)
+front_up p path start front n width h is w =
+    let piece : List ℕ = passing_piece p (is_set (get_or path n 0)) in
+    let rest : List ℕ = start ++ passing_all p (path_flags path n) in
+    let parts : front ≡ rest ++ piece = is ∙ (ap (λ z. start ++ z) (pieces_more p path n h) ∙ sym (append_assoc start (passing_all p (path_flags path n)) piece)) in
+    let long : length front ≡ length rest + length piece = ap length parts ∙ length-append rest piece in
+    let same : width ≡ length rest = omega (arith, w, long) in
+    ap (λ n. take n front) same ∙ (ap (take (length rest)) parts ∙ take-append_seam rest piece)

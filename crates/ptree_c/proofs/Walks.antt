@@ -1,0 +1,49 @@
+-- Items drawn in turn.
+use Rattle.std.proofs.Common.{◌≡◌, ℕ, suc, ◌+◌, ◌-◌, ◌<◌, ◌≤◌, Bool, true, false, cond, eqb, List, [], ◌∷◌, ◌++◌, length, take, drop, get_or, map, refl, sym, ap, ◌∙◌, append_assoc, add-one, arith}
+use Rattle.std.proofs.Math.Seq.{drop-cons, take-append_seam}
+use Rattle.std.proofs.lemmas.Bool.{eq-eqb, false≢true}
+use Rattle.std.proofs.lemmas.List.{append-nil, length-append, length-take-le, length-drop, take_more}
+use Rattle.ptree.specs.Drawing.{Look}
+use Rattle.ptree_c.specs.Steps.{path_flags, path_with, path_after, step_entry, steps_text}
+use Rattle.ptree_c.specs.declared.steps.Step.{Step}
+
+-- the path after items and one more
+pub after_more : (path : List ℕ) (a : List Step) (s : Step) → path_after path (a ++ s ∷ []) ≡ path_with (path_after path a) s.level s.is_last
+after_more path [] s = refl
+after_more path (x ∷ a) s = after_more (path_with path x.level x.is_last) a s
+
+-- the entries of items and of one more
+pub text_more : (look : Look) (texts path : List ℕ) (a : List Step) (s : Step) → steps_text look texts path (a ++ s ∷ []) ≡ steps_text look texts path a ++ step_entry look texts (path_after path a) s
+text_more look texts path [] s = append-nil (step_entry look texts path s)
+text_more look texts path (x ∷ a) s =
+    ap (λ z. step_entry look texts path x ++ z) (text_more look texts (path_with path x.level x.is_last) a s)
+    ∙ sym (append_assoc (step_entry look texts path x) (steps_text look texts (path_with path x.level x.is_last) a) (step_entry look texts (path_after path (x ∷ a)) s))
+
+-- where the rest begins with an item, that is the next one
+pub next_of : {A : Type 0} (xs : List A) (n : ℕ) (x : A) (t : List A) → x ∷ t ≡ drop n xs → (n < length xs) × (take (n + 1) xs ≡ take n xs ++ x ∷ []) × (drop (n + 1) xs ≡ t)
+next_of xs n x t e =
+    let within : n < length xs = omega (arith, ap length e, length-drop n xs) in
+    let both : get_or xs n x ∷ drop (suc n) xs ≡ x ∷ t = sym (drop-cons xs n x within) ∙ sym e in
+    let first : get_or xs n x ≡ x = cc in
+    let rest : drop (suc n) xs ≡ t = cc in
+    (within, take_more xs n x within ∙ ap (λ y. take n xs ++ y ∷ []) first, ap (λ k. drop k xs) (add-one n) ∙ rest)
+
+-- the levels above one keep their flags
+pub with_above : (path : List ℕ) (level last : ℕ) → level ≤ length path → take (level - 1) (path_with path level last) ≡ take (level - 1) path
+with_above path level last h = at (eqb level 0) where
+  at : (root : Bool) → take (level - 1) (cond root path (take (level - 1) path ++ last ∷ drop level path)) ≡ take (level - 1) path
+  at true = refl
+  at false =
+      let wide : level - 1 ≡ length (take (level - 1) path) = sym (length-take-le (level - 1) path (omega arith)) in
+      ap (λ n. take n (take (level - 1) path ++ last ∷ drop level path)) wide ∙ take-append_seam (take (level - 1) path) (last ∷ drop level path)
+
+-- a path stays as long as it was
+pub with_length : (path : List ℕ) (level last : ℕ) → level ≤ length path → length (path_with path level last) ≡ length path
+with_length path level last h = at (eqb level 0) refl where
+  at : (root : Bool) → eqb level 0 ≡ root → length (cond root path (take (level - 1) path ++ last ∷ drop level path)) ≡ length path
+  at true e = refl
+  at false e =
+      let some : level ≡ 0 → ⊥ = λ z. false≢true (sym e ∙ eq-eqb level 0 z) in
+      let low : 0 < level = omega (arith, some) in
+      let front : length (take (level - 1) path) ≡ level - 1 = length-take-le (level - 1) path (omega arith) in
+      omega (arith, length-append (take (level - 1) path) (last ∷ drop level path), front, length-drop level path)

@@ -1,0 +1,7 @@
+use Rattle.std.proofs.Common.{rules}
+use Rattle.ptree_c.proofs.graph.ptree_draw_once.Goals as goal
+
+pub returns-in-Ok-clause-drawn : goal.returns-in-Ok-clause-drawn
+returns-in-Ok-clause-drawn c = λ done.
+    let given = c.in-Ok.ensures in
+    (given.0, c.in-Ok.drawing.items, given.2, given.1, search rules, search rules)

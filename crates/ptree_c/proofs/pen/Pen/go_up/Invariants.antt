@@ -1,0 +1,10 @@
+use Rattle.std.proofs.Common.{◌-◌}
+use Rattle.ptree_c.specs.Pens.{HoldsPath}
+use Rattle.ptree_c.proofs.pen.Pen.go_up.Given as goal
+
+-- the front is that of the level
+abbrev pub invariant-loop-self : goal.invariant-loop-self
+invariant-loop-self l = HoldsPath l.brush l.path l.self
+
+abbrev pub decreases-loop-self : goal.decreases-loop-self
+decreases-loop-self l = l.self.level - l.level

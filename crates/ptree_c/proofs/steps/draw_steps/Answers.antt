@@ -1,0 +1,29 @@
+use Rattle.std.proofs.Common.{◌≡◌, ◌++◌, ◌+◌, take, length, sym, ap, ◌∙◌, arith}
+use Rattle.ptree_c.specs.Pens.{brush_look}
+use Rattle.ptree_c.specs.Steps.{path_after, path_with, step_entry, steps_text}
+use Rattle.ptree_c.proofs.Walks.{after_more, text_more, next_of}
+use Rattle.ptree_c.proofs.steps.draw_steps.Goals as goal
+
+pub returns-in-Err-clause-all : goal.returns-in-Err-clause-all
+returns-in-Err-clause-all c = λ all. absurd (c.in-Err.ensures.stopped all)
+
+pub loop-step-preserved : goal.loop-step-preserved
+loop-step-preserved c =
+    let look = brush_look c.args.brush.now in
+    let texts = c.args.texts.now in
+    let path = c.args.path.now in
+    let steps = c.args.steps.now in
+    let inv = c.loop-step.invariant in
+    let n = c.loop-step.items in
+    let s = c.in-Some.step.now in
+    let next = next_of steps n s c.in-Some.tail.now (sym c.in-Some.ensures.cases.0 ∙ inv.left) in
+    record {
+      within = omega (arith, next.0);
+      left = sym next.2;
+      bytes = c.in-Ok.ensures.bytes ∙ (ap (λ t. c.loop-step.bytes.items ++ step_entry look t c.loop-step.path s) c.new-known.ensures ∙ ap (λ z. z ++ step_entry look texts c.loop-step.path s) inv.bytes
+          ∙ (ap (λ p. steps_text look texts path (take n steps) ++ step_entry look texts p s) inv.path
+          ∙ (sym (text_more look texts path (take n steps) s) ∙ ap (steps_text look texts path) (sym next.1))));
+      path = c.in-Ok.ensures.path ∙ (ap (λ p. path_with p s.level s.is_last) inv.path ∙ (sym (after_more path (take n steps) s) ∙ ap (path_after path) (sym next.1)));
+      held = c.in-Ok.ensures.held;
+      room = c.add_step.ensures.room;
+    }

@@ -1,0 +1,368 @@
+//! Configurations and styles as C gives them: by their fields.
+ghost use Rattle.std.specs.Prelude.{◌≡◌, IfOk, option_map, string_bytes};
+ghost use Rattle.ptree.specs.Characters.{characters_of};
+ghost use Rattle.ptree.specs.Color.{color_of};
+ghost use Rattle.ptree.specs.Config.{config_of};
+ghost use Rattle.ptree.specs.Style.{style_of};
+ghost use Rattle.ptree_c.specs.Fields.{part_text, color_value, is_set, style_value, characters_value, when_styled, config_value};
+
+use crate::items::text_between;
+use crate::refusal::Refusal;
+use ptree::print_config::{IndentChars, StyleWhen};
+use ptree::{Color, PrintConfig, Style};
+use std::alloc::{AllocError, Global};
+
+/// A text: what lies between two places of the texts that a call is given with it.
+#[repr(C)]
+#[derive(Debug, Clone, Copy)]
+pub struct Part {
+    /// Where the text begins.
+    pub start: usize,
+
+    /// Where the text ends.
+    pub end: usize,
+}
+
+/// A colour, or none.
+#[repr(C)]
+#[derive(Debug, Clone, Copy)]
+pub struct ColorFields {
+    /// 0 for no colour; 1 to 8 for black, red, green, yellow, blue, purple, cyan and white; 9 for a
+    /// number of the terminal's table; 10 for red, green and blue; 11 for a name.
+    pub kind: u32,
+
+    /// The byte of red. Of kind 9 the number.
+    pub red: u8,
+
+    /// The byte of green.
+    pub green: u8,
+
+    /// The byte of blue.
+    pub blue: u8,
+
+    /// The name.
+    pub name: Part,
+}
+
+/// A style. A flag is set if it is not 0.
+#[repr(C)]
+#[derive(Debug, Clone, Copy)]
+pub struct StyleFields {
+    /// The colour of the text.
+    pub foreground: ColorFields,
+
+    /// The colour behind the text.
+    pub background: ColorFields,
+
+    /// Bold text.
+    pub bold: u8,
+
+    /// Dimmed text.
+    pub dimmed: u8,
+
+    /// Italic text.
+    pub italic: u8,
+
+    /// Underlined text.
+    pub underline: u8,
+
+    /// Blinking text.
+    pub blink: u8,
+
+    /// Text with its two colours exchanged.
+    pub reverse: u8,
+
+    /// Hidden text.
+    pub hidden: u8,
+
+    /// Struck-through text.
+    pub strikethrough: u8,
+}
+
+/// The characters that branches are drawn with.
+#[repr(C)]
+#[derive(Debug, Clone, Copy)]
+pub struct CharactersFields {
+    /// Points down and right.
+    pub down_and_right: Part,
+
+    /// Points straight down.
+    pub down: Part,
+
+    /// Turns from down to right.
+    pub turn_right: Part,
+
+    /// Points right.
+    pub right: Part,
+
+    /// A blank.
+    pub empty: Part,
+}
+
+/// How a tree is drawn. The texts lie beside it.
+#[repr(C)]
+#[derive(Debug, Clone, Copy)]
+pub struct ConfigFields {
+    /// The greatest level that is drawn.
+    pub depth: u32,
+
+    /// When output is styled: 0 is never, 1 is always, and any other number is on a terminal, which
+    /// no call of this library draws to.
+    pub styled: u32,
+
+    /// The width of a piece in characters, including the padding.
+    pub indent: usize,
+
+    /// How many blanks end a piece.
+    pub padding: usize,
+
+    /// The characters.
+    pub characters: CharactersFields,
+
+    /// The style of branches.
+    pub branch: StyleFields,
+
+    /// The style of items' texts.
+    pub leaf: StyleFields,
+
+    /// The marker before the further lines of a text.
+    pub continued: Part,
+}
+
+/// The text of a part.
+pub(crate) fn text_of_part(alloc: Global, texts: &[u8], part: Part) -> Result<String, Refusal>
+    ensures { IfOk result (λ text. string_bytes text ≡ part_text texts.now part) }
+{
+    match text_between(alloc, texts, part.start, part.end, 0) {
+        Ok(text) => Ok(text),
+        Err(Refusal::Memory) => Err(Refusal::Memory),
+        Err(_) => Err(Refusal::Part),
+    }
+}
+
+// The colour of fields.
+fn color_of_fields(
+    alloc: Global,
+    texts: &[u8],
+    fields: ColorFields,
+) -> Result<Option<Color>, Refusal>
+    ensures { IfOk result (λ color. option_map color_of color ≡ color_value texts.now fields) }
+{
+    match fields.kind {
+        0 => Ok(None),
+        1 => Ok(Some(Color::Black)),
+        2 => Ok(Some(Color::Red)),
+        3 => Ok(Some(Color::Green)),
+        4 => Ok(Some(Color::Yellow)),
+        5 => Ok(Some(Color::Blue)),
+        6 => Ok(Some(Color::Purple)),
+        7 => Ok(Some(Color::Cyan)),
+        8 => Ok(Some(Color::White)),
+        9 => Ok(Some(Color::Fixed(fields.red))),
+        10 => Ok(Some(Color::RGB(fields.red, fields.green, fields.blue))),
+        11 => Ok(Some(Color::Named(text_of_part(alloc, texts, fields.name)?))),
+        _ => Err(Refusal::Color),
+    }
+}
+
+/// Whether a flag is set.
+pub(crate) fn flag(number: u8) -> bool
+    ensures { result ≡ is_set number }
+{
+    number != 0
+}
+
+/// The style of fields.
+pub(crate) fn style_of_fields(
+    alloc: Global,
+    texts: &[u8],
+    fields: &StyleFields,
+) -> Result<Style, Refusal>
+    ensures { IfOk result (λ style. style_of style ≡ style_value texts.now fields.now) }
+{
+    Ok(Style {
+        foreground: color_of_fields(alloc, texts, fields.foreground)?,
+        background: color_of_fields(alloc, texts, fields.background)?,
+        bold: flag(fields.bold),
+        dimmed: flag(fields.dimmed),
+        italic: flag(fields.italic),
+        underline: flag(fields.underline),
+        blink: flag(fields.blink),
+        reverse: flag(fields.reverse),
+        hidden: flag(fields.hidden),
+        strikethrough: flag(fields.strikethrough),
+    })
+}
+
+// The characters of fields.
+fn characters_of_fields(
+    alloc: Global,
+    texts: &[u8],
+    fields: &CharactersFields,
+) -> Result<IndentChars, Refusal>
+    ensures { IfOk result (λ characters.
+        characters_of characters ≡ characters_value texts.now fields.now) }
+{
+    Ok(IndentChars {
+        down_and_right: text_of_part(alloc, texts, fields.down_and_right)?,
+        down: text_of_part(alloc, texts, fields.down)?,
+        turn_right: text_of_part(alloc, texts, fields.turn_right)?,
+        right: text_of_part(alloc, texts, fields.right)?,
+        empty: text_of_part(alloc, texts, fields.empty)?,
+    })
+}
+
+// When output is styled, by a number.
+fn styled(number: u32) -> StyleWhen
+    ensures { result ≡ when_styled number }
+{
+    if number == 0 {
+        StyleWhen::Never
+    } else if number == 1 {
+        StyleWhen::Always
+    } else {
+        StyleWhen::Tty
+    }
+}
+
+/// The configuration of fields.
+pub(crate) fn config_of_fields(
+    alloc: Global,
+    texts: &[u8],
+    fields: &ConfigFields,
+) -> Result<PrintConfig, Refusal>
+    ensures { IfOk result (λ config. config_of config ≡ config_value texts.now fields.now) }
+{
+    Ok(PrintConfig {
+        depth: fields.depth,
+        indent: fields.indent,
+        padding: fields.padding,
+        styled: styled(fields.styled),
+        characters: characters_of_fields(alloc, texts, &fields.characters)?,
+        branch: style_of_fields(alloc, texts, &fields.branch)?,
+        leaf: style_of_fields(alloc, texts, &fields.leaf)?,
+        continued: text_of_part(alloc, texts, fields.continued)?,
+    })
+}
+
+/// The fields of a configuration, and its texts.
+#[derive(Debug, Drop)]
+pub(crate) struct Written {
+    /// The fields.
+    pub(crate) fields: ConfigFields,
+
+    /// The texts, of which the fields have parts.
+    pub(crate) names: Vec<u8>,
+}
+
+/// The fields of a configuration. They are read again, and compared with it.
+pub(crate) fn fields_of_config(alloc: Global, config: &PrintConfig) -> Result<Written, Refusal>
+    ensures { IfOk result (λ written.
+        config_value written.names.items written.fields ≡ config_of config.now) }
+{
+    let mut names = Vec::new(alloc);
+    let fields = write_config(&mut names, config)?;
+    let again = config_of_fields(alloc, &names, &fields)?;
+    if again == *config {
+        Ok(Written { fields, names })
+    } else {
+        Err(Refusal::Memory)
+    }
+}
+
+// The fields of a configuration, whose texts are appended.
+fn write_config(names: &mut Vec<u8>, config: &PrintConfig) -> Result<ConfigFields, AllocError> {
+    Ok(ConfigFields {
+        depth: config.depth,
+        styled: match config.styled {
+            StyleWhen::Never => 0,
+            StyleWhen::Always => 1,
+            StyleWhen::Tty => 2,
+        },
+        indent: config.indent,
+        padding: config.padding,
+        characters: write_characters(names, &config.characters)?,
+        branch: write_style(names, &config.branch)?,
+        leaf: write_style(names, &config.leaf)?,
+        continued: write_part(names, config.continued.as_str())?,
+    })
+}
+
+// The fields of characters.
+fn write_characters(
+    names: &mut Vec<u8>,
+    characters: &IndentChars,
+) -> Result<CharactersFields, AllocError> {
+    Ok(CharactersFields {
+        down_and_right: write_part(names, characters.down_and_right.as_str())?,
+        down: write_part(names, characters.down.as_str())?,
+        turn_right: write_part(names, characters.turn_right.as_str())?,
+        right: write_part(names, characters.right.as_str())?,
+        empty: write_part(names, characters.empty.as_str())?,
+    })
+}
+
+// The fields of a style.
+fn write_style(names: &mut Vec<u8>, style: &Style) -> Result<StyleFields, AllocError> {
+    Ok(StyleFields {
+        foreground: write_color(names, style.foreground.as_ref())?,
+        background: write_color(names, style.background.as_ref())?,
+        bold: style.bold as u8,
+        dimmed: style.dimmed as u8,
+        italic: style.italic as u8,
+        underline: style.underline as u8,
+        blink: style.blink as u8,
+        reverse: style.reverse as u8,
+        hidden: style.hidden as u8,
+        strikethrough: style.strikethrough as u8,
+    })
+}
+
+// The fields of a colour.
+fn write_color(names: &mut Vec<u8>, color: Option<&Color>) -> Result<ColorFields, AllocError> {
+    let mut fields = ColorFields {
+        kind: 0,
+        red: 0,
+        green: 0,
+        blue: 0,
+        name: Part { start: 0, end: 0 },
+    };
+    let Some(color) = color else {
+        return Ok(fields);
+    };
+    match color {
+        Color::Black => fields.kind = 1,
+        Color::Red => fields.kind = 2,
+        Color::Green => fields.kind = 3,
+        Color::Yellow => fields.kind = 4,
+        Color::Blue => fields.kind = 5,
+        Color::Purple => fields.kind = 6,
+        Color::Cyan => fields.kind = 7,
+        Color::White => fields.kind = 8,
+        Color::Fixed(number) => {
+            fields.kind = 9;
+            fields.red = *number;
+        }
+        Color::RGB(red, green, blue) => {
+            fields.kind = 10;
+            fields.red = *red;
+            fields.green = *green;
+            fields.blue = *blue;
+        }
+        Color::Named(name) => {
+            fields.kind = 11;
+            fields.name = write_part(names, name.as_str())?;
+        }
+    }
+    Ok(fields)
+}
+
+// Appends a text, and returns where it is.
+fn write_part(names: &mut Vec<u8>, text: &str) -> Result<Part, AllocError> {
+    let start = names.len();
+    names.extend_from_slice(text.as_bytes())?;
+    Ok(Part {
+        start,
+        end: names.len(),
+    })
+}

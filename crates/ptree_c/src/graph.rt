@@ -1,0 +1,268 @@
+//! Draws graphs.
+ghost use Rattle.std.specs.Prelude.{◌≡◌, ◌<◌, ◌++◌, [], ◌∷◌, ℕ, List, IfOk, OnOk, length, map, string_bytes, String};
+ghost use Rattle.std.specs.declared.alloc.Global.{Global};
+ghost use Rattle.ptree.specs.Drawing.{written_look, IsDrawing};
+ghost use Rattle.ptree.specs.declared.graph.Graph.{Graph};
+ghost use Rattle.ptree.specs.Graph.{weights_of, edges_of};
+ghost use Rattle.ptree.specs.Occurrence.{occurrence_shape, occurrence_tree};
+ghost use Rattle.ptree_c.specs.Fields.{depth_of, look_of};
+ghost use Rattle.ptree_c.specs.Graphs.{labels_from, IsGraphOf, IsWalksDrawing, IsOnceDrawing};
+ghost use Rattle.ptree_c.specs.Rooms.{filled};
+
+use crate::answer::{put_bytes, refuse};
+use crate::fields::{ConfigFields, config_of_fields};
+use crate::items::text_between;
+use crate::refusal::Refusal;
+use crate::room::Found;
+use ptree::PrintConfig;
+use ptree::graph::{EdgeError, Expanded, Graph, GraphNode, NodeIndex, Occurrence, OccurrenceItem};
+use ptree::output::tree_bytes;
+use std::alloc::{AllocError, Global};
+use std::str;
+
+/// An edge, by the places of its nodes, which are counted from 0.
+#[repr(C)]
+#[derive(Debug, Clone, Copy)]
+pub struct Edge {
+    /// The node that the edge leaves.
+    pub source: usize,
+
+    /// The node that it leads to.
+    pub target: usize,
+}
+
+// The graph of nodes, whose texts end at these places of the texts, without edges.
+fn graph_of_nodes(alloc: Global, ends: &[usize], texts: &[u8]) -> Result<Graph<String>, Refusal>
+    ensures labels { IfOk result (λ graph.
+        map string_bytes (weights_of graph) ≡ labels_from 0 texts.now ends.now) }
+    ensures edges { IfOk result (λ graph. edges_of graph ≡ []) }
+{
+    let mut graph = Graph::new(alloc);
+    let mut from = 0;
+    let mut rest = ends;
+    while let Some((end, tail)) = rest.split_first() {
+        let place = ends.len().saturating_sub(rest.len());
+        let text = text_between(alloc, texts, from, *end, place)?;
+        graph.add_node(text)?;
+        from = *end;
+        rest = tail;
+    }
+    Ok(graph)
+}
+
+// Adds the edge at a place.
+fn add_edge(graph: &mut Graph<String>, edge: Edge, place: usize) -> Result<(), Refusal>
+    ensures edges { OnOk result
+        (edges_of graph.new ≡ edges_of graph.old ++ (edge.source, edge.target) ∷ []) }
+    ensures nodes { weights_of graph.new ≡ weights_of graph.old }
+{
+    match graph.extend_with_edges(&[(NodeIndex(edge.source), NodeIndex(edge.target))]) {
+        Ok(()) => Ok(()),
+        Err(EdgeError::NoNode) => Err(Refusal::Edge(place)),
+        Err(EdgeError::Memory) => Err(Refusal::Memory),
+    }
+}
+
+// The graph of nodes and edges.
+fn graph_of(
+    alloc: Global,
+    ends: &[usize],
+    texts: &[u8],
+    edges: &[Edge],
+) -> Result<Graph<String>, Refusal>
+    ensures { IfOk result (IsGraphOf ends.now texts.now edges.now) }
+{
+    let mut graph = graph_of_nodes(alloc, ends, texts)?;
+    let mut rest = edges;
+    while let Some((edge, tail)) = rest.split_first() {
+        let place = edges.len().saturating_sub(rest.len());
+        add_edge(&mut graph, *edge, place)?;
+        rest = tail;
+    }
+    Ok(graph)
+}
+
+// The drawing of all walks from a node.
+fn drawing_of_walks(
+    alloc: Global,
+    graph: &Graph<String>,
+    start: usize,
+    config: &PrintConfig,
+) -> Result<Vec<u8>, AllocError>
+    ensures { IfOk result (λ drawing.
+        IsWalksDrawing (written_look config.now) config.now.depth graph.now start drawing.items) }
+{
+    let node = GraphNode {
+        graph,
+        node: NodeIndex(start),
+    };
+    tree_bytes(alloc, &node, config)
+}
+
+// The drawing of places at which the nodes of a graph are.
+fn drawing_of_places(
+    alloc: Global,
+    graph: &Graph<String>,
+    mark: &str,
+    occurrence: &Occurrence,
+    config: &PrintConfig,
+) -> Result<Vec<u8>, AllocError>
+    ensures { IfOk result (λ drawing. IsDrawing (written_look config.now)
+        (occurrence_shape string_bytes graph.now mark.now (occurrence_tree occurrence.now))
+        config.now.depth drawing.items) }
+{
+    let expanded = Expanded {
+        graph,
+        mark,
+        occurrence,
+    };
+    let root = OccurrenceItem {
+        expanded: &expanded,
+        index: 0,
+    };
+    tree_bytes(alloc, &root, config)
+}
+
+// The drawing of a graph from a node, with each node expanded once.
+fn drawing_of_once(
+    alloc: Global,
+    graph: &Graph<String>,
+    start: usize,
+    mark: &str,
+    config: &PrintConfig,
+) -> Result<Vec<u8>, AllocError>
+    ensures { IfOk result (λ drawing.
+        IsOnceDrawing (written_look config.now) config.now.depth graph.now start mark.now
+        drawing.items) }
+{
+    let occurrence = graph.expanded_once(NodeIndex(start), config.depth)?;
+    drawing_of_places(alloc, graph, mark, &occurrence, config)
+}
+
+// The drawing of all walks as fields say.
+fn walks_by_fields(
+    alloc: Global,
+    graph: &Graph<String>,
+    start: usize,
+    fields: &ConfigFields,
+    names: &[u8],
+) -> Result<Vec<u8>, Refusal>
+    ensures { IfOk result (λ drawing.
+        IsWalksDrawing (look_of names.now fields.now) (depth_of names.now fields.now) graph.now start
+        drawing.items) }
+{
+    let config = config_of_fields(alloc, names, fields)?;
+    Ok(drawing_of_walks(alloc, graph, start, &config)?)
+}
+
+// The drawing with each node expanded once as fields say.
+fn once_by_fields(
+    alloc: Global,
+    graph: &Graph<String>,
+    start: usize,
+    mark: &[u8],
+    fields: &ConfigFields,
+    names: &[u8],
+) -> Result<Vec<u8>, Refusal>
+    ensures { IfOk result (λ drawing.
+        IsOnceDrawing (look_of names.now fields.now) (depth_of names.now fields.now) graph.now start mark.now
+        drawing.items) }
+{
+    let Ok(mark) = str::from_utf8(mark) else {
+        return Err(Refusal::Part);
+    };
+    let config = config_of_fields(alloc, names, fields)?;
+    Ok(drawing_of_once(alloc, graph, start, mark, &config)?)
+}
+
+// The drawing of all walks of the graph that C gives.
+fn walks_given(
+    alloc: Global,
+    ends: &[usize],
+    texts: &[u8],
+    edges: &[Edge],
+    start: usize,
+    fields: &ConfigFields,
+    names: &[u8],
+) -> Result<Vec<u8>, Refusal>
+    ensures { IfOk result (λ drawing. (g : Graph (String Global))
+        × IsWalksDrawing (look_of names.now fields.now) (depth_of names.now fields.now) g start
+        drawing.items × IsGraphOf ends.now texts.now edges.now g) }
+{
+    let graph = graph_of(alloc, ends, texts, edges)?;
+    walks_by_fields(alloc, &graph, start, fields, names)
+}
+
+// The drawing of the graph that C gives, with each node expanded once.
+fn once_given(
+    alloc: Global,
+    ends: &[usize],
+    texts: &[u8],
+    edges: &[Edge],
+    start: usize,
+    mark: &[u8],
+    fields: &ConfigFields,
+    names: &[u8],
+) -> Result<Vec<u8>, Refusal>
+    ensures { IfOk result (λ drawing. (g : Graph (String Global))
+        × IsOnceDrawing (look_of names.now fields.now) (depth_of names.now fields.now) g start
+        mark.now drawing.items × IsGraphOf ends.now texts.now edges.now g) }
+{
+    let graph = graph_of(alloc, ends, texts, edges)?;
+    once_by_fields(alloc, &graph, start, mark, fields, names)
+}
+
+/// Draws all walks of a graph from the node at `start` into `out`, as much as there is room for, as
+/// the fields of a configuration say, whose texts are parts of `names`. `ends` says where each
+/// node's text ends. In a graph with a cycle only the depth ends the drawing. `found` gets the
+/// length of the whole drawing.
+#[unsafe(no_mangle)]
+pub extern "C" fn ptree_draw_walks(
+    alloc: Global,
+    ends: &[usize],
+    texts: &[u8],
+    edges: &[Edge],
+    start: usize,
+    config: &ConfigFields,
+    names: &[u8],
+    out: &mut [u8],
+    found: &mut Found,
+) -> u32
+    ensures drawn { result ≡ 0 → (g : Graph (String Global)) × (drawing : List ℕ)
+        × IsGraphOf ends.now texts.now edges.now g
+        × IsWalksDrawing (look_of names.now config.now) (depth_of names.now config.now) g start drawing
+        × (out.new ≡ filled out.old drawing) × (found.new.bytes ≡ length drawing) }
+    ensures kept { 0 < result → out.new ≡ out.old }
+{
+    match walks_given(alloc, ends, texts, edges, start, config, names) {
+        Ok(drawing) => put_bytes(&drawing, 0, out, found),
+        Err(refusal) => refuse(refusal, found),
+    }
+}
+
+/// Draws a graph from the node at `start` into `out`, with each node expanded at its first place
+/// only, and `mark` after its label at the later ones. Otherwise it is as [`ptree_draw_walks`].
+#[unsafe(no_mangle)]
+pub extern "C" fn ptree_draw_once(
+    alloc: Global,
+    ends: &[usize],
+    texts: &[u8],
+    edges: &[Edge],
+    start: usize,
+    mark: &[u8],
+    config: &ConfigFields,
+    names: &[u8],
+    out: &mut [u8],
+    found: &mut Found,
+) -> u32
+    ensures drawn { result ≡ 0 → (g : Graph (String Global)) × (drawing : List ℕ)
+        × IsGraphOf ends.now texts.now edges.now g
+        × IsOnceDrawing (look_of names.now config.now) (depth_of names.now config.now) g start mark.now drawing
+        × (out.new ≡ filled out.old drawing) × (found.new.bytes ≡ length drawing) }
+    ensures kept { 0 < result → out.new ≡ out.old }
+{
+    match once_given(alloc, ends, texts, edges, start, mark, config, names) {
+        Ok(drawing) => put_bytes(&drawing, 0, out, found),
+        Err(refusal) => refuse(refusal, found),
+    }
+}

@@ -1,0 +1,78 @@
+//! The texts of items.
+ghost use Rattle.std.specs.Prelude.{◌≡◌, false, IfOk};
+ghost use Rattle.ptree.specs.Texts.{HasNoLineFeed};
+ghost use Rattle.ptree_c.specs.Fields.{part_text};
+
+use crate::fields::Part;
+use crate::refusal::Refusal;
+use std::str;
+
+/// The texts of items, and what is known of all of them, so that it is not asked of each.
+#[derive(Drop)]
+pub(crate) struct Texts<'a> {
+    bytes: &'a [u8],
+    is_utf8: bool,
+    has_line_feed: bool,
+    ghost feeds: { has_line_feed ≡ false → HasNoLineFeed bytes.now },
+}
+
+impl<'a> Texts<'a> {
+    /// Examines texts.
+    pub(crate) fn new(bytes: &'a [u8]) -> Texts<'a>
+        ensures { result.bytes.now ≡ bytes.now }
+    {
+        Texts {
+            bytes,
+            is_utf8: str::from_utf8(bytes).is_ok(),
+            has_line_feed: has_line_feed(bytes),
+        }
+    }
+
+    /// Returns the text of the item at a place.
+    pub(crate) fn at(&self, part: Part, place: usize) -> Result<&'a [u8], Refusal>
+        ensures text { IfOk result (λ text. text.now ≡ part_text self.now.bytes.now part) }
+    {
+        let Some(text) = self.bytes.get(part.start..part.end) else {
+            return Err(Refusal::End(place));
+        };
+        if self.is_text(part, text) {
+            Ok(text)
+        } else {
+            Err(Refusal::Utf8(place))
+        }
+    }
+
+    /// Whether the text of an item holds a line feed.
+    #[inline(always)]
+    pub(crate) fn has_line_feed(&self, part: Part, text: &[u8]) -> bool
+        requires { text.now ≡ part_text self.now.bytes.now part }
+        ensures { result ≡ false → HasNoLineFeed text.now }
+    {
+        self.has_line_feed && has_line_feed(text)
+    }
+
+    // Whether a part is UTF-8. If all texts are, it is if characters begin at both ends.
+    #[inline(always)]
+    fn is_text(&self, part: Part, text: &[u8]) -> bool {
+        if self.is_utf8 && self.starts_character(part.start) && self.starts_character(part.end) {
+            return true;
+        }
+        str::from_utf8(text).is_ok()
+    }
+
+    // Whether a character of UTF-8 texts begins at a place, or they end there.
+    #[inline(always)]
+    fn starts_character(&self, place: usize) -> bool {
+        match self.bytes.get(place) {
+            Some(byte) => *byte & 0xc0 != 0x80,
+            None => true,
+        }
+    }
+}
+
+// Whether a text holds a line feed.
+fn has_line_feed(text: &[u8]) -> bool
+    ensures { result ≡ false → HasNoLineFeed text.now }
+{
+    text.iter().any(|byte| *byte == b'\n')
+}

@@ -1,0 +1,121 @@
+-- Documents as trees: the items of lists, one by one.
+use Rattle.std.proofs.Common.{◌≡◌, ◌∙◌, ℕ, ◌<◌, Bool, true, false, length, arith, List, [], ◌∷◌, ◌++◌, map, append_assoc, append-nil, ap, sym, subst}
+use Rattle.std.proofs.lemmas.List.{map-append}
+use Rattle.serde_json.specs.Data as j
+use Rattle.toml.specs.Data as t
+use Rattle.ptree.specs.Tree.{Tree, tree_of, tree_kids}
+use Rattle.ptree.specs.declared.item.StringItem.{StringItem}
+use Rattle.ptree_trees.specs.WrittenDocument.{IsTextTree, IsTreeUnder, IsEntryText, is_json_list, is_toml_list, IsJsonText, IsJsonMemberText, AreJsonKids, AreJsonElements, AreJsonMembers, IsTomlText, IsTomlMemberText, AreTomlKids, AreTomlElements, AreTomlMembers}
+
+-- with trees of what is left, the trees are those of all
+pub record HasTreesBut {A : Type 0} (R : A → List Tree → Type 0) (all left : A) (made : List Tree) : Type 0 where
+  pub go : (rest : List Tree) → R left rest → R all (made ++ rest)
+
+-- before the first, all is left
+pub no_trees : {A : Type 0} (R : A → List Tree → Type 0) (all : A) → HasTreesBut R all all []
+no_trees R all = record { go = λ rest h. h }
+
+-- the tree of the first of what is left comes behind the others
+one_tree : {A : Type 0} (R : A → List Tree → Type 0) (all left next : A) (made : List StringItem) (more : List StringItem) (s : StringItem)
+    → HasTreesBut R all left (map tree_of made) → ((rest : List Tree) → R next rest → R left (tree_of s ∷ rest)) → more ≡ made ++ s ∷ [] → HasTreesBut R all next (map tree_of more)
+one_tree R all left next made more s h first e =
+    let same : map tree_of more ≡ map tree_of made ++ tree_of s ∷ [] = ap (map tree_of) e ∙ map-append tree_of made (s ∷ []) in
+    record {
+      go = λ rest g. subst (R all) (sym (append_assoc (map tree_of made) (tree_of s ∷ []) rest) ∙ ap (λ z. z ++ rest) (sym same)) (h.go (tree_of s ∷ rest) (first rest g));
+    }
+
+-- nothing is left
+pub all_trees : {A : Type 0} (R : A → List Tree → Type 0) (all left : A) (made : List Tree) → HasTreesBut R all left made → R left [] → R all made
+all_trees R all left made h none = subst (R all) (append-nil made) (h.go [] none)
+
+-- an element more
+pub json_element_made : (all left next : j.Items) (d : j.Data) (made more : List StringItem) (s : StringItem) (text : List ℕ) (kids : List Tree)
+    → HasTreesBut AreJsonElements all left (map tree_of made) → left ≡ j.item d next → IsJsonText d text → AreJsonKids d kids
+    → (tree_of s).text ≡ text → tree_kids (tree_of s) ≡ kids → more ≡ made ++ s ∷ [] → HasTreesBut AreJsonElements all next (map tree_of more)
+json_element_made all left next d made more s text kids h e is below own under a =
+    one_tree AreJsonElements all left next made more s h
+    (λ rest g. subst (λ z. AreJsonElements z (tree_of s ∷ rest)) (sym e) ((subst (IsJsonText d) (sym own) is, subst (AreJsonKids d) (sym under) below), g)) a
+
+-- a member more
+pub json_member_made : (all left next : j.Members) (k : List ℕ) (d : j.Data) (made more : List StringItem) (s : StringItem) (text : List ℕ) (kids : List Tree)
+    → HasTreesBut AreJsonMembers all left (map tree_of made) → left ≡ j.member k d next → IsJsonMemberText k d text → AreJsonKids d kids
+    → (tree_of s).text ≡ text → tree_kids (tree_of s) ≡ kids → more ≡ made ++ s ∷ [] → HasTreesBut AreJsonMembers all next (map tree_of more)
+json_member_made all left next k d made more s text kids h e is below own under a =
+    one_tree AreJsonMembers all left next made more s h
+    (λ rest g. subst (λ z. AreJsonMembers z (tree_of s ∷ rest)) (sym e) ((subst (IsJsonMemberText k d) (sym own) is, subst (AreJsonKids d) (sym under) below), g)) a
+
+-- an element more
+pub toml_element_made : (all left next : t.Items) (d : t.Data) (made more : List StringItem) (s : StringItem) (text : List ℕ) (kids : List Tree)
+    → HasTreesBut AreTomlElements all left (map tree_of made) → left ≡ t.item d next → IsTomlText d text → AreTomlKids d kids
+    → (tree_of s).text ≡ text → tree_kids (tree_of s) ≡ kids → more ≡ made ++ s ∷ [] → HasTreesBut AreTomlElements all next (map tree_of more)
+toml_element_made all left next d made more s text kids h e is below own under a =
+    one_tree AreTomlElements all left next made more s h
+    (λ rest g. subst (λ z. AreTomlElements z (tree_of s ∷ rest)) (sym e) ((subst (IsTomlText d) (sym own) is, subst (AreTomlKids d) (sym under) below), g)) a
+
+-- a member more
+pub toml_member_made : (all left next : t.Members) (k : List ℕ) (d : t.Data) (made more : List StringItem) (s : StringItem) (text : List ℕ) (kids : List Tree)
+    → HasTreesBut AreTomlMembers all left (map tree_of made) → left ≡ t.member k d next → IsTomlMemberText k d text → AreTomlKids d kids
+    → (tree_of s).text ≡ text → tree_kids (tree_of s) ≡ kids → more ≡ made ++ s ∷ [] → HasTreesBut AreTomlMembers all next (map tree_of more)
+toml_member_made all left next k d made more s text kids h e is below own under a =
+    one_tree AreTomlMembers all left next made more s h
+    (λ rest g. subst (λ z. AreTomlMembers z (tree_of s ∷ rest)) (sym e) ((subst (IsTomlMemberText k d) (sym own) is, subst (AreTomlKids d) (sym under) below), g)) a
+
+-- the tree of a value that is no list
+pub simple_tree : (b : Bool) (label text : List ℕ) (IsText : List ℕ → Type 0) (AreBelow : List Tree → Type 0) (t : Tree) → b ≡ false → IsText text → IsTextTree label text t
+    → IsTreeUnder b label IsText AreBelow t
+simple_tree true label text IsText AreBelow t e is of = absurd (cc)
+simple_tree false label text IsText AreBelow t e is of = (text, is, of)
+
+-- the tree of a list
+pub list_tree : (b : Bool) (label : List ℕ) (IsText : List ℕ → Type 0) (AreBelow : List Tree → Type 0) (t : Tree) → b ≡ true → t.text ≡ label → AreBelow (tree_kids t)
+    → IsTreeUnder b label IsText AreBelow t
+list_tree true label IsText AreBelow t e own below = (own, below)
+list_tree false label IsText AreBelow t e own below = absurd (cc)
+
+-- the tree of a text under the empty label
+pub lone_text : (label text : List ℕ) (t : Tree) → length label ≡ 0 → t.text ≡ text → tree_kids t ≡ [] → IsTextTree label text t
+lone_text [] text t h own kids = (own, kids)
+lone_text (c ∷ cs) text t h own kids = absurd (omega arith)
+
+-- the tree of a text under a label that is not empty
+pub labelled_text : (label text : List ℕ) (t leaf : Tree) → 0 < length label → t.text ≡ label → tree_kids t ≡ leaf ∷ [] → leaf.text ≡ text → tree_kids leaf ≡ [] → IsTextTree label text t
+labelled_text [] text t leaf h own kids is none = absurd (omega arith)
+labelled_text (c ∷ cs) text t leaf h own kids is none = (own, (leaf, kids, is, none))
+
+-- the text of a member that is no list
+pub json_entry : (k : List ℕ) (d : j.Data) (text : List ℕ) → is_json_list d ≡ false → IsEntryText k (IsJsonText d) text → IsJsonMemberText k d text
+json_entry k j.null text e h = h
+json_entry k (j.boolean b) text e h = h
+json_entry k (j.number n) text e h = h
+json_entry k (j.string s) text e h = h
+json_entry k (j.array ds) text e h = absurd (cc)
+json_entry k (j.object ms) text e h = absurd (cc)
+
+-- the text of a member that is a list
+pub json_list_key : (k : List ℕ) (d : j.Data) (text : List ℕ) → is_json_list d ≡ true → text ≡ k → IsJsonMemberText k d text
+json_list_key k j.null text e h = absurd (cc)
+json_list_key k (j.boolean b) text e h = absurd (cc)
+json_list_key k (j.number n) text e h = absurd (cc)
+json_list_key k (j.string s) text e h = absurd (cc)
+json_list_key k (j.array ds) text e h = h
+json_list_key k (j.object ms) text e h = h
+
+-- the text of a member that is no list
+pub toml_entry : (k : List ℕ) (d : t.Data) (text : List ℕ) → is_toml_list d ≡ false → IsEntryText k (IsTomlText d) text → IsTomlMemberText k d text
+toml_entry k (t.string s) text e h = h
+toml_entry k (t.integer z) text e h = h
+toml_entry k (t.float x) text e h = h
+toml_entry k (t.boolean b) text e h = h
+toml_entry k (t.datetime z) text e h = h
+toml_entry k (t.array ds) text e h = absurd (cc)
+toml_entry k (t.table ms) text e h = absurd (cc)
+
+-- the text of a member that is a list
+pub toml_list_key : (k : List ℕ) (d : t.Data) (text : List ℕ) → is_toml_list d ≡ true → text ≡ k → IsTomlMemberText k d text
+toml_list_key k (t.string s) text e h = absurd (cc)
+toml_list_key k (t.integer z) text e h = absurd (cc)
+toml_list_key k (t.float x) text e h = absurd (cc)
+toml_list_key k (t.boolean b) text e h = absurd (cc)
+toml_list_key k (t.datetime z) text e h = absurd (cc)
+toml_list_key k (t.array ds) text e h = h
+toml_list_key k (t.table ms) text e h = h

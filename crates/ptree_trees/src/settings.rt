@@ -1,0 +1,15 @@
+//! What the sources of a configuration say, for people: the keys of a file, what has no effect, and
+//! what may stand in the place of a wrong value.
+mod effects;
+mod keys;
+mod lines;
+mod names;
+mod shown;
+mod wrong;
+
+pub use effects::{Warning, warnings};
+pub use keys::{Entry, entries};
+pub use lines::fault_line;
+pub use names::{allowed, field_at, field_of_variable};
+pub(crate) use shown::written_toml;
+pub use wrong::wrong_value;
