@@ -16,7 +16,7 @@ use Rattle.ptree.specs.Outline.{line}
 use Rattle.ptree.specs.Pieces.{turning_piece, passing_piece}
 use Rattle.ptree.specs.Shape.{Shape, kids}
 use Rattle.ptree.specs.Style.{start_codes, end_codes, painted_text}
-use Rattle.ptree.specs.Writing.{AppendsPart, AppendsEntries, IsWritten, AreWritten, reported_faults, HasErrorCause}
+use Rattle.ptree.specs.Writing.{AppendsPart, AppendsEntries, IsWritten, AreWritten, result_faults, HasErrorCause}
 use Rattle.ptree.proofs.Written.{appends_nothing, appends_entries, entries_then, entries_done, entries_more, entry_then}
 
 -- nothing appended is a prefix
@@ -142,7 +142,7 @@ item_ended look (suc n) outer last x a b e h = absurd (omega (arith, e))
 -- out of memory reports no fault
 pub quiet : (a b : ℕ) (e : DrawError) → HasErrorCause a b e → e ≡ Memory → b ≡ a
 quiet a b e h k =
-    let none : a + 0 ≡ a = omega arith in h ∙ ap (λ (x : DrawError). a + reported_faults {A = Unit {0}} (Err x)) k ∙ none
+    let none : a + 0 ≡ a = omega arith in h ∙ ap (λ (x : DrawError). a + result_faults {A = Unit {0}} (Err x)) k ∙ none
 
 -- a child with others after it is not the last
 pub not_last : (n : ℕ) (last : Bool) → last ≡ eqb n 0 → 0 < n → last ≡ false
