@@ -8,7 +8,7 @@ use Rattle.ptree_trees.specs.KeyLists.{AddsKeys, HasKeysBut, AddsKeysBut}
 use Rattle.ptree_trees.specs.Settings.{KeyValue, IsEntry, file_keys}
 use Rattle.ptree_trees.specs.declared.settings.keys.Entry.{Entry}
 
--- two matched lists, and two more behind them
+-- two matched lists, and two more after them
 AreMatched-append : (ks ls : List KeyValue) (es fs : List Entry) → AreMatched IsEntry ks es → AreMatched IsEntry ls fs → AreMatched IsEntry (ks ++ ls) (es ++ fs)
 AreMatched-append [] ls [] fs h g = g
 AreMatched-append [] ls (e ∷ es) fs h g = absurd h
@@ -19,7 +19,7 @@ AreMatched-append (k ∷ ks) ls (e ∷ es) fs h g = (h.0, AreMatched-append ks l
 pub none_yet : (all : List KeyValue) → HasKeysBut all all []
 none_yet all = record { go = λ rest h. h }
 
--- entries of the first keys that are left come behind the others
+-- entries of the first keys that are left come after the others
 pub and_more : (all left ks ls : List KeyValue) (found new : List Entry) → HasKeysBut all left found → left ≡ ks ++ ls → AddsKeys found new ks → HasKeysBut all ls new
 and_more all left ks ls found new h e a = record {
   go = λ rest g.

@@ -33,7 +33,7 @@ pub colors_of_entries : (ks : List KeyValue) (es : List Entry) → AreMatched Is
     ≡ flat_map (λ k. key_color_warnings k.table k.key (as_text k.value)) ks
 colors_of_entries ks es h = matched_warnings key_color_warnings ks es h
 
--- the warnings of each kind, one kind behind the other, are all warnings
+-- the warnings of each kind, one kind after the other, are all warnings
 pub all_gathered : (sources : Sources) (vs : List (String Global × String Global)) (es fs gs : List Entry) (a b c d e : List WarningValue)
     → AreMatched IsEntry (file_keys (file_document sources.file)) es → a ≡ [] → vs ≡ sources.variables.items → fs ≡ es → gs ≡ es
     → b ≡ a ++ flat_map (λ v. stray_warnings v.0) (variables_of vs)

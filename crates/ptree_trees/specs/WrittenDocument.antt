@@ -42,7 +42,7 @@ is_json_list (j.array ds) = true
 is_json_list (j.object ms) = true
 is_json_list _ = false
 
--- the text of a member of an object: its key, and behind it the value if that is no list
+-- the text of a member of an object: its key, and after it the value if that is no list
 abbrev pub IsJsonMemberText : List ℕ → j.Data → List ℕ → Type 0
 IsJsonMemberText key (j.array ds) text = text ≡ key
 IsJsonMemberText key (j.object ms) text = text ≡ key
@@ -85,7 +85,7 @@ is_toml_list (t.array ds) = true
 is_toml_list (t.table ms) = true
 is_toml_list _ = false
 
--- the text of a member of a table: its key, and behind it the value if that is no list
+-- the text of a member of a table: its key, and after it the value if that is no list
 abbrev pub IsTomlMemberText : List ℕ → t.Data → List ℕ → Type 0
 IsTomlMemberText key (t.array ds) text = text ≡ key
 IsTomlMemberText key (t.table ms) text = text ≡ key
