@@ -2,7 +2,7 @@
 use Rattle.std.proofs.Common.{◌<◌, ◌≡◌, ℕ, zero, suc, ◌-◌, ◌≤◌, min, Bool, true, false, eqb, List, [], ◌∷◌, ◌++◌, Option, None, Result, Ok, Err, ◌+◌, length, sym, ◌∙◌, ap, subst, refl, append_assoc, map, take, drop, arith}
 use Rattle.std.proofs.Math.Seq.{take-append_seam, drop-append_seam}
 use Rattle.std.proofs.lemmas.Bool.Decides.{nat_tests}
-use Rattle.std.proofs.lemmas.List.{length-take, append-nil, take-append-le, take_all}
+use Rattle.std.proofs.lemmas.List.{length-take, take-append-le, take_all}
 use Rattle.std.specs.Prelude.{Some, is_err}
 use Rattle.std.proofs.lemmas.Bool.{false≢true}
 use Rattle.std.specs.Io.KnownBytes.{Appends}
@@ -119,10 +119,6 @@ entry_held look width bytes outer last x turned is =
     inside : (a b c d e : List ℕ) → (a ++ b) ++ (c ++ d ++ e) ≡ a ++ ((b ++ c) ++ d) ++ e
     inside a b c d e = simp append_assoc
 
--- what the buffer holds one level down
-pub down_is : (look : Look) (outer piece line again below : List ℕ) → line ≡ start_codes look.branch ++ outer → again ≡ line → below ≡ again ++ piece → below ≡ start_codes look.branch ++ (outer ++ piece)
-down_is look outer piece line again below el ea eb = eb ∙ ap (λ l. l ++ piece) (ea ∙ el) ∙ append_assoc (start_codes look.branch) outer piece
-
 -- a list whose first n elements make a list of length n has at least n
 pub long_enough : (n : ℕ) (xs ys : List ℕ) → take n xs ≡ ys → n ≡ length ys → n ≤ length xs
 long_enough n xs ys e h = let same : length (take n xs) ≡ min n (length xs) = length-take n xs in let all = ap length e in omega (arith, same, all, h)
@@ -132,12 +128,6 @@ pub take_again : (n : ℕ) (xs ys zs : List ℕ) → n ≤ length xs → zs ≡ 
 take_again n xs ys zs h e =
     let same : length (take n xs) ≡ min n (length xs) = length-take n xs in
     ap (take n) e ∙ take-append-le n (take n xs) ys (omega (arith, same)) ∙ take_all n (take n xs) (omega (arith, same))
-
--- an item at the last level
-pub item_ended : (look : Look) (left : ℕ) (outer : List ℕ) (last : Bool) (x : Shape) (a b : Option (List ℕ))
-    → left ≡ 0 → Appends a b (shape_entry look (outer ++ turning_piece look.pieces last) (outer ++ passing_piece look.pieces last) x) → Appends a b (concat (item_entries look left outer last x))
-item_ended look zero outer last x a b e h = subst (λ (y : List ℕ). Appends a b y) (sym (append-nil (shape_entry look (outer ++ turning_piece look.pieces last) (outer ++ passing_piece look.pieces last) x))) h
-item_ended look (suc n) outer last x a b e h = absurd (omega (arith, e))
 
 -- out of memory reports no fault
 pub quiet : (a b : ℕ) (e : DrawError) → HasErrorCause a b e → e ≡ Memory → b ≡ a
