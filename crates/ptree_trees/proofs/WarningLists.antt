@@ -10,7 +10,8 @@ use Rattle.ptree_trees.specs.Settings.{KeyValue, IsEntry, file_keys}
 use Rattle.ptree_trees.specs.Warnings.{WarningValue, stray_warnings, unknown_key_warnings, variable_color_warnings, key_color_warnings, all_warnings}
 use Rattle.ptree_trees.specs.declared.settings.keys.Entry.{Entry}
 
--- what a function gives of the table, key and text of each entry is what it gives of those of the keys
+-- what a function gives of the table, key and text of each entry is what it gives of those of the
+-- keys
 matched_warnings : (w : Option (List ℕ) → List ℕ → Option (List ℕ) → List WarningValue) (ks : List KeyValue) (es : List Entry) → AreMatched IsEntry ks es
     → flat_map (λ e. w (option_map string_bytes e.table) (string_bytes e.key) (option_map string_bytes e.text)) es ≡ flat_map (λ k. w k.table k.key (as_text k.value)) ks
 matched_warnings w [] [] h = refl

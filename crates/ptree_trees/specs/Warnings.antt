@@ -30,7 +30,8 @@ warning_of (w.KeyColor field name) = unknown_key_color field (string_bytes name)
 unfoldable pub has_front : List ℕ → Bool
 has_front name = nat_le 6 (length name) && str_eq_ignore_ascii_case (take 6 name) (codes "PTREE_")
 
--- whether a variable begins as those of fields do, and is neither one of them nor the path of the file
+-- whether a variable begins as those of fields do, and is neither one of them nor the path of the
+-- file
 unfoldable pub is_stray : List ℕ → Bool
 is_stray name = (has_front name && not (bytes_eq name (codes "PTREE_CONFIG"))) && is_none (field_of_variable name)
 
