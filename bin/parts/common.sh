@@ -104,6 +104,43 @@ expect_refusals() {
     fi
 }
 
+# Refuses each allocation of a call of $program in turn. The call must end with status 1 and this message, after a prefix of the right
+# output. One request, for the room of the list of words, is made again later, so that the call must end as usual. Sets `refusals` to
+# the number of those that are reported, and fails if the call does otherwise. Arguments: the message, the greatest number of requests,
+# the input, the words. The variables are those of the array `variables`.
+refuse_in_turn() {
+    local message=$1 most=$2 n status got spare=0
+    printf '%s' "$3" >"$scratch/input"
+    shift 3
+    local -a call=("$program" "$@")
+    refusals=0
+    # shellcheck disable=SC2154
+    env -i "${variables[@]}" "${call[@]}" <"$scratch/input" >"$scratch/whole" 2>"$scratch/whole_err"
+    status=$?
+    for n in $(seq 1 "$most"); do
+        env -i "${variables[@]}" REFUSE="$n" LD_PRELOAD="$scratch/refuse.so" "${call[@]}" \
+            <"$scratch/input" >"$scratch/out" 2>"$scratch/err" 9>"$scratch/refused"
+        got=$?
+        if [ $got = $status ] && cmp -s "$scratch/out" "$scratch/whole" && cmp -s "$scratch/err" "$scratch/whole_err"; then
+            if [ -s "$scratch/refused" ]; then
+                spare=$((spare + 1))
+                continue
+            fi
+            [ $spare = 1 ] && return
+            report no "$spare refusals pass unnoticed in: $*, and not 1"
+            return 1
+        fi
+        if [ $got != 1 ] || [ "$(cat "$scratch/err")" != "$message" ] \
+            || ! cmp -s "$scratch/out" <(head -c "$(stat -c %s "$scratch/out")" "$scratch/whole"); then
+            report no "refusal $n in: $* (status $got)"
+            return 1
+        fi
+        refusals=$((refusals + 1))
+    done
+    report no "more than $most requests: $*"
+    return 1
+}
+
 # Makes stubs, programs that stand in for the built one: one that does nothing, one that never has memory, and one that draws but
 # knows no configuration.
 make_stubs() {

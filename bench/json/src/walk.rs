@@ -79,7 +79,7 @@ fn draw_child<W: Write>(
     Ok(())
 }
 
-// Writes an entry. The buffer holds the prefix, of so many bytes, and the turning piece behind it.
+// Writes an entry. The buffer holds the prefix, of so many bytes, and the turning piece after it.
 #[inline]
 fn draw_entry<W: Write>(
     pass: &str,
@@ -97,7 +97,7 @@ fn draw_entry<W: Write>(
     out.write_all(line)
 }
 
-// Puts the prefix, the passing piece and the mark behind each line feed of a text.
+// Puts the prefix, the passing piece and the marker after each line feed of a text.
 #[inline(never)]
 fn spread(front: usize, pass: &str, prefix: usize, line: &mut Vec<u8>) {
     let text = line.split_off(front);

@@ -10,7 +10,7 @@ pub const MARK: &str = ": ";
 const ONES: u64 = 0x0101_0101_0101_0101;
 const HIGHS: u64 = 0x8080_8080_8080_8080;
 
-// The highest bit of the first byte that is a line feed, and perhaps of bytes behind it.
+// The highest bit of the first byte that is a line feed, and perhaps of bytes after it.
 #[inline]
 fn marked(word: u64) -> u64 {
     let word = word ^ (ONES * b'\n' as u64);

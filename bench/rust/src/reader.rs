@@ -68,7 +68,7 @@ impl Path {
         }
     }
 
-    // Goes to a child of the last item. The line is what is behind so many bytes of the pieces.
+    // Goes to a child of the last item. The line is what is after so many bytes of the pieces.
     #[inline]
     fn step_down(&mut self, line: &[u8], shared: usize) -> Option<()> {
         let line = line.strip_prefix(&self.pieces[shared..])?;
@@ -94,7 +94,7 @@ impl Path {
         }
     }
 
-    // Adds the last item, whose line this is, and returns what is behind its lines.
+    // Adds the last item, whose line this is, and returns what is after its lines.
     #[inline]
     fn add<'a>(&self, tree: &mut Growing, line: &'a str) -> Option<&'a str> {
         let text = &line[self.pieces.len() + TURN.len()..];
@@ -120,7 +120,7 @@ fn turning(line: &[u8]) -> Option<bool> {
     }
 }
 
-// Adds an item whose text begins here, and returns what is behind its lines.
+// Adds an item whose text begins here, and returns what is after its lines.
 #[inline]
 fn add<'a>(
     tree: &mut Growing,
@@ -138,7 +138,7 @@ fn add<'a>(
     Some(rest)
 }
 
-// The text of a further line: what is behind the passing pieces and the mark.
+// The text of a further line: what is after the passing pieces and the marker.
 #[inline]
 fn further<'a>(line: &'a str, pieces: &[u8], pass: &str) -> Option<&'a str> {
     let front = pieces.len() + pass.len();

@@ -12,7 +12,7 @@ pub fn draw<W: Write>(tree: &Item, out: &mut W) -> io::Result<()> {
 }
 
 // Writes an item's own lines. The buffer holds the prefix, of so many bytes, and the turning piece
-// behind it, and does so afterwards. The passing piece is for further lines.
+// after it, and does so afterwards. The passing piece is for further lines.
 #[inline]
 fn draw_entry<W: Write>(
     item: &Item,
@@ -33,8 +33,8 @@ fn draw_entry<W: Write>(
     Ok(())
 }
 
-// Appends a text of several lines: behind each line feed stand the prefix, the passing piece and
-// the mark.
+// Appends a text of several lines: after each line feed stand the prefix, the passing piece and
+// the marker.
 #[inline(never)]
 fn append_lines(text: &str, pass: &str, prefix: usize, line: &mut Vec<u8>) {
     let mut rest = text.as_bytes();
@@ -72,7 +72,7 @@ fn draw_children<W: Write>(items: &[Item], line: &mut Vec<u8>, out: &mut W) -> i
     Ok(())
 }
 
-// Puts a piece behind the prefix, in the place of what stands there.
+// Puts a piece after the prefix, in the place of what stands there.
 #[inline]
 fn set_end(line: &mut Vec<u8>, prefix: usize, piece: &str) {
     line.truncate(prefix);

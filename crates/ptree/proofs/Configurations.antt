@@ -21,7 +21,7 @@ use Rattle.ptree.specs.Config.{ConfigValue, default_config}
 use Rattle.ptree.specs.Fields.{field_key, table_key, part_key, kind_of, all_fields, all_style_fields}
 use Rattle.ptree.specs.File.{FileNode, get, is_table, as_text, as_flag, whole_node, when_node, set_node, color_node}
 use Rattle.ptree.specs.Loading.{SayNothing, look_up, characters, loaded_style, configuration, text_fits, node_fits, fault_unless, table_fault, field_fault, first_of, fault_in, file_fault, unless_fault, effective_config, has_variable, is_dimmed}
-use Rattle.ptree.specs.Sources.{Variables, Given, variable, table_at, node, document, variables_of}
+use Rattle.ptree.specs.Sources.{Variables, Given, variable, table_at, node, file_document, variables_of}
 use Rattle.ptree.specs.Style.{StyleValue, plain_value}
 use Rattle.ptree.specs.Parse.{parse_when, parse_flag, parse_number, parse_color}
 
@@ -144,8 +144,8 @@ fault_none variables none =
 -- sources that set nothing mean the default
 pub nothing_said : (sources : Sources) → SayNothing sources → effective_config sources ≡ default_config
 nothing_said sources h = at sources.file h.file h.variables where
-  at : (file : FileSource) → file ≡ Absent → ((field : Field) → variable (record { variables = variables_of sources.variables.items; document = document file }) field ≡ None)
-      → (let given : Given = record { variables = variables_of sources.variables.items; document = document file } in unwrap_or (unless_fault (fault_in (file_fault file) given) (configuration given)) default_config) ≡ default_config
+  at : (file : FileSource) → file ≡ Absent → ((field : Field) → variable (record { variables = variables_of sources.variables.items; document = file_document file }) field ≡ None)
+      → (let given : Given = record { variables = variables_of sources.variables.items; document = file_document file } in unwrap_or (unless_fault (fault_in (file_fault file) given) (configuration given)) default_config) ≡ default_config
   at Absent e none =
       let variables = variables_of sources.variables.items in
       ap (λ fault. unwrap_or (unless_fault fault (configuration (without_file variables))) default_config) (fault_none variables none) ∙ configuration_none variables none

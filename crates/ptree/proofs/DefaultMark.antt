@@ -11,7 +11,7 @@ use Rattle.ptree.specs.Texts.{HasNoLineFeed}
 use Rattle.ptree.proofs.Starts.{differ, apart_when_differ}
 use Rattle.ptree.proofs.Shipped.{shipped_readable, tick_readable}
 
--- a mark that differs from the start of a text is apart from the text
+-- a marker that differs from the start of a text is apart from the text
 mark_apart : (mark a y : List ℕ) → differ mark a ≡ true → ArePrefixFree mark (a ++ y)
 mark_apart mark a y h = subst (λ z. ArePrefixFree z (a ++ y)) (append-nil mark) (apart_when_differ mark a [] y h)
 
@@ -22,7 +22,7 @@ record MarkTold (mark : List ℕ) (c : Characters) : Type 0 where
   last_regular : differ mark c.turn_right ≡ true
   last_child : differ mark c.empty ≡ true
 
--- a mark that can be told from a set's characters is apart from the pieces of the set
+-- a marker that can be told from a set's characters is apart from the pieces of the set
 mark_told : (mark : List ℕ) (c : Characters) → MarkTold mark c → (indent padding : ℕ) → (last : Bool) → ArePrefixFree mark (turning_piece (pieces_from c indent padding) last) × ArePrefixFree mark (passing_piece (pieces_from c indent padding) last)
 mark_told mark c h indent padding false = (
   subst (λ z. ArePrefixFree mark z) (sym (append_assoc c.down_and_right _ _)) (mark_apart mark c.down_and_right _ h.regular),
@@ -33,7 +33,7 @@ mark_told mark c h indent padding true = (
   subst (λ z. ArePrefixFree mark z) (sym (append_assoc c.empty _ _)) (mark_apart mark c.empty _ h.last_child),
 )
 
--- the default mark holds no line feed
+-- the default marker holds no line feed
 default_mark_line : HasNoLineFeed default_mark
 default_mark_line = All-cons (λ b. b ≢ 10) 58 (32 ∷ []) (omega arith) (All-cons (λ b. b ≢ 10) 32 [] (omega arith) (All-nil (λ b. b ≢ 10)))
 

@@ -2,7 +2,7 @@
 use Rattle.std.proofs.Common.{◌<◌, ◌≡◌, ℕ, zero, suc, ◌-◌, ◌≤◌, min, Bool, true, false, eqb, List, [], ◌∷◌, ◌++◌, Option, None, Result, Ok, Err, ◌+◌, length, sym, ◌∙◌, ap, subst, refl, append_assoc, map, take, drop, arith}
 use Rattle.std.proofs.Math.Seq.{take-append_seam, drop-append_seam}
 use Rattle.std.proofs.lemmas.Bool.Decides.{nat_tests}
-use Rattle.std.proofs.lemmas.List.{length-take, append-nil, take-append-le, take_all}
+use Rattle.std.proofs.lemmas.List.{length-take, take-append-le, take_all}
 use Rattle.std.specs.Prelude.{Some, is_err}
 use Rattle.std.proofs.lemmas.Bool.{false≢true}
 use Rattle.std.specs.Io.KnownBytes.{Appends}
@@ -16,7 +16,7 @@ use Rattle.ptree.specs.Outline.{line}
 use Rattle.ptree.specs.Pieces.{turning_piece, passing_piece}
 use Rattle.ptree.specs.Shape.{Shape, kids}
 use Rattle.ptree.specs.Style.{start_codes, end_codes, painted_text}
-use Rattle.ptree.specs.Writing.{AppendsPart, AppendsEntries, IsWritten, AreWritten, reported_faults, HasErrorCause}
+use Rattle.ptree.specs.Writing.{AppendsPart, AppendsEntries, IsWritten, AreWritten, result_faults, HasErrorCause}
 use Rattle.ptree.proofs.Written.{appends_nothing, appends_entries, entries_then, entries_done, entries_more, entry_then}
 
 -- nothing appended is a prefix
@@ -119,10 +119,6 @@ entry_held look width bytes outer last x turned is =
     inside : (a b c d e : List ℕ) → (a ++ b) ++ (c ++ d ++ e) ≡ a ++ ((b ++ c) ++ d) ++ e
     inside a b c d e = simp append_assoc
 
--- what the buffer holds one level down
-pub down_is : (look : Look) (outer piece line again below : List ℕ) → line ≡ start_codes look.branch ++ outer → again ≡ line → below ≡ again ++ piece → below ≡ start_codes look.branch ++ (outer ++ piece)
-down_is look outer piece line again below el ea eb = eb ∙ ap (λ l. l ++ piece) (ea ∙ el) ∙ append_assoc (start_codes look.branch) outer piece
-
 -- a list whose first n elements make a list of length n has at least n
 pub long_enough : (n : ℕ) (xs ys : List ℕ) → take n xs ≡ ys → n ≡ length ys → n ≤ length xs
 long_enough n xs ys e h = let same : length (take n xs) ≡ min n (length xs) = length-take n xs in let all = ap length e in omega (arith, same, all, h)
@@ -133,16 +129,10 @@ take_again n xs ys zs h e =
     let same : length (take n xs) ≡ min n (length xs) = length-take n xs in
     ap (take n) e ∙ take-append-le n (take n xs) ys (omega (arith, same)) ∙ take_all n (take n xs) (omega (arith, same))
 
--- an item at the last level
-pub item_ended : (look : Look) (left : ℕ) (outer : List ℕ) (last : Bool) (x : Shape) (a b : Option (List ℕ))
-    → left ≡ 0 → Appends a b (shape_entry look (outer ++ turning_piece look.pieces last) (outer ++ passing_piece look.pieces last) x) → Appends a b (concat (item_entries look left outer last x))
-item_ended look zero outer last x a b e h = subst (λ (y : List ℕ). Appends a b y) (sym (append-nil (shape_entry look (outer ++ turning_piece look.pieces last) (outer ++ passing_piece look.pieces last) x))) h
-item_ended look (suc n) outer last x a b e h = absurd (omega (arith, e))
-
 -- out of memory reports no fault
 pub quiet : (a b : ℕ) (e : DrawError) → HasErrorCause a b e → e ≡ Memory → b ≡ a
 quiet a b e h k =
-    let none : a + 0 ≡ a = omega arith in h ∙ ap (λ (x : DrawError). a + reported_faults {A = Unit {0}} (Err x)) k ∙ none
+    let none : a + 0 ≡ a = omega arith in h ∙ ap (λ (x : DrawError). a + result_faults {A = Unit {0}} (Err x)) k ∙ none
 
 -- a child with others after it is not the last
 pub not_last : (n : ℕ) (last : Bool) → last ≡ eqb n 0 → 0 < n → last ≡ false

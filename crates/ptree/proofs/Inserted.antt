@@ -1,8 +1,8 @@
 -- Texts inserted after line feeds.
-use Rattle.std.proofs.Common.{◌≡◌, ◌≢◌, ℕ, ◌<◌, ◌≤◌, ◌+◌, length, length-drop, take, drop, arith, get_or, append_assoc, ◌⊎◌, inl, inr, Bool, true, false, cond, eqb, List, [], ◌∷◌, ◌++◌, refl, sym, ap, ◌∙◌}
+use Rattle.std.proofs.Common.{◌≡◌, ◌≢◌, ℕ, ◌<◌, ◌≤◌, ◌+◌, length, length-drop, drop, arith, get_or, ◌⊎◌, inl, inr, Bool, true, false, cond, eqb, List, [], ◌∷◌, ◌++◌, refl, sym, ap, ◌∙◌}
 use Rattle.std.proofs.lemmas.Bool.{eq-eqb, ne_eqb, eqb-true, eqb-false, false≢true}
 use Rattle.std.proofs.lemmas.Grind.{flat_map-append}
-use Rattle.std.proofs.lemmas.List.{take_more, flat_map_more, get_or_default, get_or-drop}
+use Rattle.std.proofs.lemmas.List.{get_or_default, get_or-drop}
 use Rattle.std.proofs.lemmas.List.Elements.{All-nil, All-cons, All-head, All-tail}
 use Rattle.ptree.specs.Drawing.{Look, with_inserted, entry_from}
 use Rattle.ptree.specs.Spelled.{has_line_feed}
@@ -82,26 +82,6 @@ feed_end (x ∷ a) b h = ap (λ z. cond (eqb x 10) true z) (feed_end a b h)
 pub feed_painted : (style : StyleValue) (text : List ℕ) → has_line_feed (painted_text style text) ≡ has_line_feed text
 feed_painted style text =
     feed_end (start_codes style ++ text) (end_codes style) (no_line_feed_end style) ∙ feed_start (start_codes style) text (no_line_feed_start style)
-
--- one byte more was copied
-pub inserted_more : (inserted prefix xs done : List ℕ) (i : ℕ) → i < length xs → done ≡ prefix ++ with_inserted inserted (take i xs)
-    → done ++ cond (eqb (get_or xs i 0) 10) (10 ∷ inserted) (get_or xs i 0 ∷ []) ≡ prefix ++ with_inserted inserted (take (i + 1) xs)
-inserted_more inserted prefix xs done i h e =
-    ap (λ z. z ++ cond (eqb (get_or xs i 0) 10) (10 ∷ inserted) (get_or xs i 0 ∷ [])) e
-    ∙ (flat_map_more (λ c. cond (eqb c 10) (10 ∷ inserted) (c ∷ [])) prefix (take i xs) (get_or xs i 0) ∙ ap (λ z. prefix ++ with_inserted inserted z) (sym (take_more xs i 0 h)))
-
--- a line feed was copied, and the text inserted
-pub more_feed : (inserted prefix xs done a b : List ℕ) (i : ℕ) → i < length xs → done ≡ prefix ++ with_inserted inserted (take i xs) → get_or xs i 0 ≡ 10 → a ≡ done ++ get_or xs i 0 ∷ [] → b ≡ a ++ inserted
-    → b ≡ prefix ++ with_inserted inserted (take (i + 1) xs)
-more_feed inserted prefix xs done a b i h e feed ea eb =
-    eb ∙ (ap (λ z. z ++ inserted) (ea ∙ ap (λ z. done ++ z ∷ []) feed) ∙ (append_assoc done (10 ∷ []) inserted
-    ∙ (ap (λ c. done ++ cond c (10 ∷ inserted) (get_or xs i 0 ∷ [])) (sym (eq-eqb (get_or xs i 0) 10 feed)) ∙ inserted_more inserted prefix xs done i h e)))
-
--- another byte was copied
-pub more_other : (inserted prefix xs done a : List ℕ) (i : ℕ) → i < length xs → done ≡ prefix ++ with_inserted inserted (take i xs) → (get_or xs i 0 ≡ 10 → ⊥) → a ≡ done ++ get_or xs i 0 ∷ []
-    → a ≡ prefix ++ with_inserted inserted (take (i + 1) xs)
-more_other inserted prefix xs done a i h e other ea =
-    ea ∙ (ap (λ c. done ++ cond c (10 ∷ inserted) (get_or xs i 0 ∷ [])) (sym (ne_eqb (get_or xs i 0) 10 other)) ∙ inserted_more inserted prefix xs done i h e)
 
 -- a fact about reads with a default holds for each read
 pub no_line_feed_from_reads : (xs : List ℕ) → ((i : ℕ) → i < length xs → get_or xs i 0 ≢ 10) → HasNoLineFeed xs

@@ -1,18 +1,8 @@
 -- Own bytes of one line and of several.
-use Rattle.std.proofs.Common.{◌≡◌, ◌≢◌, ℕ, suc, ◌<◌, get_or, true, List, [], ◌∷◌, ◌++◌, length, refl, arith}
-use Rattle.std.specs.Prelude.{Option, Some, None, MatchOption}
-use denote.Ref.{Bor}
+use Rattle.std.proofs.Common.{◌≡◌, ℕ, suc, true, List, [], ◌∷◌, ◌++◌, refl, arith}
 use Rattle.ptree.specs.Drawing.{Look, with_inserted, continued_prefix}
 use Rattle.ptree.specs.Spelled.{has_line_feed}
 use Rattle.ptree.specs.Texts.{HasNoLineFeed}
-use Rattle.ptree.proofs.Inserted.{no_line_feed_from_reads}
-
--- what a split at the first line feed gives
-pub cut_line : (bs : List ℕ) (r : Option (Bor (List ℕ) × Bor (List ℕ)))
-    → MatchOption r ((i : ℕ) → i < length bs → get_or bs i 0 ≢ 10) (λ x. (bs ≡ x.0.now ++ (10 ∷ x.1.now)) × ((i : ℕ) → i < length x.0.now → get_or x.0.now i 0 ≢ 10))
-    → MatchOption r (HasNoLineFeed bs) (λ x. HasNoLineFeed x.0.now × (bs ≡ x.0.now ++ 10 ∷ x.1.now))
-cut_line bs None h = no_line_feed_from_reads bs h
-cut_line bs (Some x) h = (no_line_feed_from_reads x.0.now h.1, h.0)
 
 -- a text with a line feed in it holds one
 pub holds_line_feed : (a b : List ℕ) → HasNoLineFeed (a ++ 10 ∷ b) → ⊥

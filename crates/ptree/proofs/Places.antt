@@ -1,6 +1,6 @@
 -- Lists of places, and the trees that they are.
-use Rattle.std.specs.Prelude.{slice_get, slice_set, ◌^◌, min}
-use Rattle.std.proofs.Common.{◌≡◌, ℕ, zero, suc, ◌+◌, ◌-◌, ◌<◌, ◌≤◌, inl, inr, Bool, true, false, List, [], ◌∷◌, ◌++◌, length, length-append, drop, Some, None, ap, refl, sym, ◌∙◌, append_assoc, arith}
+use Rattle.std.specs.Prelude.{slice_set, ◌^◌, min}
+use Rattle.std.proofs.Common.{◌≡◌, ℕ, zero, suc, ◌+◌, ◌-◌, ◌<◌, ◌≤◌, inl, inr, Bool, true, false, List, [], ◌∷◌, ◌++◌, length, length-append, drop, ap, refl, sym, ◌∙◌, append_assoc, arith}
 use Rattle.std.proofs.lemmas.Bool.{cases_lt}
 use Rattle.std.proofs.lemmas.List.{append-nil, length-drop, drop_all, drop_at}
 use Rattle.ptree.specs.declared.graph.places.Place.{Place}
@@ -104,10 +104,6 @@ appends_over xs ys zs v index size ts (ps, e, h) i s z =
     ∙ (set_seam xs ps (place_of v 1) (place_of v size) ∙ ap (λ n. xs ++ place_of v n ∷ ps) count))) in
     (place_of v (suc (length ps)) ∷ ps, done, places_over v ps ts h)
 
--- appended places are there
-pub appends_longer : (xs ys : List Place) (ts : List OccurrenceTree) → AppendsPlaces xs ys ts → length xs ≤ length ys
-appends_longer xs ys ts (ps, e, h) = let long : length ys ≡ length xs + length ps = ap length e ∙ length-append xs ps in omega arith
-
 -- the first tree is the one whose places are appended to nothing
 pub tree_of_places : (ps : List Place) (t : OccurrenceTree) → AppendsPlaces [] ps (t ∷ []) → first_tree ps ≡ t
 tree_of_places ps t (qs, e, h) = ap first_tree e ∙ one qs h where
@@ -132,19 +128,6 @@ tree_at_place (p ∷ ps) (suc i) = tree_at_place ps i
 pub below_is : (n : ℕ) → n - 1 ≡ size_below n
 below_is zero = omega arith
 below_is (suc n) = omega arith
-
--- from a place to the end
-pub drop_place : (ps : List Place) (i : ℕ) (p : Place) → slice_get ps i ≡ Some p → drop i ps ≡ p ∷ drop (suc i) ps
-drop_place [] i p h = absurd (cc)
-drop_place (q ∷ ps) zero p h = let e : q ≡ p = cc in ap (λ z. z ∷ ps) e
-drop_place (q ∷ ps) (suc i) p h = drop_place ps i p h
-
--- past the end
-pub drop_past : (ps : List Place) (i : ℕ) → slice_get ps i ≡ None → drop i ps ≡ []
-drop_past [] zero h = refl
-drop_past [] (suc i) h = refl
-drop_past (q ∷ ps) zero h = absurd (cc)
-drop_past (q ∷ ps) (suc i) h = drop_past ps i h
 
 -- after some places, and then some more
 drop_further : (i b : ℕ) (ps : List Place) → drop b (drop i ps) ≡ drop (i + b) ps

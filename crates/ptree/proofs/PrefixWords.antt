@@ -1,56 +1,17 @@
 -- The starts of texts, compared by words.
-use Rattle.std.proofs.Common.{◌≡◌, ℕ, suc, ◌+◌, ◌-◌, ◌≤◌, ◌<◌, List, [], ◌∷◌, ◌++◌, length, length-append, length-drop, length-take, IsCharBoundary, IsUtf8, inl, inr, refl, get_or, take, drop, sym, ap, ◌∙◌, subst, arith}
+use Rattle.std.proofs.Common.{◌≡◌, ℕ, ◌+◌, ◌-◌, ◌≤◌, ◌<◌, List, ◌++◌, length, length-append, length-drop, length-take, IsCharBoundary, IsUtf8, inl, inr, get_or, take, drop, sym, ap, ◌∙◌, subst, arith}
 use Rattle.std.proofs.lemmas.Bool.{cases_lt}
-use Rattle.std.proofs.lemmas.List.{drop_more, drop-append-le, ext_get_or, get_or-take, nil_from_length, take-append-drop, take-append-le}
+use Rattle.std.proofs.lemmas.List.{drop-append-le, ext_get_or, get_or-take, nil_from_length, take-append-drop, take-append-le}
 use Rattle.std.proofs.lemmas.Str.{IsCharBoundary-from_take}
 use Rattle.std.proofs.Math.Seq.{take-append_seam}
 use Rattle.std.proofs.lemmas.Simd.{get_or-chunk}
 use Rattle.ptree.specs.Texts.{IsPrefixOf}
 
--- one byte more of those at a place
-take_step : (xs : List ℕ) (p q n : ℕ) → p < length xs → q ≡ p + 1 → take (suc n) (drop p xs) ≡ get_or xs p 0 ∷ take n (drop q xs)
-take_step xs p q n h e = ap (take (suc n)) (drop_more xs p 0 h) ∙ ap (λ z. get_or xs p 0 ∷ take n (drop z xs)) (sym e)
-
--- no bytes
-take_none : (xs : List ℕ) → take 0 xs ≡ []
-take_none [] = refl
-take_none (x ∷ xs) = refl
-
--- two bytes at a place
-pub take_two : (xs : List ℕ) (p : ℕ) → p + 2 ≤ length xs → take 2 (drop p xs) ≡ get_or xs p 0 ∷ get_or xs (p + 1) 0 ∷ []
-take_two xs p h =
-    take_step xs p (p + 1) 1 (omega arith) refl
-    ∙ ap (λ z. get_or xs p 0 ∷ z) (take_step xs (p + 1) (p + 2) 0 (omega arith) (omega arith)
-    ∙ ap (λ z. get_or xs (p + 1) 0 ∷ z) (take_none (drop (p + 2) xs)))
-
--- four bytes at a place
-pub take_four : (xs : List ℕ) (p : ℕ) → p + 4 ≤ length xs → take 4 (drop p xs) ≡ get_or xs p 0 ∷ get_or xs (p + 1) 0 ∷ get_or xs (p + 2) 0 ∷ get_or xs (p + 3) 0 ∷ []
-take_four xs p h =
-    take_step xs p (p + 1) 3 (omega arith) refl
-    ∙ ap (λ z. get_or xs p 0 ∷ z) (take_step xs (p + 1) (p + 2) 2 (omega arith) (omega arith)
-    ∙ ap (λ z. get_or xs (p + 1) 0 ∷ z) (take_step xs (p + 2) (p + 3) 1 (omega arith) (omega arith)
-    ∙ ap (λ z. get_or xs (p + 2) 0 ∷ z) (take_step xs (p + 3) (p + 4) 0 (omega arith) (omega arith)
-    ∙ ap (λ z. get_or xs (p + 3) 0 ∷ z) (take_none (drop (p + 4) xs)))))
-
--- eight bytes at a place
-pub take_eight : (xs : List ℕ) (p : ℕ) → p + 8 ≤ length xs
-    → take 8 (drop p xs) ≡ get_or xs p 0 ∷ get_or xs (p + 1) 0 ∷ get_or xs (p + 2) 0 ∷ get_or xs (p + 3) 0 ∷ get_or xs (p + 4) 0 ∷ get_or xs (p + 5) 0 ∷ get_or xs (p + 6) 0 ∷ get_or xs (p + 7) 0 ∷ []
-take_eight xs p h =
-    take_step xs p (p + 1) 7 (omega arith) refl
-    ∙ ap (λ z. get_or xs p 0 ∷ z) (take_step xs (p + 1) (p + 2) 6 (omega arith) (omega arith)
-    ∙ ap (λ z. get_or xs (p + 1) 0 ∷ z) (take_step xs (p + 2) (p + 3) 5 (omega arith) (omega arith)
-    ∙ ap (λ z. get_or xs (p + 2) 0 ∷ z) (take_step xs (p + 3) (p + 4) 4 (omega arith) (omega arith)
-    ∙ ap (λ z. get_or xs (p + 3) 0 ∷ z) (take_step xs (p + 4) (p + 5) 3 (omega arith) (omega arith)
-    ∙ ap (λ z. get_or xs (p + 4) 0 ∷ z) (take_step xs (p + 5) (p + 6) 2 (omega arith) (omega arith)
-    ∙ ap (λ z. get_or xs (p + 5) 0 ∷ z) (take_step xs (p + 6) (p + 7) 1 (omega arith) (omega arith)
-    ∙ ap (λ z. get_or xs (p + 6) 0 ∷ z) (take_step xs (p + 7) (p + 8) 0 (omega arith) (omega arith)
-    ∙ ap (λ z. get_or xs (p + 7) 0 ∷ z) (take_none (drop (p + 8) xs)))))))))
-
--- a text begins with a front that its first bytes are
+-- a text begins with a prefix that its first bytes are
 begins_from_take : (prefix text : List ℕ) → take (length prefix) text ≡ prefix → IsPrefixOf prefix text
 begins_from_take prefix text e = (drop (length prefix) text, sym (take-append-drop (length prefix) text) ∙ ap (λ z. z ++ drop (length prefix) text) e)
 
--- the bytes at a place below the end of the front are the front's
+-- the bytes at a place below the end of the prefix are the prefix's
 pub begins_word : (prefix text : List ℕ) (p n : ℕ) → IsPrefixOf prefix text → p + n ≤ length prefix → take n (drop p text) ≡ take n (drop p prefix)
 begins_word prefix text p n (rest, e) room =
     ap (λ z. take n (drop p z)) e
@@ -72,7 +33,7 @@ word_bytes prefix text n high first last i there = elim (cases_lt i n) [
       (sym (get_or-chunk p n text (i - p) 0 in_word) ∙ (ap (λ z. get_or z (i - p) 0) last ∙ get_or-chunk p n prefix (i - p) 0 in_word))
 ]
 
--- a text begins with a front whose first and last bytes are there
+-- a text begins with a prefix whose first and last bytes are there
 pub begins_from_words : (prefix text : List ℕ) (n : ℕ) → length prefix ≤ n + n → length prefix ≤ length text → take n (drop 0 text) ≡ take n (drop 0 prefix)
     → take n (drop (length prefix - n) text) ≡ take n (drop (length prefix - n) prefix) → IsPrefixOf prefix text
 begins_from_words prefix text n high room first last =
@@ -100,7 +61,7 @@ begins_first prefix text e h =
     let room : 0 + 1 ≤ length prefix = omega (arith, e) in
     sym (get_or-chunk 0 1 text 0 0 (omega arith)) ∙ (ap (λ z. get_or z 0 0) (begins_word prefix text 0 1 h room) ∙ get_or-chunk 0 1 prefix 0 0 (omega arith))
 
--- a character begins after a front
+-- a character begins after a prefix
 pub begins_boundary : (prefix text : List ℕ) → IsPrefixOf prefix text → IsUtf8 prefix → IsUtf8 text → IsCharBoundary text (length prefix)
 begins_boundary prefix text (rest, e) small whole =
     IsCharBoundary-from_take text (length prefix) whole (omega (arith, ap length e, length-append prefix rest)) (subst IsUtf8 (sym (ap (take (length prefix)) e ∙ take-append_seam prefix rest)) small)

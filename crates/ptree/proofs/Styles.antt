@@ -22,10 +22,6 @@ pub painted_plain : (style : StyleValue) (text : List ℕ) → style_codes style
 painted_plain style text h =
     ap (λ codes. flat_map (λ code. code) codes ++ text ++ reset_after codes) h ∙ append-nil text
 
--- the plain style leaves a text as it is
-pub painted_plain_style : (text : List ℕ) → painted_text plain_value text ≡ text
-painted_plain_style text = painted_plain plain_value text plain_codes
-
 -- no flag is set
 abbrev AreUnset : List (Bool × ℕ) → Type 0
 AreUnset [] = ⊤

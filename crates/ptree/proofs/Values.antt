@@ -1,7 +1,5 @@
 -- Values, their texts and their children.
-use Rattle.std.proofs.Common.{◌≡◌, ◌≢◌, ◌∙◌, ap, refl, rules, ℕ, Box, Vec, Global, Some, true, false, List, [], ◌∷◌, ◌++◌, map}
-use Rattle.std.specs.Prelude.{codes}
-use Rattle.std.proofs.lemmas.Bool.{false≢true}
+use Rattle.std.proofs.Common.{◌≡◌, ◌∙◌, ap, refl, rules, Box, Vec, Global, Some, List, [], ◌∷◌, map}
 use Rattle.ptree.specs.Data as d
 use Rattle.ptree.specs.Data.{Data, value_text, is_list, item_pairs, entry_pair, entry_pairs, value_pairs, Pair, pair_text, pair_own, pair_below, pair_shape}
 use Rattle.ptree.specs.Shape.{kids}
@@ -48,48 +46,6 @@ entry_pair-below key (d.newtype x) = refl
 entry_pair-below key (d.seq xs) = refl
 entry_pair-below key (d.map es) = refl
 entry_pair-below key (d.bytes bs) = refl
-
--- a list has no text
-list_text : (value : Data) → is_list value ≡ true → value_text value ≡ []
-list_text (d.seq xs) h = refl
-list_text (d.map es) h = refl
-list_text (d.boolean _) h = absurd (false≢true h)
-list_text (d.u8 _) h = absurd (false≢true h)
-list_text (d.u16 _) h = absurd (false≢true h)
-list_text (d.u32 _) h = absurd (false≢true h)
-list_text (d.u64 _) h = absurd (false≢true h)
-list_text (d.i8 _) h = absurd (false≢true h)
-list_text (d.i16 _) h = absurd (false≢true h)
-list_text (d.i32 _) h = absurd (false≢true h)
-list_text (d.i64 _) h = absurd (false≢true h)
-list_text (d.character _) h = absurd (false≢true h)
-list_text (d.string _) h = absurd (false≢true h)
-list_text d.unit h = absurd (false≢true h)
-list_text d.nothing h = absurd (false≢true h)
-list_text (d.something _) h = absurd (false≢true h)
-list_text (d.newtype _) h = absurd (false≢true h)
-list_text (d.bytes _) h = absurd (false≢true h)
-
--- the text of a list or a map under its key is the key
-pub entry_pair-list : (key value : Data) → is_list value ≡ true → pair_text (entry_pair key value) ≡ value_text key
-entry_pair-list key value h = rw h (labelled (value_text key) (list_text value h))
-  where
-    labelled : (label : List ℕ) → value_text value ≡ [] → pair_text (label, value) ≡ label
-    labelled [] e = e
-    labelled (c ∷ label) e = refl
-
--- the text of a simple value with its key
-pub entry_pair-simple : (key value : Data) → is_list value ≡ false → pair_text (entry_pair key value) ≡ value_text key ++ codes " = " ++ value_text value
-entry_pair-simple key value h = rw h refl
-
--- without a label, a pair's text is the value's
-pub empty_label : (label : List ℕ) (value : Data) → label ≡ [] → pair_text (label, value) ≡ value_text value
-empty_label label value e = rw e refl
-
--- with a label, a pair's text is the label
-pub some_label : (label : List ℕ) (value : Data) → label ≢ [] → pair_text (label, value) ≡ label
-some_label [] value h = absurd (h refl)
-some_label (c ∷ label) value h = refl
 
 -- the shapes of the children, given the children
 pub kids_of_pair : {X : Type 0} (f : X → Pair) (p : Pair) (xs : List X) → map f xs ≡ value_pairs p.1 → map (λ x. pair_shape (f x)) xs ≡ kids (pair_shape p)

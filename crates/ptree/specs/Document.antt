@@ -12,7 +12,7 @@ use Rattle.ptree.specs.declared.value.document.DocFormat.{DocFormat}
 use Rattle.ptree.specs.declared.value.document.DocFormat.TheVariants.{Toml, Json}
 use Rattle.ptree.specs.Convert.{json_conversion, toml_conversion}
 use Rattle.ptree.specs.Data.{Data}
-use Rattle.ptree.specs.Writing.{reported_faults}
+use Rattle.ptree.specs.Writing.{result_faults}
 
 -- a conversion error as a document error
 abbrev pub document_error : ConvertError → DocError
@@ -37,10 +37,10 @@ abbrev pub IsRefusal : Result Data DocError → DocError → Type 0
 IsRefusal document e = (document ≡ Err e) ⊎ (e ≡ Draw Memory)
 
 -- the number of the sink's faults that a result reports
-abbrev pub reported_document_faults : {A : Type 0} → Result A DocError → ℕ
-reported_document_faults (Err (Draw e)) = reported_faults {A = Unit {0}} (Err e)
-reported_document_faults _ = 0
+abbrev pub document_result_faults : {A : Type 0} → Result A DocError → ℕ
+document_result_faults (Err (Draw e)) = result_faults {A = Unit {0}} (Err e)
+document_result_faults _ = 0
 
 -- the count of faults rose by one exactly when the result reports a fault
 abbrev pub HasDocumentCause : {A : Type 0} → ℕ → ℕ → Result A DocError → Type 0
-HasDocumentCause old new result = new ≡ old + reported_document_faults result
+HasDocumentCause old new result = new ≡ old + document_result_faults result

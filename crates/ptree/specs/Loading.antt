@@ -21,7 +21,7 @@ use Rattle.ptree.specs.Config.{ConfigValue, default_config}
 use Rattle.ptree.specs.Fields.{part_key, kind_of, all_fields, all_style_fields}
 use Rattle.ptree.specs.File.{FileNode, is_table, is_null, as_text, as_flag, whole_node, when_node, set_node, color_node}
 use Rattle.ptree.specs.Style.{StyleValue}
-use Rattle.ptree.specs.Sources.{Given, given_by, document, variable, table_at, node}
+use Rattle.ptree.specs.Sources.{Given, given_by, file_document, variable, table_at, node}
 use Rattle.ptree.specs.declared.print_config.parse.Spelling.TheVariants.{AnyCase}
 use Rattle.ptree.specs.Parse.{parse_when, parse_flag, parse_number, parse_color}
 
@@ -147,8 +147,8 @@ table_fault given part = fault_unless is_table (fault.Table part) (table_at give
 abbrev pub file_fault : FileSource → Option Fault
 file_fault Absent = None
 file_fault Unreadable = Some fault.Unreadable
-file_fault (Toml t) = if is_some (document (Toml t)) then None else Some fault.Syntax
-file_fault (Json t) = if is_some (document (Json t)) then None else Some fault.Syntax
+file_fault (Toml t) = if is_some (file_document (Toml t)) then None else Some fault.Syntax
+file_fault (Json t) = if is_some (file_document (Json t)) then None else Some fault.Syntax
 
 -- the first value that is there
 abbrev pub first_of : {A : Type 0} → List (Option A) → Option A

@@ -39,11 +39,11 @@ abbrev pub json_document : List ℕ → Option FileNode
 json_document text = option_and_then (λ d. table_or_none (json d)) (read text)
 
 -- the document of a file, if it has one
-abbrev pub document : FileSource → Option FileNode
-document Absent = None
-document Unreadable = None
-document (Toml text) = toml_document (string_bytes text)
-document (Json text) = json_document (string_bytes text)
+abbrev pub file_document : FileSource → Option FileNode
+file_document Absent = None
+file_document Unreadable = None
+file_document (Toml text) = toml_document (string_bytes text)
+file_document (Json text) = json_document (string_bytes text)
 
 -- what is looked into: the variables, and the document of the file
 pub record Given : Type 0 where
@@ -52,7 +52,7 @@ pub record Given : Type 0 where
 
 -- the parts of sources that are looked into
 abbrev pub given_by : Sources → Given
-given_by sources = record { variables = variables_of sources.variables.items; document = document sources.file }
+given_by sources = record { variables = variables_of sources.variables.items; document = file_document sources.file }
 
 -- the text of a field's variable
 unfoldable pub variable : Given → Field → Option (List ℕ)

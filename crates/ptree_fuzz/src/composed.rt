@@ -1,4 +1,4 @@
-//! A drawing by its parts: the root's entry, and the drawings of the children behind their pieces.
+//! A drawing by its parts: the root's entry, and the drawings of the children after their pieces.
 
 use crate::trees::drawn;
 use ptree::item::StringItem;
@@ -34,7 +34,7 @@ fn painted(
     effective(style, config)?.paint(alloc, text)
 }
 
-// Adds a text, and after each line feed in it a mark.
+// Adds a text, and after each line feed in it a marker.
 fn add_marked(out: &mut String, text: &str, mark: &str) -> Result<(), AllocError> {
     for c in text.chars() {
         out.push(c)?;
@@ -45,7 +45,8 @@ fn add_marked(out: &mut String, text: &str, mark: &str) -> Result<(), AllocError
     Ok(())
 }
 
-// Adds the painted text of a root, and after each line feed in it the painted mark.
+// Adds the painted text of a root, and after each line feed in it the painted
+// marker.
 fn add_text(
     alloc: Global,
     out: &mut String,
@@ -100,7 +101,7 @@ fn pieces_of(pieces: &Indent, is_last: bool) -> (&str, &str) {
     }
 }
 
-// Adds the drawings of children under a configuration, each behind its pieces.
+// Adds the drawings of children under a configuration, each after its pieces.
 fn add_drawings(
     alloc: Global,
     out: &mut String,

@@ -18,7 +18,7 @@ fn write_file(rt: &HostRuntime, stem: &str, file: &FileSource) -> io::Result<Opt
     Ok(Some(path))
 }
 
-// Writes the variables, each with the byte 0 behind it.
+// Writes the variables, each with the byte 0 after it.
 fn write_variables(rt: &HostRuntime, stem: &str, sources: &Sources) -> io::Result<()> {
     let mut all = String::new(rt.alloc());
     for (name, value) in &sources.variables {
@@ -34,7 +34,7 @@ fn write_variables(rt: &HostRuntime, stem: &str, sources: &Sources) -> io::Resul
     )
 }
 
-// Writes the words, each with the byte 0 behind it.
+// Writes the words, each with the byte 0 after it.
 fn write_words(rt: &HostRuntime, stem: &str, terminal: bool, words: &[String]) -> io::Result<()> {
     let mut all = String::from_str(rt.alloc(), if terminal { "--tty\0" } else { "" })?;
     for word in words {
@@ -48,7 +48,7 @@ fn write_words(rt: &HostRuntime, stem: &str, terminal: bool, words: &[String]) -
     )
 }
 
-// Writes what a call gives: what is drawn, and behind it the status and the line.
+// Writes what a call gives: what is drawn, and after it the status and the line.
 fn write_answer(rt: &HostRuntime, stem: &str, answer: Answer) -> io::Result<()> {
     let mut all = answer.drawn;
     let end = format!(in rt.alloc(); "status {}: {}", answer.status, answer.line)?;

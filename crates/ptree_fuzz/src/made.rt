@@ -51,7 +51,7 @@ const CHARACTERS: [&str; 16] = [
     "", "|", "+", "-", "`", " ", "├", "│", "└", "─", "x", "xx", "ab", "\n", "\u{301}", "🌳",
 ];
 
-// The marks of further lines.
+// The markers of further lines.
 const MARKS: [&str; 8] = [": ", ":", "", "> ", "├", " ", "\n", "└─ "];
 
 // The names of shipped sets.
@@ -150,7 +150,7 @@ fn any_depth(dice: &mut Dice) -> u32 {
     }
 }
 
-// A mark of any kind, or most often the default one.
+// A marker of any kind, or most often the default one.
 fn mark(dice: &mut Dice) -> &'static str {
     match dice.below(3) {
         0 => dice.text_of(&MARKS),
@@ -184,13 +184,13 @@ fn with_styles(alloc: Global, dice: &mut Dice, config: &mut PrintConfig) -> Resu
     Ok(())
 }
 
-// The configuration with another mark.
+// The configuration with another marker.
 fn with_mark(alloc: Global, mark: &str, config: &mut PrintConfig) -> Result<(), AllocError> {
     config.continued = String::from_str(alloc, mark)?;
     Ok(())
 }
 
-/// A configuration of any depth, width, characters, mark and styles.
+/// A configuration of any depth, width, characters, marker and styles.
 pub fn config(alloc: Global, dice: &mut Dice) -> Result<PrintConfig, Deviation> {
     let mut config = PrintConfig::default(alloc)?;
     config.depth = any_depth(dice);

@@ -79,7 +79,7 @@ fn walks(
     Ok(all)
 }
 
-// An occurrence behind those before it.
+// The occurrence after those before it.
 fn next_place(
     net: &MadeGraph,
     before: &[Place],

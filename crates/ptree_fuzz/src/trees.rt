@@ -33,7 +33,7 @@ fn printed(
     Ok(String::from_utf8(out.into_inner())?)
 }
 
-// Whether a piece or the mark holds a line feed, so that the lines of a drawing are not those of
+// Whether a piece or the marker holds a line feed, so that the lines of a drawing are not those of
 // its texts.
 fn has_line_feed(alloc: Global, config: &PrintConfig) -> Result<bool, AllocError> {
     let pieces = Indent::from_config(alloc, config)?;

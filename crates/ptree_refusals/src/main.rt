@@ -1,4 +1,4 @@
-//! Makes calls of the library that allocate, and those that were refused memory once more, and prints
+//! Makes calls of the library that allocate, and those that were refused memory once more. Prints
 //! what they returned and how many were refused.
 #![tactic(auto)]
 

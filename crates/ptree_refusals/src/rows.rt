@@ -207,8 +207,8 @@ pub fn call_set(alloc: Global) -> Result<(), Failure> {
 }
 
 impl Trial {
-    // Adds two nodes and edges between them. Edges that are refused, since a node is missing, leave the
-    // graph as it was.
+    // Adds two nodes and edges between them. Edges that are refused, since a node is missing, leave
+    // the graph as it was.
     fn add_cycle(&mut self, graph: &mut Graph<&str>) -> Result<(), Failure> {
         let x = self.add_weight(graph, "x")?;
         let y = self.add_weight(graph, "y")?;

@@ -39,7 +39,7 @@ fn push_lists(out: &mut String, quotes: &str, levels: usize) -> Result<(), Alloc
     push_times(out, "]", levels)
 }
 
-// Appends a document of a text, of a list and of lists in one another, and behind them so many
+// Appends a document of a text, of a list and of lists in one another, and after them so many
 // keys.
 fn push_json(alloc: Global, out: &mut String, size: usize) -> Result<(), AllocError> {
     out.push_str("{\"text\":\"")?;

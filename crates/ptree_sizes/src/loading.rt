@@ -18,7 +18,7 @@ const TEXTS: [&str; 7] = [
     "PTREE_LEAF_FOREGROUND",
 ];
 
-// So many variables that set nothing, and behind them those of texts, each of as many bytes.
+// So many variables that set nothing, and after them those of texts, each of as many bytes.
 fn variables(alloc: Global, size: usize) -> Result<Vec<(String, String)>, AllocError> {
     let mut variables = Vec::new(alloc);
     for i in 0..size {
@@ -31,7 +31,7 @@ fn variables(alloc: Global, size: usize) -> Result<Vec<(String, String)>, AllocE
     Ok(variables)
 }
 
-// A file in TOML with so many keys that set nothing, and behind them a text of as many bytes.
+// A file in TOML with so many keys that set nothing, and after them a text of as many bytes.
 fn toml(alloc: Global, size: usize) -> Result<String, AllocError> {
     let mut file = String::new(alloc);
     for i in 0..size {
@@ -78,12 +78,12 @@ fn try_good(alloc: Global, size: usize, file: FileSource) -> Result<(), Deviatio
     try_sources(alloc, &Sources { file, variables }, true)
 }
 
-// Sources with a file that goes wrong in the line behind so many.
+// Sources with a file that goes wrong in the line after so many.
 fn try_faulty(alloc: Global, size: usize, file: FileSource) -> Result<(), Deviation> {
     let line = made(syntax_line(alloc, &file), "`syntax_line` succeeds")?;
     expect(
         line == Some(size.saturating_add(1)),
-        "the wrong line is the one behind the others",
+        "the wrong line is the one after the others",
     )?;
     let variables = variables(alloc, size)?;
     try_sources(alloc, &Sources { file, variables }, false)

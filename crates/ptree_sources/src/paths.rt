@@ -22,8 +22,8 @@ fn is_path(value: &str) -> bool
     bytes.ends_with(b".json") || bytes.ends_with(b".toml") || value == "/dev/null"
 }
 
-/// Returns the paths that a value of `PTREE_CONFIG` names: the value itself if it ends in `.toml` or
-/// `.json` or is `/dev/null`, and otherwise the value with each of these endings.
+/// Returns the paths that a value of `PTREE_CONFIG` names: the value itself if it ends in `.toml`
+/// or `.json` or is `/dev/null`, and otherwise the value with each of these endings.
 ///
 /// # Errors
 ///

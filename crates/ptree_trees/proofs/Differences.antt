@@ -8,7 +8,7 @@ use Rattle.ptree.specs.declared.item.StringItem.{StringItem, out-StringItem}
 use Rattle.ptree.specs.Address.{Address, at, Before}
 use Rattle.ptree.specs.Tree.{Forest, none, item, Tree, tree, trees, forest, tree_kids, tree_of}
 use Rattle.ptree.proofs.TreeLemmas.{kids_of_item, tree_of_item}
-use Rattle.ptree_trees.specs.Difference.{text_at}
+use Rattle.ptree_trees.specs.Difference.{text_at_address}
 use Rattle.ptree_trees.specs.Found.{IsFirst}
 
 -- the roots' texts are the same, and so are the first n children
@@ -48,10 +48,10 @@ at_below t c i a e = ap (option_and_then (λ d. at tree_kids d a)) e
 
 -- trees that are the same to child i are the same at each address before one that begins there, if
 -- they are at those that begin there too
-same_before : (t u : Tree) (i : ℕ) (a b : Address) → AreSameTo t u i → ((r : Address) → Before r a → text_at t (i ∷ r) ≡ text_at u (i ∷ r)) → Before b (i ∷ a) → text_at t b ≡ text_at u b
+same_before : (t u : Tree) (i : ℕ) (a b : Address) → AreSameTo t u i → ((r : Address) → Before r a → text_at_address t (i ∷ r) ≡ text_at_address u (i ∷ r)) → Before b (i ∷ a) → text_at_address t b ≡ text_at_address u b
 same_before t u i a [] s f p = ap Some s.text
 same_before t u i a (j ∷ r) s f (inl l) = ap (λ o. option_map (λ y. y.text) (option_and_then (λ c. at tree_kids c r) o)) (s.kids j l)
-same_before t u i a (j ∷ r) s f (inr q) = subst (λ (k : ℕ). text_at t (k ∷ r) ≡ text_at u (k ∷ r)) (sym q.0) (f r q.1)
+same_before t u i a (j ∷ r) s f (inr q) = subst (λ (k : ℕ). text_at_address t (k ∷ r) ≡ text_at_address u (k ∷ r)) (sym q.0) (f r q.1)
 
 -- trees that are the same to child i differ first there, if one of them has no such child
 pub differ_at_child : (t u : Tree) (i : ℕ) (x y : Option Tree) → AreSameTo t u i → slice_get (tree_kids t) i ≡ x → slice_get (tree_kids u) i ≡ y

@@ -17,7 +17,7 @@ use Rattle.ptree_trees.specs.Escape.{is_hidden, is_escaped, escape_letter, hex_d
 abbrev letter_char : ℕ → ℕ
 letter_char l = cond (eqb l 98) 8 (cond (eqb l 116) 9 (cond (eqb l 110) 10 (cond (eqb l 102) 12 (cond (eqb l 114) 13 92))))
 
--- what a letter tells
+-- what a letter means
 letter_tells : (c l : ℕ) → escape_letter c ≡ Some l → (letter_char l ≡ c) × (l ≢ 117) × (33 ≤ l) × (l ≤ 126)
 letter_tells c l e = grind (arith, nat_tests)
 
@@ -86,7 +86,7 @@ forms c = by_tests (escape_letter c) (is_hidden c) refl refl where
   by_tests None true d e = inr (inr (record { form = form_is c None true d e; fits = hidden_fits c e }))
   by_tests None false d e = inl (record { form = form_is c None false d e; other = no_letter c d; shown = e })
 
--- no form is the beginning of another one
+-- no form is a prefix of another one
 same_char : (c d : ℕ) (r t : List ℕ) → escape_char c ++ r ≡ escape_char d ++ t → (c ≡ d) × (r ≡ t)
 same_char c d r t e = by_forms (forms c) (forms d) where
   both : (xs ys : List ℕ) → escape_char c ≡ xs → escape_char d ≡ ys → xs ++ r ≡ ys ++ t

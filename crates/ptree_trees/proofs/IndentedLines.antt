@@ -9,7 +9,7 @@ use Rattle.ptree_trees.specs.Indented.{begins_blank, IsUnit, indent, indented_li
 use Rattle.ptree_trees.specs.declared.indented.Form.{Form}
 use Rattle.ptree_trees.proofs.IndentedTexts.{line_once, no_feed_indent, indent_once}
 
--- what stands behind the indent of a line: the bullet and its text
+-- what stands after the indent of a line: the bullet and its text
 abbrev pub own : Form → List ℕ → List ℕ
 own form t = form.bullet.now ++ t
 
@@ -30,7 +30,7 @@ line_parts form l x =
     ∙ (ap (λ z. indent form.unit.now l.level ++ z) (append_assoc (own form l.text) (10 ∷ []) x)
     ∙ sym (append_assoc (indent form.unit.now l.level) (own form l.text) (10 ∷ x)))
 
--- a line without its line feed holds none, if what stands behind its indent doesn't
+-- a line without its line feed holds none, if what stands after its indent doesn't
 pub no_feed_join : (form : Form) → IsUnit form.unit.now → (l : Line) → HasNoLineFeed (own form l.text) → HasNoLineFeed (whole form l)
 no_feed_join form u l h = All-append (λ c. c ≢ 10) (indent form.unit.now l.level) (own form l.text) (no_feed_indent form.unit.now u l.level) h
 
@@ -38,13 +38,13 @@ no_feed_join form u l h = All-append (λ c. c ≢ 10) (indent form.unit.now l.le
 pub no_text : (a x : List ℕ) → [] ≡ a ++ 10 ∷ x → ⊥
 no_text a x e = let long = ap length e in omega (arith, simp length-append at long)
 
--- one line more that can stand behind an indent
+-- one line more that can stand after an indent
 pub texts_push : (form : Form) (o : List Line) (l : Line) → AreLineTexts form o → HasNoLineFeed (own form l.text) → begins_blank (own form l.text) ≡ false
     → AreLineTexts form (o ++ l ∷ [])
 texts_push form [] l h f b = ((f, b), tt)
 texts_push form (k ∷ o) l h f b = (h.0, texts_push form o l h.1 f b)
 
--- what stands behind lines of an indented form are its other lines
+-- what stands after lines of an indented form are its other lines
 pub record HasOthers (form : Form) (o p : List Line) (y : List ℕ) : Type 0 where
   pub others : List Line
   pub lines : p ≡ o ++ others
@@ -55,7 +55,7 @@ pub record HasOthers (form : Form) (o p : List Line) (y : List ℕ) : Type 0 whe
 first_parts : (form : Form) (l : Line) (o : List Line) (y : List ℕ) → indented_lines form (l ∷ o) ++ y ≡ whole form l ++ 10 ∷ (indented_lines form o ++ y)
 first_parts form l o y = append_assoc (indented_line form l) (indented_lines form o) y ∙ line_parts form l (indented_lines form o ++ y)
 
--- lines with one level and one text behind the indent are one
+-- lines with one level and one text after the indent are one
 same_line : (form : Form) (l m : Line) → l.level ≡ m.level → own form l.text ≡ own form m.text → l ≡ m
 same_line form l m level text =
     ap (λ n. line n l.text) level ∙ ap (λ t. line m.level t) (append_cancel_left form.bullet.now l.text m.text text)

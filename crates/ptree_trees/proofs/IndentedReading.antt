@@ -99,7 +99,7 @@ next_level form u n x found behind h e level text next =
     let same = next_parts form u n x found behind h e level text next in
     (omega (arith, same.level, next.low), omega (arith, same.level, next.high))
 
--- a line cannot follow if no bullet stands behind its indent
+-- a line cannot follow if no bullet stands after its indent
 pub no_bullet : (form : Form) → IsUnit form.unit.now → (n : ℕ) (x : List ℕ) (found : ℕ) (behind : List ℕ) → begins_blank behind ≡ false
     → x ≡ indent form.unit.now found ++ behind → ((rest : List ℕ) → behind ≢ form.bullet.now ++ rest) → (level : ℕ) (text : List ℕ) → IsNext form n x level text → ⊥
 no_bullet form u n x found behind h e never level text next = never text (next_parts form u n x found behind h e level text next).text
@@ -198,7 +198,7 @@ no_others : (form : Form) (q : List Line) (rest : List ℕ) → HasNoLineFeed re
 no_others form [] rest h some e = some e
 no_others form (l ∷ q) rest h some e = no_line rest (whole form l) (indented_lines form q) h (e ∙ line_parts form l (indented_lines form q))
 
--- a text with more behind its last line feed is incomplete
+-- a text with more after its last line feed is incomplete
 pub stage_ends : (form : Form) → IsUnit form.unit.now → (text : List ℕ) (b : Building) (rest : List ℕ) (n : ℕ) → IsStage form text b rest n → HasNoLineFeed rest → rest ≢ []
     → EndsWrong form text
 stage_ends form u text b rest n s h some = record {

@@ -65,7 +65,7 @@ blank_unit (b ∷ unit) u x = u.1.0
 indent_left : (unit : List ℕ) (n : ℕ) (x : List ℕ) → indent unit (suc n) ++ x ≡ unit ++ (indent unit n ++ x)
 indent_left unit n x = append_assoc unit (indent unit n) x
 
--- so behind an indent of some level
+-- so after an indent of some level
 blank_indent : (unit : List ℕ) → IsUnit unit → (n : ℕ) (t x : List ℕ) → t ≡ indent unit (suc n) ++ x → begins_blank t ≡ true
 blank_indent unit u n t x e = ap begins_blank (e ∙ indent_left unit n x) ∙ blank_unit unit u (indent unit n ++ x)
 
@@ -95,7 +95,7 @@ indent_none unit u zero (suc m) t s h k none e = false≢true (sym h ∙ blank_i
 indent_none unit u (suc n) zero t s h k none e = none (indent unit n ++ t) (sym e ∙ indent_left unit n t)
 indent_none unit u (suc n) (suc m) t s h k none e = indent_none unit u n m t s h k none (less_indent unit n m t s e)
 
--- a unit behind an indent
+-- a unit after an indent
 pub indent_right : (unit : List ℕ) (n : ℕ) (x : List ℕ) → indent unit n ++ (unit ++ x) ≡ indent unit (suc n) ++ x
 indent_right unit zero x = sym (indent_left unit zero x)
 indent_right unit (suc n) x = indent_left unit n (unit ++ x) ∙ (ap (λ z. unit ++ z) (indent_right unit n x) ∙ sym (indent_left unit (suc n) x))

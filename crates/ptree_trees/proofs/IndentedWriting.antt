@@ -9,7 +9,7 @@ use Rattle.ptree_trees.specs.declared.indented.Form.{Form}
 use Rattle.ptree_trees.specs.Indented.{IsLineText, AreLineTexts, indent, indented_line, indented_lines}
 use Rattle.ptree_trees.proofs.IndentedTexts.{no_line, no_feed_front, indent_right}
 
--- a text with a line feed cannot stand behind an indent
+-- a text with a line feed cannot stand after an indent
 pub not_line : (text a x : List ℕ) → text ≡ a ++ 10 ∷ x → IsLineText text → ⊥
 not_line text a x e h = no_line text a x h.0 e
 
@@ -21,7 +21,7 @@ write_more form old new g xs i x all h e is more =
     ∙ (append_assoc old (indented_line form (g x)) (indented_lines form (map g (drop (i + 1) xs)))
     ∙ (ap (λ z. old ++ indented_lines form z) (sym (left_more g xs i x h e)) ∙ is))
 
--- one text more can stand behind an indent
+-- one text more can stand after an indent
 pub texts_more : {A : Type 0} (form : Form) (g : A → Line) (xs : List A) (i : ℕ) (x : A) (all : List Line) → i < length xs → x ≡ get_or xs i x
     → IsLineText (form.bullet.now ++ (g x).text) → (AreLineTexts form (map g (drop i xs)) ↔ AreLineTexts form all)
     → (AreLineTexts form (map g (drop (i + 1) xs)) ↔ AreLineTexts form all)
@@ -52,7 +52,7 @@ unit_more unit old a b n e f =
 
 -- ## Texts of items
 
--- a bullet can stand behind an indent if a text behind it can
+-- a bullet can stand after an indent if a text after it can
 pub bullet_fits : (bullet text : List ℕ) → IsLineText (bullet ++ text) → IsLineText bullet
 bullet_fits [] text h = (All-nil (λ c. c ≢ 10), refl)
 bullet_fits (c ∷ bullet) text h = (no_feed_front (c ∷ bullet) text h.0, h.1)

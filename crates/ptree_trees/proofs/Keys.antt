@@ -1,25 +1,18 @@
 -- The keys of a file, gathered one by one.
-use Rattle.std.proofs.Common.{◌≡◌, ◌∙◌, List, [], ◌∷◌, ◌++◌, Some, append_assoc, append-nil, refl, ap, sym, subst}
-use Rattle.serde_json.specs.Data as j
-use Rattle.ptree.specs.File.{json}
+use Rattle.std.proofs.Common.{◌≡◌, ◌∙◌, List, [], ◌∷◌, ◌++◌, append_assoc, append-nil, refl, ap, sym, subst}
 use Rattle.ptree.specs.Matched.{AreMatched}
-use Rattle.ptree.specs.Sources.{table_or_none}
 use Rattle.ptree_trees.specs.KeyLists.{AddsKeys, HasKeysBut, AddsKeysBut}
-use Rattle.ptree_trees.specs.Settings.{KeyValue, IsEntry, file_keys}
+use Rattle.ptree_trees.specs.Settings.{KeyValue, IsEntry}
 use Rattle.ptree_trees.specs.declared.settings.keys.Entry.{Entry}
 
--- two matched lists, and two more behind them
+-- two matched lists, and two more after them
 AreMatched-append : (ks ls : List KeyValue) (es fs : List Entry) → AreMatched IsEntry ks es → AreMatched IsEntry ls fs → AreMatched IsEntry (ks ++ ls) (es ++ fs)
 AreMatched-append [] ls [] fs h g = g
 AreMatched-append [] ls (e ∷ es) fs h g = absurd h
 AreMatched-append (k ∷ ks) ls [] fs h g = absurd h
 AreMatched-append (k ∷ ks) ls (e ∷ es) fs h g = (h.0, AreMatched-append ks ls es fs h.1 g)
 
--- before the first, all keys are left
-pub none_yet : (all : List KeyValue) → HasKeysBut all all []
-none_yet all = record { go = λ rest h. h }
-
--- entries of the first keys that are left come behind the others
+-- entries of the first keys that are left come after the others
 pub and_more : (all left ks ls : List KeyValue) (found new : List Entry) → HasKeysBut all left found → left ≡ ks ++ ls → AddsKeys found new ks → HasKeysBut all ls new
 and_more all left ks ls found new h e a = record {
   go = λ rest g.
@@ -30,10 +23,6 @@ and_more all left ks ls found new h e a = record {
 -- no keys are left
 pub all_found : (all left : List KeyValue) (found : List Entry) → HasKeysBut all left found → left ≡ [] → AreMatched IsEntry all found
 all_found all left found h e = subst (AreMatched IsEntry all) (append-nil found) (h.go [] (subst (λ z. AreMatched IsEntry z []) (sym e) tt))
-
--- before the first is added, all keys are left
-pub none_added : (all : List KeyValue) (old : List Entry) → AddsKeysBut all all old old
-none_added all old = record { more = []; added = sym (append-nil old); but = none_yet all }
 
 -- the entry of the first key that is left is added
 pub one_added : (all left ls : List KeyValue) (k : KeyValue) (old found new : List Entry) (entry : Entry) → AddsKeysBut all left old found → left ≡ k ∷ ls
@@ -47,16 +36,3 @@ one_added all left ls k old found new entry h e is a = record {
 -- no keys are left to add
 pub all_added : (all left : List KeyValue) (old new : List Entry) → AddsKeysBut all left old new → left ≡ [] → AddsKeys old new all
 all_added all left old new h e = record { more = h.more; added = h.added; matched = all_found all left h.more h.but e }
-
--- one entry is added
-pub just_one : (k : KeyValue) (old new : List Entry) (entry : Entry) → IsEntry k entry → new ≡ old ++ entry ∷ [] → AddsKeys old new (k ∷ [])
-just_one k old new entry is a = record { more = entry ∷ []; added = a; matched = (is, tt) }
-
--- only an object has keys
-pub keys_of_object : (d : j.Data) → file_keys (table_or_none (json d)) ≡ file_keys (Some (json d))
-keys_of_object j.null = refl
-keys_of_object (j.boolean b) = refl
-keys_of_object (j.number n) = refl
-keys_of_object (j.string s) = refl
-keys_of_object (j.array ds) = refl
-keys_of_object (j.object ms) = refl

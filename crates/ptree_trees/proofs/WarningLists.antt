@@ -4,13 +4,14 @@ use Rattle.std.specs.Prelude.{flat_map}
 use Rattle.ptree.specs.Fields.{all_fields}
 use Rattle.ptree.specs.File.{as_text}
 use Rattle.ptree.specs.Matched.{AreMatched}
-use Rattle.ptree.specs.Sources.{given_by, variables_of, document}
+use Rattle.ptree.specs.Sources.{given_by, variables_of, file_document}
 use Rattle.ptree.specs.declared.print_config.Sources.{Sources}
 use Rattle.ptree_trees.specs.Settings.{KeyValue, IsEntry, file_keys}
 use Rattle.ptree_trees.specs.Warnings.{WarningValue, stray_warnings, unknown_key_warnings, variable_color_warnings, key_color_warnings, all_warnings}
 use Rattle.ptree_trees.specs.declared.settings.keys.Entry.{Entry}
 
--- what a function gives of the table, key and text of each entry is what it gives of those of the keys
+-- what a function gives of the table, key and text of each entry is what it gives of those of the
+-- keys
 matched_warnings : (w : Option (List ℕ) → List ℕ → Option (List ℕ) → List WarningValue) (ks : List KeyValue) (es : List Entry) → AreMatched IsEntry ks es
     → flat_map (λ e. w (option_map string_bytes e.table) (string_bytes e.key) (option_map string_bytes e.text)) es ≡ flat_map (λ k. w k.table k.key (as_text k.value)) ks
 matched_warnings w [] [] h = refl
@@ -33,16 +34,16 @@ pub colors_of_entries : (ks : List KeyValue) (es : List Entry) → AreMatched Is
     ≡ flat_map (λ k. key_color_warnings k.table k.key (as_text k.value)) ks
 colors_of_entries ks es h = matched_warnings key_color_warnings ks es h
 
--- the warnings of each kind, one kind behind the other, are all warnings
+-- the warnings of each kind, one kind after the other, are all warnings
 pub all_gathered : (sources : Sources) (vs : List (String Global × String Global)) (es fs gs : List Entry) (a b c d e : List WarningValue)
-    → AreMatched IsEntry (file_keys (document sources.file)) es → a ≡ [] → vs ≡ sources.variables.items → fs ≡ es → gs ≡ es
+    → AreMatched IsEntry (file_keys (file_document sources.file)) es → a ≡ [] → vs ≡ sources.variables.items → fs ≡ es → gs ≡ es
     → b ≡ a ++ flat_map (λ v. stray_warnings v.0) (variables_of vs)
     → c ≡ b ++ flat_map (λ e. unknown_key_warnings (option_map string_bytes e.table) (string_bytes e.key)) fs
     → d ≡ c ++ flat_map (variable_color_warnings (given_by sources)) all_fields
     → e ≡ d ++ flat_map (λ e. key_color_warnings (option_map string_bytes e.table) (string_bytes e.key) (option_map string_bytes e.text)) gs
     → e ≡ all_warnings sources
 all_gathered sources vs es fs gs a b c d e matched none vars first second h i j k =
-    let keys = file_keys (document sources.file) in
+    let keys = file_keys (file_document sources.file) in
     let by_variable : List WarningValue = flat_map (λ v. stray_warnings v.0) (variables_of sources.variables.items) in
     let by_key : List WarningValue = flat_map (λ k. unknown_key_warnings k.table k.key) keys in
     let by_field : List WarningValue = flat_map (variable_color_warnings (given_by sources)) all_fields in

@@ -15,7 +15,7 @@ pub record HasTreesBut {A : Type 0} (R : A → List Tree → Type 0) (all left :
 pub no_trees : {A : Type 0} (R : A → List Tree → Type 0) (all : A) → HasTreesBut R all all []
 no_trees R all = record { go = λ rest h. h }
 
--- the tree of the first of what is left comes behind the others
+-- the tree of the first of what is left comes after the others
 one_tree : {A : Type 0} (R : A → List Tree → Type 0) (all left next : A) (made : List StringItem) (more : List StringItem) (s : StringItem)
     → HasTreesBut R all left (map tree_of made) → ((rest : List Tree) → R next rest → R left (tree_of s ∷ rest)) → more ≡ made ++ s ∷ [] → HasTreesBut R all next (map tree_of more)
 one_tree R all left next made more s h first e =
@@ -66,12 +66,6 @@ pub simple_tree : (b : Bool) (label text : List ℕ) (IsText : List ℕ → Type
 simple_tree true label text IsText AreBelow t e is of = absurd (cc)
 simple_tree false label text IsText AreBelow t e is of = (text, is, of)
 
--- the tree of a list
-pub list_tree : (b : Bool) (label : List ℕ) (IsText : List ℕ → Type 0) (AreBelow : List Tree → Type 0) (t : Tree) → b ≡ true → t.text ≡ label → AreBelow (tree_kids t)
-    → IsTreeUnder b label IsText AreBelow t
-list_tree true label IsText AreBelow t e own below = (own, below)
-list_tree false label IsText AreBelow t e own below = absurd (cc)
-
 -- the tree of a text under the empty label
 pub lone_text : (label text : List ℕ) (t : Tree) → length label ≡ 0 → t.text ≡ text → tree_kids t ≡ [] → IsTextTree label text t
 lone_text [] text t h own kids = (own, kids)
@@ -91,15 +85,6 @@ json_entry k (j.string s) text e h = h
 json_entry k (j.array ds) text e h = absurd (cc)
 json_entry k (j.object ms) text e h = absurd (cc)
 
--- the text of a member that is a list
-pub json_list_key : (k : List ℕ) (d : j.Data) (text : List ℕ) → is_json_list d ≡ true → text ≡ k → IsJsonMemberText k d text
-json_list_key k j.null text e h = absurd (cc)
-json_list_key k (j.boolean b) text e h = absurd (cc)
-json_list_key k (j.number n) text e h = absurd (cc)
-json_list_key k (j.string s) text e h = absurd (cc)
-json_list_key k (j.array ds) text e h = h
-json_list_key k (j.object ms) text e h = h
-
 -- the text of a member that is no list
 pub toml_entry : (k : List ℕ) (d : t.Data) (text : List ℕ) → is_toml_list d ≡ false → IsEntryText k (IsTomlText d) text → IsTomlMemberText k d text
 toml_entry k (t.string s) text e h = h
@@ -109,13 +94,3 @@ toml_entry k (t.boolean b) text e h = h
 toml_entry k (t.datetime z) text e h = h
 toml_entry k (t.array ds) text e h = absurd (cc)
 toml_entry k (t.table ms) text e h = absurd (cc)
-
--- the text of a member that is a list
-pub toml_list_key : (k : List ℕ) (d : t.Data) (text : List ℕ) → is_toml_list d ≡ true → text ≡ k → IsTomlMemberText k d text
-toml_list_key k (t.string s) text e h = absurd (cc)
-toml_list_key k (t.integer z) text e h = absurd (cc)
-toml_list_key k (t.float x) text e h = absurd (cc)
-toml_list_key k (t.boolean b) text e h = absurd (cc)
-toml_list_key k (t.datetime z) text e h = absurd (cc)
-toml_list_key k (t.array ds) text e h = h
-toml_list_key k (t.table ms) text e h = h

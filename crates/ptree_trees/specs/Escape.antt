@@ -1,11 +1,11 @@
--- Texts with an escape in the place of each character that a terminal acts on.
+-- Texts in which an escape replaces each character that a terminal acts on.
 use Rattle.std.specs.Prelude.{ℕ, ◌==◌, ◌/◌, ◌%◌, ◌||◌, Bool, if◌then◌else◌, List, [], ◌∷◌, flat_map, Option, Some, None, unwrap_or, option_map}
 use Rattle.std.specs.Char.{is_control, digit_char}
 use Rattle.std.specs.Int.{is_in_range}
 use Rattle.std.specs.Str.{chars, encode_utf8_all}
 use Rattle.ptree.specs.Tree.{Forest, none, item, Tree, tree}
 
--- the character changes the direction of the text behind it
+-- the character changes the direction of the text after it
 abbrev pub turns_text : ℕ → Bool
 turns_text c = c == 0x061C || is_in_range 0x200E 0x200F c || is_in_range 0x202A 0x202E c || is_in_range 0x2066 0x2069 c
 

@@ -84,7 +84,8 @@ abbrev pub IsKeyLine : FileSource → Fault → List ℕ → List ℕ → Option
 IsKeyLine file e key text None = HasNoLine file e key text
 IsKeyLine file e key text (Some line) = IsLastLine file e key text line
 
--- the line of a fault in a file: that of its syntax is another call's, and a fault of no key has none
+-- the line of a fault in a file: that of its syntax is another call's, and a fault of no key has
+-- none
 abbrev pub IsLineIn : FileSource → Fault → Option (List ℕ) → Option (List ℕ) → Option ℕ → Type 0
 IsLineIn file e (Some key) (Some text) line = IsKeyLine file e key text line
 IsLineIn file e _ _ line = line ≡ None

@@ -21,7 +21,7 @@ begins_blank (b ∷ t) = is_blank b
 abbrev pub IsUnit : List ℕ → Type 0
 IsUnit unit = (unit ≢ []) × AllByRecursion (λ b. is_blank b ≡ true) unit
 
--- a text that can stand behind an indent: it has no line feed, and begins with no blank or tab
+-- a text that can stand after an indent: it has no line feed, and begins with no blank or tab
 abbrev pub IsLineText : List ℕ → Type 0
 IsLineText t = HasNoLineFeed t × (begins_blank t ≡ false)
 
@@ -40,11 +40,11 @@ abbrev pub indented_lines : Form → List Line → List ℕ
 indented_lines form [] = []
 indented_lines form (l ∷ o) = indented_line form l ++ indented_lines form o
 
--- each text with the bullet before it can stand behind an indent
+-- each text with the bullet before it can stand after an indent
 abbrev pub AreLineTexts : Form → List Line → Type 0
 AreLineTexts form o = AllByRecursion (λ l. IsLineText (form.bullet.now ++ l.text)) o
 
--- the lines of a tree, if each of its texts with the bullet before it can stand behind an indent
+-- the lines of a tree, if each of its texts with the bullet before it can stand after an indent
 abbrev pub IsIndentedForm : Form → List ℕ → Tree → Type 0
 IsIndentedForm form text t =
     AreLineTexts form (outline t) × (text ≡ indented_lines form (outline t))

@@ -1,5 +1,5 @@
--- What the sources of a configuration say, for people: fields by their names, the keys of a file, and
--- what a value that is wrong is.
+-- What the sources of a configuration say, for people: fields by their names, the keys of a file,
+-- and what a value that is wrong is.
 use Rattle.std.specs.Prelude.{◌≡◌, ⊤, ℕ, option_and_then, ◌||◌, ◌&&◌, Bool, true, false, if◌then◌else◌, List, [], ◌∷◌, ◌++◌, Option, Some, None, option_map, is_some, find, codes, string_bytes, String}
 use Rattle.std.specs.Str.{bytes_eq, str_eq_ignore_ascii_case}
 use Rattle.std.specs.declared.alloc.Global.{Global}

@@ -5,7 +5,7 @@ use Rattle.ptree.specs.Color.{tone_of, named_tone}
 use Rattle.ptree.specs.Fields.{all_fields}
 use Rattle.ptree.specs.File.{as_text}
 use Rattle.ptree.specs.Parse.{parse_color}
-use Rattle.ptree.specs.Sources.{Given, given_by, variables_of, variable, document}
+use Rattle.ptree.specs.Sources.{Given, given_by, variables_of, variable, file_document}
 use Rattle.ptree.specs.declared.print_config.Sources.{Sources}
 use Rattle.ptree.specs.declared.print_config.fields.Field.{Field}
 use Rattle.ptree_trees.specs.Settings.{field_at, field_of_variable, is_color, is_known, file_keys, key_name}
@@ -30,7 +30,8 @@ warning_of (w.KeyColor field name) = unknown_key_color field (string_bytes name)
 unfoldable pub has_front : List ℕ → Bool
 has_front name = nat_le 6 (length name) && str_eq_ignore_ascii_case (take 6 name) (codes "PTREE_")
 
--- whether a variable begins as those of fields do, and is neither one of them nor the path of the file
+-- whether a variable begins as those of fields do, and is neither one of them nor the path of the
+-- file
 unfoldable pub is_stray : List ℕ → Bool
 is_stray name = (has_front name && not (bytes_eq name (codes "PTREE_CONFIG"))) && is_none (field_of_variable name)
 
@@ -75,7 +76,7 @@ key_color_warnings table key text = color_warnings_at (field_at table key) text
 -- all warnings: of variables, then of keys, then of colours in variables and in the file
 abbrev pub all_warnings : Sources → List WarningValue
 all_warnings sources =
-    let keys = file_keys (document sources.file) in
+    let keys = file_keys (file_document sources.file) in
     ((flat_map (λ v. stray_warnings v.0) (variables_of sources.variables.items)
     ++ flat_map (λ k. unknown_key_warnings k.table k.key) keys)
     ++ flat_map (variable_color_warnings (given_by sources)) all_fields)

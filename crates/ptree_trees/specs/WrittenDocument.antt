@@ -25,8 +25,8 @@ IsTreeUnder false label IsText AreBelow t = (text : List ℕ) × IsText text × 
 abbrev pub IsEntryText : List ℕ → (List ℕ → Type 0) → List ℕ → Type 0
 IsEntryText key IsText text = (value : List ℕ) × IsText value × (text ≡ key ++ (codes " = " ++ value))
 
--- a text is that of a JSON value: null and lists have none, and that of a float is one that reads back as
--- the float
+-- a text is that of a JSON value: null and lists have none, and that of a float is one that reads
+-- back as the float
 abbrev pub IsJsonText : j.Data → List ℕ → Type 0
 IsJsonText j.null text = text ≡ []
 IsJsonText (j.boolean b) text = text ≡ (if b then codes "true" else codes "false")
@@ -42,14 +42,14 @@ is_json_list (j.array ds) = true
 is_json_list (j.object ms) = true
 is_json_list _ = false
 
--- the text of a member of an object: its key, and behind it the value if that is no list
+-- the text of a member of an object: its key, and after it the value if that is no list
 abbrev pub IsJsonMemberText : List ℕ → j.Data → List ℕ → Type 0
 IsJsonMemberText key (j.array ds) text = text ≡ key
 IsJsonMemberText key (j.object ms) text = text ≡ key
 IsJsonMemberText key d text = IsEntryText key (IsJsonText d) text
 
--- the trees of what is below a value: one for each element of a list, or for each member of an object, in
--- order
+-- the trees of what is below a value: one for each element of a list, or for each member of an
+-- object, in order
 abbrev mutual
   pub AreJsonKids : j.Data → List Tree → Type 0
   AreJsonKids (j.array ds) ts = AreJsonElements ds ts
@@ -70,7 +70,8 @@ abbrev mutual
 abbrev pub IsJsonTree : List ℕ → j.Data → Tree → Type 0
 IsJsonTree label d t = IsTreeUnder (is_json_list d) label (IsJsonText d) (AreJsonKids d) t
 
--- a text is that of a TOML value: lists have none, and that of a float or a date is as TOML writes it
+-- a text is that of a TOML value: lists have none, and that of a float or a date is as TOML writes
+-- it
 abbrev pub IsTomlText : t.Data → List ℕ → Type 0
 IsTomlText (t.string s) text = text ≡ s
 IsTomlText (t.integer z) text = text ≡ signed_decimal z
@@ -85,14 +86,14 @@ is_toml_list (t.array ds) = true
 is_toml_list (t.table ms) = true
 is_toml_list _ = false
 
--- the text of a member of a table: its key, and behind it the value if that is no list
+-- the text of a member of a table: its key, and after it the value if that is no list
 abbrev pub IsTomlMemberText : List ℕ → t.Data → List ℕ → Type 0
 IsTomlMemberText key (t.array ds) text = text ≡ key
 IsTomlMemberText key (t.table ms) text = text ≡ key
 IsTomlMemberText key d text = IsEntryText key (IsTomlText d) text
 
--- the trees of what is below a value: one for each element of a list, or for each member of a table, in
--- order
+-- the trees of what is below a value: one for each element of a list, or for each member of a
+-- table, in order
 abbrev mutual
   pub AreTomlKids : t.Data → List Tree → Type 0
   AreTomlKids (t.array ds) ts = AreTomlElements ds ts

@@ -8,8 +8,8 @@ ghost use Rattle.ptree_trees.specs.Escape.{backslash, turns_text, is_hidden, is_
 use ptree::item::StringItem;
 use std::alloc::{AllocError, Global};
 
-/// Returns a text with an escape in the place of each backslash, and of each character that a
-/// terminal would act on and not show.
+/// Returns a text in which an escape replaces each backslash, and each character that a terminal
+/// would act on and not show.
 ///
 /// These characters are the controls (below 32, and 127 to 159), the changes of direction (U+061C,
 /// U+200E, U+200F, U+202A to U+202E, U+2066 to U+2069), and the separators of lines and paragraphs
@@ -123,7 +123,7 @@ fn is_hidden(c: char) -> bool
     c.is_control() || turns_text(c) || ('\u{2028}'..='\u{2029}').contains(&c)
 }
 
-// Whether a character changes the direction of the text behind it.
+// Whether a character changes the direction of the text after it.
 fn turns_text(c: char) -> bool
     ensures { result ≡ turns_text c }
 {

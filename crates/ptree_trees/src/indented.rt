@@ -106,7 +106,7 @@ impl From<AllocError> for WriteError {
 impl fmt::Display for WriteError {
     fn fmt<W: fmt::Write>(&self, f: &mut fmt::Formatter<W>) -> fmt::Result {
         match self {
-            WriteError::Text => write!(f, "the text of an item cannot stand behind an indent"),
+            WriteError::Text => write!(f, "the text of an item cannot follow an indent"),
             WriteError::Memory => write!(f, "out of memory"),
         }
     }
@@ -193,7 +193,7 @@ pub fn write_indented(
 /// Returns the tree whose indented form a text is.
 ///
 /// The first line is the root, at level 0. Each further line has at least one unit, and at most one
-/// more than the line before it. Behind the units stands the bullet, and then the item's text,
+/// more than the line before it. After the units stands the bullet, and then the item's text,
 /// which may be empty. If there is no bullet, the text begins with no blank or tab. A carriage
 /// return is an ordinary character. The last line must end in a line feed.
 ///

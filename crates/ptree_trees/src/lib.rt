@@ -1,6 +1,6 @@
 //! For those who keep and compare trees: trees as indented text, trees of paths, the first
-//! difference of two trees, trees changed, texts escaped, documents with floats and dates, and what a
-//! configuration's sources say.
+//! difference of two trees, trees changed, texts escaped, documents with floats and dates, and what
+//! a configuration's sources say.
 #![tactic(auto)]
 
 pub mod change;

@@ -1,5 +1,5 @@
 //! What the sources of a configuration say, for people: the keys of a file, what has no effect, and
-//! what may stand in the place of a wrong value.
+//! what a field accepts where its value is wrong.
 mod effects;
 mod keys;
 mod lines;

@@ -2,7 +2,7 @@
 ghost use Rattle.std.specs.IoError.{error_kind};
 ghost use Rattle.std.specs.Prelude.{◌≡◌, length, codes, option_map, Some, None, IfOk, string_bytes};
 ghost use Rattle.std.specs.declared.io.ErrorKind.{ErrorKind};
-ghost use Rattle.ptree.specs.Sources.{document, given_by, variable};
+ghost use Rattle.ptree.specs.Sources.{file_document, given_by, variable};
 ghost use Rattle.ptree.specs.declared.print_config.fields.Field.{Field};
 ghost use Rattle.ptree.specs.declared.print_config.loader.Fault.{Fault};
 ghost use Rattle.ptree_trees.specs.FaultLine.{IsKeyLine};
@@ -50,7 +50,7 @@ pub fn allowed_depth() -> &'static str
 
 /// How many keys a file has.
 pub fn count_of_keys(alloc: Global, file: &FileSource) -> Result<usize, AllocError>
-    ensures { IfOk result (λ n. n ≡ length (file_keys (document file.now))) }
+    ensures { IfOk result (λ n. n ≡ length (file_keys (file_document file.now))) }
 {
     let found = entries(alloc, file)?;
     Ok(found.len())

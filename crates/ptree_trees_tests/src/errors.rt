@@ -19,7 +19,7 @@ fn texts(rt: HostRuntime) -> Result<(), Fail> {
     expect_message(alloc, &IndentError::Line(4), line)?;
     expect_message(alloc, &IndentError::End, "the text is incomplete")?;
     expect_message(alloc, &IndentError::Memory, "out of memory")?;
-    let text = "the text of an item cannot stand behind an indent";
+    let text = "the text of an item cannot follow an indent";
     expect_message(alloc, &WriteError::Text, text)?;
     expect_message(alloc, &WriteError::Memory, "out of memory")
 }
@@ -49,7 +49,7 @@ fn as_errors_of_std(rt: HostRuntime) -> Result<(), Fail> {
         (
             io::Error::from(WriteError::Text),
             ErrorKind::InvalidInput,
-            "the text of an item cannot stand behind an indent",
+            "the text of an item cannot follow an indent",
         ),
         (
             io::Error::from(WriteError::Memory),

@@ -227,10 +227,11 @@ fn write_with_codes<N: Label, W: Sink>(
     put_all(f, codes.reset().as_bytes())
 }
 
-/// Draws a graph from a start node on to a writer that is not standard output, each node expanded
-/// once ([`Graph::expanded_once`]), down to the configuration's depth.
+/// Draws a graph from a start node, to a sink that is not standard output, with each node expanded
+/// once ([`Graph::expanded_once`]). The drawing ends at the configured depth.
 ///
-/// A repeated occurrence has the mark after its label, as [`REPEATED_MARK`]. An empty mark is none.
+/// A repeated occurrence has the mark after its label. `cargo tree` has [`REPEATED_MARK`]; an empty
+/// mark writes nothing.
 ///
 /// # Errors
 ///
@@ -276,8 +277,9 @@ pub fn write_graph_once_with<N: Label, W: Sink>(
     )
 }
 
-/// Draws as [`write_graph_once_with`], but to standard output, `terminal` saying whether that is a
-/// terminal, and under the configuration that sources mean ([`PrintConfig::from_env`]).
+/// Draws as [`write_graph_once_with`], but to standard output, and under the configuration that
+/// sources denote ([`PrintConfig::from_env`]). `terminal` says whether standard output is a
+/// terminal.
 ///
 /// # Errors
 ///

@@ -49,9 +49,10 @@ impl Place {
 }
 
 /// A graph as a tree in which each node is expanded once: all its places, in the order of drawing.
-/// The first one is the root. Below a place are the places right after it, as many as its size says
-/// beside itself: those of the node's neighbours, newest edge first, each followed by what is below
-/// it. Nothing is below a place at the depth.
+///
+/// The first place is the root. Below a place are the places right after it, as many as
+/// [`Place::below`] says: those of the node's neighbours, newest edge first, each followed by what
+/// is below it. Nothing is below a place at the depth.
 #[derive(Debug, Drop)]
 pub struct Occurrence {
     /// The places.
@@ -72,7 +73,8 @@ impl Occurrence {
 }
 
 impl<N> Graph<N> {
-    /// The graph as a tree in which each node is expanded once, from a start node down to a depth.
+    /// Returns the graph as a tree in which each node is expanded once, from a start node down to a
+    /// depth.
     ///
     /// A node is expanded at its first occurrence above the depth, in the order of drawing. Its
     /// later ones are repeated, unless it has no neighbours. So a cycle ends at the first repeated

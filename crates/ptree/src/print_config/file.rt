@@ -4,7 +4,7 @@ ghost use Rattle.ptree.specs.Color.{color_of};
 ghost use Rattle.ptree.specs.File.{get, is_table, as_whole, as_text, as_flag, is_null, whole_node, when_node, as_rgb, json_rgb, toml_rgb, color_numbers, color_node};
 ghost use Rattle.ptree.specs.Lent.{node_of, document_of};
 ghost use Rattle.ptree.specs.Loading.{file_fault};
-ghost use Rattle.ptree.specs.Sources.{document, json_document, toml_document};
+ghost use Rattle.ptree.specs.Sources.{file_document, json_document, toml_document};
 ghost use Rattle.ptree.specs.declared.print_config.loader.Fault.TheVariants.{Syntax};
 ghost use Rattle.serde_json.specs.View.{items_view as json_items};
 ghost use Rattle.toml.specs.View.{items_view as toml_items};
@@ -24,7 +24,7 @@ pub(crate) enum Document {
 impl Document {
     // Reads the document of a file, if it has one.
     pub(crate) fn read(alloc: Global, file: &FileSource) -> Result<Option<Document>, AllocError>
-        ensures { IfOk result (λ read. option_map document_of read ≡ document file.now) }
+        ensures { IfOk result (λ read. option_map document_of read ≡ file_document file.now) }
     {
         match file {
             FileSource::Absent | FileSource::Unreadable => Ok(None),

@@ -7,7 +7,7 @@ ghost use Rattle.ptree.specs.Config.{config_of};
 ghost use Rattle.ptree.specs.Fields.{all_style_fields, HasEach};
 ghost use Rattle.ptree.specs.Lent.{document_of, node_of, given_of, lent_characters_of};
 ghost use Rattle.ptree.specs.Loading.{whole, when, set, text, color, flag, characters, is_dimmed, loaded_style, configuration};
-ghost use Rattle.ptree.specs.Sources.{variables_of, last_value, document, given_by, variable, table_at, node};
+ghost use Rattle.ptree.specs.Sources.{variables_of, last_value, file_document, given_by, variable, table_at, node};
 ghost use Rattle.ptree.specs.Style.{style_of};
 ghost use Rattle.ptree.specs.declared.print_config.fields.Field.{Field};
 
@@ -34,7 +34,7 @@ pub(crate) struct Given<'a> {
 impl<'a> Given<'a> {
     // Returns what the sources give, with the document of their file.
     pub(crate) fn of(sources: &'a Sources, read: &'a Option<Document>) -> Given<'a>
-        requires { option_map document_of read.now ≡ document sources.now.file }
+        requires { option_map document_of read.now ≡ file_document sources.now.file }
         ensures { given_of result ≡ given_by sources.now }
     {
         Given {

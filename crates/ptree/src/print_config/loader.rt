@@ -5,7 +5,7 @@ ghost use Rattle.ptree.specs.AllFaults.{listed, field_faults, faults_in, all_fau
 ghost use Rattle.ptree.specs.Fields.{all_fields, HasEach};
 ghost use Rattle.ptree.specs.Lent.{document_of, node_of, given_of};
 ghost use Rattle.ptree.specs.Loading.{text_fits, node_fits, variable_fault, key_fault, field_fault, table_fault, file_fault, first_of, fault_in, first_fault, loaded_config};
-ghost use Rattle.ptree.specs.Sources.{document};
+ghost use Rattle.ptree.specs.Sources.{file_document};
 
 use crate::print_config::fields::{FIELDS, Field, Kind, Part};
 use crate::print_config::file::{Document, FileNode};
@@ -88,7 +88,7 @@ fn load_with(
     sources: &Sources,
     read: &Option<Document>,
 ) -> Result<Option<PrintConfig>, AllocError>
-    requires { option_map document_of read.now ≡ document sources.now.file }
+    requires { option_map document_of read.now ≡ file_document sources.now.file }
     ensures { IfOk result (λ config. option_map config_of config ≡ loaded_config sources.now) }
 {
     let given = Given::of(sources, read);
@@ -140,7 +140,7 @@ fn faults_in(
     read: &Option<Document>,
     given: &Given<'_>,
 ) -> Result<Vec<Fault>, AllocError>
-    requires { option_map document_of read.now ≡ document file.now }
+    requires { option_map document_of read.now ≡ file_document file.now }
     ensures { IfOk result (λ found.
         found.items ≡ faults_in (file_fault file.now) (given_of given.now)) }
 {
@@ -165,7 +165,7 @@ fn push_fault(found: &mut Vec<Fault>, fault: Option<Fault>) -> Result<(), AllocE
 // Returns the first fault in a file, its document and the variables.
 #[tactic(auto, unfolding(crate::specs::Loading::fault_in))]
 fn first_fault_in(file: &FileSource, read: &Option<Document>, given: &Given<'_>) -> Option<Fault>
-    requires { option_map document_of read.now ≡ document file.now }
+    requires { option_map document_of read.now ≡ file_document file.now }
     ensures first { result ≡ fault_in (file_fault file.now) (given_of given.now) }
     ensures each { HasEach all_fields }
 {
@@ -183,7 +183,7 @@ fn first_fault_in(file: &FileSource, read: &Option<Document>, given: &Given<'_>)
 
 // Returns the fault of a file that has no document.
 fn file_fault(file: &FileSource, read: &Option<Document>) -> Option<Fault>
-    requires { option_map document_of read.now ≡ document file.now }
+    requires { option_map document_of read.now ≡ file_document file.now }
     ensures { result ≡ file_fault file.now }
 {
     match file {

@@ -11,9 +11,9 @@ use std::alloc::{AllocError, Global};
 
 /// Returns the tree of a JSON value under a label, with floats as `serde_json` writes them.
 ///
-/// A list or an object is the label over its elements or members, each member under its key. Any other
-/// value is a child of the label, or stands alone if the label is empty. It allocates the result,
-/// and calls itself once for each level.
+/// A list or an object is the label over its elements or members, each member under its key. Any
+/// other value is a child of the label, or stands alone if the label is empty. It allocates the
+/// result, and calls itself once for each level.
 ///
 /// # Errors
 ///

@@ -12,9 +12,9 @@ use toml::Table;
 
 /// Returns the tree of a TOML value under a label, with floats and dates as `toml` writes them.
 ///
-/// A list or a table is the label over its elements or members, each member under its key. Any other
-/// value is a child of the label, or stands alone if the label is empty. It allocates the result,
-/// and calls itself once for each level.
+/// A list or a table is the label over its elements or members, each member under its key. Any
+/// other value is a child of the label, or stands alone if the label is empty. It allocates the
+/// result, and calls itself once for each level.
 ///
 /// # Errors
 ///

@@ -4,7 +4,7 @@ ghost use Rattle.serde_json.specs.View.{view as json_view, members_view as json_
 ghost use Rattle.toml.specs.View.{view as toml_view, members_view as toml_members};
 ghost use Rattle.ptree.specs.File.{json, toml};
 ghost use Rattle.ptree.specs.Matched.{AreMatched};
-ghost use Rattle.ptree.specs.Sources.{document, json_document, toml_document};
+ghost use Rattle.ptree.specs.Sources.{file_document, json_document, toml_document};
 ghost use Rattle.ptree_trees.specs.Settings.{IsEntry, field_at, has_fields, is_known, json_keys, json_keys_at, json_file_keys, toml_keys, toml_keys_at, toml_file_keys, file_keys, key_name};
 ghost use Rattle.ptree_trees.specs.KeyLists.{AddsKeys};
 
@@ -79,7 +79,7 @@ impl fmt::Display for Entry {
 /// Memory ran out.
 pub fn entries(alloc: Global, file: &FileSource) -> Result<Vec<Entry>, AllocError>
     ensures { IfOk result (λ found.
-        AreMatched IsEntry (file_keys (document file.now)) found.items) }
+        AreMatched IsEntry (file_keys (file_document file.now)) found.items) }
 {
     match file {
         FileSource::Absent | FileSource::Unreadable => Ok(Vec::new(alloc)),

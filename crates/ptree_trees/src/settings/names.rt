@@ -99,7 +99,7 @@ pub(super) fn is_color(field: Field) -> bool
     )
 }
 
-/// Returns what may stand in the place of a field's value.
+/// Returns what a field accepts, in words.
 pub fn allowed(field: Field) -> &'static str
     ensures { result.now ≡ allowed_text field }
 {

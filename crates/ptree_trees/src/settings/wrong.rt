@@ -3,7 +3,7 @@ ghost use Rattle.std.specs.Prelude.{◌≡◌, option_copied, option_map, option
 ghost use Rattle.serde_json.specs.View.{view as json_view};
 ghost use Rattle.toml.specs.View.{view as toml_view};
 ghost use Rattle.ptree.specs.File.{json, toml, get};
-ghost use Rattle.ptree.specs.Sources.{document, json_document, toml_document};
+ghost use Rattle.ptree.specs.Sources.{file_document, json_document, toml_document};
 ghost use Rattle.ptree_trees.specs.Settings.{IsWrongValue, IsShown, value_at};
 
 use super::keys::copy;
@@ -45,7 +45,7 @@ fn value_at(
     key: &str,
 ) -> Result<Option<String>, AllocError>
     ensures { IfOk result
-        (IsShown (value_at (option_copied table.entry) key.now (document file.now))) }
+        (IsShown (value_at (option_copied table.entry) key.now (file_document file.now))) }
 {
     match file {
         FileSource::Absent | FileSource::Unreadable => Ok(None),

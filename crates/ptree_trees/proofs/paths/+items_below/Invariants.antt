@@ -9,8 +9,8 @@ use Rattle.ptree_trees.proofs.paths.+items_below.Given as goal
 abbrev pub decreases-items_below : goal.decreases-items_below
 decreases-items_below l = weight (names_of l.separator l.paths.now)
 
--- the items so far are those of the paths so far, each with all that is below it, and the groups are
--- those of the other names
+-- the items so far are those of the paths so far, each with all that is below it, and the groups
+-- are those of the other names
 abbrev pub invariant-loop-path : goal.invariant-loop-path
 invariant-loop-path l = record {
   names : with_names (tops (forest (map tree_of l.items.items))) (next_names [] (names_of l.separator (drop l.path-index l.paths))) ≡ with_names [] (next_names [] (names_of l.separator l.paths));
