@@ -14,6 +14,7 @@ pub(crate) mod indent;
 mod line;
 pub(crate) mod look;
 pub(crate) mod pen;
+mod place;
 mod spread;
 
 use crate::item::{StringItem, TreeItem};

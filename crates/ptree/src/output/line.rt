@@ -5,6 +5,7 @@ ghost use Rattle.ptree.specs.Texts.{line_feed};
 
 use crate::faults::FaultCount;
 use crate::output::brush::Brush;
+use crate::output::place::place;
 use crate::output::spread::{may_hold_line_feed, spread};
 use crate::style::Sink;
 use std::alloc::{AllocError, Global};
@@ -67,7 +68,7 @@ impl LineBuffer {
             self.grow(bytes.len())?;
         }
         let end = self.used + bytes.len();
-        self.room[self.used..end].copy_from_slice(bytes);
+        place(&mut self.room, self.used, bytes);
         self.used = end;
         Ok(())
     }
@@ -171,14 +172,14 @@ impl LineBuffer {
             ++ further_text (brush_look brush.now) last)
             (drop start (line_bytes self.old))) }
     {
-        self.room = spread(
+        let text = spread(
             brush.alloc,
             self.as_slice(),
             start,
             width,
             brush.further(last),
         )?;
-        self.used = self.room.len();
-        Ok(())
+        self.truncate(0);
+        self.append(&text)
     }
 }
