@@ -73,7 +73,8 @@ impl LineBuffer {
         Ok(())
     }
 
-    // Makes room for so many bytes more. It is a function of its own, since it is seldom called.
+    // Makes room for so many bytes more, and an eighth beyond them. All the room is filled, so it does
+    // not double. It is a function of its own, since it is seldom called.
     #[cold]
     #[inline(never)]
     fn grow(&mut self, more: usize) -> Result<(), AllocError>
@@ -84,8 +85,8 @@ impl LineBuffer {
         let Some(end) = self.used.checked_add(more) else {
             return Err(AllocError);
         };
-        let room = end.max(self.room.len().saturating_mul(2));
-        self.room.resize(room, 0)
+        let spare = self.room.len() / 8 + 64;
+        self.room.resize(end.saturating_add(spare), 0)
     }
 
     // Returns the bytes.
@@ -154,8 +155,8 @@ impl LineBuffer {
         }
     }
 
-    // Does what `continue_lines` does, whether there is a line feed or not. It is a function of its
-    // own, since it is seldom called.
+    // Does what `continue_lines` does, whether there is a line feed or not, and leaves room for the
+    // line feed after it. It is a function of its own, since it is seldom called.
     #[inline(never)]
     fn spread(
         &mut self,
@@ -172,14 +173,12 @@ impl LineBuffer {
             ++ further_text (brush_look brush.now) last)
             (drop start (line_bytes self.old))) }
     {
-        let text = spread(
-            brush.alloc,
-            self.as_slice(),
-            start,
-            width,
-            brush.further(last),
-        )?;
-        self.truncate(0);
-        self.append(&text)
+        let (held, further) = (self.as_slice(), brush.further(last));
+        let mut room = spread(brush.alloc, held, start, width, further)?;
+        let used = room.len();
+        room.push(0)?;
+        self.room = room;
+        self.used = used;
+        Ok(())
     }
 }
