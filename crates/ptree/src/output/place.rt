@@ -4,19 +4,22 @@ ghost use Rattle.std.specs.Prelude.{◌≡◌, ◌+◌, ◌≤◌, ◌++◌, len
 
 use std::simd::Simd;
 
-/// Copies a text to a place.
+/// Copies a text to a place. One of eight to fifteen bytes takes the first test.
 #[inline(always)]
 pub(crate) fn place(room: &mut [u8], at: usize, text: &[u8])
     requires { at + length text.now ≤ length room.old }
     ensures text { take (at + length text.now) room.new ≡ take at room.old ++ text.now }
     ensures len { length room.new ≡ length room.old }
 {
-    match text.len() {
+    let n = text.len();
+    if 8 <= n && n < 16 {
+        return place_ends::<8>(room, at, text);
+    }
+    match n {
         2..4 => place_ends::<2>(room, at, text),
         4..8 => place_ends::<4>(room, at, text),
-        8..16 => place_ends::<8>(room, at, text),
         16..32 => place_ends::<16>(room, at, text),
-        n => room[at..at + n].copy_from_slice(text),
+        _ => room[at..at + n].copy_from_slice(text),
     }
 }
 
