@@ -3,6 +3,7 @@ use Rattle.std.specs.Prelude.{◌≡◌, ℕ, Bool, Option, List, ◌++◌, take
 use Rattle.ptree.specs.declared.output.brush.Brush.{Brush}
 use Rattle.ptree.specs.declared.output.pen.Pen.{Pen}
 use Rattle.ptree.specs.Drawing.{Look}
+use Rattle.ptree.specs.Line.{line_bytes}
 use Rattle.ptree.specs.Looks.{look_of, own_text}
 use Rattle.ptree.specs.Style.{start_codes}
 
@@ -12,7 +13,7 @@ brush_look brush = look_of brush.look.now
 
 -- the bytes in the buffer of a pen
 abbrev pub buffer_of : Pen → List ℕ
-buffer_of pen = pen.line.bytes.items
+buffer_of pen = line_bytes pen.line
 
 -- the first `width` bytes are the branch's start codes and a passing text
 abbrev pub HoldsPassing : Brush → Pen → ℕ → List ℕ → Type 0

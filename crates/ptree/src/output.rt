@@ -11,8 +11,10 @@ ghost use Rattle.ptree.specs.Utf8.{HasUtf8Texts};
 pub(crate) mod brush;
 pub(crate) mod engine;
 pub(crate) mod indent;
+mod line;
 pub(crate) mod look;
 pub(crate) mod pen;
+mod place;
 mod spread;
 
 use crate::item::{StringItem, TreeItem};

@@ -228,7 +228,7 @@ fn draw_row<N: Label, W: Sink>(
     ensures kept { OnOk result (buffer_of pen.new ≡ buffer_of pen.old) }
     ensures turned { OnOk result (pen.new.turned ≡ false) }
 {
-    let width = pen.line.bytes.len();
+    let width = pen.line.len();
     let mut rest = places;
     let mut left = count;
     while let Some((place, after)) = first_place(rest, left) {
@@ -273,10 +273,10 @@ fn draw_root<N: Label, W: Sink>(
     ensures error { OnOk result (pen.new.error ≡ Memory) }
     ensures cause { HasErrorCause (W.faults f.old) (W.faults f.new) pen.new.error }
 {
-    let width = pen.line.bytes.len();
-    pen.line.bytes.extend_from_slice(brush.end.as_bytes())?;
+    let width = pen.line.len();
+    pen.line.append(brush.end.as_bytes())?;
     draw_own(expanded, place, f, pen, brush, width, None)?;
-    pen.line.bytes.truncate(width);
+    pen.line.truncate(width);
     if depth == 0 {
         return Ok(());
     }

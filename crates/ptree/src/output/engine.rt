@@ -79,15 +79,15 @@ pub(crate) fn draw_entry<C: TreeItem, W: Sink>(
     ensures kept { OnOk result (buffer_of pen.new ≡ buffer_of pen.old) }
     ensures turned { pen.new.turned ≡ pen.old.turned }
 {
-    let start = pen.line.bytes.len();
+    let start = pen.line.len();
     match item.write_self(brush.alloc, &mut pen.line, &brush.look.leaf) {
         Ok(()) => {}
         Err(_) => return Err(Stop),
     }
     pen.line.continue_lines(start, width, brush, last)?;
     pen.line.end_line()?;
-    put_buffer(f, pen.line.bytes.as_slice(), &mut pen.error)?;
-    pen.line.bytes.truncate(start);
+    put_buffer(f, pen.line.as_slice(), &mut pen.error)?;
+    pen.line.truncate(start);
     Ok(())
 }
 
@@ -184,7 +184,7 @@ fn draw_children<C: TreeItem<Child = C> + Drop, W: Sink>(
     ensures kept { OnOk result (buffer_of pen.new ≡ buffer_of pen.old) }
     ensures turned { OnOk result (pen.new.turned ≡ false) }
 {
-    let width = pen.line.bytes.len();
+    let width = pen.line.len();
     let mut rest = items;
     while let Some((item, others)) = rest.split_first() {
         let is_last = others.is_empty();
@@ -216,10 +216,10 @@ where
     ensures error { OnOk result (pen.new.error ≡ Memory) }
     ensures cause { HasErrorCause (W.faults f.old) (W.faults f.new) pen.new.error }
 {
-    let width = pen.line.bytes.len();
-    pen.line.bytes.extend_from_slice(brush.end.as_bytes())?;
+    let width = pen.line.len();
+    pen.line.append(brush.end.as_bytes())?;
     draw_entry(item, f, pen, brush, width, None)?;
-    pen.line.bytes.truncate(width);
+    pen.line.truncate(width);
     if depth == 0 {
         return Ok(());
     }

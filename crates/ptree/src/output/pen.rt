@@ -1,112 +1,16 @@
-//! The buffer in which the engine gathers an entry.
-ghost use Rattle.std.specs.Prelude.{◌≡◌, true, false, Some, length, take, drop, ◌≤◌, ◌++◌, ◌∷◌, [], IfOk, OnOk};
-ghost use Rattle.ptree.specs.Drawing.{with_inserted};
-ghost use Rattle.ptree.specs.Looks.{own_text, further_text};
+//! The engine's buffer between its calls.
+ghost use Rattle.std.specs.Prelude.{◌≡◌, true, false, Some, take, ◌++◌, IfOk, OnOk};
+ghost use Rattle.ptree.specs.Line.{line_bytes};
+ghost use Rattle.ptree.specs.Looks.{own_text};
 ghost use Rattle.ptree.specs.Pen.{brush_look};
 ghost use Rattle.ptree.specs.Pieces.{passing_piece};
 ghost use Rattle.ptree.specs.Style.{style_of, start_codes};
-ghost use Rattle.ptree.specs.Texts.{line_feed};
 ghost use Rattle.ptree.specs.declared.style.DrawError.TheVariants.{Memory};
 
-use crate::faults::FaultCount;
 use crate::output::brush::Brush;
-use crate::output::spread::{may_hold_line_feed, spread};
-use crate::style::{DrawError, Sink, Style};
+use crate::output::line::LineBuffer;
+use crate::style::{DrawError, Style};
 use std::alloc::{AllocError, Global};
-use std::io;
-
-/// The bytes of an entry, gathered so that one put writes them. As a sink it fails if it cannot
-/// grow.
-#[derive(Drop)]
-pub(crate) struct LineBuffer {
-    pub(crate) bytes: Vec<u8>,
-    faults: FaultCount,
-}
-
-impl Sink for LineBuffer {
-    ghost use Rattle.std.specs.Prelude.{Some};
-
-    ghost contents = { λ l. Some l.bytes.items };
-
-    ghost faults = { λ l. l.faults.count };
-
-    #[inline(always)]
-    fn put(&mut self, bytes: &[u8]) -> io::Result<usize> {
-        match self.bytes.extend_from_slice(bytes) {
-            Ok(()) => Ok(bytes.len()),
-            Err(e) => {
-                self.faults = self.faults.next();
-                Err(io::Error::from(e))
-            }
-        }
-    }
-}
-
-impl LineBuffer {
-    // Replaces what follows the first `width` bytes with a text.
-    #[inline(always)]
-    fn replace_end(&mut self, width: usize, text: &str) -> Result<(), AllocError>
-        ensures { OnOk result (self.new.bytes.items ≡ take width self.old.bytes.items ++ text.now) }
-    {
-        self.bytes.truncate(width);
-        self.bytes.extend_from_slice(text.as_bytes())
-    }
-
-    // Puts a line feed.
-    #[inline(always)]
-    pub(crate) fn end_line(&mut self) -> Result<(), AllocError>
-        ensures { OnOk result (self.new.bytes.items ≡ self.old.bytes.items ++ line_feed ∷ []) }
-    {
-        self.bytes.extend_from_slice(b"\n")
-    }
-
-    // Inserts a text after each line feed that is after the first `start` bytes. The text is the
-    // first `width` bytes and what a brush has before further lines.
-    #[inline(always)]
-    pub(crate) fn continue_lines(
-        &mut self,
-        start: usize,
-        width: usize,
-        brush: &Brush<'_>,
-        last: Option<bool>,
-    ) -> Result<(), AllocError>
-        requires within { width ≤ start }
-        requires start { start ≤ length self.old.bytes.items }
-        ensures { OnOk result (self.new.bytes.items ≡ take start self.old.bytes.items
-            ++ with_inserted
-            (take width self.old.bytes.items
-            ++ further_text (brush_look brush.now) last)
-            (drop start self.old.bytes.items)) }
-    {
-        if may_hold_line_feed(&self.bytes, start) {
-            self.spread(start, width, brush, last)
-        } else {
-            Ok(())
-        }
-    }
-
-    // Does what `continue_lines` does, whether there is a line feed or not. It is a function of its
-    // own, since it is seldom called.
-    #[inline(never)]
-    fn spread(
-        &mut self,
-        start: usize,
-        width: usize,
-        brush: &Brush<'_>,
-        last: Option<bool>,
-    ) -> Result<(), AllocError>
-        requires within { width ≤ start }
-        requires start { start ≤ length self.old.bytes.items }
-        ensures { OnOk result (self.new.bytes.items ≡ take start self.old.bytes.items
-            ++ with_inserted
-            (take width self.old.bytes.items
-            ++ further_text (brush_look brush.now) last)
-            (drop start self.old.bytes.items)) }
-    {
-        self.bytes = spread(brush.alloc, &self.bytes, start, width, brush.further(last))?;
-        Ok(())
-    }
-}
 
 /// The buffer of a drawing, whether it ends in a regular turning piece, and why the drawing
 /// stopped. `error` is `Memory` unless a write failed.
@@ -121,17 +25,13 @@ impl Pen {
     // Makes a pen whose buffer holds the branch's start codes.
     pub(crate) fn new(alloc: Global, branch: &Style) -> Result<Pen, AllocError>
         ensures line { IfOk result (λ p.
-            p.line.bytes.items ≡ start_codes (style_of branch.now)) }
+            line_bytes p.line ≡ start_codes (style_of branch.now)) }
         ensures turned { IfOk result (λ p. p.turned ≡ false) }
         ensures error { IfOk result (λ p. p.error ≡ Memory) }
     {
         let front = branch.start_text(alloc)?;
-        let mut bytes = Vec::new(alloc);
-        bytes.extend_from_slice(front.as_bytes())?;
-        let line = LineBuffer {
-            bytes,
-            faults: FaultCount::new(),
-        };
+        let mut line = LineBuffer::new(alloc);
+        line.append(front.as_bytes())?;
         Ok(Pen {
             line,
             turned: false,
@@ -149,12 +49,12 @@ impl Pen {
         is_last: bool,
     ) -> Result<(), AllocError>
         requires { self.old.turned ≡ true → is_last ≡ false
-            → self.old.line.bytes.items
-            ≡ take width self.old.line.bytes.items
+            → line_bytes self.old.line
+            ≡ take width (line_bytes self.old.line)
             ++ own_text (brush_look brush.now) (Some false) }
         ensures line { OnOk result
-            (self.new.line.bytes.items
-            ≡ take width self.old.line.bytes.items
+            (line_bytes self.new.line
+            ≡ take width (line_bytes self.old.line)
             ++ own_text (brush_look brush.now) (Some is_last)) }
         ensures error { self.new.error ≡ self.old.error }
     {
@@ -174,8 +74,8 @@ impl Pen {
         is_last: bool,
     ) -> Result<(), AllocError>
         ensures line { OnOk result
-            (self.new.line.bytes.items
-            ≡ take width self.old.line.bytes.items
+            (line_bytes self.new.line
+            ≡ take width (line_bytes self.old.line)
             ++ passing_piece (brush_look brush.now).pieces is_last) }
         ensures turned { self.new.turned ≡ false }
         ensures error { self.new.error ≡ self.old.error }
@@ -188,11 +88,11 @@ impl Pen {
     // Keeps only the first `width` bytes.
     #[inline(always)]
     pub(crate) fn cut(&mut self, width: usize)
-        ensures line { self.new.line.bytes.items ≡ take width self.old.line.bytes.items }
+        ensures line { line_bytes self.new.line ≡ take width (line_bytes self.old.line) }
         ensures turned { self.new.turned ≡ false }
         ensures error { self.new.error ≡ self.old.error }
     {
-        self.line.bytes.truncate(width);
+        self.line.truncate(width);
         self.turned = false;
     }
 

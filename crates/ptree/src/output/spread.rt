@@ -95,7 +95,7 @@ pub(crate) fn spread(
         ≡ take start bytes.now
         ++ with_inserted (take width bytes.now ++ further.now) (drop start bytes.now)) }
 {
-    let mut out = Vec::new(alloc);
+    let mut out = Vec::with_capacity(alloc, bytes.len())?;
     out.extend_from_slice(&bytes[..start])?;
     for b in &bytes[start..] {
         out.push(*b)?;

@@ -142,6 +142,7 @@ pub(crate) fn put_codes<W: Sink>(f: &mut W, codes: &[u8], error: &mut DrawError)
 /// # Errors
 ///
 /// `Write` or `Zero`. A prefix of the bytes was written.
+#[inline(always)]
 pub fn put_all<W: Sink>(f: &mut W, bytes: &[u8]) -> Result<(), DrawError>
     ensures bytes { IsWritten (W.contents f.old) (W.contents f.new) result bytes.now }
     ensures cause { HasCause (W.faults f.old) (W.faults f.new) result }

@@ -1,6 +1,7 @@
 use Rattle.std.proofs.lemmas.List.{take_all}
 use Rattle.std.proofs.lemmas.Bool.{false≢true}
 use Rattle.std.proofs.Common.{Some, ◌≡◌, ◌++◌, ◌∷◌, ◌-◌, ◌∙◌, ap, sym, map, take, length, refl, arith, append_assoc}
+use Rattle.ptree.specs.Line.{line_bytes}
 use Rattle.ptree.specs.Looks.{look_of, own_text}
 use Rattle.ptree.specs.Entries.{kid_entries, entries_below}
 use Rattle.ptree.specs.Occurrence.{OccurrenceTree, occurrence_own, occurrence_shape, occurrence_kids, first_tree, trees_in}
@@ -14,7 +15,7 @@ use Rattle.ptree.proofs.graph.row.+draw_row.Goals as goal
 
 pub draw_row-loop-place-init : goal.draw_row-loop-place-init
 draw_row-loop-place-init g t c =
-    let wide : c.len-width.result ≡ length c.args.pen.now.line.bytes.items = omega (arith, c.len-width.ensures, c.args.pen.now.line.bytes.ok.0) in
+    let wide : c.len-width.result ≡ length (line_bytes c.args.pen.now.line) = c.len-width.ensures in
     record {
       begun = λ outer e. begun_none (look_of c.args.brush.now.look.now) (entries_below (look_of c.args.brush.now.look.now) c.args.levels_left) outer _ _ _ refl;
       no_fault = refl;
@@ -41,8 +42,8 @@ draw_row-returns-in_err-draw_place-clause-bytes g t c = λ outer e.
     let inv = c.loop-place.invariant in
     let next = row_next c.loop-place.rest.now c.in-Some.after.now c.places_after-rest.result.now c.loop-place.left c.saturating_sub-left.result c.below-below.result c.in-Some.place
     c.in-Some.ensures.some c.below-below.ensures (omega (arith, c.saturating_sub-left.ensures)) c.places_after-rest.ensures in
-    let wide : c.len-width.result ≡ length c.args.pen.now.line.bytes.items = omega (arith, c.len-width.ensures, c.args.pen.now.line.bytes.ok.0) in
-    let kept = take_again c.len-width.result c.loop-place.pen.line.bytes.items _ _ (long_enough _ _ _ inv.kept wide) c.in_ok-turn.ensures.line ∙ inv.kept in
+    let wide : c.len-width.result ≡ length (line_bytes c.args.pen.now.line) = c.len-width.ensures in
+    let kept = take_again c.len-width.result (line_bytes c.loop-place.pen.line) _ _ (long_enough _ _ _ inv.kept wide) c.in_ok-turn.ensures.line ∙ inv.kept in
     entries_err _ _ _ _ _ _ c.from_residual-in_err-draw_place.ensures.1
     (begun_err shape look (entries_below look c.args.levels_left) outer _ _ _ _ c.is_none_left-is_last.result _ _ _ _ next c.is_none_left-is_last.ensures (inv.begun outer e) (c.in_err-draw_place.ensures.bytes outer (kept ∙ e)))
 
@@ -53,14 +54,14 @@ draw_row-loop-place-preserved g t c =
     let inv = c.loop-place.invariant in
     let next = row_next c.loop-place.rest.now c.in-Some.after.now c.places_after-rest.result.now c.loop-place.left c.saturating_sub-left.result c.below-below.result c.in-Some.place
     c.in-Some.ensures.some c.below-below.ensures (omega (arith, c.saturating_sub-left.ensures)) c.places_after-rest.ensures in
-    let wide : c.len-width.result ≡ length c.args.pen.now.line.bytes.items = omega (arith, c.len-width.ensures, c.args.pen.now.line.bytes.ok.0) in
-    let kept = take_again c.len-width.result c.loop-place.pen.line.bytes.items _ _ (long_enough _ _ _ inv.kept wide) c.in_ok-turn.ensures.line in
+    let wide : c.len-width.result ≡ length (line_bytes c.args.pen.now.line) = c.len-width.ensures in
+    let kept = take_again c.len-width.result (line_bytes c.loop-place.pen.line) _ _ (long_enough _ _ _ inv.kept wide) c.in_ok-turn.ensures.line in
     record {
       begun = λ outer e. begun_then shape look (entries_below look c.args.levels_left) outer _ _ _ _ c.is_none_left-is_last.result _ _ _ next c.is_none_left-is_last.ensures (inv.begun outer e) (c.in_ok-draw_place.ensures.bytes outer (kept ∙ inv.kept ∙ e));
       no_fault = quiet _ _ c.draw_place.new.pen.error c.in_ok-draw_place.ensures.cause c.in_ok-draw_place.ensures.error ∙ inv.no_fault;
       error = c.in_ok-draw_place.ensures.error;
       kept = c.in_ok-draw_place.ensures.kept ∙ kept ∙ inv.kept;
-      turned = λ held some. still_turned c.len-width.result c.loop-place.pen.line.bytes.items _ _ (λ last. own_text look (Some last)) c.is_none_left-is_last.result c.in_ok-turn.ensures.line (not_last _ _ c.is_none_left-is_last.ensures some) kept (c.in_ok-draw_place.ensures.turned held);
+      turned = λ held some. still_turned c.len-width.result (line_bytes c.loop-place.pen.line) _ _ (λ last. own_text look (Some last)) c.is_none_left-is_last.result c.in_ok-turn.ensures.line (not_last _ _ c.is_none_left-is_last.ensures some) kept (c.in_ok-draw_place.ensures.turned held);
     }
 
 pub draw_place-returns-in_err-draw_own-clause-bytes : goal.draw_place-returns-in_err-draw_own-clause-bytes

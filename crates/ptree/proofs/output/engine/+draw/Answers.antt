@@ -1,6 +1,7 @@
 use Rattle.std.proofs.lemmas.List.{take_all}
 use Rattle.std.proofs.lemmas.Bool.{false≢true}
 use Rattle.std.proofs.Common.{Some, ◌≡◌, ◌++◌, ◌∙◌, ap, sym, map, take, length, refl, arith, append_assoc}
+use Rattle.ptree.specs.Line.{line_bytes}
 use Rattle.ptree.specs.Looks.{look_of, own_text}
 use Rattle.ptree.specs.Entries.{kid_entries, entries_below}
 use Rattle.ptree.specs.Pieces.{passing_piece}
@@ -12,7 +13,7 @@ use Rattle.ptree.proofs.output.engine.+draw.Goals as goal
 
 pub draw_children-loop-item-init : goal.draw_children-loop-item-init
 draw_children-loop-item-init g t c =
-    let wide : c.len-width.result ≡ length c.args.pen.now.line.bytes.items = omega (arith, c.len-width.ensures, c.args.pen.now.line.bytes.ok.0) in
+    let wide : c.len-width.result ≡ length (line_bytes c.args.pen.now.line) = c.len-width.ensures in
     record {
       begun = λ outer e. begun_none (look_of c.args.brush.now.look.now) (entries_below (look_of c.args.brush.now.look.now) c.args.levels_left) outer _ _ _ refl;
       no_fault = refl;
@@ -33,8 +34,8 @@ pub draw_children-returns-in_err-draw_item-clause-bytes : goal.draw_children-ret
 draw_children-returns-in_err-draw_item-clause-bytes g t c = λ outer e.
     let look = look_of c.args.brush.now.look.now in
     let inv = c.loop-item.invariant in
-    let wide : c.len-width.result ≡ length c.args.pen.now.line.bytes.items = omega (arith, c.len-width.ensures, c.args.pen.now.line.bytes.ok.0) in
-    let kept = take_again c.len-width.result c.loop-item.pen.line.bytes.items _ _ (long_enough _ _ _ inv.kept wide) c.in_ok-turn.ensures.line ∙ inv.kept in
+    let wide : c.len-width.result ≡ length (line_bytes c.args.pen.now.line) = c.len-width.ensures in
+    let kept = take_again c.len-width.result (line_bytes c.loop-item.pen.line) _ _ (long_enough _ _ _ inv.kept wide) c.in_ok-turn.ensures.line ∙ inv.kept in
     entries_err _ _ _ _ _ _ c.from_residual-in_err-draw_item.ensures.1
     (begun_err g.C.Shaped.shape look (entries_below look c.args.levels_left) outer _ _ _ _ c.is_empty-is_last.result _ _ _ _ c.in-Some.ensures.cases.0 c.is_empty-is_last.ensures (inv.begun outer e) (c.in_err-draw_item.ensures.bytes outer (kept ∙ e)))
 
@@ -42,14 +43,14 @@ pub draw_children-loop-item-preserved : goal.draw_children-loop-item-preserved
 draw_children-loop-item-preserved g t c =
     let look = look_of c.args.brush.now.look.now in
     let inv = c.loop-item.invariant in
-    let wide : c.len-width.result ≡ length c.args.pen.now.line.bytes.items = omega (arith, c.len-width.ensures, c.args.pen.now.line.bytes.ok.0) in
-    let kept = take_again c.len-width.result c.loop-item.pen.line.bytes.items _ _ (long_enough _ _ _ inv.kept wide) c.in_ok-turn.ensures.line in
+    let wide : c.len-width.result ≡ length (line_bytes c.args.pen.now.line) = c.len-width.ensures in
+    let kept = take_again c.len-width.result (line_bytes c.loop-item.pen.line) _ _ (long_enough _ _ _ inv.kept wide) c.in_ok-turn.ensures.line in
     record {
       begun = λ outer e. begun_then g.C.Shaped.shape look (entries_below look c.args.levels_left) outer _ _ _ _ c.is_empty-is_last.result _ _ _ c.in-Some.ensures.cases.0 c.is_empty-is_last.ensures (inv.begun outer e) (c.in_ok-draw_item.ensures.bytes outer (kept ∙ inv.kept ∙ e));
       no_fault = quiet _ _ c.draw_item.new.pen.error c.in_ok-draw_item.ensures.cause c.in_ok-draw_item.ensures.error ∙ inv.no_fault;
       error = c.in_ok-draw_item.ensures.error;
       kept = c.in_ok-draw_item.ensures.kept ∙ kept ∙ inv.kept;
-      turned = λ held some. still_turned c.len-width.result c.loop-item.pen.line.bytes.items _ _ (λ last. own_text look (Some last)) c.is_empty-is_last.result c.in_ok-turn.ensures.line (not_last _ _ c.is_empty-is_last.ensures some) kept (c.in_ok-draw_item.ensures.turned held);
+      turned = λ held some. still_turned c.len-width.result (line_bytes c.loop-item.pen.line) _ _ (λ last. own_text look (Some last)) c.is_empty-is_last.result c.in_ok-turn.ensures.line (not_last _ _ c.is_empty-is_last.ensures some) kept (c.in_ok-draw_item.ensures.turned held);
     }
 
 pub draw_item-returns-in_err-draw_entry-clause-bytes : goal.draw_item-returns-in_err-draw_entry-clause-bytes

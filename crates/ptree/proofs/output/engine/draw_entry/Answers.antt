@@ -1,5 +1,6 @@
 use Rattle.std.proofs.Common.{◌≡◌, length, ◌∙◌, subst, List, ℕ, arith}
 use Rattle.std.specs.Io.KnownBytes.{Appends}
+use Rattle.ptree.specs.Line.{line_bytes}
 use Rattle.ptree.specs.Looks.{look_of}
 use Rattle.ptree.specs.Writing.{AppendsPart}
 use Rattle.ptree.proofs.Engine.{entry_gathered, nothing_yet}
@@ -15,20 +16,20 @@ returns-in_err-end_line-clause-bytes g c = λ outer is. written_err _ _ _ _ _ c.
 
 pub returns-in_err-put_buffer-clause-bytes : goal.returns-in_err-put_buffer-clause-bytes
 returns-in_err-put_buffer-clause-bytes g c = λ outer is.
-    let old = c.args.pen.now.line.bytes.items in
-    let wide : c.len-start.result ≡ length old = omega (arith, c.len-start.ensures, c.args.pen.now.line.bytes.ok.0) in
+    let old = line_bytes c.args.pen.now.line in
+    let wide : c.len-start.result ≡ length old = c.len-start.ensures in
     written_err _ _ _ _ _ c.from_residual-in_err-put_buffer.ensures.1
     (subst (λ (z : List ℕ). AppendsPart (g.W.Sink.contents c.args.f.now) (g.W.Sink.contents c.put_buffer.new.f) z)
     (entry_gathered (look_of c.args.brush.now.look.now) c.args.width c.len-start.result old _ _ _ outer c.args.last (g.C.Shaped.shape c.args.item.now) c.requires.turned is
-    c.in-Ok.ensures.bytes wide c.requires.width c.in_ok-continue_lines.ensures (c.as_slice.ensures.value ∙ c.in_ok-end_line.ensures)) c.in_err-put_buffer.ensures.bytes)
+    c.in-Ok.ensures.bytes wide c.requires.width c.in_ok-continue_lines.ensures (c.as_slice.ensures ∙ c.in_ok-end_line.ensures)) c.in_err-put_buffer.ensures.bytes)
 
 pub returns-clause-bytes : goal.returns-clause-bytes
 returns-clause-bytes g c = λ outer is.
-    let old = c.args.pen.now.line.bytes.items in
-    let wide : c.len-start.result ≡ length old = omega (arith, c.len-start.ensures, c.args.pen.now.line.bytes.ok.0) in
+    let old = line_bytes c.args.pen.now.line in
+    let wide : c.len-start.result ≡ length old = c.len-start.ensures in
     subst (λ (z : List ℕ). Appends (g.W.Sink.contents c.args.f.now) (g.W.Sink.contents c.put_buffer.new.f) z)
     (entry_gathered (look_of c.args.brush.now.look.now) c.args.width c.len-start.result old _ _ _ outer c.args.last (g.C.Shaped.shape c.args.item.now) c.requires.turned is
-    c.in-Ok.ensures.bytes wide c.requires.width c.in_ok-continue_lines.ensures (c.as_slice.ensures.value ∙ c.in_ok-end_line.ensures)) c.in_ok-put_buffer.ensures.bytes
+    c.in-Ok.ensures.bytes wide c.requires.width c.in_ok-continue_lines.ensures (c.as_slice.ensures ∙ c.in_ok-end_line.ensures)) c.in_ok-put_buffer.ensures.bytes
 
 pub continue_lines-requires-clause-start : goal.continue_lines-requires-clause-start
 continue_lines-requires-clause-start g c = grind (arith, common_steps)

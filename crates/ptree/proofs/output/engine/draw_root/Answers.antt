@@ -1,6 +1,7 @@
 use Rattle.std.proofs.Common.{◌≡◌, arith, length, length-append, ◌∙◌, [], ap, map, sym}
 use Rattle.std.proofs.lemmas.List.{append-nil}
 use Rattle.ptree.specs.Entries.{entries_below, drawn_entries}
+use Rattle.ptree.specs.Line.{line_bytes}
 use Rattle.ptree.specs.Looks.{look_of}
 use Rattle.ptree.specs.Style.{start_codes}
 use Rattle.ptree.proofs.Engine.{cut_back, start_kept, root_turned}
@@ -9,16 +10,16 @@ use Rattle.ptree.proofs.Join.{root_written, root_alone}
 use Rattle.std.proofs.lemmas.Grind.{common_steps}
 use Rattle.ptree.proofs.output.engine.draw_root.Goals as goal
 
-pub returns-in_err-extend_from_slice-clause-bytes : goal.returns-in_err-extend_from_slice-clause-bytes
-returns-in_err-extend_from_slice-clause-bytes g c =
+pub returns-in_err-append-clause-bytes : goal.returns-in_err-append-clause-bytes
+returns-in_err-append-clause-bytes g c =
     entries_err _ _ _ _ _ _ c.from_residual.ensures.1 (entries_none _ c.args.pen.now.error (drawn_entries (look_of c.args.brush.now.look.now) c.args.depth (g.T.Shaped.shape c.args.item.now)))
 
 pub draw_entry-requires : goal.draw_entry-requires
 draw_entry-requires g c =
     let look = look_of c.args.brush.now.look.now in
-    let old = c.args.pen.now.line.bytes.items in
-    let wide : c.len-width.result ≡ length old = omega (arith, c.len-width.ensures, c.args.pen.now.line.bytes.ok.0) in
-    let is = c.in_ok-extend_from_slice.ensures.items in
+    let old = line_bytes c.args.pen.now.line in
+    let wide : c.len-width.result ≡ length old = c.len-width.ensures in
+    let is = c.in_ok-append.ensures.bytes in
     record {
       error = c.requires.error;
       width = omega (arith, wide, ap length is, length-append old c.as_bytes.result.now);
@@ -28,16 +29,16 @@ draw_entry-requires g c =
 pub returns-in_err-draw_entry-clause-bytes : goal.returns-in_err-draw_entry-clause-bytes
 returns-in_err-draw_entry-clause-bytes g c =
     let look = look_of c.args.brush.now.look.now in
-    let wide : c.len-width.result ≡ length c.args.pen.now.line.bytes.items = omega (arith, c.len-width.ensures, c.args.pen.now.line.bytes.ok.0) in
-    let outer = start_kept c.len-width.result _ _ _ wide c.in_ok-extend_from_slice.ensures.items ∙ c.requires.start ∙ sym (append-nil (start_codes look.branch)) in
+    let wide : c.len-width.result ≡ length (line_bytes c.args.pen.now.line) = c.len-width.ensures in
+    let outer = start_kept c.len-width.result _ _ _ wide c.in_ok-append.ensures.bytes ∙ c.requires.start ∙ sym (append-nil (start_codes look.branch)) in
     entries_err _ _ _ _ _ _ c.from_residual-in_err-draw_entry.ensures.1
     (entry_part _ _ _ _ (entries_below look c.args.depth [] (g.T.Shaped.shape c.args.item.now)) (c.in_err-draw_entry.ensures.bytes [] outer) c.in_err-draw_entry.ensures.memory)
 
 pub returns-in_err-children-clause-bytes : goal.returns-in_err-children-clause-bytes
 returns-in_err-children-clause-bytes g c =
     let look = look_of c.args.brush.now.look.now in
-    let wide : c.len-width.result ≡ length c.args.pen.now.line.bytes.items = omega (arith, c.len-width.ensures, c.args.pen.now.line.bytes.ok.0) in
-    let outer = start_kept c.len-width.result _ _ _ wide c.in_ok-extend_from_slice.ensures.items ∙ c.requires.start ∙ sym (append-nil (start_codes look.branch)) in
+    let wide : c.len-width.result ≡ length (line_bytes c.args.pen.now.line) = c.len-width.ensures in
+    let outer = start_kept c.len-width.result _ _ _ wide c.in_ok-append.ensures.bytes ∙ c.requires.start ∙ sym (append-nil (start_codes look.branch)) in
     entry_then _ _ _ _ _ _ (entries_below look c.args.depth [] (g.T.Shaped.shape c.args.item.now)) (c.in_ok-draw_entry.ensures.bytes [] outer)
     (entries_err _ _ _ _ _ _ c.from_residual-in_err-children.ensures.1 (entries_none _ c.draw_entry.new.pen.error (entries_below look c.args.depth [] (g.T.Shaped.shape c.args.item.now))))
 
@@ -46,18 +47,18 @@ returns-clause-bytes g c =
     let look = look_of c.args.brush.now.look.now in
     let x = g.T.Shaped.shape c.args.item.now in
     let ks = map g.T.Child.Shaped.shape c.as_slice.result.now in
-    let wide : c.len-width.result ≡ length c.args.pen.now.line.bytes.items = omega (arith, c.len-width.ensures, c.args.pen.now.line.bytes.ok.0) in
+    let wide : c.len-width.result ≡ length (line_bytes c.args.pen.now.line) = c.len-width.ensures in
     let outer = c.requires.start ∙ sym (append-nil (start_codes look.branch)) in
     root_written look c.args.depth x ks _ _ _ _ _ (λ z. c.if-depth-eq0.false z)
     (ap (map g.T.Child.Shaped.shape) c.as_slice.ensures ∙ c.in_ok-children.ensures)
-    (c.in_ok-draw_entry.ensures.bytes [] (start_kept c.len-width.result _ _ _ wide c.in_ok-extend_from_slice.ensures.items ∙ outer))
-    (c.draw_children.ensures.bytes [] (cut_back c.len-width.result _ _ _ _ _ wide c.in_ok-extend_from_slice.ensures.items c.in_ok-draw_entry.ensures.kept c.truncate.ensures.items ∙ outer))
+    (c.in_ok-draw_entry.ensures.bytes [] (start_kept c.len-width.result _ _ _ wide c.in_ok-append.ensures.bytes ∙ outer))
+    (c.draw_children.ensures.bytes [] (cut_back c.len-width.result _ _ _ _ _ wide c.in_ok-append.ensures.bytes c.in_ok-draw_entry.ensures.kept c.truncate.ensures ∙ outer))
 
 pub returns-then-depth-eq0-clause-bytes : goal.returns-then-depth-eq0-clause-bytes
 returns-then-depth-eq0-clause-bytes g c =
     let look = look_of c.args.brush.now.look.now in
-    let wide : c.len-width.result ≡ length c.args.pen.now.line.bytes.items = omega (arith, c.len-width.ensures, c.args.pen.now.line.bytes.ok.0) in
-    let outer = start_kept c.len-width.result _ _ _ wide c.in_ok-extend_from_slice.ensures.items ∙ c.requires.start ∙ sym (append-nil (start_codes look.branch)) in
+    let wide : c.len-width.result ≡ length (line_bytes c.args.pen.now.line) = c.len-width.ensures in
+    let outer = start_kept c.len-width.result _ _ _ wide c.in_ok-append.ensures.bytes ∙ c.requires.start ∙ sym (append-nil (start_codes look.branch)) in
     root_alone look c.args.depth (g.T.Shaped.shape c.args.item.now) _ _ c.if-depth-eq0.true (c.in_ok-draw_entry.ensures.bytes [] outer)
 
 pub returns-clause-cause : goal.returns-clause-cause

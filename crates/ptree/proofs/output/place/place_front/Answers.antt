@@ -1,0 +1,12 @@
+use Rattle.std.proofs.Common.{◌≡◌, length, take, arith, length-take-le}
+use Rattle.std.proofs.lemmas.Simd.{take_more_put_chunk, length-put_chunk}
+use Rattle.ptree.proofs.output.place.place_front.Goals as goal
+
+pub returns-clause-text : goal.returns-clause-text
+returns-clause-text g c =
+    let front = take g.row.N c.args.text.now in
+    let long : length front ≡ g.row.N = length-take-le g.row.N c.args.text.now c.requires.low in
+    take_more_put_chunk c.args.at c.args.room.now front _ (omega arith) c.requires.fits
+
+pub returns-clause-len : goal.returns-clause-len
+returns-clause-len g c = length-put_chunk c.args.at c.args.room.now (take g.row.N c.args.text.now)
