@@ -16,7 +16,7 @@ returns c =
     let deepest = c.in_ok-deepest.deepest in
     let flags = c.in_ok-flags.flags.items in
     let path = c.deref_mut.result.now in
-    let long : length path ≡ c.min.result = c.deref_mut.ensures.len ∙ c.in_ok-resize.ensures.len in
+    let long : length path ≡ c.min.result = omega (arith, c.deref_mut.ensures.len, c.in_ok-resize.ensures.len) in
     let fit : (n : ℕ) → n ≤ deepest → n ≤ config.depth → n ≤ length path = λ n low high. omega (arith, low, high, long, c.min.ensures) in
     IfOk-weaker c.draw_items.result
     (λ drawn. drawn.items ≡ steps_text (brush_look c.in_ok-brush.brush) c.new-known.result.bytes.now path (steps_from config.depth 0 items c.deref.result.now))
