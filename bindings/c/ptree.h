@@ -10,8 +10,10 @@
  * No pointer may be NULL, also where its length is 0, and each is aligned as its type asks. What a call writes to (`out`, `items`,
  * `texts`, `found`) overlaps nothing else that the same call is given.
  *
- * There is no state: calls may run in any number of threads at once, each over memory of its own. A drawing takes stack for each level
- * of the tree.
+ * There is no state: calls may run in any number of threads at once, each over memory of its own. Reading, and drawing documents and
+ * graphs, takes stack for each level of the tree.
+ *
+ * There are no callbacks. Items that are made on demand are drawn by ptree_draw_steps, as many at a call as you like.
  */
 #ifndef PTREE_H
 #define PTREE_H

@@ -4,6 +4,7 @@ pub mod Fields
 pub mod Graphs
 pub mod Items
 pub mod Loads
+pub mod Outlines
 pub mod Pens
 pub mod Presets
 pub mod Refusals

@@ -1,6 +1,5 @@
 //! Draws items.
 ghost use Rattle.std.specs.Prelude.{◌≡◌, ◌<◌, ℕ, List, IfOk, length};
-ghost use Rattle.ptree.specs.Drawing.{written_look};
 ghost use Rattle.ptree_c.specs.Calls.{IsItemsDrawing};
 ghost use Rattle.ptree_c.specs.Fields.{depth_of, look_of};
 ghost use Rattle.ptree_c.specs.Presets.{look_at};
@@ -8,28 +7,12 @@ ghost use Rattle.ptree_c.specs.Rooms.{filled};
 
 use crate::answer::{put_bytes, refuse};
 use crate::fields::{ConfigFields, config_of_fields};
-use crate::items::{Item, tree_of_items};
+use crate::items::Item;
+use crate::outline::drawing_of_items;
 use crate::preset::config;
 use crate::refusal::Refusal;
 use crate::room::Found;
-use ptree::PrintConfig;
-use ptree::output::tree_bytes;
 use std::alloc::Global;
-
-// The drawing of items.
-fn drawing_of_items(
-    alloc: Global,
-    items: &[Item],
-    texts: &[u8],
-    config: &PrintConfig,
-) -> Result<Vec<u8>, Refusal>
-    ensures { IfOk result (λ drawing.
-        IsItemsDrawing (written_look config.now) config.now.depth items.now texts.now
-        drawing.items) }
-{
-    let tree = tree_of_items(alloc, items, texts)?;
-    Ok(tree_bytes(alloc, &tree, config)?)
-}
 
 // The drawing of items as a preset does.
 fn drawing_by_preset(

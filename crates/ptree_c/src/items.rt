@@ -1,11 +1,10 @@
 //! Items as C gives and takes them: levels, and the places where their texts end.
-ghost use Rattle.std.specs.Prelude.{◌≡◌, ◌-◌, ◌++◌, ◌∷◌, [], List, IfOk, OnOk, take, drop, flat_map, string_bytes};
-ghost use Rattle.ptree.specs.Outline.{line, outline, IsOutline};
+ghost use Rattle.std.specs.Prelude.{◌≡◌, ◌-◌, IfOk, take, drop, string_bytes};
+ghost use Rattle.ptree.specs.Outline.{outline};
 ghost use Rattle.ptree.specs.Tree.{tree_of};
-ghost use Rattle.ptree_c.specs.Items.{lines_from, items_from, joined_texts};
+ghost use Rattle.ptree_c.specs.Items.{items_from, joined_texts};
 
-use crate::refusal::{Refusal, refused_item};
-use ptree::TreeBuilder;
+use crate::refusal::Refusal;
 use ptree::item::StringItem;
 use std::alloc::{AllocError, Global};
 use std::str;
@@ -21,57 +20,6 @@ pub struct Item {
     /// The item's level. The first item is the root, and has level 0; any other has at least level
     /// 1, and at most one level more than the item before it.
     pub level: u32,
-}
-
-/// The tree of items.
-pub(crate) fn tree_of_items(
-    alloc: Global,
-    items: &[Item],
-    texts: &[u8],
-) -> Result<StringItem, Refusal>
-    ensures { IfOk result (λ t. IsOutline (tree_of t) (lines_from 0 texts.now items.now)) }
-{
-    let mut builder = builder_of_items(alloc, items, texts)?;
-    Ok(builder.build()?)
-}
-
-// The builder to which all items were added.
-fn builder_of_items(alloc: Global, items: &[Item], texts: &[u8]) -> Result<TreeBuilder, Refusal>
-    ensures { IfOk result (λ builder. builder.outline ≡ lines_from 0 texts.now items.now) }
-{
-    let Some((root, below)) = items.split_first() else {
-        return Err(Refusal::Level(0));
-    };
-    if root.level != 0 {
-        return Err(Refusal::Level(0));
-    }
-    let mut builder = TreeBuilder::new(alloc, text_between(alloc, texts, 0, root.end, 0)?);
-    let mut from = root.end;
-    let mut rest = below;
-    while let Some((item, tail)) = rest.split_first() {
-        let place = items.len().saturating_sub(rest.len());
-        let text = text_between(alloc, texts, from, item.end, place)?;
-        add_item(&mut builder, item.level, text, place)?;
-        from = item.end;
-        rest = tail;
-    }
-    Ok(builder)
-}
-
-// Adds an item to a builder.
-fn add_item(
-    builder: &mut TreeBuilder,
-    level: u32,
-    text: String,
-    place: usize,
-) -> Result<(), Refusal>
-    ensures { OnOk result
-        (builder.new.outline ≡ builder.old.outline ++ line level (string_bytes text) ∷ []) }
-{
-    match builder.add_at_level(level, text) {
-        Ok(()) => Ok(()),
-        Err(error) => Err(refused_item(error, place)),
-    }
 }
 
 /// The text of the item at a place, between two places of the texts.

@@ -10,6 +10,7 @@ pub mod fields;
 pub mod graph;
 pub mod items;
 pub mod load;
+mod outline;
 pub mod paint;
 mod pen;
 pub mod preset;

@@ -4,7 +4,6 @@ ghost use Rattle.ptree_c.specs.Refusals.{refusal_number, refusal_place};
 ghost use Rattle.ptree_c.specs.Rooms.{filled};
 
 use crate::room::fill;
-use ptree::builder::AddError;
 use ptree::value::DocError;
 use std::alloc::{AllocError, AllocFailed};
 
@@ -120,14 +119,6 @@ impl Refusal {
             | Refusal::Edge(place) => place,
             _ => 0,
         }
-    }
-}
-
-/// The refusal of an item at a place that could not be added.
-pub(crate) fn refused_item(error: AddError, place: usize) -> Refusal {
-    match error {
-        AddError::Level => Refusal::Level(place),
-        AddError::Memory => Refusal::Memory,
     }
 }
 

@@ -28,16 +28,16 @@ pub struct Step {
     pub is_last: u8,
 }
 
-// Why no more items were drawn.
+/// Why no more items were drawn.
 #[derive(Debug, Clone, Copy)]
-enum Stop {
-    // All were drawn.
+pub(crate) enum Stop {
+    /// All were drawn.
     All,
 
-    // The next entry, of so many bytes, does not fit.
+    /// The next entry, of so many bytes, does not fit.
     Full(usize),
 
-    // The next item is refused.
+    /// The next item is refused.
     Refused(Refusal),
 }
 
@@ -90,8 +90,8 @@ fn draw_step(
     Ok(())
 }
 
-// Draws the item at a place, if there is room for its entry, and sets its flag in the path.
-fn add_step(
+/// Draws the item at a place, if there is room for its entry, and sets its flag in the path.
+pub(crate) fn add_step(
     drawn: &mut Vec<u8>,
     pen: &mut Pen,
     alloc: Global,

@@ -42,6 +42,12 @@ impl<'a> Texts<'a> {
         }
     }
 
+    /// Checks the text of the item at a place.
+    pub(crate) fn between(&self, start: usize, end: usize, place: usize) -> Result<(), Refusal> {
+        self.at(Part { start, end }, place)?;
+        Ok(())
+    }
+
     /// Whether the text of an item holds a line feed.
     #[inline(always)]
     pub(crate) fn has_line_feed(&self, part: Part, text: &[u8]) -> bool
@@ -74,5 +80,5 @@ impl<'a> Texts<'a> {
 fn has_line_feed(text: &[u8]) -> bool
     ensures { result ≡ false → HasNoLineFeed text.now }
 {
-    text.iter().any(|byte| *byte == b'\n')
+    text.contains(&b'\n')
 }

@@ -1,0 +1,165 @@
+-- The items of an outline, drawn as steps, are the drawing of its tree.
+use Rattle.std.proofs.Common.{◌≡◌, ℕ, zero, suc, ◌+◌, ◌-◌, ◌<◌, ◌≤◌, ◌⊎◌, inl, inr, Bool, true, false, not, cond, eqb, ltb, List, [], ◌∷◌, ◌++◌, length, take, drop, replicate, get_or, refl, sym, ap, ◌∙◌, subst, arith}
+use Rattle.std.proofs.lemmas.Bool.{cases_lt, lt-ltb, le-ltb, eq-eqb, ne_eqb}
+use Rattle.std.proofs.Math.Seq.{get_or-append_seam}
+use Rattle.std.proofs.Math.ListN.{get_or-append}
+use Rattle.std.proofs.lemmas.Grind.{common_steps}
+use Rattle.std.proofs.lemmas.List.{get_or_past, length-append}
+use Rattle.ptree.specs.Drawing.{Look, IsDrawing}
+use Rattle.ptree.specs.Flags.{has_later}
+use Rattle.ptree.specs.Outline.{Line, line, outline, outline_at, Steps}
+use Rattle.ptree.specs.Tree.{none, item, Forest, Tree, tree, height, cut_forest, cut_tree, shape_of_tree}
+use Rattle.ptree.proofs.CutTrees.{drawing_of_cut_tree}
+use Rattle.ptree.proofs.LineTrees.{tree_of_lines}
+use Rattle.ptree.proofs.OutlineAddresses.{outline_of_tree}
+use Rattle.ptree.proofs.SpelledForms.{Low, height_low}
+use Rattle.ptree_c.specs.Calls.{IsItemsDrawing}
+use Rattle.ptree_c.specs.Fields.{is_set}
+use Rattle.ptree_c.specs.Items.{lines_from}
+use Rattle.ptree_c.specs.Outlines.{has_later_item, AreLater, AreLastFlags, StepsDown, AreItems, step_of, kept_before, steps_from}
+use Rattle.ptree_c.specs.Steps.{AreStepsOf, steps_text}
+use Rattle.ptree_c.specs.declared.items.Item.{Item}
+use Rattle.ptree_c.specs.declared.steps.Step.{Step}
+use Rattle.ptree_c.proofs.Given.{draws_trees}
+
+-- a number is below another one, or not
+low_or_deep : (depth level : ℕ) → (ltb depth level ≡ true) × (depth < level) ⊎ (ltb depth level ≡ false) × (level ≤ depth)
+low_or_deep depth level = elim (cases_lt depth level) [ inl h ↦ inl (lt-ltb depth level h, h) | inr h ↦ inr (le-ltb depth level h, h) ]
+
+-- the flags of the levels above one stay
+flags_above : (later : List ℕ) (level long n : ℕ) → long ≡ length later → n < level → get_or (take level later ++ replicate (level - long) 0) n 0 ≡ get_or later n 0
+flags_above later level long n is h = grind (arith, common_steps)
+
+-- an item comes before the later ones
+pub later_put : (later next : List ℕ) (level long : ℕ) (i : Item) (items : List Item) → i.level ≡ level → AreLater later items → long ≡ length later
+    → next ≡ (take level later ++ replicate (level - long) 0) ++ 1 ∷ [] → AreLater next (i ∷ items)
+later_put later next level long i items same are len is n =
+    let front : List ℕ = take level later ++ replicate (level - long) 0 in
+    let wide : length front ≡ level = grind (arith, common_steps) in
+    let later_than : Bool → Bool = λ b. cond b (has_later_item items n) (eqb n i.level) in
+    elim (cases_lt n level) [
+      | inl low ↦
+          ap is_set (ap (λ z. get_or z n 0) is ∙ (get_or-append front (1 ∷ []) 0 n (omega (arith, low, wide)) ∙ flags_above later level long n len low))
+          ∙ (are n ∙ sym (ap later_than (lt-ltb n i.level (omega (arith, low, same)))))
+      | inr high ↦ elim (cases_lt level n) [
+        | inl beyond ↦
+            ap is_set (ap (λ z. get_or z n 0) is ∙ get_or_past (front ++ 1 ∷ []) n 0 (omega (arith, beyond, wide, length-append front (1 ∷ []))))
+            ∙ sym (ap later_than (le-ltb n i.level (omega (arith, beyond, same))) ∙ ne_eqb n i.level (omega (arith, beyond, same)))
+        | inr within ↦
+            let here : n ≡ length front = omega (arith, high, within, wide) in
+            ap is_set (ap (λ z. get_or z n 0) is ∙ (ap (λ m. get_or (front ++ 1 ∷ []) m 0) here ∙ get_or-append_seam front 1 [] 0))
+            ∙ sym (ap later_than (le-ltb n i.level (omega (arith, high, same))) ∙ eq-eqb n i.level (omega (arith, high, within, same)))
+      ]
+    ]
+
+-- the lines down to a depth
+abbrev drawn_lines : ℕ → List Line → List Line
+drawn_lines depth [] = []
+drawn_lines depth (l ∷ o) = cond (ltb depth l.level) (drawn_lines depth o) (l ∷ drawn_lines depth o)
+
+-- the lines of two lists
+drawn_lines-append : (depth : ℕ) (a b : List Line) → drawn_lines depth (a ++ b) ≡ drawn_lines depth a ++ drawn_lines depth b
+drawn_lines-append depth [] b = refl
+drawn_lines-append depth (l ∷ a) b = at (ltb depth l.level) (drawn_lines-append depth a b) where
+  at : (deep : Bool) → drawn_lines depth (a ++ b) ≡ drawn_lines depth a ++ drawn_lines depth b
+      → cond deep (drawn_lines depth (a ++ b)) (l ∷ drawn_lines depth (a ++ b)) ≡ cond deep (drawn_lines depth a) (l ∷ drawn_lines depth a) ++ drawn_lines depth b
+  at true e = e
+  at false e = ap (λ z. l ∷ z) e
+
+-- a forest below the depth has no such line
+no_lines : (depth n : ℕ) (f : Forest) → depth < n → drawn_lines depth (outline_at n f) ≡ []
+no_lines depth n none h = refl
+no_lines depth n (item t c r) h =
+    ap (λ b. cond b (drawn_lines depth (outline_at (suc n) c ++ outline_at n r)) (line n t ∷ drawn_lines depth (outline_at (suc n) c ++ outline_at n r))) (lt-ltb depth n h)
+    ∙ (drawn_lines-append depth (outline_at (suc n) c) (outline_at n r)
+    ∙ (ap (λ z. z ++ drawn_lines depth (outline_at n r)) (no_lines depth (suc n) c (omega arith)) ∙ no_lines depth n r h))
+
+-- the outline of a cut forest is that of the forest, down to the cut
+outline_cut : (d n depth : ℕ) (f : Forest) → depth ≡ n + d → outline_at (suc n) (cut_forest d f) ≡ drawn_lines depth (outline_at (suc n) f)
+outline_cut d n depth none e = refl
+outline_cut zero n depth (item t c r) e = sym (no_lines depth (suc n) (item t c r) (omega (arith, e)))
+outline_cut (suc d) n depth (item t c r) e =
+    let rest : List Line = outline_at (suc (suc n)) c ++ outline_at (suc n) r in
+    let high : ltb depth (suc n) ≡ false = le-ltb depth (suc n) (omega (arith, e)) in
+    ap (λ z. line (suc n) t ∷ (z ++ outline_at (suc n) (cut_forest (suc d) r))) (outline_cut d (suc n) depth c (omega (arith, e)))
+    ∙ (ap (λ z. line (suc n) t ∷ (drawn_lines depth (outline_at (suc (suc n)) c) ++ z)) (outline_cut (suc d) n depth r e)
+    ∙ (ap (λ z. line (suc n) t ∷ z) (sym (drawn_lines-append depth (outline_at (suc (suc n)) c) (outline_at (suc n) r)))
+    ∙ ap (λ b. cond b (drawn_lines depth rest) (line (suc n) t ∷ drawn_lines depth rest)) (sym high)))
+
+-- later lines decide as the items do, down to the depth
+later_drawn : (depth n from : ℕ) (texts : List ℕ) (items : List Item) → n ≤ depth → has_later (drawn_lines depth (lines_from from texts items)) n ≡ has_later_item items n
+later_drawn depth n from texts [] h = refl
+later_drawn depth n from texts (i ∷ items) h =
+    let o : List Line = drawn_lines depth (lines_from i.end texts items) in
+    let l : Line = line i.level (take (i.end - from) (drop from texts)) in
+    let same : has_later o n ≡ has_later_item items n = later_drawn depth n i.end texts items h in
+    elim (low_or_deep depth i.level) [
+      | inl (deep, below) ↦
+          ap (λ b. has_later (cond b o (l ∷ o)) n) deep
+          ∙ (same ∙ sym (ap (λ b. cond b (has_later_item items n) (eqb n i.level)) (lt-ltb n i.level (omega (arith, h, below)))))
+      | inr (drawn, low) ↦ ap (λ b. has_later (cond b o (l ∷ o)) n) drawn ∙ ap (λ z. cond (ltb n i.level) z (eqb n i.level)) same
+    ]
+
+-- the items that are drawn are those of the lines that are
+steps_of_items : (depth from : ℕ) (texts : List ℕ) (items : List Item) (flags : List ℕ) → AreLastFlags items flags
+    → AreStepsOf texts (drawn_lines depth (lines_from from texts items)) (steps_from depth from items flags)
+steps_of_items depth from texts [] [] are = tt
+steps_of_items depth from texts [] (f ∷ flags) are = absurd are
+steps_of_items depth from texts (i ∷ items) [] are = absurd are
+steps_of_items depth from texts (i ∷ items) (f ∷ flags) are =
+    let o : List Line = drawn_lines depth (lines_from i.end texts items) in
+    let l : Line = line i.level (take (i.end - from) (drop from texts)) in
+    let steps : List Step = steps_from depth i.end items flags in
+    let s : Step = step_of from i f in
+    let below : AreStepsOf texts o steps = steps_of_items depth i.end texts items flags are.1 in
+    let to : (b : Bool) → ltb depth i.level ≡ b → AreStepsOf texts (cond b o (l ∷ o)) (cond b steps (s ∷ steps)) → AreStepsOf texts (cond (ltb depth i.level) o (l ∷ o)) (cond (ltb depth i.level) steps (s ∷ steps)) =
+    λ b e h. subst (λ b. AreStepsOf texts (cond b o (l ∷ o)) (cond b steps (s ∷ steps))) (sym e) h in
+    elim (low_or_deep depth i.level) [
+      | inl (deep, h) ↦ to true deep below
+      | inr (drawn, low) ↦ to false drawn (record { level = refl; text = refl; last = are.0 ∙ ap not (sym (later_drawn depth i.level i.end texts items low)) }, below)
+    ]
+
+-- the levels of items step down as those of lines do
+steps_down : (deepest previous from : ℕ) (texts : List ℕ) (items : List Item) → StepsDown deepest previous items → Steps previous (lines_from from texts items)
+steps_down deepest previous from texts [] down = tt
+steps_down deepest previous from texts (i ∷ items) down = (down.0, down.1, steps_down deepest i.level i.end texts items down.3)
+
+-- the lines that are drawn are low
+low_drawn : (deepest depth long previous from : ℕ) (texts : List ℕ) (items : List Item) → ((n : ℕ) → n ≤ deepest → n ≤ depth → n ≤ long) → StepsDown deepest previous items
+    → Low long (drawn_lines depth (lines_from from texts items))
+low_drawn deepest depth long previous from texts [] fit down = tt
+low_drawn deepest depth long previous from texts (i ∷ items) fit down =
+    let o : List Line = drawn_lines depth (lines_from i.end texts items) in
+    let l : Line = line i.level (take (i.end - from) (drop from texts)) in
+    let below : Low long o = low_drawn deepest depth long i.level i.end texts items fit down.3 in
+    elim (low_or_deep depth i.level) [
+      | inl (deep, h) ↦ subst (λ b. Low long (cond b o (l ∷ o))) (sym deep) below
+      | inr (drawn, low) ↦ subst (λ b. Low long (cond b o (l ∷ o))) (sym drawn) (fit i.level down.2 low, below)
+    ]
+
+-- the items of an outline, drawn as steps, are the drawing of its tree
+pub outline_drawn : (look : Look) (texts path : List ℕ) (items : List Item) (flags : List ℕ) (deepest depth : ℕ) (drawing : List ℕ) → AreItems deepest items → AreLastFlags items flags
+    → ((n : ℕ) → n ≤ deepest → n ≤ depth → n ≤ length path) → drawing ≡ steps_text look texts path (steps_from depth 0 items flags) → IsItemsDrawing look depth items texts drawing
+outline_drawn look texts path [] flags deepest depth drawing are last fit is = absurd are
+outline_drawn look texts path (i ∷ items) [] deepest depth drawing are last fit is = absurd last
+outline_drawn look texts path (i ∷ items) (flag ∷ flags) deepest depth drawing are last fit is =
+    let o : List Line = lines_from i.end texts items in
+    let text : List ℕ = take (i.end - 0) (drop 0 texts) in
+    let steps : List Step = steps_from depth 0 (i ∷ items) (flag ∷ flags) in
+    let made = tree_of_lines o (steps_down deepest 0 i.end texts items are.1) in
+    let f : Forest = made.0 in
+    let t : Tree = tree text f in
+    let root : line i.level text ∷ o ≡ line 0 text ∷ o = ap (λ n. line n text ∷ o) are.0 in
+    let cut : outline_at 1 (cut_forest depth f) ≡ drawn_lines depth o = outline_cut depth 0 depth f (omega arith) ∙ ap (drawn_lines depth) made.1 in
+    let high : (long : ℕ) → ((n : ℕ) → n ≤ deepest → n ≤ depth → n ≤ long) → height (cut_forest depth f) ≤ long =
+    λ long fits. let low = height_low long 0 (cut_forest depth f) (omega arith) (subst (λ z. Low long z) (sym cut) (low_drawn deepest depth long 0 i.end texts items fits are.1)) in omega (arith, low) in
+    let drawn : drawn_lines depth (line i.level text ∷ o) ≡ outline (cut_tree depth t) =
+    ap (drawn_lines depth) root
+    ∙ (ap (λ b. cond b (drawn_lines depth o) (line 0 text ∷ drawn_lines depth o)) (le-ltb depth 0 (omega arith)) ∙ ap (λ z. line 0 text ∷ z) (sym cut)) in
+    let all : AreStepsOf texts (outline (cut_tree depth t)) steps = subst (λ z. AreStepsOf texts z steps) drawn (steps_of_items depth 0 texts (i ∷ items) (flag ∷ flags) last) in
+    let whole : IsDrawing look (shape_of_tree (cut_tree depth t)) depth (steps_text look texts path steps) =
+    draws_trees look texts (cut_tree depth t) path steps depth (high (length path) fit) (high depth (λ n a b. b)) all in (
+      t,
+      (outline_of_tree t (line i.level text ∷ o)).1 (root ∙ ap (λ z. line 0 text ∷ z) (sym made.1)),
+      (drawing_of_cut_tree look depth t depth drawing (omega arith)).1 (subst (λ z. IsDrawing look (shape_of_tree (cut_tree depth t)) depth z) (sym is) whole),
+    )
