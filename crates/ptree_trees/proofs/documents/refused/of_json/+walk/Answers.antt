@@ -1,4 +1,4 @@
-use Rattle.std.proofs.Common.{rules, ◌≡◌, ◌∙◌, ◌+◌, ◌∷◌, arith, refl, ap, sym, subst, map, reverse, drop, Some, None, option_map, IfOk, string_bytes}
+use Rattle.std.proofs.Common.{rules, ◌≡◌, ◌∙◌, ◌+◌, [], ◌∷◌, ◌++◌, arith, refl, ap, sym, subst, map, reverse, drop, Some, None, option_map, IfOk, string_bytes}
 use Rattle.std.proofs.lemmas.List.{at_drop_more, drop_all}
 use Rattle.std.proofs.lemmas.Map.Keys.{sorted_head, sorted_tail}
 use Rattle.std.specs.List.Sorted.{IsStrictlySortedBy}
@@ -59,7 +59,8 @@ element_path-returns-in-Some t c =
     let later = element_rows (l.i + 1) (map view (drop (l.i + 1) xs)) in
     let rows = at_drop_more (λ z. element_rows l.i (map view z)) xs l.i x c.loop-i-test.true ∙ ap (λ v. (at_position l.i, view v) ∷ later) (sym c.item-item.is) in
     let first = subst (λ o. IsFirstFloat (view x) (option_map path_found o)) c.in-Some.is c.in_ok-found.ensures in
-    let path = found_below c.in-Some.found c.push.new.self (Position l.i) c.in_ok-push.ensures.items in
+    let items : c.push.new.self.items ≡ c.in-Some.found.items ++ Position l.i ∷ [] = search rules in
+    let path = found_below c.in-Some.found c.push.new.self (Position l.i) items in
     let after = elements_after l.i (l.i + 1) (map view (drop (l.i + 1) xs)) (omega arith) in
     let all = next_row_found json_at_step IsFloat _ (at_position l.i, view x) later _ _ _ rows l.invariant after first path in
     let whole = Some (path_found c.push.new.self) in
@@ -92,7 +93,8 @@ member_path-returns-in-Some-2 t c =
     let sorted = subst (λ z. IsStrictlySortedBy string_cmp (keys_of z)) c.in-Some.ensures.steps c.loop-key.invariant.2 in
     let first = subst (λ o. IsFirstFloat d (option_map path_found o)) c.in-Some-2.is c.in_ok-found.ensures in
     let same : string_bytes c.in_ok-key.key ≡ string_bytes k = search rules in
-    let path = found_below c.in-Some-2.found c.push.new.self (Key c.in_ok-key.key) c.in_ok-push.ensures.items ∙ ap (λ b. at_key b ∷ path_found c.in-Some-2.found) same in
+    let items : c.push.new.self.items ≡ c.in-Some-2.found.items ++ Key c.in_ok-key.key ∷ [] = search rules in
+    let path = found_below c.in-Some-2.found c.push.new.self (Key c.in_ok-key.key) items ∙ ap (λ b. at_key b ∷ path_found c.in-Some-2.found) same in
     let after = members_after view k left (sorted_head string_cmp k (keys_of left) sorted) in
     let all = next_row_found json_at_step IsFloat _ (at_key (string_bytes k), d) (member_rows view left) _ _ _ (ap (member_rows view) c.in-Some.ensures.steps) c.loop-key.invariant.3 after first path in
     first_in_json_members ms (Some (path_found c.push.new.self)) c.iter-key-items.ensures.ordered all
