@@ -13,6 +13,8 @@ pub mod KnownColors
 pub mod PathGroups
 pub mod PathLoops
 pub mod PathTrees
+pub mod RefusedPaths
+pub mod RefusedSteps
 pub mod SortedPaths
 pub mod Sorting
 pub mod WarningLists

@@ -9,6 +9,8 @@ pub mod IndentedReading
 pub mod KeyLists
 pub mod PathGroups
 pub mod Paths
+pub mod RefusedPath
+pub mod RefusedWalk
 pub mod Settings
 pub mod Sort
 pub mod Styled

@@ -6,11 +6,13 @@ ghost use Rattle.ptree_trees.specs.WrittenDocument.{IsDocumentTree, IsTextTree};
 
 mod of_json;
 mod of_toml;
+mod refused;
 
 pub use of_json::json_tree;
 pub use of_toml::toml_tree;
 use ptree::item::StringItem;
 use ptree::value::DocFormat;
+pub use refused::{Step, json_refused_path, refused_path, toml_refused_path};
 use std::alloc::{AllocError, Global};
 
 /// Returns the tree of a document under a label, with floats and dates as its crate writes them, or

@@ -1,13 +1,16 @@
 //! Runs each caller once.
 use crate::expect::{Below, expect_text, expect_tree, tree};
+use ptree_trees::documents::Step;
 use ptree_trees::indented::Form;
 use ptree_trees_callers::changing::{
     at_nothing, at_two, keep_containing, keep_named, sorted_has_text,
 };
 use ptree_trees_callers::comparing::{differ_at_root, first_lost, is_same};
+use ptree_trees_callers::documenting::{float_in_text, of_float};
 use ptree_trees_callers::indenting::{
     is_appended, is_cut_off, is_refused, read_by_form, there_and_back, written_anew, wrong_line,
 };
+use std::alloc::Global;
 use std::test::Fail;
 
 // Two blanks a level, and a dash.
@@ -85,4 +88,25 @@ fn reading(rt: HostRuntime) -> Result<(), Fail> {
         .is_none()
     );
     Ok(())
+}
+
+// Expects that a path has these steps, each with a blank behind it.
+fn expect_steps(alloc: Global, path: &[Step], wanted: &str) -> Result<(), Fail> {
+    let mut steps = String::new(alloc);
+    for step in path {
+        let text = format!(in alloc; "{step} ")?;
+        steps.push_str(text.as_str())?;
+    }
+    expect_text(steps.as_str(), wanted)
+}
+
+#[test]
+fn refusing(rt: HostRuntime) -> Result<(), Fail> {
+    let alloc = rt.alloc();
+    let text = "{\"b\": 1.5, \"a\": [1, 2.5]}";
+    let path = float_in_text(alloc, text)?.ok_or("no path")?;
+    expect_steps(alloc, &path, "a 1 ")?;
+    assert!(rt; float_in_text(alloc, "[1.5")?.is_none());
+    let path = of_float(alloc, 1.5)?.ok_or("no path")?;
+    expect_steps(alloc, &path, "")
 }

@@ -100,7 +100,7 @@ impl Command {
             Opt::As => self != Command::Config,
             Opt::Color => self.draws(),
             Opt::Depth => self.draws() && self != Command::Diff,
-            Opt::At => self == Command::Json || self == Command::Toml,
+            Opt::At | Opt::Strict => self == Command::Json || self == Command::Toml,
             Opt::Label => {
                 self == Command::Json
                     || self == Command::Toml
@@ -146,6 +146,9 @@ pub enum Opt {
     /// The keys that lead to a part of a document.
     At,
 
+    /// Refuses floats and dates.
+    Strict,
+
     /// The text of the root.
     Label,
 
@@ -187,10 +190,11 @@ pub enum Opt {
 }
 
 /// All options.
-pub const OPTIONS: [Opt; 16] = [
+pub const OPTIONS: [Opt; 17] = [
     Opt::Help,
     Opt::Depth,
     Opt::At,
+    Opt::Strict,
     Opt::Label,
     Opt::As,
     Opt::To,
@@ -213,6 +217,7 @@ impl Opt {
             Opt::Help => "--help",
             Opt::Depth => "--depth",
             Opt::At => "--at",
+            Opt::Strict => "--strict",
             Opt::Label => "--label",
             Opt::As => "--as",
             Opt::To => "--to",
@@ -248,7 +253,13 @@ impl Opt {
     /// Whether a value follows the option.
     pub fn takes_value(self) -> bool {
         match self {
-            Opt::Help | Opt::Sort | Opt::Null | Opt::Inverse | Opt::Walks | Opt::All => false,
+            Opt::Help
+            | Opt::Strict
+            | Opt::Sort
+            | Opt::Null
+            | Opt::Inverse
+            | Opt::Walks
+            | Opt::All => false,
             Opt::Depth
             | Opt::At
             | Opt::Label

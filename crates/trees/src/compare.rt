@@ -129,12 +129,17 @@ fn both_children(
     is_colored: bool,
 ) -> Result<Vec<StyledItem>, AllocError> {
     let mut made = Vec::new(alloc);
+    let others = right.children.as_slice();
+    let mut places = Places {
+        items: others,
+        sorted: Vec::new(alloc),
+    };
     let mut taken = 0;
     for child in &left.children {
-        match next_with(right.children.as_slice(), taken, child.text.as_str()) {
+        match places.next_with(taken, child.text.as_str())? {
             Some(at) => {
-                push_right(alloc, &mut made, right, taken, at, is_colored)?;
-                if let Some(other) = right.children.get(at) {
+                push_right(alloc, &mut made, others.get(taken..at), is_colored)?;
+                if let Some(other) = others.get(at) {
                     made.push(both(alloc, child, other, is_colored)?)?;
                 }
                 taken = at.saturating_add(1);
@@ -142,34 +147,57 @@ fn both_children(
             None => made.push(marked(alloc, Side::Left, child, is_colored)?)?,
         }
     }
-    let all = right.children.len();
-    push_right(alloc, &mut made, right, taken, all, is_colored)?;
+    push_right(alloc, &mut made, others.get(taken..), is_colored)?;
     Ok(made)
 }
 
-// Returns the position of the first item with a text, from a position on.
-fn next_with(items: &[StringItem], from: usize, text: &str) -> Option<usize> {
-    for (i, item) in items.iter().enumerate().skip(from) {
-        if item.text.as_str() == text {
-            return Some(i);
-        }
-    }
-    None
+// Items among which texts are looked for.
+#[derive(Drop)]
+struct Places<'a> {
+    items: &'a [StringItem],
+
+    // Their texts with their positions, ascending. It is empty until it is needed.
+    sorted: Vec<(&'a str, usize)>,
 }
 
-// Adds the children between two positions, which are only in the right tree.
+impl<'a> Places<'a> {
+    // Returns the position of the first item with a text, from a position on.
+    fn next_with(&mut self, from: usize, text: &str) -> Result<Option<usize>, AllocError> {
+        let Some(item) = self.items.get(from) else {
+            return Ok(None);
+        };
+        if item.text.as_str() == text {
+            return Ok(Some(from));
+        }
+        if self.sorted.is_empty() {
+            self.sort()?;
+        }
+        let at = self.sorted.partition_point(|place| *place < (text, from));
+        match self.sorted.get(at) {
+            Some((found, position)) if *found == text => Ok(Some(*position)),
+            _ => Ok(None),
+        }
+    }
+
+    // Sorts the texts.
+    fn sort(&mut self) -> Result<(), AllocError> {
+        for (i, item) in self.items.iter().enumerate() {
+            self.sorted.push((item.text.as_str(), i))?;
+        }
+        self.sorted.sort_unstable();
+        Ok(())
+    }
+}
+
+// Adds items that are only in the right tree.
 fn push_right(
     alloc: Global,
     made: &mut Vec<StyledItem>,
-    right: &StringItem,
-    from: usize,
-    to: usize,
+    items: Option<&[StringItem]>,
     is_colored: bool,
 ) -> Result<(), AllocError> {
-    for (i, item) in right.children.iter().enumerate().skip(from) {
-        if i < to {
-            made.push(marked(alloc, Side::Right, item, is_colored)?)?;
-        }
+    for item in items.unwrap_or(&[]) {
+        made.push(marked(alloc, Side::Right, item, is_colored)?)?;
     }
     Ok(())
 }

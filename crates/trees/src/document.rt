@@ -3,19 +3,23 @@
 use crate::failure::Failure;
 use crate::source::Source;
 use ptree::item::StringItem;
-use ptree_trees::documents::{json_tree, toml_tree};
+use ptree::print_config::{FileSource, syntax_line};
+use ptree_trees::documents::{Step, json_refused_path, json_tree, toml_refused_path, toml_tree};
+use ptree_trees::escape::escaped;
 use std::alloc::{AllocError, Global};
 
 /// Returns the tree of a JSON document, or of the part at the keys `at`.
 ///
 /// # Errors
 ///
-/// `Input` with the line if the text is not JSON, or if nothing is there, and `Memory`.
+/// `Input` with the line if the text is not JSON, if nothing is there, or if a float is there and
+/// `is_strict`, and `Memory`.
 pub fn json(
     alloc: Global,
     source: &Source,
     at: Option<&str>,
     label: Option<&str>,
+    is_strict: bool,
 ) -> Result<StringItem, Failure> {
     let value = json_value(alloc, source)?;
     let mut part = &value;
@@ -27,6 +31,11 @@ pub fn json(
             };
         }
     }
+    if is_strict {
+        if let Some(path) = json_refused_path(alloc, part)? {
+            return Err(refused(alloc, source, "a float", at, &path)?);
+        }
+    }
     let label = root_label(source, at, label);
     Ok(json_tree(alloc, label, part)?)
 }
@@ -35,12 +44,14 @@ pub fn json(
 ///
 /// # Errors
 ///
-/// `Input` with the line if the text is not TOML, or if nothing is there, and `Memory`.
+/// `Input` with the line if the text is not TOML, if nothing is there, or if a float, a date or a
+/// time is there and `is_strict`, and `Memory`.
 pub fn toml(
     alloc: Global,
     source: &Source,
     at: Option<&str>,
     label: Option<&str>,
+    is_strict: bool,
 ) -> Result<StringItem, Failure> {
     let value = toml_value(alloc, source)?;
     let mut part = &value;
@@ -50,6 +61,11 @@ pub fn toml(
                 Some(part) => part,
                 None => return Err(missing(alloc, source, at, key)?),
             };
+        }
+    }
+    if is_strict {
+        if let Some(path) = toml_refused_path(alloc, part)? {
+            return Err(refused(alloc, source, "a float, a date or a time", at, &path)?);
         }
     }
     let label = root_label(source, at, label);
@@ -66,11 +82,7 @@ pub fn toml_value(alloc: Global, source: &Source) -> Result<toml::Value, Failure
         Ok(table) => Ok(toml::Value::Table(table)),
         Err(e) if e.is_memory() => Err(Failure::Memory),
         Err(e) => {
-            let before = match e.span() {
-                Some(span) => source.text.as_str().get(..span.start).unwrap_or(""),
-                None => "",
-            };
-            let line = before.split('\n').count();
+            let line = wrong_line(alloc, FileSource::Toml(source.text.clone()?))?;
             let why = e.message();
             let wrong = format!(in alloc; "not TOML: {why}")?;
             Err(source.wrong_at(alloc, line, wrong.as_str())?)
@@ -88,8 +100,7 @@ pub fn json_value(alloc: Global, source: &Source) -> Result<serde_json::Value, F
         Ok(value) => Ok(value),
         Err(e) if e.is_memory() => Err(Failure::Memory),
         Err(e) => {
-            let text = source.text.as_str();
-            let line = wrong_line(text, e.line(), e.column());
+            let line = wrong_line(alloc, FileSource::Json(source.text.clone()?))?;
             let wrong = if e.is_eof() {
                 "the JSON ends too early"
             } else {
@@ -100,14 +111,9 @@ pub fn json_value(alloc: Global, source: &Source) -> Result<serde_json::Value, F
     }
 }
 
-// Returns the line of a wrong byte. The parser names the place behind it and the blanks after it.
-fn wrong_line(text: &str, line: usize, column: usize) -> usize {
-    let mut at = column;
-    for found in text.split('\n').take(line.saturating_sub(1)) {
-        at = at.saturating_add(found.len()).saturating_add(1);
-    }
-    let before = text.get(..at).unwrap_or(text);
-    before.trim_end().split('\n').count()
+// Returns the line at which a text stops being a document of its format.
+fn wrong_line(alloc: Global, file: FileSource) -> Result<usize, AllocError> {
+    Ok(syntax_line(alloc, &file)?.unwrap_or(1))
 }
 
 // Returns the text of the root: the label, or else the last key, or else the file's name.
@@ -122,6 +128,31 @@ fn root_label<'a>(source: &'a Source, at: Option<&'a str>, label: Option<&'a str
 // Says that a document has no such key.
 fn missing(alloc: Global, source: &Source, at: &str, key: &str) -> Result<Failure, AllocError> {
     let wrong = format!(in alloc; "nothing is at {at}: there is no {key}")?;
+    source.wrong(alloc, wrong.as_str())
+}
+
+// Says what stands at a path below the keys `at`.
+fn refused(
+    alloc: Global,
+    source: &Source,
+    what: &str,
+    at: Option<&str>,
+    path: &[Step],
+) -> Result<Failure, AllocError> {
+    let mut wrong = format!(in alloc; "{what} is at ")?;
+    let mut between = "";
+    if let Some(at) = at {
+        wrong.push_str(at)?;
+        between = ".";
+    }
+    for step in path {
+        let part = format!(in alloc; "{between}{step}")?;
+        wrong.push_str(escaped(alloc, part.as_str())?.as_str())?;
+        between = ".";
+    }
+    if between.is_empty() {
+        wrong.push_str("the top")?;
+    }
     source.wrong(alloc, wrong.as_str())
 }
 

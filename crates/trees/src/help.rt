@@ -39,21 +39,25 @@ status: 0 done; 1 refused, no drawing, or different; 2 the words are wrong
 
 /// The page of `json`.
 pub const JSON: &str = "\
-usage: trees json [--at KEY.KEY] [--label TEXT] [--depth N] [--as PIECES] [--color WHEN] [FILE]
+usage: trees json [--at KEY.KEY] [--strict] [--label TEXT] [--depth N] [--as PIECES]
+                  [--color WHEN] [FILE]
 
 Draws a JSON document. Floats are drawn as serde_json writes them.
 
   --at KEY.KEY  draw the part there; a position in a list is a number, from 0
+  --strict      refuse floats, and say where the first one is
   --label TEXT  the text of the root; else it is the keys, or the file's name
 ";
 
 /// The page of `toml`.
 pub const TOML: &str = "\
-usage: trees toml [--at KEY.KEY] [--label TEXT] [--depth N] [--as PIECES] [--color WHEN] [FILE]
+usage: trees toml [--at KEY.KEY] [--strict] [--label TEXT] [--depth N] [--as PIECES]
+                  [--color WHEN] [FILE]
 
 Draws a TOML document. Floats, dates and times are drawn as TOML writes them.
 
   --at KEY.KEY  draw the part there; a position in a list is a number, from 0
+  --strict      refuse floats, dates and times, and say where the first one is
   --label TEXT  the text of the root; else it is the keys, or the file's name
 ";
 

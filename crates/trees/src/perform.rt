@@ -100,11 +100,11 @@ fn of_one(
     let bullet = options.value(Opt::Bullet);
     match command {
         Command::Json => {
-            let tree = document::json(alloc, source, at, label)?;
+            let tree = document::json(alloc, source, at, label, options.has(Opt::Strict))?;
             done(tree_on(alloc, screen, tree, config)?)
         }
         Command::Toml => {
-            let tree = document::toml(alloc, source, at, label)?;
+            let tree = document::toml(alloc, source, at, label, options.has(Opt::Strict))?;
             done(tree_on(alloc, screen, tree, config)?)
         }
         Command::Paths => {
