@@ -1,4 +1,4 @@
-use Rattle.std.proofs.Common.{◌≡◌, List, ℕ, Option, Some, None, option_map, refl, subst}
+use Rattle.std.proofs.Common.{◌≡◌, Option, Some, None, option_map, refl, subst}
 use Rattle.serde_json.specs.Data.{Data}
 use Rattle.serde_json.specs.Read.{read}
 use Rattle.ptree_trees.specs.RefusedPath.{Path, path_of, LeadsTo, json_at_step, IsFloat, IsFirstFloat, IsPathIn}
