@@ -183,14 +183,7 @@ impl Pen {
             (inserted_below (brush_look brush.now) self.now.front.items own) text.now) }
     {
         if has_line_feed {
-            put_lines(
-                out,
-                at,
-                text,
-                &self.front,
-                brush.below(own),
-                &brush.further,
-            )
+            put_lines(out, at, text, &self.front, brush.below(own), &brush.further)
         } else {
             put(out, at, text)
         }

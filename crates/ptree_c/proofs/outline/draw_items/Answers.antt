@@ -10,7 +10,7 @@ use Rattle.ptree_c.proofs.outline.draw_items.Goals as goal
 pub draw_item-at-requires-clause-low : goal.draw_item-at-requires-clause-low
 draw_item-at-requires-clause-low c =
     λ h. subst (λ n. (get_or c.args.items.now c.loop-place.place (record { end = 0; level = 0 })).level ≤ n) (sym c.loop-place.invariant.long)
-        (low_at c.args.depth (length c.args.path.now) c.args.items.now c.loop-place.place (record { end = 0; level = 0 }) c.requires.low c.loop-place-test.true h)
+    (low_at c.args.depth (length c.args.path.now) c.args.items.now c.loop-place.place (record { end = 0; level = 0 }) c.requires.low c.loop-place-test.true h)
 
 pub draw_item-at-requires-clause-size : goal.draw_item-at-requires-clause-size
 draw_item-at-requires-clause-size c =

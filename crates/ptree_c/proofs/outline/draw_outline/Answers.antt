@@ -38,7 +38,7 @@ returns-clause-drawn c =
     let last = subst (λ (f : List ℕ). AreLastFlags items f) (sym c.deref.ensures.value) c.in_ok-flags.ensures.flags in
     let drawing = steps_text (brush_look c.in_ok-brush.brush) c.new-known.result.bytes.now path (steps_from config.depth 0 items flags) in
     let same = ap (λ k. steps_text k c.new-known.result.bytes.now path (steps_from config.depth 0 items flags)) (ap written_look c.in_ok-brush.ensures)
-        ∙ ap (λ t. steps_text (written_look config) t path (steps_from config.depth 0 items flags)) c.new-known.ensures in (
+    ∙ ap (λ t. steps_text (written_look config) t path (steps_from config.depth 0 items flags)) c.new-known.ensures in (
       drawing,
       outline_drawn (written_look config) texts path items flags deepest config.depth drawing c.in_ok-deepest.ensures last fit same,
       c.in_ok-draw_by_brush.ensures.filled,

@@ -13,6 +13,6 @@ returns-clause-filled c = λ room before is.
     let mid : take left (drop at out) ≡ drop at out = take_all left (drop at out) (omega (arith, length-drop at out)) in
     let behind : drop left (drop at out) ≡ [] = drop_all left (drop at out) (omega (arith, length-drop at out)) in (
       ap (λ z. take at out ++ (z ++ drop left (drop at out))) (c.fill.ensures ∙ ap (λ z. filled z bytes) mid)
-      ∙ (ap (λ z. take at out ++ (filled (drop at out) bytes ++ z)) behind ∙ filled_more room before bytes out at is c.if-at-out.false),
+          ∙ (ap (λ z. take at out ++ (filled (drop at out) bytes ++ z)) behind ∙ filled_more room before bytes out at is c.if-at-out.false),
       omega (arith, is.1, length-append before bytes),
     )

@@ -20,7 +20,7 @@ loop-step-preserved c =
     let so_far = steps_text look texts path (take n steps) in
     let next = next_of steps n s c.in-Some.tail.now (sym c.in-Some.ensures.cases.0 ∙ inv.left) in
     let text = ap (λ t. so_far ++ step_entry look t c.loop-step.path s) c.new-known.ensures
-        ∙ (ap (λ p. so_far ++ step_entry look texts p s) inv.path ∙ (sym (text_more look texts path (take n steps) s) ∙ ap (steps_text look texts path) (sym next.1))) in
+    ∙ (ap (λ p. so_far ++ step_entry look texts p s) inv.path ∙ (sym (text_more look texts path (take n steps) s) ∙ ap (steps_text look texts path) (sym next.1))) in
     record {
       within = omega (arith, next.0);
       left = sym next.2;

@@ -12,7 +12,7 @@ pub returns-in-Err-clause-level : goal.returns-in-Err-clause-level
 returns-in-Err-clause-level c =
     let inv = c.loop-self.invariant in
     let fits = room_down (brush_look c.args.brush.now) c.args.path.now c.loop-self.self.front.items c.loop-self.self.level c.args.level c.loop-self.self.front.cap c.flag.result c.loop-self-test.true c.requires.level inv.held.1
-        (omega (arith, c.requires.room, inv.room)) in
+    (omega (arith, c.requires.room, inv.room)) in
     let piece = ap (λ (z : List ℕ). length z) c.passing-piece.ensures in
     absurd (omega (arith, fits, piece, c.in-Err.ensures.full, c.loop-self.self.front.ok.0))
 
@@ -29,9 +29,9 @@ loop-self-preserved c =
     let path = c.args.path.now in
     let piece = c.passing-piece.ensures ∙ ap (passing_piece look.pieces) c.flag.ensures in record {
       held = (
-          (omega (arith, c.loop-self-test.true, c.requires.level)),
-          c.in-Ok.ensures.items ∙ (ap (λ z. c.loop-self.self.front.items ++ z) piece ∙ front_down look.pieces path (start_codes look.branch) c.loop-self.self.front.items n (omega (arith, c.loop-self-test.true, c.requires.level)) c.loop-self.invariant.held.1),
-        );
+        (omega (arith, c.loop-self-test.true, c.requires.level)),
+        c.in-Ok.ensures.items ∙ (ap (λ z. c.loop-self.self.front.items ++ z) piece ∙ front_down look.pieces path (start_codes look.branch) c.loop-self.self.front.items n (omega (arith, c.loop-self-test.true, c.requires.level)) c.loop-self.invariant.held.1),
+      );
       level = λ low. omega (arith, c.loop-self-test.true);
       room = omega (arith, c.loop-self.invariant.room, c.extend_from_slice.ensures.capacity);
     }
