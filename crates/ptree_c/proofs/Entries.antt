@@ -1,12 +1,16 @@
 -- Entries, as a pen makes them.
-use Rattle.std.proofs.Common.{◌≡◌, ℕ, Bool, Option, List, [], ◌∷◌, ◌++◌, sym, ap, ◌∙◌, append_assoc}
+use Rattle.std.proofs.Common.{◌≡◌, ℕ, ◌+◌, ◌-◌, ◌<◌, ◌≤◌, Bool, Option, List, [], ◌∷◌, ◌++◌, length, take, drop, get_or, refl, sym, ap, ◌∙◌, append_assoc, arith}
 use Rattle.ptree.specs.Drawing.{Look, with_inserted}
 use Rattle.ptree.specs.Looks.{own_piece, below_piece, own_text}
 use Rattle.ptree.specs.Pieces.{passing_all}
 use Rattle.ptree.specs.Style.{start_codes, end_codes, painted_text}
 use Rattle.ptree.proofs.Inserted.{inserted-append, inserted_none}
 use Rattle.ptree.proofs.Styles.{no_line_feed_start, no_line_feed_end}
-use Rattle.ptree_c.specs.Steps.{entry_below}
+use Rattle.ptree_c.specs.Pens.{inserted_below, entry_behind}
+use Rattle.ptree_c.specs.Fields.{part_text}
+use Rattle.ptree_c.specs.Steps.{path_flags, own_flag, entry_below, step_entry}
+use Rattle.ptree_c.specs.declared.steps.Step.{Step}
+use Rattle.std.proofs.lemmas.List.{take_more, take-append-drop, length-append}
 
 -- a painted text with another one inserted
 inserted_painted : (look : Look) (inserted text : List ℕ) → with_inserted inserted (painted_text look.leaf text) ≡ start_codes look.leaf ++ with_inserted inserted text ++ end_codes look.leaf
@@ -29,8 +33,7 @@ parts_joined start outer own end leaf text leaf_end = simp append_assoc
 
 -- the entry of an item: the front, what is before its text, the text and what is behind it
 pub entry_gathered : (look : Look) (above : List Bool) (own : Option Bool) (text front : List ℕ) → front ≡ start_codes look.branch ++ passing_all look.pieces above
-    → ((front ++ (own_text look own ++ start_codes look.leaf)) ++ with_inserted (front ++ (below_piece look.pieces own ++ look.mark ++ end_codes look.branch)) text) ++ (end_codes look.leaf ++ 10 ∷ [])
-    ≡ entry_below look above own text
+    → entry_behind look front own text ≡ entry_below look above own text
 entry_gathered look above own text front is =
     let start : List ℕ = start_codes look.branch in
     let outer : List ℕ = passing_all look.pieces above in
@@ -42,8 +45,43 @@ entry_gathered look above own text front is =
     ∙ (parts_joined start outer (own_piece look.pieces own) (end_codes look.branch) (start_codes look.leaf) (with_inserted inserted text) (end_codes look.leaf)
     ∙ ap (λ z. painted_text look.branch (outer ++ own_piece look.pieces own) ++ z ++ 10 ∷ []) (sym (inserted_painted look inserted text))))
 
--- the parts were appended in turn
-pub gathered : (front before text end e0 e1 e2 e3 e4 f b n : List ℕ) → e0 ≡ [] → f ≡ front → e1 ≡ e0 ++ f → b ≡ before → e2 ≡ e1 ++ b → e3 ≡ e2 ++ text → n ≡ end → e4 ≡ e3 ++ n
-    → e4 ≡ ((front ++ before) ++ text) ++ end
-gathered front before text end e0 e1 e2 e3 e4 f b n i0 fi i1 bi i2 i3 ni i4 =
-    i4 ∙ (ap (λ z. e3 ++ z) ni ∙ ap (λ z. z ++ end) (i3 ∙ ap (λ z. z ++ text) (i2 ∙ (ap (λ z. e1 ++ z) bi ∙ ap (λ z. z ++ before) (i1 ∙ (ap (λ z. z ++ f) i0 ∙ fi))))))
+-- the length of three texts in turn and a fourth one
+pub four_long : (a b c d : List ℕ) → length (((a ++ b) ++ c) ++ d) ≡ ((length a + length b) + length c) + length d
+four_long a b c d = length-append ((a ++ b) ++ c) d ∙ ap (λ n. n + length d) (length-append (a ++ b) c ∙ ap (λ n. n + length c) (length-append a b))
+
+-- four texts behind another one, in turn
+pub four_behind : (before a b c d : List ℕ) → (((before ++ a) ++ b) ++ c) ++ d ≡ before ++ (((a ++ b) ++ c) ++ d)
+four_behind before a b c d = simp append_assoc refl
+
+-- a byte more, with what is inserted after it
+pub inserted_more : (inserted text : List ℕ) (i : ℕ) → i < length text
+    → with_inserted inserted (take (i + 1) text) ≡ with_inserted inserted (take i text) ++ with_inserted inserted (get_or text i 0 ∷ [])
+inserted_more inserted text i h = ap (with_inserted inserted) (take_more text i 0 h) ∙ inserted-append inserted (take i text) (get_or text i 0 ∷ [])
+
+-- is no longer than the whole
+pub inserted_size : (inserted text : List ℕ) (i : ℕ) → i < length text
+    → length (with_inserted inserted (take i text)) + length (with_inserted inserted (get_or text i 0 ∷ [])) ≤ length (with_inserted inserted text)
+inserted_size inserted text i h =
+    let first : List ℕ = with_inserted inserted (take (i + 1) text) in
+    let rest : List ℕ = with_inserted inserted (drop (i + 1) text) in
+    let parts : with_inserted inserted text ≡ first ++ rest =
+    ap (with_inserted inserted) (sym (take-append-drop (i + 1) text)) ∙ inserted-append inserted (take (i + 1) text) (drop (i + 1) text) in
+    let whole = ap length parts ∙ length-append first rest in
+    let more = ap length (inserted_more inserted text i h) ∙ length-append (with_inserted inserted (take i text)) (with_inserted inserted (get_or text i 0 ∷ [])) in
+    omega (arith, whole, more)
+
+-- the entry of an item behind the front of the level above it
+pub step_behind : (look : Look) (texts path front text : List ℕ) (s : Step) (own : Option Bool) (level : ℕ) → front ≡ start_codes look.branch ++ passing_all look.pieces (path_flags path level)
+    → level ≡ s.level - 1 → own ≡ own_flag s.level s.is_last → text ≡ part_text texts s.text → entry_behind look front own text ≡ step_entry look texts path s
+step_behind look texts path front text s own level is above flag part =
+    ap (λ o. entry_behind look front o text) flag
+    ∙ (ap (entry_behind look front (own_flag s.level s.is_last)) part
+    ∙ entry_gathered look (path_flags path (s.level - 1)) (own_flag s.level s.is_last) (part_text texts s.text) front (is ∙ ap (λ n. start_codes look.branch ++ passing_all look.pieces (path_flags path n)) above))
+
+-- the length of three texts
+pub three_long : (a b c : List ℕ) (n m x y z : ℕ) → m ≡ x + y → n ≡ m + z → x ≡ length a → y ≡ length b → z ≡ length c → n ≡ length (a ++ (b ++ c))
+three_long a b c n m x y z first all is_a is_b is_c = omega (arith, first, all, is_a, is_b, is_c, length-append a (b ++ c), length-append b c)
+
+-- the length of four texts
+pub four_sum : (a b c d : List ℕ) (n m k x y z w : ℕ) → m ≡ x + y → k ≡ m + z → n ≡ k + w → x ≡ length a → y ≡ length b → z ≡ length d → w ≡ length c → n ≡ length (((a ++ b) ++ c) ++ d)
+four_sum a b c d n m k x y z w first around all is_a is_b is_d is_c = omega (arith, first, around, all, is_a, is_b, is_c, is_d, four_long a b c d)

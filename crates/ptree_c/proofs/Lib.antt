@@ -5,4 +5,5 @@ pub mod Given
 pub mod Numbered
 pub mod Outlined
 pub mod Paths
+pub mod Rooms
 pub mod Walks

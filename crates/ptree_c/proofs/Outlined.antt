@@ -1,10 +1,14 @@
 -- The items of an outline, drawn as steps, are the drawing of its tree.
-use Rattle.std.proofs.Common.{◌≡◌, ℕ, zero, suc, ◌+◌, ◌-◌, ◌<◌, ◌≤◌, ◌⊎◌, inl, inr, Bool, true, false, not, cond, eqb, ltb, List, [], ◌∷◌, ◌++◌, length, take, drop, replicate, get_or, refl, sym, ap, ◌∙◌, subst, arith}
+use Rattle.std.proofs.Common.{◌≡◌, ℕ, zero, suc, ◌+◌, ◌-◌, ◌<◌, ◌≤◌, ◌⊎◌, inl, inr, Bool, true, false, not, cond, eqb, ltb, List, [], ◌∷◌, ◌++◌, length, take, drop, replicate, get_or, refl, sym, ap, ◌∙◌, subst, append_assoc, add-one, drop-cons, arith}
 use Rattle.std.proofs.lemmas.Bool.{cases_lt, lt-ltb, le-ltb, eq-eqb, ne_eqb}
 use Rattle.std.proofs.Math.Seq.{get_or-append_seam}
 use Rattle.std.proofs.Math.ListN.{get_or-append}
 use Rattle.std.proofs.lemmas.Grind.{common_steps}
-use Rattle.std.proofs.lemmas.List.{get_or_past, length-append}
+use Rattle.std.proofs.lemmas.List.{append-nil, get_or_past, length-append}
+use Rattle.std.specs.List.{concat}
+use Rattle.ptree.specs.Entries.{drawn_entries}
+use Rattle.ptree.proofs.Laws.{one_drawing}
+use Rattle.ptree.proofs.Outlines.{same_tree}
 use Rattle.ptree.specs.Drawing.{Look, IsDrawing}
 use Rattle.ptree.specs.Flags.{has_later}
 use Rattle.ptree.specs.Outline.{Line, line, outline, outline_at, Steps}
@@ -16,8 +20,8 @@ use Rattle.ptree.proofs.SpelledForms.{Low, height_low}
 use Rattle.ptree_c.specs.Calls.{IsItemsDrawing}
 use Rattle.ptree_c.specs.Fields.{is_set}
 use Rattle.ptree_c.specs.Items.{lines_from}
-use Rattle.ptree_c.specs.Outlines.{has_later_item, AreLater, AreLastFlags, StepsDown, AreItems, step_of, kept_before, steps_from}
-use Rattle.ptree_c.specs.Steps.{AreStepsOf, steps_text}
+use Rattle.ptree_c.specs.Outlines.{has_later_item, AreLater, AreLastFlags, StepsDown, AreItems, AreLow, step_of, kept_before, kept_path, steps_from}
+use Rattle.ptree_c.specs.Steps.{AreStepsOf, path_with, step_entry, steps_text}
 use Rattle.ptree_c.specs.declared.items.Item.{Item}
 use Rattle.ptree_c.specs.declared.steps.Step.{Step}
 use Rattle.ptree_c.proofs.Given.{draws_trees}
@@ -163,3 +167,71 @@ outline_drawn look texts path (i ∷ items) (flag ∷ flags) deepest depth drawi
       (outline_of_tree t (line i.level text ∷ o)).1 (root ∙ ap (λ z. line 0 text ∷ z) (sym made.1)),
       (drawing_of_cut_tree look depth t depth drawing (omega arith)).1 (subst (λ z. IsDrawing look (shape_of_tree (cut_tree depth t)) depth z) (sym is) whole),
     )
+
+-- the text of an item before others
+pub kept_text : (look : Look) (texts path : List ℕ) (depth : ℕ) (s : Step) (steps : List Step)
+    → steps_text look texts path (kept_before depth s steps) ≡ steps_text look texts path (kept_before depth s []) ++ steps_text look texts (kept_path depth path s) steps
+kept_text look texts path depth s steps = at (ltb depth s.level) where
+  at : (deep : Bool) → steps_text look texts path (cond deep steps (s ∷ steps))
+      ≡ steps_text look texts path (cond deep [] (s ∷ [])) ++ steps_text look texts (cond deep path (path_with path s.level s.is_last)) steps
+  at true = refl
+  at false = ap (λ z. z ++ steps_text look texts (path_with path s.level s.is_last) steps) (sym (append-nil (step_entry look texts path s)))
+
+-- the item at a place is low, if all are
+pub low_at : (depth long : ℕ) (items : List Item) (n : ℕ) (d : Item) → AreLow depth long items → n < length items → (get_or items n d).level ≤ depth → (get_or items n d).level ≤ long
+low_at depth long [] n d low h = absurd (omega (arith, h))
+low_at depth long (i ∷ items) zero d low h = low.0
+low_at depth long (i ∷ items) (suc n) d low h = low_at depth long items n d low.1 (omega (arith, h))
+
+-- items whose levels step down to the deepest are low
+low_down : (deepest depth long previous : ℕ) (items : List Item) → ((n : ℕ) → n ≤ deepest → n ≤ depth → n ≤ long) → StepsDown deepest previous items → AreLow depth long items
+low_down deepest depth long previous [] fit down = tt
+low_down deepest depth long previous (i ∷ items) fit down = (fit i.level down.2, low_down deepest depth long i.level items fit down.3)
+
+-- the items of an outline are low
+pub low_outline : (deepest depth long : ℕ) (items : List Item) → ((n : ℕ) → n ≤ deepest → n ≤ depth → n ≤ long) → AreItems deepest items → AreLow depth long items
+low_outline deepest depth long [] fit are = absurd are
+low_outline deepest depth long (i ∷ items) fit are = (λ h. omega (arith, are.0), low_down deepest depth long 0 items fit are.1)
+
+-- the items of an outline are drawn alike, whatever the path holds at first
+pub outline_same : (look : Look) (texts p q : List ℕ) (items : List Item) (flags : List ℕ) (deepest depth : ℕ) → AreItems deepest items → AreLastFlags items flags
+    → ((n : ℕ) → n ≤ deepest → n ≤ depth → n ≤ length p) → ((n : ℕ) → n ≤ deepest → n ≤ depth → n ≤ length q)
+    → steps_text look texts p (steps_from depth 0 items flags) ≡ steps_text look texts q (steps_from depth 0 items flags)
+outline_same look texts p q items flags deepest depth are last fit_p fit_q =
+    let lines : List Line = lines_from 0 texts items in
+    let a = outline_drawn look texts p items flags deepest depth (steps_text look texts p (steps_from depth 0 items flags)) are last fit_p refl in
+    let b = outline_drawn look texts q items flags deepest depth (steps_text look texts q (steps_from depth 0 items flags)) are last fit_q refl in
+    let same : a.0 ≡ b.0 = same_tree a.0 b.0 (sym ((outline_of_tree a.0 lines).0 a.1) ∙ (outline_of_tree b.0 lines).0 b.1) in
+    one_drawing look (shape_of_tree a.0) depth (steps_text look texts p (steps_from depth 0 items flags)) a.2
+    ∙ (ap (λ t. concat (drawn_entries look depth (shape_of_tree t))) same
+    ∙ sym (one_drawing look (shape_of_tree b.0) depth (steps_text look texts q (steps_from depth 0 items flags)) b.2))
+
+-- the items that are left are the next one before those behind it
+pub next_left : (look : Look) (texts path new : List ℕ) (depth from n : ℕ) (items : List Item) (flags : List ℕ) (d : Item) → n < length items → length flags ≡ length items
+    → new ≡ kept_path depth path (step_of from (get_or items n d) (get_or flags n 0))
+    → steps_text look texts path (steps_from depth from (drop n items) (drop n flags))
+    ≡ steps_text look texts path (kept_before depth (step_of from (get_or items n d) (get_or flags n 0)) [])
+    ++ steps_text look texts new (steps_from depth (get_or items n d).end (drop (n + 1) items) (drop (n + 1) flags))
+next_left look texts path new depth from n items flags d h long is =
+    let i : Item = get_or items n d in
+    let f : ℕ = get_or flags n 0 in
+    let s : Step = step_of from i f in
+    let item : drop n items ≡ i ∷ drop (n + 1) items = drop-cons items n d h ∙ ap (λ k. i ∷ drop k items) (sym (add-one n)) in
+    let flag : drop n flags ≡ f ∷ drop (n + 1) flags = drop-cons flags n 0 (omega (arith, h, long)) ∙ ap (λ k. f ∷ drop k flags) (sym (add-one n)) in
+    let rest : List Step = steps_from depth i.end (drop (n + 1) items) (drop (n + 1) flags) in
+    ap (λ x. steps_text look texts path (steps_from depth from x (drop n flags))) item
+    ∙ (ap (λ x. steps_text look texts path (steps_from depth from (i ∷ drop (n + 1) items) x)) flag
+    ∙ (kept_text look texts path depth s rest
+    ∙ ap (λ q. steps_text look texts path (kept_before depth s []) ++ steps_text look texts q rest) (sym is)))
+
+-- a part more of a whole is measured
+pub size_more : (whole part rest : List ℕ) (size new all : ℕ) → whole ≡ part ++ rest → size + length whole ≡ all → new ≡ size + length part → new + length rest ≡ all
+size_more whole part rest size new all is before more = omega (arith, ap length is, length-append part rest, before, more)
+
+-- and it fits, as the whole does
+pub size_fits : (drawn whole part rest all : List ℕ) (at most : ℕ) → whole ≡ part ++ rest → drawn ++ whole ≡ all → at ≡ length drawn → length all ≤ most → at + length part ≤ most
+size_fits drawn whole part rest all at most is before here fits = omega (arith, ap length is, length-append part rest, ap length before, length-append drawn whole, here, fits)
+
+-- a part more of a whole is drawn
+pub drawn_more : (drawn whole part rest all : List ℕ) → whole ≡ part ++ rest → drawn ++ whole ≡ all → (drawn ++ part) ++ rest ≡ all
+drawn_more drawn whole part rest all is before = append_assoc drawn part rest ∙ (ap (λ z. drawn ++ z) (sym is) ∙ before)

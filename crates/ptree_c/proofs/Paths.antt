@@ -1,9 +1,13 @@
 -- What an entry begins with, from level to level.
-use Rattle.std.proofs.Common.{◌≡◌, ℕ, ◌+◌, ◌-◌, ◌<◌, Bool, List, [], ◌∷◌, ◌++◌, length, map, take, get_or, refl, sym, ap, ◌∙◌, append_assoc, arith}
+use Rattle.std.proofs.Common.{◌≡◌, ℕ, suc, ◌+◌, ◌-◌, ◌*◌, ◌<◌, ◌≤◌, Bool, true, false, List, [], ◌∷◌, ◌++◌, length, map, take, get_or, refl, sym, ap, ◌∙◌, subst, append_assoc, arith}
 use Rattle.std.proofs.Math.Seq.{take-append_seam}
-use Rattle.std.proofs.lemmas.List.{append-nil, length-append, map-append, take_more}
+use Rattle.std.proofs.Math.Nat.{mul-le-mul_right, suc-mul}
+use Rattle.std.proofs.lemmas.List.{append-nil, length-append, length-map, length-take-le, map-append, take_more}
+use Rattle.ptree.specs.Drawing.{Look}
 use Rattle.ptree.specs.Pieces.{Pieces, passing_piece, passing_all}
+use Rattle.ptree.specs.Style.{start_codes}
 use Rattle.ptree_c.specs.Fields.{is_set}
+use Rattle.ptree_c.specs.Pens.{widest}
 use Rattle.ptree_c.specs.Steps.{path_flags}
 
 -- the passing pieces of one level more
@@ -36,3 +40,29 @@ front_up p path start front n width h is w =
     let long : length front ≡ length rest + length piece = ap length parts ∙ length-append rest piece in
     let same : width ≡ length rest = omega (arith, w, long) in
     ap (λ n. take n front) same ∙ (ap (take (length rest)) parts ∙ take-append_seam rest piece)
+
+-- no passing piece is wider than the wider one
+piece_wide : (look : Look) (b : Bool) → length (passing_piece look.pieces b) ≤ widest look
+piece_wide look true = omega arith
+piece_wide look false = omega arith
+
+-- the passing pieces of as many levels
+passing_wide : (look : Look) (flags : List Bool) → length (passing_all look.pieces flags) ≤ length flags * widest look
+passing_wide look [] = omega arith
+passing_wide look (b ∷ flags) =
+    let more : length (passing_all look.pieces (b ∷ flags)) ≡ length (passing_piece look.pieces b) + length (passing_all look.pieces flags) =
+    length-append (passing_piece look.pieces b) (passing_all look.pieces flags) in
+    let times = suc-mul (length flags) (widest look) in
+    omega (arith, more, times, piece_wide look b, passing_wide look flags)
+
+-- there is room for the piece of one level more
+pub room_down : (look : Look) (path front : List ℕ) (n level most : ℕ) (b : Bool) → n < level → level ≤ length path → front ≡ start_codes look.branch ++ passing_all look.pieces (path_flags path n)
+    → level * widest look + length (start_codes look.branch) ≤ most → length front + length (passing_piece look.pieces b) ≤ most
+room_down look path front n level most b h deep is room =
+    let flags : List Bool = path_flags path n in
+    let many : length flags ≡ n = length-map (take n path) is_set ∙ length-take-le n path (omega (arith, h, deep)) in
+    let long : length front ≡ length (start_codes look.branch) + length (passing_all look.pieces flags) = ap length is ∙ length-append (start_codes look.branch) (passing_all look.pieces flags) in
+    let wide : length (passing_all look.pieces flags) ≤ n * widest look = subst (λ m. length (passing_all look.pieces flags) ≤ m * widest look) many (passing_wide look flags) in
+    let times = suc-mul n (widest look) in
+    let more : suc n * widest look ≤ level * widest look = mul-le-mul_right (widest look) h in
+    omega (arith, long, wide, times, more, piece_wide look b, room)

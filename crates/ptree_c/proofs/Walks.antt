@@ -4,6 +4,7 @@ use Rattle.std.proofs.Math.Seq.{drop-cons, take-append_seam}
 use Rattle.std.proofs.lemmas.Bool.{eq-eqb, false≢true}
 use Rattle.std.proofs.lemmas.List.{append-nil, length-append, length-take-le, length-drop, take_more}
 use Rattle.ptree.specs.Drawing.{Look}
+use Rattle.ptree_c.specs.Fields.{is_set}
 use Rattle.ptree_c.specs.Steps.{path_flags, path_with, path_after, step_entry, steps_text}
 use Rattle.ptree_c.specs.declared.steps.Step.{Step}
 
@@ -47,3 +48,9 @@ with_length path level last h = at (eqb level 0) refl where
       let low : 0 < level = omega (arith, some) in
       let front : length (take (level - 1) path) ≡ level - 1 = length-take-le (level - 1) path (omega arith) in
       omega (arith, length-append (take (level - 1) path) (last ∷ drop level path), front, length-drop level path)
+
+-- the flags above an item are those of the path after it
+pub above_same : (path new : List ℕ) (s : Step) (level : ℕ) → level ≡ s.level - 1 → s.level ≤ length path → new ≡ path_with path s.level s.is_last → path_flags new level ≡ path_flags path level
+above_same path new s level above h is =
+    ap (path_flags new) above
+    ∙ (ap (λ p. map is_set (take (s.level - 1) p)) is ∙ (ap (map is_set) (with_above path s.level s.is_last h) ∙ sym (ap (path_flags path) above)))

@@ -1,6 +1,7 @@
 -- The items of an outline as steps: which of them are last children, and which are drawn down to a depth.
 use Rattle.std.specs.Prelude.{◌≡◌, ◌<◌, ◌≤◌, ℕ, suc, Bool, false, not, nat_lt, nat_eq, if◌then◌else◌, List, [], ◌∷◌, get_or}
 use Rattle.ptree_c.specs.Fields.{is_set}
+use Rattle.ptree_c.specs.Steps.{path_with}
 use Rattle.ptree_c.specs.declared.items.Item.{Item}
 use Rattle.ptree_c.specs.declared.steps.Step.{Step}
 
@@ -37,6 +38,15 @@ step_of from i last = record { text = record { start = from; end = i.end }; leve
 -- an item before others, unless it is deeper than a depth
 abbrev pub kept_before : ℕ → Step → List Step → List Step
 kept_before depth s steps = if nat_lt depth s.level then steps else s ∷ steps
+
+-- a path after an item, unless it is deeper than a depth
+abbrev pub kept_path : ℕ → List ℕ → Step → List ℕ
+kept_path depth path s = if nat_lt depth s.level then path else path_with path s.level s.is_last
+
+-- no item down to the depth is at a deeper level than this one
+abbrev pub AreLow : ℕ → ℕ → List Item → Type 0
+AreLow depth level [] = Unit {0}
+AreLow depth level (i ∷ items) = (i.level ≤ depth → i.level ≤ level) × AreLow depth level items
 
 -- the items that are drawn down to a depth, each with its flag, where the first one's text begins at place from
 abbrev pub steps_from : ℕ → ℕ → List Item → List ℕ → List Step

@@ -1,8 +1,10 @@
 -- What a brush and a pen hold.
-use Rattle.std.specs.Prelude.{◌≡◌, ◌≤◌, ℕ, List, ◌++◌, length}
-use Rattle.ptree.specs.Drawing.{Look, written_look}
-use Rattle.ptree.specs.Pieces.{passing_all}
-use Rattle.ptree.specs.Style.{start_codes}
+use Rattle.std.specs.Prelude.{◌≡◌, ◌≤◌, ◌+◌, ◌*◌, ℕ, Bool, false, true, Option, max, List, [], ◌∷◌, ◌++◌, length}
+use Rattle.ptree.specs.Drawing.{Look, with_inserted, written_look}
+use Rattle.ptree.specs.Looks.{own_text, below_piece}
+use Rattle.ptree.specs.Pieces.{passing_piece, passing_all}
+use Rattle.ptree.specs.Style.{start_codes, end_codes}
+use Rattle.ptree.specs.Texts.{line_feed}
 use Rattle.ptree_c.specs.Steps.{path_flags}
 use Rattle.ptree_c.specs.declared.brush.Brush.{Brush}
 use Rattle.ptree_c.specs.declared.pen.Pen.{Pen}
@@ -15,3 +17,20 @@ brush_look brush = written_look brush.config.now
 abbrev pub HoldsPath : Brush → List ℕ → Pen → Type 0
 HoldsPath brush path pen =
     (pen.level ≤ length path) × (pen.front.items ≡ start_codes (brush_look brush).branch ++ passing_all (brush_look brush).pieces (path_flags path pen.level))
+
+-- the length of the longer passing piece
+abbrev pub widest : Look → ℕ
+widest look = max (length (passing_piece look.pieces false)) (length (passing_piece look.pieces true))
+
+-- the front of a pen has room for as many levels
+abbrev pub HasRoom : Brush → ℕ → Pen → Type 0
+HasRoom brush levels pen = levels * widest (brush_look brush) + length (start_codes (brush_look brush).branch) ≤ pen.front.cap
+
+-- what is inserted after each line feed of an item's text, which is below a front
+abbrev pub inserted_below : Look → List ℕ → Option Bool → List ℕ
+inserted_below look front own = front ++ (below_piece look.pieces own ++ look.mark ++ end_codes look.branch)
+
+-- the entry of an item behind a front
+abbrev pub entry_behind : Look → List ℕ → Option Bool → List ℕ → List ℕ
+entry_behind look front own text =
+    ((front ++ (own_text look own ++ start_codes look.leaf)) ++ with_inserted (inserted_below look front own) text) ++ (end_codes look.leaf ++ line_feed ∷ [])

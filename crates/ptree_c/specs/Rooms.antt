@@ -1,6 +1,14 @@
 -- What a call leaves in the memory of its caller.
-use Rattle.std.specs.Prelude.{List, ◌++◌, length, take, drop}
+use Rattle.std.specs.Prelude.{◌≡◌, ◌≤◌, ℕ, List, ◌++◌, length, take, drop}
 
 -- the values, as many as there is room for, and then what was there
 abbrev pub filled : {A : Type 0} → List A → List A → List A
 filled room values = take (length room) values ++ drop (length values) room
+
+-- a number of bytes that can be reported
+abbrev pub IsSize : ℕ → Type 0
+IsSize n = n ≤ 18446744073709551615
+
+-- the room was filled with these bytes, which end at this place
+abbrev pub IsFilled : List ℕ → List ℕ → List ℕ → ℕ → Type 0
+IsFilled room bytes out at = (out ≡ filled room bytes) × (at ≡ length bytes)

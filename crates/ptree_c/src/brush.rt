@@ -71,13 +71,13 @@ pub(crate) struct Brush<'a> {
     child: Vec<u8>,
     last_child: Vec<u8>,
     pub(crate) end: Vec<u8>,
-    further: Vec<u8>,
+    pub(crate) further: Vec<u8>,
     ghost texts: { AreTexts (written_look config.now) (pieces_of pieces) start.items root.items
         child.items last_child.items end.items further.items },
 }
 
 impl<'a> Brush<'a> {
-    ghost use Rattle.ptree_c.specs.Pens.{brush_look};
+    ghost use Rattle.ptree_c.specs.Pens.{brush_look, widest};
 
     /// Makes the texts of a configuration, for output into memory.
     pub(crate) fn new(alloc: Global, config: &'a PrintConfig) -> Result<Brush<'a>, AllocError>
@@ -126,20 +126,22 @@ impl<'a> Brush<'a> {
         }
     }
 
-    /// What is before the further lines of a root (`None`) or of a child, after what its parents'
-    /// levels put there.
-    pub(crate) fn before_further(
-        &self,
-        alloc: Global,
-        own: Option<bool>,
-    ) -> Result<Vec<u8>, AllocError>
-        ensures { IfOk result (λ text. text.items
-            ≡ below_piece (brush_look self.now).pieces own
-            ++ (brush_look self.now).mark ++ end_codes (brush_look self.now).branch) }
+    /// The passing piece of an item; of a root (`None`) none.
+    #[inline(always)]
+    pub(crate) fn below(&self, own: Option<bool>) -> &[u8]
+        ensures { result.now ≡ below_piece (brush_look self.now).pieces own }
     {
         match own {
-            None => joined(alloc, b"", &self.further),
-            Some(is_last) => joined(alloc, self.passing(is_last), &self.further),
+            None => b"",
+            Some(is_last) => self.passing(is_last),
         }
+    }
+
+    /// The length of the longer passing piece.
+    #[inline(always)]
+    pub(crate) fn widest(&self) -> usize
+        ensures { result ≡ widest (brush_look self.now) }
+    {
+        self.passing(false).len().max(self.passing(true).len())
     }
 }

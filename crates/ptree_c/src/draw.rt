@@ -1,48 +1,53 @@
 //! Draws items.
-ghost use Rattle.std.specs.Prelude.{◌≡◌, ◌<◌, ℕ, List, IfOk, length};
+ghost use Rattle.std.specs.Prelude.{◌≡◌, ◌<◌, ℕ, List, IfOk, OnErr, length};
 ghost use Rattle.ptree_c.specs.Calls.{IsItemsDrawing};
 ghost use Rattle.ptree_c.specs.Fields.{depth_of, look_of};
 ghost use Rattle.ptree_c.specs.Presets.{look_at};
-ghost use Rattle.ptree_c.specs.Rooms.{filled};
+ghost use Rattle.ptree_c.specs.Rooms.{filled, IsFilled};
 
-use crate::answer::{put_bytes, refuse};
+use crate::answer::{refuse, report};
 use crate::fields::{ConfigFields, config_of_fields};
 use crate::items::Item;
-use crate::outline::drawing_of_items;
+use crate::outline::draw_outline;
 use crate::preset::config;
 use crate::refusal::Refusal;
 use crate::room::Found;
 use std::alloc::Global;
 
-// The drawing of items as a preset does.
-fn drawing_by_preset(
+// Draws items as a preset does, and returns the length of the drawing.
+fn draw_by_preset(
     alloc: Global,
     items: &[Item],
     texts: &[u8],
     preset: u32,
     depth: u32,
-) -> Result<Vec<u8>, Refusal>
-    ensures { IfOk result (λ drawing.
-        IsItemsDrawing (look_at preset depth) depth items.now texts.now drawing.items) }
+    out: &mut [u8],
+) -> Result<usize, Refusal>
+    ensures drawn { IfOk result (λ size. (drawing : List ℕ)
+        × IsItemsDrawing (look_at preset depth) depth items.now texts.now drawing
+        × IsFilled out.old drawing out.new size) }
+    ensures kept { OnErr result (out.new ≡ out.old) }
 {
     let config = config(alloc, preset, depth)?;
-    drawing_of_items(alloc, items, texts, &config)
+    draw_outline(alloc, items, texts, &config, out)
 }
 
-// The drawing of items as fields say.
-fn drawing_by_fields(
+// Draws items as fields say, and returns the length of the drawing.
+fn draw_by_fields(
     alloc: Global,
     items: &[Item],
     texts: &[u8],
     fields: &ConfigFields,
     names: &[u8],
-) -> Result<Vec<u8>, Refusal>
-    ensures { IfOk result (λ drawing.
-        IsItemsDrawing (look_of names.now fields.now) (depth_of names.now fields.now) items.now texts.now
-        drawing.items) }
+    out: &mut [u8],
+) -> Result<usize, Refusal>
+    ensures drawn { IfOk result (λ size. (drawing : List ℕ)
+        × IsItemsDrawing (look_of names.now fields.now) (depth_of names.now fields.now) items.now
+        texts.now drawing × IsFilled out.old drawing out.new size) }
+    ensures kept { OnErr result (out.new ≡ out.old) }
 {
     let config = config_of_fields(alloc, names, fields)?;
-    drawing_of_items(alloc, items, texts, &config)
+    draw_outline(alloc, items, texts, &config, out)
 }
 
 /// Draws items into `out`, as much as there is room for, down to a depth, as a preset does. `found`
@@ -62,8 +67,8 @@ pub extern "C" fn ptree_draw(
         × (out.new ≡ filled out.old drawing) × (found.new.bytes ≡ length drawing) }
     ensures kept { 0 < result → out.new ≡ out.old }
 {
-    match drawing_by_preset(alloc, items, texts, preset, depth) {
-        Ok(drawing) => put_bytes(&drawing, items.len(), out, found),
+    match draw_by_preset(alloc, items, texts, preset, depth, out) {
+        Ok(size) => report(size, items.len(), found),
         Err(refusal) => refuse(refusal, found),
     }
 }
@@ -85,8 +90,8 @@ pub extern "C" fn ptree_draw_with(
         texts.now drawing × (out.new ≡ filled out.old drawing) × (found.new.bytes ≡ length drawing) }
     ensures kept { 0 < result → out.new ≡ out.old }
 {
-    match drawing_by_fields(alloc, items, texts, config, names) {
-        Ok(drawing) => put_bytes(&drawing, items.len(), out, found),
+    match draw_by_fields(alloc, items, texts, config, names, out) {
+        Ok(size) => report(size, items.len(), found),
         Err(refusal) => refuse(refusal, found),
     }
 }

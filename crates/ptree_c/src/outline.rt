@@ -1,20 +1,20 @@
 //! Draws the items of an outline without making their tree.
-ghost use Rattle.std.specs.Prelude.{◌≡◌, ◌∷◌, ◌++◌, List, not, length, IfOk, OnOk};
+ghost use Rattle.std.specs.Prelude.{◌≡◌, ◌≤◌, ◌+◌, ◌∷◌, ◌++◌, [], ℕ, List, not, length, IfOk, IfSome, OnOk, OnErr};
 ghost use Rattle.ptree.specs.Drawing.{written_look};
 ghost use Rattle.ptree_c.specs.Calls.{IsItemsDrawing};
 ghost use Rattle.ptree_c.specs.Fields.{is_set};
-ghost use Rattle.ptree_c.specs.Outlines.{has_later_item, AreLater, AreLastFlags, AreItems, kept_before, steps_from};
-ghost use Rattle.ptree_c.specs.Pens.{HoldsPath, brush_look};
+ghost use Rattle.ptree_c.specs.Outlines.{has_later_item, AreLater, AreLastFlags, AreItems, AreLow, kept_before, kept_path, steps_from};
+ghost use Rattle.ptree_c.specs.Pens.{HoldsPath, HasRoom, brush_look};
+ghost use Rattle.ptree_c.specs.Rooms.{filled, IsFilled, IsSize};
 ghost use Rattle.ptree_c.specs.Steps.{steps_text};
 ghost use Rattle.ptree_c.specs.declared.items.Item.{Item};
-ghost use Rattle.ptree_c.specs.declared.steps.Step.{Step};
 
 use crate::brush::Brush;
 use crate::fields::{Part, flag};
 use crate::items::Item;
 use crate::pen::Pen;
 use crate::refusal::Refusal;
-use crate::steps::{Step, Stop, add_step};
+use crate::steps::{Step, put_step, set_flag, width_of_step};
 use crate::texts::Texts;
 use ptree::PrintConfig;
 use std::alloc::{AllocError, Global};
@@ -87,62 +87,57 @@ fn last_flags(alloc: Global, items: &[Item]) -> Result<Vec<u8>, AllocError>
     Ok(flags)
 }
 
-// Draws the item at a place, unless it is deeper than a depth.
-fn draw_item(
-    drawn: &mut Vec<u8>,
+// Adds the length of an item's entry, unless the item is deeper than a depth. None if there are too
+// many bytes for any memory.
+fn measure_item(
     pen: &mut Pen,
-    alloc: Global,
     brush: &Brush<'_>,
     path: &mut [u8],
     texts: &Texts<'_>,
     step: &Step,
-    place: usize,
     depth: u32,
-) -> Result<(), Refusal>
-    requires { HoldsPath brush.now path.old pen.old }
-    ensures text { (steps : List Step) → OnOk result (drawn.new.items
-        ++ steps_text (brush_look brush.now) texts.now.bytes.now path.new steps
-        ≡ drawn.old.items ++ steps_text (brush_look brush.now) texts.now.bytes.now path.old
-        (kept_before depth step.now steps)) }
-    ensures held { OnOk result (HoldsPath brush.now path.new pen.new) }
+    size: usize,
+) -> Option<usize>
+    requires held { HoldsPath brush.now path.old pen.old }
+    requires room { HasRoom brush.now (length path.old) pen.old }
+    requires low { step.now.level ≤ depth → step.now.level ≤ length path.old }
+    ensures size { IfSome result (λ n. n ≡ size + length (steps_text (brush_look brush.now)
+        texts.now.bytes.now path.old (kept_before depth step.now []))) }
+    ensures path { IfSome result (λ _. path.new ≡ kept_path depth path.old step.now) }
+    ensures held { IfSome result (λ _. HoldsPath brush.now path.new pen.new) }
+    ensures room { HasRoom brush.now (length path.new) pen.new }
 {
     if step.level > depth {
-        return Ok(());
+        return Some(size);
     }
-    match add_step(
-        drawn,
-        pen,
-        alloc,
-        brush,
-        path,
-        texts,
-        step,
-        place,
-        usize::MAX,
-    ) {
-        Ok(()) => Ok(()),
-        Err(Stop::Refused(refusal)) => Err(refusal),
-        Err(_) => Err(Refusal::Memory),
-    }
+    pen.go_to(brush, path, (step.level as usize).saturating_sub(1));
+    let width = width_of_step(pen, brush, texts, step)?;
+    let end = size.checked_add(width)?;
+    set_flag(path, step.level, step.is_last);
+    Some(end)
 }
 
-// Draws items down to a depth, each with its flag.
-fn draw_items(
-    alloc: Global,
+// The length of the drawing of items down to a depth, each with its flag. None if it is too long for
+// any memory.
+fn measure_items(
+    pen: &mut Pen,
     brush: &Brush<'_>,
+    path: &mut [u8],
+    texts: &Texts<'_>,
     items: &[Item],
     flags: &[u8],
-    texts: &Texts<'_>,
-    path: &mut [u8],
     depth: u32,
-) -> Result<Vec<u8>, Refusal>
-    requires { length flags.now ≡ length items.now }
-    ensures { IfOk result (λ drawn. drawn.items
-        ≡ steps_text (brush_look brush.now) texts.now.bytes.now path.old
-        (steps_from depth 0 items.now flags.now)) }
+) -> Option<usize>
+    requires held { HoldsPath brush.now path.old pen.old }
+    requires room { HasRoom brush.now (length path.old) pen.old }
+    requires low { AreLow depth (length path.old) items.now }
+    requires flags { length flags.now ≡ length items.now }
+    ensures size { IfSome result (λ n. n ≡ length (steps_text (brush_look brush.now)
+        texts.now.bytes.now path.old (steps_from depth 0 items.now flags.now))) }
+    ensures held { IfSome result (λ _. HoldsPath brush.now path.new pen.new) }
+    ensures room { HasRoom brush.now (length path.new) pen.new }
 {
-    let mut pen = Pen::new(alloc, brush)?;
-    let mut drawn = Vec::new(alloc);
+    let mut size = 0;
     let mut from = 0;
     for place in 0..items.len() {
         let item = items[place];
@@ -154,24 +149,123 @@ fn draw_items(
             level: item.level,
             is_last: flags[place],
         };
-        draw_item(
-            &mut drawn, &mut pen, alloc, brush, path, texts, &step, place, depth,
-        )?;
+        size = measure_item(pen, brush, path, texts, &step, depth, size)?;
         from = item.end;
     }
-    Ok(drawn)
+    Some(size)
 }
 
-/// The drawing of items.
-pub(crate) fn drawing_of_items(
+// Draws an item behind the bytes that end at a place, unless it is deeper than a depth, and returns
+// where its entry ends.
+fn draw_item(
+    pen: &mut Pen,
+    brush: &Brush<'_>,
+    path: &mut [u8],
+    texts: &Texts<'_>,
+    step: &Step,
+    depth: u32,
+    out: &mut [u8],
+    at: usize,
+) -> usize
+    requires held { HoldsPath brush.now path.old pen.old }
+    requires room { HasRoom brush.now (length path.old) pen.old }
+    requires low { step.now.level ≤ depth → step.now.level ≤ length path.old }
+    requires size { IsSize (at + length (steps_text (brush_look brush.now)
+        texts.now.bytes.now path.old (kept_before depth step.now []))) }
+    ensures filled { (room before : List ℕ) → IsFilled room before out.old at
+        → IsFilled room (before ++ steps_text (brush_look brush.now)
+        texts.now.bytes.now path.old (kept_before depth step.now [])) out.new result }
+    ensures path { path.new ≡ kept_path depth path.old step.now }
+    ensures held { HoldsPath brush.now path.new pen.new }
+    ensures room { HasRoom brush.now (length path.new) pen.new }
+{
+    if step.level > depth {
+        return at;
+    }
+    pen.go_to(brush, path, (step.level as usize).saturating_sub(1));
+    put_step(pen, brush, path, texts, step, out, at)
+}
+
+// Draws items down to a depth, each with its flag, as much as there is room for.
+fn draw_items(
+    pen: &mut Pen,
+    brush: &Brush<'_>,
+    path: &mut [u8],
+    texts: &Texts<'_>,
+    items: &[Item],
+    flags: &[u8],
+    depth: u32,
+    out: &mut [u8],
+)
+    requires held { HoldsPath brush.now path.old pen.old }
+    requires room { HasRoom brush.now (length path.old) pen.old }
+    requires low { AreLow depth (length path.old) items.now }
+    requires flags { length flags.now ≡ length items.now }
+    requires size { IsSize (length (steps_text (brush_look brush.now)
+        texts.now.bytes.now path.old (steps_from depth 0 items.now flags.now))) }
+    ensures { out.new ≡ filled out.old (steps_text (brush_look brush.now)
+        texts.now.bytes.now path.old (steps_from depth 0 items.now flags.now)) }
+{
+    let mut at = 0;
+    let mut from = 0;
+    for place in 0..items.len() {
+        let item = items[place];
+        let step = Step {
+            text: Part {
+                start: from,
+                end: item.end,
+            },
+            level: item.level,
+            is_last: flags[place],
+        };
+        at = draw_item(pen, brush, path, texts, &step, depth, out, at);
+        from = item.end;
+    }
+}
+
+// Finds the length of a drawing, draws it as far as there is room, and returns the length.
+fn draw_by_brush(
+    alloc: Global,
+    brush: &Brush<'_>,
+    path: &mut [u8],
+    texts: &Texts<'_>,
+    items: &[Item],
+    flags: &[u8],
+    depth: u32,
+    out: &mut [u8],
+) -> Result<usize, AllocError>
+    requires low { AreLow depth (length path.old) items.now }
+    requires flags { length flags.now ≡ length items.now }
+    requires same { (p q : List ℕ) → length p ≡ length path.old → length q ≡ length path.old
+        → steps_text (brush_look brush.now) texts.now.bytes.now p
+        (steps_from depth 0 items.now flags.now)
+        ≡ steps_text (brush_look brush.now) texts.now.bytes.now q
+        (steps_from depth 0 items.now flags.now) }
+    ensures filled { IfOk result (IsFilled out.old (steps_text (brush_look brush.now)
+        texts.now.bytes.now path.old (steps_from depth 0 items.now flags.now)) out.new) }
+    ensures kept { OnErr result (out.new ≡ out.old) }
+{
+    let mut pen = Pen::new(alloc, brush)?;
+    pen.make_room(brush, path.len())?;
+    let Some(size) = measure_items(&mut pen, brush, path, texts, items, flags, depth) else {
+        return Err(AllocError);
+    };
+    draw_items(&mut pen, brush, path, texts, items, flags, depth, out);
+    Ok(size)
+}
+
+/// Draws items, as much as there is room for, and returns the length of the drawing.
+pub(crate) fn draw_outline(
     alloc: Global,
     items: &[Item],
     texts: &[u8],
     config: &PrintConfig,
-) -> Result<Vec<u8>, Refusal>
-    ensures { IfOk result (λ drawing.
-        IsItemsDrawing (written_look config.now) config.now.depth items.now texts.now
-        drawing.items) }
+    out: &mut [u8],
+) -> Result<usize, Refusal>
+    ensures drawn { IfOk result (λ size. (drawing : List ℕ)
+        × IsItemsDrawing (written_look config.now) config.now.depth items.now texts.now drawing
+        × IsFilled out.old drawing out.new size) }
+    ensures kept { OnErr result (out.new ≡ out.old) }
 {
     let known = Texts::new(texts);
     let deepest = deepest_of_items(items, &known)?;
@@ -179,13 +273,14 @@ pub(crate) fn drawing_of_items(
     let mut path = Vec::new(alloc);
     path.resize(deepest.min(config.depth) as usize, 0)?;
     let brush = Brush::new(alloc, config)?;
-    draw_items(
+    Ok(draw_by_brush(
         alloc,
         &brush,
+        &mut path,
+        &known,
         items,
         &flags,
-        &known,
-        &mut path,
         config.depth,
-    )
+        out,
+    )?)
 }

@@ -1,23 +1,22 @@
 //! Draws items one by one, each by its level and by the flags of what it is below.
-ghost use Rattle.std.specs.Prelude.{◌≡◌, ◌≤◌, ◌++◌, Bool, false, List, ℕ, length, IfOk, OnOk};
+ghost use Rattle.std.specs.Prelude.{◌≡◌, ◌≤◌, ◌+◌, ◌++◌, ◌∷◌, [], false, List, ℕ, length, IfOk, IfSome, OnOk};
 ghost use Rattle.ptree.specs.Drawing.{with_inserted};
 ghost use Rattle.ptree.specs.Looks.{below_piece};
-ghost use Rattle.ptree.specs.Pieces.{passing_all};
-ghost use Rattle.ptree.specs.Style.{start_codes, end_codes};
+ghost use Rattle.ptree.specs.Style.{end_codes};
 ghost use Rattle.ptree.specs.Texts.{HasNoLineFeed};
-ghost use Rattle.ptree_c.specs.Pens.{HoldsPath, brush_look};
-ghost use Rattle.ptree_c.specs.Steps.{entry_below};
+ghost use Rattle.ptree_c.specs.Pens.{HoldsPath, HasRoom, brush_look, inserted_below, entry_behind};
+ghost use Rattle.ptree_c.specs.Rooms.{IsFilled, IsSize};
 
-use crate::brush::{Brush, joined};
+use crate::brush::Brush;
 use crate::fields::flag;
+use crate::room::put;
 use std::alloc::{AllocError, Global};
 
-/// What an entry begins with at some level, and the last entry.
+/// What an entry begins with at some level.
 #[derive(Drop)]
 pub(crate) struct Pen {
     front: Vec<u8>,
     level: usize,
-    pub(crate) entry: Vec<u8>,
 }
 
 impl Pen {
@@ -27,11 +26,22 @@ impl Pen {
     {
         let mut front = Vec::new(alloc);
         front.extend_from_slice(&brush.start)?;
-        Ok(Pen {
-            front,
-            level: 0,
-            entry: Vec::new(alloc),
-        })
+        Ok(Pen { front, level: 0 })
+    }
+
+    /// Makes room for as many levels.
+    pub(crate) fn make_room(&mut self, brush: &Brush<'_>, levels: usize) -> Result<(), AllocError>
+        ensures held { (path : List ℕ) → HoldsPath brush.now path self.old
+            → HoldsPath brush.now path self.new }
+        ensures room { OnOk result (HasRoom brush.now levels self.new) }
+    {
+        let Some(wide) = levels.checked_mul(brush.widest()) else {
+            return Err(AllocError);
+        };
+        let Some(size) = wide.checked_add(brush.start.len()) else {
+            return Err(AllocError);
+        };
+        self.front.reserve(size.saturating_sub(self.front.len()))
     }
 
     // Goes up to a level, if it is above the present one.
@@ -39,6 +49,7 @@ impl Pen {
         requires { HoldsPath brush.now path.now self.old }
         ensures held { HoldsPath brush.now path.now self.new }
         ensures level { self.new.level ≤ level }
+        ensures room { self.new.front.cap ≡ self.old.front.cap }
     {
         while self.level > level {
             let above = self.level - 1;
@@ -50,102 +61,230 @@ impl Pen {
     }
 
     // Goes down to a level, if it is below the present one.
-    fn go_down(&mut self, brush: &Brush<'_>, path: &[u8], level: usize) -> Result<(), AllocError>
+    fn go_down(&mut self, brush: &Brush<'_>, path: &[u8], level: usize)
         requires held { HoldsPath brush.now path.now self.old }
         requires level { level ≤ length path.now }
-        ensures held { OnOk result (HoldsPath brush.now path.now self.new) }
-        ensures level { self.old.level ≤ level → OnOk result (self.new.level ≡ level) }
+        requires room { HasRoom brush.now level self.old }
+        ensures held { HoldsPath brush.now path.now self.new }
+        ensures level { self.old.level ≤ level → self.new.level ≡ level }
+        ensures room { self.old.front.cap ≤ self.new.front.cap }
     {
         while self.level < level {
             let piece = brush.passing(flag(path[self.level]));
-            self.front.extend_from_slice(piece)?;
+            match self.front.extend_from_slice(piece) {
+                Ok(()) => {}
+                // (there is room)
+                Err(_) => return,
+            }
             self.level += 1;
         }
-        Ok(())
     }
 
     /// Goes to the level below which the next item is.
-    pub(crate) fn go_to(
-        &mut self,
-        brush: &Brush<'_>,
-        path: &[u8],
-        level: usize,
-    ) -> Result<(), AllocError>
+    pub(crate) fn go_to(&mut self, brush: &Brush<'_>, path: &[u8], level: usize)
         requires held { HoldsPath brush.now path.now self.old }
         requires level { level ≤ length path.now }
-        ensures held { OnOk result (HoldsPath brush.now path.now self.new) }
-        ensures level { OnOk result (self.new.level ≡ level) }
+        requires room { HasRoom brush.now level self.old }
+        ensures held { HoldsPath brush.now path.now self.new }
+        ensures level { self.new.level ≡ level }
+        ensures room { self.old.front.cap ≤ self.new.front.cap }
     {
         self.go_up(brush, path, level);
-        self.go_down(brush, path, level)
+        self.go_down(brush, path, level);
     }
 
-    /// Makes the entry of an item that is below the present level. `has_line_feed` says whether its
-    /// text may have several lines.
-    pub(crate) fn draw(
-        &mut self,
-        alloc: Global,
+    /// The length of the entry of an item that is below the present level, or none if it is beyond
+    /// any memory. `has_line_feed` says whether its text may have several lines.
+    #[inline(always)]
+    pub(crate) fn width(
+        &self,
         brush: &Brush<'_>,
         own: Option<bool>,
         text: &[u8],
         has_line_feed: bool,
-    ) -> Result<(), AllocError>
+    ) -> Option<usize>
         requires { has_line_feed ≡ false → HasNoLineFeed text.now }
-        ensures entry { (above : List Bool)
-            → self.old.front.items ≡ start_codes (brush_look brush.now).branch
-            ++ passing_all (brush_look brush.now).pieces above
-            → OnOk result
-            (self.new.entry.items ≡ entry_below (brush_look brush.now) above own text.now) }
-        ensures front { self.new.front.items ≡ self.old.front.items }
-        ensures level { self.new.level ≡ self.old.level }
+        ensures { IfSome result (λ n.
+            n ≡ length (entry_behind (brush_look brush.now) self.now.front.items own text.now)) }
     {
-        self.entry.clear();
-        self.entry.extend_from_slice(&self.front)?;
-        self.entry.extend_from_slice(brush.before(own))?;
-        self.put_text(alloc, brush, own, text, has_line_feed)?;
-        self.entry.extend_from_slice(&brush.end)?;
-        Ok(())
+        let front = self.front.len().checked_add(brush.before(own).len())?;
+        let around = front.checked_add(brush.end.len())?;
+        let width = around.checked_add(self.text_width(brush, own, text, has_line_feed)?)?;
+        Some(width)
+    }
+
+    // The length of an item's text with what belongs before each of its further lines.
+    #[inline(always)]
+    fn text_width(
+        &self,
+        brush: &Brush<'_>,
+        own: Option<bool>,
+        text: &[u8],
+        has_line_feed: bool,
+    ) -> Option<usize>
+        requires { has_line_feed ≡ false → HasNoLineFeed text.now }
+        ensures { IfSome result (λ n. n ≡ length (with_inserted
+            (inserted_below (brush_look brush.now) self.now.front.items own) text.now)) }
+    {
+        if !has_line_feed {
+            return Some(text.len());
+        }
+        lines_width(text, &self.front, brush.below(own), &brush.further)
+    }
+
+    /// Puts the entry of an item that is below the present level behind the bytes that end at a
+    /// place, as much as there is room for, and returns where it ends. `has_line_feed` says whether
+    /// its text may have several lines.
+    #[inline(always)]
+    pub(crate) fn draw(
+        &self,
+        brush: &Brush<'_>,
+        own: Option<bool>,
+        text: &[u8],
+        has_line_feed: bool,
+        out: &mut [u8],
+        at: usize,
+    ) -> usize
+        requires feeds { has_line_feed ≡ false → HasNoLineFeed text.now }
+        requires size { IsSize (at
+            + length (entry_behind (brush_look brush.now) self.now.front.items own text.now)) }
+        ensures filled { (room before : List ℕ) → IsFilled room before out.old at
+            → IsFilled room
+            (before ++ entry_behind (brush_look brush.now) self.now.front.items own text.now)
+            out.new result }
+        ensures end { result ≡ at
+            + length (entry_behind (brush_look brush.now) self.now.front.items own text.now) }
+    {
+        let before = put(out, at, &self.front);
+        let start = put(out, before, brush.before(own));
+        let end = self.put_text(brush, own, text, has_line_feed, out, start);
+        put(out, end, &brush.end)
     }
 
     // Puts the text of an item, and before each of its further lines what belongs there.
+    #[inline(always)]
     fn put_text(
-        &mut self,
-        alloc: Global,
+        &self,
         brush: &Brush<'_>,
         own: Option<bool>,
         text: &[u8],
         has_line_feed: bool,
-    ) -> Result<(), AllocError>
-        requires { has_line_feed ≡ false → HasNoLineFeed text.now }
-        ensures entry { OnOk result (self.new.entry.items ≡ self.old.entry.items
-            ++ with_inserted
-            (self.old.front.items ++ (below_piece (brush_look brush.now).pieces own
-            ++ (brush_look brush.now).mark ++ end_codes (brush_look brush.now).branch))
-            text.now) }
-        ensures front { self.new.front.items ≡ self.old.front.items }
-        ensures level { self.new.level ≡ self.old.level }
+        out: &mut [u8],
+        at: usize,
+    ) -> usize
+        requires feeds { has_line_feed ≡ false → HasNoLineFeed text.now }
+        requires size { IsSize (at + length (with_inserted
+            (inserted_below (brush_look brush.now) self.now.front.items own) text.now)) }
+        ensures filled { (room before : List ℕ) → IsFilled room before out.old at
+            → IsFilled room (before ++ with_inserted
+            (inserted_below (brush_look brush.now) self.now.front.items own) text.now)
+            out.new result }
+        ensures end { result ≡ at + length (with_inserted
+            (inserted_below (brush_look brush.now) self.now.front.items own) text.now) }
     {
         if has_line_feed {
-            let further = brush.before_further(alloc, own)?;
-            let inserted = joined(alloc, &self.front, &further)?;
-            append_lines(&mut self.entry, text, &inserted)
+            put_lines(out, at, text, &self.front, brush.below(own), &brush.further)
         } else {
-            self.entry.extend_from_slice(text)?;
-            Ok(())
+            put(out, at, text)
         }
     }
 }
 
-// Appends a text with another one inserted after each of its line feeds.
-fn append_lines(entry: &mut Vec<u8>, text: &[u8], inserted: &[u8]) -> Result<(), AllocError>
-    ensures { OnOk result
-        (entry.new.items ≡ entry.old.items ++ with_inserted inserted.now text.now) }
+// The length of a byte, and after a line feed of the text that is inserted. None if it is beyond any
+// memory.
+fn byte_width(byte: u8, inserted: usize) -> Option<usize>
+    ensures { (further : List ℕ) → inserted ≡ length further
+        → IfSome result (λ n. n ≡ length (with_inserted further (byte ∷ []))) }
 {
-    for byte in text {
-        entry.push(*byte)?;
-        if *byte == b'\n' {
-            entry.extend_from_slice(inserted)?;
-        }
+    if byte == b'\n' {
+        inserted.checked_add(1)
+    } else {
+        Some(1)
     }
-    Ok(())
+}
+
+// The length of three texts. None if it is beyond any memory.
+fn three_width(first: &[u8], second: &[u8], third: &[u8]) -> Option<usize>
+    ensures { IfSome result (λ n. n ≡ length (first.now ++ (second.now ++ third.now))) }
+{
+    let two = first.len().checked_add(second.len())?;
+    let three = two.checked_add(third.len())?;
+    Some(three)
+}
+
+// The length of a text with another one of a length inserted after each of its line feeds. None if it
+// is beyond any memory.
+fn spread_width(text: &[u8], inserted: usize) -> Option<usize>
+    ensures { (further : List ℕ) → inserted ≡ length further
+        → IfSome result (λ n. n ≡ length (with_inserted further text.now)) }
+{
+    let mut width: usize = 0;
+    for byte in text {
+        width = width.checked_add(byte_width(*byte, inserted)?)?;
+    }
+    Some(width)
+}
+
+// The length of a text with three others inserted after each of its line feeds. None if it is beyond
+// any memory.
+#[inline(never)]
+fn lines_width(text: &[u8], front: &[u8], below: &[u8], further: &[u8]) -> Option<usize>
+    ensures { IfSome result (λ n.
+        n ≡ length (with_inserted (front.now ++ (below.now ++ further.now)) text.now)) }
+{
+    let inserted = three_width(front, below, further)?;
+    spread_width(text, inserted)
+}
+
+// Puts a byte, and after a line feed three texts.
+fn put_byte(
+    out: &mut [u8],
+    at: usize,
+    byte: u8,
+    front: &[u8],
+    below: &[u8],
+    further: &[u8],
+) -> usize
+    requires { IsSize (at
+        + length (with_inserted (front.now ++ (below.now ++ further.now)) (byte ∷ []))) }
+    ensures filled { (room before : List ℕ) → IsFilled room before out.old at
+        → IsFilled room
+        (before ++ with_inserted (front.now ++ (below.now ++ further.now)) (byte ∷ []))
+        out.new result }
+    ensures end { result ≡ at
+        + length (with_inserted (front.now ++ (below.now ++ further.now)) (byte ∷ [])) }
+{
+    let end = put(out, at, &[byte]);
+    if byte != b'\n' {
+        return end;
+    }
+    let first = put(out, end, front);
+    let second = put(out, first, below);
+    put(out, second, further)
+}
+
+// Puts a text with three others inserted after each of its line feeds.
+#[inline(never)]
+fn put_lines(
+    out: &mut [u8],
+    at: usize,
+    text: &[u8],
+    front: &[u8],
+    below: &[u8],
+    further: &[u8],
+) -> usize
+    requires { IsSize (at
+        + length (with_inserted (front.now ++ (below.now ++ further.now)) text.now)) }
+    ensures filled { (room before : List ℕ) → IsFilled room before out.old at
+        → IsFilled room
+        (before ++ with_inserted (front.now ++ (below.now ++ further.now)) text.now)
+        out.new result }
+    ensures end { result ≡ at
+        + length (with_inserted (front.now ++ (below.now ++ further.now)) text.now) }
+{
+    let mut end = at;
+    for byte in text {
+        end = put_byte(out, end, *byte, front, below, further);
+    }
+    end
 }

@@ -1,6 +1,6 @@
 //! Puts a result into the memory of the caller.
-ghost use Rattle.std.specs.Prelude.{◌≡◌};
-ghost use Rattle.ptree_c.specs.Rooms.{filled};
+ghost use Rattle.std.specs.Prelude.{◌≡◌, ◌+◌, ◌++◌, ℕ, List, length};
+ghost use Rattle.ptree_c.specs.Rooms.{filled, IsFilled, IsSize};
 
 /// What a call found: how many bytes and items there are, or the place of what was refused.
 #[repr(C)]
@@ -26,4 +26,20 @@ pub(crate) fn fill<T: Copy>(out: &mut [T], from: &[T])
     } else {
         out.copy_from_slice(&from[..out.len()]);
     }
+}
+
+/// Puts bytes behind those that end at a place, as many as there is room for, and returns where
+/// they end.
+#[inline(always)]
+pub(crate) fn put(out: &mut [u8], at: usize, bytes: &[u8]) -> usize
+    requires { IsSize (at + length bytes.now) }
+    ensures filled { (room before : List ℕ) → IsFilled room before out.old at
+        → IsFilled room (before ++ bytes.now) out.new result }
+    ensures end { result ≡ at + length bytes.now }
+{
+    if at >= out.len() {
+        return at + bytes.len();
+    }
+    fill(&mut out[at..], bytes);
+    at + bytes.len()
 }

@@ -1,11 +1,11 @@
 //! Draws items that are given one by one, as many at once as the caller likes.
-ghost use Rattle.std.specs.Prelude.{◌≡◌, ◌≢◌, ◌≤◌, ◌<◌, ◌+◌, ◌-◌, ◌++◌, ℕ, length, take, IfOk, IfErr, OnOk, OnErr, ◌⊎◌};
+ghost use Rattle.std.specs.Prelude.{◌≡◌, ◌≢◌, ◌≤◌, ◌<◌, ◌+◌, ◌-◌, ◌++◌, ℕ, List, length, take, IfOk, IfErr, IfSome, OnOk, OnErr, ◌⊎◌};
 ghost use Rattle.ptree_c.specs.Fields.{look_of};
 ghost use Rattle.ptree_c.specs.Pens.{HoldsPath, brush_look};
-ghost use Rattle.ptree_c.specs.Rooms.{filled};
+ghost use Rattle.ptree_c.specs.Rooms.{filled, IsFilled, IsSize};
 ghost use Rattle.ptree_c.specs.Steps.{own_flag, path_with, path_after, step_entry, steps_text, DrawsTrees, DrawsParts};
 
-use crate::answer::{put_bytes, refuse};
+use crate::answer::refuse;
 use crate::brush::Brush;
 use crate::fields::{ConfigFields, Part, config_of_fields, flag};
 use crate::pen::Pen;
@@ -28,16 +28,16 @@ pub struct Step {
     pub is_last: u8,
 }
 
-/// Why no more items were drawn.
+// Why no more items were drawn.
 #[derive(Debug, Clone, Copy)]
-pub(crate) enum Stop {
-    /// All were drawn.
+enum Stop {
+    // All were drawn.
     All,
 
-    /// The next entry, of so many bytes, does not fit.
+    // The next entry, of so many bytes, does not fit.
     Full(usize),
 
-    /// The next item is refused.
+    // The next item is refused.
     Refused(Refusal),
 }
 
@@ -52,8 +52,8 @@ fn own_flag(step: &Step) -> Option<bool>
     }
 }
 
-// Sets the flag of a level. A root has none.
-fn set_flag(path: &mut [u8], level: u32, is_last: u8)
+/// Sets the flag of a level. A root has none.
+pub(crate) fn set_flag(path: &mut [u8], level: u32, is_last: u8)
     requires { level ≤ length path.old }
     ensures { path.new ≡ path_with path.old level is_last }
 {
@@ -62,19 +62,69 @@ fn set_flag(path: &mut [u8], level: u32, is_last: u8)
     }
 }
 
-// Makes the entry of the item at a place.
-fn draw_step(
+/// The length of an item's entry, or none if it is beyond any memory. The pen is at the level above
+/// the item.
+#[inline(always)]
+pub(crate) fn width_of_step(
+    pen: &Pen,
+    brush: &Brush<'_>,
+    texts: &Texts<'_>,
+    step: &Step,
+) -> Option<usize>
+    requires { pen.now.level ≡ step.now.level - 1 }
+    ensures { (path : List ℕ) → HoldsPath brush.now path pen.now → IfSome result (λ n.
+        n ≡ length (step_entry (brush_look brush.now) texts.now.bytes.now path step.now)) }
+{
+    let text = texts.part(step.text);
+    let has_line_feed = texts.has_line_feed(step.text, text);
+    pen.width(brush, own_flag(step), text, has_line_feed)
+}
+
+/// Puts an item's entry behind the bytes that end at a place, as much as there is room for, sets its
+/// flag in the path, and returns where it ends. The pen is at the level above the item.
+#[inline(always)]
+pub(crate) fn put_step(
+    pen: &Pen,
+    brush: &Brush<'_>,
+    path: &mut [u8],
+    texts: &Texts<'_>,
+    step: &Step,
+    out: &mut [u8],
+    at: usize,
+) -> usize
+    requires held { HoldsPath brush.now path.old pen.now }
+    requires level { pen.now.level ≡ step.now.level - 1 }
+    requires within { step.now.level ≤ length path.old }
+    requires size { IsSize (at
+        + length (step_entry (brush_look brush.now) texts.now.bytes.now path.old step.now)) }
+    ensures filled { (room before : List ℕ) → IsFilled room before out.old at
+        → IsFilled room
+        (before ++ step_entry (brush_look brush.now) texts.now.bytes.now path.old step.now)
+        out.new result }
+    ensures end { result ≡ at
+        + length (step_entry (brush_look brush.now) texts.now.bytes.now path.old step.now) }
+    ensures path { path.new ≡ path_with path.old step.now.level step.now.is_last }
+    ensures held { HoldsPath brush.now path.new pen.now }
+{
+    let text = texts.part(step.text);
+    let has_line_feed = texts.has_line_feed(step.text, text);
+    let end = pen.draw(brush, own_flag(step), text, has_line_feed, out, at);
+    set_flag(path, step.level, step.is_last);
+    end
+}
+
+// Goes to the item at a place, and returns the length of its entry.
+fn reach_step(
     pen: &mut Pen,
-    alloc: Global,
     brush: &Brush<'_>,
     path: &[u8],
     texts: &Texts<'_>,
     step: &Step,
     place: usize,
-) -> Result<(), Refusal>
+) -> Result<usize, Refusal>
     requires { HoldsPath brush.now path.now pen.old }
-    ensures entry { OnOk result (pen.new.entry.items
-        ≡ step_entry (brush_look brush.now) texts.now.bytes.now path.now step.now) }
+    ensures width { IfOk result (λ n. n
+        ≡ length (step_entry (brush_look brush.now) texts.now.bytes.now path.now step.now)) }
     ensures held { OnOk result (HoldsPath brush.now path.now pen.new) }
     ensures level { OnOk result (pen.new.level ≡ step.now.level - 1) }
     ensures within { OnOk result (step.now.level ≤ length path.now) }
@@ -83,57 +133,52 @@ fn draw_step(
     if level > path.len() {
         return Err(Refusal::Level(place));
     }
-    let text = texts.at(step.text, place)?;
-    let has_line_feed = texts.has_line_feed(step.text, text);
-    pen.go_to(brush, path, level.saturating_sub(1))?;
-    pen.draw(alloc, brush, own_flag(step), text, has_line_feed)?;
-    Ok(())
+    texts.at(step.text, place)?;
+    pen.make_room(brush, level.saturating_sub(1))?;
+    pen.go_to(brush, path, level.saturating_sub(1));
+    match width_of_step(pen, brush, texts, step) {
+        Some(width) => Ok(width),
+        None => Err(Refusal::Memory),
+    }
 }
 
-/// Draws the item at a place, if there is room for its entry, and sets its flag in the path.
-pub(crate) fn add_step(
-    drawn: &mut Vec<u8>,
+// Draws the item at a place, if there is room for its entry, and sets its flag in the path. Returns
+// where the entry ends.
+fn add_step(
     pen: &mut Pen,
-    alloc: Global,
     brush: &Brush<'_>,
     path: &mut [u8],
     texts: &Texts<'_>,
     step: &Step,
     place: usize,
-    room: usize,
-) -> Result<(), Stop>
+    out: &mut [u8],
+    at: usize,
+) -> Result<usize, Stop>
     requires held { HoldsPath brush.now path.old pen.old }
-    requires room { length drawn.old.items ≤ room }
-    ensures bytes { OnOk result (drawn.new.items ≡ drawn.old.items
-        ++ step_entry (brush_look brush.now) texts.now.bytes.now path.old step.now) }
+    requires room { at ≤ length out.old }
+    ensures filled { (room before : List ℕ) → IsFilled room before out.old at
+        → IfOk result (λ end. IsFilled room
+        (before ++ step_entry (brush_look brush.now) texts.now.bytes.now path.old step.now)
+        out.new end) }
     ensures path { OnOk result
         (path.new ≡ path_with path.old step.now.level step.now.is_last) }
-    ensures kept { OnErr result ((drawn.new.items ≡ drawn.old.items) × (path.new ≡ path.old)) }
+    ensures kept { OnErr result ((out.new ≡ out.old) × (path.new ≡ path.old)) }
     ensures held { OnOk result (HoldsPath brush.now path.new pen.new) }
-    ensures room { length drawn.new.items ≤ room }
-    ensures full { IfErr result (λ stop. (n : ℕ) → stop ≡ Stop.Full n
-        → room < length drawn.old.items + n) }
+    ensures room { IfOk result (λ end. end ≤ length out.old) }
+    ensures full { IfErr result (λ stop. (n : ℕ) → stop ≡ Stop.Full n → length out.old < at + n) }
     ensures stopped { IfErr result (λ stop. stop ≢ Stop.All) }
 {
-    match draw_step(pen, alloc, brush, path, texts, step, place) {
-        Ok(()) => {}
-        Err(refusal) => return Err(Stop::Refused(refusal)),
+    match reach_step(pen, brush, path, texts, step, place) {
+        Ok(width) if width > out.len() - at => Err(Stop::Full(width)),
+        Ok(_) => Ok(put_step(pen, brush, path, texts, step, out, at)),
+        Err(refusal) => Err(Stop::Refused(refusal)),
     }
-    if pen.entry.len() > room - drawn.len() {
-        return Err(Stop::Full(pen.entry.len()));
-    }
-    match drawn.extend_from_slice(&pen.entry) {
-        Ok(()) => {}
-        Err(_) => return Err(Stop::Refused(Refusal::Memory)),
-    }
-    set_flag(path, step.level, step.is_last);
-    Ok(())
 }
 
-// What was drawn, of how many items, and why it ended there.
-#[derive(Drop)]
+// How many bytes were drawn, of how many items, and why it ended there.
+#[derive(Debug, Clone, Copy)]
 struct Drawn {
-    bytes: Vec<u8>,
+    bytes: usize,
     items: usize,
     stop: Stop,
 }
@@ -145,28 +190,27 @@ fn draw_steps(
     path: &mut [u8],
     texts: &[u8],
     steps: &[Step],
-    room: usize,
+    out: &mut [u8],
 ) -> Result<Drawn, AllocError>
     ensures items { IfOk result (λ d. d.items ≤ length steps.now) }
-    ensures bytes { IfOk result (λ d. d.bytes.items
-        ≡ steps_text (brush_look brush.now) texts.now path.old (take d.items steps.now)) }
-    ensures room { IfOk result (λ d. length d.bytes.items ≤ room) }
+    ensures filled { IfOk result (λ d. IsFilled out.old
+        (steps_text (brush_look brush.now) texts.now path.old (take d.items steps.now))
+        out.new d.bytes) }
+    ensures room { IfOk result (λ d. d.bytes ≤ length out.old) }
     ensures path { IfOk result (λ d. path.new ≡ path_after path.old (take d.items steps.now)) }
-    ensures kept { OnErr result (path.new ≡ path.old) }
+    ensures kept { OnErr result ((out.new ≡ out.old) × (path.new ≡ path.old)) }
     ensures all { IfOk result (λ d. d.stop ≡ Stop.All → d.items ≡ length steps.now) }
     ensures full { IfOk result (λ d. (n : ℕ) → d.stop ≡ Stop.Full n
-        → room < length d.bytes.items + n) }
+        → length out.old < d.bytes + n) }
 {
     let known = Texts::new(texts);
     let mut pen = Pen::new(alloc, brush)?;
-    let mut bytes = Vec::new(alloc);
+    let mut bytes = 0;
     let mut items = 0;
     let mut rest = steps;
     while let Some((step, tail)) = rest.split_first() {
-        match add_step(
-            &mut bytes, &mut pen, alloc, brush, path, &known, step, items, room,
-        ) {
-            Ok(()) => {}
+        match add_step(&mut pen, brush, path, &known, step, items, out, bytes) {
+            Ok(end) => bytes = end,
             Err(stop) => return Ok(Drawn { bytes, items, stop }),
         }
         items += 1;
@@ -187,35 +231,39 @@ fn draw_by_fields(
     path: &mut [u8],
     texts: &[u8],
     steps: &[Step],
-    room: usize,
+    out: &mut [u8],
 ) -> Result<Drawn, Refusal>
     ensures items { IfOk result (λ d. d.items ≤ length steps.now) }
-    ensures bytes { IfOk result (λ d. d.bytes.items
-        ≡ steps_text (look_of names.now fields.now) texts.now path.old (take d.items steps.now)) }
-    ensures room { IfOk result (λ d. length d.bytes.items ≤ room) }
+    ensures filled { IfOk result (λ d. IsFilled out.old
+        (steps_text (look_of names.now fields.now) texts.now path.old (take d.items steps.now))
+        out.new d.bytes) }
+    ensures room { IfOk result (λ d. d.bytes ≤ length out.old) }
     ensures path { IfOk result (λ d. path.new ≡ path_after path.old (take d.items steps.now)) }
-    ensures kept { OnErr result (path.new ≡ path.old) }
+    ensures kept { OnErr result ((out.new ≡ out.old) × (path.new ≡ path.old)) }
     ensures all { IfOk result (λ d. d.stop ≡ Stop.All → d.items ≡ length steps.now) }
     ensures full { IfOk result (λ d. (n : ℕ) → d.stop ≡ Stop.Full n
-        → room < length d.bytes.items + n) }
+        → length out.old < d.bytes + n) }
 {
     let config = config_of_fields(alloc, names, fields)?;
     let brush = Brush::new(alloc, &config)?;
-    Ok(draw_steps(alloc, &brush, path, texts, steps, room)?)
+    Ok(draw_steps(alloc, &brush, path, texts, steps, out)?)
 }
 
-// Puts what was drawn into the memory of the caller.
-fn put_drawn(drawn: &Drawn, out: &mut [u8], found: &mut Found) -> u32
-    ensures bytes { out.new ≡ filled out.old drawn.now.bytes.items }
-    ensures length { found.new.bytes ≡ length drawn.now.bytes.items }
-    ensures items { found.new.items ≡ drawn.now.items }
+// Reports what was drawn.
+fn report(drawn: Drawn, found: &mut Found) -> u32
+    ensures length { found.new.bytes ≡ drawn.bytes }
+    ensures items { found.new.items ≡ drawn.items }
     ensures all { result ≡ 0 → found.new.place ≡ 0
-        → (drawn.now.stop ≡ Stop.All) ⊎ (drawn.now.stop ≡ Stop.Full 0) }
-    ensures full { result ≡ 0 → 0 < found.new.place → drawn.now.stop ≡ Stop.Full found.new.place }
+        → (drawn.stop ≡ Stop.All) ⊎ (drawn.stop ≡ Stop.Full 0) }
+    ensures full { result ≡ 0 → 0 < found.new.place → drawn.stop ≡ Stop.Full found.new.place }
 {
-    put_bytes(&drawn.bytes, drawn.items, out, found);
+    found.bytes = drawn.bytes;
+    found.items = drawn.items;
     match drawn.stop {
-        Stop::All => 0,
+        Stop::All => {
+            found.place = 0;
+            0
+        }
         Stop::Full(length) => {
             found.place = length;
             0
@@ -258,8 +306,8 @@ pub extern "C" fn ptree_draw_steps(
     ensures trees { DrawsTrees (look_of names.now config.now) texts.now }
     ensures parts { DrawsParts (look_of names.now config.now) texts.now }
 {
-    match draw_by_fields(alloc, config, names, path, texts, steps, out.len()) {
-        Ok(drawn) => put_drawn(&drawn, out, found),
+    match draw_by_fields(alloc, config, names, path, texts, steps, out) {
+        Ok(drawn) => report(drawn, found),
         Err(refusal) => refuse(refusal, found),
     }
 }

@@ -48,6 +48,16 @@ impl<'a> Texts<'a> {
         Ok(())
     }
 
+    /// Returns the text of an item, as far as it lies within the texts.
+    #[inline(always)]
+    pub(crate) fn part(&self, part: Part) -> &'a [u8]
+        ensures { result.now ≡ part_text self.now.bytes.now part }
+    {
+        let end = part.end.min(self.bytes.len());
+        let start = part.start.min(end);
+        &self.bytes[start..end]
+    }
+
     /// Whether the text of an item holds a line feed.
     #[inline(always)]
     pub(crate) fn has_line_feed(&self, part: Part, text: &[u8]) -> bool

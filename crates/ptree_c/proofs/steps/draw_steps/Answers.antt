@@ -1,5 +1,6 @@
-use Rattle.std.proofs.Common.{◌≡◌, ◌++◌, ◌+◌, take, length, sym, ap, ◌∙◌, arith}
+use Rattle.std.proofs.Common.{◌≡◌, ◌++◌, ◌+◌, take, length, sym, ap, ◌∙◌, subst, arith}
 use Rattle.ptree_c.specs.Pens.{brush_look}
+use Rattle.ptree_c.specs.Rooms.{IsFilled}
 use Rattle.ptree_c.specs.Steps.{path_after, path_with, step_entry, steps_text}
 use Rattle.ptree_c.proofs.Walks.{after_more, text_more, next_of}
 use Rattle.ptree_c.proofs.steps.draw_steps.Goals as goal
@@ -16,14 +17,15 @@ loop-step-preserved c =
     let inv = c.loop-step.invariant in
     let n = c.loop-step.items in
     let s = c.in-Some.step.now in
+    let so_far = steps_text look texts path (take n steps) in
     let next = next_of steps n s c.in-Some.tail.now (sym c.in-Some.ensures.cases.0 ∙ inv.left) in
+    let text = ap (λ t. so_far ++ step_entry look t c.loop-step.path s) c.new-known.ensures
+    ∙ (ap (λ p. so_far ++ step_entry look texts p s) inv.path ∙ (sym (text_more look texts path (take n steps) s) ∙ ap (steps_text look texts path) (sym next.1))) in
     record {
       within = omega (arith, next.0);
       left = sym next.2;
-      bytes = c.in-Ok.ensures.bytes ∙ (ap (λ t. c.loop-step.bytes.items ++ step_entry look t c.loop-step.path s) c.new-known.ensures ∙ ap (λ z. z ++ step_entry look texts c.loop-step.path s) inv.bytes
-          ∙ (ap (λ p. steps_text look texts path (take n steps) ++ step_entry look texts p s) inv.path
-          ∙ (sym (text_more look texts path (take n steps) s) ∙ ap (steps_text look texts path) (sym next.1))));
+      filled = subst (λ z. IsFilled c.args.out.now z c.add_step.new.out c.in-Ok.end) text (c.in-Ok.ensures.filled c.args.out.now so_far inv.filled);
       path = c.in-Ok.ensures.path ∙ (ap (λ p. path_with p s.level s.is_last) inv.path ∙ (sym (after_more path (take n steps) s) ∙ ap (path_after path) (sym next.1)));
       held = c.in-Ok.ensures.held;
-      room = c.add_step.ensures.room;
+      room = omega (arith, c.in-Ok.ensures.room, c.add_step.auto.out);
     }

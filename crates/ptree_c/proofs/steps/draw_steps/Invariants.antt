@@ -1,5 +1,6 @@
 use Rattle.std.proofs.Common.{◌≡◌, ◌≤◌, length, take, drop}
 use Rattle.ptree_c.specs.Pens.{HoldsPath, brush_look}
+use Rattle.ptree_c.specs.Rooms.{IsFilled}
 use Rattle.ptree_c.specs.Steps.{path_after, steps_text}
 use Rattle.ptree_c.proofs.steps.draw_steps.Given as goal
 
@@ -8,10 +9,10 @@ abbrev pub invariant-loop-step : goal.invariant-loop-step
 invariant-loop-step l = record {
   within : l.items ≤ length l.steps;
   left : l.rest ≡ drop l.items l.steps;
-  bytes : l.bytes.items ≡ steps_text (brush_look l.brush) l.texts l.fn.path (take l.items l.steps);
+  filled : IsFilled l.fn.out (steps_text (brush_look l.brush) l.texts l.fn.path (take l.items l.steps)) l.out l.bytes;
   path : l.path ≡ path_after l.fn.path (take l.items l.steps);
   held : HoldsPath l.brush l.path l.pen;
-  room : length l.bytes.items ≤ l.room;
+  room : l.bytes ≤ length l.out;
 }
 
 abbrev pub decreases-loop-step : goal.decreases-loop-step

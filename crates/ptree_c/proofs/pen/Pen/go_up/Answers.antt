@@ -14,10 +14,16 @@ loop-self-preserved c =
     let path = c.args.path.now in
     let front = c.loop-self.self.front in
     let n = c.loop-self.self.level - 1 in
-    let inv = c.loop-self.invariant in
+    let inv = c.loop-self.invariant.0 in
     let here : c.loop-self.self.level ≡ n + 1 = omega (arith, c.loop-self-test.true) in
     let piece = c.passing-piece.ensures ∙ ap (passing_piece p) c.flag.ensures in
     let width = c.saturating_sub-width.ensures ∙ (ap (λ m. m - length c.passing-piece.result.now) (c.len.ensures ∙ front.ok.0) ∙ ap (λ (z : List ℕ). length front.items - length z) piece) in (
-      omega (arith, inv.0),
-      c.truncate.ensures.items ∙ front_up p path start front.items n c.saturating_sub-width.result (omega (arith, c.loop-self-test.true, inv.0)) (inv.1 ∙ ap (λ m. start ++ passing_all p (path_flags path m)) here) width,
+      (
+        omega (arith, inv.0),
+        c.truncate.ensures.items ∙ front_up p path start front.items n c.saturating_sub-width.result (omega (arith, c.loop-self-test.true, inv.0)) (inv.1 ∙ ap (λ m. start ++ passing_all p (path_flags path m)) here) width,
+      ),
+      c.truncate.ensures.capacity ∙ c.loop-self.invariant.1,
     )
+
+pub returns-clause-room : goal.returns-clause-room
+returns-clause-room c = c.loop-self.invariant.1

@@ -1,0 +1,15 @@
+use Rattle.std.proofs.Common.{◌≡◌, ◌+◌, length, drop}
+use Rattle.ptree_c.specs.Outlines.{steps_from}
+use Rattle.ptree_c.specs.Pens.{HoldsPath, HasRoom, brush_look}
+use Rattle.ptree_c.specs.Steps.{steps_text}
+use Rattle.ptree_c.proofs.outline.measure_items.Given as goal
+
+-- the length so far and that of the entries that are left are all
+abbrev pub invariant-loop-place : goal.invariant-loop-place
+invariant-loop-place l = record {
+  size : l.size + length (steps_text (brush_look l.brush) l.texts.bytes.now l.path (steps_from l.depth l.from (drop l.place l.items) (drop l.place l.flags)))
+      ≡ length (steps_text (brush_look l.brush) l.texts.bytes.now l.fn.path (steps_from l.depth 0 l.items l.flags));
+  held : HoldsPath l.brush l.path l.pen;
+  room : HasRoom l.brush (length l.path) l.pen;
+  long : length l.path ≡ length l.fn.path;
+}
