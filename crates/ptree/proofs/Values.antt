@@ -1,7 +1,7 @@
 -- Values, their texts and their children.
 use Rattle.std.proofs.Common.{◌≡◌, ◌∙◌, ap, refl, rules, Box, Vec, Global, Some, List, [], ◌∷◌, map}
 use Rattle.ptree.specs.Data as d
-use Rattle.ptree.specs.Data.{Data, value_text, is_list, item_pairs, entry_pair, entry_pairs, value_pairs, Pair, pair_text, pair_own, pair_below, pair_shape}
+use Rattle.ptree.specs.Data.{Data, item_pairs, entry_pair, entry_pairs, value_pairs, Pair, pair_own, pair_below, pair_shape}
 use Rattle.ptree.specs.Shape.{kids}
 use Rattle.ptree.proofs.TreeLemmas.{map_twice}
 use Rattle.ptree.proofs.Unfold.{kids_of_unfold}

@@ -1,4 +1,4 @@
-use Rattle.std.proofs.Common.{◌∙◌, ap, option_copied}
+use Rattle.std.proofs.Common.{◌∙◌, ap}
 use Rattle.ptree.specs.Fields.{table_key}
 use Rattle.ptree_trees.specs.Settings.{field_at}
 use Rattle.ptree_trees_callers.proofs.OwnNames.{own_key}
