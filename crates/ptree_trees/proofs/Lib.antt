@@ -14,6 +14,7 @@ pub mod PathGroups
 pub mod PathLoops
 pub mod PathTrees
 pub mod RefusedPaths
+pub mod RefusedRows
 pub mod RefusedSteps
 pub mod SortedPaths
 pub mod Sorting

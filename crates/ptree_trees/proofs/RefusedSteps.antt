@@ -12,7 +12,7 @@ use Rattle.toml.specs.View as toml_view
 use Rattle.toml.specs.declared.value.Value as toml_value
 use Rattle.ptree_trees.specs.RefusedPath.{Path, json_at_step, IsFloat, IsFirstFloat, toml_at_step, IsFloatOrDate, IsFirstFloatOrDate}
 use Rattle.ptree_trees.specs.RefusedWalk.{element_rows, member_rows, IsFirstIn}
-use Rattle.ptree_trees.proofs.RefusedPaths.{first_in_list, first_in_members}
+use Rattle.ptree_trees.proofs.RefusedRows.{first_in_list, first_in_members}
 
 -- the first float in a list of JSON
 pub first_in_json_list : (vs : List json_value.Value) (path : Option Path) → IsFirstIn json_at_step IsFloat (element_rows 0 (map json_view.view vs)) path

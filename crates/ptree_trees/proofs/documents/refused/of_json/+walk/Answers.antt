@@ -10,7 +10,8 @@ use Rattle.serde_json.specs.declared.value.Value.{the_lemmas}
 use Rattle.ptree_trees.specs.declared.documents.refused.Step.TheVariants.{Key, Position}
 use Rattle.ptree_trees.specs.RefusedPath.{at_key, at_position, step_of, json_at_step, IsFloat, IsFirstFloat}
 use Rattle.ptree_trees.specs.RefusedWalk.{path_found, element_rows, member_rows}
-use Rattle.ptree_trees.proofs.RefusedPaths.{none_in_leaf, first_of_kind, one_row_passed, next_row_found, all_rows_passed, found_below, elements_after, members_after}
+use Rattle.ptree_trees.proofs.RefusedPaths.{none_in_leaf, first_of_kind, one_row_passed, next_row_found, all_rows_passed, found_below}
+use Rattle.ptree_trees.proofs.RefusedRows.{elements_after, members_after}
 use Rattle.ptree_trees.proofs.RefusedSteps.{first_in_json_list, first_in_json_members, float_here, no_float_here}
 use Rattle.ptree_trees.proofs.documents.refused.of_json.+walk.Goals as goal
 
