@@ -23,7 +23,8 @@ pub fn write_tree<T: TreeItem, W: Write>(item: &T, f: W) -> io::Result<()> {
 /// Draws an item and all below it, down to the configured depth, to a writer.
 ///
 /// Items are asked for in the order of drawing, and written in blocks. An error of an item comes after the items before it are written.
-/// Memory holds one block, and what the items on the way to the current one need. The stack grows with the levels.
+/// Memory holds one block, or the text and the entry of an item that is longer, and what the items on the way to the current one need.
+/// The stack grows with the levels.
 pub fn write_tree_with<T: TreeItem, W: Write>(item: &T, f: W, config: &PrintConfig) -> io::Result<()> {
     draw(item, f, config, OutputKind::Unknown)
 }

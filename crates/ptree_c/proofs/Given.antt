@@ -1,14 +1,13 @@
 -- The items of a tree, given one by one, are drawn as the tree.
-use Rattle.std.proofs.Common.{◌≡◌, ℕ, zero, suc, ◌+◌, ◌-◌, ◌<◌, ◌≤◌, inl, inr, Bool, true, false, not, cond, eqb, Option, Some, None, List, [], ◌∷◌, ◌++◌, length, map, take, drop, refl, sym, ap, ◌∙◌, subst, append_assoc, arith}
+use Rattle.std.proofs.Common.{◌≡◌, ℕ, zero, suc, ◌-◌, ◌<◌, ◌≤◌, inl, inr, Bool, true, false, not, cond, eqb, Some, None, List, [], ◌∷◌, ◌++◌, length, map, take, drop, refl, sym, ap, ◌∙◌, subst, append_assoc, arith}
 use Rattle.std.proofs.Math.Seq.{take-append_seam}
-use Rattle.std.proofs.lemmas.Bool.{cases_lt, eq-eqb, ne_eqb, false≢true}
-use Rattle.std.proofs.lemmas.List.{append-nil, length-append, length-take-le, map-append, take-take}
-use Rattle.ptree.specs.Drawing.{Look, IsDrawing}
+use Rattle.std.proofs.lemmas.Bool.{cases_lt, ne_eqb, false≢true}
+use Rattle.std.proofs.lemmas.List.{length-append, length-take-le, map-append, take-take}
+use Rattle.ptree.specs.Drawing.{Look}
 use Rattle.ptree.specs.Flags.{has_later, last_flags, pieces_by, passing_by, shown_by}
-use Rattle.ptree.specs.Outline.{Line, line, outline, outline_at, Steps}
+use Rattle.ptree.specs.Outline.{Line, outline_at, Steps}
 use Rattle.ptree.specs.Pieces.{turning_piece, passing_piece, passing_all}
 use Rattle.ptree.specs.Spelled.{has_line_feed, text_entry}
-use Rattle.ptree.specs.Tree.{Tree, height, shape_of_tree}
 use Rattle.ptree.proofs.Levels.{lines_drawing, has_later_deeper, last_flags_same, entry_shown, tree_by_levels}
 use Rattle.ptree.proofs.SpelledForms.{Low, tree_steps, low_height}
 use Rattle.ptree.proofs.TreeDrawing.{drawing_of_tree}

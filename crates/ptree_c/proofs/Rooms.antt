@@ -1,8 +1,7 @@
 -- Results put into room in parts.
-use Rattle.std.proofs.Common.{◌≡◌, ℕ, zero, suc, ◌+◌, ◌-◌, ◌<◌, ◌≤◌, inl, inr, List, [], ◌∷◌, ◌++◌, length, take, drop, refl, sym, ap, ◌∙◌, append_assoc, arith}
+use Rattle.std.proofs.Common.{◌≡◌, ℕ, zero, suc, ◌+◌, ◌<◌, List, [], ◌∷◌, ◌++◌, length, take, drop, sym, ap, ◌∙◌, append_assoc, arith}
 use Rattle.std.proofs.Math.Seq.{take-append_seam, drop-append_seam}
-use Rattle.std.proofs.lemmas.Bool.{cases_lt}
-use Rattle.std.proofs.lemmas.List.{append-nil, length-append, length-drop, length-take, take_all, drop_all, drop-drop, take-append-le}
+use Rattle.std.proofs.lemmas.List.{append-nil, length-append, length-drop, length-take, take_all, drop-drop}
 use Rattle.ptree_c.specs.Rooms.{filled, IsFilled}
 
 -- a longer text, cut behind its first part

@@ -1,5 +1,5 @@
 -- The texts that are put around the texts of items.
-use Rattle.std.specs.Prelude.{◌≡◌, Bool, true, false, Option, Some, None, ℕ, List, [], ◌∷◌, ◌++◌}
+use Rattle.std.specs.Prelude.{◌≡◌, true, false, Some, None, ℕ, List, [], ◌∷◌, ◌++◌}
 use Rattle.ptree.specs.Drawing.{Look}
 use Rattle.ptree.specs.Looks.{own_text}
 use Rattle.ptree.specs.Pieces.{Pieces}

@@ -1,5 +1,5 @@
 //! The texts that are put around the texts of items.
-ghost use Rattle.std.specs.Prelude.{◌≡◌, ◌++◌, Bool, Some, true, false, IfOk};
+ghost use Rattle.std.specs.Prelude.{◌≡◌, ◌++◌, Some, true, false, IfOk};
 ghost use Rattle.ptree.specs.Drawing.{effective_style, written_look};
 ghost use Rattle.ptree.specs.Looks.{own_text, below_piece};
 ghost use Rattle.ptree.specs.Pieces.{passing_piece, pieces_of};

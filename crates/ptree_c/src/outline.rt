@@ -29,14 +29,14 @@ fn deepest_of_items(items: &[Item], texts: &Texts<'_>) -> Result<u32, Refusal>
     if root.level != 0 {
         return Err(Refusal::Level(0));
     }
-    texts.between(0, root.end, 0)?;
+    texts.check(0, root.end, 0)?;
     let mut from = root.end;
     let mut level = 0;
     let mut deepest = 0;
     let mut rest = below;
     while let Some((item, tail)) = rest.split_first() {
         let place = items.len().saturating_sub(rest.len());
-        texts.between(from, item.end, place)?;
+        texts.check(from, item.end, place)?;
         if item.level == 0 || item.level - 1 > level {
             return Err(Refusal::Level(place));
         }

@@ -1,8 +1,6 @@
 //! Draws items one by one, each by its level and by the flags of what it is below.
 ghost use Rattle.std.specs.Prelude.{◌≡◌, ◌≤◌, ◌+◌, ◌++◌, ◌∷◌, [], false, List, ℕ, length, IfOk, IfSome, OnOk};
 ghost use Rattle.ptree.specs.Drawing.{with_inserted};
-ghost use Rattle.ptree.specs.Looks.{below_piece};
-ghost use Rattle.ptree.specs.Style.{end_codes};
 ghost use Rattle.ptree.specs.Texts.{HasNoLineFeed};
 ghost use Rattle.ptree_c.specs.Pens.{HoldsPath, HasRoom, brush_look, inserted_below, entry_behind};
 ghost use Rattle.ptree_c.specs.Rooms.{IsFilled, IsSize};

@@ -3,11 +3,9 @@ ghost use Rattle.std.specs.Prelude.{◌≡◌, ◌<◌, ℕ, List, IfOk, IsErrOf
 ghost use Rattle.ptree.specs.Continuation.{EndsWrong, IsFirstWrongLine};
 ghost use Rattle.ptree.specs.Drawing.{written_look};
 ghost use Rattle.ptree.specs.DrawnForm.{IsDrawnForm};
-ghost use Rattle.ptree.specs.Outline.{outline};
-ghost use Rattle.ptree.specs.Tree.{Tree, tree_of};
+ghost use Rattle.ptree.specs.Tree.{tree_of};
 ghost use Rattle.ptree_c.specs.Calls.{AreItemsOf};
 ghost use Rattle.ptree_c.specs.Fields.{depth_of, look_of};
-ghost use Rattle.ptree_c.specs.Items.{items_from, joined_texts};
 ghost use Rattle.ptree_c.specs.Presets.{look_at};
 ghost use Rattle.ptree_c.specs.Rooms.{filled};
 

@@ -1,7 +1,6 @@
 //! Why a call did nothing, as an enum and as the number that C gets.
 ghost use Rattle.std.specs.Prelude.{◌≡◌, ◌<◌};
 ghost use Rattle.ptree_c.specs.Refusals.{refusal_number, refusal_place};
-ghost use Rattle.ptree_c.specs.Rooms.{filled};
 
 use crate::room::fill;
 use ptree::value::DocError;

@@ -133,7 +133,7 @@ fn reach_step(
     if level > path.len() {
         return Err(Refusal::Level(place));
     }
-    texts.at(step.text, place)?;
+    texts.check(step.text.start, step.text.end, place)?;
     pen.make_room(brush, level.saturating_sub(1))?;
     pen.go_to(brush, path, level.saturating_sub(1));
     match width_of_step(pen, brush, texts, step) {

@@ -1,5 +1,5 @@
 //! The texts of items.
-ghost use Rattle.std.specs.Prelude.{◌≡◌, false, IfOk};
+ghost use Rattle.std.specs.Prelude.{◌≡◌, false};
 ghost use Rattle.ptree.specs.Texts.{HasNoLineFeed};
 ghost use Rattle.ptree_c.specs.Fields.{part_text};
 
@@ -28,24 +28,16 @@ impl<'a> Texts<'a> {
         }
     }
 
-    /// Returns the text of the item at a place.
-    pub(crate) fn at(&self, part: Part, place: usize) -> Result<&'a [u8], Refusal>
-        ensures text { IfOk result (λ text. text.now ≡ part_text self.now.bytes.now part) }
-    {
-        let Some(text) = self.bytes.get(part.start..part.end) else {
+    /// Checks the text of the item at a place.
+    pub(crate) fn check(&self, start: usize, end: usize, place: usize) -> Result<(), Refusal> {
+        let Some(text) = self.bytes.get(start..end) else {
             return Err(Refusal::End(place));
         };
-        if self.is_text(part, text) {
-            Ok(text)
+        if self.is_text(start, end, text) {
+            Ok(())
         } else {
             Err(Refusal::Utf8(place))
         }
-    }
-
-    /// Checks the text of the item at a place.
-    pub(crate) fn between(&self, start: usize, end: usize, place: usize) -> Result<(), Refusal> {
-        self.at(Part { start, end }, place)?;
-        Ok(())
     }
 
     /// Returns the text of an item, as far as it lies within the texts.
@@ -69,8 +61,8 @@ impl<'a> Texts<'a> {
 
     // Whether a part is UTF-8. If all texts are, it is if characters begin at both ends.
     #[inline(always)]
-    fn is_text(&self, part: Part, text: &[u8]) -> bool {
-        if self.is_utf8 && self.starts_character(part.start) && self.starts_character(part.end) {
+    fn is_text(&self, start: usize, end: usize, text: &[u8]) -> bool {
+        if self.is_utf8 && self.starts_character(start) && self.starts_character(end) {
             return true;
         }
         str::from_utf8(text).is_ok()

@@ -1,4 +1,4 @@
-use Rattle.std.proofs.Common.{◌≡◌, ◌≤◌, ◌+◌, ◌++◌, ℕ, List, [], length, drop, get_or, refl, sym, ap, ◌∙◌, subst, arith}
+use Rattle.std.proofs.Common.{◌≡◌, ◌≤◌, ◌+◌, ◌++◌, ℕ, List, [], length, drop, get_or, refl, sym, ◌∙◌, subst}
 use Rattle.ptree_c.specs.Outlines.{step_of, kept_before, kept_path, steps_from}
 use Rattle.ptree_c.specs.Pens.{brush_look}
 use Rattle.ptree_c.specs.Steps.{steps_text}

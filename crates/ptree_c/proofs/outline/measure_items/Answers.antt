@@ -1,5 +1,5 @@
-use Rattle.std.proofs.Common.{◌≡◌, ◌≤◌, ◌+◌, ◌++◌, ℕ, List, [], length, drop, get_or, refl, sym, ap, ◌∙◌, subst, arith}
-use Rattle.ptree_c.specs.Outlines.{step_of, kept_before, kept_path, steps_from}
+use Rattle.std.proofs.Common.{◌≡◌, ◌≤◌, ◌+◌, ◌++◌, ℕ, List, [], length, drop, get_or, sym, ◌∙◌, subst}
+use Rattle.ptree_c.specs.Outlines.{step_of, kept_before, steps_from}
 use Rattle.ptree_c.specs.Pens.{brush_look}
 use Rattle.ptree_c.specs.Steps.{steps_text}
 use Rattle.ptree_c.specs.declared.items.Item.{Item}

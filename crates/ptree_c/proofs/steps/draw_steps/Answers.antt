@@ -1,4 +1,4 @@
-use Rattle.std.proofs.Common.{◌≡◌, ◌++◌, ◌+◌, take, length, sym, ap, ◌∙◌, subst, arith}
+use Rattle.std.proofs.Common.{◌++◌, take, sym, ap, ◌∙◌, subst, arith}
 use Rattle.ptree_c.specs.Pens.{brush_look}
 use Rattle.ptree_c.specs.Rooms.{IsFilled}
 use Rattle.ptree_c.specs.Steps.{path_after, path_with, step_entry, steps_text}

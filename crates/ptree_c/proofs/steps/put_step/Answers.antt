@@ -1,4 +1,4 @@
-use Rattle.std.proofs.Common.{◌≡◌, ◌+◌, ◌++◌, length, sym, ap, ◌∙◌, subst, arith}
+use Rattle.std.proofs.Common.{◌+◌, ◌++◌, length, sym, ap, ◌∙◌, subst, arith}
 use Rattle.ptree.specs.Pieces.{passing_all}
 use Rattle.ptree.specs.Style.{start_codes}
 use Rattle.ptree_c.specs.Pens.{brush_look}

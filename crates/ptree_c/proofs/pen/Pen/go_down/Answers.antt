@@ -1,4 +1,4 @@
-use Rattle.std.proofs.Common.{◌≡◌, ◌++◌, ℕ, List, length, ap, ◌∙◌, arith, rules}
+use Rattle.std.proofs.Common.{◌++◌, ℕ, List, length, ap, ◌∙◌, arith, rules}
 use Rattle.ptree.specs.Pieces.{passing_piece}
 use Rattle.ptree.specs.Style.{start_codes}
 use Rattle.ptree_c.specs.Pens.{brush_look}

@@ -1,4 +1,4 @@
-use Rattle.std.proofs.Common.{◌≡◌, ◌+◌, ◌-◌, ◌++◌, List, ℕ, Bool, length, take, ap, sym, ◌∙◌, arith}
+use Rattle.std.proofs.Common.{◌≡◌, ◌+◌, ◌-◌, ◌++◌, List, ℕ, length, ap, ◌∙◌, arith}
 use Rattle.ptree.specs.Pieces.{passing_piece, passing_all}
 use Rattle.ptree.specs.Style.{start_codes}
 use Rattle.ptree_c.specs.Pens.{brush_look}

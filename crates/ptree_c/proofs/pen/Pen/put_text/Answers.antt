@@ -1,4 +1,4 @@
-use Rattle.std.proofs.Common.{◌≡◌, ◌+◌, ◌++◌, length, sym, ap, ◌∙◌, subst, arith}
+use Rattle.std.proofs.Common.{◌+◌, ◌++◌, length, sym, ap, ◌∙◌, subst, arith}
 use Rattle.ptree.proofs.Inserted.{inserted_none}
 use Rattle.ptree_c.specs.Pens.{inserted_below, brush_look}
 use Rattle.ptree_c.specs.Rooms.{IsFilled}
