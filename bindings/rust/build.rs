@@ -19,7 +19,10 @@ fn main() {
 
 /// The folder of the library that pkg-config knows.
 fn folder_of_package() -> Option<String> {
-    let output = Command::new("pkg-config").args(["--variable=libdir", "ptree"]).output().ok()?;
+    let output = Command::new("pkg-config")
+        .args(["--variable=libdir", "ptree"])
+        .output()
+        .ok()?;
     let folder = String::from_utf8(output.stdout).ok()?.trim().to_string();
     (output.status.success() && !folder.is_empty()).then_some(folder)
 }

@@ -8,7 +8,7 @@ const TURN: &str = "├─ ";
 const LAST_TURN: &str = "└─ ";
 const PASS: &str = "│  ";
 const LAST_PASS: &str = "   ";
-const MARK: &str = ": ";
+const MARKER: &str = ": ";
 
 /// Draws a value under a label.
 pub fn draw<W: Write>(label: &str, value: &Value, out: &mut W) -> io::Result<()> {
@@ -31,7 +31,9 @@ fn draw_elements<W: Write>(items: &[Value], line: &mut Vec<u8>, out: &mut W) -> 
     let prefix = line.len();
     for (i, value) in items.iter().enumerate() {
         let last = i + 1 == items.len();
-        draw_child(value, last, prefix, line, out, |line| push_scalar(value, line))?;
+        draw_child(value, last, prefix, line, out, |line| {
+            push_scalar(value, line)
+        })?;
     }
     line.truncate(prefix);
     Ok(())
@@ -67,7 +69,11 @@ fn draw_child<W: Write>(
     out: &mut W,
     push: impl FnOnce(&mut Vec<u8>),
 ) -> io::Result<()> {
-    let (turn, pass) = if last { (LAST_TURN, LAST_PASS) } else { (TURN, PASS) };
+    let (turn, pass) = if last {
+        (LAST_TURN, LAST_PASS)
+    } else {
+        (TURN, PASS)
+    };
     line.truncate(prefix);
     push_text(turn, line);
     draw_entry(pass, prefix, line, out, push)?;
@@ -106,7 +112,7 @@ fn spread(front: usize, pass: &str, prefix: usize, line: &mut Vec<u8>) {
             line.push(b'\n');
             line.extend_from_within(..prefix);
             push_text(pass, line);
-            push_text(MARK, line);
+            push_text(MARKER, line);
         }
         line.extend_from_slice(part);
     }

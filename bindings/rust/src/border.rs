@@ -74,7 +74,13 @@ pub(crate) enum Expansion<'a> {
 }
 
 /// The drawing of a graph from the node at a place.
-pub(crate) fn draw_graph(nodes: &Nodes, start: usize, expansion: Expansion<'_>, config: &PrintConfig, is_styled: bool) -> io::Result<Vec<u8>> {
+pub(crate) fn draw_graph(
+    nodes: &Nodes,
+    start: usize,
+    expansion: Expansion<'_>,
+    config: &PrintConfig,
+    is_styled: bool,
+) -> io::Result<Vec<u8>> {
     let (fields, names) = fields_for(config, is_styled, &config.leaf);
     let guess = nodes.texts.len() + 16 * (nodes.ends.len() + nodes.edges.len());
     bytes_of(guess, |out, found| match expansion {
@@ -122,7 +128,10 @@ pub(crate) fn read(text: &str, config: &PrintConfig) -> io::Result<Outline> {
     let (fields, names) = fields_for(config, false, &Style::default());
     // There are no more items than line feeds, and no more bytes of texts than of the text.
     let lines = text.bytes().filter(|byte| *byte == b'\n').count();
-    let mut outline = Outline { items: room(lines)?, texts: room(text.len())? };
+    let mut outline = Outline {
+        items: room(lines)?,
+        texts: room(text.len())?,
+    };
     let mut found = Found::default();
     let refusal = unsafe {
         ptree_read_with(
@@ -147,7 +156,13 @@ pub(crate) fn read(text: &str, config: &PrintConfig) -> io::Result<Outline> {
 }
 
 /// The drawing of a document.
-pub(crate) fn draw_document(format: DocFormat, text: &str, label: &str, config: &PrintConfig, is_styled: bool) -> io::Result<Vec<u8>> {
+pub(crate) fn draw_document(
+    format: DocFormat,
+    text: &str,
+    label: &str,
+    config: &PrintConfig,
+    is_styled: bool,
+) -> io::Result<Vec<u8>> {
     let (fields, names) = fields_for(config, is_styled, &config.leaf);
     bytes_of(4 * text.len() + label.len() + 1, |out, found| unsafe {
         ptree_draw_document_with(
@@ -188,15 +203,23 @@ pub(crate) fn paint(style: &Style, text: &str) -> io::Result<String> {
 
 /// The configuration of a preset's number.
 pub(crate) fn preset(number: u32) -> io::Result<PrintConfig> {
-    config_from(|config, names, found| unsafe { ptree_config(number, config, names.as_mut_ptr(), names.len(), found) })
+    config_from(|config, names, found| unsafe {
+        ptree_config(number, config, names.as_mut_ptr(), names.len(), found)
+    })
 }
 
 /// The configuration of a file and of variables. There is none if a value is at fault.
-pub(crate) fn load(file: Option<(DocFormat, &str)>, variables: &[(String, String)]) -> io::Result<Option<PrintConfig>> {
+pub(crate) fn load(
+    file: Option<(DocFormat, &str)>,
+    variables: &[(String, String)],
+) -> io::Result<Option<PrintConfig>> {
     let mut texts = Vec::new();
     let mut fields = Vec::new();
     for (name, value) in variables {
-        fields.push(Variable { name: part_of(&mut texts, name), value: part_of(&mut texts, value) });
+        fields.push(Variable {
+            name: part_of(&mut texts, name),
+            value: part_of(&mut texts, value),
+        });
     }
     let (format, text) = match file {
         Some((format, text)) => (format_number(format), text),
@@ -249,7 +272,9 @@ fn bytes_of(expected: usize, call: impl Fn(&mut [u8], &mut Found) -> u32) -> io:
 }
 
 // The configuration whose fields a call makes.
-fn config_from(call: impl Fn(&mut ConfigFields, &mut [u8], &mut Found) -> u32) -> io::Result<PrintConfig> {
+fn config_from(
+    call: impl Fn(&mut ConfigFields, &mut [u8], &mut Found) -> u32,
+) -> io::Result<PrintConfig> {
     let mut found = Found::default();
     let mut fields = ConfigFields::default();
     let mut names = room(256)?;
@@ -267,7 +292,8 @@ fn config_from(call: impl Fn(&mut ConfigFields, &mut [u8], &mut Found) -> u32) -
 // Values that are not set yet. Out of memory is an error.
 fn room<T: Clone + Default>(count: usize) -> io::Result<Vec<T>> {
     let mut room = Vec::new();
-    room.try_reserve_exact(count).map_err(|_| Error::from(ErrorKind::OutOfMemory))?;
+    room.try_reserve_exact(count)
+        .map_err(|_| Error::from(ErrorKind::OutOfMemory))?;
     room.resize(count, T::default());
     Ok(room)
 }

@@ -12,7 +12,9 @@ pub struct TreeBuilder {
 impl TreeBuilder {
     /// Starts a tree whose root has this text.
     pub fn new(text: String) -> TreeBuilder {
-        TreeBuilder { open: vec![leaf(text)] }
+        TreeBuilder {
+            open: vec![leaf(text)],
+        }
     }
 
     /// Adds a child to the current item, and makes the new child current.
@@ -58,5 +60,8 @@ impl TreeBuilder {
 
 // An item without children.
 fn leaf(text: String) -> StringItem {
-    StringItem { text, children: Vec::new() }
+    StringItem {
+        text,
+        children: Vec::new(),
+    }
 }

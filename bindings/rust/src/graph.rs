@@ -44,7 +44,11 @@ impl<N> Default for Graph<N> {
 impl<N> Graph<N> {
     /// Starts a graph without nodes.
     pub fn new() -> Graph<N> {
-        Graph { weights: Vec::new(), edges: Vec::new(), leaving: Vec::new() }
+        Graph {
+            weights: Vec::new(),
+            edges: Vec::new(),
+            leaving: Vec::new(),
+        }
     }
 
     /// Adds a node, and returns its index.
@@ -60,7 +64,10 @@ impl<N> Graph<N> {
     ///
     /// An end is no node of this graph.
     pub fn add_edge(&mut self, a: NodeIndex, b: NodeIndex) {
-        assert!(a.0.max(b.0) < self.weights.len(), "an end of an edge is no node");
+        assert!(
+            a.0.max(b.0) < self.weights.len(),
+            "an end of an edge is no node"
+        );
         self.leaving[a.0].push(self.edges.len());
         self.edges.push((a, b));
     }
@@ -108,7 +115,12 @@ impl<N: Clone + Display> TreeItem for (&Graph<N>, NodeIndex) {
     }
 
     fn children(&self) -> Cow<'_, [Self]> {
-        Cow::from(self.0.neighbors(self.1).map(|node| (self.0, node)).collect::<Vec<_>>())
+        Cow::from(
+            self.0
+                .neighbors(self.1)
+                .map(|node| (self.0, node))
+                .collect::<Vec<_>>(),
+        )
     }
 }
 
@@ -120,26 +132,55 @@ pub fn print_graph<N: Clone + Display>(graph: &Graph<N>, start: NodeIndex) -> io
 }
 
 /// Draws all walks from a node to a writer. In a graph with a cycle only the configured depth ends the drawing.
-pub fn write_graph_with<N, W>(graph: &Graph<N>, start: NodeIndex, mut f: W, config: &PrintConfig) -> io::Result<()>
+pub fn write_graph_with<N, W>(
+    graph: &Graph<N>,
+    start: NodeIndex,
+    mut f: W,
+    config: &PrintConfig,
+) -> io::Result<()>
 where
     N: Clone + Display,
     W: Write,
 {
-    f.write_all(&drawing(graph, start, Expansion::Walks, config, OutputKind::Unknown)?)
+    f.write_all(&drawing(
+        graph,
+        start,
+        Expansion::Walks,
+        config,
+        OutputKind::Unknown,
+    )?)
 }
 
 /// Draws a graph from a node to a writer, with each node's neighbours below its first place only, and `mark` after its label at the
 /// later ones, such as [`REPEATED_MARK`]. So a cycle ends.
-pub fn write_graph_once_with<N, W>(graph: &Graph<N>, start: NodeIndex, mark: &str, mut f: W, config: &PrintConfig) -> io::Result<()>
+pub fn write_graph_once_with<N, W>(
+    graph: &Graph<N>,
+    start: NodeIndex,
+    mark: &str,
+    mut f: W,
+    config: &PrintConfig,
+) -> io::Result<()>
 where
     N: Clone + Display,
     W: Write,
 {
-    f.write_all(&drawing(graph, start, Expansion::Once(mark), config, OutputKind::Unknown)?)
+    f.write_all(&drawing(
+        graph,
+        start,
+        Expansion::Once(mark),
+        config,
+        OutputKind::Unknown,
+    )?)
 }
 
 // The drawing of a graph from a node for output of a kind.
-fn drawing<N: Display>(graph: &Graph<N>, start: NodeIndex, expansion: Expansion<'_>, config: &PrintConfig, kind: OutputKind) -> io::Result<Vec<u8>> {
+fn drawing<N: Display>(
+    graph: &Graph<N>,
+    start: NodeIndex,
+    expansion: Expansion<'_>,
+    config: &PrintConfig,
+    kind: OutputKind,
+) -> io::Result<Vec<u8>> {
     let mut nodes = border::Nodes::default();
     for weight in &graph.weights {
         write!(nodes.texts, "{weight}")?;
@@ -148,5 +189,11 @@ fn drawing<N: Display>(graph: &Graph<N>, start: NodeIndex, expansion: Expansion<
     for &(a, b) in &graph.edges {
         nodes.add_edge(a.0, b.0);
     }
-    border::draw_graph(&nodes, start.0, expansion, config, config.should_style_output(kind))
+    border::draw_graph(
+        &nodes,
+        start.0,
+        expansion,
+        config,
+        config.should_style_output(kind),
+    )
 }

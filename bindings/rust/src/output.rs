@@ -25,14 +25,27 @@ pub fn write_tree<T: TreeItem, W: Write>(item: &T, f: W) -> io::Result<()> {
 /// Items are asked for in the order of drawing, and written in blocks. An error of an item comes after the items before it are written.
 /// Memory holds one block, or the text and the entry of an item that is longer, and what the items on the way to the current one need.
 /// The stack grows with the levels.
-pub fn write_tree_with<T: TreeItem, W: Write>(item: &T, f: W, config: &PrintConfig) -> io::Result<()> {
+pub fn write_tree_with<T: TreeItem, W: Write>(
+    item: &T,
+    f: W,
+    config: &PrintConfig,
+) -> io::Result<()> {
     draw(item, f, config, OutputKind::Unknown)
 }
 
 // Draws to output of a kind.
-fn draw<T: TreeItem, W: Write>(item: &T, f: W, config: &PrintConfig, kind: OutputKind) -> io::Result<()> {
+fn draw<T: TreeItem, W: Write>(
+    item: &T,
+    f: W,
+    config: &PrintConfig,
+    kind: OutputKind,
+) -> io::Result<()> {
     let is_styled = config.should_style_output(kind);
-    let leaf = if is_styled { config.leaf.clone() } else { Style::default() };
+    let leaf = if is_styled {
+        config.leaf.clone()
+    } else {
+        Style::default()
+    };
     let mut steps = Steps::new(f, config, is_styled);
     let walked = walk(item, &leaf, 0, true, config.depth, &mut steps);
     match walked {
@@ -49,8 +62,16 @@ enum Stop {
 }
 
 // Gives an item at a level, and those below it, down to a depth.
-fn walk<T: TreeItem, W: Write>(item: &T, leaf: &Style, level: u32, is_last: bool, depth: u32, steps: &mut Steps<W>) -> Result<(), Stop> {
-    item.write_self(&mut steps.texts, leaf).map_err(Stop::Item)?;
+fn walk<T: TreeItem, W: Write>(
+    item: &T,
+    leaf: &Style,
+    level: u32,
+    is_last: bool,
+    depth: u32,
+    steps: &mut Steps<W>,
+) -> Result<(), Stop> {
+    item.write_self(&mut steps.texts, leaf)
+        .map_err(Stop::Item)?;
     steps.end_item(level, is_last).map_err(Stop::Drawing)?;
     if level < depth {
         let children = item.children();

@@ -57,7 +57,10 @@ impl Default for PrintConfig {
             padding: 1,
             styled: StyleWhen::Tty,
             characters: UTF_CHARS.into(),
-            branch: Style { dimmed: true, ..Style::default() },
+            branch: Style {
+                dimmed: true,
+                ..Style::default()
+            },
             leaf: Style::default(),
             continued: ": ".to_string(),
         }
@@ -78,7 +81,10 @@ impl PrintConfig {
     /// Returns the configuration of the environment's variables and of the file that they name or that is in the user's folder of
     /// configurations, or the complete default if there is a fault in them.
     pub fn from_env() -> PrintConfig {
-        PrintConfig::try_from_env().ok().flatten().unwrap_or_default()
+        PrintConfig::try_from_env()
+            .ok()
+            .flatten()
+            .unwrap_or_default()
     }
 
     /// Returns the configuration with which another program draws.
@@ -92,13 +98,19 @@ impl PrintConfig {
 
     // The configuration of the environment, if there is no fault in it.
     fn try_from_env() -> io::Result<Option<PrintConfig>> {
-        let variables: Vec<_> = env::vars_os().filter_map(|(name, value)| Some((name.into_string().ok()?, value.into_string().ok()?))).collect();
+        let variables: Vec<_> = env::vars_os()
+            .filter_map(|(name, value)| Some((name.into_string().ok()?, value.into_string().ok()?)))
+            .collect();
         let Some(file) = find_file()? else {
             return border::load(None, &variables);
         };
         let text = fs::read_to_string(&file)?;
         let is_json = file.extension().is_some_and(|ending| ending == "json");
-        let format = if is_json { DocFormat::Json } else { DocFormat::Toml };
+        let format = if is_json {
+            DocFormat::Json
+        } else {
+            DocFormat::Toml
+        };
         border::load(Some((format, &text)), &variables)
     }
 
@@ -273,8 +285,19 @@ pub struct StaticIndentChars {
 }
 
 // A set with a blank.
-const fn set(down_and_right: &'static str, down: &'static str, turn_right: &'static str, right: &'static str) -> StaticIndentChars {
-    StaticIndentChars { down_and_right, down, turn_right, right, empty: " " }
+const fn set(
+    down_and_right: &'static str,
+    down: &'static str,
+    turn_right: &'static str,
+    right: &'static str,
+) -> StaticIndentChars {
+    StaticIndentChars {
+        down_and_right,
+        down,
+        turn_right,
+        right,
+        empty: " ",
+    }
 }
 
 /// ASCII characters, with a tick for turning right.

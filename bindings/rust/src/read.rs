@@ -38,10 +38,14 @@ pub fn read_tree(text: &str, config: &PrintConfig) -> io::Result<StringItem> {
     let mut open: Vec<StringItem> = Vec::new();
     for (level, text) in outline.items() {
         close_to(&mut open, level as usize);
-        open.push(StringItem { text: text?, children: Vec::new() });
+        open.push(StringItem {
+            text: text?,
+            children: Vec::new(),
+        });
     }
     close_to(&mut open, 1);
-    open.pop().ok_or_else(|| io::Error::from(io::ErrorKind::InvalidData))
+    open.pop()
+        .ok_or_else(|| io::Error::from(io::ErrorKind::InvalidData))
 }
 
 // Makes each item from this level on the last child of the one above it.

@@ -18,7 +18,15 @@ pub enum DocFormat {
 /// # Errors
 ///
 /// Of kind `InvalidData` if the text is no document of the format, or holds a float or a date. Nothing was written then.
-pub fn write_document_with<W: Write>(format: DocFormat, text: &str, label: &str, mut f: W, config: &PrintConfig) -> io::Result<()> {
+pub fn write_document_with<W: Write>(
+    format: DocFormat,
+    text: &str,
+    label: &str,
+    mut f: W,
+    config: &PrintConfig,
+) -> io::Result<()> {
     let is_styled = config.should_style_output(OutputKind::Unknown);
-    f.write_all(&border::draw_document(format, text, label, config, is_styled)?)
+    f.write_all(&border::draw_document(
+        format, text, label, config, is_styled,
+    )?)
 }

@@ -7,7 +7,11 @@ use std::io::{ErrorKind, Write};
 
 // Pieces of four characters, and no styles.
 fn wide() -> PrintConfig {
-    PrintConfig { indent: 4, branch: Style::default(), ..PrintConfig::default() }
+    PrintConfig {
+        indent: 4,
+        branch: Style::default(),
+        ..PrintConfig::default()
+    }
 }
 
 fn walks(graph: &Graph<&str>, start: NodeIndex, config: &PrintConfig) -> String {
@@ -35,7 +39,10 @@ fn graph_of(labels: &[&'static str], edges: &[(usize, usize)]) -> Graph<&'static
 }
 
 fn modules() -> Graph<&'static str> {
-    graph_of(&["app", "parser", "lexer"], &[(2, 1), (1, 2), (0, 2), (0, 1)])
+    graph_of(
+        &["app", "parser", "lexer"],
+        &[(2, 1), (1, 2), (0, 2), (0, 1)],
+    )
 }
 
 const PACKAGES: &str = "\
@@ -58,7 +65,10 @@ fn all_walks_are_drawn() {
     deps.extend_with_edges(&[(pg, fb), (pg, qc), (qc, rand), (rand, libc), (qc, libc)]);
     assert_eq!(walks(&deps, pg, &wide()), PACKAGES);
     assert_eq!(deps.neighbors(qc).collect::<Vec<_>>(), [libc, rand]);
-    assert_eq!((deps.node_weight(rand), deps.node_weight(NodeIndex::new(5))), (Some(&"rand"), None));
+    assert_eq!(
+        (deps.node_weight(rand), deps.node_weight(NodeIndex::new(5))),
+        (Some(&"rand"), None)
+    );
     // the same as an item
     let mut out = Vec::new();
     write_tree_with(&(&deps, pg), &mut out, &wide()).expect("a drawing");
@@ -77,10 +87,24 @@ fn a_depth_ends_the_walks_of_a_cycle() {
 fn each_node_is_expanded_once() {
     let graph = modules();
     let want = "app\n├─ parser\n│  └─ lexer\n│     └─ parser (*)\n└─ lexer (*)\n";
-    assert_eq!(once(&graph, NodeIndex::new(0), REPEATED_MARK, &PrintConfig::default()), want);
-    assert_eq!(once(&graph, NodeIndex::new(0), "", &PrintConfig::default()), want.replace(REPEATED_MARK, ""));
+    assert_eq!(
+        once(
+            &graph,
+            NodeIndex::new(0),
+            REPEATED_MARK,
+            &PrintConfig::default()
+        ),
+        want
+    );
+    assert_eq!(
+        once(&graph, NodeIndex::new(0), "", &PrintConfig::default()),
+        want.replace(REPEATED_MARK, "")
+    );
     let to_itself = graph_of(&["a"], &[(0, 0), (0, 0)]);
-    assert_eq!(once(&to_itself, NodeIndex::new(0), "!", &PrintConfig::default()), "a\n├─ a!\n└─ a!\n");
+    assert_eq!(
+        once(&to_itself, NodeIndex::new(0), "!", &PrintConfig::default()),
+        "a\n├─ a!\n└─ a!\n"
+    );
 }
 
 #[test]
@@ -88,18 +112,47 @@ fn a_reversed_graph_shows_what_leads_to_a_node() {
     let mut graph = modules();
     graph.reverse();
     let want = "parser\n├─ app\n└─ lexer\n   ├─ app\n   └─ parser (*)\n";
-    assert_eq!(once(&graph, NodeIndex::new(1), REPEATED_MARK, &PrintConfig::default()), want);
-    assert_eq!(graph.neighbors(NodeIndex::new(2)).collect::<Vec<_>>(), [NodeIndex::new(0), NodeIndex::new(1)]);
+    assert_eq!(
+        once(
+            &graph,
+            NodeIndex::new(1),
+            REPEATED_MARK,
+            &PrintConfig::default()
+        ),
+        want
+    );
+    assert_eq!(
+        graph.neighbors(NodeIndex::new(2)).collect::<Vec<_>>(),
+        [NodeIndex::new(0), NodeIndex::new(1)]
+    );
 }
 
 #[test]
 fn labels_are_painted() {
-    let leaf = Style { foreground: Some(Color::Red), ..Style::default() };
-    let config = PrintConfig { styled: StyleWhen::Always, leaf, branch: Style::default(), ..PrintConfig::default() };
+    let leaf = Style {
+        foreground: Some(Color::Red),
+        ..Style::default()
+    };
+    let config = PrintConfig {
+        styled: StyleWhen::Always,
+        leaf,
+        branch: Style::default(),
+        ..PrintConfig::default()
+    };
     let graph = graph_of(&["a", "b\nc"], &[(0, 1)]);
     let want = "\x1b[31ma\x1b[0m\n└─ \x1b[31mb\n   : c\x1b[0m\n";
     assert_eq!(walks(&graph, NodeIndex::new(0), &config), want);
-    assert_eq!(walks(&graph, NodeIndex::new(0), &PrintConfig { styled: StyleWhen::Tty, ..config }), "a\n└─ b\n   : c\n");
+    assert_eq!(
+        walks(
+            &graph,
+            NodeIndex::new(0),
+            &PrintConfig {
+                styled: StyleWhen::Tty,
+                ..config
+            }
+        ),
+        "a\n└─ b\n   : c\n"
+    );
 }
 
 #[test]
@@ -129,8 +182,15 @@ impl Write for Closed {
 
 #[test]
 fn errors_of_writers_are_returned() {
-    let error = write_graph_with(&modules(), NodeIndex::new(2), Closed, &PrintConfig { depth: 2, ..wide() }).expect_err("an error");
+    let error = write_graph_with(
+        &modules(),
+        NodeIndex::new(2),
+        Closed,
+        &PrintConfig { depth: 2, ..wide() },
+    )
+    .expect_err("an error");
     assert_eq!(error.kind(), ErrorKind::BrokenPipe);
-    let error = write_graph_once_with(&modules(), NodeIndex::new(2), "", Closed, &wide()).expect_err("an error");
+    let error = write_graph_once_with(&modules(), NodeIndex::new(2), "", Closed, &wide())
+        .expect_err("an error");
     assert_eq!(error.kind(), ErrorKind::BrokenPipe);
 }

@@ -6,7 +6,11 @@ use std::{env, fs, process};
 #[test]
 fn configurations_are_loaded() {
     for (name, _) in env::vars_os() {
-        if name.to_string_lossy().to_ascii_uppercase().starts_with("PTREE_") {
+        if name
+            .to_string_lossy()
+            .to_ascii_uppercase()
+            .starts_with("PTREE_")
+        {
             env::remove_var(name);
         }
     }
@@ -25,31 +29,77 @@ fn configurations_are_loaded() {
     };
     let named = |name: &str| Some(Color::Named(name.to_string()));
 
-    let config = load("toml", "indent = 5\n[leaf]\nforeground = \"green\"\nbackground = \"steelblue\"\n");
+    let config = load(
+        "toml",
+        "indent = 5\n[leaf]\nforeground = \"green\"\nbackground = \"steelblue\"\n",
+    );
     assert_eq!((config.indent, config.depth), (5, u32::MAX));
-    assert_eq!((config.leaf.foreground, config.leaf.background), (named("green"), named("steelblue")));
-    assert_eq!((config.branch.foreground, config.branch.background), (None, None));
+    assert_eq!(
+        (config.leaf.foreground, config.leaf.background),
+        (named("green"), named("steelblue"))
+    );
+    assert_eq!(
+        (config.branch.foreground, config.branch.background),
+        (None, None)
+    );
 
     let config = load("json", "{\"branch\": {\"foreground\": \"maroon\", \"background\": [1, 2, 3]}, \"styled\": \"always\"}");
-    assert_eq!((config.branch.foreground, config.branch.background), (named("maroon"), Some(Color::RGB(1, 2, 3))));
-    assert_eq!((config.styled, config.branch.dimmed), (StyleWhen::Always, false));
+    assert_eq!(
+        (config.branch.foreground, config.branch.background),
+        (named("maroon"), Some(Color::RGB(1, 2, 3)))
+    );
+    assert_eq!(
+        (config.styled, config.branch.dimmed),
+        (StyleWhen::Always, false)
+    );
 
-    let style = load("toml", "leaf = { foreground = \"#102030\", background = 3, dimmed = true, bold = true }").leaf;
-    assert_eq!((style.foreground, style.background), (named("#102030"), Some(Color::Fixed(3))));
-    assert_eq!((style.dimmed, style.bold, style.italic), (true, true, false));
+    let style = load(
+        "toml",
+        "leaf = { foreground = \"#102030\", background = 3, dimmed = true, bold = true }",
+    )
+    .leaf;
+    assert_eq!(
+        (style.foreground, style.background),
+        (named("#102030"), Some(Color::Fixed(3)))
+    );
+    assert_eq!(
+        (style.dimmed, style.bold, style.italic),
+        (true, true, false)
+    );
 
-    assert_eq!(load("toml", "characters = \"ascii\"").characters, ASCII_CHARS_TICK.into());
-    assert_eq!(load("toml", "characters = \"utf\"").characters, UTF_CHARS.into());
-    assert_eq!(load("toml", "characters = \"utf-double\"").characters, UTF_CHARS_DOUBLE.into());
+    assert_eq!(
+        load("toml", "characters = \"ascii\"").characters,
+        ASCII_CHARS_TICK.into()
+    );
+    assert_eq!(
+        load("toml", "characters = \"utf\"").characters,
+        UTF_CHARS.into()
+    );
+    assert_eq!(
+        load("toml", "characters = \"utf-double\"").characters,
+        UTF_CHARS_DOUBLE.into()
+    );
     let config = load("toml", "[characters]\ndown_and_right = \"|\"\ndown = \"|\"\nturn_right = \"`\"\nright = \"-\"\nempty = \"\"\n");
-    assert_eq!((config.characters.right.as_str(), config.characters.empty.as_str()), ("-", ""));
+    assert_eq!(
+        (
+            config.characters.right.as_str(),
+            config.characters.empty.as_str()
+        ),
+        ("-", "")
+    );
 
     env::set_var("PTREE_LEAF_BACKGROUND", "steelblue");
     env::set_var("PTREE_LEAF_BOLD", "true");
     env::set_var("ptree_depth", "4");
     let config = load("toml", "indent = 5\n[leaf]\nforeground = \"green\"\n");
-    assert_eq!((config.indent, config.depth, config.leaf.bold), (5, 4, true));
-    assert_eq!((config.leaf.foreground, config.leaf.background), (named("green"), named("steelblue")));
+    assert_eq!(
+        (config.indent, config.depth, config.leaf.bold),
+        (5, 4, true)
+    );
+    assert_eq!(
+        (config.leaf.foreground, config.leaf.background),
+        (named("green"), named("steelblue"))
+    );
 
     // A fault means the whole default.
     env::set_var("ptree_depth", "-4");

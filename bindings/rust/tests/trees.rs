@@ -11,7 +11,11 @@ use std::panic::{catch_unwind, AssertUnwindSafe};
 
 // Pieces of four characters, and no styles.
 fn wide() -> PrintConfig {
-    PrintConfig { indent: 4, branch: Style::default(), ..PrintConfig::default() }
+    PrintConfig {
+        indent: 4,
+        branch: Style::default(),
+        ..PrintConfig::default()
+    }
 }
 
 fn drawn<T: TreeItem>(item: &T, config: &PrintConfig) -> String {
@@ -21,7 +25,10 @@ fn drawn<T: TreeItem>(item: &T, config: &PrintConfig) -> String {
 }
 
 fn over(text: &str, children: Vec<StringItem>) -> StringItem {
-    StringItem { text: text.to_string(), children }
+    StringItem {
+        text: text.to_string(),
+        children,
+    }
 }
 
 fn crates() -> StringItem {
@@ -51,7 +58,12 @@ fn a_builder_keeps_the_order_of_children() {
     for number in 0..10 {
         builder.add_empty_child(number.to_string());
     }
-    let texts: Vec<String> = builder.build().children.into_iter().map(|child| child.text).collect();
+    let texts: Vec<String> = builder
+        .build()
+        .children
+        .into_iter()
+        .map(|child| child.text)
+        .collect();
     assert_eq!(texts.join(" "), "0 1 2 3 4 5 6 7 8 9");
 }
 
@@ -61,10 +73,22 @@ fn a_builder_nests_children_and_goes_on() {
     for number in 1..4 {
         builder.begin_child(number.to_string());
     }
-    let chain = over("0", vec![over("1", vec![over("2", vec![over("3", vec![])])])]);
+    let chain = over(
+        "0",
+        vec![over("1", vec![over("2", vec![over("3", vec![])])])],
+    );
     assert_eq!(builder.build(), chain);
-    builder.end_child().end_child().add_empty_child("4".to_string());
-    let grown = over("0", vec![over("1", vec![over("2", vec![over("3", vec![])]), over("4", vec![])])]);
+    builder
+        .end_child()
+        .end_child()
+        .add_empty_child("4".to_string());
+    let grown = over(
+        "0",
+        vec![over(
+            "1",
+            vec![over("2", vec![over("3", vec![])]), over("4", vec![])],
+        )],
+    );
     assert_eq!(builder.build(), grown);
     assert!(catch_unwind(move || builder.end_child().end_child().build()).is_err());
 }
@@ -76,9 +100,15 @@ fn an_item_is_drawn() {
 
 #[test]
 fn a_depth_ends_a_drawing() {
-    assert_eq!(drawn(&crates(), &PrintConfig { depth: 0, ..wide() }), "petgraph\n");
+    assert_eq!(
+        drawn(&crates(), &PrintConfig { depth: 0, ..wide() }),
+        "petgraph\n"
+    );
     let one = PrintConfig { depth: 1, ..wide() };
-    assert_eq!(drawn(&crates(), &one), "petgraph\n├── quickcheck\n└── fixedbitset\n");
+    assert_eq!(
+        drawn(&crates(), &one),
+        "petgraph\n├── quickcheck\n└── fixedbitset\n"
+    );
 }
 
 #[test]
@@ -92,10 +122,21 @@ fn pieces_are_as_wide_as_the_configuration_says() {
         (6, 1, "ascii", "|---- ", "`---- ", "|     ", "      "),
         (3, 1, "utf-double", "╠═ ", "╚═ ", "║  ", "   "),
     ];
-    let tree = over("r", vec![over("a", vec![over("x", vec![])]), over("b", vec![over("y", vec![])])]);
+    let tree = over(
+        "r",
+        vec![
+            over("a", vec![over("x", vec![])]),
+            over("b", vec![over("y", vec![])]),
+        ],
+    );
     for (indent, padding, set, regular, last, below, below_last) in cases {
         let characters: IndentChars = set.parse().expect("a set");
-        let config = PrintConfig { indent, padding, characters, ..PrintConfig::default() };
+        let config = PrintConfig {
+            indent,
+            padding,
+            characters,
+            ..PrintConfig::default()
+        };
         let want = format!("r\n{regular}a\n{below}{last}x\n{last}b\n{below_last}{last}y\n");
         assert_eq!(drawn(&tree, &config), want, "{set} {indent} {padding}");
     }
@@ -107,19 +148,32 @@ fn labels_of_several_lines_are_drawn_and_read() {
     let tree = over("r\ns", vec![over("a\nb", vec![]), over("c", vec![])]);
     let text = drawn(&tree, &PrintConfig::default());
     assert_eq!(text, "r\n: s\n├─ a\n│  : b\n└─ c\n");
-    assert_eq!(read_tree(&text, &PrintConfig::default()).expect("a tree"), tree);
+    assert_eq!(
+        read_tree(&text, &PrintConfig::default()).expect("a tree"),
+        tree
+    );
 }
 
 #[test]
 fn presets_draw_as_their_programs() {
     let tree = over("r", vec![over("a", vec![])]);
-    for (preset, want) in [(Preset::CargoTree, "r\n└── a\n"), (Preset::Sqlite, "r\n`--a\n"), (Preset::Ps, "r\n \\_ a\n")] {
+    for (preset, want) in [
+        (Preset::CargoTree, "r\n└── a\n"),
+        (Preset::Sqlite, "r\n`--a\n"),
+        (Preset::Ps, "r\n \\_ a\n"),
+    ] {
         let config = PrintConfig::from_preset(preset).expect("a preset");
         assert_eq!(drawn(&tree, &config), want);
         assert_eq!(read_tree(want, &config).expect("a tree"), tree);
     }
     let cargo = PrintConfig::from_preset(Preset::CargoTree).expect("a preset");
-    assert_eq!(cargo, PrintConfig { indent: 4, ..PrintConfig::default() });
+    assert_eq!(
+        cargo,
+        PrintConfig {
+            indent: 4,
+            ..PrintConfig::default()
+        }
+    );
 }
 
 #[test]
@@ -127,7 +181,10 @@ fn what_is_drawn_reads_back() {
     let tree = crates();
     assert_eq!(read_tree(CRATES, &wide()).expect("a tree"), tree);
     let leaf = over("", vec![]);
-    assert_eq!(read_tree(&drawn(&leaf, &wide()), &wide()).expect("a tree"), leaf);
+    assert_eq!(
+        read_tree(&drawn(&leaf, &wide()), &wide()).expect("a tree"),
+        leaf
+    );
 }
 
 #[test]
@@ -135,26 +192,56 @@ fn the_first_wrong_line_is_reported() {
     let refused = |text: &str| {
         let error = read_tree(text, &wide()).expect_err("a refusal");
         assert_eq!(error.kind(), ErrorKind::InvalidData);
-        *error.get_ref().and_then(|inner| inner.downcast_ref::<ReadError>()).expect("a ReadError")
+        *error
+            .get_ref()
+            .and_then(|inner| inner.downcast_ref::<ReadError>())
+            .expect("a ReadError")
     };
     assert_eq!(refused("r\nx\n"), ReadError::Line(2));
     assert_eq!(refused("r\n├── a\n└── b\n└── c\n"), ReadError::Line(4));
     assert_eq!(refused("r\n├── a\n"), ReadError::End);
     assert_eq!(refused(""), ReadError::End);
-    assert_eq!(ReadError::Line(2).to_string(), "line 2 cannot continue the drawing");
-    let ticks = PrintConfig { indent: 1, padding: 0, characters: ASCII_CHARS_TICK.into(), ..PrintConfig::default() };
-    assert_eq!(read_tree("r\n", &ticks).expect_err("pieces").kind(), ErrorKind::InvalidInput);
+    assert_eq!(
+        ReadError::Line(2).to_string(),
+        "line 2 cannot continue the drawing"
+    );
+    let ticks = PrintConfig {
+        indent: 1,
+        padding: 0,
+        characters: ASCII_CHARS_TICK.into(),
+        ..PrintConfig::default()
+    };
+    assert_eq!(
+        read_tree("r\n", &ticks).expect_err("pieces").kind(),
+        ErrorKind::InvalidInput
+    );
 }
 
 #[test]
 fn styles_paint_branches_and_leaves() {
     let tree = over("r", vec![over("a", vec![])]);
-    let leaf = Style { foreground: Some(Color::Red), ..Style::default() };
-    let config = PrintConfig { styled: StyleWhen::Always, leaf, ..PrintConfig::default() };
+    let leaf = Style {
+        foreground: Some(Color::Red),
+        ..Style::default()
+    };
+    let config = PrintConfig {
+        styled: StyleWhen::Always,
+        leaf,
+        ..PrintConfig::default()
+    };
     // The root's prefix is painted too, though it is empty.
     let want = "\x1b[2m\x1b[0m\x1b[31mr\x1b[0m\n\x1b[2m└─ \x1b[0m\x1b[31ma\x1b[0m\n";
     assert_eq!(drawn(&tree, &config), want);
-    assert_eq!(drawn(&tree, &PrintConfig { styled: StyleWhen::Never, ..config }), "r\n└─ a\n");
+    assert_eq!(
+        drawn(
+            &tree,
+            &PrintConfig {
+                styled: StyleWhen::Never,
+                ..config
+            }
+        ),
+        "r\n└─ a\n"
+    );
 }
 
 #[test]
@@ -177,10 +264,19 @@ fn each_colour_has_its_code() {
         (named("#4682B4"), "38;2;70;130;180"),
     ];
     for (color, code) in cases {
-        let style = Style { foreground: Some(color), ..Style::default() };
-        assert_eq!(style.paint("x").to_string(), format!("\x1b[{code}mx\x1b[0m"));
+        let style = Style {
+            foreground: Some(color),
+            ..Style::default()
+        };
+        assert_eq!(
+            style.paint("x").to_string(),
+            format!("\x1b[{code}mx\x1b[0m")
+        );
     }
-    let unknown = Style { foreground: Some(named("no such colour")), ..Style::default() };
+    let unknown = Style {
+        foreground: Some(named("no such colour")),
+        ..Style::default()
+    };
     assert_eq!(unknown.paint("x").to_string(), "x");
     let all = Style {
         background: Some(Color::Cyan),
@@ -216,9 +312,14 @@ toml
     let mut out = Vec::new();
     write_document_with(DocFormat::Toml, toml, "toml", &mut out, &wide()).expect("a document");
     assert_eq!(String::from_utf8_lossy(&out), want);
-    for (format, text) in [(DocFormat::Json, "[1"), (DocFormat::Json, "[1.5]"), (DocFormat::Toml, "a = 1979-05-27")] {
+    for (format, text) in [
+        (DocFormat::Json, "[1"),
+        (DocFormat::Json, "[1.5]"),
+        (DocFormat::Toml, "a = 1979-05-27"),
+    ] {
         let mut out = Vec::new();
-        let error = write_document_with(format, text, "", &mut out, &wide()).expect_err("a refusal");
+        let error =
+            write_document_with(format, text, "", &mut out, &wide()).expect_err("a refusal");
         assert_eq!((error.kind(), out.len()), (ErrorKind::InvalidData, 0));
     }
 }
@@ -246,7 +347,10 @@ fn items_of_ones_own_are_drawn() {
     let want = "0\n├── 2\n│   ├── 4\n│   └── 3\n│       └── 4\n└── 1\n";
     assert_eq!(drawn(&Node(0, edges), &wide()), want);
     let cycle = &[(0, 1), (1, 0)];
-    assert_eq!(drawn(&Node(0, cycle), &PrintConfig { depth: 3, ..wide() }), "0\n└── 1\n    └── 0\n        └── 1\n");
+    assert_eq!(
+        drawn(&Node(0, cycle), &PrintConfig { depth: 3, ..wide() }),
+        "0\n└── 1\n    └── 0\n        └── 1\n"
+    );
 }
 
 /// An item over children of another type, whose first child does something of its own.
@@ -284,7 +388,9 @@ fn errors_of_items_are_returned() {
 fn panics_of_items_unwind() {
     let panics = Odd(|_| panic!("an item"));
     let mut out = Vec::new();
-    let caught = catch_unwind(AssertUnwindSafe(|| write_tree_with(&panics, &mut out, &wide())));
+    let caught = catch_unwind(AssertUnwindSafe(|| {
+        write_tree_with(&panics, &mut out, &wide())
+    }));
     let payload = caught.expect_err("a panic");
     assert_eq!(payload.downcast_ref::<&str>(), Some(&"an item"));
     assert_eq!(drawn(&crates(), &wide()), CRATES);
@@ -313,7 +419,10 @@ fn a_writer_that_fails_has_a_prefix() {
     for size in 0..CRATES.len() {
         let mut full = Full(Vec::new(), size);
         let error = write_tree_with(&crates(), &mut full, &wide()).expect_err("an error");
-        assert_eq!((error.to_string().as_str(), &full.0[..]), ("full", &CRATES.as_bytes()[..size]));
+        assert_eq!(
+            (error.to_string().as_str(), &full.0[..]),
+            ("full", &CRATES.as_bytes()[..size])
+        );
     }
 }
 

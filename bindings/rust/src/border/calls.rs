@@ -180,7 +180,13 @@ extern "C" {
         found: *mut Found,
     ) -> u32;
 
-    pub(super) fn ptree_config(preset: u32, config: *mut ConfigFields, names: *mut u8, names_length: usize, found: *mut Found) -> u32;
+    pub(super) fn ptree_config(
+        preset: u32,
+        config: *mut ConfigFields,
+        names: *mut u8,
+        names_length: usize,
+        found: *mut Found,
+    ) -> u32;
 
     pub(super) fn ptree_load(
         file: *const u8,

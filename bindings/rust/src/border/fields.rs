@@ -6,7 +6,11 @@ use crate::style::{Color, Style};
 use std::io;
 
 /// The fields of a configuration and their texts, with another style of leaves.
-pub(super) fn fields_for(config: &PrintConfig, is_styled: bool, leaf: &Style) -> (ConfigFields, Vec<u8>) {
+pub(super) fn fields_for(
+    config: &PrintConfig,
+    is_styled: bool,
+    leaf: &Style,
+) -> (ConfigFields, Vec<u8>) {
     let mut names = Vec::new();
     let characters = &config.characters;
     let fields = ConfigFields {
@@ -32,7 +36,10 @@ pub(super) fn fields_for(config: &PrintConfig, is_styled: bool, leaf: &Style) ->
 pub(super) fn part_of(names: &mut Vec<u8>, text: &str) -> Part {
     let start = names.len();
     names.extend_from_slice(text.as_bytes());
-    Part { start, end: names.len() }
+    Part {
+        start,
+        end: names.len(),
+    }
 }
 
 /// The fields of a style.
@@ -53,7 +60,10 @@ pub(super) fn style_fields(names: &mut Vec<u8>, style: &Style) -> StyleFields {
 
 // The fields of a colour, or of none.
 fn color_fields(names: &mut Vec<u8>, color: Option<&Color>) -> ColorFields {
-    let plain = |kind| ColorFields { kind, ..ColorFields::default() };
+    let plain = |kind| ColorFields {
+        kind,
+        ..ColorFields::default()
+    };
     match color {
         None => plain(0),
         Some(Color::Black) => plain(1),
@@ -64,9 +74,20 @@ fn color_fields(names: &mut Vec<u8>, color: Option<&Color>) -> ColorFields {
         Some(Color::Purple) => plain(6),
         Some(Color::Cyan) => plain(7),
         Some(Color::White) => plain(8),
-        Some(Color::Fixed(number)) => ColorFields { red: *number, ..plain(9) },
-        Some(Color::RGB(red, green, blue)) => ColorFields { red: *red, green: *green, blue: *blue, ..plain(10) },
-        Some(Color::Named(name)) => ColorFields { name: part_of(names, name), ..plain(11) },
+        Some(Color::Fixed(number)) => ColorFields {
+            red: *number,
+            ..plain(9)
+        },
+        Some(Color::RGB(red, green, blue)) => ColorFields {
+            red: *red,
+            green: *green,
+            blue: *blue,
+            ..plain(10)
+        },
+        Some(Color::Named(name)) => ColorFields {
+            name: part_of(names, name),
+            ..plain(11)
+        },
     }
 }
 
@@ -125,6 +146,10 @@ fn color_of(fields: &ColorFields, names: &[u8]) -> io::Result<Option<Color>> {
         8 => Color::White,
         9 => Color::Fixed(fields.red),
         10 => Color::RGB(fields.red, fields.green, fields.blue),
-        _ => Color::Named(text_of(names.get(fields.name.start..fields.name.end).unwrap_or_default())?),
+        _ => Color::Named(text_of(
+            names
+                .get(fields.name.start..fields.name.end)
+                .unwrap_or_default(),
+        )?),
     }))
 }

@@ -31,17 +31,32 @@ impl<W: Write> Steps<W> {
     /// Starts a drawing. The texts of items are painted already, so leaves have no style.
     pub(crate) fn new(f: W, config: &PrintConfig, is_styled: bool) -> Steps<W> {
         let (fields, names) = fields_for(config, is_styled, &Style::default());
-        Steps { f, fields, names, steps: Vec::new(), texts: Vec::new(), path: Vec::new(), out: vec![0; ROOM] }
+        Steps {
+            f,
+            fields,
+            names,
+            steps: Vec::new(),
+            texts: Vec::new(),
+            path: Vec::new(),
+            out: vec![0; ROOM],
+        }
     }
 
     /// Adds an item. Its text is what the texts have got since the item before it.
     pub(crate) fn end_item(&mut self, level: u32, is_last: bool) -> io::Result<()> {
         let start = self.steps.last().map_or(0, |step| step.text.end);
-        let text = Part { start, end: self.texts.len() };
+        let text = Part {
+            start,
+            end: self.texts.len(),
+        };
         if self.path.len() < level as usize {
             self.path.resize(level as usize, 0);
         }
-        self.steps.push(Step { text, level, is_last: u8::from(is_last) });
+        self.steps.push(Step {
+            text,
+            level,
+            is_last: u8::from(is_last),
+        });
         if self.steps.len() >= MOST_ITEMS || self.texts.len() >= MOST_TEXTS {
             return self.draw();
         }
