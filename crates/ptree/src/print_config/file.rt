@@ -85,7 +85,7 @@ fn parse_json(alloc: Global, text: &str) -> Result<Option<Document>, AllocError>
 ///
 /// The text is parsed once. A JSON text that is wrong before its end is parsed again up to the line
 /// before the reported one, and further times only if the wrong byte is before that line: at most
-/// twice for each doubling of the distance in lines.
+/// eight times, and twice for each doubling of the distance in lines.
 ///
 /// # Errors
 ///
@@ -167,7 +167,8 @@ struct Span {
 }
 
 // Returns two counts of lines of a JSON text, with which it is right and wrong, the second at most
-// `line`. It searches back from there, by steps that nearly double.
+// `line`. It searches back from there by steps that grow to about 16 times the last. Smaller
+// factors take more readings where many blank lines follow the wrong byte.
 fn search_back(alloc: Global, text: &str, line: usize) -> Result<Span, AllocError>
     ensures { IfOk result (λ span. span.wrong ≤ line) }
 {
@@ -177,7 +178,7 @@ fn search_back(alloc: Global, text: &str, line: usize) -> Result<Span, AllocErro
     while right > 0 && !begins_json(alloc, first_lines(text, right))? {
         wrong = right;
         right = (right - 1).saturating_sub(step);
-        step = step.saturating_mul(2);
+        step = step.saturating_mul(16);
     }
     Ok(Span { right, wrong })
 }
