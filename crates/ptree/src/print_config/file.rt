@@ -1,5 +1,5 @@
 //! The document of a configuration file, in either format.
-ghost use Rattle.std.specs.Prelude.{◌≡◌, ◌↔◌, Some, option_map, option_copied, is_some, is_none, IsSome, IfOk};
+ghost use Rattle.std.specs.Prelude.{◌≡◌, ◌≤◌, ◌↔◌, Some, option_map, option_copied, is_some, is_none, IsSome, IfOk};
 ghost use Rattle.ptree.specs.Color.{color_of};
 ghost use Rattle.ptree.specs.File.{get, is_table, as_whole, as_text, as_flag, is_null, whole_node, when_node, as_rgb, json_rgb, toml_rgb, color_numbers, color_node};
 ghost use Rattle.ptree.specs.Lent.{node_of, document_of};
@@ -83,6 +83,10 @@ fn parse_json(alloc: Global, text: &str) -> Result<Option<Document>, AllocError>
 /// the line where the text ends. If the top of a JSON text is not an object, it is the line of the
 /// top's first byte.
 ///
+/// The text is parsed once. A JSON text that is wrong before its end is parsed again up to the line
+/// before the reported one, and further times only if the wrong byte is before that line: at most
+/// eight times, and twice for each doubling of the distance in lines.
+///
 /// # Errors
 ///
 /// Memory ran out.
@@ -121,6 +125,8 @@ fn json_line(alloc: Global, text: &str) -> Result<Option<usize>, AllocError>
         },
         Err(e) => if e.is_memory() {
             Err(AllocError)
+        } else if e.is_eof() {
+            Ok(Some(e.line()))
         } else {
             Ok(Some(wrong_line(alloc, text, e.line())?))
         },
@@ -135,10 +141,14 @@ fn top_line(text: &str) -> usize {
 // Returns the first wrong line of a JSON text, if it is before `line`, and else `line`.
 //
 // The JSON reader reports how far it has come. That may be past the wrong byte and the blanks after
-// it.
-fn wrong_line(alloc: Global, text: &str, line: usize) -> Result<usize, AllocError> {
-    let mut right = 0;
-    let mut wrong = line;
+// it. Mostly it is the line of the wrong byte, which one more reading shows.
+fn wrong_line(alloc: Global, text: &str, line: usize) -> Result<usize, AllocError>
+    ensures { IfOk result (λ wrong. wrong ≤ line) }
+{
+    let Span {
+        mut right,
+        mut wrong,
+    } = search_back(alloc, text, line)?;
     while wrong.saturating_sub(right) > 1 {
         let middle = right + (wrong - right) / 2;
         if begins_json(alloc, first_lines(text, middle))? {
@@ -148,6 +158,29 @@ fn wrong_line(alloc: Global, text: &str, line: usize) -> Result<usize, AllocErro
         }
     }
     Ok(wrong)
+}
+
+// How many lines at the front of a text are right, and with how many it is wrong.
+struct Span {
+    right: usize,
+    wrong: usize,
+}
+
+// Returns two counts of lines of a JSON text, with which it is right and wrong, the second at most
+// `line`. It searches back from there by steps that grow to about 16 times the last. Smaller
+// factors take more readings where many blank lines follow the wrong byte.
+fn search_back(alloc: Global, text: &str, line: usize) -> Result<Span, AllocError>
+    ensures { IfOk result (λ span. span.wrong ≤ line) }
+{
+    let mut wrong = line;
+    let mut right = line.saturating_sub(1);
+    let mut step: usize = 1;
+    while right > 0 && !begins_json(alloc, first_lines(text, right))? {
+        wrong = right;
+        right = (right - 1).saturating_sub(step);
+        step = step.saturating_mul(16);
+    }
+    Ok(Span { right, wrong })
 }
 
 // Whether a text is a JSON document, or only ends too early.
