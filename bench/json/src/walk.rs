@@ -8,7 +8,7 @@ const TURN: &str = "├─ ";
 const LAST_TURN: &str = "└─ ";
 const PASS: &str = "│  ";
 const LAST_PASS: &str = "   ";
-const MARK: &str = ": ";
+const MARKER: &str = ": ";
 
 /// Draws a value under a label.
 pub fn draw<W: Write>(label: &str, value: &Value, out: &mut W) -> io::Result<()> {
@@ -106,7 +106,7 @@ fn spread(front: usize, pass: &str, prefix: usize, line: &mut Vec<u8>) {
             line.push(b'\n');
             line.extend_from_within(..prefix);
             push_text(pass, line);
-            push_text(MARK, line);
+            push_text(MARKER, line);
         }
         line.extend_from_slice(part);
     }

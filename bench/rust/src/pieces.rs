@@ -4,7 +4,7 @@ pub const TURN: &str = "├─ ";
 pub const LAST_TURN: &str = "└─ ";
 pub const PASS: &str = "│  ";
 pub const LAST_PASS: &str = "   ";
-pub const MARK: &str = ": ";
+pub const MARKER: &str = ": ";
 
 // 1 in each byte, and the highest bit of each.
 const ONES: u64 = 0x0101_0101_0101_0101;

@@ -4,7 +4,7 @@
 //! one item can have a next sibling: the innermost one of the last item and those above it that is
 //! no last child. So each line is compared with the path once, and the piece after that decides.
 
-use crate::pieces::{line_feed, LAST_PASS, LAST_TURN, MARK, PASS, TURN};
+use crate::pieces::{line_feed, LAST_PASS, LAST_TURN, MARKER, PASS, TURN};
 use crate::tree::{Growing, Item};
 
 /// The last item, and those below the root that it is below.
@@ -143,10 +143,10 @@ fn add<'a>(
 fn further<'a>(line: &'a str, pieces: &[u8], pass: &str) -> Option<&'a str> {
     let front = pieces.len() + pass.len();
     let bytes = line.as_bytes();
-    let is_further = bytes.get(front..)?.starts_with(MARK.as_bytes())
+    let is_further = bytes.get(front..)?.starts_with(MARKER.as_bytes())
         && bytes.starts_with(pieces)
         && bytes[pieces.len()..].starts_with(pass.as_bytes());
-    is_further.then(|| &line[front + MARK.len()..])
+    is_further.then(|| &line[front + MARKER.len()..])
 }
 
 // Does what `add` does for a text of several lines.

@@ -1,6 +1,6 @@
 //! Draws a tree. One buffer holds the prefix between the lines, and each line while it is written.
 
-use crate::pieces::{has_line_feed, line_feed, LAST_PASS, LAST_TURN, MARK, PASS, TURN};
+use crate::pieces::{has_line_feed, line_feed, LAST_PASS, LAST_TURN, MARKER, PASS, TURN};
 use crate::tree::Item;
 use std::io::{self, Write};
 
@@ -42,7 +42,7 @@ fn append_lines(text: &str, pass: &str, prefix: usize, line: &mut Vec<u8>) {
         line.extend_from_slice(&rest[..at + 1]);
         line.extend_from_within(..prefix);
         line.extend_from_slice(pass.as_bytes());
-        line.extend_from_slice(MARK.as_bytes());
+        line.extend_from_slice(MARKER.as_bytes());
         rest = &rest[at + 1..];
     }
     line.extend_from_slice(rest);

@@ -11,7 +11,7 @@ use Rattle.ptree.specs.Readable.{IsReadableWith}
 use Rattle.ptree.specs.Spelled.{SpelledItem, lines_of_items, IsSpelled, text_entry, spelled_text}
 use Rattle.ptree.specs.Tree.{Tree, tree}
 use Rattle.ptree.proofs.LaterLines.{have_spelled}
-use Rattle.ptree.proofs.Marks.{items_never}
+use Rattle.ptree.proofs.Markers.{items_never}
 use Rattle.ptree.proofs.SpelledForms.{Shows, Low, lines_by, are_spelled_by, within_by, shows_form}
 use Rattle.ptree.proofs.LineTrees.{tree_of_lines}
 
@@ -21,7 +21,7 @@ spelled_text-append k [] b = refl
 spelled_text-append k (i ∷ a) b = ap (λ z. text_entry k i.pieces i.passing i.text ++ z) (spelled_text-append k a b) ∙ sym (append_assoc (text_entry k i.pieces i.passing i.text) (spelled_text k a) (spelled_text k b))
 
 -- a root and items whose pieces later lines give are continued by the text of these lines
-pub goes_on : (k : Look) → IsReadableWith k.pieces k.mark → (depth : ℕ) (root x body : List ℕ) (items : List SpelledItem) (o : List Line) → x ≡ text_entry k [] [] root ++ body → body ≡ spelled_text k items
+pub goes_on : (k : Look) → IsReadableWith k.pieces k.marker → (depth : ℕ) (root x body : List ℕ) (items : List SpelledItem) (o : List Line) → x ≡ text_entry k [] [] root ++ body → body ≡ spelled_text k items
     → HaveLastFlags k.pieces items o → Steps 0 (lines_of_items items ++ o) → Low depth (lines_of_items items ++ o) → HasContinuation k depth x
 goes_on k readable depth root x body items o is text right steps low =
     let p : Pieces = k.pieces in
@@ -50,7 +50,7 @@ pub goes_on_before : (k : Look) (depth : ℕ) (x y : List ℕ) → HasContinuati
 goes_on_before k depth x y (t, rest, d) = (t, y ++ rest, subst (λ z. IsDrawnForm k depth z t) (append_assoc x y rest) d)
 
 -- a drawing continues the empty text
-pub goes_on_nothing : (k : Look) → IsReadableWith k.pieces k.mark → (depth : ℕ) → HasContinuation k depth []
+pub goes_on_nothing : (k : Look) → IsReadableWith k.pieces k.marker → (depth : ℕ) → HasContinuation k depth []
 goes_on_nothing k readable depth =
     let entry : List ℕ = text_entry k [] [] [] in
     goes_on_before k depth [] entry (goes_on k readable depth [] entry [] [] [] (sym (append-nil entry)) refl tt tt tt)

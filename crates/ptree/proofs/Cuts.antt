@@ -71,5 +71,5 @@ no_feed_painted s text h =
     All-append (λ c. c ≢ 10) (start_codes s ++ text) (end_codes s) (All-append (λ c. c ≢ 10) (start_codes s) text (no_line_feed_start s) h) (no_line_feed_end s)
 
 -- the prefix of a further line holds no line feed
-pub no_feed_continued : (k : Look) → IsReadableWith k.pieces k.mark → (flags : List Bool) → HasNoLineFeed (continued_prefix k (passing_all k.pieces flags))
-no_feed_continued k h flags = no_feed_painted k.branch (passing_all k.pieces flags ++ k.mark) (All-append (λ c. c ≢ 10) (passing_all k.pieces flags) k.mark (no_feed_passing k.pieces h.pieces flags) h.no_line_feed)
+pub no_feed_continued : (k : Look) → IsReadableWith k.pieces k.marker → (flags : List Bool) → HasNoLineFeed (continued_prefix k (passing_all k.pieces flags))
+no_feed_continued k h flags = no_feed_painted k.branch (passing_all k.pieces flags ++ k.marker) (All-append (λ c. c ≢ 10) (passing_all k.pieces flags) k.marker (no_feed_passing k.pieces h.pieces flags) h.no_line_feed)

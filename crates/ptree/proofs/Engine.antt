@@ -111,7 +111,7 @@ entry_held look width bytes outer last x turned is =
     turned ∙ ap (λ l. l ++ (own ++ end_codes look.branch)) is
     ∙ around (start_codes look.branch) outer own (end_codes look.branch))
     ∙ ap (λ m. painted_text look.branch (outer ++ own) ++ with_inserted m (x.own [] look.leaf) ++ 10 ∷ [])
-    (ap (λ l. l ++ further_text look last) is ∙ inside (start_codes look.branch) outer below look.mark (end_codes look.branch))
+    (ap (λ l. l ++ further_text look last) is ∙ inside (start_codes look.branch) outer below look.marker (end_codes look.branch))
   where
     around : (a b c d : List ℕ) → (a ++ b) ++ (c ++ d) ≡ a ++ (b ++ c) ++ d
     around a b c d = simp append_assoc

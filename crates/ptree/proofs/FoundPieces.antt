@@ -10,7 +10,7 @@ use Rattle.ptree.specs.Pieces.{Pieces, passing_piece, passing_all}
 use Rattle.ptree.specs.Reached.{allows, any_flags, Allows, NoPiece, IsCutTo, AreSome, ArePath, ArePassed, IsFound}
 use Rattle.ptree.specs.Readable.{ArePrefixFree, IsReadable}
 use Rattle.ptree.proofs.LastFlags.{length-last_flags}
-use Rattle.ptree.proofs.Marks.{passings_once}
+use Rattle.ptree.proofs.Markers.{passings_once}
 use Rattle.ptree.proofs.Prefixes.{apart_never}
 use Rattle.ptree.proofs.OpenItems.{open_lines, some_flag, passing_push, passing_split, cut_flags, passing_parts}
 

@@ -10,7 +10,7 @@ use Rattle.ptree.specs.Spelled.{has_line_feed, SpelledItem, spelled_item, ArePas
 use Rattle.ptree.specs.Style.{start_codes, end_codes, painted_text}
 use Rattle.ptree.proofs.Prefixes.{same_pieces}
 use Rattle.ptree.proofs.Inserted.{is_feed, inserted_feed, inserted_other, feed_here, feed_tail, feed_behind, feed_painted}
-use Rattle.ptree.proofs.Marks.{behind, entry_is, mark_once, item_never, items_never}
+use Rattle.ptree.proofs.Markers.{behind, entry_is, marker_once, item_never, items_never}
 
 -- the own bytes of two items of one level at the start of one text are the same
 pub record SameOwn (u u' q q' x y : List ℕ) : Type 0 where
@@ -19,7 +19,7 @@ pub record SameOwn (u u' q q' x y : List ℕ) : Type 0 where
   pub rest : x ≡ y
 
 -- own bytes end at the first line feed that nothing continues
-pub own_once : (k : Look) → IsReadableWith k.pieces k.mark → (n : ℕ) (u u' q q' rest rest' : List ℕ)
+pub own_once : (k : Look) → IsReadableWith k.pieces k.marker → (n : ℕ) (u u' q q' rest rest' : List ℕ)
     → (has_line_feed u ≡ true → ArePassing k.pieces n q) → (has_line_feed u' ≡ true → ArePassing k.pieces n q') → IsNotContinued k n rest → IsNotContinued k n rest'
     → with_inserted (continued_prefix k q) u ++ 10 ∷ rest ≡ with_inserted (continued_prefix k q') u' ++ 10 ∷ rest' → SameOwn u u' q q' rest rest'
 own_once k h n [] [] q q' rest rest' a b s t e = record { own = refl; passing = λ f. absurd (false≢true f); rest = cc }
@@ -47,10 +47,10 @@ own_once k h n (c ∷ u) (d ∷ u') q q' rest rest' a b s t e = elim (is_feed c)
         let e' : (10 ∷ (continued_prefix k q ++ with_inserted (continued_prefix k q) u)) ++ 10 ∷ rest ≡ (10 ∷ (continued_prefix k q' ++ with_inserted (continued_prefix k q') u')) ++ 10 ∷ rest' =
         ap (λ z. z ++ 10 ∷ rest) (sym (inserted_feed (continued_prefix k q) c u g)) ∙ (e ∙ ap (λ z. z ++ 10 ∷ rest') (inserted_feed (continued_prefix k q') d u' f)) in
         let tails : (continued_prefix k q ++ with_inserted (continued_prefix k q) u) ++ 10 ∷ rest ≡ (continued_prefix k q' ++ with_inserted (continued_prefix k q') u') ++ 10 ∷ rest' = cc in
-        let marks = mark_once k h.pieces n q q' _ _ (a (feed_here c u g)) (b (feed_here d u' f)) (sym (append_assoc (continued_prefix k q) _ _) ∙ (tails ∙ append_assoc (continued_prefix k q') _ _)) in
-        let others = own_once k h n u u' q q' rest rest' (λ i. a (feed_behind c u i)) (λ i. b (feed_behind d u' i)) s t marks.1 in
+        let markers = marker_once k h.pieces n q q' _ _ (a (feed_here c u g)) (b (feed_here d u' f)) (sym (append_assoc (continued_prefix k q) _ _) ∙ (tails ∙ append_assoc (continued_prefix k q') _ _)) in
+        let others = own_once k h n u u' q q' rest rest' (λ i. a (feed_behind c u i)) (λ i. b (feed_behind d u' i)) s t markers.1 in
         let heads : c ≡ d = g ∙ sym f in
-        record { own = ap (λ z. z ∷ u) heads ∙ ap (λ z. d ∷ z) others.own; passing = λ i. marks.0; rest = others.rest }
+        record { own = ap (λ z. z ∷ u) heads ∙ ap (λ z. d ∷ z) others.own; passing = λ i. markers.0; rest = others.rest }
     | inr f ↦
         let e' : (10 ∷ (continued_prefix k q ++ with_inserted (continued_prefix k q) u)) ++ 10 ∷ rest ≡ (d ∷ with_inserted (continued_prefix k q') u') ++ 10 ∷ rest' =
         ap (λ z. z ++ 10 ∷ rest) (sym (inserted_feed (continued_prefix k q) c u g)) ∙ (e ∙ ap (λ z. z ++ 10 ∷ rest') (inserted_other (continued_prefix k q') d u' f)) in
@@ -76,7 +76,7 @@ same_painted : (k : Look) (t u : List ℕ) → painted_text k.leaf t ≡ painted
 same_painted k t u e = append_cancel_left (start_codes k.leaf) t u (append_cancel_right ((start_codes k.leaf) ++ t) ((start_codes k.leaf) ++ u) (end_codes k.leaf) e)
 
 -- the texts of two items of one level at the start of one text are the same
-text_once : (k : Look) → IsReadableWith k.pieces k.mark → (n : ℕ) (t u q q' rest rest' : List ℕ) → (has_line_feed t ≡ true → ArePassing k.pieces n q) → (has_line_feed u ≡ true → ArePassing k.pieces n q')
+text_once : (k : Look) → IsReadableWith k.pieces k.marker → (n : ℕ) (t u q q' rest rest' : List ℕ) → (has_line_feed t ≡ true → ArePassing k.pieces n q) → (has_line_feed u ≡ true → ArePassing k.pieces n q')
     → IsNotContinued k n rest → IsNotContinued k n rest' → behind k q t rest ≡ behind k q' u rest' → SameOwn t u q q' rest rest'
 unfolding behind
 text_once k h n t u q q' rest rest' a b s r e =
@@ -98,7 +98,7 @@ same_shown k n m q q' t u a b e h = at (has_line_feed t) refl where
   at false i = a.single i ∙ sym (b.single (ap has_line_feed (sym e) ∙ i))
 
 -- the item at the start of a text is unique
-pub line_at_once : (k : Look) → IsReadableWith k.pieces k.mark → (r s : SpelledItem) (x rest rest' : List ℕ) → HasItem k r rest x → HasItem k s rest' x → (r ≡ s) × (rest ≡ rest')
+pub line_at_once : (k : Look) → IsReadableWith k.pieces k.marker → (r s : SpelledItem) (x rest rest' : List ℕ) → HasItem k r rest x → HasItem k s rest' x → (r ≡ s) × (rest ≡ rest')
 line_at_once k readable r s x rest rest' ((at, shown), is, stop) ((at', shown'), is', stop') =
     let whole : (start_codes k.branch) ++ (r.pieces ++ behind k r.passing r.text rest) ≡ (start_codes k.branch) ++ (s.pieces ++ behind k s.passing s.text rest') =
     sym (entry_is k r.pieces r.passing r.text rest) ∙ (sym is ∙ (is' ∙ entry_is k s.pieces s.passing s.text rest')) in
@@ -113,7 +113,7 @@ pub none_passing : (k : Look) → ArePassing k.pieces 0 []
 none_passing k = ([], refl, refl)
 
 -- the root at the start of a text is unique
-pub root_once : (k : Look) → IsReadableWith k.pieces k.mark → (a b x rest rest' : List ℕ) → HasRoot k a rest x → HasRoot k b rest' x → (a ≡ b) × (rest ≡ rest')
+pub root_once : (k : Look) → IsReadableWith k.pieces k.marker → (a b x rest rest' : List ℕ) → HasRoot k a rest x → HasRoot k b rest' x → (a ≡ b) × (rest ≡ rest')
 root_once k readable a b x rest rest' (is, stop) (is', stop') =
     let same = text_once k readable 0 a b [] [] rest rest' (λ i. none_passing k) (λ i. none_passing k) stop stop'
     (append_cancel_left (start_codes k.branch) _ _ (sym (entry_is k [] [] a rest) ∙ (sym is ∙ (is' ∙ entry_is k [] [] b rest')))) in
@@ -137,7 +137,7 @@ stops_tail k l [] rest s = tt
 stops_tail k l (m ∷ lines) rest s = s
 
 -- what follows the first of such items does not continue it
-stops_head : (k : Look) → IsReadableWith k.pieces k.mark → (l : SpelledItem) (lines : List SpelledItem) (rest : List ℕ) → All (IsSpelled k.pieces) lines → Stops k (l ∷ lines) rest → IsNotContinued k l.level (spelled_text k lines ++ rest)
+stops_head : (k : Look) → IsReadableWith k.pieces k.marker → (l : SpelledItem) (lines : List SpelledItem) (rest : List ℕ) → All (IsSpelled k.pieces) lines → Stops k (l ∷ lines) rest → IsNotContinued k l.level (spelled_text k lines ++ rest)
 stops_head k h l [] rest are s = s
 stops_head k h l (m ∷ lines) rest are s =
     subst (λ z. IsNotContinued k l.level z) (sym (append_assoc (text_entry k m.pieces m.passing m.text) (spelled_text k lines) rest))
@@ -152,7 +152,7 @@ pub record GoesOn (k : Look) (lines all : List SpelledItem) (rest : List ℕ) : 
   pub rest_is : rest ≡ spelled_text k more
 
 -- any items of a text begin with those at its start
-pub lines_once : (k : Look) → IsReadableWith k.pieces k.mark → (lines all : List SpelledItem) (rest : List ℕ)
+pub lines_once : (k : Look) → IsReadableWith k.pieces k.marker → (lines all : List SpelledItem) (rest : List ℕ)
     → All (IsSpelled k.pieces) lines → All (IsSpelled k.pieces) all → Stops k lines rest → spelled_text k lines ++ rest ≡ spelled_text k all → GoesOn k lines all rest
 lines_once k readable [] all rest h g s e = record { more = all; are = refl; are_spelled = g; rest_is = e }
 lines_once k readable (r ∷ lines) [] rest h g s e =
@@ -172,7 +172,7 @@ lines_once k readable (r ∷ lines) (l ∷ all) rest h g s e =
     }
 
 -- the end of a text continues nothing
-pub stops_at_end : (k : Look) → IsReadableWith k.pieces k.mark → (lines : List SpelledItem) → Stops k lines []
+pub stops_at_end : (k : Look) → IsReadableWith k.pieces k.marker → (lines : List SpelledItem) → Stops k lines []
 stops_at_end k h [] = tt
 stops_at_end k h (l ∷ []) = items_never k h l.level [] (All-nil (IsSpelled k.pieces))
 stops_at_end k h (l ∷ m ∷ lines) = stops_at_end k h (m ∷ lines)

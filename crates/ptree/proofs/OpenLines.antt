@@ -15,7 +15,7 @@ use Rattle.ptree.specs.Style.{start_codes, end_codes}
 use Rattle.ptree.specs.Texts.{HasNoLineFeed}
 use Rattle.ptree.proofs.LastFlags.{length-last_flags}
 use Rattle.ptree.proofs.Levels.{has_later_deeper, has_later_here}
-use Rattle.ptree.proofs.Marks.{passings_once, mark_is}
+use Rattle.ptree.proofs.Markers.{passings_once, marker_is}
 use Rattle.ptree.proofs.Prefixes.{apart_never, same_prefix, same_kind}
 use Rattle.ptree.proofs.Styles.{no_line_feed_start, no_line_feed_end}
 use Rattle.ptree.proofs.OpenItems.{some_flag, allows_any, passing_deeper}
@@ -32,25 +32,25 @@ own_prefix_split k pieces x = at (start_codes k.branch) (end_codes k.branch) (st
 -- a text without the branch's codes begins with neither kind of line
 pub no_start : (k : Look) (depth : ℕ) (fs : List Flags) (x : List ℕ) → ((z : List ℕ) → x ≢ start_codes k.branch ++ z) → BeginsWrong k depth fs x
 no_start k depth fs x h = record {
-  no_further = λ o z a e. h _ (e ∙ mark_is k (passing_by k.pieces o (length fs)) z);
+  no_further = λ o z a e. h _ (e ∙ marker_is k (passing_by k.pieces o (length fs)) z);
   no_own = λ n o z low high deep a e. h _ (e ∙ own_prefix_split k (pieces_by k.pieces o n) z);
 }
 
 -- what must still be shown wrong, given the pieces that were found
-pub begins_wrong : (k : Look) → IsReadableWith k.pieces k.mark → (depth : ℕ) (fs new : List Flags) (x text shown rest : List ℕ) (n : ℕ) → x ≡ start_codes k.branch ++ text → IsFound k.pieces fs new text shown rest n
-    → ((z : List ℕ) → n ≡ length fs → rest ≢ k.mark ++ (end_codes k.branch ++ z))
+pub begins_wrong : (k : Look) → IsReadableWith k.pieces k.marker → (depth : ℕ) (fs new : List Flags) (x text shown rest : List ℕ) (n : ℕ) → x ≡ start_codes k.branch ++ text → IsFound k.pieces fs new text shown rest n
+    → ((z : List ℕ) → n ≡ length fs → rest ≢ k.marker ++ (end_codes k.branch ++ z))
     → ((b : Bool) (o : List Line) (z : List ℕ) → suc n ≤ depth → Allows new (line (suc n) [] ∷ o) → rest ≢ turning_piece k.pieces b ++ (end_codes k.branch ++ (start_codes k.leaf ++ z)))
     → BeginsWrong k depth fs x
-begins_wrong k readable depth fs new x text shown rest n is h no_mark no_turn = record { no_further = further; no_own = own } where
+begins_wrong k readable depth fs new x text shown rest n is h no_marker no_turn = record { no_further = further; no_own = own } where
   p : Pieces
   p = k.pieces
 
   further : (o : List Line) (z : List ℕ) → Allows fs o → x ≢ continued_prefix k (passing_by p o (length fs)) ++ z
   further o z a e =
-      let whole : text ≡ passing_by p o (length fs) ++ (k.mark ++ (end_codes k.branch ++ z)) =
-      append_cancel_left (start_codes k.branch) _ _ (sym is ∙ (e ∙ mark_is k (passing_by p o (length fs)) z)) in
-      let there = found_at p readable.pieces fs new text shown rest n h (length fs) o k.mark (end_codes k.branch ++ z) (omega arith) a (λ b. (readable.apart b).1) whole in
-      no_mark z there.0 there.2
+      let whole : text ≡ passing_by p o (length fs) ++ (k.marker ++ (end_codes k.branch ++ z)) =
+      append_cancel_left (start_codes k.branch) _ _ (sym is ∙ (e ∙ marker_is k (passing_by p o (length fs)) z)) in
+      let there = found_at p readable.pieces fs new text shown rest n h (length fs) o k.marker (end_codes k.branch ++ z) (omega arith) a (λ b. (readable.apart b).1) whole in
+      no_marker z there.0 there.2
 
   own : (m : ℕ) (o : List Line) (z : List ℕ) → 0 < m → m ≤ suc (length fs) → m ≤ depth → Allows fs (line m [] ∷ o) → x ≢ own_prefix k (pieces_by p o m) ++ z
   own zero o z low high deep a e = absurd (omega arith)
@@ -66,18 +66,18 @@ begins_wrong k readable depth fs new x text shown rest n is h no_mark no_turn = 
       no_turn b o z (omega (arith, deep, same)) (subst (λ y. Allows new (line (suc y) [] ∷ o)) (sym same) kept) there.2
 
 -- a line with a turning piece there is wrong
-pub turned_wrong : (k : Look) → IsReadableWith k.pieces k.mark → (depth : ℕ) (fs new : List Flags) (x text shown rest turned : List ℕ) (n : ℕ) (flags : Flags) → x ≡ start_codes k.branch ++ text → IsFound k.pieces fs new text shown rest n
+pub turned_wrong : (k : Look) → IsReadableWith k.pieces k.marker → (depth : ℕ) (fs new : List Flags) (x text shown rest turned : List ℕ) (n : ℕ) (flags : Flags) → x ≡ start_codes k.branch ++ text → IsFound k.pieces fs new text shown rest n
     → IsCutTo (turning_piece k.pieces) any_flags rest flags turned
     → ((o : List Line) (z : List ℕ) → suc n ≤ depth → Allows new (line (suc n) [] ∷ o) → turned ≢ end_codes k.branch ++ (start_codes k.leaf ++ z)) → BeginsWrong k depth fs x
 turned_wrong k readable depth fs new x text shown rest turned n flags is h cut never =
     begins_wrong k readable depth fs new x text shown rest n is h
-    (λ z level e. apart_never k.mark (turning_piece k.pieces cut.last) (end_codes k.branch ++ z) turned (readable.apart cut.last).0 (sym e ∙ cut.text_is))
+    (λ z level e. apart_never k.marker (turning_piece k.pieces cut.last) (end_codes k.branch ++ z) turned (readable.apart cut.last).0 (sym e ∙ cut.text_is))
     (λ b o z deep a e. never o z deep a (same_prefix (turning_piece k.pieces cut.last) (turning_piece k.pieces b) turned (end_codes k.branch ++ (start_codes k.leaf ++ z))
     (same_kind k.pieces.regular k.pieces.last_regular readable.pieces.turnings cut.last b) (sym cut.text_is ∙ e)).1)
 
 -- a line without a turning piece there is wrong
-pub unturned_wrong : (k : Look) → IsReadableWith k.pieces k.mark → (depth : ℕ) (fs new : List Flags) (x text shown rest : List ℕ) (n : ℕ) → x ≡ start_codes k.branch ++ text → IsFound k.pieces fs new text shown rest n
-    → NoPiece (turning_piece k.pieces) any_flags rest → ((z : List ℕ) → n ≡ length fs → rest ≢ k.mark ++ (end_codes k.branch ++ z)) → BeginsWrong k depth fs x
+pub unturned_wrong : (k : Look) → IsReadableWith k.pieces k.marker → (depth : ℕ) (fs new : List Flags) (x text shown rest : List ℕ) (n : ℕ) → x ≡ start_codes k.branch ++ text → IsFound k.pieces fs new text shown rest n
+    → NoPiece (turning_piece k.pieces) any_flags rest → ((z : List ℕ) → n ≡ length fs → rest ≢ k.marker ++ (end_codes k.branch ++ z)) → BeginsWrong k depth fs x
 unturned_wrong k readable depth fs new x text shown rest n is h none never =
     begins_wrong k readable depth fs new x text shown rest n is h never (λ b o z deep a e. none b (end_codes k.branch ++ (start_codes k.leaf ++ z)) (allows_any b) e)
 
@@ -112,7 +112,7 @@ own_parts k x text rest turned closed start own more flags is cut t c line = rec
 }
 
 -- an item's own line, from its parts
-pub own_there : (k : Look) → IsReadableWith k.pieces k.mark → (depth : ℕ) (fs new fs' : List Flags) (x text shown rest turned own more : List ℕ) (n : ℕ) (flags : Flags) → IsFound k.pieces fs new text shown rest n
+pub own_there : (k : Look) → IsReadableWith k.pieces k.marker → (depth : ℕ) (fs new fs' : List Flags) (x text shown rest turned own more : List ℕ) (n : ℕ) (flags : Flags) → IsFound k.pieces fs new text shown rest n
     → OwnParts k x text rest turned own more flags → n < depth → CanClose n new → fs' ≡ take n new ++ flags ∷ [] → IsOwnLine k depth fs x own more fs' × ArePath k.pieces fs' n shown
 own_there k readable depth fs new fs' x text shown rest turned own more n flags h parts deep can fs_is =
     let p : Pieces = k.pieces in
@@ -188,7 +188,7 @@ own_there k readable depth fs new fs' x text shown rest turned own more n flags 
 
 -- a further line, from its parts
 pub further_there : (k : Look) (fs new : List Flags) (x text shown rest own more : List ℕ) (n : ℕ) → IsFound k.pieces fs new text shown rest n → x ≡ start_codes k.branch ++ text
-    → length new ≤ n → rest ≡ k.mark ++ (end_codes k.branch ++ (own ++ 10 ∷ more)) → HasNoLineFeed own → IsFurtherLine k fs x own more new × ArePath k.pieces new n shown
+    → length new ≤ n → rest ≡ k.marker ++ (end_codes k.branch ++ (own ++ 10 ∷ more)) → HasNoLineFeed own → IsFurtherLine k fs x own more new × ArePath k.pieces new n shown
 further_there k fs new x text shown rest own more n h is all rest_is one =
     let enough = h.enough in
     let count = h.count in
@@ -197,7 +197,7 @@ further_there k fs new x text shown rest own more n h is all rest_is one =
         passing = shown;
         one = one;
         are_passing = subst (λ z. ArePassing k.pieces z shown) level h.are_passing;
-        text_is = is ∙ (ap (λ z. start_codes k.branch ++ z) (h.text_is ∙ ap (λ z. shown ++ z) rest_is) ∙ sym (mark_is k shown (own ++ 10 ∷ more)));
+        text_is = is ∙ (ap (λ z. start_codes k.branch ++ z) (h.text_is ∙ ap (λ z. shown ++ z) rest_is) ∙ sym (marker_is k shown (own ++ 10 ∷ more)));
         cuts = subst (λ z. CutsPassing k.pieces fs z shown new) level h.cut;
         count = count;
       },
@@ -222,7 +222,7 @@ both_feedless : (a b : List ℕ) → HasNoLineFeed a → HasNoLineFeed b → Has
 both_feedless a b h g = All-append (λ c. c ≢ 10) a b h g
 
 -- if no line feed follows an item's own prefix, the text has none
-pub own_feedless : (k : Look) → IsReadableWith k.pieces k.mark → (fs new : List Flags) (x text shown rest turned closed start : List ℕ) (n : ℕ) (flags : Flags) → x ≡ start_codes k.branch ++ text → IsFound k.pieces fs new text shown rest n
+pub own_feedless : (k : Look) → IsReadableWith k.pieces k.marker → (fs new : List Flags) (x text shown rest turned closed start : List ℕ) (n : ℕ) (flags : Flags) → x ≡ start_codes k.branch ++ text → IsFound k.pieces fs new text shown rest n
     → IsCutTo (turning_piece k.pieces) any_flags rest flags turned → turned ≡ end_codes k.branch ++ closed → closed ≡ start_codes k.leaf ++ start → HasNoLineFeed start → HasNoLineFeed x
 own_feedless k readable fs new x text shown rest turned closed start n flags is h cut t c s =
     let (above, len, shown_is) = h.are_passing in
@@ -233,11 +233,11 @@ own_feedless k readable fs new x text shown rest turned closed start n flags is 
     subst HasNoLineFeed (sym (is ∙ ap (λ z. start_codes k.branch ++ z) h.text_is)) (both_feedless (start_codes k.branch) (shown ++ rest) (no_line_feed_start k.branch) (both_feedless shown rest pieces rest_less))
 
 -- if no line feed follows a further line's prefix, the text has none
-pub further_feedless : (k : Look) → IsReadableWith k.pieces k.mark → (fs new : List Flags) (x text shown rest closed start : List ℕ) (n : ℕ) → x ≡ start_codes k.branch ++ text → IsFound k.pieces fs new text shown rest n
-    → rest ≡ k.mark ++ closed → closed ≡ end_codes k.branch ++ start → HasNoLineFeed start → HasNoLineFeed x
+pub further_feedless : (k : Look) → IsReadableWith k.pieces k.marker → (fs new : List Flags) (x text shown rest closed start : List ℕ) (n : ℕ) → x ≡ start_codes k.branch ++ text → IsFound k.pieces fs new text shown rest n
+    → rest ≡ k.marker ++ closed → closed ≡ end_codes k.branch ++ start → HasNoLineFeed start → HasNoLineFeed x
 further_feedless k readable fs new x text shown rest closed start n is h m c s =
     let (above, len, shown_is) = h.are_passing in
     let pieces : HasNoLineFeed shown = subst HasNoLineFeed (sym shown_is) (feedless_passing k.pieces readable.pieces above) in
     let closed_less : HasNoLineFeed closed = subst HasNoLineFeed (sym c) (both_feedless (end_codes k.branch) start (no_line_feed_end k.branch) s) in
-    let rest_less : HasNoLineFeed rest = subst HasNoLineFeed (sym m) (both_feedless k.mark closed readable.no_line_feed closed_less) in
+    let rest_less : HasNoLineFeed rest = subst HasNoLineFeed (sym m) (both_feedless k.marker closed readable.no_line_feed closed_less) in
     subst HasNoLineFeed (sym (is ∙ ap (λ z. start_codes k.branch ++ z) h.text_is)) (both_feedless (start_codes k.branch) (shown ++ rest) (no_line_feed_start k.branch) (both_feedless shown rest pieces rest_less))

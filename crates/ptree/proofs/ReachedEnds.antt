@@ -27,7 +27,7 @@ moved_assoc : (a line more : List ℕ) → (a ++ line ++ 10 ∷ []) ++ more ≡ 
 moved_assoc a line more = simp append_assoc
 
 -- a line that is neither an own line nor a further one is wrong
-pub wrong_line : (k : Look) → IsReadableWith k.pieces k.mark → (depth : ℕ) (prefix : List ℕ) (lines : List Line) (level : ℕ) (own : List ℕ) (fs : List Flags) (x new rest : List ℕ)
+pub wrong_line : (k : Look) → IsReadableWith k.pieces k.marker → (depth : ℕ) (prefix : List ℕ) (lines : List Line) (level : ℕ) (own : List ℕ) (fs : List Flags) (x new rest : List ℕ)
     → Reached k depth prefix lines level own fs → x ≡ new ++ 10 ∷ rest
     → ((o : List Line) (z : List ℕ) → Allows fs o → x ≡ continued_prefix k (passing_by k.pieces o level) ++ z → ⊥)
     → ((text : List ℕ) (n : ℕ) (o : List Line) (z : List ℕ) → own ≡ text ++ end_codes k.leaf → 0 < n → n ≤ suc level → n ≤ depth → Allows fs (line n [] ∷ o) → x ≡ own_prefix k (pieces_by k.pieces o n) ++ z → ⊥)

@@ -16,7 +16,7 @@ use Rattle.ptree.proofs.LastFlags.{length-last_flags}
 use Rattle.ptree.proofs.Outlines.{same_tree}
 use Rattle.ptree.proofs.Levels.{tree_by_levels}
 use Rattle.ptree.proofs.ItemsOnce.{root_once, lines_once, entry_not_nil, stops_at_end}
-use Rattle.ptree.proofs.Marks.{items_never}
+use Rattle.ptree.proofs.Markers.{items_never}
 use Rattle.ptree.proofs.TreeDrawing.{drawing_of_tree}
 
 -- x is the text of a root, and then the text of items
@@ -111,7 +111,7 @@ abbrev pub tree_lines : Pieces → Tree → List SpelledItem
 tree_lines p t = spelled_by p (outline_at 1 t.children)
 
 -- the drawn form spells the outline, with the pieces that last flags give
-pub form_shows : (look : Look) → IsReadableWith look.pieces look.mark → (depth : ℕ) (x : List ℕ) (t : Tree) → IsDrawnForm look depth x t → Shows look depth t.text (tree_lines look.pieces t) x
+pub form_shows : (look : Look) → IsReadableWith look.pieces look.marker → (depth : ℕ) (x : List ℕ) (t : Tree) → IsDrawnForm look depth x t → Shows look depth t.text (tree_lines look.pieces t) x
 form_shows look readable depth x t h =
     let k : Look = look in
     let o : List Line = outline_at 1 t.children in
@@ -141,7 +141,7 @@ shows_form look depth x t h =
     }
 
 -- a text shows only one root and one list of items
-pub shows_once : (k : Look) (depth depth' : ℕ) → IsReadableWith k.pieces k.mark → (a b : List ℕ) (lines rows' : List SpelledItem) (x : List ℕ)
+pub shows_once : (k : Look) (depth depth' : ℕ) → IsReadableWith k.pieces k.marker → (a b : List ℕ) (lines rows' : List SpelledItem) (x : List ℕ)
     → Shows k depth a lines x → Shows k depth' b rows' x → (a ≡ b) × (lines ≡ rows')
 shows_once k depth depth' readable a b lines rows' x h g =
     let roots = root_once k readable a b x h.body g.body h.has_root g.has_root in
@@ -154,7 +154,7 @@ shows_once k depth depth' readable a b lines rows' x h g =
     at_end (r ∷ more) e = absurd (entry_not_nil k r.pieces r.passing r.text (spelled_text k more) (sym e))
 
 -- if pieces and marker are readable, two trees with one drawn form are equal
-pub same_drawn_form : (look : Look) (depth : ℕ) → IsReadableWith look.pieces look.mark → (x : List ℕ) (t u : Tree) → IsDrawnForm look depth x t → IsDrawnForm look depth x u → t ≡ u
+pub same_drawn_form : (look : Look) (depth : ℕ) → IsReadableWith look.pieces look.marker → (x : List ℕ) (t u : Tree) → IsDrawnForm look depth x t → IsDrawnForm look depth x u → t ≡ u
 same_drawn_form look depth readable x t u h g =
     let p : Pieces = look.pieces in
     let same = shows_once look depth depth readable t.text u.text (tree_lines p t) (tree_lines p u) x (form_shows look readable depth x t h) (form_shows look readable depth x u g) in
@@ -163,5 +163,5 @@ same_drawn_form look depth readable x t u h g =
     same_tree t u (ap (λ z. line 0 z ∷ outline_at 1 t.children) same.0 ∙ ap (λ z. line 0 u.text ∷ z) below)
 
 -- readable pieces and a readable marker read in only one way
-pub reads_one_way : (p : Pieces) (mark : List ℕ) → IsReadableWith p mark → ReadsOneWay p mark
-reads_one_way p mark h branch leaf depth x t u f g = same_drawn_form (look_from branch leaf p mark) depth h x t u f g
+pub reads_one_way : (p : Pieces) (marker : List ℕ) → IsReadableWith p marker → ReadsOneWay p marker
+reads_one_way p marker h branch leaf depth x t u f g = same_drawn_form (look_from branch leaf p marker) depth h x t u f g

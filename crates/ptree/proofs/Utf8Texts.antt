@@ -93,7 +93,7 @@ painted style text h =
 record AreUtf8 (look : Look) : Type 0 where
   turning : (last : Bool) → IsUtf8 (turning_piece look.pieces last)
   passing : (last : Bool) → IsUtf8 (passing_piece look.pieces last)
-  mark : IsUtf8 look.mark
+  marker : IsUtf8 look.marker
 
 -- so is a passing text
 passed : (look : Look) → AreUtf8 look → (x : Shape) (a : Address) → IsUtf8 (passing_text look x a)
@@ -107,8 +107,8 @@ prefixed look u x (i ∷ rest) = IsUtf8-append (passing_text look x (parent (i �
 -- so is an entry, if the items' texts are
 entered : (look : Look) → AreUtf8 look → (x : Shape) → HasUtf8Texts look x → (a : Address) → IsUtf8 (entry_text look x a)
 entered look u x h a =
-    let front = painted look.branch (passing_text look x a ++ look.mark) (IsUtf8-append (passing_text look x a) look.mark (passed look u x a) u.mark) in
-    let own = inserted_behind (painted_text look.branch (passing_text look x a ++ look.mark)) front [] (own_at look x a) (h a) in
+    let front = painted look.branch (passing_text look x a ++ look.marker) (IsUtf8-append (passing_text look x a) look.marker (passed look u x a) u.marker) in
+    let own = inserted_behind (painted_text look.branch (passing_text look x a ++ look.marker)) front [] (own_at look x a) (h a) in
     IsUtf8-append _ (10 ∷ []) (IsUtf8-append (painted_text look.branch (prefix_text look x a)) _ (painted look.branch (prefix_text look x a) (prefixed look u x a)) own) feed
 
 -- ## Drawings
@@ -135,7 +135,7 @@ of_config config =
         | true ↦ piece n p _ _ _ empty empty empty
         | false ↦ piece n p _ _ _ (IsUtf8-string_bytes c.down) empty empty
       ];
-      mark = IsUtf8-string_bytes config.continued;
+      marker = IsUtf8-string_bytes config.continued;
     }
 
 -- the drawing of an item with UTF-8 texts is UTF-8

@@ -6,7 +6,7 @@ use Rattle.ptree.specs.declared.print_config.PrintConfig.{PrintConfig}
 use Rattle.ptree.specs.declared.print_config.StyleWhen.{StyleWhen}
 use Rattle.ptree.specs.declared.print_config.StyleWhen.TheVariants.{Never, Always, Tty}
 use Rattle.ptree.specs.Characters.{characters_of, utf, Characters}
-use Rattle.ptree.specs.Pieces.{mark_of}
+use Rattle.ptree.specs.Pieces.{marker_of}
 use Rattle.ptree.specs.Style.{plain_style, StyleValue, style_of, plain_value}
 
 -- whether output of a kind is styled; the last argument says whether standard output is a terminal
@@ -17,8 +17,8 @@ is_styled Tty Unknown terminal = false
 is_styled Tty Stdout terminal = terminal
 
 -- the default marker: a colon and a space
-abbrev pub default_mark : List ℕ
-default_mark = codes ": "
+abbrev pub default_marker : List ℕ
+default_marker = codes ": "
 
 -- the default: every level, indent 3, padding 1, styled on a terminal, regular box-drawing
 -- characters, dimmed branches, plain leaves and the default marker
@@ -30,7 +30,7 @@ pub record IsDefault (config : PrintConfig) : Type 0 where
   pub characters : characters_of config.characters ≡ utf
   pub branch : config.branch ≡ record plain_style { dimmed = true }
   pub leaf : config.leaf ≡ plain_style
-  pub continued : mark_of config ≡ default_mark
+  pub continued : marker_of config ≡ default_marker
 
 -- the value of a configuration
 pub record ConfigValue : Type 0 where
@@ -53,7 +53,7 @@ config_of config = record {
   characters = characters_of config.characters;
   branch = style_of config.branch;
   leaf = style_of config.leaf;
-  continued = mark_of config;
+  continued = marker_of config;
 }
 
 -- the default configuration
@@ -66,5 +66,5 @@ default_config = record {
   characters = utf;
   branch = record plain_value { dimmed = true };
   leaf = plain_value;
-  continued = default_mark;
+  continued = default_marker;
 }

@@ -17,11 +17,11 @@ pub record Look : Type 0 where
   pub branch : StyleValue
   pub leaf : StyleValue
   pub pieces : Pieces
-  pub mark : List ℕ
+  pub marker : List ℕ
 
 -- the look of two styles, pieces and a marker
 abbrev pub look_from : StyleValue → StyleValue → Pieces → List ℕ → Look
-look_from branch leaf pieces mark = record { branch = branch; leaf = leaf; pieces = pieces; mark = mark }
+look_from branch leaf pieces marker = record { branch = branch; leaf = leaf; pieces = pieces; marker = marker }
 
 -- a style if output is styled, else the plain one
 abbrev pub effective_style : Bool → StyleValue → StyleValue
@@ -57,7 +57,7 @@ with_inserted inserted text = flat_map (λ b. if nat_eq b line_feed then line_fe
 
 -- the text before a further line of an item: its passing text and the marker, painted as branches
 abbrev pub continued_prefix : Look → List ℕ → List ℕ
-continued_prefix look passing = painted_text look.branch (passing ++ look.mark)
+continued_prefix look passing = painted_text look.branch (passing ++ look.marker)
 
 -- the painted prefix, the own bytes with the prefix of further lines after each of their line
 -- feeds, and a line feed

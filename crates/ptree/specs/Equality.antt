@@ -11,7 +11,7 @@ use Rattle.ptree.specs.declared.style.color.Color.TheVariants.{Black, Red, Green
 use Rattle.ptree.specs.declared.style.Style.{Style}
 use Rattle.ptree.specs.contracts.print_config.StyleWhen.{the_type}
 use Rattle.ptree.specs.Characters.{Characters, characters_of}
-use Rattle.ptree.specs.Pieces.{mark_of}
+use Rattle.ptree.specs.Pieces.{marker_of}
 use Rattle.ptree.specs.Tree.{Forest, none, item, Tree}
 
 -- the same characters
@@ -47,7 +47,7 @@ abbrev pub same_config : PrintConfig → PrintConfig → Bool
 same_config a b =
     a.depth == b.depth && a.indent == b.indent && a.padding == b.padding && sameb the_type a.styled b.styled
     && same_characters (characters_of a.characters) (characters_of b.characters) && same_style a.branch b.branch
-    && same_style a.leaf b.leaf && bytes_eq (mark_of a) (mark_of b)
+    && same_style a.leaf b.leaf && bytes_eq (marker_of a) (marker_of b)
 
 -- the same lists of trees
 abbrev pub same_forest : Forest → Forest → Bool

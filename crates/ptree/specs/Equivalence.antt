@@ -21,7 +21,7 @@ use Rattle.ptree.specs.Characters.{Characters, characters_of}
 use Rattle.ptree.specs.Color.{color_of}
 use Rattle.ptree.specs.Config.{config_of}
 use Rattle.ptree.specs.Equality.{same_characters, same_color, same_style, same_config, same_forest, same_tree}
-use Rattle.ptree.specs.Pieces.{mark_of}
+use Rattle.ptree.specs.Pieces.{marker_of}
 use Rattle.ptree.specs.Style.{style_of}
 use Rattle.ptree.specs.Tree.{Forest, none, item, Tree, tree, tree_of}
 
@@ -85,7 +85,7 @@ style_decided a b =
 -- the test of configurations decides whether they hold the same
 pub config_decided : (a b : PrintConfig) → IsTrue (same_config a b) ↔ (config_of a ≡ config_of b)
 config_decided a b =
-    let h = both (both (both (both (both (both (both (numbers a.depth b.depth) (numbers a.indent b.indent)) (numbers a.padding b.padding)) (whens a.styled b.styled)) (characters_decided (characters_of a.characters) (characters_of b.characters))) (style_decided a.branch b.branch)) (style_decided a.leaf b.leaf)) (texts (mark_of a) (mark_of b)) in (
+    let h = both (both (both (both (both (both (both (numbers a.depth b.depth) (numbers a.indent b.indent)) (numbers a.padding b.padding)) (whens a.styled b.styled)) (characters_decided (characters_of a.characters) (characters_of b.characters))) (style_decided a.branch b.branch)) (style_decided a.leaf b.leaf)) (texts (marker_of a) (marker_of b)) in (
       λ e. let p = h.0 e in λ i. record {
         depth = p.0.0.0.0.0.0.0 i;
         indent = p.0.0.0.0.0.0.1 i;

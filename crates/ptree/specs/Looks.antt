@@ -10,7 +10,7 @@ use Rattle.ptree.specs.Style.{StyleValue, style_of, start_codes, end_codes}
 
 -- the look that the code's look means
 abbrev pub look_of : HeldLook → Look
-look_of l = look_from (style_of l.branch) (style_of l.leaf) (pieces_of l.pieces) l.mark.now
+look_of l = look_from (style_of l.branch) (style_of l.leaf) (pieces_of l.pieces) l.marker.now
 
 -- the piece on the own line of a root (none), or of a child by whether it is last
 abbrev pub own_piece : Pieces → Option Bool → List ℕ
@@ -28,7 +28,7 @@ own_text look last = own_piece look.pieces last ++ end_codes look.branch
 
 -- the piece of the lines below, the marker and the branch's end codes
 abbrev pub further_text : Look → Option Bool → List ℕ
-further_text look last = below_piece look.pieces last ++ look.mark ++ end_codes look.branch
+further_text look last = below_piece look.pieces last ++ look.marker ++ end_codes look.branch
 
 -- three texts are those on the own lines of a root, a child and a last child
 pub record AreOwnTexts (look : Look) (root child last_child : List ℕ) : Type 0 where

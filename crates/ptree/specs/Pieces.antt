@@ -42,8 +42,8 @@ abbrev pub config_pieces : PrintConfig → Pieces
 config_pieces config = pieces_from (characters_of config.characters) config.indent config.padding
 
 -- the marker of a configuration
-abbrev pub mark_of : PrintConfig → List ℕ
-mark_of config = string_bytes config.continued
+abbrev pub marker_of : PrintConfig → List ℕ
+marker_of config = string_bytes config.continued
 
 -- the pieces that an `Indent` holds
 abbrev pub pieces_of : Indent → Pieces

@@ -68,7 +68,7 @@ pub(crate) const DEFAULT_INDENT: usize = 3;
 
 pub(crate) const DEFAULT_PADDING: usize = 1;
 
-pub(crate) const DEFAULT_MARK: &str = ": ";
+pub(crate) const DEFAULT_MARKER: &str = ": ";
 
 /// How a tree is drawn.
 #[derive(Debug, Drop)]
@@ -210,7 +210,7 @@ impl PrintConfig {
             indent: DEFAULT_INDENT,
             padding: DEFAULT_PADDING,
             styled: StyleWhen::Tty,
-            continued: String::from_str(alloc, DEFAULT_MARK)?,
+            continued: String::from_str(alloc, DEFAULT_MARKER)?,
             characters: IndentChars::from_static(alloc, UTF_CHARS)?,
             branch: dimmed_style(),
             leaf: Style::default(),

@@ -23,8 +23,8 @@ inserted_painted look inserted text =
     ∙ ap (λ z. (start ++ with_inserted inserted text) ++ z) (inserted_none inserted end (no_line_feed_end look.leaf))))
 
 -- what is inserted after line feeds
-further_joined : (start outer below mark end : List ℕ) → (start ++ outer) ++ (below ++ mark ++ end) ≡ start ++ ((outer ++ below) ++ mark) ++ end
-further_joined start outer below mark end = simp append_assoc
+further_joined : (start outer below marker end : List ℕ) → (start ++ outer) ++ (below ++ marker ++ end) ≡ start ++ ((outer ++ below) ++ marker) ++ end
+further_joined start outer below marker end = simp append_assoc
 
 -- the parts of an entry, one behind the other
 parts_joined : (start outer own end leaf text leaf_end : List ℕ) → ((((start ++ outer) ++ ((own ++ end) ++ leaf)) ++ text) ++ (leaf_end ++ 10 ∷ []))
@@ -37,11 +37,11 @@ pub entry_gathered : (look : Look) (above : List Bool) (own : Option Bool) (text
 entry_gathered look above own text front is =
     let start : List ℕ = start_codes look.branch in
     let outer : List ℕ = passing_all look.pieces above in
-    let further : List ℕ = below_piece look.pieces own ++ look.mark ++ end_codes look.branch in
-    let inserted : List ℕ = start ++ ((outer ++ below_piece look.pieces own) ++ look.mark) ++ end_codes look.branch in
+    let further : List ℕ = below_piece look.pieces own ++ look.marker ++ end_codes look.branch in
+    let inserted : List ℕ = start ++ ((outer ++ below_piece look.pieces own) ++ look.marker) ++ end_codes look.branch in
     ap (λ f. ((f ++ (own_text look own ++ start_codes look.leaf)) ++ with_inserted (f ++ further) text) ++ (end_codes look.leaf ++ 10 ∷ [])) is
     ∙ (ap (λ i. (((start ++ outer) ++ (own_text look own ++ start_codes look.leaf)) ++ with_inserted i text) ++ (end_codes look.leaf ++ 10 ∷ []))
-    (further_joined start outer (below_piece look.pieces own) look.mark (end_codes look.branch))
+    (further_joined start outer (below_piece look.pieces own) look.marker (end_codes look.branch))
     ∙ (parts_joined start outer (own_piece look.pieces own) (end_codes look.branch) (start_codes look.leaf) (with_inserted inserted text) (end_codes look.leaf)
     ∙ ap (λ z. painted_text look.branch (outer ++ own_piece look.pieces own) ++ z ++ 10 ∷ []) (sym (inserted_painted look inserted text))))
 

@@ -15,4 +15,4 @@ pub record AreTexts (look : Look) (pieces : Pieces) (start root child last_child
   pub child_is : child ≡ own_text look (Some false) ++ start_codes look.leaf
   pub last_child_is : last_child ≡ own_text look (Some true) ++ start_codes look.leaf
   pub end_is : end ≡ end_codes look.leaf ++ line_feed ∷ []
-  pub further_is : further ≡ look.mark ++ end_codes look.branch
+  pub further_is : further ≡ look.marker ++ end_codes look.branch

@@ -28,7 +28,7 @@ HasRoom brush levels pen = levels * widest (brush_look brush) + length (start_co
 
 -- what is inserted after each line feed of an item's text, which is below a front
 abbrev pub inserted_below : Look → List ℕ → Option Bool → List ℕ
-inserted_below look front own = front ++ (below_piece look.pieces own ++ look.mark ++ end_codes look.branch)
+inserted_below look front own = front ++ (below_piece look.pieces own ++ look.marker ++ end_codes look.branch)
 
 -- the entry of an item behind a front
 abbrev pub entry_behind : Look → List ℕ → Option Bool → List ℕ → List ℕ

@@ -35,11 +35,11 @@ fn painted(
 }
 
 // Adds a text, and after each line feed in it a marker.
-fn add_marked(out: &mut String, text: &str, mark: &str) -> Result<(), AllocError> {
+fn add_with_marker(out: &mut String, text: &str, marker: &str) -> Result<(), AllocError> {
     for c in text.chars() {
         out.push(c)?;
         if c == '\n' {
-            out.push_str(mark)?;
+            out.push_str(marker)?;
         }
     }
     Ok(())
@@ -53,9 +53,9 @@ fn add_text(
     tree: &StringItem,
     config: &PrintConfig,
 ) -> Result<(), AllocError> {
-    let mark = painted(alloc, &config.branch, config, config.continued.as_str())?;
+    let marker = painted(alloc, &config.branch, config, config.continued.as_str())?;
     let own = painted(alloc, &config.leaf, config, tree.text.as_str())?;
-    add_marked(out, own.as_str(), mark.as_str())
+    add_with_marker(out, own.as_str(), marker.as_str())
 }
 
 // The entry of a root.

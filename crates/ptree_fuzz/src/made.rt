@@ -52,7 +52,7 @@ const CHARACTERS: [&str; 16] = [
 ];
 
 // The markers of further lines.
-const MARKS: [&str; 8] = [": ", ":", "", "> ", "├", " ", "\n", "└─ "];
+const MARKERS: [&str; 8] = [": ", ":", "", "> ", "├", " ", "\n", "└─ "];
 
 // The names of shipped sets.
 const SETS: [&str; 6] = [
@@ -151,9 +151,9 @@ fn any_depth(dice: &mut Dice) -> u32 {
 }
 
 // A marker of any kind, or most often the default one.
-fn mark(dice: &mut Dice) -> &'static str {
+fn marker(dice: &mut Dice) -> &'static str {
     match dice.below(3) {
-        0 => dice.text_of(&MARKS),
+        0 => dice.text_of(&MARKERS),
         _ => ": ",
     }
 }
@@ -185,8 +185,8 @@ fn with_styles(alloc: Global, dice: &mut Dice, config: &mut PrintConfig) -> Resu
 }
 
 // The configuration with another marker.
-fn with_mark(alloc: Global, mark: &str, config: &mut PrintConfig) -> Result<(), AllocError> {
-    config.continued = String::from_str(alloc, mark)?;
+fn with_marker(alloc: Global, marker: &str, config: &mut PrintConfig) -> Result<(), AllocError> {
+    config.continued = String::from_str(alloc, marker)?;
     Ok(())
 }
 
@@ -194,13 +194,13 @@ fn with_mark(alloc: Global, mark: &str, config: &mut PrintConfig) -> Result<(), 
 pub fn config(alloc: Global, dice: &mut Dice) -> Result<PrintConfig, Deviation> {
     let mut config = PrintConfig::default(alloc)?;
     config.depth = any_depth(dice);
-    let mark = mark(dice);
+    let marker = marker(dice);
     config.indent = dice.index(7);
     config.padding = dice.index(3);
     config.styled = styled(dice);
     with_characters(alloc, dice, &mut config)?;
     with_styles(alloc, dice, &mut config)?;
-    with_mark(alloc, mark, &mut config)?;
+    with_marker(alloc, marker, &mut config)?;
     Ok(config)
 }
 

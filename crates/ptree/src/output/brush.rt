@@ -27,16 +27,16 @@ impl<'a> Brush<'a> {
     pub(crate) fn new(alloc: Global, look: &'a Look<'a>) -> Result<Brush<'a>, AllocError>
         ensures { IfOk result (λ b. b.look.now ≡ look.now) }
     {
-        let (pieces, mark) = (&look.pieces, look.mark);
+        let (pieces, marker) = (&look.pieces, look.marker);
         let end = look.branch.end_text(alloc)?;
         Ok(Brush {
             alloc,
             look,
             regular: [pieces.turning(false), end.as_str()].concat(alloc)?,
             last_regular: [pieces.turning(true), end.as_str()].concat(alloc)?,
-            root_further: [mark, end.as_str()].concat(alloc)?,
-            further: [pieces.passing(false), mark, end.as_str()].concat(alloc)?,
-            last_further: [pieces.passing(true), mark, end.as_str()].concat(alloc)?,
+            root_further: [marker, end.as_str()].concat(alloc)?,
+            further: [pieces.passing(false), marker, end.as_str()].concat(alloc)?,
+            last_further: [pieces.passing(true), marker, end.as_str()].concat(alloc)?,
             end,
         })
     }

@@ -107,21 +107,21 @@ impl Indent {
 
     /// Whether a drawing with these pieces and this marker can be read back: the marker holds no
     /// line feed, and neither it nor any of the four pieces is a prefix of the other.
-    pub(crate) fn is_readable_with(&self, mark: &str) -> bool
-        ensures { IsTrue result ↔ IsReadableWith (pieces_of self.now) mark.now }
+    pub(crate) fn is_readable_with(&self, marker: &str) -> bool
+        ensures { IsTrue result ↔ IsReadableWith (pieces_of self.now) marker.now }
     {
-        self.is_readable() && is_one_line(mark) && self.is_mark_apart(mark)
+        self.is_readable() && is_one_line(marker) && self.is_marker_apart(marker)
     }
 
     // Whether neither the marker nor a piece is a prefix of the other.
-    fn is_mark_apart(&self, mark: &str) -> bool
+    fn is_marker_apart(&self, marker: &str) -> bool
         ensures { IsTrue result
             ↔ ((last : Bool)
-            → ArePrefixFree mark.now (turning_piece (pieces_of self.now) last)
-            × ArePrefixFree mark.now (passing_piece (pieces_of self.now) last)) }
+            → ArePrefixFree marker.now (turning_piece (pieces_of self.now) last)
+            × ArePrefixFree marker.now (passing_piece (pieces_of self.now) last)) }
     {
-        is_apart_from(mark, self.turning(false), self.passing(false))
-            && is_apart_from(mark, self.turning(true), self.passing(true))
+        is_apart_from(marker, self.turning(false), self.passing(false))
+            && is_apart_from(marker, self.turning(true), self.passing(true))
     }
 
     // Whether no piece holds a line feed.

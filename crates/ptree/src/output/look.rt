@@ -16,7 +16,7 @@ pub(crate) struct Look<'a> {
     pub(crate) branch: Style,
     pub(crate) leaf: Style,
     pub(crate) pieces: Indent,
-    pub(crate) mark: &'a str,
+    pub(crate) marker: &'a str,
 }
 
 impl<'a> Look<'a> {
@@ -35,7 +35,7 @@ impl<'a> Look<'a> {
             branch: effective_style(&config.branch, styled)?,
             leaf: effective_style(&config.leaf, styled)?,
             pieces: Indent::from_config(alloc, config)?,
-            mark: config.continued.as_str(),
+            marker: config.continued.as_str(),
         })
     }
 }

@@ -18,7 +18,7 @@ use crate::print_config::parse::{
     Spelling, parse_color, parse_flag, parse_number, parse_set, parse_when,
 };
 use crate::print_config::{
-    DEFAULT_INDENT, DEFAULT_MARK, DEFAULT_PADDING, IndentChars, PrintConfig, Sources, StyleWhen,
+    DEFAULT_INDENT, DEFAULT_MARKER, DEFAULT_PADDING, IndentChars, PrintConfig, Sources, StyleWhen,
     UTF_CHARS,
 };
 use crate::style::{Color, Style};
@@ -247,7 +247,7 @@ impl<'a> Given<'a> {
             styled: self.when(Field::Styled).unwrap_or(StyleWhen::Tty),
             continued: String::from_str(
                 alloc,
-                self.text(Field::Continued).unwrap_or(DEFAULT_MARK),
+                self.text(Field::Continued).unwrap_or(DEFAULT_MARKER),
             )?,
             branch: self.style(alloc, Part::Branch)?,
             leaf: self.style(alloc, Part::Leaf)?,

@@ -5,7 +5,7 @@ use Rattle.ptree.specs.declared.print_config.PrintConfig.{PrintConfig}
 use Rattle.ptree.specs.declared.print_config.StyleWhen.TheVariants.{Never}
 use Rattle.ptree.specs.Config.{is_styled}
 use Rattle.ptree.specs.Drawing.{Look, look_from, config_look, effective_style}
-use Rattle.ptree.specs.Pieces.{config_pieces, mark_of}
+use Rattle.ptree.specs.Pieces.{config_pieces, marker_of}
 use Rattle.ptree.specs.Style.{style_of}
 use Rattle.ptree.specs.Tree.{tree_of, shape_of_tree}
 use Rattle.ptree.specs.Writing.{IsDrawn, LeavesWholeEntries}
@@ -14,10 +14,10 @@ use Rattle.ptree_callers.proofs.drawing.print_unstyled.Goals as goal
 -- where output is never styled, its kind and the terminal do not matter
 plain_look : (config : PrintConfig) (kind : OutputKind) (terminal : Bool) → config.styled ≡ Never
     → config_look config kind terminal
-    ≡ look_from (effective_style false (style_of config.branch)) (effective_style false (style_of config.leaf)) (config_pieces config) (mark_of config)
+    ≡ look_from (effective_style false (style_of config.branch)) (effective_style false (style_of config.leaf)) (config_pieces config) (marker_of config)
 plain_look config kind terminal never =
     ap (λ s. look_from (effective_style (is_styled s kind terminal) (style_of config.branch)) (effective_style (is_styled s kind terminal) (style_of config.leaf))
-    (config_pieces config) (mark_of config)) never
+    (config_pieces config) (marker_of config)) never
 
 pub returns-clause-bytes : goal.returns-clause-bytes
 returns-clause-bytes g c =

@@ -8,9 +8,9 @@ returns-then-is_one_line c = (
         | then-is_readable w ↦ record {
           pieces = c.is_readable.ensures.0 w.if-is_readable.true;
           no_line_feed = w.is_one_line.ensures.0 (let on = c.if-is_one_line.true in cc (w.value-is));
-          apart = c.is_mark_apart.ensures.0 yes;
+          apart = c.is_marker_apart.ensures.0 yes;
         }
         | else-is_readable w ↦ absurd (let on = c.if-is_one_line.true in cc (w.value-is, w.if-is_readable.false))
       ],
-  λ readable. c.is_mark_apart.ensures.1 readable.apart,
+  λ readable. c.is_marker_apart.ensures.1 readable.apart,
 )

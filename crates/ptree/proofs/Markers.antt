@@ -24,21 +24,21 @@ passings_once p h (b ∷ bs) (d ∷ ds) x y len e =
     (ap (λ z. z ++ passing_all p bs) same.0 ∙ ap (λ z. passing_piece p d ++ z) rest.0, rest.1)
 
 -- pieces do not end both in a turning piece and in the marker
-pub mark_never : (p : Pieces) (mark : List ℕ) → IsReadableWith p mark → (above above' : List Bool) (last : Bool) (x y : List ℕ)
-    → (passing_all p above ++ turning_piece p last) ++ x ≡ (passing_all p above' ++ mark) ++ y → ⊥
-mark_never p mark h [] [] last x y e = apart_never mark (turning_piece p last) y x (h.apart last).0 (sym e)
-mark_never p mark h [] (d ∷ ds) last x y e =
-    apart_never (turning_piece p last) (passing_piece p d) x (passing_all p ds ++ (mark ++ y)) (h.pieces.turning_passing last d) (e ∙ simp append_assoc)
-mark_never p mark h (b ∷ bs) [] last x y e =
-    apart_never mark (passing_piece p b) y (passing_all p bs ++ (turning_piece p last ++ x)) (h.apart b).1 (sym e ∙ simp append_assoc)
-mark_never p mark h (b ∷ bs) (d ∷ ds) last x y e =
-    let moved : passing_piece p b ++ ((passing_all p bs ++ turning_piece p last) ++ x) ≡ passing_piece p d ++ ((passing_all p ds ++ mark) ++ y) = simp append_assoc (simp append_assoc at e) in
-    let same = same_prefix (passing_piece p b) (passing_piece p d) ((passing_all p bs ++ turning_piece p last) ++ x) ((passing_all p ds ++ mark) ++ y) (same_kind p.child p.last_child h.pieces.passings b d) moved in
-    mark_never p mark h bs ds last x y same.1
+pub marker_never : (p : Pieces) (marker : List ℕ) → IsReadableWith p marker → (above above' : List Bool) (last : Bool) (x y : List ℕ)
+    → (passing_all p above ++ turning_piece p last) ++ x ≡ (passing_all p above' ++ marker) ++ y → ⊥
+marker_never p marker h [] [] last x y e = apart_never marker (turning_piece p last) y x (h.apart last).0 (sym e)
+marker_never p marker h [] (d ∷ ds) last x y e =
+    apart_never (turning_piece p last) (passing_piece p d) x (passing_all p ds ++ (marker ++ y)) (h.pieces.turning_passing last d) (e ∙ simp append_assoc)
+marker_never p marker h (b ∷ bs) [] last x y e =
+    apart_never marker (passing_piece p b) y (passing_all p bs ++ (turning_piece p last ++ x)) (h.apart b).1 (sym e ∙ simp append_assoc)
+marker_never p marker h (b ∷ bs) (d ∷ ds) last x y e =
+    let moved : passing_piece p b ++ ((passing_all p bs ++ turning_piece p last) ++ x) ≡ passing_piece p d ++ ((passing_all p ds ++ marker) ++ y) = simp append_assoc (simp append_assoc at e) in
+    let same = same_prefix (passing_piece p b) (passing_piece p d) ((passing_all p bs ++ turning_piece p last) ++ x) ((passing_all p ds ++ marker) ++ y) (same_kind p.child p.last_child h.pieces.passings b d) moved in
+    marker_never p marker h bs ds last x y same.1
 
 -- the parts of a text that begins as a further line
-pub mark_is : (k : Look) (passing x : List ℕ) → continued_prefix k passing ++ x ≡ (start_codes k.branch) ++ (passing ++ (k.mark ++ ((end_codes k.branch) ++ x)))
-mark_is k passing x = simp append_assoc
+pub marker_is : (k : Look) (passing x : List ℕ) → continued_prefix k passing ++ x ≡ (start_codes k.branch) ++ (passing ++ (k.marker ++ ((end_codes k.branch) ++ x)))
+marker_is k passing x = simp append_assoc
 
 -- what comes after an entry's branch codes and pieces
 unfoldable pub behind : Look → List ℕ → List ℕ → List ℕ → List ℕ
@@ -52,34 +52,34 @@ entry_is k prefix passing text rest = at (with_inserted (continued_prefix k pass
   at own = simp append_assoc
 
 -- the prefix of further lines of one level is unique
-pub mark_once : (k : Look) → IsReadable k.pieces → (n : ℕ) (q q' x y : List ℕ) → ArePassing k.pieces n q → ArePassing k.pieces n q' → continued_prefix k q ++ x ≡ continued_prefix k q' ++ y → (q ≡ q') × (x ≡ y)
-mark_once k h n q q' x y (above, len, is) (above', len', is') e =
-    let start : q ++ (k.mark ++ ((end_codes k.branch) ++ x)) ≡ q' ++ (k.mark ++ ((end_codes k.branch) ++ y)) =
-    append_cancel_left (start_codes k.branch) _ _ (sym (mark_is k q x) ∙ (e ∙ mark_is k q' y)) in
-    let moved : passing_all k.pieces above ++ (k.mark ++ ((end_codes k.branch) ++ x)) ≡ passing_all k.pieces above' ++ (k.mark ++ ((end_codes k.branch) ++ y)) =
-    ap (λ z. z ++ (k.mark ++ ((end_codes k.branch) ++ x))) (sym is) ∙ (start ∙ ap (λ z. z ++ (k.mark ++ ((end_codes k.branch) ++ y))) is') in
+pub marker_once : (k : Look) → IsReadable k.pieces → (n : ℕ) (q q' x y : List ℕ) → ArePassing k.pieces n q → ArePassing k.pieces n q' → continued_prefix k q ++ x ≡ continued_prefix k q' ++ y → (q ≡ q') × (x ≡ y)
+marker_once k h n q q' x y (above, len, is) (above', len', is') e =
+    let start : q ++ (k.marker ++ ((end_codes k.branch) ++ x)) ≡ q' ++ (k.marker ++ ((end_codes k.branch) ++ y)) =
+    append_cancel_left (start_codes k.branch) _ _ (sym (marker_is k q x) ∙ (e ∙ marker_is k q' y)) in
+    let moved : passing_all k.pieces above ++ (k.marker ++ ((end_codes k.branch) ++ x)) ≡ passing_all k.pieces above' ++ (k.marker ++ ((end_codes k.branch) ++ y)) =
+    ap (λ z. z ++ (k.marker ++ ((end_codes k.branch) ++ x))) (sym is) ∙ (start ∙ ap (λ z. z ++ (k.marker ++ ((end_codes k.branch) ++ y))) is') in
     let same = passings_once k.pieces h above above' _ _ (len ∙ sym len') moved in
-    (is ∙ (same.0 ∙ sym is'), append_cancel_left (end_codes k.branch) _ _ (append_cancel_left k.mark _ _ same.1))
+    (is ∙ (same.0 ∙ sym is'), append_cancel_left (end_codes k.branch) _ _ (append_cancel_left k.marker _ _ same.1))
 
 -- the empty text continues no item
-pub nothing_continues : (k : Look) → IsReadableWith k.pieces k.mark → (n : ℕ) → IsNotContinued k n []
-nothing_continues k h n q z at e = some k.mark (turning_piece k.pieces false) (start_codes k.branch) q ((end_codes k.branch) ++ z) (h.apart false).0 (e ∙ mark_is k q z)
+pub nothing_continues : (k : Look) → IsReadableWith k.pieces k.marker → (n : ℕ) → IsNotContinued k n []
+nothing_continues k h n q z at e = some k.marker (turning_piece k.pieces false) (start_codes k.branch) q ((end_codes k.branch) ++ z) (h.apart false).0 (e ∙ marker_is k q z)
   where
     some : (m t a b c : List ℕ) → ArePrefixFree m t → [] ≡ a ++ (b ++ (m ++ c)) → ⊥
     some [] t a b c apart e = apart.0 (t, refl)
     some (x ∷ m) t a b c apart e = let long = ap length e in omega (arith, simp length-append at long)
 
 -- an item's own line does not continue the item before it
-pub item_never : (k : Look) → IsReadableWith k.pieces k.mark → (n m : ℕ) (pieces passing text rest : List ℕ) → ArePiecesAt k.pieces m pieces → IsNotContinued k n (text_entry k pieces passing text ++ rest)
+pub item_never : (k : Look) → IsReadableWith k.pieces k.marker → (n m : ℕ) (pieces passing text rest : List ℕ) → ArePiecesAt k.pieces m pieces → IsNotContinued k n (text_entry k pieces passing text ++ rest)
 item_never k h n zero pieces passing text rest at q z is e = absurd at
 item_never k h n (suc m) pieces passing text rest (above, last, len, is) q z (above', len', is') e =
-    let start : pieces ++ behind k passing text rest ≡ q ++ (k.mark ++ ((end_codes k.branch) ++ z)) =
-    append_cancel_left (start_codes k.branch) _ _ (sym (entry_is k pieces passing text rest) ∙ (e ∙ mark_is k q z)) in
-    mark_never k.pieces k.mark h above above' last (behind k passing text rest) ((end_codes k.branch) ++ z)
-    (ap (λ y. y ++ behind k passing text rest) (sym is) ∙ (start ∙ (ap (λ y. y ++ (k.mark ++ ((end_codes k.branch) ++ z))) is'
-    ∙ sym (append_assoc (passing_all k.pieces above') k.mark ((end_codes k.branch) ++ z)))))
+    let start : pieces ++ behind k passing text rest ≡ q ++ (k.marker ++ ((end_codes k.branch) ++ z)) =
+    append_cancel_left (start_codes k.branch) _ _ (sym (entry_is k pieces passing text rest) ∙ (e ∙ marker_is k q z)) in
+    marker_never k.pieces k.marker h above above' last (behind k passing text rest) ((end_codes k.branch) ++ z)
+    (ap (λ y. y ++ behind k passing text rest) (sym is) ∙ (start ∙ (ap (λ y. y ++ (k.marker ++ ((end_codes k.branch) ++ z))) is'
+    ∙ sym (append_assoc (passing_all k.pieces above') k.marker ((end_codes k.branch) ++ z)))))
 
 -- a list of items does not continue the item before it
-pub items_never : (k : Look) → IsReadableWith k.pieces k.mark → (n : ℕ) (lines : List SpelledItem) → All (IsSpelled k.pieces) lines → IsNotContinued k n (spelled_text k lines)
+pub items_never : (k : Look) → IsReadableWith k.pieces k.marker → (n : ℕ) (lines : List SpelledItem) → All (IsSpelled k.pieces) lines → IsNotContinued k n (spelled_text k lines)
 items_never k h n [] are = nothing_continues k h n
 items_never k h n (l ∷ lines) are = item_never k h n l.level l.pieces l.passing l.text (spelled_text k lines) (All-head (IsSpelled k.pieces) l lines are).0
