@@ -10,7 +10,7 @@ ghost use Rattle.ptree.specs.Writing.{IsWritten, HasCause, IsDrawn, LeavesWholeE
 ghost use Rattle.ptree.specs.declared.print_config.OutputKind.{OutputKind};
 
 use super::places::{Occurrence, Place};
-use super::row::draw_expanded;
+use super::row::{Marked, draw_marked};
 use super::{Graph, Label, NodeIndex};
 use crate::codes::Codes;
 use crate::item::{Children, Shaped, TreeItem};
@@ -351,11 +351,6 @@ fn draw_once<N: Label, W: Sink>(
         (W.contents f.new) result }
     ensures cause { HasCause (W.faults f.old) (W.faults f.new) result }
 {
-    let occurrence = graph.expanded_once(start, config.depth)?;
-    let expanded = Expanded {
-        graph,
-        mark,
-        occurrence: &occurrence,
-    };
-    draw_expanded(alloc, &expanded, f, output_kind, terminal, config)
+    let marked = Marked { graph, mark };
+    draw_marked(alloc, &marked, start, f, output_kind, terminal, config)
 }
