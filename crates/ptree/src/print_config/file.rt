@@ -167,13 +167,13 @@ struct Span {
 }
 
 // Returns two counts of lines of a JSON text, with which it is right and wrong, the second at most
-// `line`. It searches back from there by steps that grow to about 16 times the last. Smaller
-// factors take more readings where many blank lines follow the wrong byte.
+// `line`. It searches back from the last line up to there that holds more than blanks, by steps
+// that grow to about 16 times the last.
 fn search_back(alloc: Global, text: &str, line: usize) -> Result<Span, AllocError>
     ensures { IfOk result (λ span. span.wrong ≤ line) }
 {
-    let mut wrong = line;
-    let mut right = line.saturating_sub(1);
+    let mut wrong = filled_line(text, line);
+    let mut right = wrong.saturating_sub(1);
     let mut step: usize = 1;
     while right > 0 && !begins_json(alloc, first_lines(text, right))? {
         wrong = right;
@@ -181,6 +181,15 @@ fn search_back(alloc: Global, text: &str, line: usize) -> Result<Span, AllocErro
         step = step.saturating_mul(16);
     }
     Ok(Span { right, wrong })
+}
+
+// Returns the last of the first lines of a text, `line` at most, that holds more than JSON's
+// blanks. The reader passes any number of these before it stops.
+fn filled_line(text: &str, line: usize) -> usize
+    ensures { result ≤ line }
+{
+    let filled = first_lines(text, line).trim_end_matches([' ', '\t', '\n', '\r']);
+    line_at(text, filled.len()).min(line)
 }
 
 // Whether a text is a JSON document, or only ends too early.
