@@ -267,12 +267,8 @@ fn package_lock(alloc: Global, source: &Source) -> Result<Network, Failure> {
     once(&mut keys)?;
     let mut edges = Vec::new(alloc);
     for (path, package) in packages.iter() {
-        for kind in ["dependencies", "devDependencies", "optionalDependencies"] {
-            let Some(needs) = package.get(kind).and_then(|d| d.as_object()) else {
-                continue;
-            };
-            push_npm_needs(alloc, path.as_str(), needs, &keys, &mut edges)?;
-        }
+        let needs = npm_names(alloc, package)?;
+        push_npm_needs(alloc, path.as_str(), &needs, &keys, &mut edges)?;
     }
     let mut labels = Vec::new(alloc);
     for key in &keys {
@@ -305,19 +301,53 @@ fn npm_label(
     }
 }
 
-// Adds the edges from a package of a `package-lock.json`.
+// Returns the names of what a package needs, each once, in the order of their bytes. The lists of a
+// package may name the same: a name among `optionalDependencies` is often in another list too.
+fn npm_names<'a>(
+    alloc: Global,
+    package: &'a serde_json::Value,
+) -> Result<Vec<&'a str>, AllocError> {
+    let mut names = Vec::new(alloc);
+    for kind in [
+        "dependencies",
+        "devDependencies",
+        "optionalDependencies",
+        "peerDependencies",
+    ] {
+        if let Some(needs) = package.get(kind).and_then(|d| d.as_object()) {
+            push_names(needs, &mut names)?;
+        }
+    }
+    names.sort_unstable();
+    names.dedup();
+    Ok(names)
+}
+
+// Adds the names of a list of needs.
+fn push_names<'a>(
+    needs: &'a Map<String, serde_json::Value>,
+    names: &mut Vec<&'a str>,
+) -> Result<(), AllocError> {
+    for (name, _) in needs.iter() {
+        names.push(name.as_str())?;
+    }
+    Ok(())
+}
+
+// Adds the edges from a package of a `package-lock.json` to those that it needs and that are
+// installed.
 fn push_npm_needs(
     alloc: Global,
     path: &str,
-    needs: &Map<String, serde_json::Value>,
+    needs: &[&str],
     keys: &[String],
     edges: &mut Vec<(NodeIndex, NodeIndex)>,
 ) -> Result<(), AllocError> {
     let Some(from) = position(keys, path) else {
         return Ok(());
     };
-    for (name, _) in needs.iter() {
-        if let Some(to) = npm_need(alloc, path, name.as_str(), keys)? {
+    for name in needs {
+        if let Some(to) = npm_need(alloc, path, name, keys)? {
             edges.push((from, to))?;
         }
     }
