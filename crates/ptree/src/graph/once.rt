@@ -233,6 +233,9 @@ fn write_with_codes<N: Label, W: Sink>(
 /// A repeated occurrence has the mark after its label. `cargo tree` has [`REPEATED_MARK`]; an empty
 /// mark writes nothing.
 ///
+/// Time grows with what is drawn. Memory holds one entry and a flag for each node up to the last one
+/// that is expanded, and the stack grows with the levels of the drawing.
+///
 /// # Errors
 ///
 /// `Write` or `Zero` if `f` failed, and `Memory`. A prefix of the drawing was written; if memory
