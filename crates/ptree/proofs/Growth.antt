@@ -27,7 +27,7 @@ module _ (below : ℕ → List ℕ) where
       ap (λ b. if b then grown (occurrence v true none) seen else expand (grow below levels) (below v) seen v) e ∙ ap (λ b. grown (occurrence v b none) seen) (sym e)
 
   -- of one that is not, above the depth
-  grow_next : (levels : ℕ) (seen : List Bool) (v : ℕ) → levels ≢ 0 → is_seen seen v ≡ false → grow below levels seen v ≡ expand (grow below (levels - 1)) (below v) seen v
+  pub grow_next : (levels : ℕ) (seen : List Bool) (v : ℕ) → levels ≢ 0 → is_seen seen v ≡ false → grow below levels seen v ≡ expand (grow below (levels - 1)) (below v) seen v
   grow_next zero seen v h e = absurd (h refl)
   grow_next (suc levels) seen v h e =
       let less : levels ≡ suc levels - 1 = omega arith in
@@ -121,6 +121,10 @@ module _ {N : Type 0} (g : Graph N) where
   only_one start depth levels t u h k e =
       let (s, is, only) = graph_has_one start depth in
       only t (subst (λ d. IsExpandedOnce under start d t) e h) ∙ sym (only u k)
+
+  -- what is the graph expanded once is what is made from flags of which none is set
+  pub is_grown : (start depth : ℕ) (t : OccurrenceTree) → IsExpandedOnce under start depth t → t ≡ (grow under depth (all_flags (length (weights_of g)) []) start).occurrence
+  is_grown start depth t h = only_one start depth depth t _ h (made_is_drawn start depth _ (ap (λ seen. (grow under depth seen start).occurrence) no_flags)) refl
 
   -- the size of that tree
   pub made_has_size : (start depth : ℕ) (t : OccurrenceTree) → IsExpandedOnce under start depth t → HasSize (edges_of g) t

@@ -1,7 +1,9 @@
 -- The occurrences of a graph expanded once by recursion, as private functions say them. Public
 -- contracts say them by addresses.
 use Rattle.std.specs.Prelude.{◌≡◌, ℕ, zero, suc, ◌+◌, ◌-◌, ◌^◌, ◌<◌, Bool, true, false, if◌then◌else◌, List, [], ◌∷◌, ◌++◌, length, drop, replicate, unwrap_or, slice_get, slice_set}
+use Rattle.ptree.specs.declared.graph.Graph.{Graph}
 use Rattle.ptree.specs.declared.graph.places.Place.{Place}
+use Rattle.ptree.specs.Graph.{weights_of}
 use Rattle.ptree.specs.Occurrence.{OccurrenceTree, occurrence, none, row, is_repeated_size, size_below, trees_in}
 
 -- an occurrence, and which nodes have occurrences below them by then
@@ -44,6 +46,18 @@ grow below (suc levels) seen v = if is_seen seen v then grown (occurrence v true
 -- the flags of n nodes, where the last ones that are not set are left out
 abbrev pub all_flags : ℕ → List Bool → List Bool
 all_flags n seen = seen ++ replicate (n - length seen) false
+
+-- the flags of a graph's nodes
+abbrev pub flags_of : {N : Type 0} → Graph N → List Bool → List Bool
+flags_of g seen = all_flags (length (weights_of g)) seen
+
+-- the occurrences of a node's neighbours, once the node is seen
+abbrev pub kids_grown : (ℕ → List ℕ) → ℕ → List Bool → ℕ → List OccurrenceTree
+kids_grown below levels seen v = row_occurrences (grow below levels) (enter (below v) seen v) (below v)
+
+-- which nodes are seen after them
+abbrev pub kids_seen : (ℕ → List ℕ) → ℕ → List Bool → ℕ → List Bool
+kids_seen below levels seen v = row_seen (grow below levels) (enter (below v) seen v) (below v)
 
 -- a place of a node
 abbrev pub place_of : ℕ → ℕ → Place

@@ -10,7 +10,7 @@ ghost use Rattle.ptree.specs.Writing.{IsWritten, HasCause, IsDrawn, LeavesWholeE
 ghost use Rattle.ptree.specs.declared.print_config.OutputKind.{OutputKind};
 
 use super::places::{Occurrence, Place};
-use super::row::draw_expanded;
+use super::row::{Marked, draw_marked};
 use super::{Graph, Label, NodeIndex};
 use crate::codes::Codes;
 use crate::item::{Children, Shaped, TreeItem};
@@ -233,6 +233,9 @@ fn write_with_codes<N: Label, W: Sink>(
 /// A repeated occurrence has the mark after its label. `cargo tree` has [`REPEATED_MARK`]; an empty
 /// mark writes nothing.
 ///
+/// Time grows with what is drawn. Memory holds one entry and a flag for each node up to the last one
+/// that is expanded, and the stack grows with the levels of the drawing.
+///
 /// # Errors
 ///
 /// `Write` or `Zero` if `f` failed, and `Memory`. A prefix of the drawing was written; if memory
@@ -351,11 +354,6 @@ fn draw_once<N: Label, W: Sink>(
         (W.contents f.new) result }
     ensures cause { HasCause (W.faults f.old) (W.faults f.new) result }
 {
-    let occurrence = graph.expanded_once(start, config.depth)?;
-    let expanded = Expanded {
-        graph,
-        mark,
-        occurrence: &occurrence,
-    };
-    draw_expanded(alloc, &expanded, f, output_kind, terminal, config)
+    let marked = Marked { graph, mark };
+    draw_marked(alloc, &marked, start, f, output_kind, terminal, config)
 }

@@ -59,19 +59,6 @@ pub struct Occurrence {
     pub places: Vec<Place>,
 }
 
-impl Occurrence {
-    // The first place and those after it. Where there is none, it is one of a number that no node
-    // has.
-    pub(super) fn root(&self) -> (Place, &[Place])
-        ensures { first_tree (result.0 ∷ result.1.now) ≡ occurrence_tree self.now }
-    {
-        match self.places.split_first() {
-            Some((place, after)) => (*place, after),
-            None => (Place::leaf(NodeIndex(usize::MAX), false), &[]),
-        }
-    }
-}
-
 impl<N> Graph<N> {
     /// Returns the graph as a tree in which each node is expanded once, from a start node down to a
     /// depth.
@@ -182,14 +169,14 @@ impl<N> Graph<N> {
 
 // Whether a node is flagged; a number that is no node's is not.
 #[inline(always)]
-fn is_flagged(seen: &[bool], node: usize) -> bool
+pub(super) fn is_flagged(seen: &[bool], node: usize) -> bool
     ensures { result ≡ is_seen seen.now node }
 {
     seen.get(node).copied().unwrap_or(false)
 }
 
 // Sets a node's flag. Flags that are not there yet are added up to it.
-fn set_flag(seen: &mut Vec<bool>, node: usize) -> Result<(), AllocError>
+pub(super) fn set_flag(seen: &mut Vec<bool>, node: usize) -> Result<(), AllocError>
     requires { node < 2 ^ 63 }
     ensures flags { OnOk result ((n : ℕ) → node < n → length seen.old.items ≤ n
         → (all_flags n seen.new.items ≡ slice_set (all_flags n seen.old.items) node true)

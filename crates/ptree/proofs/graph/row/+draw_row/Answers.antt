@@ -1,98 +1,257 @@
-use Rattle.std.proofs.lemmas.List.{take_all}
-use Rattle.std.proofs.lemmas.Bool.{false≢true}
-use Rattle.std.proofs.Common.{Some, ◌≡◌, ◌++◌, ◌∷◌, ◌-◌, ◌∙◌, ap, sym, map, take, length, refl, arith, append_assoc}
+use Rattle.std.proofs.lemmas.List.{take_all, length-map}
+use Rattle.std.proofs.lemmas.Bool.{false≢true, cases_lt}
+use Rattle.std.proofs.lemmas.Grind.{common_steps}
+use Rattle.std.proofs.Common.{Some, ◌≡◌, ◌<◌, ◌++◌, ◌∷◌, ◌-◌, ◌∙◌, [], Bool, List, false, inl, inr, eqb, ap, sym, subst, map, take, length, refl, arith, rules, append_assoc}
+use Rattle.ptree.specs.Graph.{weights_of, edges_of, neighbors_of}
+use Rattle.ptree.specs.GraphLinks.{ends_of}
+use Rattle.ptree.specs.Growing.{flags_of, is_seen, enter, grow, row_occurrences, row_seen, kids_grown, place_of, leaf_size}
 use Rattle.ptree.specs.Line.{line_bytes}
-use Rattle.ptree.specs.Looks.{look_of, own_text}
+use Rattle.ptree.specs.Looks.{look_of, own_text, own_entry}
 use Rattle.ptree.specs.Entries.{kid_entries, entries_below}
-use Rattle.ptree.specs.Occurrence.{OccurrenceTree, occurrence_own, occurrence_shape, occurrence_kids, first_tree, trees_in}
+use Rattle.ptree.specs.Occurrence.{OccurrenceTree, occurrence_shape, is_repeated_size}
 use Rattle.ptree.specs.Pieces.{passing_piece}
 use Rattle.ptree.specs.Shape.{Shape, kids}
+use Rattle.ptree.proofs.AlongEdges.{last_tells, length_row, leaf_mark, grown_node, grown_mark, kids_below, seen_below, no_kids, kids_are, own_alike, leaf_written, part_as, whole_as, all_begun, seen_ok}
+use Rattle.ptree.proofs.EdgeLists.{newest_starts, newest_within, newest_has}
 use Rattle.ptree.proofs.Engine.{item_written, all_below, begun_none, begun_part, begun_then, begun_err, not_last, still_turned, long_enough, take_again, quiet}
-use Rattle.ptree.proofs.Places.{row_next, kids_of_first}
-use Rattle.ptree.proofs.Unfold.{kids_of_unfold}
+use Rattle.ptree.proofs.Growth.{stopped, without, entered, seen_made}
+use Rattle.ptree.proofs.Links.{linked-step}
+use Rattle.ptree.proofs.NodeFlags.{seen_all}
 use Rattle.ptree.proofs.Written.{entries_none, entries_err, entry_part}
 use Rattle.ptree.proofs.graph.row.+draw_row.Goals as goal
+use Rattle.ptree.proofs.graph.row.+draw_row.Goals.{draw_node-then-repeated-via-then-repeated, draw_node-then-repeated-via-else-repeated+then-levels_left-eq0}
 
-pub draw_row-loop-place-init : goal.draw_row-loop-place-init
-draw_row-loop-place-init g t c =
+pub draw_row-returns-in_err-set_flag-clause-bytes : goal.draw_row-returns-in_err-set_flag-clause-bytes
+draw_row-returns-in_err-set_flag-clause-bytes g t c = λ outer e.
+    let look = look_of c.args.brush.now.look.now in
+    let graph = c.args.marked.now.graph.now in
+    let shape : OccurrenceTree → Shape = occurrence_shape g.N.Label.text graph c.args.marked.now.mark.now in
+    entries_err _ _ _ _ _ _ c.from_residual.ensures.1
+    (entries_none _ c.args.pen.now.error (kid_entries look (entries_below look c.args.levels_left) outer (map shape (kids_grown (neighbors_of (edges_of graph)) c.args.levels_left (flags_of graph c.args.seen.now.items) c.args.node.0))))
+
+pub draw_row-loop-number-init : goal.draw_row-loop-number-init
+draw_row-loop-number-init g t c =
     let wide : c.len-width.result ≡ length (line_bytes c.args.pen.now.line) = c.len-width.ensures in
+    let look = look_of c.args.brush.now.look.now in
+    let graph = c.args.marked.now.graph.now in
+    let v = c.args.node.0 in
+    let edges = edges_of graph in
+    let below = neighbors_of edges in
+    let one = grow below c.args.levels_left in
+    let seen = flags_of graph c.args.seen.now.items in
+    let number = c.args.newest in
+    let shape : OccurrenceTree → Shape = occurrence_shape g.N.Label.text graph c.args.marked.now.mark.now in
+    let start = newest_starts edges v number c.requires.newest in
+    let set = c.in_ok-set_flag.ensures.flags (length (weights_of graph)) c.requires.node c.requires.length in
+    let begun : flags_of graph c.set_flag.new.seen.items ≡ enter (below v) seen v = set.0 ∙ sym (entered (below v) seen v (newest_has edges v number c.requires.newest c.requires.some)) in
+    let first = ap (λ s. row_occurrences one s (neighbors_of (take number edges) v)) begun ∙ ap (row_occurrences one (enter (below v) seen v)) start.0 in
     record {
-      begun = λ outer e. begun_none (look_of c.args.brush.now.look.now) (entries_below (look_of c.args.brush.now.look.now) c.args.levels_left) outer _ _ _ refl;
+      begun = λ outer e. begun_none look (entries_below look c.args.levels_left) outer _ _ _ (ap (map shape) (sym first));
       no_fault = refl;
       error = c.requires.error;
       kept = take_all c.len-width.result _ (omega (arith, wide));
       turned = λ held. absurd (false≢true (sym c.requires.turned ∙ held));
+      seen = ap (λ s. row_seen one s (neighbors_of (take number edges) v)) begun ∙ ap (row_seen one (enter (below v) seen v)) start.0;
+      length = set.1;
+      newest = start.1;
     }
+
+pub draw_row-index-edge-requires : goal.draw_row-index-edge-requires
+draw_row-index-edge-requires g t c =
+    omega (arith, newest_within (edges_of c.args.marked.now.graph.now) c.args.node.0 c.loop-number.number c.loop-number.invariant.newest, length-map c.args.marked.now.graph.now.edges.items ends_of)
+
+pub draw_row-loop-number-smaller : goal.draw_row-loop-number-smaller
+draw_row-loop-number-smaller g t c =
+    (linked-step _ _ c.args.node.0 c.loop-number.number c.index-edge.result.now c.args.marked.now.graph.now.linked (omega arith) c.loop-number.invariant.newest c.index-edge.ensures).2
 
 pub draw_row-returns-in_err-turn-clause-bytes : goal.draw_row-returns-in_err-turn-clause-bytes
 draw_row-returns-in_err-turn-clause-bytes g t c = λ outer e.
     let look = look_of c.args.brush.now.look.now in
-    entries_err _ _ _ _ _ _ c.from_residual.ensures.1 (begun_part look (entries_below look c.args.levels_left) outer _ _ _ _ c.turn.new.self.error (c.loop-place.invariant.begun outer e))
+    entries_err _ _ _ _ _ _ c.from_residual-in_err-turn.ensures.1 (begun_part look (entries_below look c.args.levels_left) outer _ _ _ _ c.turn.new.self.error (c.loop-number.invariant.begun outer e))
 
 pub draw_row-turn-requires : goal.draw_row-turn-requires
-draw_row-turn-requires g t c = λ held last.
-    let next = row_next c.loop-place.rest.now c.in-Some.after.now c.places_after-rest.result.now c.loop-place.left c.saturating_sub-left.result c.below-below.result c.in-Some.place
-    c.in-Some.ensures.some c.below-below.ensures (omega (arith, c.saturating_sub-left.ensures)) c.places_after-rest.ensures in
-    c.loop-place.invariant.turned held (omega (arith, ap length next))
+draw_row-turn-requires g t c = λ held last. c.loop-number.invariant.turned held (omega arith)
 
-pub draw_row-returns-in_err-draw_place-clause-bytes : goal.draw_row-returns-in_err-draw_place-clause-bytes
-draw_row-returns-in_err-draw_place-clause-bytes g t c = λ outer e.
+pub draw_row-returns-in_err-draw_node-clause-bytes : goal.draw_row-returns-in_err-draw_node-clause-bytes
+draw_row-returns-in_err-draw_node-clause-bytes g t c = λ outer e.
     let look = look_of c.args.brush.now.look.now in
-    let shape : OccurrenceTree → Shape = occurrence_shape g.N.Label.text c.args.expanded.now.graph.now c.args.expanded.now.mark.now in
-    let inv = c.loop-place.invariant in
-    let next = row_next c.loop-place.rest.now c.in-Some.after.now c.places_after-rest.result.now c.loop-place.left c.saturating_sub-left.result c.below-below.result c.in-Some.place
-    c.in-Some.ensures.some c.below-below.ensures (omega (arith, c.saturating_sub-left.ensures)) c.places_after-rest.ensures in
+    let graph = c.args.marked.now.graph.now in
+    let v = c.args.node.0 in
+    let edges = edges_of graph in
+    let one = grow (neighbors_of edges) c.args.levels_left in
+    let last = flags_of graph c.loop-number.seen.items in
+    let u = c.index-edge.result.now.target in
+    let left = neighbors_of (take c.index-edge.result.now.next edges) v in
+    let step = linked-step _ _ v c.loop-number.number c.index-edge.result.now graph.linked (omega arith) c.loop-number.invariant.newest c.index-edge.ensures in
+    let shape : OccurrenceTree → Shape = occurrence_shape g.N.Label.text graph c.args.marked.now.mark.now in
+    let inv = c.loop-number.invariant in
+    let next : row_occurrences one last (neighbors_of (take c.loop-number.number edges) v) ≡ (one last u).occurrence ∷ row_occurrences one (one last u).seen left = ap (row_occurrences one last) step.0 in
+    let ends : c.is_oldest-is_last.result ≡ eqb (length (row_occurrences one (one last u).seen left)) 0 =
+    c.is_oldest-is_last.ensures ∙ (last_tells edges v c.index-edge.result.now.next step.1 ∙ ap (λ n. eqb n 0) (sym (length_row one (one last u).seen left))) in
     let wide : c.len-width.result ≡ length (line_bytes c.args.pen.now.line) = c.len-width.ensures in
-    let kept = take_again c.len-width.result (line_bytes c.loop-place.pen.line) _ _ (long_enough _ _ _ inv.kept wide) c.in_ok-turn.ensures.line ∙ inv.kept in
-    entries_err _ _ _ _ _ _ c.from_residual-in_err-draw_place.ensures.1
-    (begun_err shape look (entries_below look c.args.levels_left) outer _ _ _ _ c.is_none_left-is_last.result _ _ _ _ next c.is_none_left-is_last.ensures (inv.begun outer e) (c.in_err-draw_place.ensures.bytes outer (kept ∙ e)))
+    let kept = take_again c.len-width.result (line_bytes c.loop-number.pen.line) _ _ (long_enough _ _ _ inv.kept wide) c.in_ok-turn.ensures.line ∙ inv.kept in
+    entries_err _ _ _ _ _ _ c.from_residual-in_err-draw_node.ensures.1
+    (begun_err shape look (entries_below look c.args.levels_left) outer _ _ _ _ c.is_oldest-is_last.result _ _ _ _ next ends (inv.begun outer e) (c.in_err-draw_node.ensures.bytes outer (kept ∙ e)))
 
-pub draw_row-loop-place-preserved : goal.draw_row-loop-place-preserved
-draw_row-loop-place-preserved g t c =
+pub draw_row-loop-number-preserved : goal.draw_row-loop-number-preserved
+draw_row-loop-number-preserved g t c =
     let look = look_of c.args.brush.now.look.now in
-    let shape : OccurrenceTree → Shape = occurrence_shape g.N.Label.text c.args.expanded.now.graph.now c.args.expanded.now.mark.now in
-    let inv = c.loop-place.invariant in
-    let next = row_next c.loop-place.rest.now c.in-Some.after.now c.places_after-rest.result.now c.loop-place.left c.saturating_sub-left.result c.below-below.result c.in-Some.place
-    c.in-Some.ensures.some c.below-below.ensures (omega (arith, c.saturating_sub-left.ensures)) c.places_after-rest.ensures in
+    let graph = c.args.marked.now.graph.now in
+    let v = c.args.node.0 in
+    let edges = edges_of graph in
+    let one = grow (neighbors_of edges) c.args.levels_left in
+    let last = flags_of graph c.loop-number.seen.items in
+    let now = flags_of graph c.draw_node.new.seen.items in
+    let u = c.index-edge.result.now.target in
+    let left = neighbors_of (take c.index-edge.result.now.next edges) v in
+    let step = linked-step _ _ v c.loop-number.number c.index-edge.result.now graph.linked (omega arith) c.loop-number.invariant.newest c.index-edge.ensures in
+    let shape : OccurrenceTree → Shape = occurrence_shape g.N.Label.text graph c.args.marked.now.mark.now in
+    let inv = c.loop-number.invariant in
+    let seen : now ≡ (one last u).seen = c.in_ok-draw_node.ensures.seen in
+    let next : row_occurrences one last (neighbors_of (take c.loop-number.number edges) v) ≡ (one last u).occurrence ∷ row_occurrences one now left =
+    ap (row_occurrences one last) step.0 ∙ ap (λ s. (one last u).occurrence ∷ row_occurrences one s left) (sym seen) in
+    let ends : c.is_oldest-is_last.result ≡ eqb (length (row_occurrences one now left)) 0 =
+    c.is_oldest-is_last.ensures ∙ (last_tells edges v c.index-edge.result.now.next step.1 ∙ ap (λ n. eqb n 0) (sym (length_row one now left))) in
     let wide : c.len-width.result ≡ length (line_bytes c.args.pen.now.line) = c.len-width.ensures in
-    let kept = take_again c.len-width.result (line_bytes c.loop-place.pen.line) _ _ (long_enough _ _ _ inv.kept wide) c.in_ok-turn.ensures.line in
+    let kept = take_again c.len-width.result (line_bytes c.loop-number.pen.line) _ _ (long_enough _ _ _ inv.kept wide) c.in_ok-turn.ensures.line in
     record {
-      begun = λ outer e. begun_then shape look (entries_below look c.args.levels_left) outer _ _ _ _ c.is_none_left-is_last.result _ _ _ next c.is_none_left-is_last.ensures (inv.begun outer e) (c.in_ok-draw_place.ensures.bytes outer (kept ∙ inv.kept ∙ e));
-      no_fault = quiet _ _ c.draw_place.new.pen.error c.in_ok-draw_place.ensures.cause c.in_ok-draw_place.ensures.error ∙ inv.no_fault;
-      error = c.in_ok-draw_place.ensures.error;
-      kept = c.in_ok-draw_place.ensures.kept ∙ kept ∙ inv.kept;
-      turned = λ held some. still_turned c.len-width.result (line_bytes c.loop-place.pen.line) _ _ (λ last. own_text look (Some last)) c.is_none_left-is_last.result c.in_ok-turn.ensures.line (not_last _ _ c.is_none_left-is_last.ensures some) kept (c.in_ok-draw_place.ensures.turned held);
+      begun = λ outer e. begun_then shape look (entries_below look c.args.levels_left) outer _ _ _ _ c.is_oldest-is_last.result _ _ _ next ends (inv.begun outer e) (c.in_ok-draw_node.ensures.bytes outer (kept ∙ inv.kept ∙ e));
+      no_fault = quiet _ _ c.draw_node.new.pen.error c.in_ok-draw_node.ensures.cause c.in_ok-draw_node.ensures.error ∙ inv.no_fault;
+      error = c.in_ok-draw_node.ensures.error;
+      kept = c.in_ok-draw_node.ensures.kept ∙ kept ∙ inv.kept;
+      turned = λ held some. still_turned c.len-width.result (line_bytes c.loop-number.pen.line) _ _ (λ b. own_text look (Some b)) c.is_oldest-is_last.result c.in_ok-turn.ensures.line (not_last _ _ c.is_oldest-is_last.ensures some) kept (c.in_ok-draw_node.ensures.turned held);
+      seen = ap (λ s. row_seen one s left) seen ∙ (ap (row_seen one last) (sym step.0) ∙ inv.seen);
+      length = c.in_ok-draw_node.ensures.length;
+      newest = step.1;
     }
 
-pub draw_place-returns-in_err-draw_own-clause-bytes : goal.draw_place-returns-in_err-draw_own-clause-bytes
-draw_place-returns-in_err-draw_own-clause-bytes g t c = λ outer e.
+pub draw_row-returns-clause-bytes : goal.draw_row-returns-clause-bytes
+draw_row-returns-clause-bytes g t c = λ outer e.
     let look = look_of c.args.brush.now.look.now in
-    let shape : OccurrenceTree → Shape = occurrence_shape g.N.Label.text c.args.expanded.now.graph.now c.args.expanded.now.mark.now in
-    entries_err _ _ _ _ _ _ c.from_residual.ensures.1
-    (entry_part _ _ _ _ (entries_below look c.args.levels_left (outer ++ passing_piece look.pieces c.args.is_last) (shape (first_tree (c.args.place ∷ c.args.after.now)))) (c.in_err-draw_own.ensures.bytes outer e) c.in_err-draw_own.ensures.memory)
+    let graph = c.args.marked.now.graph.now in
+    let shape : OccurrenceTree → Shape = occurrence_shape g.N.Label.text graph c.args.marked.now.mark.now in
+    let ended : c.loop-number.number ≡ 0 = omega (arith, c.loop-number-test.false) in
+    let none = ap (λ k. map shape (row_occurrences (grow (neighbors_of (edges_of graph)) c.args.levels_left) (flags_of graph c.loop-number.seen.items) (neighbors_of (take k (edges_of graph)) c.args.node.0))) ended in
+    all_begun look (entries_below look c.args.levels_left) outer _ _ _ _ none (c.loop-number.invariant.begun outer e)
 
-pub draw_place-returns-clause-bytes : goal.draw_place-returns-clause-bytes
-draw_place-returns-clause-bytes g t c = λ outer e.
+pub draw_row-returns-clause-seen : goal.draw_row-returns-clause-seen
+draw_row-returns-clause-seen g t c =
+    let graph = c.args.marked.now.graph.now in
+    let ended : c.loop-number.number ≡ 0 = omega (arith, c.loop-number-test.false) in
+    ap (λ k. row_seen (grow (neighbors_of (edges_of graph)) c.args.levels_left) (flags_of graph c.loop-number.seen.items) (neighbors_of (take k (edges_of graph)) c.args.node.0)) (sym ended) ∙ c.loop-number.invariant.seen
+
+pub draw_node-returns-in_err-draw_own-clause-bytes : goal.draw_node-returns-in_err-draw_own-clause-bytes
+draw_node-returns-in_err-draw_own-clause-bytes g t c = λ outer e.
     let look = look_of c.args.brush.now.look.now in
-    let expanded = c.args.expanded.now in
-    let shape : OccurrenceTree → Shape = occurrence_shape g.N.Label.text expanded.graph.now expanded.mark.now in
-    let place = c.args.place in
-    let after = c.args.after.now in
-    let tree = first_tree (place ∷ after) in
-    let passing = outer ++ passing_piece look.pieces c.args.is_last in
-    let below : map shape (trees_in c.below.result after) ≡ kids (shape tree) =
-    ap (λ n. map shape (trees_in n after)) c.below.ensures ∙ (ap (map shape) (sym (kids_of_first place after)) ∙ kids_of_unfold (occurrence_own g.N.Label.text expanded.graph.now expanded.mark.now) occurrence_kids tree) in
+    let marked = c.args.marked.now in
+    let graph = marked.graph.now in
+    let shape : OccurrenceTree → Shape = occurrence_shape g.N.Label.text graph marked.mark.now in
+    let v = c.args.node.0 in
+    let seen = flags_of graph c.args.seen.now.items in
+    let tree = (grow (neighbors_of (edges_of graph)) c.args.levels_left seen v).occurrence in
+    let flag : c.is_flagged-repeated.result ≡ is_seen seen v = c.is_flagged-repeated.ensures ∙ (ap (λ l. is_seen l v) c.deref.ensures.value ∙ sym (seen_all (length (weights_of graph)) c.args.seen.now.items v)) in
+    let leaf : c.leaf-place.result ≡ place_of v (leaf_size c.is_flagged-repeated.result) = search c.leaf-place.ensures in
+    let own = own_alike g.N.Label.text graph marked.mark.now look outer (Some c.args.is_last) c.leaf-place.result tree (ap (λ p. p.node.0) leaf ∙ sym (grown_node (neighbors_of (edges_of graph)) c.args.levels_left seen v))
+    (ap (λ p. is_repeated_size p.size) leaf ∙ (leaf_mark c.is_flagged-repeated.result ∙ (flag ∙ sym (grown_mark (neighbors_of (edges_of graph)) c.args.levels_left seen v)))) in
+    entries_err _ _ _ _ _ _ c.from_residual.ensures.1
+    (entry_part _ _ _ _ (entries_below look c.args.levels_left (outer ++ passing_piece look.pieces c.args.is_last) (shape tree)) (part_as _ _ _ _ own (c.in_err-draw_own.ensures.bytes outer e)) c.in_err-draw_own.ensures.memory)
+
+pub draw_node-returns-clause-bytes : goal.draw_node-returns-clause-bytes
+draw_node-returns-clause-bytes g t c = λ outer e.
+    let look = look_of c.args.brush.now.look.now in
+    let marked = c.args.marked.now in
+    let graph = marked.graph.now in
+    let below = neighbors_of (edges_of graph) in
+    let shape : OccurrenceTree → Shape = occurrence_shape g.N.Label.text graph marked.mark.now in
+    let v = c.args.node.0 in
+    let seen = flags_of graph c.args.seen.now.items in
+    let tree = (grow below c.args.levels_left seen v).occurrence in
+    let flag : c.is_flagged-repeated.result ≡ is_seen seen v = c.is_flagged-repeated.ensures ∙ (ap (λ l. is_seen l v) c.deref.ensures.value ∙ sym (seen_all (length (weights_of graph)) c.args.seen.now.items v)) in
+    let leaf : c.leaf-place.result ≡ place_of v (leaf_size c.is_flagged-repeated.result) = search c.leaf-place.ensures in
+    let own = own_alike g.N.Label.text graph marked.mark.now look outer (Some c.args.is_last) c.leaf-place.result tree (ap (λ p. p.node.0) leaf ∙ sym (grown_node below c.args.levels_left seen v))
+    (ap (λ p. is_repeated_size p.size) leaf ∙ (leaf_mark c.is_flagged-repeated.result ∙ (flag ∙ sym (grown_mark below c.args.levels_left seen v)))) in
+    let kids_in = kids_are g.N.Label.text graph marked.mark.now tree _ (kids_below below c.args.levels_left seen v c.if-levels_left-eq0.false (sym flag ∙ c.if-repeated.false)) in
     item_written look c.args.levels_left outer c.args.is_last (shape tree) _ _ _ _ _ (λ z. c.if-levels_left-eq0.false z)
-    (c.in_ok-draw_own.ensures.bytes outer e)
-    (all_below look (entries_below look (c.args.levels_left - 1)) passing (shape tree) _ _ _ _ shape (trees_in c.below.result after) below
+    (whole_as _ _ _ _ own (c.in_ok-draw_own.ensures.bytes outer e))
+    (all_below look (entries_below look (c.args.levels_left - 1)) (outer ++ passing_piece look.pieces c.args.is_last) (shape tree) _ _ _ _ shape (kids_grown below (c.args.levels_left - 1) seen v) kids_in
     (c.draw_below.ensures.bytes outer (ap (take c.args.width) c.in_ok-draw_own.ensures.kept ∙ e)))
+
+pub draw_node-returns-clause-seen : goal.draw_node-returns-clause-seen
+draw_node-returns-clause-seen g t c = seen_ok _ _ _ c.draw_below.result (sym (seen_below (neighbors_of (edges_of c.args.marked.now.graph.now)) c.args.levels_left (flags_of c.args.marked.now.graph.now c.args.seen.now.items) c.args.node.0 c.if-levels_left-eq0.false
+    (sym (c.is_flagged-repeated.ensures ∙ (ap (λ l. is_seen l c.args.node.0) c.deref.ensures.value ∙ sym (seen_all (length (weights_of c.args.marked.now.graph.now)) c.args.seen.now.items c.args.node.0))) ∙ c.if-repeated.false))) c.draw_below.ensures.seen
+
+pub draw_node-returns-then-repeated-clause-bytes : goal.draw_node-returns-then-repeated-clause-bytes
+draw_node-returns-then-repeated-clause-bytes g t c = λ outer e.
+    let look = look_of c.args.brush.now.look.now in
+    let marked = c.args.marked.now in
+    let graph = marked.graph.now in
+    let below = neighbors_of (edges_of graph) in
+    let shape : OccurrenceTree → Shape = occurrence_shape g.N.Label.text graph marked.mark.now in
+    let v = c.args.node.0 in
+    let seen = flags_of graph c.args.seen.now.items in
+    let tree = (grow below c.args.levels_left seen v).occurrence in
+    let flag : c.is_flagged-repeated.result ≡ is_seen seen v = c.is_flagged-repeated.ensures ∙ (ap (λ l. is_seen l v) c.deref.ensures.value ∙ sym (seen_all (length (weights_of graph)) c.args.seen.now.items v)) in
+    let leaf : c.leaf-place.result ≡ place_of v (leaf_size c.is_flagged-repeated.result) = search c.leaf-place.ensures in
+    let own = own_alike g.N.Label.text graph marked.mark.now look outer (Some c.args.is_last) c.leaf-place.result tree (ap (λ p. p.node.0) leaf ∙ sym (grown_node below c.args.levels_left seen v))
+    (ap (λ p. is_repeated_size p.size) leaf ∙ (leaf_mark c.is_flagged-repeated.result ∙ (flag ∙ sym (grown_mark below c.args.levels_left seen v)))) in
+    let stop = stopped below c.args.levels_left seen v
+    (elim c.then-repeated.branch [ draw_node-then-repeated-via-then-repeated w ↦ inl (sym flag ∙ w.if-repeated.true) | draw_node-then-repeated-via-else-repeated+then-levels_left-eq0 w ↦ inr w.if-levels_left-eq0.true ]) in
+    leaf_written look c.args.levels_left outer c.args.is_last (shape tree) _ _ (sym (kids_are g.N.Label.text graph marked.mark.now tree [] (no_kids _ v _ seen stop)))
+    (whole_as _ _ _ _ own (c.in_ok-draw_own.ensures.bytes outer e))
+
+pub draw_node-returns-then-repeated-clause-seen : goal.draw_node-returns-then-repeated-clause-seen
+draw_node-returns-then-repeated-clause-seen g t c =
+    let graph = c.args.marked.now.graph.now in
+    let v = c.args.node.0 in
+    let seen = flags_of graph c.args.seen.now.items in
+    let flag : c.is_flagged-repeated.result ≡ is_seen seen v = c.is_flagged-repeated.ensures ∙ (ap (λ l. is_seen l v) c.deref.ensures.value ∙ sym (seen_all (length (weights_of graph)) c.args.seen.now.items v)) in
+    seen_made _ _ seen _ (stopped (neighbors_of (edges_of graph)) c.args.levels_left seen v
+    (elim c.then-repeated.branch [ draw_node-then-repeated-via-then-repeated w ↦ inl (sym flag ∙ w.if-repeated.true) | draw_node-then-repeated-via-else-repeated+then-levels_left-eq0 w ↦ inr w.if-levels_left-eq0.true ])) (search rules)
+
+pub draw_node-returns-then-newest-eq0-clause-bytes : goal.draw_node-returns-then-newest-eq0-clause-bytes
+draw_node-returns-then-newest-eq0-clause-bytes g t c = λ outer e.
+    let look = look_of c.args.brush.now.look.now in
+    let marked = c.args.marked.now in
+    let graph = marked.graph.now in
+    let edges = edges_of graph in
+    let below = neighbors_of edges in
+    let shape : OccurrenceTree → Shape = occurrence_shape g.N.Label.text graph marked.mark.now in
+    let v = c.args.node.0 in
+    let seen = flags_of graph c.args.seen.now.items in
+    let tree = (grow below c.args.levels_left seen v).occurrence in
+    let flag : c.is_flagged-repeated.result ≡ is_seen seen v = c.is_flagged-repeated.ensures ∙ (ap (λ l. is_seen l v) c.deref.ensures.value ∙ sym (seen_all (length (weights_of graph)) c.args.seen.now.items v)) in
+    let leaf : c.leaf-place.result ≡ place_of v (leaf_size c.is_flagged-repeated.result) = search c.leaf-place.ensures in
+    let own = own_alike g.N.Label.text graph marked.mark.now look outer (Some c.args.is_last) c.leaf-place.result tree (ap (λ p. p.node.0) leaf ∙ sym (grown_node below c.args.levels_left seen v))
+    (ap (λ p. is_repeated_size p.size) leaf ∙ (leaf_mark c.is_flagged-repeated.result ∙ (flag ∙ sym (grown_mark below c.args.levels_left seen v)))) in
+    let none : below v ≡ [] = sym (newest_starts edges v c.newest-newest.result c.newest-newest.ensures.newest).0 ∙ ap (λ k. neighbors_of (take k edges) v) c.if-newest-eq0.true in
+    leaf_written look c.args.levels_left outer c.args.is_last (shape tree) _ _
+    (sym (kids_are g.N.Label.text graph marked.mark.now tree [] (no_kids _ v _ seen (without below c.args.levels_left seen v c.if-levels_left-eq0.false (sym flag ∙ c.if-repeated.false) none))))
+    (whole_as _ _ _ _ own (c.in_ok-draw_own.ensures.bytes outer e))
+
+pub draw_node-returns-then-newest-eq0-clause-seen : goal.draw_node-returns-then-newest-eq0-clause-seen
+draw_node-returns-then-newest-eq0-clause-seen g t c =
+    let graph = c.args.marked.now.graph.now in
+    let v = c.args.node.0 in
+    let edges = edges_of graph in
+    let seen = flags_of graph c.args.seen.now.items in
+    let flag : c.is_flagged-repeated.result ≡ is_seen seen v = c.is_flagged-repeated.ensures ∙ (ap (λ l. is_seen l v) c.deref.ensures.value ∙ sym (seen_all (length (weights_of graph)) c.args.seen.now.items v)) in
+    let none : neighbors_of edges v ≡ [] = sym (newest_starts edges v c.newest-newest.result c.newest-newest.ensures.newest).0 ∙ ap (λ k. neighbors_of (take k edges) v) c.if-newest-eq0.true in
+    seen_made _ _ seen _ (without (neighbors_of edges) c.args.levels_left seen v c.if-levels_left-eq0.false (sym flag ∙ c.if-repeated.false) none) (search rules)
+
+pub draw_node-draw_below-requires : goal.draw_node-draw_below-requires
+draw_node-draw_below-requires g t c =
+    let graph = c.args.marked.now.graph.now in
+    let within : c.args.node.0 < length (weights_of graph) =
+    elim (cases_lt c.args.node.0 (length (weights_of graph))) [ inl x ↦ x | inr x ↦ absurd (c.if-newest-eq0.false (c.newest-newest.ensures.no_node x)) ] in
+    grind (arith, common_steps, within)
 
 pub draw_below-returns-in_err-pass-clause-bytes : goal.draw_below-returns-in_err-pass-clause-bytes
 draw_below-returns-in_err-pass-clause-bytes g t c = λ outer e.
     let look = look_of c.args.brush.now.look.now in
-    let shape : OccurrenceTree → Shape = occurrence_shape g.N.Label.text c.args.expanded.now.graph.now c.args.expanded.now.mark.now in
+    let graph = c.args.marked.now.graph.now in
+    let shape : OccurrenceTree → Shape = occurrence_shape g.N.Label.text graph c.args.marked.now.mark.now in
     entries_err _ _ _ _ _ _ c.from_residual.ensures.1
-    (entries_none _ c.pass.new.self.error (kid_entries look (entries_below look c.args.levels_left) (outer ++ passing_piece look.pieces c.args.is_last) (map shape (trees_in c.args.count c.args.places.now))))
+    (entries_none _ c.pass.new.self.error (kid_entries look (entries_below look c.args.levels_left) (outer ++ passing_piece look.pieces c.args.is_last) (map shape (kids_grown (neighbors_of (edges_of graph)) c.args.levels_left (flags_of graph c.args.seen.now.items) c.args.node.0))))
 
 pub draw_below-returns-clause-bytes : goal.draw_below-returns-clause-bytes
 draw_below-returns-clause-bytes g t c = λ outer e.

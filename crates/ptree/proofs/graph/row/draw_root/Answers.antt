@@ -1,23 +1,28 @@
-use Rattle.std.proofs.Common.{◌≡◌, ◌∷◌, arith, length, length-append, ◌∙◌, [], ap, map, sym}
+use Rattle.std.proofs.Common.{None, ◌≡◌, ◌<◌, ◌≤◌, ◌-◌, arith, length, length-append, ◌∙◌, [], ap, map, take, false, inl, inr, sym}
+use Rattle.std.proofs.lemmas.Bool.{cases_lt}
+use Rattle.std.proofs.lemmas.Grind.{common_steps}
 use Rattle.std.proofs.lemmas.List.{append-nil}
 use Rattle.ptree.specs.Entries.{entries_below, drawn_entries}
+use Rattle.ptree.specs.Graph.{weights_of, edges_of, neighbors_of}
+use Rattle.ptree.specs.Growing.{flags_of, is_seen, grow, kids_grown, place_of}
 use Rattle.ptree.specs.Line.{line_bytes}
 use Rattle.ptree.specs.Looks.{look_of}
-use Rattle.ptree.specs.Occurrence.{OccurrenceTree, occurrence_own, occurrence_shape, occurrence_kids, first_tree, trees_in}
-use Rattle.ptree.specs.Shape.{Shape, kids}
+use Rattle.ptree.specs.Occurrence.{OccurrenceTree, occurrence_shape, is_repeated_size}
+use Rattle.ptree.specs.Shape.{Shape}
 use Rattle.ptree.specs.Style.{start_codes}
+use Rattle.ptree.proofs.AlongEdges.{grown_node, grown_mark, kids_below, no_kids, kids_are, own_alike, leaf_root, part_as, whole_as}
+use Rattle.ptree.proofs.EdgeLists.{newest_starts}
 use Rattle.ptree.proofs.Engine.{cut_back, start_kept, root_turned}
+use Rattle.ptree.proofs.Growth.{without}
 use Rattle.ptree.proofs.Join.{root_written, root_alone}
-use Rattle.ptree.proofs.Places.{kids_of_first}
-use Rattle.ptree.proofs.Unfold.{kids_of_unfold}
+use Rattle.ptree.proofs.NodeFlags.{seen_all}
 use Rattle.ptree.proofs.Written.{entries_none, entries_err, entry_part}
-use Rattle.std.proofs.lemmas.Grind.{common_steps}
 use Rattle.ptree.proofs.graph.row.draw_root.Goals as goal
 
 pub returns-in_err-append-clause-bytes : goal.returns-in_err-append-clause-bytes
 returns-in_err-append-clause-bytes g c =
-    let shape : OccurrenceTree → Shape = occurrence_shape g.N.Label.text c.args.expanded.now.graph.now c.args.expanded.now.mark.now in
-    entries_err _ _ _ _ _ _ c.from_residual.ensures.1 (entries_none _ c.args.pen.now.error (drawn_entries (look_of c.args.brush.now.look.now) c.args.depth (shape (first_tree (c.args.place ∷ c.args.after.now)))))
+    let shape : OccurrenceTree → Shape = occurrence_shape g.N.Label.text c.args.marked.now.graph.now c.args.marked.now.mark.now in
+    entries_err _ _ _ _ _ _ c.from_residual.ensures.1 (entries_none _ c.args.pen.now.error (drawn_entries (look_of c.args.brush.now.look.now) c.args.depth (shape ((grow (neighbors_of (edges_of c.args.marked.now.graph.now)) c.args.depth (flags_of c.args.marked.now.graph.now []) c.args.start.0).occurrence))))
 
 pub draw_own-requires : goal.draw_own-requires
 draw_own-requires g c =
@@ -34,35 +39,89 @@ draw_own-requires g c =
 pub returns-in_err-draw_own-clause-bytes : goal.returns-in_err-draw_own-clause-bytes
 returns-in_err-draw_own-clause-bytes g c =
     let look = look_of c.args.brush.now.look.now in
-    let shape : OccurrenceTree → Shape = occurrence_shape g.N.Label.text c.args.expanded.now.graph.now c.args.expanded.now.mark.now in
+    let shape : OccurrenceTree → Shape = occurrence_shape g.N.Label.text c.args.marked.now.graph.now c.args.marked.now.mark.now in
     let wide : c.len-width.result ≡ length (line_bytes c.args.pen.now.line) = c.len-width.ensures in
     let outer = start_kept c.len-width.result _ _ _ wide c.in_ok-append.ensures.bytes ∙ c.requires.start ∙ sym (append-nil (start_codes look.branch)) in
+    let graph = c.args.marked.now.graph.now in
+    let below = neighbors_of (edges_of graph) in
+    let v = c.args.start.0 in
+    let seen = flags_of graph [] in
+    let tree = (grow below c.args.depth seen v).occurrence in
+    let leaf : c.leaf-place.result ≡ place_of v 1 = search c.leaf-place.ensures in
+    let own = own_alike g.N.Label.text graph c.args.marked.now.mark.now look [] None c.leaf-place.result tree (ap (λ p. p.node.0) leaf ∙ sym (grown_node below c.args.depth seen v))
+    (ap (λ p. is_repeated_size p.size) leaf ∙ (sym (seen_all (length (weights_of graph)) [] v) ∙ sym (grown_mark below c.args.depth seen v))) in
     entries_err _ _ _ _ _ _ c.from_residual-in_err-draw_own.ensures.1
-    (entry_part _ _ _ _ (entries_below look c.args.depth [] (shape (first_tree (c.args.place ∷ c.args.after.now)))) (c.in_err-draw_own.ensures.bytes [] outer) c.in_err-draw_own.ensures.memory)
+    (entry_part _ _ _ _ (entries_below look c.args.depth [] (shape ((grow (neighbors_of (edges_of c.args.marked.now.graph.now)) c.args.depth (flags_of c.args.marked.now.graph.now []) c.args.start.0).occurrence))) (part_as _ _ _ _ own (c.in_err-draw_own.ensures.bytes [] outer)) c.in_err-draw_own.ensures.memory)
 
 pub returns-clause-bytes : goal.returns-clause-bytes
 returns-clause-bytes g c =
     let look = look_of c.args.brush.now.look.now in
-    let expanded = c.args.expanded.now in
-    let shape : OccurrenceTree → Shape = occurrence_shape g.N.Label.text expanded.graph.now expanded.mark.now in
-    let place = c.args.place in
-    let after = c.args.after.now in
-    let tree = first_tree (place ∷ after) in
-    let below : map shape (trees_in c.below.result after) ≡ kids (shape tree) =
-    ap (λ n. map shape (trees_in n after)) c.below.ensures ∙ (ap (map shape) (sym (kids_of_first place after)) ∙ kids_of_unfold (occurrence_own g.N.Label.text expanded.graph.now expanded.mark.now) occurrence_kids tree) in
+    let marked = c.args.marked.now in
+    let graph = marked.graph.now in
+    let below = neighbors_of (edges_of graph) in
+    let v = c.args.start.0 in
+    let seen = flags_of graph [] in
+    let shape : OccurrenceTree → Shape = occurrence_shape g.N.Label.text graph marked.mark.now in
+    let tree = (grow below c.args.depth seen v).occurrence in
+    let clear : is_seen seen v ≡ false = seen_all (length (weights_of graph)) [] v in
+    let leaf : c.leaf-place.result ≡ place_of v 1 = search c.leaf-place.ensures in
+    let own = own_alike g.N.Label.text graph marked.mark.now look [] None c.leaf-place.result tree (ap (λ p. p.node.0) leaf ∙ sym (grown_node below c.args.depth seen v))
+    (ap (λ p. is_repeated_size p.size) leaf ∙ (sym clear ∙ sym (grown_mark below c.args.depth seen v))) in
     let wide : c.len-width.result ≡ length (line_bytes c.args.pen.now.line) = c.len-width.ensures in
     let outer = c.requires.start ∙ sym (append-nil (start_codes look.branch)) in
-    root_written look c.args.depth (shape tree) (map shape (trees_in c.below.result after)) _ _ _ _ _ (λ z. c.if-depth-eq0.false z) below
-    (c.in_ok-draw_own.ensures.bytes [] (start_kept c.len-width.result _ _ _ wide c.in_ok-append.ensures.bytes ∙ outer))
+    let entry = whole_as _ _ _ _ own (c.in_ok-draw_own.ensures.bytes [] (start_kept c.len-width.result _ _ _ wide c.in_ok-append.ensures.bytes ∙ outer)) in
+    let empty : flags_of graph c.new-seen.result.items ≡ seen = ap (flags_of graph) c.new-seen.ensures.items in
+    let row_is = ap (λ s. map shape (kids_grown below (c.args.depth - 1) s v)) empty ∙ kids_are g.N.Label.text graph marked.mark.now tree _ (kids_below below c.args.depth seen v c.if-depth-eq0.false clear) in
+    root_written look c.args.depth (shape tree) _ _ _ _ _ _ (λ z. c.if-depth-eq0.false z) row_is entry
     (c.draw_row.ensures.bytes [] (cut_back c.len-width.result _ _ _ _ _ wide c.in_ok-append.ensures.bytes c.in_ok-draw_own.ensures.kept c.truncate.ensures ∙ outer))
 
 pub returns-then-depth-eq0-clause-bytes : goal.returns-then-depth-eq0-clause-bytes
 returns-then-depth-eq0-clause-bytes g c =
     let look = look_of c.args.brush.now.look.now in
-    let shape : OccurrenceTree → Shape = occurrence_shape g.N.Label.text c.args.expanded.now.graph.now c.args.expanded.now.mark.now in
+    let marked = c.args.marked.now in
+    let graph = marked.graph.now in
+    let below = neighbors_of (edges_of graph) in
+    let v = c.args.start.0 in
+    let seen = flags_of graph [] in
+    let shape : OccurrenceTree → Shape = occurrence_shape g.N.Label.text graph marked.mark.now in
+    let tree = (grow below c.args.depth seen v).occurrence in
+    let clear : is_seen seen v ≡ false = seen_all (length (weights_of graph)) [] v in
+    let leaf : c.leaf-place.result ≡ place_of v 1 = search c.leaf-place.ensures in
+    let own = own_alike g.N.Label.text graph marked.mark.now look [] None c.leaf-place.result tree (ap (λ p. p.node.0) leaf ∙ sym (grown_node below c.args.depth seen v))
+    (ap (λ p. is_repeated_size p.size) leaf ∙ (sym clear ∙ sym (grown_mark below c.args.depth seen v))) in
     let wide : c.len-width.result ≡ length (line_bytes c.args.pen.now.line) = c.len-width.ensures in
-    let outer = start_kept c.len-width.result _ _ _ wide c.in_ok-append.ensures.bytes ∙ c.requires.start ∙ sym (append-nil (start_codes look.branch)) in
-    root_alone look c.args.depth (shape (first_tree (c.args.place ∷ c.args.after.now))) _ _ c.if-depth-eq0.true (c.in_ok-draw_own.ensures.bytes [] outer)
+    let outer = c.requires.start ∙ sym (append-nil (start_codes look.branch)) in
+    let entry = whole_as _ _ _ _ own (c.in_ok-draw_own.ensures.bytes [] (start_kept c.len-width.result _ _ _ wide c.in_ok-append.ensures.bytes ∙ outer)) in
+    root_alone look c.args.depth (shape tree) _ _ c.if-depth-eq0.true entry
+
+pub returns-then-newest-eq0-clause-bytes : goal.returns-then-newest-eq0-clause-bytes
+returns-then-newest-eq0-clause-bytes g c =
+    let look = look_of c.args.brush.now.look.now in
+    let marked = c.args.marked.now in
+    let graph = marked.graph.now in
+    let below = neighbors_of (edges_of graph) in
+    let v = c.args.start.0 in
+    let seen = flags_of graph [] in
+    let shape : OccurrenceTree → Shape = occurrence_shape g.N.Label.text graph marked.mark.now in
+    let tree = (grow below c.args.depth seen v).occurrence in
+    let clear : is_seen seen v ≡ false = seen_all (length (weights_of graph)) [] v in
+    let leaf : c.leaf-place.result ≡ place_of v 1 = search c.leaf-place.ensures in
+    let own = own_alike g.N.Label.text graph marked.mark.now look [] None c.leaf-place.result tree (ap (λ p. p.node.0) leaf ∙ sym (grown_node below c.args.depth seen v))
+    (ap (λ p. is_repeated_size p.size) leaf ∙ (sym clear ∙ sym (grown_mark below c.args.depth seen v))) in
+    let wide : c.len-width.result ≡ length (line_bytes c.args.pen.now.line) = c.len-width.ensures in
+    let outer = c.requires.start ∙ sym (append-nil (start_codes look.branch)) in
+    let entry = whole_as _ _ _ _ own (c.in_ok-draw_own.ensures.bytes [] (start_kept c.len-width.result _ _ _ wide c.in_ok-append.ensures.bytes ∙ outer)) in
+    let none : below v ≡ [] = sym (newest_starts (edges_of graph) v c.newest-newest.result c.newest-newest.ensures.newest).0 ∙ ap (λ k. neighbors_of (take k (edges_of graph)) v) c.if-newest-eq0.true in
+    leaf_root look c.args.depth (shape tree) _ _
+    (sym (kids_are g.N.Label.text graph marked.mark.now tree [] (no_kids _ v _ seen (without below c.args.depth seen v c.if-depth-eq0.false clear none)))) entry
+
+pub draw_row-requires : goal.draw_row-requires
+draw_row-requires g c =
+    let graph = c.args.marked.now.graph.now in
+    let within : c.args.start.0 < length (weights_of graph) =
+    elim (cases_lt c.args.start.0 (length (weights_of graph))) [ inl x ↦ x | inr x ↦ absurd (c.if-newest-eq0.false (c.newest-newest.ensures.no_node x)) ] in
+    let few : length c.new-seen.result.items ≤ length (weights_of graph) = omega (arith, ap length c.new-seen.ensures.items) in
+    grind (arith, common_steps, within, few)
 
 pub returns-clause-cause : goal.returns-clause-cause
 returns-clause-cause g c = grind (arith, common_steps)
