@@ -12,7 +12,7 @@ use Rattle.ptree.specs.Drawing.{Look}
 use Rattle.ptree.specs.Entries.{shape_entry, kid_entries, entries_below, item_entries, drawn_entries}
 use Rattle.ptree.specs.Graph.{neighbors_of}
 use Rattle.ptree.specs.GraphLinks.{newest_from}
-use Rattle.ptree.specs.Growing.{Grown, grown, is_seen, row_occurrences, grow, kids_grown, kids_seen, place_of, leaf_size, alone_at}
+use Rattle.ptree.specs.Growing.{Grown, grown, is_seen, row_occurrences, grow, kids_grown, kids_seen, leaf_size, alone_at}
 use Rattle.ptree.specs.Looks.{own_entry}
 use Rattle.ptree.specs.Occurrence.{OccurrenceTree, none, occurrence, row, occurrence_kids, occurrence_own, occurrence_shape, is_repeated_size}
 use Rattle.ptree.specs.Pieces.{turning_piece, passing_piece}

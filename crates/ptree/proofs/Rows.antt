@@ -7,13 +7,12 @@ use Rattle.ptree.specs.Tree.{Tree, forest, tree, tree_of}
 use Rattle.ptree.specs.declared.item.StringItem.{StringItem}
 
 -- the lines of a tree whose root has level n
-outline_under : ℕ → Tree → List Line
+abbrev pub outline_under : ℕ → Tree → List Line
 outline_under n t = line n t.text ∷ outline_at (suc n) t.children
 
 -- one tree more at the end of a forest
-outline_at-push : (n : ℕ) (ts : List Tree) (t : Tree)
+pub outline_at-push : (n : ℕ) (ts : List Tree) (t : Tree)
     → outline_at n (forest (ts ++ t ∷ [])) ≡ outline_at n (forest ts) ++ outline_under n t
-unfolding outline_under
 outline_at-push n [] t = ap (λ z. line n t.text ∷ z) (append-nil (outline_at (suc n) t.children))
 outline_at-push n (u ∷ ts) t =
     ap (λ z. line n u.text ∷ z)
@@ -38,7 +37,6 @@ module _ {T : Type 0} (line_of : T → Line) where
       → IsRowSoFar above lines items rest → rest ≡ first ∷ tail → above < (line_of first).level
       → tree_of x ≡ tree ((line_of first).text) (forest (map tree_of children))
       → IsRow line_of (line_of first).level tail children after → IsRowSoFar above lines (items ++ x ∷ []) after
-  unfolding outline_under
   row-more above lines items rest tail after first x children h e deeper is below =
       let n = suc above in
       let o = map line_of after in

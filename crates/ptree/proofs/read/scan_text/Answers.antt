@@ -7,7 +7,7 @@ use Rattle.ptree.proofs.read.scan_text.Goals as goal
 
 pub returns : goal.returns
 returns c =
-    subst (λ (k : Look). IfOk c.read_in_frame.result (λ r. IsReading k c.args.config.now.depth c.args.text.now r))
+    subst (λ (k : Look). IfOk c.read_lines.result (λ r. IsReading k c.args.config.now.depth c.args.text.now r))
     (ap look_of c.in_ok-frame.ensures.0 ∙ c.in_ok-look.ensures)
-    (subst (λ (d : ℕ). IfOk c.read_in_frame.result (λ r. IsReading (look_of c.in_ok-frame.frame.look.now) d c.args.text.now r))
-    c.in_ok-frame.ensures.1 c.read_in_frame.ensures)
+    (subst (λ (d : ℕ). IfOk c.read_lines.result (λ r. IsReading (look_of c.in_ok-frame.frame.look.now) d c.args.text.now r))
+    c.in_ok-frame.ensures.1 c.read_lines.ensures)

@@ -1,16 +1,16 @@
 use Rattle.std.proofs.lemmas.List.{take_all, length-map}
 use Rattle.std.proofs.lemmas.Bool.{false≢true, cases_lt}
 use Rattle.std.proofs.lemmas.Grind.{common_steps}
-use Rattle.std.proofs.Common.{Some, ◌≡◌, ◌<◌, ◌++◌, ◌∷◌, ◌-◌, ◌∙◌, [], Bool, List, false, inl, inr, eqb, ap, sym, subst, map, take, length, refl, arith, rules, append_assoc}
+use Rattle.std.proofs.Common.{Some, ◌≡◌, ◌<◌, ◌++◌, ◌∷◌, ◌-◌, ◌∙◌, [], inl, inr, eqb, ap, sym, map, take, length, refl, arith, rules, append_assoc}
 use Rattle.ptree.specs.Graph.{weights_of, edges_of, neighbors_of}
 use Rattle.ptree.specs.GraphLinks.{ends_of}
 use Rattle.ptree.specs.Growing.{flags_of, is_seen, enter, grow, row_occurrences, row_seen, kids_grown, place_of, leaf_size}
 use Rattle.ptree.specs.Line.{line_bytes}
-use Rattle.ptree.specs.Looks.{look_of, own_text, own_entry}
+use Rattle.ptree.specs.Looks.{look_of, own_text}
 use Rattle.ptree.specs.Entries.{kid_entries, entries_below}
 use Rattle.ptree.specs.Occurrence.{OccurrenceTree, occurrence_shape, is_repeated_size}
 use Rattle.ptree.specs.Pieces.{passing_piece}
-use Rattle.ptree.specs.Shape.{Shape, kids}
+use Rattle.ptree.specs.Shape.{Shape}
 use Rattle.ptree.proofs.AlongEdges.{last_tells, length_row, leaf_mark, grown_node, grown_mark, kids_below, seen_below, no_kids, kids_are, own_alike, leaf_written, part_as, whole_as, all_begun, seen_ok}
 use Rattle.ptree.proofs.EdgeLists.{newest_starts, newest_within, newest_has}
 use Rattle.ptree.proofs.Engine.{item_written, all_below, begun_none, begun_part, begun_then, begun_err, not_last, still_turned, long_enough, take_again, quiet}

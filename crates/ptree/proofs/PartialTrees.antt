@@ -1,0 +1,224 @@
+-- Trees while their items are read.
+use Rattle.std.proofs.Common.{◌≡◌, ℕ, zero, suc, ◌+◌, ◌-◌, ◌<◌, ◌≤◌, List, [], ◌∷◌, ◌++◌, length, length-append, map, take, drop, sym, ap, ◌∙◌, append_assoc, refl, subst, arith}
+use Rattle.std.proofs.Math.ListN.{drop_of_length-le}
+use Rattle.std.proofs.lemmas.List.{map-append, take-append-le, drop-append-le, drop-drop, take_all, length-drop, length-take-le}
+use Rattle.std.specs.Prelude.{string_bytes}
+use Rattle.ptree.specs.Outline.{Line, line, outline, outline_at}
+use Rattle.ptree.specs.PartialTree.{row_lines, lines_from, Ascend, HasOneRoot}
+use Rattle.ptree.specs.Tree.{forest, tree, tree_of}
+use Rattle.ptree.specs.declared.item.StringItem.{StringItem}
+use Rattle.ptree.specs.declared.read.partial.Parent.{Parent}
+use Rattle.ptree.proofs.Rows.{outline_under, outline_at-push}
+
+-- ## Places
+
+-- they lie between the bounds
+ascend_bounds : (m : ℕ) (parents : List Parent) (count : ℕ) → Ascend m parents count → m ≤ count
+ascend_bounds m [] count h = h
+ascend_bounds m (o ∷ parents) count h = let low = h.0 in let high = ascend_bounds o.first parents count h.1 in omega (arith, low, high)
+
+-- more closed items
+pub ascend_more : (m : ℕ) (parents : List Parent) (count count' : ℕ) → Ascend m parents count → count ≤ count' → Ascend m parents count'
+ascend_more m [] count count' h more = omega (arith, h, more)
+ascend_more m (o ∷ parents) count count' h more = (h.0, ascend_more o.first parents count count' h.1 more)
+
+-- one parents item more
+pub ascend_push : (m : ℕ) (parents : List Parent) (o : Parent) (count : ℕ) → Ascend m parents o.first → o.first ≤ count → Ascend m (parents ++ o ∷ []) count
+ascend_push m [] o count h high = (h, high)
+ascend_push m (p ∷ parents) o count h high = (h.0, ascend_push p.first parents o count h.1 high)
+
+-- and one less
+pub ascend_pop : (m : ℕ) (parents : List Parent) (o : Parent) (count : ℕ) → Ascend m (parents ++ o ∷ []) count → Ascend m parents o.first × (o.first ≤ count)
+ascend_pop m [] o count h = h
+ascend_pop m (p ∷ parents) o count h = let more = ascend_pop p.first parents o count h.1 in ((h.0, more.0), more.1)
+
+-- the root stays, if there is one, whatever is closed
+pub root_stays : (parents : List Parent) (closed closed' : List StringItem) → 0 < length parents → HasOneRoot parents closed → HasOneRoot parents closed'
+root_stays [] closed closed' some h = absurd (omega (arith, some))
+root_stays (p ∷ parents) closed closed' some h = h
+
+-- so also if the last parent is closed
+pub root_above : (parents : List Parent) (o : Parent) (closed closed' : List StringItem) → 0 < length parents → HasOneRoot (parents ++ o ∷ []) closed → HasOneRoot parents closed'
+root_above [] o closed closed' some h = absurd (omega (arith, some))
+root_above (p ∷ parents) o closed closed' some h = h
+
+-- one parent more
+pub root_pushed : (parents : List Parent) (o : Parent) (closed : List StringItem) → o.first ≡ length closed → HasOneRoot parents closed → HasOneRoot (parents ++ o ∷ []) closed
+root_pushed [] o closed at h = at ∙ ap length h
+root_pushed (p ∷ parents) o closed at h = h
+
+-- ## Lines
+
+-- one closed item more in a row
+row_push : (n : ℕ) (items : List StringItem) (x : StringItem) → row_lines n (items ++ x ∷ []) ≡ row_lines n items ++ outline_under n (tree_of x)
+row_push n items x = ap (λ z. outline_at n (forest z)) (map-append tree_of items (x ∷ [])) ∙ outline_at-push n (map tree_of items) (tree_of x)
+
+-- how many items are left after some
+left_count : (k : ℕ) (xs : List StringItem) → k ≤ length xs → k + length (drop k xs) ≡ length xs
+left_count k xs h = let d = length-drop k xs in omega (arith, h, d)
+
+-- the first a of the first a + b items and of one more
+take_near : (a b : ℕ) (xs : List StringItem) (x : StringItem) → a + b ≤ length xs → take a (take (a + b) xs ++ x ∷ []) ≡ take a xs
+take_near zero b xs x h = refl
+take_near (suc a) b [] x h = absurd (omega (arith, h))
+take_near (suc a) b (y ∷ ys) x h =
+    ap (λ k. take (suc a) (take k (y ∷ ys) ++ x ∷ [])) (let e : suc a + b ≡ suc (a + b) = omega arith in e) ∙ ap (λ z. y ∷ z) (take_near a b ys x (omega (arith, h)))
+
+-- and what is after them
+drop_near : (a b : ℕ) (xs : List StringItem) (x : StringItem) → a + b ≤ length xs → drop a (take (a + b) xs ++ x ∷ []) ≡ take b (drop a xs) ++ x ∷ []
+drop_near zero b xs x h = ap (λ k. take k xs ++ x ∷ []) (let e : 0 + b ≡ b = omega arith in e)
+drop_near (suc a) b [] x h = absurd (omega (arith, h))
+drop_near (suc a) b (y ∷ ys) x h =
+    ap (λ k. drop (suc a) (take k (y ∷ ys) ++ x ∷ [])) (let e : suc a + b ≡ suc (a + b) = omega arith in e) ∙ drop_near a b ys x (omega (arith, h))
+
+-- one closed item more, below the parents ones
+pub lines_push : (n m : ℕ) (parents : List Parent) (closed : List StringItem) (x : StringItem) → Ascend m parents (m + length closed)
+    → lines_from n m parents (closed ++ x ∷ []) ≡ lines_from n m parents closed ++ outline_under (n + length parents) (tree_of x)
+lines_push n m [] closed x h = row_push n closed x ∙ ap (λ k. row_lines n closed ++ outline_under k (tree_of x)) (let z : n ≡ n + 0 = omega arith in z)
+lines_push n m (o ∷ parents) closed x h =
+    let here = o.first - m in
+    let low = h.0 in
+    let high = ascend_bounds o.first parents (m + length closed) h.1 in
+    let within : here ≤ length closed = omega (arith, low, high) in
+    let count = left_count here closed within in
+    let left : m + length closed ≡ o.first + length (drop here closed) = omega (arith, low, count) in
+    let rest = lines_push (suc n) o.first parents (drop here closed) x (subst (Ascend o.first parents) left h.1) in
+    let level : suc n + length parents ≡ n + suc (length parents) = omega arith in
+    ap (λ z. row_lines n z ++ line n (string_bytes o.text) ∷ lines_from (suc n) o.first parents (drop here (closed ++ x ∷ []))) (take-append-le here closed (x ∷ []) within)
+    ∙ (ap (λ z. row_lines n (take here closed) ++ line n (string_bytes o.text) ∷ lines_from (suc n) o.first parents z) (drop-append-le here closed (x ∷ []) within)
+    ∙ (ap (λ z. row_lines n (take here closed) ++ line n (string_bytes o.text) ∷ z) (rest ∙ ap (λ k. lines_from (suc n) o.first parents (drop here closed) ++ outline_under k (tree_of x)) level)
+    ∙ sym (append_assoc (row_lines n (take here closed)) (line n (string_bytes o.text) ∷ lines_from (suc n) o.first parents (drop here closed)) (outline_under (n + suc (length parents)) (tree_of x)))))
+
+-- one parents item more, with nothing below it
+pub lines_open : (n m : ℕ) (parents : List Parent) (o : Parent) (closed : List StringItem) → Ascend m parents (m + length closed) → o.first ≡ m + length closed
+    → lines_from n m (parents ++ o ∷ []) closed ≡ lines_from n m parents closed ++ line (n + length parents) (string_bytes o.text) ∷ []
+lines_open n m [] o closed h at =
+    let here = o.first - m in
+    let all : here ≡ length closed = omega (arith, at) in
+    ap (λ z. row_lines n z ++ line n (string_bytes o.text) ∷ row_lines (suc n) (drop here closed)) (take_all here closed (omega (arith, all)))
+    ∙ (ap (λ z. row_lines n closed ++ line n (string_bytes o.text) ∷ row_lines (suc n) z) (drop_of_length-le closed (omega (arith, all)))
+    ∙ ap (λ k. row_lines n closed ++ line k (string_bytes o.text) ∷ []) (let z : n ≡ n + 0 = omega arith in z))
+lines_open n m (p ∷ parents) o closed h at =
+    let here = p.first - m in
+    let low = h.0 in
+    let high = ascend_bounds p.first parents (m + length closed) h.1 in
+    let count = left_count here closed (omega (arith, low, high)) in
+    let left : m + length closed ≡ p.first + length (drop here closed) = omega (arith, low, count) in
+    let rest = lines_open (suc n) p.first parents o (drop here closed) (subst (Ascend p.first parents) left h.1) (at ∙ left) in
+    let level : suc n + length parents ≡ n + suc (length parents) = omega arith in
+    ap (λ z. row_lines n (take here closed) ++ line n (string_bytes p.text) ∷ z) (rest ∙ ap (λ k. lines_from (suc n) p.first parents (drop here closed) ++ line k (string_bytes o.text) ∷ []) level)
+    ∙ sym (append_assoc (row_lines n (take here closed)) (line n (string_bytes p.text) ∷ lines_from (suc n) p.first parents (drop here closed)) (line (n + suc (length parents)) (string_bytes o.text) ∷ []))
+
+-- an parents item that is closed over those below it
+pub lines_close : (n m : ℕ) (parents : List Parent) (o : Parent) (closed : List StringItem) (x : StringItem) → Ascend m (parents ++ o ∷ []) (m + length closed)
+    → tree_of x ≡ tree (string_bytes o.text) (forest (map tree_of (drop (o.first - m) closed)))
+    → lines_from n m parents (take (o.first - m) closed ++ x ∷ []) ≡ lines_from n m (parents ++ o ∷ []) closed
+lines_close n m [] o closed x h is =
+    row_push n (take (o.first - m) closed) x ∙ ap (λ t. row_lines n (take (o.first - m) closed) ++ outline_under n t) is
+lines_close n m (p ∷ parents) o closed x h is =
+    let here = p.first - m in
+    let low = h.0 in
+    let bounds = ascend_pop p.first parents o (m + length closed) h.1 in
+    let between = ascend_bounds p.first parents o.first bounds.0 in
+    let top = bounds.1 in
+    let on = o.first - p.first in
+    let far : o.first - m ≡ here + on = omega (arith, low, between) in
+    let within : here + on ≤ length closed = omega (arith, low, between, top) in
+    let count = left_count here closed (omega (arith, within)) in
+    let left : m + length closed ≡ p.first + length (drop here closed) = omega (arith, low, count) in
+    let rest = lines_close (suc n) p.first parents o (drop here closed) x (subst (Ascend p.first (parents ++ o ∷ [])) left h.1)
+    (is ∙ ap (λ z. tree (string_bytes o.text) (forest (map tree_of z))) (ap (λ k. drop k closed) far ∙ sym (drop-drop on here closed))) in
+    ap (λ k. lines_from n m (p ∷ parents) (take k closed ++ x ∷ [])) far
+    ∙ (ap (λ z. row_lines n z ++ line n (string_bytes p.text) ∷ lines_from (suc n) p.first parents (drop here (take (here + on) closed ++ x ∷ []))) (take_near here on closed x within)
+    ∙ ap (λ z. row_lines n (take here closed) ++ line n (string_bytes p.text) ∷ z) (ap (lines_from (suc n) p.first parents) (drop_near here on closed x within) ∙ rest))
+
+-- ## From the root
+
+-- one closed item more
+pub root_lines_push : (ps : List Parent) (closed : List StringItem) (x : StringItem) → Ascend 0 ps (length closed) → lines_from 0 0 ps (closed ++ x ∷ []) ≡ lines_from 0 0 ps closed ++ outline_under (length ps) (tree_of x)
+root_lines_push ps closed x h =
+    lines_push 0 0 ps closed x (subst (Ascend 0 ps) (let e : length closed ≡ 0 + length closed = omega arith in e) h)
+    ∙ ap (λ k. lines_from 0 0 ps closed ++ outline_under k (tree_of x)) (let e : 0 + length ps ≡ length ps = omega arith in e)
+
+-- one parent more
+pub root_lines_open : (ps : List Parent) (p : Parent) (closed : List StringItem) → Ascend 0 ps (length closed) → p.first ≡ length closed
+    → lines_from 0 0 (ps ++ p ∷ []) closed ≡ lines_from 0 0 ps closed ++ line (length ps) (string_bytes p.text) ∷ []
+root_lines_open ps p closed h at =
+    lines_open 0 0 ps p closed (subst (Ascend 0 ps) (let e : length closed ≡ 0 + length closed = omega arith in e) h) (omega (arith, at))
+    ∙ ap (λ k. lines_from 0 0 ps closed ++ line k (string_bytes p.text) ∷ []) (let e : 0 + length ps ≡ length ps = omega arith in e)
+
+-- one parent less
+root_lines_close : (ps : List Parent) (p : Parent) (closed : List StringItem) (x : StringItem) → Ascend 0 (ps ++ p ∷ []) (length closed) → tree_of x ≡ tree (string_bytes p.text) (forest (map tree_of (drop p.first closed)))
+    → lines_from 0 0 ps (take p.first closed ++ x ∷ []) ≡ lines_from 0 0 (ps ++ p ∷ []) closed
+root_lines_close ps p closed x h is =
+    let first : p.first ≡ p.first - 0 = omega arith in
+    ap (λ k. lines_from 0 0 ps (take k closed ++ x ∷ [])) first
+    ∙ lines_close 0 0 ps p closed x (subst (Ascend 0 (ps ++ p ∷ [])) (let e : length closed ≡ 0 + length closed = omega arith in e) h) (is ∙ ap (λ k. tree (string_bytes p.text) (forest (map tree_of (drop k closed)))) first)
+
+-- ## Steps
+
+-- how many parents there are
+pub parents_count : (ps qs : List Parent) (p : Parent) → ps ≡ qs ++ p ∷ [] → length ps ≡ length qs + 1
+parents_count ps qs p e = ap length e ∙ length-append qs (p ∷ [])
+
+-- the last parent was closed over the items after it
+pub closed_over : (ps qs : List Parent) (p : Parent) (closed kept new children : List StringItem) (x : StringItem) → ps ≡ qs ++ p ∷ [] → kept ≡ take p.first closed → children ≡ drop p.first closed → new ≡ kept ++ x ∷ []
+    → tree_of x ≡ tree (string_bytes p.text) (forest (map tree_of children)) → Ascend 0 ps (length closed)
+    → Ascend 0 qs (length new) × (lines_from 0 0 qs new ≡ lines_from 0 0 ps closed)
+closed_over ps qs p closed kept new children x e kept_is children_is new_is x_is h =
+    let ascend : Ascend 0 (qs ++ p ∷ []) (length closed) = subst (λ z. Ascend 0 z (length closed)) e h in
+    let left = ascend_pop 0 qs p (length closed) ascend in
+    let high = left.1 in
+    let is : new ≡ take p.first closed ++ x ∷ [] = new_is ∙ ap (λ z. z ++ x ∷ []) kept_is in
+    let count : length new ≡ p.first + 1 = ap length is ∙ (length-append (take p.first closed) (x ∷ []) ∙ ap (λ k. k + 1) (length-take-le p.first closed high)) in (
+      ascend_more 0 qs p.first (length new) left.0 (omega (arith, count, high)),
+      ap (lines_from 0 0 qs) is ∙ (root_lines_close qs p closed x ascend (x_is ∙ ap (λ z. tree (string_bytes p.text) (forest (map tree_of z))) children_is) ∙ ap (λ z. lines_from 0 0 z closed) (sym e)),
+    )
+
+-- the root stays if it was not the last parent
+root_left : (qs : List Parent) (p : Parent) (closed pushed kept : List StringItem) → kept ≡ take p.first pushed → HasOneRoot (qs ++ p ∷ []) closed → HasOneRoot qs kept
+root_left [] p closed pushed kept is h = is ∙ ap (λ k. take k pushed) h
+root_left (q ∷ qs) p closed pushed kept is h = h
+
+-- the items that were read, and the tree at hand below the last parent, have these lines
+pub record IsFinishing (lines : List Line) (parents : List Parent) (closed : List StringItem) (item : StringItem) : Type 0 where
+  pub ascend : Ascend 0 parents (length closed)
+  pub root : HasOneRoot parents closed
+  pub lines_are : lines_from 0 0 parents closed ++ outline_under (length parents) (tree_of item) ≡ lines
+
+-- the last parent was closed over it
+pub finishing_more : (lines : List Line) (ps qs : List Parent) (p : Parent) (closed pushed kept children : List StringItem) (item x : StringItem) → ps ≡ qs ++ p ∷ [] → pushed ≡ closed ++ item ∷ []
+    → kept ≡ take p.first pushed → children ≡ drop p.first pushed → tree_of x ≡ tree (string_bytes p.text) (forest (map tree_of children))
+    → IsFinishing lines ps closed item → IsFinishing lines qs kept x
+finishing_more lines ps qs p closed pushed kept children item x e pushed_is kept_is children_is x_is h =
+    let count : length pushed ≡ length closed + 1 = ap length pushed_is ∙ length-append closed (item ∷ []) in
+    let ascend : Ascend 0 ps (length pushed) = ascend_more 0 ps (length closed) (length pushed) h.ascend (omega (arith, count)) in
+    let left = ascend_pop 0 qs p (length pushed) (subst (λ z. Ascend 0 z (length pushed)) e ascend) in
+    let high = left.1 in
+    let few : length kept ≡ p.first = ap length kept_is ∙ length-take-le p.first pushed high in
+    let over = closed_over ps qs p pushed kept (kept ++ x ∷ []) children x e kept_is children_is refl x_is ascend in
+    let kept_ascend : Ascend 0 qs (length kept) = ascend_more 0 qs p.first (length kept) left.0 (omega (arith, few, high)) in
+    record {
+      ascend = kept_ascend;
+      root = root_left qs p closed pushed kept kept_is (subst (λ z. HasOneRoot z closed) e h.root);
+      lines_are = sym (root_lines_push qs kept x kept_ascend) ∙ (over.1 ∙ (ap (lines_from 0 0 ps) pushed_is ∙ (root_lines_push ps closed item h.ascend ∙ h.lines_are)));
+    }
+
+-- the tree of all items
+pub finished : (lines : List Line) (closed : List StringItem) (item : StringItem) → IsFinishing lines [] closed item → outline (tree_of item) ≡ lines
+finished lines closed item h = ap (λ z. row_lines 0 z ++ outline (tree_of item)) (sym h.root) ∙ h.lines_are
+
+-- the line of a leaf
+pub leaf_lines : (n : ℕ) (text : List ℕ) → outline_under n (tree text (forest [])) ≡ line n text ∷ []
+leaf_lines n text = refl
+
+-- ## Without items
+
+-- it is the start of a tree
+pub none_partial : (ps : List Parent) (closed : List StringItem) → ps ≡ [] → closed ≡ [] → Ascend 0 ps (length closed) × HasOneRoot ps closed
+none_partial [] closed e f = (omega arith, f)
+none_partial (p ∷ ps) closed e f = absurd (let count = ap length e in omega (arith, count))
+
+-- of no lines
+pub none_lines : (ps : List Parent) (closed : List StringItem) → ps ≡ [] → closed ≡ [] → lines_from 0 0 ps closed ≡ []
+none_lines ps closed e f = ap (λ z. lines_from 0 0 z closed) e ∙ ap (row_lines 0) f
