@@ -1,14 +1,13 @@
--- Trees while their items are read.
+-- Trees that are made line by line.
 use Rattle.std.proofs.Common.{◌≡◌, ℕ, zero, suc, ◌+◌, ◌-◌, ◌<◌, ◌≤◌, List, [], ◌∷◌, ◌++◌, length, length-append, map, take, drop, sym, ap, ◌∙◌, append_assoc, refl, subst, arith}
 use Rattle.std.proofs.Math.ListN.{drop_of_length-le}
-use Rattle.std.proofs.lemmas.List.{map-append, take-append-le, drop-append-le, drop-drop, take_all, length-drop, length-take-le}
+use Rattle.std.proofs.lemmas.List.{append-nil, map-append, take-append-le, drop-append-le, drop-drop, take_all, length-drop, length-take-le}
 use Rattle.std.specs.Prelude.{string_bytes}
-use Rattle.ptree.specs.Outline.{Line, line, outline, outline_at}
+use Rattle.ptree.specs.Outline.{Line, line, outline, outline_at, Steps}
 use Rattle.ptree.specs.PartialTree.{row_lines, lines_from, Ascend, HasOneRoot}
-use Rattle.ptree.specs.Tree.{forest, tree, tree_of}
+use Rattle.ptree.specs.Tree.{Tree, forest, tree, tree_of}
 use Rattle.ptree.specs.declared.item.StringItem.{StringItem}
-use Rattle.ptree.specs.declared.read.partial.Parent.{Parent}
-use Rattle.ptree.proofs.Rows.{outline_under, outline_at-push}
+use Rattle.ptree.specs.declared.builder.partial.Parent.{Parent}
 
 -- ## Places
 
@@ -48,6 +47,19 @@ root_pushed [] o closed at h = at ∙ ap length h
 root_pushed (p ∷ parents) o closed at h = h
 
 -- ## Lines
+
+-- the lines of a tree whose root has level n
+abbrev pub outline_under : ℕ → Tree → List Line
+outline_under n t = line n t.text ∷ outline_at (suc n) t.children
+
+-- one tree more at the end of a forest
+pub outline_at-push : (n : ℕ) (ts : List Tree) (t : Tree)
+    → outline_at n (forest (ts ++ t ∷ [])) ≡ outline_at n (forest ts) ++ outline_under n t
+outline_at-push n [] t = ap (λ z. line n t.text ∷ z) (append-nil (outline_at (suc n) t.children))
+outline_at-push n (u ∷ ts) t =
+    ap (λ z. line n u.text ∷ z)
+    (ap (λ z. outline_at (suc n) u.children ++ z) (outline_at-push n ts t)
+    ∙ sym (append_assoc (outline_at (suc n) u.children) (outline_at n (forest ts)) (outline_under n t)))
 
 -- one closed item more in a row
 row_push : (n : ℕ) (items : List StringItem) (x : StringItem) → row_lines n (items ++ x ∷ []) ≡ row_lines n items ++ outline_under n (tree_of x)
@@ -222,3 +234,22 @@ none_partial (p ∷ ps) closed e f = absurd (let count = ap length e in omega (a
 -- of no lines
 pub none_lines : (ps : List Parent) (closed : List StringItem) → ps ≡ [] → closed ≡ [] → lines_from 0 0 ps closed ≡ []
 none_lines ps closed e f = ap (λ z. lines_from 0 0 z closed) e ∙ ap (row_lines 0) f
+
+-- ## Lines one by one
+
+-- those so far, the one at hand and those that are left are all, and each is at most one level below the one before it
+pub record IsBuilding (all done : List Line) (level : ℕ) (text : List ℕ) (left : List Line) : Type 0 where
+  pub lines_are : done ++ line level text ∷ left ≡ all
+  pub steps : Steps level left
+
+-- one line more
+pub building_more : (all done done' : List Line) (level level' : ℕ) (text : List ℕ) (l : Line) (left left' : List Line) → IsBuilding all done level text left → left ≡ l ∷ left' → done' ≡ done ++ line level text ∷ [] → level' ≡ l.level
+    → IsBuilding all done' level' l.text left'
+building_more all done done' level level' text l left left' h e d at = record {
+  lines_are =
+      ap (λ z. z ++ line level' l.text ∷ left') d
+      ∙ (append_assoc done (line level text ∷ []) (line level' l.text ∷ left')
+      ∙ (ap (λ k. done ++ line level text ∷ line k l.text ∷ left') at
+      ∙ (ap (λ z. done ++ line level text ∷ z) (sym e) ∙ h.lines_are)));
+  steps = subst (λ k. Steps k left') (sym at) (subst (Steps level) e h.steps).2;
+}

@@ -1,47 +1,24 @@
 //! Builds a tree item by item.
 ghost use Rattle.std.specs.Borrow.{sem};
 ghost use Rattle.std.specs.Prelude.{false, if◌then◌else◌, ◌≡◌, ◌↔◌, ◌⊎◌, ◌<◌, ◌+◌, ◌++◌, [], ◌∷◌, map, IfOk, OnOk, OnErr, IsErrOf, string_bytes};
-ghost use Rattle.ptree.specs.Outline.{Line, line, outline, IsOutline, StartsAtMost, Steps};
-ghost use Rattle.ptree.specs.Rows.{IsRow};
+ghost use Rattle.ptree.specs.Outline.{line, outline, IsOutline, Steps};
+ghost use Rattle.ptree.specs.PartialTree.{text_line};
 ghost use Rattle.ptree.specs.Tree.{Tree, tree_of};
 
+pub(crate) mod partial;
+
 use crate::item::StringItem;
+use partial::PartialTree;
 use std::alloc::{AllocError, AllocFailed, Global};
 use std::error::Error;
 use std::fmt;
 use std::marker::Model;
 
-/// Denotes a line of an outline: a level and a text.
-pub(crate) trait OutlineLine {
-    ghost line: { Self → Line };
-
-    fn level(&self) -> u32
-        ensures { result ≡ (line self.now).level };
-
-    fn text(&self) -> &str
-        ensures { result.now ≡ (line self.now).text };
-}
-
-/// A level and a text.
+// A line of an outline.
 #[derive(Debug, Drop)]
 struct TextLine {
     level: u32,
     text: String,
-}
-
-impl OutlineLine for TextLine {
-    ghost use Rattle.std.specs.Prelude.{string_bytes};
-    ghost use Rattle.ptree.specs.Outline.{line};
-
-    ghost line = { λ l. line l.level (string_bytes l.text) };
-
-    fn level(&self) -> u32 {
-        self.level
-    }
-
-    fn text(&self) -> &str {
-        self.text.as_str()
-    }
 }
 
 /// Why an item could not be added at a level.
@@ -99,7 +76,7 @@ pub struct TreeBuilder {
 impl Model for TreeBuilder {
     ghost use Rattle.std.specs.Prelude.{◌∷◌, ◌≤◌, map, string_bytes};
     ghost use Rattle.ptree.specs.Outline.{line, Steps, last_level};
-    ghost use Rattle.ptree.specs.Rows.{text_line};
+    ghost use Rattle.ptree.specs.PartialTree.{text_line};
     ghost use Rattle.ptree.specs.TreeBuilder.{Building};
 
     ghost Value = { Building };
@@ -263,85 +240,19 @@ impl TreeBuilder {
 }
 
 // Returns the tree of a root's text and of the lines below the root.
-pub(crate) fn tree_from_outline<T: OutlineLine>(
+fn tree_from_outline(
     alloc: Global,
     root: &str,
-    below: &[T],
+    below: &[TextLine],
 ) -> Result<StringItem, AllocError>
-    requires steps { Steps 0 (map T.line below.now) }
-    ensures { IfOk result (λ t. outline (tree_of t) ≡ line 0 root.now ∷ map T.line below.now) }
+    requires { Steps 0 (map text_line below.now) }
+    ensures { IfOk result (λ t. outline (tree_of t) ≡ line 0 root.now ∷ map text_line below.now) }
 {
-    let counts = child_counts(alloc, below)?;
-    let (children, _) = row_from_outline(alloc, below, 0, &counts)?;
-    Ok(StringItem {
-        text: String::from_str(alloc, root)?,
-        children,
-    })
-}
-
-// Returns the number of children of the root and of each item, in order. The last one has none and
-// is left out. These numbers only say how much to reserve.
-fn child_counts<T: OutlineLine>(alloc: Global, below: &[T]) -> Result<Vec<u32>, AllocError> {
-    let mut counts: Vec<u32> = Vec::with_capacity(alloc, below.len())?;
-    counts.resize(below.len(), 0)?;
-    // At the place of each level, the place of the last item of that level.
-    let mut open: Vec<usize> = Vec::new(alloc);
-    open.push(0)?;
-    for (i, line) in below.iter().enumerate() {
-        let level = line.level() as usize;
-        match open.get_mut(level) {
-            Some(place) => *place = i + 1,
-            None => open.push(i + 1)?,
-        }
-        let parent = open.get(level.saturating_sub(1)).copied().unwrap_or(0);
-        if let Some(count) = counts.get_mut(parent) {
-            *count = count.saturating_add(1);
-        }
+    let mut tree = PartialTree::new(alloc);
+    let mut text = root;
+    for line in below {
+        tree.add(String::from_str(alloc, text)?, line.level as usize)?;
+        text = line.text.as_str();
     }
-    Ok(counts)
-}
-
-// Returns the first trees that are one level below `above`, and the lines after them. Most items
-// are leaves, and take no further call.
-fn row_from_outline<'a, T: OutlineLine>(
-    alloc: Global,
-    lines: &'a [T],
-    above: u32,
-    counts: &[u32],
-) -> Result<(Vec<StringItem>, &'a [T]), AllocError>
-    requires steps { Steps above (map T.line lines.now) }
-    ensures { IfOk result (λ r. IsRow T.line above lines.now r.0.items r.1.now) }
-{
-    let place = counts.len().saturating_sub(lines.len());
-    let count = counts.get(place).copied().unwrap_or(0);
-    let mut items = Vec::with_capacity(alloc, count as usize)?;
-    let mut rest = lines;
-    while let Some((first, tail)) = rest.split_first() {
-        let level = first.level();
-        if level <= above {
-            break;
-        }
-        let text = String::from_str(alloc, first.text())?;
-        if !starts_below(tail, level) {
-            let children = Vec::new(alloc);
-            items.push(StringItem { text, children })?;
-            rest = tail;
-            continue;
-        }
-        let (children, after) = row_from_outline(alloc, tail, level, counts)?;
-        items.push(StringItem { text, children })?;
-        rest = after;
-    }
-    Ok((items, rest))
-}
-
-// Whether the first line is below a level.
-#[inline(always)]
-fn starts_below<T: OutlineLine>(lines: &[T], above: u32) -> bool
-    ensures { result ≡ false → StartsAtMost above (map T.line lines.now) }
-{
-    match lines.first() {
-        Some(line) => line.level() > above,
-        None => false,
-    }
+    tree.finish(String::from_str(alloc, text)?)
 }

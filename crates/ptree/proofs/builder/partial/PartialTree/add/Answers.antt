@@ -2,10 +2,9 @@ use Rattle.std.proofs.Common.{◌++◌, ◌∷◌, [], ◌≡◌, ◌<◌, lengt
 use Rattle.ptree.specs.Outline.{line}
 use Rattle.ptree.specs.PartialTree.{Ascend, HasOneRoot, lines_from}
 use Rattle.ptree.specs.Tree.{tree, forest, tree_of}
-use Rattle.ptree.proofs.PartialTrees.{ascend_more, ascend_push, root_stays, root_pushed, root_lines_push, root_lines_open, leaf_lines}
-use Rattle.ptree.proofs.Rows.{outline_under}
+use Rattle.ptree.proofs.PartialTrees.{ascend_more, ascend_push, root_stays, root_pushed, root_lines_push, root_lines_open, leaf_lines, outline_under}
 use Rattle.ptree.proofs.TreeLemmas.{tree_of_roll}
-use Rattle.ptree.proofs.read.partial.PartialTree.add.Goals as goal
+use Rattle.ptree.proofs.builder.partial.PartialTree.add.Goals as goal
 
 pub returns-then-next-len-clause-partial : goal.returns-then-next-len-clause-partial
 returns-then-next-len-clause-partial c =

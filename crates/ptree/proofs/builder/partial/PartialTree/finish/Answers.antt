@@ -2,7 +2,7 @@ use Rattle.std.proofs.Common.{◌+◌, ◌≡◌, length, length-append, subst, 
 use Rattle.ptree.specs.PartialTree.{Ascend}
 use Rattle.ptree.proofs.PartialTrees.{ascend_pop, finishing_more}
 use Rattle.ptree.proofs.TreeLemmas.{tree_of_roll}
-use Rattle.ptree.proofs.read.partial.PartialTree.finish.Goals as goal
+use Rattle.ptree.proofs.builder.partial.PartialTree.finish.Goals as goal
 
 pub split_off-requires : goal.split_off-requires
 split_off-requires c =

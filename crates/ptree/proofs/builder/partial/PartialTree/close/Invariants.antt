@@ -1,6 +1,6 @@
 use Rattle.std.proofs.Common.{◌≡◌, ◌≤◌, length}
 use Rattle.ptree.specs.PartialTree.{IsPartial, partial_lines}
-use Rattle.ptree.proofs.read.partial.PartialTree.close.Given as goal
+use Rattle.ptree.proofs.builder.partial.PartialTree.close.Given as goal
 
 -- no line is lost
 abbrev pub invariant-loop-self : goal.invariant-loop-self
