@@ -1,4 +1,4 @@
-use Rattle.std.proofs.Common.{◌∷◌, ◌≡◌, length, map, drop}
+use Rattle.std.proofs.Common.{◌∷◌, length, map, drop}
 use denote.Shadow.{shadow}
 use denote.Text.{Utf8}
 use Rattle.ptree.specs.Outline.{line}
