@@ -7,7 +7,7 @@ use Rattle.ptree.specs.Graph.{weights_of, edges_of, neighbors_of}
 use Rattle.ptree.specs.Growing.{flags_of, is_seen, grow, kids_grown, place_of}
 use Rattle.ptree.specs.Line.{line_bytes}
 use Rattle.ptree.specs.Looks.{look_of}
-use Rattle.ptree.specs.Occurrence.{OccurrenceTree, occurrence_shape, is_repeated_size}
+use Rattle.ptree.specs.Occurrence.{OccurrenceTree, occurrence_shape}
 use Rattle.ptree.specs.Shape.{Shape}
 use Rattle.ptree.specs.Style.{start_codes}
 use Rattle.ptree.proofs.AlongEdges.{grown_node, grown_mark, kids_below, no_kids, kids_are, own_alike, leaf_root, part_as, whole_as}

@@ -33,7 +33,7 @@ loop-rest-init c =
       search rules,
       none_partial tree.parents.items tree.closed.items none.parents none.closed,
       scan_moved k c.args.frame.now.depth x more 1 [] (partial_lines tree) 0 (length tree.parents.items) own own c.new-path.result.flags.items (subst (ScanSo k c.args.frame.now.depth x more 1 [] 0 own) (sym c.new-path.ensures.flags) start)
-      (none_lines tree.parents.items tree.closed.items none.parents none.closed) (ap length none.parents) refl,
+          (none_lines tree.parents.items tree.closed.items none.parents none.closed) (ap length none.parents) refl,
       c.new-path.ensures.path (pieces_of c.args.frame.now.look.now.pieces),
     )
 
@@ -93,7 +93,7 @@ loop-rest-preserved c =
             search rules,
             subst (λ t. IsPartial t) (sym w.tree-is) w.in_ok-add-in-Own.ensures.partial,
             scan_moved k c.args.frame.now.depth c.args.text.now c.in-Some-2.more.now (c.loop-rest.lines + 1) (done ++ line level text ∷ []) (partial_lines c.match-line.tree) (length new.flags.items) (length c.match-line.tree.parents.items) w.in-Own.own.now (read_text_of c.match-line.shown) new.flags.items scanned
-            (ap partial_lines w.tree-is ∙ (w.in_ok-add-in-Own.ensures.lines ∙ ap (λ z. done ++ line level z ∷ []) w.in_ok-into_string-in-Own.ensures)) (ap (λ t. length t.parents.items) w.tree-is ∙ (w.in_ok-add-in-Own.ensures.level ∙ w.level.ensures)) (ap read_text_of w.shown-is),
+                (ap partial_lines w.tree-is ∙ (w.in_ok-add-in-Own.ensures.lines ∙ ap (λ z. done ++ line level z ∷ []) w.in_ok-into_string-in-Own.ensures)) (ap (λ t. length t.parents.items) w.tree-is ∙ (w.in_ok-add-in-Own.ensures.level ∙ w.level.ensures)) (ap read_text_of w.shown-is),
             path,
           )
       | in-Further+in_ok-shown-in-Further w ↦
@@ -103,7 +103,7 @@ loop-rest-preserved c =
             search rules,
             subst (λ t. IsPartial t) (sym w.tree-is) c.loop-rest.invariant.1,
             scan_moved k c.args.frame.now.depth c.args.text.now c.in-Some-2.more.now (c.loop-rest.lines + 1) done (partial_lines c.match-line.tree) level (length c.match-line.tree.parents.items) (read_text_of c.loop-rest.shown ++ 10 ∷ w.in-Further.own.now) (read_text_of c.match-line.shown) new.flags.items scanned
-            (ap partial_lines w.tree-is) (ap (λ t. length t.parents.items) w.tree-is) (ap read_text_of w.shown-is ∙ w.in_ok-shown-in-Further.ensures),
+                (ap partial_lines w.tree-is) (ap (λ t. length t.parents.items) w.tree-is) (ap read_text_of w.shown-is ∙ w.in_ok-shown-in-Further.ensures),
             path,
           )
     ]
