@@ -220,6 +220,21 @@ finishing_more lines ps qs p closed pushed kept children item x e pushed_is kept
 pub finished : (lines : List Line) (closed : List StringItem) (item : StringItem) → IsFinishing lines [] closed item → outline (tree_of item) ≡ lines
 finished lines closed item h = ap (λ z. row_lines 0 z ++ outline (tree_of item)) (sym h.root) ∙ h.lines_are
 
+-- nothing is before what is below the root
+root_first : (ps qs : List Parent) (p : Parent) (closed : List StringItem) → ps ≡ qs ++ p ∷ [] → qs ≡ [] → HasOneRoot ps closed → p.first ≡ 0
+root_first ps qs p closed e none h =
+    let alone : ps ≡ p ∷ [] = e ∙ ap (λ z. z ++ p ∷ []) none in
+    subst (λ z. HasOneRoot z closed) alone h
+
+-- the root was closed over all of them
+pub root_finished : (lines : List Line) (ps qs : List Parent) (p : Parent) (closed pushed children : List StringItem) (item x : StringItem) → ps ≡ qs ++ p ∷ [] → qs ≡ [] → pushed ≡ closed ++ item ∷ [] → children ≡ pushed
+    → tree_of x ≡ tree (string_bytes p.text) (forest (map tree_of children)) → IsFinishing lines ps closed item → outline (tree_of x) ≡ lines
+root_finished lines ps qs p closed pushed children item x e none pushed_is children_is x_is h =
+    let first = root_first ps qs p closed e none h.root in
+    let all : children ≡ drop p.first pushed = children_is ∙ ap (λ k. drop k pushed) (sym first) in
+    let more = finishing_more lines ps qs p closed pushed (take p.first pushed) children item x e pushed_is refl all x_is h in
+    finished lines (take p.first pushed) x (subst (λ z. IsFinishing lines z (take p.first pushed) x) none more)
+
 -- the line of a leaf
 pub leaf_lines : (n : ℕ) (text : List ℕ) → outline_under n (tree text (forest [])) ≡ line n text ∷ []
 leaf_lines n text = refl

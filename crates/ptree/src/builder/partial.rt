@@ -96,11 +96,15 @@ impl PartialTree {
         let mut item = StringItem { text, children };
         while let Some(parent) = parents.pop() {
             closed.push(item)?;
+            let text = parent.text;
+            // All that is closed is below the root.
+            if parents.is_empty() {
+                closed.shrink_to_fit();
+                let children = closed;
+                return Ok(StringItem { text, children });
+            }
             let children = closed.split_off(parent.first)?;
-            item = StringItem {
-                text: parent.text,
-                children,
-            };
+            item = StringItem { text, children };
         }
         Ok(item)
     }
