@@ -118,7 +118,7 @@ fn chain(alloc: Global, items: usize) -> Result<StringItem, AllocError> {
 fn draw_named(rt: &HostRuntime, name: &str, config: &mut PrintConfig) -> io::Result<()> {
     let alloc = rt.alloc();
     match name {
-        "chain" => draw(rt, &chain(alloc, 10_000)?, config),
+        "chain" => draw(rt, &chain(alloc, 30_000)?, config),
         "items" => draw(rt, &wide(alloc, 20_000_000, "item")?, config),
         "children" => draw(rt, &wide(alloc, 1_000_000, "item")?, config),
         "line" => draw(rt, &long(alloc, PART, 16_777_216)?, config),

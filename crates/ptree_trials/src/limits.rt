@@ -22,7 +22,7 @@ const ITEMS: u32 = 200;
 
 const LINES: u32 = 1_000_000;
 
-// How many levels a builder has, which are more than the stack bears where a tree of them is built.
+// How many levels a builder has, which are more than the stack bears where a tree of them is drawn.
 const LEVELS: u32 = 70_000;
 
 // How many layers of two nodes a graph has below its root.
