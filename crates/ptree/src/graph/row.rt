@@ -1,12 +1,12 @@
 //! Draws a graph with each node expanded once, along its edges, as the engine draws items. Nothing is
 //! made for a place.
-ghost use Rattle.std.specs.Prelude.{◌≡◌, ℕ, true, false, Some, None, length, take, map, ◌≤◌, ◌<◌, ◌≢◌, ◌++◌, [], OnOk, OnErr, Err, List, eqb};
+ghost use Rattle.std.specs.Prelude.{◌≡◌, ℕ, true, false, Some, length, take, map, ◌≤◌, ◌<◌, ◌≢◌, ◌++◌, [], OnOk, OnErr, Err, List, eqb};
 ghost use Rattle.std.specs.List.{concat};
 ghost use Rattle.ptree.specs.Drawing.{config_look};
 ghost use Rattle.ptree.specs.Entries.{item_entries, kid_entries, entries_below, drawn_entries};
 ghost use Rattle.ptree.specs.Graph.{weights_of, edges_of, neighbors_of};
 ghost use Rattle.ptree.specs.GraphLinks.{newest_from};
-ghost use Rattle.ptree.specs.Growing.{alone_at, place_of, flags_of, is_seen, grow, kids_grown, kids_seen};
+ghost use Rattle.ptree.specs.Growing.{alone_at, flags_of, is_seen, grow, kids_grown, kids_seen};
 ghost use Rattle.ptree.specs.Looks.{look_of, own_entry};
 ghost use Rattle.ptree.specs.Occurrence.{occurrence_shape};
 ghost use Rattle.ptree.specs.Pen.{brush_look, buffer_of, HoldsPassing, HoldsOwnText};
@@ -34,14 +34,15 @@ pub(super) struct Marked<'a, N> {
     pub(super) mark: &'a str,
 }
 
-// A place as an item, without what is below it.
+// A place as an item, without what is below it. Whether it is the start's is a part of the type, so
+// that what draws a place has one caller, the loop over a row, and is inlined there.
 #[derive(Drop)]
-struct PlaceItem<'a, N> {
+struct PlaceItem<'a, N, const IS_START: bool> {
     marked: &'a Marked<'a, N>,
     place: Place,
 }
 
-impl<N: Label> Shaped for PlaceItem<'_, N> {
+impl<N: Label, const IS_START: bool> Shaped for PlaceItem<'_, N, IS_START> {
     ghost use Rattle.ptree.specs.Growing.{alone_at};
     ghost use Rattle.ptree.specs.Occurrence.{occurrence_shape};
 
@@ -49,8 +50,8 @@ impl<N: Label> Shaped for PlaceItem<'_, N> {
         (alone_at i.place) };
 }
 
-impl<'a, N: Label> TreeItem for PlaceItem<'a, N> {
-    type Child = PlaceItem<'a, N>;
+impl<'a, N: Label, const IS_START: bool> TreeItem for PlaceItem<'a, N, IS_START> {
+    type Child = PlaceItem<'a, N, IS_START>;
 
     #[inline(always)]
     fn write_self<W: Sink>(
@@ -63,43 +64,10 @@ impl<'a, N: Label> TreeItem for PlaceItem<'a, N> {
         write_place(alloc, f, style, marked.graph, marked.mark, self.place)
     }
 
-    fn children(&self, _alloc: Global) -> Result<Children<'_, PlaceItem<'a, N>>, AllocError> {
-        Ok(Children::Lent(&[]))
-    }
-}
-
-// The start of a drawing as an item, without what is below it. With a type of its own the loop over
-// a row is the only caller of what draws a place, which is inlined there.
-#[derive(Drop)]
-struct StartItem<'a, N> {
-    marked: &'a Marked<'a, N>,
-    start: NodeIndex,
-}
-
-impl<N: Label> Shaped for StartItem<'_, N> {
-    ghost use Rattle.ptree.specs.Growing.{alone_at, place_of};
-    ghost use Rattle.ptree.specs.Occurrence.{occurrence_shape};
-
-    ghost shape = { λ i. occurrence_shape N.text i.marked.now.graph.now i.marked.now.mark.now
-        (alone_at (place_of i.start.0 1)) };
-}
-
-impl<'a, N: Label> TreeItem for StartItem<'a, N> {
-    type Child = StartItem<'a, N>;
-
-    #[inline(always)]
-    fn write_self<W: Sink>(
+    fn children(
         &self,
-        alloc: Global,
-        f: &mut W,
-        style: &Style,
-    ) -> Result<(), DrawError> {
-        let marked = self.marked;
-        let place = Place::leaf(self.start, false);
-        write_place(alloc, f, style, marked.graph, marked.mark, place)
-    }
-
-    fn children(&self, _alloc: Global) -> Result<Children<'_, StartItem<'a, N>>, AllocError> {
+        _alloc: Global,
+    ) -> Result<Children<'_, PlaceItem<'a, N, IS_START>>, AllocError> {
         Ok(Children::Lent(&[]))
     }
 }
@@ -114,22 +82,22 @@ fn is_oldest(edge: &Edge) -> bool
 
 // Draws a place's own entry, as the engine draws that of an item.
 #[inline(always)]
-fn draw_own<N: Label, W: Sink>(
+fn draw_own<N: Label, W: Sink, const IS_START: bool>(
     marked: &Marked<'_, N>,
     place: Place,
     f: &mut W,
     pen: &mut Pen,
     brush: &Brush<'_>,
     width: usize,
-    is_last: bool,
+    last: Option<bool>,
 ) -> Result<(), Stop>
     requires error { pen.old.error ≡ Memory }
     requires width { width ≤ length (buffer_of pen.old) }
-    requires turned { HoldsOwnText brush.now pen.old width (Some is_last) }
+    requires turned { HoldsOwnText brush.now pen.old width last }
     ensures bytes { (outer : List ℕ)
         → HoldsPassing brush.now pen.old width outer
         → IsWritten (W.contents f.old) (W.contents f.new) result
-        (own_entry (brush_look brush.now) outer (Some is_last)
+        (own_entry (brush_look brush.now) outer last
         (occurrence_shape N.text marked.now.graph.now marked.now.mark.now (alone_at place))) }
     ensures memory { OnErr result (pen.new.error ≡ Memory → W.contents f.new ≡ W.contents f.old) }
     ensures cause { HasErrorCause (W.faults f.old) (W.faults f.new) pen.new.error }
@@ -137,8 +105,8 @@ fn draw_own<N: Label, W: Sink>(
     ensures kept { OnOk result (buffer_of pen.new ≡ buffer_of pen.old) }
     ensures turned { pen.new.turned ≡ pen.old.turned }
 {
-    let item = PlaceItem { marked, place };
-    draw_entry(&item, f, pen, brush, width, Some(is_last))
+    let item = PlaceItem::<N, IS_START> { marked, place };
+    draw_entry(&item, f, pen, brush, width, last)
 }
 
 // Draws a node at one of its places, and what is below it there, where the nodes that are seen are
@@ -181,7 +149,7 @@ fn draw_node<N: Label, W: Sink>(
 {
     let repeated = is_flagged(seen, node.0);
     let place = Place::leaf(node, repeated);
-    draw_own(marked, place, f, pen, brush, width, is_last)?;
+    draw_own::<N, W, false>(marked, place, f, pen, brush, width, Some(is_last))?;
     if repeated || levels_left == 0 {
         return Ok(());
     }
@@ -311,34 +279,6 @@ fn draw_row<N: Label, W: Sink>(
     Ok(())
 }
 
-// Draws the entry of a start node.
-fn draw_start<N: Label, W: Sink>(
-    marked: &Marked<'_, N>,
-    start: NodeIndex,
-    f: &mut W,
-    pen: &mut Pen,
-    brush: &Brush<'_>,
-    width: usize,
-) -> Result<(), Stop>
-    requires error { pen.old.error ≡ Memory }
-    requires width { width ≤ length (buffer_of pen.old) }
-    requires turned { HoldsOwnText brush.now pen.old width None }
-    ensures bytes { (outer : List ℕ)
-        → HoldsPassing brush.now pen.old width outer
-        → IsWritten (W.contents f.old) (W.contents f.new) result
-        (own_entry (brush_look brush.now) outer None
-        (occurrence_shape N.text marked.now.graph.now marked.now.mark.now
-        (alone_at (place_of start.0 1)))) }
-    ensures memory { OnErr result (pen.new.error ≡ Memory → W.contents f.new ≡ W.contents f.old) }
-    ensures cause { HasErrorCause (W.faults f.old) (W.faults f.new) pen.new.error }
-    ensures error { OnOk result (pen.new.error ≡ Memory) }
-    ensures kept { OnOk result (buffer_of pen.new ≡ buffer_of pen.old) }
-    ensures turned { pen.new.turned ≡ pen.old.turned }
-{
-    let item = StartItem { marked, start };
-    draw_entry(&item, f, pen, brush, width, None)
-}
-
 // Draws a start node and what is below it. The buffer holds the branch's start codes.
 fn draw_root<N: Label, W: Sink>(
     marked: &Marked<'_, N>,
@@ -361,7 +301,8 @@ fn draw_root<N: Label, W: Sink>(
 {
     let width = pen.line.len();
     pen.line.append(brush.end.as_bytes())?;
-    draw_start(marked, start, f, pen, brush, width)?;
+    let place = Place::leaf(start, false);
+    draw_own::<N, W, true>(marked, place, f, pen, brush, width, None)?;
     pen.line.truncate(width);
     if depth == 0 {
         return Ok(());

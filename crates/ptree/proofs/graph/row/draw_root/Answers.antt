@@ -7,7 +7,7 @@ use Rattle.ptree.specs.Graph.{weights_of, edges_of, neighbors_of}
 use Rattle.ptree.specs.Growing.{flags_of, is_seen, grow, kids_grown, place_of}
 use Rattle.ptree.specs.Line.{line_bytes}
 use Rattle.ptree.specs.Looks.{look_of}
-use Rattle.ptree.specs.Occurrence.{OccurrenceTree, occurrence_shape}
+use Rattle.ptree.specs.Occurrence.{OccurrenceTree, occurrence_shape, is_repeated_size}
 use Rattle.ptree.specs.Shape.{Shape}
 use Rattle.ptree.specs.Style.{start_codes}
 use Rattle.ptree.proofs.AlongEdges.{grown_node, grown_mark, kids_below, no_kids, kids_are, own_alike, leaf_root, part_as, whole_as}
@@ -24,8 +24,8 @@ returns-in_err-append-clause-bytes g c =
     let shape : OccurrenceTree → Shape = occurrence_shape g.N.Label.text c.args.marked.now.graph.now c.args.marked.now.mark.now in
     entries_err _ _ _ _ _ _ c.from_residual.ensures.1 (entries_none _ c.args.pen.now.error (drawn_entries (look_of c.args.brush.now.look.now) c.args.depth (shape ((grow (neighbors_of (edges_of c.args.marked.now.graph.now)) c.args.depth (flags_of c.args.marked.now.graph.now []) c.args.start.0).occurrence))))
 
-pub draw_start-requires : goal.draw_start-requires
-draw_start-requires g c =
+pub draw_own-requires : goal.draw_own-requires
+draw_own-requires g c =
     let look = look_of c.args.brush.now.look.now in
     let old = line_bytes c.args.pen.now.line in
     let wide : c.len-width.result ≡ length old = c.len-width.ensures in
@@ -36,8 +36,8 @@ draw_start-requires g c =
       turned = root_turned look c.len-width.result old _ c.as_bytes.result.now wide is (c.as_bytes.ensures.value ∙ c.args.brush.now.own_lines.root_is);
     }
 
-pub returns-in_err-draw_start-clause-bytes : goal.returns-in_err-draw_start-clause-bytes
-returns-in_err-draw_start-clause-bytes g c =
+pub returns-in_err-draw_own-clause-bytes : goal.returns-in_err-draw_own-clause-bytes
+returns-in_err-draw_own-clause-bytes g c =
     let look = look_of c.args.brush.now.look.now in
     let shape : OccurrenceTree → Shape = occurrence_shape g.N.Label.text c.args.marked.now.graph.now c.args.marked.now.mark.now in
     let wide : c.len-width.result ≡ length (line_bytes c.args.pen.now.line) = c.len-width.ensures in
@@ -47,10 +47,11 @@ returns-in_err-draw_start-clause-bytes g c =
     let v = c.args.start.0 in
     let seen = flags_of graph [] in
     let tree = (grow below c.args.depth seen v).occurrence in
-    let own = own_alike g.N.Label.text graph c.args.marked.now.mark.now look [] None (place_of v 1) tree (sym (grown_node below c.args.depth seen v))
-    (sym (seen_all (length (weights_of graph)) [] v) ∙ sym (grown_mark below c.args.depth seen v)) in
-    entries_err _ _ _ _ _ _ c.from_residual-in_err-draw_start.ensures.1
-    (entry_part _ _ _ _ (entries_below look c.args.depth [] (shape ((grow (neighbors_of (edges_of c.args.marked.now.graph.now)) c.args.depth (flags_of c.args.marked.now.graph.now []) c.args.start.0).occurrence))) (part_as _ _ _ _ own (c.in_err-draw_start.ensures.bytes [] outer)) c.in_err-draw_start.ensures.memory)
+    let leaf : c.leaf-place.result ≡ place_of v 1 = search c.leaf-place.ensures in
+    let own = own_alike g.N.Label.text graph c.args.marked.now.mark.now look [] None c.leaf-place.result tree (ap (λ p. p.node.0) leaf ∙ sym (grown_node below c.args.depth seen v))
+    (ap (λ p. is_repeated_size p.size) leaf ∙ (sym (seen_all (length (weights_of graph)) [] v) ∙ sym (grown_mark below c.args.depth seen v))) in
+    entries_err _ _ _ _ _ _ c.from_residual-in_err-draw_own.ensures.1
+    (entry_part _ _ _ _ (entries_below look c.args.depth [] (shape ((grow (neighbors_of (edges_of c.args.marked.now.graph.now)) c.args.depth (flags_of c.args.marked.now.graph.now []) c.args.start.0).occurrence))) (part_as _ _ _ _ own (c.in_err-draw_own.ensures.bytes [] outer)) c.in_err-draw_own.ensures.memory)
 
 pub returns-clause-bytes : goal.returns-clause-bytes
 returns-clause-bytes g c =
@@ -63,15 +64,16 @@ returns-clause-bytes g c =
     let shape : OccurrenceTree → Shape = occurrence_shape g.N.Label.text graph marked.mark.now in
     let tree = (grow below c.args.depth seen v).occurrence in
     let clear : is_seen seen v ≡ false = seen_all (length (weights_of graph)) [] v in
-    let own = own_alike g.N.Label.text graph marked.mark.now look [] None (place_of v 1) tree (sym (grown_node below c.args.depth seen v))
-    (sym clear ∙ sym (grown_mark below c.args.depth seen v)) in
+    let leaf : c.leaf-place.result ≡ place_of v 1 = search c.leaf-place.ensures in
+    let own = own_alike g.N.Label.text graph marked.mark.now look [] None c.leaf-place.result tree (ap (λ p. p.node.0) leaf ∙ sym (grown_node below c.args.depth seen v))
+    (ap (λ p. is_repeated_size p.size) leaf ∙ (sym clear ∙ sym (grown_mark below c.args.depth seen v))) in
     let wide : c.len-width.result ≡ length (line_bytes c.args.pen.now.line) = c.len-width.ensures in
     let outer = c.requires.start ∙ sym (append-nil (start_codes look.branch)) in
-    let entry = whole_as _ _ _ _ own (c.in_ok-draw_start.ensures.bytes [] (start_kept c.len-width.result _ _ _ wide c.in_ok-append.ensures.bytes ∙ outer)) in
+    let entry = whole_as _ _ _ _ own (c.in_ok-draw_own.ensures.bytes [] (start_kept c.len-width.result _ _ _ wide c.in_ok-append.ensures.bytes ∙ outer)) in
     let empty : flags_of graph c.new-seen.result.items ≡ seen = ap (flags_of graph) c.new-seen.ensures.items in
     let row_is = ap (λ s. map shape (kids_grown below (c.args.depth - 1) s v)) empty ∙ kids_are g.N.Label.text graph marked.mark.now tree _ (kids_below below c.args.depth seen v c.if-depth-eq0.false clear) in
     root_written look c.args.depth (shape tree) _ _ _ _ _ _ (λ z. c.if-depth-eq0.false z) row_is entry
-    (c.draw_row.ensures.bytes [] (cut_back c.len-width.result _ _ _ _ _ wide c.in_ok-append.ensures.bytes c.in_ok-draw_start.ensures.kept c.truncate.ensures ∙ outer))
+    (c.draw_row.ensures.bytes [] (cut_back c.len-width.result _ _ _ _ _ wide c.in_ok-append.ensures.bytes c.in_ok-draw_own.ensures.kept c.truncate.ensures ∙ outer))
 
 pub returns-then-depth-eq0-clause-bytes : goal.returns-then-depth-eq0-clause-bytes
 returns-then-depth-eq0-clause-bytes g c =
@@ -84,11 +86,12 @@ returns-then-depth-eq0-clause-bytes g c =
     let shape : OccurrenceTree → Shape = occurrence_shape g.N.Label.text graph marked.mark.now in
     let tree = (grow below c.args.depth seen v).occurrence in
     let clear : is_seen seen v ≡ false = seen_all (length (weights_of graph)) [] v in
-    let own = own_alike g.N.Label.text graph marked.mark.now look [] None (place_of v 1) tree (sym (grown_node below c.args.depth seen v))
-    (sym clear ∙ sym (grown_mark below c.args.depth seen v)) in
+    let leaf : c.leaf-place.result ≡ place_of v 1 = search c.leaf-place.ensures in
+    let own = own_alike g.N.Label.text graph marked.mark.now look [] None c.leaf-place.result tree (ap (λ p. p.node.0) leaf ∙ sym (grown_node below c.args.depth seen v))
+    (ap (λ p. is_repeated_size p.size) leaf ∙ (sym clear ∙ sym (grown_mark below c.args.depth seen v))) in
     let wide : c.len-width.result ≡ length (line_bytes c.args.pen.now.line) = c.len-width.ensures in
     let outer = c.requires.start ∙ sym (append-nil (start_codes look.branch)) in
-    let entry = whole_as _ _ _ _ own (c.in_ok-draw_start.ensures.bytes [] (start_kept c.len-width.result _ _ _ wide c.in_ok-append.ensures.bytes ∙ outer)) in
+    let entry = whole_as _ _ _ _ own (c.in_ok-draw_own.ensures.bytes [] (start_kept c.len-width.result _ _ _ wide c.in_ok-append.ensures.bytes ∙ outer)) in
     root_alone look c.args.depth (shape tree) _ _ c.if-depth-eq0.true entry
 
 pub returns-then-newest-eq0-clause-bytes : goal.returns-then-newest-eq0-clause-bytes
@@ -102,11 +105,12 @@ returns-then-newest-eq0-clause-bytes g c =
     let shape : OccurrenceTree → Shape = occurrence_shape g.N.Label.text graph marked.mark.now in
     let tree = (grow below c.args.depth seen v).occurrence in
     let clear : is_seen seen v ≡ false = seen_all (length (weights_of graph)) [] v in
-    let own = own_alike g.N.Label.text graph marked.mark.now look [] None (place_of v 1) tree (sym (grown_node below c.args.depth seen v))
-    (sym clear ∙ sym (grown_mark below c.args.depth seen v)) in
+    let leaf : c.leaf-place.result ≡ place_of v 1 = search c.leaf-place.ensures in
+    let own = own_alike g.N.Label.text graph marked.mark.now look [] None c.leaf-place.result tree (ap (λ p. p.node.0) leaf ∙ sym (grown_node below c.args.depth seen v))
+    (ap (λ p. is_repeated_size p.size) leaf ∙ (sym clear ∙ sym (grown_mark below c.args.depth seen v))) in
     let wide : c.len-width.result ≡ length (line_bytes c.args.pen.now.line) = c.len-width.ensures in
     let outer = c.requires.start ∙ sym (append-nil (start_codes look.branch)) in
-    let entry = whole_as _ _ _ _ own (c.in_ok-draw_start.ensures.bytes [] (start_kept c.len-width.result _ _ _ wide c.in_ok-append.ensures.bytes ∙ outer)) in
+    let entry = whole_as _ _ _ _ own (c.in_ok-draw_own.ensures.bytes [] (start_kept c.len-width.result _ _ _ wide c.in_ok-append.ensures.bytes ∙ outer)) in
     let none : below v ≡ [] = sym (newest_starts (edges_of graph) v c.newest-newest.result c.newest-newest.ensures.newest).0 ∙ ap (λ k. neighbors_of (take k (edges_of graph)) v) c.if-newest-eq0.true in
     leaf_root look c.args.depth (shape tree) _ _
     (sym (kids_are g.N.Label.text graph marked.mark.now tree [] (no_kids _ v _ seen (without below c.args.depth seen v c.if-depth-eq0.false clear none)))) entry
