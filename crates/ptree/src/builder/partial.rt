@@ -97,9 +97,8 @@ impl PartialTree {
         while let Some(parent) = parents.pop() {
             closed.push(item)?;
             let text = parent.text;
-            // All that is closed is below the root.
+            // All that is closed is below the root, which gets the list itself.
             if parents.is_empty() {
-                closed.shrink_to_fit();
                 let children = closed;
                 return Ok(StringItem { text, children });
             }

@@ -1,4 +1,4 @@
-use Rattle.std.proofs.Common.{◌+◌, ◌≡◌, length, length-append, vec_len, eqb-true, subst, sym, ◌∙◌, ap, arith}
+use Rattle.std.proofs.Common.{◌+◌, ◌≡◌, length, length-append, vec_len, eqb-true, subst, refl, sym, ◌∙◌, ap, arith}
 use Rattle.std.proofs.lemmas.List.{nil_from_length}
 use Rattle.ptree.specs.PartialTree.{Ascend}
 use Rattle.ptree.proofs.PartialTrees.{ascend_pop, finishing_more, root_finished}
@@ -16,8 +16,8 @@ pub returns-then-is_empty : goal.returns-then-is_empty
 returns-then-is_empty c =
     let above = c.pop.new.self in
     let empty = eqb-true (vec_len above) 0 (sym c.is_empty.ensures ∙ c.if-is_empty.true) in
-    root_finished _ c.loop-parent.parents.items above.items c.in-Some.parent c.loop-parent.closed.items c.push.new.self.items c.shrink_to_fit.new.self.items c.loop-parent.item _
-    c.in-Some.ensures.items (nil_from_length above.items (omega (arith, empty, above.ok.0))) c.in_ok-push.ensures.items c.shrink_to_fit.ensures.items (tree_of_roll _) c.loop-parent.invariant
+    root_finished _ c.loop-parent.parents.items above.items c.in-Some.parent c.loop-parent.closed.items c.push.new.self.items c.push.new.self.items c.loop-parent.item _
+    c.in-Some.ensures.items (nil_from_length above.items (omega (arith, empty, above.ok.0))) c.in_ok-push.ensures.items refl (tree_of_roll _) c.loop-parent.invariant
 
 pub loop-parent-preserved : goal.loop-parent-preserved
 loop-parent-preserved c =
