@@ -10,9 +10,9 @@ use Rattle.ptree.specs.declared.graph.Graph.{Graph}
 use Rattle.ptree.specs.declared.graph.places.Place.{Place}
 use Rattle.ptree.specs.Drawing.{Look}
 use Rattle.ptree.specs.Entries.{shape_entry, kid_entries, entries_below, item_entries, drawn_entries}
-use Rattle.ptree.specs.Graph.{neighbors_of}
+use Rattle.ptree.specs.Graph.{weights_of, edges_of, neighbors_of}
 use Rattle.ptree.specs.GraphLinks.{newest_from}
-use Rattle.ptree.specs.Growing.{Grown, grown, is_seen, row_occurrences, grow, kids_grown, kids_seen, leaf_size, alone_at}
+use Rattle.ptree.specs.Growing.{Grown, grown, is_seen, row_occurrences, grow, kids_grown, kids_seen, leaf_size, alone_at, flags_of, place_of}
 use Rattle.ptree.specs.Looks.{own_entry}
 use Rattle.ptree.specs.Occurrence.{OccurrenceTree, none, occurrence, row, occurrence_kids, occurrence_own, occurrence_shape, is_repeated_size}
 use Rattle.ptree.specs.Pieces.{turning_piece, passing_piece}
@@ -21,6 +21,7 @@ use Rattle.ptree.specs.Writing.{AppendsPart}
 use Rattle.ptree.proofs.EdgeLists.{newest_within, newest_splits}
 use Rattle.ptree.proofs.Engine.{AreBegun}
 use Rattle.ptree.proofs.Growth.{grow_next}
+use Rattle.ptree.proofs.NodeFlags.{seen_all}
 use Rattle.ptree.proofs.Occurrences.{occurrences_of_row}
 use Rattle.ptree.proofs.Unfold.{kids_of_unfold}
 
@@ -82,6 +83,15 @@ module _ {N : Type 0} (text : N → List ℕ) (g : Graph N) (mark : List ℕ) wh
   own_alike look outer last p t e m =
       ap (λ v. own_entry look outer last (shape_of (occurrence v (is_repeated_size p.size) none))) e
       ∙ ap (λ b. own_entry look outer last (shape_of (occurrence t.node b none))) m
+
+  -- so also where a graph is drawn
+  pub own_grown : (look : Look) (outer : List ℕ) (last : Option Bool) (levels : ℕ) (items : List Bool) (v : ℕ) (repeated : Bool) (p : Place) → repeated ≡ is_seen items v → p ≡ place_of v (leaf_size repeated)
+      → own_entry look outer last (shape_of (alone_at p)) ≡ own_entry look outer last (shape_of (grow (neighbors_of (edges_of g)) levels (flags_of g items) v).occurrence)
+  own_grown look outer last levels items v repeated p flag leaf =
+      let below = neighbors_of (edges_of g) in
+      let seen = flags_of g items in
+      own_alike look outer last p (grow below levels seen v).occurrence (ap (λ (q : Place). q.node.0) leaf ∙ sym (grown_node below levels seen v))
+      (ap (λ (q : Place). is_repeated_size q.size) leaf ∙ (leaf_mark repeated ∙ (flag ∙ (sym (seen_all (length (weights_of g)) items v) ∙ sym (grown_mark below levels seen v)))))
 
 -- nothing is below a shape without children
 none_under : (look : Look) (left : ℕ) (outer : List ℕ) (x : Shape) → kids x ≡ [] → entries_below look left outer x ≡ []

@@ -4,14 +4,14 @@ use Rattle.std.proofs.lemmas.Grind.{common_steps}
 use Rattle.std.proofs.Common.{Some, ◌≡◌, ◌<◌, ◌++◌, ◌∷◌, ◌-◌, ◌∙◌, [], inl, inr, eqb, ap, sym, map, take, length, refl, arith, rules, append_assoc}
 use Rattle.ptree.specs.Graph.{weights_of, edges_of, neighbors_of}
 use Rattle.ptree.specs.GraphLinks.{ends_of}
-use Rattle.ptree.specs.Growing.{flags_of, is_seen, enter, grow, row_occurrences, row_seen, kids_grown, place_of, leaf_size}
+use Rattle.ptree.specs.Growing.{flags_of, is_seen, enter, grow, row_occurrences, row_seen, kids_grown}
 use Rattle.ptree.specs.Line.{line_bytes}
 use Rattle.ptree.specs.Looks.{look_of, own_text}
 use Rattle.ptree.specs.Entries.{kid_entries, entries_below}
-use Rattle.ptree.specs.Occurrence.{OccurrenceTree, occurrence_shape, is_repeated_size}
+use Rattle.ptree.specs.Occurrence.{OccurrenceTree, occurrence_shape}
 use Rattle.ptree.specs.Pieces.{passing_piece}
 use Rattle.ptree.specs.Shape.{Shape}
-use Rattle.ptree.proofs.AlongEdges.{last_tells, length_row, leaf_mark, grown_node, grown_mark, kids_below, seen_below, no_kids, kids_are, own_alike, leaf_written, part_as, whole_as, all_begun, seen_ok}
+use Rattle.ptree.proofs.AlongEdges.{last_tells, length_row, kids_below, seen_below, no_kids, kids_are, own_grown, leaf_written, part_as, whole_as, all_begun, seen_ok}
 use Rattle.ptree.proofs.EdgeLists.{newest_starts, newest_within, newest_has}
 use Rattle.ptree.proofs.Engine.{item_written, all_below, begun_none, begun_part, begun_then, begun_err, not_last, still_turned, long_enough, take_again, quiet}
 use Rattle.ptree.proofs.Growth.{stopped, without, entered, seen_made}
@@ -143,34 +143,27 @@ draw_row-returns-clause-seen g t c =
 pub draw_node-returns-in_err-draw_own-clause-bytes : goal.draw_node-returns-in_err-draw_own-clause-bytes
 draw_node-returns-in_err-draw_own-clause-bytes g t c = λ outer e.
     let look = look_of c.args.brush.now.look.now in
-    let marked = c.args.marked.now in
-    let graph = marked.graph.now in
-    let shape : OccurrenceTree → Shape = occurrence_shape g.N.Label.text graph marked.mark.now in
+    let graph = c.args.marked.now.graph.now in
+    let shape : OccurrenceTree → Shape = occurrence_shape g.N.Label.text graph c.args.marked.now.mark.now in
     let v = c.args.node.0 in
     let seen = flags_of graph c.args.seen.now.items in
     let tree = (grow (neighbors_of (edges_of graph)) c.args.levels_left seen v).occurrence in
-    let flag : c.is_flagged-repeated.result ≡ is_seen seen v = c.is_flagged-repeated.ensures ∙ (ap (λ l. is_seen l v) c.deref.ensures.value ∙ sym (seen_all (length (weights_of graph)) c.args.seen.now.items v)) in
-    let leaf : c.leaf-place.result ≡ place_of v (leaf_size c.is_flagged-repeated.result) = search c.leaf-place.ensures in
-    let own = own_alike g.N.Label.text graph marked.mark.now look outer (Some c.args.is_last) c.leaf-place.result tree (ap (λ p. p.node.0) leaf ∙ sym (grown_node (neighbors_of (edges_of graph)) c.args.levels_left seen v))
-    (ap (λ p. is_repeated_size p.size) leaf ∙ (leaf_mark c.is_flagged-repeated.result ∙ (flag ∙ sym (grown_mark (neighbors_of (edges_of graph)) c.args.levels_left seen v)))) in
+    let own = own_grown g.N.Label.text graph c.args.marked.now.mark.now look outer (Some c.args.is_last) c.args.levels_left c.args.seen.now.items v c.is_flagged-repeated.result c.leaf-place.result (c.is_flagged-repeated.ensures ∙ ap (λ l. is_seen l v) c.deref.ensures.value) (search c.leaf-place.ensures) in
     entries_err _ _ _ _ _ _ c.from_residual.ensures.1
     (entry_part _ _ _ _ (entries_below look c.args.levels_left (outer ++ passing_piece look.pieces c.args.is_last) (shape tree)) (part_as _ _ _ _ own (c.in_err-draw_own.ensures.bytes outer e)) c.in_err-draw_own.ensures.memory)
 
 pub draw_node-returns-clause-bytes : goal.draw_node-returns-clause-bytes
 draw_node-returns-clause-bytes g t c = λ outer e.
     let look = look_of c.args.brush.now.look.now in
-    let marked = c.args.marked.now in
-    let graph = marked.graph.now in
+    let graph = c.args.marked.now.graph.now in
     let below = neighbors_of (edges_of graph) in
-    let shape : OccurrenceTree → Shape = occurrence_shape g.N.Label.text graph marked.mark.now in
+    let shape : OccurrenceTree → Shape = occurrence_shape g.N.Label.text graph c.args.marked.now.mark.now in
     let v = c.args.node.0 in
     let seen = flags_of graph c.args.seen.now.items in
     let tree = (grow below c.args.levels_left seen v).occurrence in
     let flag : c.is_flagged-repeated.result ≡ is_seen seen v = c.is_flagged-repeated.ensures ∙ (ap (λ l. is_seen l v) c.deref.ensures.value ∙ sym (seen_all (length (weights_of graph)) c.args.seen.now.items v)) in
-    let leaf : c.leaf-place.result ≡ place_of v (leaf_size c.is_flagged-repeated.result) = search c.leaf-place.ensures in
-    let own = own_alike g.N.Label.text graph marked.mark.now look outer (Some c.args.is_last) c.leaf-place.result tree (ap (λ p. p.node.0) leaf ∙ sym (grown_node below c.args.levels_left seen v))
-    (ap (λ p. is_repeated_size p.size) leaf ∙ (leaf_mark c.is_flagged-repeated.result ∙ (flag ∙ sym (grown_mark below c.args.levels_left seen v)))) in
-    let kids_in = kids_are g.N.Label.text graph marked.mark.now tree _ (kids_below below c.args.levels_left seen v c.if-levels_left-eq0.false (sym flag ∙ c.if-repeated.false)) in
+    let own = own_grown g.N.Label.text graph c.args.marked.now.mark.now look outer (Some c.args.is_last) c.args.levels_left c.args.seen.now.items v c.is_flagged-repeated.result c.leaf-place.result (c.is_flagged-repeated.ensures ∙ ap (λ l. is_seen l v) c.deref.ensures.value) (search c.leaf-place.ensures) in
+    let kids_in = kids_are g.N.Label.text graph c.args.marked.now.mark.now tree _ (kids_below below c.args.levels_left seen v c.if-levels_left-eq0.false (sym flag ∙ c.if-repeated.false)) in
     item_written look c.args.levels_left outer c.args.is_last (shape tree) _ _ _ _ _ (λ z. c.if-levels_left-eq0.false z)
     (whole_as _ _ _ _ own (c.in_ok-draw_own.ensures.bytes outer e))
     (all_below look (entries_below look (c.args.levels_left - 1)) (outer ++ passing_piece look.pieces c.args.is_last) (shape tree) _ _ _ _ shape (kids_grown below (c.args.levels_left - 1) seen v) kids_in
@@ -191,9 +184,7 @@ draw_node-returns-then-repeated-clause-bytes g t c = λ outer e.
     let seen = flags_of graph c.args.seen.now.items in
     let tree = (grow below c.args.levels_left seen v).occurrence in
     let flag : c.is_flagged-repeated.result ≡ is_seen seen v = c.is_flagged-repeated.ensures ∙ (ap (λ l. is_seen l v) c.deref.ensures.value ∙ sym (seen_all (length (weights_of graph)) c.args.seen.now.items v)) in
-    let leaf : c.leaf-place.result ≡ place_of v (leaf_size c.is_flagged-repeated.result) = search c.leaf-place.ensures in
-    let own = own_alike g.N.Label.text graph marked.mark.now look outer (Some c.args.is_last) c.leaf-place.result tree (ap (λ p. p.node.0) leaf ∙ sym (grown_node below c.args.levels_left seen v))
-    (ap (λ p. is_repeated_size p.size) leaf ∙ (leaf_mark c.is_flagged-repeated.result ∙ (flag ∙ sym (grown_mark below c.args.levels_left seen v)))) in
+    let own = own_grown g.N.Label.text graph marked.mark.now look outer (Some c.args.is_last) c.args.levels_left c.args.seen.now.items v c.is_flagged-repeated.result c.leaf-place.result (c.is_flagged-repeated.ensures ∙ ap (λ l. is_seen l v) c.deref.ensures.value) (search c.leaf-place.ensures) in
     let stop = stopped below c.args.levels_left seen v
     (elim c.then-repeated.branch [ draw_node-then-repeated-via-then-repeated w ↦ inl (sym flag ∙ w.if-repeated.true) | draw_node-then-repeated-via-else-repeated+then-levels_left-eq0 w ↦ inr w.if-levels_left-eq0.true ]) in
     leaf_written look c.args.levels_left outer c.args.is_last (shape tree) _ _ (sym (kids_are g.N.Label.text graph marked.mark.now tree [] (no_kids _ v _ seen stop)))
@@ -220,9 +211,7 @@ draw_node-returns-then-newest-eq0-clause-bytes g t c = λ outer e.
     let seen = flags_of graph c.args.seen.now.items in
     let tree = (grow below c.args.levels_left seen v).occurrence in
     let flag : c.is_flagged-repeated.result ≡ is_seen seen v = c.is_flagged-repeated.ensures ∙ (ap (λ l. is_seen l v) c.deref.ensures.value ∙ sym (seen_all (length (weights_of graph)) c.args.seen.now.items v)) in
-    let leaf : c.leaf-place.result ≡ place_of v (leaf_size c.is_flagged-repeated.result) = search c.leaf-place.ensures in
-    let own = own_alike g.N.Label.text graph marked.mark.now look outer (Some c.args.is_last) c.leaf-place.result tree (ap (λ p. p.node.0) leaf ∙ sym (grown_node below c.args.levels_left seen v))
-    (ap (λ p. is_repeated_size p.size) leaf ∙ (leaf_mark c.is_flagged-repeated.result ∙ (flag ∙ sym (grown_mark below c.args.levels_left seen v)))) in
+    let own = own_grown g.N.Label.text graph marked.mark.now look outer (Some c.args.is_last) c.args.levels_left c.args.seen.now.items v c.is_flagged-repeated.result c.leaf-place.result (c.is_flagged-repeated.ensures ∙ ap (λ l. is_seen l v) c.deref.ensures.value) (search c.leaf-place.ensures) in
     let none : below v ≡ [] = sym (newest_starts edges v c.newest-newest.result c.newest-newest.ensures.newest).0 ∙ ap (λ k. neighbors_of (take k edges) v) c.if-newest-eq0.true in
     leaf_written look c.args.levels_left outer c.args.is_last (shape tree) _ _
     (sym (kids_are g.N.Label.text graph marked.mark.now tree [] (no_kids _ v _ seen (without below c.args.levels_left seen v c.if-levels_left-eq0.false (sym flag ∙ c.if-repeated.false) none))))

@@ -1,16 +1,16 @@
-use Rattle.std.proofs.Common.{None, ◌≡◌, ◌<◌, ◌≤◌, ◌-◌, arith, length, length-append, ◌∙◌, [], ap, map, take, false, inl, inr, sym}
+use Rattle.std.proofs.Common.{None, refl, ◌≡◌, ◌<◌, ◌≤◌, ◌-◌, arith, length, length-append, ◌∙◌, [], ap, map, take, false, inl, inr, sym}
 use Rattle.std.proofs.lemmas.Bool.{cases_lt}
 use Rattle.std.proofs.lemmas.Grind.{common_steps}
 use Rattle.std.proofs.lemmas.List.{append-nil}
 use Rattle.ptree.specs.Entries.{entries_below, drawn_entries}
 use Rattle.ptree.specs.Graph.{weights_of, edges_of, neighbors_of}
-use Rattle.ptree.specs.Growing.{flags_of, is_seen, grow, kids_grown, place_of}
+use Rattle.ptree.specs.Growing.{flags_of, is_seen, grow, kids_grown}
 use Rattle.ptree.specs.Line.{line_bytes}
 use Rattle.ptree.specs.Looks.{look_of}
-use Rattle.ptree.specs.Occurrence.{OccurrenceTree, occurrence_shape, is_repeated_size}
+use Rattle.ptree.specs.Occurrence.{OccurrenceTree, occurrence_shape}
 use Rattle.ptree.specs.Shape.{Shape}
 use Rattle.ptree.specs.Style.{start_codes}
-use Rattle.ptree.proofs.AlongEdges.{grown_node, grown_mark, kids_below, no_kids, kids_are, own_alike, leaf_root, part_as, whole_as}
+use Rattle.ptree.proofs.AlongEdges.{kids_below, no_kids, kids_are, own_grown, leaf_root, part_as, whole_as}
 use Rattle.ptree.proofs.EdgeLists.{newest_starts}
 use Rattle.ptree.proofs.Engine.{cut_back, start_kept, root_turned}
 use Rattle.ptree.proofs.Growth.{without}
@@ -47,9 +47,7 @@ returns-in_err-draw_own-clause-bytes g c =
     let v = c.args.start.0 in
     let seen = flags_of graph [] in
     let tree = (grow below c.args.depth seen v).occurrence in
-    let leaf : c.leaf-place.result ≡ place_of v 1 = search c.leaf-place.ensures in
-    let own = own_alike g.N.Label.text graph c.args.marked.now.mark.now look [] None c.leaf-place.result tree (ap (λ p. p.node.0) leaf ∙ sym (grown_node below c.args.depth seen v))
-    (ap (λ p. is_repeated_size p.size) leaf ∙ (sym (seen_all (length (weights_of graph)) [] v) ∙ sym (grown_mark below c.args.depth seen v))) in
+    let own = own_grown g.N.Label.text graph c.args.marked.now.mark.now look [] None c.args.depth [] v false c.leaf-place.result refl (search c.leaf-place.ensures) in
     entries_err _ _ _ _ _ _ c.from_residual-in_err-draw_own.ensures.1
     (entry_part _ _ _ _ (entries_below look c.args.depth [] (shape ((grow (neighbors_of (edges_of c.args.marked.now.graph.now)) c.args.depth (flags_of c.args.marked.now.graph.now []) c.args.start.0).occurrence))) (part_as _ _ _ _ own (c.in_err-draw_own.ensures.bytes [] outer)) c.in_err-draw_own.ensures.memory)
 
@@ -64,9 +62,7 @@ returns-clause-bytes g c =
     let shape : OccurrenceTree → Shape = occurrence_shape g.N.Label.text graph marked.mark.now in
     let tree = (grow below c.args.depth seen v).occurrence in
     let clear : is_seen seen v ≡ false = seen_all (length (weights_of graph)) [] v in
-    let leaf : c.leaf-place.result ≡ place_of v 1 = search c.leaf-place.ensures in
-    let own = own_alike g.N.Label.text graph marked.mark.now look [] None c.leaf-place.result tree (ap (λ p. p.node.0) leaf ∙ sym (grown_node below c.args.depth seen v))
-    (ap (λ p. is_repeated_size p.size) leaf ∙ (sym clear ∙ sym (grown_mark below c.args.depth seen v))) in
+    let own = own_grown g.N.Label.text graph marked.mark.now look [] None c.args.depth [] v false c.leaf-place.result refl (search c.leaf-place.ensures) in
     let wide : c.len-width.result ≡ length (line_bytes c.args.pen.now.line) = c.len-width.ensures in
     let outer = c.requires.start ∙ sym (append-nil (start_codes look.branch)) in
     let entry = whole_as _ _ _ _ own (c.in_ok-draw_own.ensures.bytes [] (start_kept c.len-width.result _ _ _ wide c.in_ok-append.ensures.bytes ∙ outer)) in
@@ -86,9 +82,7 @@ returns-then-depth-eq0-clause-bytes g c =
     let shape : OccurrenceTree → Shape = occurrence_shape g.N.Label.text graph marked.mark.now in
     let tree = (grow below c.args.depth seen v).occurrence in
     let clear : is_seen seen v ≡ false = seen_all (length (weights_of graph)) [] v in
-    let leaf : c.leaf-place.result ≡ place_of v 1 = search c.leaf-place.ensures in
-    let own = own_alike g.N.Label.text graph marked.mark.now look [] None c.leaf-place.result tree (ap (λ p. p.node.0) leaf ∙ sym (grown_node below c.args.depth seen v))
-    (ap (λ p. is_repeated_size p.size) leaf ∙ (sym clear ∙ sym (grown_mark below c.args.depth seen v))) in
+    let own = own_grown g.N.Label.text graph marked.mark.now look [] None c.args.depth [] v false c.leaf-place.result refl (search c.leaf-place.ensures) in
     let wide : c.len-width.result ≡ length (line_bytes c.args.pen.now.line) = c.len-width.ensures in
     let outer = c.requires.start ∙ sym (append-nil (start_codes look.branch)) in
     let entry = whole_as _ _ _ _ own (c.in_ok-draw_own.ensures.bytes [] (start_kept c.len-width.result _ _ _ wide c.in_ok-append.ensures.bytes ∙ outer)) in
@@ -105,9 +99,7 @@ returns-then-newest-eq0-clause-bytes g c =
     let shape : OccurrenceTree → Shape = occurrence_shape g.N.Label.text graph marked.mark.now in
     let tree = (grow below c.args.depth seen v).occurrence in
     let clear : is_seen seen v ≡ false = seen_all (length (weights_of graph)) [] v in
-    let leaf : c.leaf-place.result ≡ place_of v 1 = search c.leaf-place.ensures in
-    let own = own_alike g.N.Label.text graph marked.mark.now look [] None c.leaf-place.result tree (ap (λ p. p.node.0) leaf ∙ sym (grown_node below c.args.depth seen v))
-    (ap (λ p. is_repeated_size p.size) leaf ∙ (sym clear ∙ sym (grown_mark below c.args.depth seen v))) in
+    let own = own_grown g.N.Label.text graph marked.mark.now look [] None c.args.depth [] v false c.leaf-place.result refl (search c.leaf-place.ensures) in
     let wide : c.len-width.result ≡ length (line_bytes c.args.pen.now.line) = c.len-width.ensures in
     let outer = c.requires.start ∙ sym (append-nil (start_codes look.branch)) in
     let entry = whole_as _ _ _ _ own (c.in_ok-draw_own.ensures.bytes [] (start_kept c.len-width.result _ _ _ wide c.in_ok-append.ensures.bytes ∙ outer)) in
