@@ -1,4 +1,4 @@
-//! A tree while its items are read.
+//! A tree that is made line by line.
 ghost use Rattle.std.specs.Prelude.{◌≡◌, ◌<◌, ◌≤◌, ◌+◌, ◌++◌, ◌∷◌, [], length, string_bytes, IfOk, OnOk};
 ghost use Rattle.ptree.specs.Outline.{line, outline};
 ghost use Rattle.ptree.specs.PartialTree.{IsPartial, partial_lines};
@@ -16,9 +16,9 @@ struct Parent {
     first: usize,
 }
 
-/// The items that were read. Those that are not closed are one below the other, from the root on. A
-/// closed one has all its children; the list has those that are below none of these, in the order
-/// of the drawing.
+/// The items so far. Those that are not closed are one below the other, from the root on. A closed
+/// one has all its children; the list has those that are below no closed one, in the order of the
+/// drawing.
 #[derive(Drop)]
 pub(crate) struct PartialTree {
     alloc: Global,
