@@ -41,18 +41,18 @@ length_row f seen [] = refl
 length_row f seen (u ∷ us) = ap suc (length_row f (f seen u).seen us)
 
 -- the mark of a size is that from which it was made
-pub leaf_mark : (b : Bool) → is_repeated_size (leaf_size b) ≡ b
+leaf_mark : (b : Bool) → is_repeated_size (leaf_size b) ≡ b
 leaf_mark true = refl
 leaf_mark false = refl
 
 module _ (below : ℕ → List ℕ) where
   -- an occurrence is one of its node
-  pub grown_node : (levels : ℕ) (seen : List Bool) (v : ℕ) → (grow below levels seen v).occurrence.node ≡ v
+  grown_node : (levels : ℕ) (seen : List Bool) (v : ℕ) → (grow below levels seen v).occurrence.node ≡ v
   grown_node zero seen v = refl
   grown_node (suc levels) seen v = elim (is_seen seen v) as (λ b. (if b then grown (occurrence v true none) seen else grown (occurrence v false (row (kids_grown below levels seen v))) (kids_seen below levels seen v)).occurrence.node ≡ v) [ true ↦ refl | false ↦ refl ]
 
   -- and repeated where that is seen
-  pub grown_mark : (levels : ℕ) (seen : List Bool) (v : ℕ) → (grow below levels seen v).occurrence.repeated ≡ is_seen seen v
+  grown_mark : (levels : ℕ) (seen : List Bool) (v : ℕ) → (grow below levels seen v).occurrence.repeated ≡ is_seen seen v
   grown_mark zero seen v = refl
   grown_mark (suc levels) seen v = elim (is_seen seen v) as (λ b. (if b then grown (occurrence v true none) seen else grown (occurrence v false (row (kids_grown below levels seen v))) (kids_seen below levels seen v)).occurrence.repeated ≡ b) [ true ↦ refl | false ↦ refl ]
 
@@ -78,7 +78,7 @@ module _ {N : Type 0} (text : N → List ℕ) (g : Graph N) (mark : List ℕ) wh
   kids_are t ts e = ap (map shape_of) (sym e) ∙ kids_of_unfold (occurrence_own text g mark) occurrence_kids t
 
   -- the own entry of a place is that of any occurrence of its node with its mark
-  pub own_alike : (look : Look) (outer : List ℕ) (last : Option Bool) (p : Place) (t : OccurrenceTree) → p.node.0 ≡ t.node → is_repeated_size p.size ≡ t.repeated
+  own_alike : (look : Look) (outer : List ℕ) (last : Option Bool) (p : Place) (t : OccurrenceTree) → p.node.0 ≡ t.node → is_repeated_size p.size ≡ t.repeated
       → own_entry look outer last (shape_of (alone_at p)) ≡ own_entry look outer last (shape_of t)
   own_alike look outer last p t e m =
       ap (λ v. own_entry look outer last (shape_of (occurrence v (is_repeated_size p.size) none))) e

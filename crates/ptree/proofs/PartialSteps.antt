@@ -1,5 +1,5 @@
 -- The steps by which trees are made line by line.
-use Rattle.std.proofs.Common.{◌≡◌, ℕ, ◌+◌, List, [], ◌∷◌, ◌++◌, length, length-append, map, take, drop, sym, ap, ◌∙◌, append_assoc, refl, subst, arith}
+use Rattle.std.proofs.Common.{◌≡◌, ℕ, ◌+◌, List, [], ◌∷◌, ◌++◌, length, length-append, map, take, drop, sym, ap, ◌∙◌, refl, subst, arith}
 use Rattle.std.proofs.lemmas.List.{length-take-le}
 use Rattle.std.specs.Prelude.{string_bytes}
 use Rattle.ptree.specs.Outline.{Line, line, outline, Steps}
@@ -98,15 +98,3 @@ none_lines ps closed e f = ap (λ z. lines_from 0 0 z closed) e ∙ ap (row_line
 pub record IsBuilding (all done : List Line) (level : ℕ) (text : List ℕ) (left : List Line) : Type 0 where
   pub lines_are : done ++ line level text ∷ left ≡ all
   pub steps : Steps level left
-
--- one line more
-pub building_more : (all done done' : List Line) (level level' : ℕ) (text : List ℕ) (l : Line) (left left' : List Line) → IsBuilding all done level text left → left ≡ l ∷ left' → done' ≡ done ++ line level text ∷ [] → level' ≡ l.level
-    → IsBuilding all done' level' l.text left'
-building_more all done done' level level' text l left left' h e d at = record {
-  lines_are =
-      ap (λ z. z ++ line level' l.text ∷ left') d
-      ∙ (append_assoc done (line level text ∷ []) (line level' l.text ∷ left')
-      ∙ (ap (λ k. done ++ line level text ∷ line k l.text ∷ left') at
-      ∙ (ap (λ z. done ++ line level text ∷ z) (sym e) ∙ h.lines_are)));
-  steps = subst (λ k. Steps k left') (sym at) (subst (Steps level) e h.steps).2;
-}

@@ -11,22 +11,22 @@ use Rattle.ptree.specs.declared.builder.partial.Parent.{Parent}
 
 -- ## Places
 
--- they lie between the bounds
+-- ascending places lie between their bounds
 ascend_bounds : (m : ℕ) (parents : List Parent) (count : ℕ) → Ascend m parents count → m ≤ count
 ascend_bounds m [] count h = h
 ascend_bounds m (o ∷ parents) count h = let low = h.0 in let high = ascend_bounds o.first parents count h.1 in omega (arith, low, high)
 
--- more closed items
+-- they ascend also to a greater number of closed items
 pub ascend_more : (m : ℕ) (parents : List Parent) (count count' : ℕ) → Ascend m parents count → count ≤ count' → Ascend m parents count'
 ascend_more m [] count count' h more = omega (arith, h, more)
 ascend_more m (o ∷ parents) count count' h more = (h.0, ascend_more o.first parents count count' h.1 more)
 
--- one parents item more
+-- one parent more at the end
 pub ascend_push : (m : ℕ) (parents : List Parent) (o : Parent) (count : ℕ) → Ascend m parents o.first → o.first ≤ count → Ascend m (parents ++ o ∷ []) count
 ascend_push m [] o count h high = (h, high)
 ascend_push m (p ∷ parents) o count h high = (h.0, ascend_push p.first parents o count h.1 high)
 
--- and one less
+-- one parent less
 pub ascend_pop : (m : ℕ) (parents : List Parent) (o : Parent) (count : ℕ) → Ascend m (parents ++ o ∷ []) count → Ascend m parents o.first × (o.first ≤ count)
 ascend_pop m [] o count h = h
 ascend_pop m (p ∷ parents) o count h = let more = ascend_pop p.first parents o count h.1 in ((h.0, more.0), more.1)
@@ -53,7 +53,7 @@ abbrev pub outline_under : ℕ → Tree → List Line
 outline_under n t = line n t.text ∷ outline_at (suc n) t.children
 
 -- one tree more at the end of a forest
-pub outline_at-push : (n : ℕ) (ts : List Tree) (t : Tree)
+outline_at-push : (n : ℕ) (ts : List Tree) (t : Tree)
     → outline_at n (forest (ts ++ t ∷ [])) ≡ outline_at n (forest ts) ++ outline_under n t
 outline_at-push n [] t = ap (λ z. line n t.text ∷ z) (append-nil (outline_at (suc n) t.children))
 outline_at-push n (u ∷ ts) t =
@@ -83,8 +83,8 @@ drop_near (suc a) b [] x h = absurd (omega (arith, h))
 drop_near (suc a) b (y ∷ ys) x h =
     ap (λ k. drop (suc a) (take k (y ∷ ys) ++ x ∷ [])) (let e : suc a + b ≡ suc (a + b) = omega arith in e) ∙ drop_near a b ys x (omega (arith, h))
 
--- one closed item more, below the parents ones
-pub lines_push : (n m : ℕ) (parents : List Parent) (closed : List StringItem) (x : StringItem) → Ascend m parents (m + length closed)
+-- one closed item more, below the last parent
+lines_push : (n m : ℕ) (parents : List Parent) (closed : List StringItem) (x : StringItem) → Ascend m parents (m + length closed)
     → lines_from n m parents (closed ++ x ∷ []) ≡ lines_from n m parents closed ++ outline_under (n + length parents) (tree_of x)
 lines_push n m [] closed x h = row_push n closed x ∙ ap (λ k. row_lines n closed ++ outline_under k (tree_of x)) (let z : n ≡ n + 0 = omega arith in z)
 lines_push n m (o ∷ parents) closed x h =
@@ -101,8 +101,8 @@ lines_push n m (o ∷ parents) closed x h =
     ∙ (ap (λ z. row_lines n (take here closed) ++ line n (string_bytes o.text) ∷ z) (rest ∙ ap (λ k. lines_from (suc n) o.first parents (drop here closed) ++ outline_under k (tree_of x)) level)
     ∙ sym (append_assoc (row_lines n (take here closed)) (line n (string_bytes o.text) ∷ lines_from (suc n) o.first parents (drop here closed)) (outline_under (n + suc (length parents)) (tree_of x)))))
 
--- one parents item more, with nothing below it
-pub lines_open : (n m : ℕ) (parents : List Parent) (o : Parent) (closed : List StringItem) → Ascend m parents (m + length closed) → o.first ≡ m + length closed
+-- one parent more, with nothing below it
+lines_open : (n m : ℕ) (parents : List Parent) (o : Parent) (closed : List StringItem) → Ascend m parents (m + length closed) → o.first ≡ m + length closed
     → lines_from n m (parents ++ o ∷ []) closed ≡ lines_from n m parents closed ++ line (n + length parents) (string_bytes o.text) ∷ []
 lines_open n m [] o closed h at =
     let here = o.first - m in
@@ -121,8 +121,8 @@ lines_open n m (p ∷ parents) o closed h at =
     ap (λ z. row_lines n (take here closed) ++ line n (string_bytes p.text) ∷ z) (rest ∙ ap (λ k. lines_from (suc n) p.first parents (drop here closed) ++ line k (string_bytes o.text) ∷ []) level)
     ∙ sym (append_assoc (row_lines n (take here closed)) (line n (string_bytes p.text) ∷ lines_from (suc n) p.first parents (drop here closed)) (line (n + suc (length parents)) (string_bytes o.text) ∷ []))
 
--- an parents item that is closed over those below it
-pub lines_close : (n m : ℕ) (parents : List Parent) (o : Parent) (closed : List StringItem) (x : StringItem) → Ascend m (parents ++ o ∷ []) (m + length closed)
+-- the last parent, closed over the items after it
+lines_close : (n m : ℕ) (parents : List Parent) (o : Parent) (closed : List StringItem) (x : StringItem) → Ascend m (parents ++ o ∷ []) (m + length closed)
     → tree_of x ≡ tree (string_bytes o.text) (forest (map tree_of (drop (o.first - m) closed)))
     → lines_from n m parents (take (o.first - m) closed ++ x ∷ []) ≡ lines_from n m (parents ++ o ∷ []) closed
 lines_close n m [] o closed x h is =
