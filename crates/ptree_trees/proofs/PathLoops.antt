@@ -1,35 +1,73 @@
--- Trees of paths, one path after the other.
-use Rattle.std.proofs.Common.{◌≡◌, ℕ, ◌+◌, ◌<◌, false, List, [], ◌∷◌, ◌++◌, map, length, get_or, drop, sym, ap, ◌∙◌, subst, arith}
-use Rattle.std.proofs.lemmas.List.{map-append, drop_more}
+-- Trees of paths, one group after the other.
+use Rattle.std.specs.List.{AllByRecursion}
+use Rattle.std.specs.Prelude.{◌||◌}
+use Rattle.std.specs.Str.{bytes_eq}
+use Rattle.std.proofs.Common.{◌≡◌, ℕ, zero, suc, ◌+◌, ◌<◌, ◌≤◌, Bool, true, List, [], ◌∷◌, ◌++◌, map, length, get_or, take, refl, sym, ap, ◌∙◌, subst, arith}
+use Rattle.std.proofs.Math.Bool.{or-true}
+use Rattle.std.proofs.lemmas.List.{map-append, map_more, take_all}
+use Rattle.std.proofs.lemmas.Slice.Eq.{bytes_eq-Decides}
 use Rattle.std.specs.Borrow.{Bor}
+use Rattle.ptree.proofs.TreeLemmas.{map_twice}
 use Rattle.ptree.specs.Tree.{Tree, tree, forest, tree_of}
 use Rattle.ptree.specs.declared.item.StringItem.{StringItem}
-use Rattle.ptree_trees.specs.Paths.{names, next_names, has_name, with_names, tops, IsForestOfPaths, names_of, tails_of}
-use Rattle.ptree_trees.proofs.PathTrees.{weight, tails_push, names_new, HasTails, lighter}
+use Rattle.ptree_trees.specs.declared.paths.group.Group.{Group}
+use Rattle.ptree_trees.specs.Paths.{names, next_names, has_name, tops, names_of, tails_of}
+use Rattle.ptree_trees.specs.PathGroups.{PathGroup, group_of, group_names, AreNamesIn, AreGroups, IsForestIn}
+use Rattle.ptree_trees.proofs.PathTrees.{weight, tails_fewer, tails_push, tops_push, names_have, HasTails, forest_done}
 
--- the paths that are left, with the first of them
-pub paths_left : (s : ℕ) (xs : List (Bor (List ℕ))) (i : ℕ) (d : Bor (List ℕ)) (path : List (List ℕ)) → i < length xs → names s (get_or xs i d).now ≡ path → names_of s (drop i xs) ≡ path ∷ names_of s (drop (i + 1) xs)
-paths_left s xs i d path h e = ap (names_of s) (drop_more xs i d h) ∙ ap (λ z. z ∷ names_of s (drop (i + 1) xs)) e
+-- what is true of each is true of one
+each_at : {X : Type 0} (f : X → PathGroup) (P : PathGroup → Type 0) (xs : List X) (i : ℕ) (d : X) → AllByRecursion P (map f xs) → i < length xs → P (f (get_or xs i d))
+each_at f P [] i d h l = absurd (omega (arith, l))
+each_at f P (x ∷ xs) zero d h l = h.0
+each_at f P (x ∷ xs) (suc i) d h l = each_at f P xs i d h.1 (omega (arith, l))
 
--- the tails have fewer names
-pub fewer_names : (s : ℕ) (xs : List (Bor (List ℕ))) (i : ℕ) (d : Bor (List ℕ)) (name : List ℕ) (rest : List (List ℕ)) (tails passed : List (Bor (List ℕ))) → i < length xs → names s (get_or xs i d).now ≡ name ∷ rest
-    → names_of s tails ≡ tails_of name (names_of s xs) → passed ≡ tails → (t : ℕ) → weight (names_of s xs) ≡ t → weight (names_of s passed) < t
-fewer_names s xs i d name rest tails passed h e is same t bound =
-    let fewer = lighter (λ (p : Bor (List ℕ)). names s p.now) xs i name rest (names_of s (drop (i + 1) xs)) (paths_left s xs i d (name ∷ rest) h e) in
-    let counted : weight (names_of s passed) ≡ weight (tails_of name (names_of s xs)) = ap (λ z. weight (names_of s z)) same ∙ ap weight is in
+-- the name of a group is among the names
+name_there : {X : Type 0} (f : X → PathGroup) (xs : List X) (i : ℕ) (d : X) → i < length xs → has_name (group_names (map f xs)) (f (get_or xs i d)).name ≡ true
+name_there f [] i d l = absurd (omega (arith, l))
+name_there f (x ∷ xs) zero d l = ap (λ b. b || has_name (group_names (map f xs)) (f x).name) ((bytes_eq-Decides (f x).name (f x).name).1 refl)
+name_there f (x ∷ xs) (suc i) d l =
+    ap (λ b. bytes_eq (f x).name (f (get_or xs i d)).name || b) (name_there f xs i d (omega (arith, l))) ∙ or-true (bytes_eq (f x).name (f (get_or xs i d)).name)
+
+-- what follows the name of a group in the paths
+tails_at : (b : Bool) (s : ℕ) (gs : List Group) (i : ℕ) (g : Group) (xs passed : List (Bor (List ℕ))) → i < length gs → AreGroups b s (map group_of gs) (names_of s xs) → g ≡ get_or gs i g
+    → passed ≡ g.tails.items → names_of s passed ≡ tails_of g.first.name.now (names_of s xs)
+tails_at b s gs i g xs passed l h is same =
+    let tails = each_at group_of (λ g. map (names s) g.tails ≡ tails_of g.name (names_of s xs)) gs i g h.1 l in
+    let own = subst (λ z. map (names s) (group_of z).tails ≡ tails_of (group_of z).name (names_of s xs)) (sym is) tails in
+    ap (names_of s) same ∙ (map_twice (λ p. p.now) (names s) g.tails.items ∙ own)
+
+-- the tails of a group have fewer names than the paths
+pub fewer_names : (b : Bool) (s : ℕ) (gs : List Group) (i : ℕ) (g : Group) (xs passed : List (Bor (List ℕ))) → i < length gs → AreGroups b s (map group_of gs) (names_of s xs) → g ≡ get_or gs i g
+    → passed ≡ g.tails.items → (t : ℕ) → weight (names_of s xs) ≡ t → weight (names_of s passed) < t
+fewer_names b s gs i g xs passed l h is same t bound =
+    let name = g.first.name.now in
+    let own : has_name (group_names (map group_of gs)) name ≡ true = ap (λ z. has_name (group_names (map group_of gs)) (group_of z).name) is ∙ name_there group_of gs i g l in
+    let there : has_name (next_names [] (names_of s xs)) name ≡ true = sym (names_have b (group_names (map group_of gs)) (next_names [] (names_of s xs)) h.0 name) ∙ own in
+    let fewer = tails_fewer name (names_of s xs) there in
+    let counted : weight (names_of s passed) ≡ weight (tails_of name (names_of s xs)) = ap weight (tails_at b s gs i g xs passed l h is same) in
     omega (arith, fewer, counted, bound)
 
 -- one item more
-pub item_pushed : (s : ℕ) (xs : List (Bor (List ℕ))) (i : ℕ) (d : Bor (List ℕ)) (name : List ℕ) (rest : List (List ℕ)) (tails : List (Bor (List ℕ))) (old new : List StringItem) (made : StringItem) (children : List StringItem)
-    → i < length xs → names s (get_or xs i d).now ≡ name ∷ rest → names_of s tails ≡ tails_of name (names_of s xs) → tree_of made ≡ tree name (forest (map tree_of children)) → new ≡ old ++ made ∷ []
-    → has_name (tops (forest (map tree_of old))) name ≡ false → IsForestOfPaths (forest (map tree_of children)) (names_of s tails)
-    → with_names (tops (forest (map tree_of old))) (next_names [] (names_of s (drop i xs))) ≡ with_names [] (next_names [] (names_of s xs)) → HasTails (forest (map tree_of old)) (names_of s xs)
-    → (with_names (tops (forest (map tree_of new))) (next_names [] (names_of s (drop (i + 1) xs))) ≡ with_names [] (next_names [] (names_of s xs))) × HasTails (forest (map tree_of new)) (names_of s xs)
-item_pushed s xs i d name rest tails old new made children h e is tree_is pushed absent below_is so_far each =
-    let t : Tree = tree name (forest (map tree_of children)) in
-    let trees : map tree_of new ≡ map tree_of old ++ t ∷ [] = ap (map tree_of) pushed ∙ (map-append tree_of old (made ∷ []) ∙ ap (λ z. map tree_of old ++ z ∷ []) tree_is) in
-    let next = names_new (map tree_of old) t rest (names_of s (drop (i + 1) xs)) (names_of s (drop i xs)) (with_names [] (next_names [] (names_of s xs))) (paths_left s xs i d (name ∷ rest) h e) absent so_far in
-    let more = tails_push (map tree_of old) t (names_of s xs) each (subst (λ z. IsForestOfPaths (forest (map tree_of children)) z) is below_is) in (
-      subst (λ z. with_names (tops (forest z)) (next_names [] (names_of s (drop (i + 1) xs))) ≡ with_names [] (next_names [] (names_of s xs))) (sym trees) next,
-      subst (λ z. HasTails (forest z) (names_of s xs)) (sym trees) more,
+pub item_pushed : (b : Bool) (s : ℕ) (gs : List Group) (i : ℕ) (g : Group) (xs passed : List (Bor (List ℕ))) (old new : List StringItem) (made : StringItem) (children : List StringItem)
+    → i < length gs → AreGroups b s (map group_of gs) (names_of s xs) → g ≡ get_or gs i g → passed ≡ g.tails.items → tree_of made ≡ tree g.first.name.now (forest (map tree_of children))
+    → new ≡ old ++ made ∷ [] → IsForestIn b (forest (map tree_of children)) (names_of s passed)
+    → tops (forest (map tree_of old)) ≡ group_names (map group_of (take i gs)) → HasTails b (forest (map tree_of old)) (names_of s xs)
+    → (tops (forest (map tree_of new)) ≡ group_names (map group_of (take (i + 1) gs))) × HasTails b (forest (map tree_of new)) (names_of s xs)
+item_pushed b s gs i g xs passed old new made children l h is same made_is pushed kids names_are each =
+    let t : Tree = tree g.first.name.now (forest (map tree_of children)) in
+    let trees : map tree_of new ≡ map tree_of old ++ t ∷ [] = ap (map tree_of) pushed ∙ (map-append tree_of old (made ∷ []) ∙ ap (λ z. map tree_of old ++ z ∷ []) made_is) in
+    let name_of : Group → List ℕ = λ z. z.first.name.now in
+    let so_far : (zs : List Group) → group_names (map group_of zs) ≡ map name_of zs = λ zs. sym (map_twice group_of (λ (z : PathGroup). z.name) zs) in
+    let more : group_names (map group_of (take (i + 1) gs)) ≡ group_names (map group_of (take i gs)) ++ g.first.name.now ∷ [] =
+    so_far (take (i + 1) gs) ∙ (map_more name_of gs i g l ∙ (ap (λ z. map name_of (take i gs) ++ name_of z ∷ []) (sym is) ∙ ap (λ z. z ++ g.first.name.now ∷ []) (sym (so_far (take i gs))))) in (
+      ap (λ z. tops (forest z)) trees ∙ (tops_push (map tree_of old) t ∙ (ap (λ z. z ++ g.first.name.now ∷ []) names_are ∙ sym more)),
+      subst (λ z. HasTails b (forest z) (names_of s xs)) (sym trees)
+          (tails_push b (map tree_of old) t (names_of s xs) each (subst (IsForestIn b (forest (map tree_of children))) (tails_at b s gs i g xs passed l h is same) kids)),
     )
+
+-- all items
+pub items_done : (b : Bool) (s : ℕ) (gs : List Group) (i : ℕ) (xs : List (Bor (List ℕ))) (items : List StringItem) → length gs ≤ i → AreGroups b s (map group_of gs) (names_of s xs)
+    → tops (forest (map tree_of items)) ≡ group_names (map group_of (take i gs)) → HasTails b (forest (map tree_of items)) (names_of s xs) → IsForestIn b (forest (map tree_of items)) (names_of s xs)
+items_done b s gs i xs items l h names_are each =
+    let all : tops (forest (map tree_of items)) ≡ group_names (map group_of gs) = names_are ∙ ap (λ z. group_names (map group_of z)) (take_all i gs l) in
+    forest_done b (forest (map tree_of items)) (names_of s xs) (subst (λ z. AreNamesIn b z (next_names [] (names_of s xs))) (sym all) h.0) each

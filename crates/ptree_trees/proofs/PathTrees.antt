@@ -1,34 +1,16 @@
 -- Trees of paths.
-use Rattle.std.proofs.Common.{◌≡◌, ◌≢◌, ℕ, zero, suc, ◌+◌, ◌<◌, ◌≤◌, Bool, true, false, cond, eqb, Option, Some, None, List, [], ◌∷◌, ◌++◌, map, length, get_or, drop, refl, sym, ap, ◌∙◌, subst, arith}
-use Rattle.std.proofs.lemmas.Bool.{false≢true, eq-eqb, ne_eqb}
-use Rattle.std.proofs.lemmas.List.Elements.{All-head, All-tail}
-use Rattle.std.proofs.lemmas.List.{get_or_default}
+use Rattle.std.proofs.Common.{◌≡◌, ◌≢◌, ℕ, ◌+◌, ◌<◌, ◌≤◌, Bool, true, false, cond, eqb, None, List, [], ◌∷◌, ◌++◌, length, refl, sym, ap, ◌∙◌, subst, arith}
+use Rattle.std.proofs.lemmas.Bool.{false≢true}
 use Rattle.std.proofs.lemmas.Slice.Eq.{bytes_eq-Decides}
-use Rattle.std.proofs.lemmas.Str.Pattern.{IsSplitOnceResult, split_parts}
-use Rattle.std.specs.Borrow.{Bor}
 use Rattle.std.specs.Option.{option_to_list}
-use Rattle.std.specs.Prelude.{MatchOption, All, ◌||◌}
+use Rattle.std.specs.Prelude.{◌||◌}
 use Rattle.std.specs.Str.{bytes_eq}
 use Rattle.ptree.specs.Tree.{Forest, none, item, Tree, forest}
-use Rattle.ptree_trees.specs.Paths.{with_first, names, next_name, next_names, has_name, with_name, with_names, tops, below, texts_below, IsForestOfPaths, tails_of}
+use Rattle.std.specs.List.Sorted.{IsStrictlySortedBy}
+use Rattle.ptree_trees.specs.Paths.{with_first, names, next_name, next_names, has_name, with_name, with_names, tops, below, texts_below, tails_of}
+use Rattle.ptree_trees.specs.PathGroups.{AreNamesIn, IsForestIn}
 
--- ## Names
-
--- a text without a byte, by its reads
-reads_all : (s : ℕ) (xs : List ℕ) → ((i : ℕ) → i < length xs → get_or xs i 0 ≢ s) → All (λ b. b ≢ s) xs
-reads_all s xs h k d l e = h k l (sym (get_or_default xs k d 0 l) ∙ e)
-
--- a path without a separator is one name
-names_one : (s : ℕ) (text : List ℕ) → All (λ b. b ≢ s) text → names s text ≡ text ∷ []
-names_one s [] h = refl
-names_one s (b ∷ t) h =
-    ap (λ c. cond c ([] ∷ names s t) (with_first b (names s t))) (ne_eqb b s (All-head (λ b. b ≢ s) b t h)) ∙ ap (with_first b) (names_one s t (All-tail (λ b. b ≢ s) b t h))
-
--- what is before the first separator is the first name
-names_cut : (s : ℕ) (n rest : List ℕ) → All (λ b. b ≢ s) n → names s (n ++ s ∷ rest) ≡ n ∷ names s rest
-names_cut s [] rest h = ap (λ c. cond c ([] ∷ names s rest) (with_first s (names s rest))) (eq-eqb s s refl)
-names_cut s (b ∷ n) rest h =
-    ap (λ c. cond c ([] ∷ names s (n ++ s ∷ rest)) (with_first b (names s (n ++ s ∷ rest)))) (ne_eqb b s (All-head (λ b. b ≢ s) b n h)) ∙ ap (with_first b) (names_cut s n rest (All-tail (λ b. b ≢ s) b n h))
+-- ## Tails
 
 -- a path has a name
 pub names_some : (s : ℕ) (text : List ℕ) → names s text ≢ []
@@ -41,15 +23,6 @@ names_some s (b ∷ t) e = at (eqb b s) e where
   at : (c : Bool) → cond c ([] ∷ names s t) (with_first b (names s t)) ≢ []
   at true e = let long = ap length e in omega (arith, long)
   at false e = first (names s t) e
-
--- what is found at the first separator
-pub split_names : (s : ℕ) (text : List ℕ) (r : Option (Bor (List ℕ) × Bor (List ℕ))) → IsSplitOnceResult s text r → s < 128 → MatchOption r (names s text ≡ text ∷ []) (λ x. (names s text ≡ x.0.now ∷ names s x.1.now) × (text ≡ x.0.now ++ s ∷ x.1.now))
-split_names s text None h low = names_one s text (reads_all s text (split_parts s text None h low))
-split_names s text (Some x) h low =
-    let parts = split_parts s text (Some x) h low in
-    (ap (names s) parts.0 ∙ names_cut s x.0.now x.1.now (reads_all s x.0.now parts.1), parts.0)
-
--- ## Tails
 
 -- the tails of a path that goes on, and of others
 pub tails_cons : (n m : List ℕ) (q : List (List ℕ)) (paths : List (List (List ℕ))) → q ≢ [] → tails_of n ((m ∷ q) ∷ paths) ≡ cond (bytes_eq m n) (q ∷ tails_of n paths) (tails_of n paths)
@@ -91,11 +64,15 @@ still_lighter n (m ∷ k ∷ path) paths less = at (bytes_eq m n) where
   at true = omega (arith, less)
   at false = omega (arith, less)
 
--- so also if it is not the first
-pub lighter : {A : Type 0} (f : A → List (List ℕ)) (xs : List A) (i : ℕ) (n : List ℕ) (rest : List (List ℕ)) (q : List (List (List ℕ))) → map f (drop i xs) ≡ (n ∷ rest) ∷ q → weight (tails_of n (map f xs)) < weight (map f xs)
-lighter f xs zero n rest q e = subst (λ z. weight (tails_of n z) < weight z) (sym e) (tails_lighter n rest q)
-lighter f [] (suc i) n rest q e = absurd (let long = ap length e in omega (arith, long))
-lighter f (x ∷ xs) (suc i) n rest q e = still_lighter n (f x) (map f xs) (lighter f xs i n rest q e)
+-- so also if it is one of those of a path
+pub tails_fewer : (n : List ℕ) (ps : List (List (List ℕ))) → has_name (next_names [] ps) n ≡ true → weight (tails_of n ps) < weight ps
+tails_fewer n [] h = absurd (false≢true h)
+tails_fewer n ([] ∷ ps) h = still_lighter n [] ps (tails_fewer n ps h)
+tails_fewer n ((m ∷ q) ∷ ps) h = at (bytes_eq m n) refl h (λ k. tails_fewer n ps k) where
+  at : (b : Bool) → bytes_eq m n ≡ b → (b || has_name (next_names [] ps) n) ≡ true → (has_name (next_names [] ps) n ≡ true → weight (tails_of n ps) < weight ps)
+      → weight (tails_of n ((m ∷ q) ∷ ps)) < weight ((m ∷ q) ∷ ps)
+  at true e h more = subst (λ z. weight (tails_of n ((z ∷ q) ∷ ps)) < weight ((z ∷ q) ∷ ps)) (sym ((bytes_eq-Decides m n).0 e)) (tails_lighter n q ps)
+  at false e h more = still_lighter n (m ∷ q) ps (more h)
 
 -- ## Forests
 
@@ -189,37 +166,37 @@ next_none n ns ((m ∷ path) ∷ paths) h = at (bytes_eq m n) h (λ k. next_none
   at true h more = absurd (false≢true (sym h))
   at false h more = more h
 
+-- no names are those of no paths
+none_in : (b : Bool) → AreNamesIn b [] []
+unfolding IsStrictlySortedBy
+none_in true = (tt, λ n. refl)
+none_in false = refl
+
+-- names of others are the same names
+pub names_have : (b : Bool) (ms ns : List (List ℕ)) → AreNamesIn b ms ns → (n : List ℕ) → has_name ms n ≡ has_name ns n
+names_have true ms ns h n = h.1 n
+names_have false ms ns h n = ap (λ z. has_name z n) h ∙ has_with [] ns n
+
 -- below each name of a forest is the forest of the tails
-pub record HasTails (f : Forest) (paths : List (List (List ℕ))) : Type 0 where
-  pub each : (n : List ℕ) → has_name (tops f) n ≡ true → IsForestOfPaths (below f n) (tails_of n paths)
+pub record HasTails (b : Bool) (f : Forest) (paths : List (List (List ℕ))) : Type 0 where
+  pub each : (n : List ℕ) → has_name (tops f) n ≡ true → IsForestIn b (below f n) (tails_of n paths)
 
 -- a forest with these names, and with the tails below them, is that of the paths
-pub forest_done : (f : Forest) (paths : List (List (List ℕ))) → tops f ≡ with_names [] (next_names [] paths) → HasTails f paths → IsForestOfPaths f paths
-forest_done f paths e h [] = e
-forest_done f paths e h (n ∷ ns) = at (has_name (tops f) n) refl where
-  at : (b : Bool) → has_name (tops f) n ≡ b → texts_below (below f n) ns ≡ with_names [] (next_names (n ∷ ns) paths)
-  at true k = h.each n k ns ∙ ap (with_names []) (tails_next n ns paths)
+pub forest_done : (b : Bool) (f : Forest) (paths : List (List (List ℕ))) → AreNamesIn b (tops f) (next_names [] paths) → HasTails b f paths → IsForestIn b f paths
+forest_done b f paths e h [] = e
+forest_done b f paths e h (n ∷ ns) = at (has_name (tops f) n) refl where
+  at : (c : Bool) → has_name (tops f) n ≡ c → AreNamesIn b (texts_below (below f n) ns) (next_names (n ∷ ns) paths)
+  at true k = subst (λ z. AreNamesIn b (texts_below (below f n) ns) z) (tails_next n ns paths) (h.each n k ns)
   at false k =
-      ap (λ g. texts_below g ns) (below_none f n k) ∙ (texts_none ns ∙ ap (with_names []) (sym (next_none n ns paths (sym (has_with [] (next_names [] paths) n) ∙ (ap (λ z. has_name z n) (sym e) ∙ k)))))
+      let gone : texts_below (below f n) ns ≡ [] = ap (λ g. texts_below g ns) (below_none f n k) ∙ texts_none ns in
+      let none : next_names (n ∷ ns) paths ≡ [] = next_none n ns paths (sym (names_have b (tops f) (next_names [] paths) e n) ∙ k) in
+      subst (λ z. AreNamesIn b z (next_names (n ∷ ns) paths)) (sym gone) (subst (AreNamesIn b []) (sym none) (none_in b))
 
 -- with a new tree, over the forest of its tails
-pub tails_push : (ts : List Tree) (t : Tree) (paths : List (List (List ℕ))) → HasTails (forest ts) paths → IsForestOfPaths t.children (tails_of t.text paths) → HasTails (forest (ts ++ t ∷ [])) paths
-tails_push ts t paths h new = record { each = λ n k. at n k (has_name (tops (forest ts)) n) refl } where
-  at : (n : List ℕ) → has_name (tops (forest (ts ++ t ∷ []))) n ≡ true → (b : Bool) → has_name (tops (forest ts)) n ≡ b → IsForestOfPaths (below (forest (ts ++ t ∷ [])) n) (tails_of n paths)
-  at n k true e = subst (λ z. IsForestOfPaths z (tails_of n paths)) (sym (below_old ts t n e)) (h.each n e)
+pub tails_push : (b : Bool) (ts : List Tree) (t : Tree) (paths : List (List (List ℕ))) → HasTails b (forest ts) paths → IsForestIn b t.children (tails_of t.text paths) → HasTails b (forest (ts ++ t ∷ [])) paths
+tails_push b ts t paths h new = record { each = λ n k. at n k (has_name (tops (forest ts)) n) refl } where
+  at : (n : List ℕ) → has_name (tops (forest (ts ++ t ∷ []))) n ≡ true → (c : Bool) → has_name (tops (forest ts)) n ≡ c → IsForestIn b (below (forest (ts ++ t ∷ [])) n) (tails_of n paths)
+  at n k true e = subst (λ z. IsForestIn b z (tails_of n paths)) (sym (below_old ts t n e)) (h.each n e)
   at n k false e =
       let same : bytes_eq t.text n ≡ true = ap (λ b. b || bytes_eq t.text n) (sym e) ∙ (sym (has_push (tops (forest ts)) t.text n) ∙ (ap (λ z. has_name z n) (sym (tops_push ts t)) ∙ k)) in
-      subst (λ z. IsForestOfPaths z (tails_of n paths)) (sym (below_new ts t n e same)) (subst (λ z. IsForestOfPaths t.children (tails_of z paths)) ((bytes_eq-Decides t.text n).0 same) new)
-
--- a name that was there already
-pub names_old : (ts : List Tree) (name : List ℕ) (rest : List (List ℕ)) (q left : List (List (List ℕ))) (all : List (List ℕ)) → left ≡ (name ∷ rest) ∷ q → has_name (tops (forest ts)) name ≡ true
-    → with_names (tops (forest ts)) (next_names [] left) ≡ all → with_names (tops (forest ts)) (next_names [] q) ≡ all
-names_old ts name rest q left all e old is =
-    ap (λ b. with_names (cond b (tops (forest ts)) (tops (forest ts) ++ name ∷ [])) (next_names [] q)) (sym old) ∙ (ap (λ z. with_names (tops (forest ts)) (next_names [] z)) (sym e) ∙ is)
-
--- a name that was not there is added
-pub names_new : (ts : List Tree) (t : Tree) (rest : List (List ℕ)) (q left : List (List (List ℕ))) (all : List (List ℕ)) → left ≡ (t.text ∷ rest) ∷ q → has_name (tops (forest ts)) t.text ≡ false
-    → with_names (tops (forest ts)) (next_names [] left) ≡ all → with_names (tops (forest (ts ++ t ∷ []))) (next_names [] q) ≡ all
-names_new ts t rest q left all e new is =
-    ap (λ z. with_names z (next_names [] q)) (tops_push ts t)
-    ∙ (ap (λ b. with_names (cond b (tops (forest ts)) (tops (forest ts) ++ t.text ∷ [])) (next_names [] q)) (sym new) ∙ (ap (λ z. with_names (tops (forest ts)) (next_names [] z)) (sym e) ∙ is))
+      subst (λ z. IsForestIn b z (tails_of n paths)) (sym (below_new ts t n e same)) (subst (λ z. IsForestIn b t.children (tails_of z paths)) ((bytes_eq-Decides t.text n).0 same) new)

@@ -1,5 +1,5 @@
 -- The first path to a value of a kind, row by row.
-use Rattle.std.proofs.Common.{◌≡◌, ◌∙◌, ◌⊎◌, inl, inr, ℕ, ◌+◌, List, [], ◌∷◌, ◌++◌, map, reverse, Vec, Option, Some, None, Global, ap, sym, refl, subst}
+use Rattle.std.proofs.Common.{◌≡◌, ◌∙◌, ◌⊎◌, inl, inr, ℕ, List, [], ◌∷◌, ◌++◌, map, reverse, Vec, Option, Some, None, Global, ap, sym, refl, subst}
 use Rattle.std.proofs.lemmas.List.{reverse-append}
 use Rattle.ptree_trees.specs.declared.documents.refused.Step.{Step}
 use Rattle.ptree_trees.specs.RefusedPath.{StepValue, at_key, at_position, step_of, Path, IsStepBefore, IsPathBefore, LeadsTo, IsFirstOf}

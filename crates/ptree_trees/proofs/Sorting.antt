@@ -26,7 +26,7 @@ pub texts_rank : {X : Type 0} (view : X → Tree) → IsStrictWeakOrder (λ a b.
 texts_rank view = ranks_by nat_list_cmp_total (λ a. (view a).text)
 
 -- two texts tie exactly if they are the same
-ties_if_same : (a b : List ℕ) → (not (is_lt (slice_cmp nat_cmp a b)) && not (is_lt (slice_cmp nat_cmp b a))) ≡ bytes_eq b a
+pub ties_if_same : (a b : List ℕ) → (not (is_lt (slice_cmp nat_cmp a b)) && not (is_lt (slice_cmp nat_cmp b a))) ≡ bytes_eq b a
 ties_if_same a b = by_order (slice_cmp nat_cmp b a) (slice_cmp nat_cmp a b) (nat_list_cmp_total.antisymm a b) ∙ is_eq-slice_cmp b a
   where
     by_order : (r s : Ordering) → s ≡ ordering_reverse r → (not (is_lt s) && not (is_lt r)) ≡ is_eq r
@@ -45,7 +45,7 @@ module _ {X : Type 0} where
       by_test false own further h = further h
 
   -- lists keep the same by a test if they do so whenever an element passes
-  same_by_elements : (p : X → Bool) (xs ys : List X) → ((z : X) → p z ≡ true → filter p ys ≡ filter p xs) → filter p ys ≡ filter p xs
+  pub same_by_elements : (p : X → Bool) (xs ys : List X) → ((z : X) → p z ≡ true → filter p ys ≡ filter p xs) → filter p ys ≡ filter p xs
   same_by_elements p xs ys f = by_lists (filter p xs) (filter p ys) refl refl
     where
       by_lists : (ks ls : List X) → filter p xs ≡ ks → filter p ys ≡ ls → filter p ys ≡ filter p xs

@@ -1,4 +1,5 @@
 pub mod Change
+pub mod CutName
 pub mod Difference
 pub mod Errors
 pub mod Escape

@@ -1,7 +1,7 @@
-use Rattle.std.proofs.Common.{◌≡◌, [], map, drop}
+use Rattle.std.proofs.Common.{◌≡◌, map, take}
 use Rattle.ptree.specs.Tree.{tree_of, forest}
-use Rattle.ptree_trees.specs.Paths.{next_names, with_names, names_of, tops}
-use Rattle.ptree_trees.proofs.PathGroups.{GroupsOthers}
+use Rattle.ptree_trees.specs.Paths.{names_of, tops}
+use Rattle.ptree_trees.specs.PathGroups.{group_of, group_names}
 use Rattle.ptree_trees.proofs.PathTrees.{weight, HasTails}
 use Rattle.ptree_trees.proofs.paths.+items_below.Given as goal
 
@@ -9,11 +9,9 @@ use Rattle.ptree_trees.proofs.paths.+items_below.Given as goal
 abbrev pub decreases-items_below : goal.decreases-items_below
 decreases-items_below l = weight (names_of l.separator l.paths.now)
 
--- the items so far are those of the paths so far, each with all that is below it, and the groups
--- are those of the other names
-abbrev pub invariant-loop-path : goal.invariant-loop-path
-invariant-loop-path l = record {
-  names : with_names (tops (forest (map tree_of l.items.items))) (next_names [] (names_of l.separator (drop l.path-index l.paths))) ≡ with_names [] (next_names [] (names_of l.separator l.paths));
-  tails : HasTails (forest (map tree_of l.items.items)) (names_of l.separator l.paths);
-  others : GroupsOthers l.separator l.groups (tops (forest (map tree_of l.items.items))) (names_of l.separator l.paths);
+-- the items so far are those of the groups so far, each with all that is below it
+abbrev pub invariant-loop-group : goal.invariant-loop-group
+invariant-loop-group l = record {
+  names : tops (forest (map tree_of l.items.items)) ≡ group_names (map group_of (take l.group-index l.group-items));
+  tails : HasTails l.is_sorted (forest (map tree_of l.items.items)) (names_of l.separator l.paths);
 }
