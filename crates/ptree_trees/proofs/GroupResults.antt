@@ -7,27 +7,29 @@ use Rattle.std.proofs.lemmas.List.Elements.{All-from_recursion, recursion_from_A
 use Rattle.std.proofs.lemmas.List.Sorted.{All-permutation, IsPermutation-map}
 use Rattle.ptree_trees.specs.declared.paths.cut.CutPath.{CutPath}
 use Rattle.ptree_trees.specs.declared.paths.group.Group.{Group}
+use Rattle.ptree_trees.specs.declared.paths.key.KeyedCut.{KeyedCut}
 use Rattle.ptree_trees.specs.Paths.{names, next_names, tails_of}
-use Rattle.ptree_trees.specs.PathGroups.{cut_of, PathGroup, group_of, AreCuts, AreSortedCuts, IsGrouping, NoneAbove, IsPathGroups, AreGroups, index_of}
+use Rattle.ptree_trees.specs.PathGroups.{cut_of, keyed_cut, PathGroup, group_of, AreCuts, AreSortedCuts, IsGrouping, NoneAbove, IsPathGroups, AreGroups, index_of}
 use Rattle.ptree_trees.proofs.CutLists.{group_each, group_has}
 use Rattle.ptree_trees.proofs.NameOrders.{order_kept}
 use Rattle.ptree_trees.proofs.PathGroupings.{grouping_moved}
 
 -- one path more
-pub group_more : (xs ys : List CutPath) (i : ℕ) (c : CutPath) (gs : List PathGroup) → AreSortedCuts xs ys → i < length ys → c ≡ get_or ys i c
-    → (NoneAbove (map cut_of (take i ys)) c.name.now → IsGrouping (map cut_of (take i ys) ++ cut_of c ∷ []) gs) → IsGrouping (map cut_of (take (i + 1) ys)) gs
-group_more xs ys i c gs sorted l is added =
-    let none = subst (λ z. NoneAbove (map cut_of (take i ys)) (cut_of z).name) (sym is) (sorted.ascending i c l) in
-    let cuts : map cut_of (take (i + 1) ys) ≡ map cut_of (take i ys) ++ cut_of c ∷ [] =
-    map_more cut_of ys i c l ∙ ap (λ z. map cut_of (take i ys) ++ cut_of z ∷ []) (sym is) in
+pub group_more : (xs ys : List KeyedCut) (i : ℕ) (k : KeyedCut) (gs : List PathGroup) → AreSortedCuts xs ys → i < length ys → k ≡ get_or ys i k
+    → (NoneAbove (map keyed_cut (take i ys)) k.cut.now.name.now → IsGrouping (map keyed_cut (take i ys) ++ keyed_cut k ∷ []) gs) → IsGrouping (map keyed_cut (take (i + 1) ys)) gs
+group_more xs ys i k gs sorted l is added =
+    let none = subst (λ z. NoneAbove (map keyed_cut (take i ys)) (keyed_cut z).name) (sym is) (sorted.ascending i k l) in
+    let cuts : map keyed_cut (take (i + 1) ys) ≡ map keyed_cut (take i ys) ++ keyed_cut k ∷ [] =
+    map_more keyed_cut ys i k l ∙ ap (λ z. map keyed_cut (take i ys) ++ keyed_cut z ∷ []) (sym is) in
     subst (λ z. IsGrouping z gs) (sym cuts) (added none)
 
 -- all paths
-pub groups_done : (s : ℕ) (xs ys : List CutPath) (i : ℕ) (gs : List PathGroup) (ps : List (List (List ℕ))) → AreCuts s 0 (map cut_of xs) ps → AreSortedCuts xs ys → length ys ≤ i
-    → IsGrouping (map cut_of (take i ys)) gs → IsPathGroups s gs ps
-groups_done s xs ys i gs ps cuts sorted l h =
-    let all : IsGrouping (map cut_of xs) gs = grouping_moved (map cut_of xs) (map cut_of ys) gs sorted.stable (subst (λ z. IsGrouping (map cut_of z) gs) (take_all i ys l) h) in
-    record { ascending = all.ascending; has = group_has s (map cut_of xs) ps gs cuts all; each = group_each s (map cut_of xs) ps gs cuts all }
+pub groups_done : (s : ℕ) (cs : List CutPath) (xs ys : List KeyedCut) (i : ℕ) (gs : List PathGroup) (ps : List (List (List ℕ))) → AreCuts s 0 (map cut_of cs) ps → map keyed_cut xs ≡ map cut_of cs
+    → AreSortedCuts xs ys → length ys ≤ i → IsGrouping (map keyed_cut (take i ys)) gs → IsPathGroups s gs ps
+groups_done s cs xs ys i gs ps cuts same sorted l h =
+    let cut = subst (λ z. AreCuts s 0 z ps) (sym same) cuts in
+    let all : IsGrouping (map keyed_cut xs) gs = grouping_moved (map keyed_cut xs) (map keyed_cut ys) gs sorted.stable (subst (λ z. IsGrouping (map keyed_cut z) gs) (take_all i ys l) h) in
+    record { ascending = all.ascending; has = group_has s (map keyed_cut xs) ps gs cut all; each = group_each s (map keyed_cut xs) ps gs cut all }
 
 -- what follows a group's name in the paths is what the group has
 abbrev HasTailsOf : ℕ → List (List (List ℕ)) → PathGroup → Type 0

@@ -1,18 +1,17 @@
 -- The keys of names, and their order.
 use Rattle.std.specs.Cmp.{nat_cmp_is}
 use Rattle.std.specs.Cmp.Lexicographic.{slice_cmp}
-use Rattle.std.specs.Ordering.{nat_cmp, ordering_then, ordering_reverse}
+use Rattle.std.specs.Ordering.{nat_cmp, ordering_then, ordering_reverse, is_eq}
+use Rattle.std.specs.Str.{bytes_eq}
 use Rattle.std.specs.declared.cmp.Ordering.TheVariants.{Less, Equal, Greater}
-use Rattle.std.proofs.Common.{◌≡◌, ◌≢◌, ◌⊎◌, ℕ, zero, suc, ◌+◌, ◌*◌, ◌%◌, ◌^◌, ◌<◌, ◌≤◌, min, List, [], ◌∷◌, length, get_or, refl, sym, ap, ◌∙◌, inl, inr, add-one, arith}
+use Rattle.std.proofs.Common.{◌≡◌, ◌≢◌, ◌⊎◌, ℕ, zero, suc, ◌+◌, ◌*◌, ◌%◌, ◌^◌, ◌<◌, ◌≤◌, Bool, true, false, min, List, [], ◌∷◌, length, get_or, refl, sym, ap, ◌∙◌, inl, inr, add-one, arith}
 use Rattle.std.proofs.Math.Nat.{pow-suc, one-le-pow, pow-le-pow_right, mul-le-mul_right}
 use Rattle.std.proofs.lemmas.Bool.{cases_order}
 use Rattle.std.proofs.lemmas.Cmp.{nat_list_cmp_total}
+use Rattle.std.proofs.lemmas.Map.Text.{is_eq-slice_cmp}
 use Rattle.std.proofs.lemmas.Nat.{mul-add-lt, same_from_place}
-use Rattle.ptree_trees.specs.CutName.{front_number, name_key}
-
--- each number of the list is a byte
-abbrev pub AreBytes : List ℕ → Type 0
-AreBytes xs = (i : ℕ) → get_or xs i 0 < 256
+use Rattle.std.proofs.lemmas.Slice.Eq.{bytes_eq-Decides}
+use Rattle.ptree_trees.specs.CutName.{AreBytes, front_number, name_key}
 
 -- so also behind the first
 rest_bytes : (x : ℕ) (xs : List ℕ) → AreBytes (x ∷ xs) → AreBytes xs
@@ -114,3 +113,14 @@ key_cmp xs ys a b h = at (cases_order (name_key xs) (name_key ys)) where
   at (inr (inl below)) = sym (nat_cmp_is (name_key xs) (name_key ys) Less below) ∙ sym (key_less xs ys a b below)
   at (inr (inr above)) =
       sym (nat_cmp_is (name_key xs) (name_key ys) Greater above) ∙ sym (nat_list_cmp_total.antisymm xs ys ∙ ap ordering_reverse (key_less ys xs b a above))
+
+-- equal keys of short names are those of one name
+pub key_equal : (xs ys : List ℕ) → AreBytes xs → AreBytes ys → name_key xs ≡ name_key ys → name_key xs % 256 < 8 → bytes_eq xs ys ≡ true
+key_equal xs ys a b h short = sym (is_eq-slice_cmp xs ys) ∙ ap is_eq (key_same xs ys a b h short)
+
+-- and other keys those of two
+pub key_other : (xs ys : List ℕ) → name_key xs ≢ name_key ys → bytes_eq xs ys ≡ false
+key_other xs ys h = at (bytes_eq xs ys) refl where
+  at : (b : Bool) → bytes_eq xs ys ≡ b → bytes_eq xs ys ≡ false
+  at true e = absurd (h (ap name_key ((bytes_eq-Decides xs ys).0 e)))
+  at false e = e

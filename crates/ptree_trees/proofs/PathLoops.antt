@@ -30,7 +30,7 @@ name_there f (x ∷ xs) (suc i) d l =
 
 -- what follows the name of a group in the paths
 tails_at : (b : Bool) (s : ℕ) (gs : List Group) (i : ℕ) (g : Group) (xs passed : List (Bor (List ℕ))) → i < length gs → AreGroups b s (map group_of gs) (names_of s xs) → g ≡ get_or gs i g
-    → passed ≡ g.tails.items → names_of s passed ≡ tails_of g.first.name.now (names_of s xs)
+    → passed ≡ g.tails.items → names_of s passed ≡ tails_of g.name.now (names_of s xs)
 tails_at b s gs i g xs passed l h is same =
     let tails = each_at group_of (λ g. map (names s) g.tails ≡ tails_of g.name (names_of s xs)) gs i g h.1 l in
     let own = subst (λ z. map (names s) (group_of z).tails ≡ tails_of (group_of z).name (names_of s xs)) (sym is) tails in
@@ -40,7 +40,7 @@ tails_at b s gs i g xs passed l h is same =
 pub fewer_names : (b : Bool) (s : ℕ) (gs : List Group) (i : ℕ) (g : Group) (xs passed : List (Bor (List ℕ))) → i < length gs → AreGroups b s (map group_of gs) (names_of s xs) → g ≡ get_or gs i g
     → passed ≡ g.tails.items → (t : ℕ) → weight (names_of s xs) ≡ t → weight (names_of s passed) < t
 fewer_names b s gs i g xs passed l h is same t bound =
-    let name = g.first.name.now in
+    let name = g.name.now in
     let own : has_name (group_names (map group_of gs)) name ≡ true = ap (λ z. has_name (group_names (map group_of gs)) (group_of z).name) is ∙ name_there group_of gs i g l in
     let there : has_name (next_names [] (names_of s xs)) name ≡ true = sym (names_have b (group_names (map group_of gs)) (next_names [] (names_of s xs)) h.0 name) ∙ own in
     let fewer = tails_fewer name (names_of s xs) there in
@@ -49,18 +49,18 @@ fewer_names b s gs i g xs passed l h is same t bound =
 
 -- one item more
 pub item_pushed : (b : Bool) (s : ℕ) (gs : List Group) (i : ℕ) (g : Group) (xs passed : List (Bor (List ℕ))) (old new : List StringItem) (made : StringItem) (children : List StringItem)
-    → i < length gs → AreGroups b s (map group_of gs) (names_of s xs) → g ≡ get_or gs i g → passed ≡ g.tails.items → tree_of made ≡ tree g.first.name.now (forest (map tree_of children))
+    → i < length gs → AreGroups b s (map group_of gs) (names_of s xs) → g ≡ get_or gs i g → passed ≡ g.tails.items → tree_of made ≡ tree g.name.now (forest (map tree_of children))
     → new ≡ old ++ made ∷ [] → IsForestIn b (forest (map tree_of children)) (names_of s passed)
     → tops (forest (map tree_of old)) ≡ group_names (map group_of (take i gs)) → HasTails b (forest (map tree_of old)) (names_of s xs)
     → (tops (forest (map tree_of new)) ≡ group_names (map group_of (take (i + 1) gs))) × HasTails b (forest (map tree_of new)) (names_of s xs)
 item_pushed b s gs i g xs passed old new made children l h is same made_is pushed kids names_are each =
-    let t : Tree = tree g.first.name.now (forest (map tree_of children)) in
+    let t : Tree = tree g.name.now (forest (map tree_of children)) in
     let trees : map tree_of new ≡ map tree_of old ++ t ∷ [] = ap (map tree_of) pushed ∙ (map-append tree_of old (made ∷ []) ∙ ap (λ z. map tree_of old ++ z ∷ []) made_is) in
-    let name_of : Group → List ℕ = λ z. z.first.name.now in
+    let name_of : Group → List ℕ = λ z. z.name.now in
     let so_far : (zs : List Group) → group_names (map group_of zs) ≡ map name_of zs = λ zs. sym (map_twice group_of (λ (z : PathGroup). z.name) zs) in
-    let more : group_names (map group_of (take (i + 1) gs)) ≡ group_names (map group_of (take i gs)) ++ g.first.name.now ∷ [] =
-    so_far (take (i + 1) gs) ∙ (map_more name_of gs i g l ∙ (ap (λ z. map name_of (take i gs) ++ name_of z ∷ []) (sym is) ∙ ap (λ z. z ++ g.first.name.now ∷ []) (sym (so_far (take i gs))))) in (
-      ap (λ z. tops (forest z)) trees ∙ (tops_push (map tree_of old) t ∙ (ap (λ z. z ++ g.first.name.now ∷ []) names_are ∙ sym more)),
+    let more : group_names (map group_of (take (i + 1) gs)) ≡ group_names (map group_of (take i gs)) ++ g.name.now ∷ [] =
+    so_far (take (i + 1) gs) ∙ (map_more name_of gs i g l ∙ (ap (λ z. map name_of (take i gs) ++ name_of z ∷ []) (sym is) ∙ ap (λ z. z ++ g.name.now ∷ []) (sym (so_far (take i gs))))) in (
+      ap (λ z. tops (forest z)) trees ∙ (tops_push (map tree_of old) t ∙ (ap (λ z. z ++ g.name.now ∷ []) names_are ∙ sym more)),
       subst (λ z. HasTails b (forest z) (names_of s xs)) (sym trees)
           (tails_push b (map tree_of old) t (names_of s xs) each (subst (IsForestIn b (forest (map tree_of children))) (tails_at b s gs i g xs passed l h is same) kids)),
     )

@@ -1,6 +1,10 @@
 -- The first names of paths.
-use Rattle.std.specs.Prelude.{ℕ, zero, suc, ◌+◌, ◌*◌, ◌^◌, min, List, [], ◌∷◌, length, Option, Some, None}
+use Rattle.std.specs.Prelude.{ℕ, zero, suc, ◌+◌, ◌*◌, ◌^◌, ◌<◌, min, get_or, List, [], ◌∷◌, length, Option, Some, None}
 use Rattle.ptree_trees.specs.Paths.{names}
+
+-- each is a byte
+abbrev pub AreBytes : List ℕ → Type 0
+AreBytes name = (i : ℕ) → get_or name i 0 < 256
 
 -- the first k bytes of a name as a number, its first byte before all others, with zero for each
 -- byte that it lacks

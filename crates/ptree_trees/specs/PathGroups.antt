@@ -8,6 +8,7 @@ use Rattle.std.specs.Prelude.{◌≡◌, ℕ, ◌+◌, ◌<◌, take, slice_inde
 use Rattle.std.specs.Str.{bytes_eq}
 use Rattle.ptree_trees.specs.declared.paths.cut.CutPath.{CutPath}
 use Rattle.ptree_trees.specs.declared.paths.group.Group.{Group}
+use Rattle.ptree_trees.specs.declared.paths.key.KeyedCut.{KeyedCut}
 use Rattle.ptree.specs.Tree.{Forest}
 use Rattle.ptree_trees.specs.CutName.{tail_names}
 use Rattle.ptree_trees.specs.Paths.{names, next_names, has_name, with_names, tails_of, texts_below}
@@ -24,6 +25,10 @@ pub record Cut : Type 0 where
 -- that of a value of the code
 abbrev pub cut_of : CutPath → Cut
 cut_of c = record { name = c.name.now; tail = option_map (λ t. t.now) c.tail; index = c.index }
+
+-- and that of a path with a key
+abbrev pub keyed_cut : KeyedCut → Cut
+keyed_cut k = cut_of k.cut.now
 
 -- these are the paths, cut, of which the first has this number
 abbrev pub AreCuts : ℕ → ℕ → List Cut → List (List (List ℕ)) → Type 0
@@ -57,7 +62,7 @@ pub record PathGroup : Type 0 where
 
 -- that of a value of the code
 abbrev pub group_of : Group → PathGroup
-group_of g = record { name = g.first.name.now; first = g.first.index; tails = map (λ t. t.now) g.tails.items }
+group_of g = record { name = g.name.now; first = g.first; tails = map (λ t. t.now) g.tails.items }
 
 -- the group of one path
 abbrev pub group_from : Cut → PathGroup
@@ -81,10 +86,10 @@ pub record IsGrouping (cs : List Cut) (gs : List PathGroup) : Type 0 where
 abbrev pub NoneAbove : List Cut → List ℕ → Type 0
 NoneAbove cs n = AllByRecursion (λ c. is_lt (slice_cmp nat_cmp n c.name) ≡ false) cs
 
--- the cut paths of the first list, in the order of their names; those with one name keep theirs
-pub record AreSortedCuts (xs ys : List CutPath) : Type 0 where
-  pub ascending : (i : ℕ) (d : CutPath) → i < length ys → NoneAbove (map cut_of (take i ys)) (cut_of (slice_index_or ys i d)).name
-  pub stable : (n : List ℕ) → named n (map cut_of ys) ≡ named n (map cut_of xs)
+-- the paths of the first list, in the order of their names; those with one name keep theirs
+pub record AreSortedCuts (xs ys : List KeyedCut) : Type 0 where
+  pub ascending : (i : ℕ) (d : KeyedCut) → i < length ys → NoneAbove (map keyed_cut (take i ys)) (keyed_cut (slice_index_or ys i d)).name
+  pub stable : (n : List ℕ) → named n (map keyed_cut ys) ≡ named n (map keyed_cut xs)
 
 -- ## The order of names
 

@@ -6,8 +6,10 @@ ghost use Rattle.ptree_trees.specs.PathGroups.{IsForestIn};
 
 mod cut;
 mod group;
+mod groups;
+mod key;
 
-use group::groups;
+use groups::groups;
 use ptree::item::StringItem;
 use std::alloc::{AllocError, Global};
 
@@ -76,7 +78,7 @@ fn items_below(
     let mut items = Vec::with_capacity(alloc, groups.len())?;
     for group in &groups {
         let children = items_below(alloc, group.tails.as_slice(), separator, is_sorted)?;
-        items.push(StringItem::new(alloc, group.first.name, children)?)?;
+        items.push(StringItem::new(alloc, group.name, children)?)?;
     }
     Ok(items)
 }

@@ -1,4 +1,4 @@
-//! Cuts paths behind their first names, and compares these names.
+//! Cuts paths behind their first names.
 ghost use Rattle.std.specs.Prelude.{◌≡◌, ◌≢◌, ◌<◌, ◌≤◌, ◌∷◌, option_map, All, get_or, length, take};
 ghost use Rattle.std.specs.Cmp.Lexicographic.{slice_cmp};
 ghost use Rattle.std.specs.Ordering.{nat_cmp};
@@ -10,45 +10,27 @@ use std::cmp::Ordering;
 // A path, cut behind its first name.
 #[derive(Clone, Copy, Drop)]
 pub struct CutPath<'a> {
-    // The name in a number: the number of a lesser name is not greater.
-    key: u64,
     pub name: &'a str,
     // What follows the first separator, if there is one.
     pub tail: Option<&'a str>,
     // How many paths are before this one.
     pub index: usize,
-    ghost keyed: { key ≡ name_key name.now },
 }
 
 impl<'a> CutPath<'a> {
     // Cuts a path behind its first name.
     pub fn new(path: &'a str, separator: char, index: usize) -> CutPath<'a>
         requires { separator < 128 }
-        ensures names { names separator path.now ≡ result.name.now ∷ tail_names separator (option_map (λ t. t.now) result.tail) }
+        ensures names { names separator path.now
+            ≡ result.name.now ∷ tail_names separator (option_map (λ t. t.now) result.tail) }
         ensures index { result.index ≡ index }
     {
         let (name, rest) = path.split_at(name_end(path, separator));
         CutPath {
-            key: key_of(name),
             name,
             tail: rest.get(1..),
             index,
         }
-    }
-
-    // Compares the names of two paths, by their bytes.
-    pub fn cmp_name(&self, other: &CutPath<'_>) -> Ordering
-        ensures { result ≡ slice_cmp nat_cmp self.now.name.now other.now.name.now }
-    {
-        let name = self.name.as_bytes();
-        let other_name = other.name.as_bytes();
-        if self.key != other.key {
-            return self.key.cmp(&other.key);
-        }
-        if self.key % 256 < 8 {
-            return Ordering::Equal;
-        }
-        name.cmp(other_name)
     }
 }
 
@@ -67,16 +49,4 @@ fn name_end(path: &str, separator: char) -> usize
         end += 1;
     }
     end
-}
-
-// Returns the key of a name.
-fn key_of(name: &str) -> u64
-    ensures { result ≡ name_key name.now }
-{
-    let bytes = name.as_bytes();
-    let mut key = 0;
-    for i in 0..7 {
-        key = key * 256 + u64::from(bytes.get(i).copied().unwrap_or(0));
-    }
-    key * 256 + bytes.len().min(8) as u64
 }

@@ -1,7 +1,7 @@
 use Rattle.std.proofs.Common.{map, take}
 use Rattle.ptree_trees.specs.Paths.{names_of}
 use Rattle.ptree_trees.specs.PathGroups.{cut_of, AreCuts}
-use Rattle.ptree_trees.proofs.paths.group.cut_paths.Given as goal
+use Rattle.ptree_trees.proofs.paths.groups.cut_paths.Given as goal
 
 -- the paths so far are cut
 abbrev pub invariant-loop-path : goal.invariant-loop-path

@@ -1,7 +1,7 @@
 use Rattle.std.specs.Prelude.{unwrap_or}
 use Rattle.std.proofs.Common.{◌≡◌, get_or, ap, ◌∙◌, arith, rules}
 use Rattle.ptree_trees.proofs.NameKeys.{front_step, front_low}
-use Rattle.ptree_trees.proofs.paths.cut.key_of.Goals as goal
+use Rattle.ptree_trees.proofs.paths.key.key_of.Goals as goal
 
 pub overflow_mul-key : goal.overflow_mul-key
 overflow_mul-key c = omega (arith, front_low c.loop-i.i c.args.name.now (search rules))

@@ -1,6 +1,6 @@
 use Rattle.std.proofs.Common.{◌≡◌, length, rules}
 use Rattle.ptree_trees.proofs.GroupSteps.{cut_pushed}
-use Rattle.ptree_trees.proofs.paths.group.cut_paths.Goals as goal
+use Rattle.ptree_trees.proofs.paths.groups.cut_paths.Goals as goal
 
 pub loop-path-preserved : goal.loop-path-preserved
 loop-path-preserved c =

@@ -4,7 +4,7 @@ use Rattle.ptree_trees.specs.declared.paths.group.Group.{Group}
 use Rattle.ptree_trees.specs.Paths.{names_of}
 use Rattle.ptree_trees.specs.PathGroups.{group_of, AreGroups}
 use Rattle.ptree_trees.proofs.GroupResults.{groups_ascend, groups_given}
-use Rattle.ptree_trees.proofs.paths.group.groups.Goals as goal
+use Rattle.ptree_trees.proofs.paths.groups.groups.Goals as goal
 
 pub returns-then-is_sorted : goal.returns-then-is_sorted
 returns-then-is_sorted c =
@@ -19,6 +19,6 @@ returns c =
     let gs = c.in_ok-groups.groups.items in
     let hs = c.sort_unstable_by_key.new.self.items in
     let ps = names_of s c.args.paths.now in
-    let first : Group → ℕ = λ g. g.first.index in
+    let first : Group → ℕ = λ g. g.first in
     let up = IsNonDecreasingBy-from_sort first hs (c.sort_unstable_by_key.ensures.sorted first (answers_always _ _ _ (λ f a r g h. search rules))) in
     subst (λ b. AreGroups b s (map group_of hs) ps) (sym c.if-is_sorted.false) (groups_given s gs hs ps c.sort_unstable_by_key.ensures.permutation up c.in_ok-groups.ensures)
