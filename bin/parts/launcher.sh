@@ -6,7 +6,7 @@
 make_launched() {
     there=$scratch/launched
     chmod a+rx "$scratch"
-    mkdir -p "$there"/{bin/parts,path,few,crates/ptree/src,crates/ptree_cli/src}
+    mkdir -p "$there"/{bin/parts,path,few,crates/ptree/{src,specs,proofs},crates/ptree_cli/src}
     cp bin/build bin/ptree_cli "$there/bin"
     cp bin/parts/launch "$there/bin/parts"
     sed -i 's/^BETWEEN = 30$/BETWEEN = 1/' "$there/bin/build"
@@ -88,6 +88,10 @@ check_changes() {
     expect_launch 'a source is new' 1 three
     rm "$there/crates/ptree/src/deep/new.rt"
     expect_launch 'a source is deleted' 1 three
+    echo >"$there/crates/ptree/proofs/Lemmas.antt"
+    expect_launch 'a proof is new' 0 three
+    echo >"$there/crates/ptree/specs/Tree.antt"
+    expect_launch 'a definition is new' 1 three
     echo 'ptree: serde_json toml' >"$there/crates.new"
     sed 1d "$there/crates.txt" >>"$there/crates.new"
     mv "$there/crates.new" "$there/crates.txt"
