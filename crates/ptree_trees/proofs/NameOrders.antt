@@ -13,6 +13,7 @@ use Rattle.std.proofs.lemmas.List.Sorted.{All-permutation, sum_by-IsPermutation}
 use Rattle.std.proofs.lemmas.List.Sums.{sum_by-cons}
 use Rattle.std.proofs.lemmas.Map.Text.{is_eq-slice_cmp}
 use Rattle.std.proofs.lemmas.Slice.Eq.{bytes_eq-Decides}
+use Rattle.ptree_trees.proofs.PathTrees.{has_push}
 use Rattle.ptree_trees.specs.Paths.{has_name, with_names}
 use Rattle.ptree_trees.specs.PathGroups.{PathGroup, group_names, index_of}
 
@@ -106,17 +107,6 @@ first_least k n ns f (g ∷ gs) one h low = at (bytes_eq g.name n) refl (sym (co
       let is : g.first ≡ 0 + k = cc in
       omega (arith, is, low.0)
   at false e c more = more (omega (arith, c))
-
--- whether a name is among names with one more at the end
-has_push : (ms : List (List ℕ)) (m n : List ℕ) → has_name (ms ++ m ∷ []) n ≡ (has_name ms n || bytes_eq m n)
-has_push [] m n = at (bytes_eq m n) where
-  at : (b : Bool) → (b || false) ≡ b
-  at true = refl
-  at false = refl
-has_push (k ∷ ms) m n = at (bytes_eq k n) (has_push ms m n) where
-  at : (b : Bool) → has_name (ms ++ m ∷ []) n ≡ (has_name ms n || bytes_eq m n) → (b || has_name (ms ++ m ∷ []) n) ≡ ((b || has_name ms n) || bytes_eq m n)
-  at true e = refl
-  at false e = e
 
 -- one for what is new and was not before
 abbrev new_one : Bool → Bool → ℕ

@@ -14,6 +14,7 @@ use Rattle.std.proofs.lemmas.List.{map-append}
 use Rattle.std.proofs.lemmas.List.Elements.{filter-append}
 use Rattle.std.proofs.lemmas.Map.Text.{is_eq-slice_cmp}
 use Rattle.std.proofs.lemmas.Slice.Eq.{bytes_eq-Decides}
+use Rattle.ptree_trees.proofs.PathTrees.{has_push}
 use Rattle.ptree_trees.specs.Paths.{has_name}
 use Rattle.ptree_trees.specs.PathGroups.{Cut, named, tails_in, first_in, PathGroup, group_from, with_tail, group_names, IsGrouping, NoneAbove}
 
@@ -26,17 +27,6 @@ cut_names cs = map (λ c. c.name) cs
 -- a name is itself
 same : (n : List ℕ) → bytes_eq n n ≡ true
 same n = (bytes_eq-Decides n n).1 refl
-
--- a name among names with one more at the end
-has_push : (ms : List (List ℕ)) (m n : List ℕ) → has_name (ms ++ m ∷ []) n ≡ (has_name ms n || bytes_eq m n)
-has_push [] m n = at (bytes_eq m n) where
-  at : (b : Bool) → (b || false) ≡ b
-  at true = refl
-  at false = refl
-has_push (k ∷ ms) m n = at (bytes_eq k n) (has_push ms m n) where
-  at : (b : Bool) → has_name (ms ++ m ∷ []) n ≡ (has_name ms n || bytes_eq m n) → (b || has_name (ms ++ m ∷ []) n) ≡ ((b || has_name ms n) || bytes_eq m n)
-  at true e = refl
-  at false e = e
 
 -- a name among those of groups with one more
 has_group : (gs : List PathGroup) (g : PathGroup) (n : List ℕ) → has_name (group_names (gs ++ g ∷ [])) n ≡ (has_name (group_names gs) n || bytes_eq g.name n)
