@@ -1,11 +1,7 @@
 //! Cuts paths behind their first names.
 ghost use Rattle.std.specs.Prelude.{◌≡◌, ◌≢◌, ◌<◌, ◌≤◌, ◌∷◌, option_map, All, get_or, length, take};
-ghost use Rattle.std.specs.Cmp.Lexicographic.{slice_cmp};
-ghost use Rattle.std.specs.Ordering.{nat_cmp};
 ghost use Rattle.ptree_trees.specs.Paths.{names};
-ghost use Rattle.ptree_trees.specs.CutName.{name_key, tail_names};
-
-use std::cmp::Ordering;
+ghost use Rattle.ptree_trees.specs.CutName.{tail_names};
 
 // A path, cut behind its first name.
 #[derive(Clone, Copy, Drop)]
