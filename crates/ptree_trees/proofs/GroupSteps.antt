@@ -1,27 +1,29 @@
 -- Groups of paths, one path after another.
 use Rattle.std.specs.Borrow.{Bor}
 use Rattle.std.specs.Prelude.{option_map}
-use Rattle.std.proofs.Common.{◌≡◌, ◌∙◌, ℕ, ◌+◌, ◌<◌, ◌≤◌, List, [], ◌∷◌, ◌++◌, map, length, get_or, set, take, sym, ap, subst, arith}
+use Rattle.std.proofs.Common.{◌≡◌, ◌∙◌, ℕ, ◌+◌, ◌<◌, ◌≤◌, List, [], ◌∷◌, ◌++◌, map, length, get_or, set, take, drop, sym, ap, subst, arith}
 use Rattle.std.proofs.Math.Seq.{set-append_seam}
 use Rattle.std.proofs.lemmas.List.{map-append, map_more, take_all, take_more, length-map, length-take, set-get_or}
 use Rattle.ptree_trees.specs.declared.paths.cut.CutPath.{CutPath}
 use Rattle.ptree_trees.specs.declared.paths.group.Group.{Group}
 use Rattle.ptree_trees.specs.CutName.{tail_names}
-use Rattle.ptree_trees.specs.Paths.{names, names_of}
+use Rattle.ptree_trees.specs.Paths.{names}
 use Rattle.ptree_trees.specs.PathGroups.{Cut, cut_of, group_of, group_from, with_tail, AreCuts, IsGrouping, NoneAbove}
+use Rattle.ptree_trees.specs.SharedStart.{names_behind}
 use Rattle.ptree_trees.proofs.CutLists.{cuts_more}
 use Rattle.ptree_trees.proofs.PathGroupings.{grouping_first, grouping_same, grouping_next}
 
--- one path more is cut
-pub cut_pushed : (s : ℕ) (xs : List (Bor (List ℕ))) (i : ℕ) (d : Bor (List ℕ)) (old new : List CutPath) (c : CutPath) → i < length xs
-    → AreCuts s 0 (map cut_of old) (names_of s (take i xs)) → names s (get_or xs i d).now ≡ c.name.now ∷ tail_names s (option_map (λ t. t.now) c.tail) → c.index ≡ length old
-    → new ≡ old ++ c ∷ [] → AreCuts s 0 (map cut_of new) (names_of s (take (i + 1) xs))
-cut_pushed s xs i d old new c l so_far name index pushed =
+-- what follows a text in one path more is cut
+pub cut_pushed : (s : ℕ) (start : List ℕ) (xs : List (Bor (List ℕ))) (i : ℕ) (d : Bor (List ℕ)) (old new : List CutPath) (c : CutPath) → i < length xs
+    → AreCuts s 0 (map cut_of old) (names_behind s start (take i xs)) → names s (drop (length start) (get_or xs i d).now) ≡ c.name.now ∷ tail_names s (option_map (λ t. t.now) c.tail) → c.index ≡ length old
+    → new ≡ old ++ c ∷ [] → AreCuts s 0 (map cut_of new) (names_behind s start (take (i + 1) xs))
+cut_pushed s start xs i d old new c l so_far name index pushed =
     let cuts : map cut_of new ≡ map cut_of old ++ cut_of c ∷ [] = ap (map cut_of) pushed ∙ map-append cut_of old (c ∷ []) in
-    let paths = map_more (λ (p : Bor (List ℕ)). names s p.now) xs i d l in
+    let behind : Bor (List ℕ) → List (List ℕ) = λ p. names s (drop (length start) p.now) in
+    let paths = map_more behind xs i d l in
     let counted : c.index ≡ 0 + length (map cut_of old) = index ∙ (sym (length-map old cut_of) ∙ omega arith) in
-    subst (λ z. AreCuts s 0 z (names_of s (take (i + 1) xs))) (sym cuts)
-    (subst (AreCuts s 0 (map cut_of old ++ cut_of c ∷ [])) (sym paths) (cuts_more s 0 (map cut_of old) (names_of s (take i xs)) (cut_of c) (names s (get_or xs i d).now) so_far name counted))
+    subst (λ z. AreCuts s 0 z (names_behind s start (take (i + 1) xs))) (sym cuts)
+    (subst (AreCuts s 0 (map cut_of old ++ cut_of c ∷ [])) (sym paths) (cuts_more s 0 (map cut_of old) (names_behind s start (take i xs)) (cut_of c) (behind (get_or xs i d)) so_far name counted))
 
 -- a list, and the list with another last element
 split_last : {X : Type 0} (xs : List X) (k : ℕ) (x y : X) → length xs ≡ k + 1 → x ≡ get_or xs k x → (xs ≡ take k xs ++ x ∷ []) × (set xs k y ≡ take k xs ++ y ∷ [])

@@ -22,7 +22,9 @@ pub mod PathTrees
 pub mod RefusedPaths
 pub mod RefusedRows
 pub mod RefusedSteps
+pub mod SharedStarts
 pub mod SortedCuts
+pub mod StartLoops
 pub mod Sorting
 pub mod WarningLists
 pub mod WrittenTrees

@@ -167,7 +167,7 @@ next_none n ns ((m ∷ path) ∷ paths) h = at (bytes_eq m n) h (λ k. next_none
   at false h more = more h
 
 -- no names are those of no paths
-none_in : (b : Bool) → AreNamesIn b [] []
+pub none_in : (b : Bool) → AreNamesIn b [] []
 unfolding IsStrictlySortedBy
 none_in true = (tt, λ n. refl)
 none_in false = refl

@@ -13,6 +13,7 @@ pub mod Paths
 pub mod RefusedPath
 pub mod RefusedWalk
 pub mod Settings
+pub mod SharedStart
 pub mod Sort
 pub mod Styled
 pub mod Warnings

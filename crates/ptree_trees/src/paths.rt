@@ -8,9 +8,11 @@ mod cut;
 mod group;
 mod groups;
 mod key;
+mod start;
 
 use groups::groups;
 use ptree::item::StringItem;
+use start::shared_start;
 use std::alloc::{AllocError, Global};
 
 /// Returns the tree of paths: a root with this text, and below it an item for each proper or whole
@@ -74,11 +76,16 @@ fn items_below(
     ensures { IfOk result (λ v.
         IsForestIn is_sorted (forest (map tree_of v.items)) (names_of separator paths.now)) }
 {
-    let groups = groups(alloc, paths, separator, is_sorted)?;
+    if paths.is_empty() {
+        return Ok(Vec::new(alloc));
+    }
+    let start = shared_start(paths, separator);
+    let groups = groups(alloc, paths, start, separator, is_sorted)?;
     let mut items = Vec::with_capacity(alloc, groups.len())?;
     for group in &groups {
         let children = items_below(alloc, group.tails.as_slice(), separator, is_sorted)?;
-        items.push(StringItem::new(alloc, group.name, children)?)?;
+        let text = [start, group.name].concat(alloc)?;
+        items.push(StringItem { text, children })?;
     }
     Ok(items)
 }

@@ -1,26 +1,29 @@
 //! Groups paths by their first names.
 ghost use Rattle.std.specs.Prelude.{◌≡◌, ◌<◌, ◌++◌, ◌∷◌, [], List, map, option_map, IfOk, OnOk};
 ghost use Rattle.std.specs.Option.{option_to_list};
-ghost use Rattle.ptree_trees.specs.Paths.{names_of};
 ghost use Rattle.ptree_trees.specs.PathGroups.{Cut, cut_of, keyed_cut, group_of, AreCuts, AreGroups, AreSortedCuts, IsGrouping, NoneAbove, IsPathGroups};
+ghost use Rattle.ptree_trees.specs.SharedStart.{AllStart, names_behind};
 
 use crate::paths::cut::CutPath;
 use crate::paths::group::Group;
 use crate::paths::key::KeyedCut;
 use std::alloc::{AllocError, Global};
 
-// Returns the groups of paths, in the order of their names, or in that of their first paths.
+// Returns the groups of what follows a text in paths that begin with it, in the order of their names,
+// or in that of their first paths.
 pub fn groups<'a>(
     alloc: Global,
     paths: &[&'a str],
+    start: &str,
     separator: char,
     is_sorted: bool,
 ) -> Result<Vec<Group<'a>>, AllocError>
-    requires { separator < 128 }
+    requires separator { separator < 128 }
+    requires start { AllStart separator start.now paths.now }
     ensures { IfOk result (λ gs.
-        AreGroups is_sorted separator (map group_of gs.items) (names_of separator paths.now)) }
+        AreGroups is_sorted separator (map group_of gs.items) (names_behind separator start.now paths.now)) }
 {
-    let mut groups = groups_by_name(alloc, paths, separator)?;
+    let mut groups = groups_by_name(alloc, paths, start, separator)?;
     if is_sorted {
         return Ok(groups);
     }
@@ -28,17 +31,19 @@ pub fn groups<'a>(
     Ok(groups)
 }
 
-// Returns the groups of paths, in the order of their names.
+// Returns the groups of what follows a text in paths, in the order of their names.
 fn groups_by_name<'a>(
     alloc: Global,
     paths: &[&'a str],
+    start: &str,
     separator: char,
 ) -> Result<Vec<Group<'a>>, AllocError>
-    requires { separator < 128 }
+    requires separator { separator < 128 }
+    requires start { AllStart separator start.now paths.now }
     ensures { IfOk result (λ gs.
-        IsPathGroups separator (map group_of gs.items) (names_of separator paths.now)) }
+        IsPathGroups separator (map group_of gs.items) (names_behind separator start.now paths.now)) }
 {
-    let cuts = cut_paths(alloc, paths, separator)?;
+    let cuts = cut_paths(alloc, paths, start, separator)?;
     let mut sorted = keyed(alloc, cuts.as_slice())?;
     sort_by_name(&mut sorted)?;
     let mut groups = Vec::new(alloc);
@@ -48,19 +53,22 @@ fn groups_by_name<'a>(
     Ok(groups)
 }
 
-// Cuts each path behind its first name.
+// Cuts what follows a text in each path behind its first name.
 fn cut_paths<'a>(
     alloc: Global,
     paths: &[&'a str],
+    start: &str,
     separator: char,
 ) -> Result<Vec<CutPath<'a>>, AllocError>
-    requires { separator < 128 }
+    requires separator { separator < 128 }
+    requires start { AllStart separator start.now paths.now }
     ensures { IfOk result (λ cuts.
-        AreCuts separator 0 (map cut_of cuts.items) (names_of separator paths.now)) }
+        AreCuts separator 0 (map cut_of cuts.items) (names_behind separator start.now paths.now)) }
 {
     let mut cuts = Vec::with_capacity(alloc, paths.len())?;
     for path in paths {
-        cuts.push(CutPath::new(path, separator, cuts.len()))?;
+        let (_, rest) = path.split_at(start.len());
+        cuts.push(CutPath::new(rest, separator, cuts.len()))?;
     }
     Ok(cuts)
 }

@@ -1,6 +1,6 @@
 use Rattle.std.proofs.Common.{◌≡◌, map, take, rules}
-use Rattle.ptree_trees.specs.Paths.{names_of}
 use Rattle.ptree_trees.specs.PathGroups.{cut_of, keyed_cut, group_of, AreSortedCuts}
+use Rattle.ptree_trees.specs.SharedStart.{names_behind}
 use Rattle.ptree_trees.proofs.GroupResults.{group_more, groups_done}
 use Rattle.ptree_trees.proofs.PathGroupings.{grouping_none}
 use Rattle.ptree_trees.proofs.paths.groups.groups_by_name.Goals as goal
@@ -24,4 +24,4 @@ returns c =
     let ys = c.deref-path-items.result.now in
     let sorted : AreSortedCuts xs ys = search rules in
     let same : map keyed_cut xs ≡ map cut_of cs = search rules in
-    groups_done s cs xs ys c.loop-path.path-index (map group_of c.loop-path.groups.items) (names_of s c.args.paths.now) c.in_ok-cuts.ensures same sorted c.loop-path-test.false c.loop-path.invariant
+    groups_done s cs xs ys c.loop-path.path-index (map group_of c.loop-path.groups.items) (names_behind s c.args.start.now c.args.paths.now) c.in_ok-cuts.ensures same sorted c.loop-path-test.false c.loop-path.invariant
