@@ -1,6 +1,6 @@
 //! Makes a tree of paths.
-ghost use Rattle.std.specs.Prelude.{◌≡◌, ◌<◌, map, IfOk};
-ghost use Rattle.ptree.specs.Tree.{tree_of, forest};
+ghost use Rattle.std.specs.Prelude.{◌≡◌, ◌<◌, ◌++◌, map, IfOk};
+ghost use Rattle.ptree.specs.Tree.{tree, tree_of, forest};
 ghost use Rattle.ptree_trees.specs.Paths.{IsForestOfPaths, IsSortedForestOfPaths, names_of};
 ghost use Rattle.ptree_trees.specs.PathGroups.{IsForestIn};
 
@@ -84,8 +84,22 @@ fn items_below(
     let mut items = Vec::with_capacity(alloc, groups.len())?;
     for group in &groups {
         let children = items_below(alloc, group.tails.as_slice(), separator, is_sorted)?;
-        let text = [start, group.name].concat(alloc)?;
-        items.push(StringItem { text, children })?;
+        items.push(new_item(alloc, start, group.name, children)?)?;
     }
     Ok(items)
+}
+
+// Makes an item of the two parts of its text. It keeps them out of the stack of the levels above.
+#[inline(never)]
+fn new_item(
+    alloc: Global,
+    start: &str,
+    rest: &str,
+    children: Vec<StringItem>,
+) -> Result<StringItem, AllocError>
+    ensures { IfOk result (λ t. tree_of t
+        ≡ tree (start.now ++ rest.now) (forest (map tree_of children.items))) }
+{
+    let text = [start, rest].concat(alloc)?;
+    Ok(StringItem { text, children })
 }

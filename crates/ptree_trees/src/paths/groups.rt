@@ -10,7 +10,8 @@ use crate::paths::key::KeyedCut;
 use std::alloc::{AllocError, Global};
 
 // Returns the groups of what follows a text in paths that begin with it, in the order of their names,
-// or in that of their first paths.
+// or in that of their first paths. It keeps what it needs out of the stack of the levels above.
+#[inline(never)]
 pub fn groups<'a>(
     alloc: Global,
     paths: &[&'a str],

@@ -7,6 +7,7 @@ use crate::paths::cut::CutPath;
 
 // Returns a text with which all paths begin, within their first names, so that the keys of these need
 // not hold it: the longest one of whole characters, or none if the first name is whole in its key.
+#[inline(never)]
 pub fn shared_start<'a>(paths: &[&'a str], separator: char) -> &'a str
     requires { separator < 128 }
     ensures { AllStart separator result.now paths.now }

@@ -1,10 +1,4 @@
-use Rattle.std.proofs.Common.{◌≡◌, ◌++◌, map, ap, ◌∙◌, append-nil, rules}
-use Rattle.std.specs.String.{string_bytes}
-use Rattle.ptree.specs.Tree.{tree, forest, tree_of}
-use Rattle.ptree.specs.declared.item.StringItem.{StringItem}
-use Rattle.ptree.specs.declared.item.StringItem.TheOpen.{StringItem-F}
-use Rattle.ptree.specs.declared.item.StringItem.TheViews.{roll-StringItem}
-use Rattle.ptree.proofs.TreeLemmas.{tree_of_roll}
+use Rattle.std.proofs.Common.{map, rules}
 use Rattle.ptree_trees.specs.PathGroups.{group_of, AreGroups}
 use Rattle.ptree_trees.specs.SharedStart.{names_behind}
 use Rattle.ptree_trees.proofs.PathLoops.{forest_none, groups_whole, fewer_names, item_pushed, items_done}
@@ -30,14 +24,9 @@ loop-group-preserved t c =
     let gs = c.deref-group-items.result.now in
     let groups : AreGroups c.args.is_sorted s (map group_of gs) (names_behind s start c.args.paths.now) = search rules in
     let all = groups_whole c.args.is_sorted s start gs c.args.paths.now c.shared_start-start.ensures groups in
-    let text : string_bytes c.in_ok-text.text ≡ start ++ c.group-item.result.name.now =
-    let pieces = c.in_ok-text.ensures.ok in
-    let last = append-nil c.group-item.result.name.now in
-    search rules in
-    let made : StringItem-F StringItem = record { text = c.in_ok-text.text; children = c.in_ok-children.children } in
     let pushed =
-    item_pushed c.args.is_sorted s start gs c.loop-group.group-index c.group-item.result c.args.paths.now c.as_slice.result.now c.loop-group.items.items c.push.new.self.items (roll-StringItem made) c.in_ok-children.children.items
-    c.loop-group-test.true all c.group-item.is c.as_slice.ensures.value (tree_of_roll made ∙ ap (λ z. tree z (forest (map tree_of made.children.items))) text) c.in_ok-push.ensures.items c.in_ok-children.ensures c.loop-group.invariant.names c.loop-group.invariant.tails in
+    item_pushed c.args.is_sorted s start gs c.loop-group.group-index c.group-item.result c.args.paths.now c.as_slice.result.now c.loop-group.items.items c.push.new.self.items c.in_ok-new_item.field-0 c.in_ok-children.children.items
+    c.loop-group-test.true all c.group-item.is c.as_slice.ensures.value (search rules) c.in_ok-push.ensures.items c.in_ok-children.ensures c.loop-group.invariant.names c.loop-group.invariant.tails in
     record { names = pushed.0; tails = pushed.1 }
 
 pub returns : goal.returns
