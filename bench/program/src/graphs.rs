@@ -1,7 +1,7 @@
 //! Graphs, drawn as walks and with each node expanded once, beside the same trees as items.
 
 use crate::failed;
-use ptree::graph::{Graph, NodeIndex, REPEATED_MARK, write_graph_once_with, write_graph_with};
+use ptree::graph::{Graph, NodeIndex, Place, REPEATED_MARK, write_graph_once_with, write_graph_with};
 use ptree::item::StringItem;
 use ptree::output::write_tree_with;
 use ptree::print_config::PrintConfig;
@@ -211,6 +211,82 @@ fn once_tree(
     Ok(read_tree(alloc, text, config)?)
 }
 
+// How many places are right below each place.
+fn child_counts(alloc: Global, places: &[Place]) -> Result<Vec<usize>, AllocError> {
+    let mut counts = Vec::new(alloc);
+    for (i, place) in places.iter().enumerate() {
+        let end = i.saturating_add(1).saturating_add(place.below());
+        let mut count: usize = 0;
+        let mut child = i.saturating_add(1);
+        while child < end {
+            count = count.saturating_add(1);
+            let Some(below) = places.get(child) else {
+                break;
+            };
+            child = child.saturating_add(1).saturating_add(below.below());
+        }
+        counts.push(count)?;
+    }
+    Ok(counts)
+}
+
+// A place as an item without children, with room for so many.
+fn place_item(
+    alloc: Global,
+    graph: &Graph<String>,
+    place: Place,
+    count: usize,
+) -> Result<StringItem, AllocError> {
+    let label = graph.node_weight(place.node).map_or("", |label| label.as_str());
+    let mark = if place.is_repeated() { REPEATED_MARK } else { "" };
+    Ok(StringItem {
+        text: format!(in alloc; "{label}{mark}")?,
+        children: Vec::with_capacity(alloc, count)?,
+    })
+}
+
+// The items of places, without their children. They are made in the order of the nodes' numbers, as the nodes were.
+fn numbered_items(
+    alloc: Global,
+    graph: &Graph<String>,
+    places: &[Place],
+) -> Result<Vec<Option<StringItem>>, AllocError> {
+    let counts = child_counts(alloc, places)?;
+    let mut order = Vec::new(alloc);
+    let mut items = Vec::new(alloc);
+    for (i, place) in places.iter().enumerate() {
+        order.push((place.node.0, i))?;
+        items.push(None)?;
+    }
+    order.sort()?;
+    for (_, i) in &order {
+        if let (Some(place), Some(count), Some(item)) = (places.get(*i), counts.get(*i), items.get_mut(*i)) {
+            *item = Some(place_item(alloc, graph, *place, *count)?);
+        }
+    }
+    Ok(items)
+}
+
+// The tree that is drawn of a graph with each node expanded once, where its texts and its lists of children lie in memory in the order
+// of the nodes' numbers, as the graph's do.
+fn numbered_tree(alloc: Global, graph: &Graph<String>) -> Result<Option<StringItem>, AllocError> {
+    let places = graph.expanded_once(NodeIndex(0), u32::MAX)?.places;
+    let counts = child_counts(alloc, &places)?;
+    let mut items = numbered_items(alloc, graph, &places)?;
+    let mut done: Vec<StringItem> = Vec::new(alloc);
+    // From the last place to the first: the trees that were done last are those below it, the first of them at the end.
+    while let Some(Some(mut item)) = items.pop() {
+        let count = counts.get(items.len()).copied().unwrap_or(0);
+        for _ in 0..count {
+            if let Some(child) = done.pop() {
+                item.children.push(child)?;
+            }
+        }
+        done.push(item)?;
+    }
+    Ok(done.pop())
+}
+
 // How long a copy of a tree takes, in nanoseconds: each item is made again.
 fn copying(rt: &HostRuntime, tree: &StringItem) -> io::Result<u128> {
     let start = Instant::now(rt)?;
@@ -226,6 +302,9 @@ pub fn time_once(rt: &HostRuntime, shape: &str, nodes: u32, times: u32) -> io::R
     let config = PrintConfig::default(alloc)?;
     let graph = once_graph(alloc, shape, nodes)?;
     let Some(tree) = once_tree(alloc, &graph, &config)? else {
+        return Ok(());
+    };
+    let Some(numbered) = numbered_tree(alloc, &graph)? else {
         return Ok(());
     };
     let places = graph.expanded_once(NodeIndex(0), u32::MAX)?.places.len();
@@ -252,12 +331,18 @@ pub fn time_once(rt: &HostRuntime, shape: &str, nodes: u32, times: u32) -> io::R
         write_tree_with(alloc, &tree, &mut out, &config).map_err(failed)?;
         let items = start.elapsed(rt)?.as_nanos();
         drawn = out.into_inner();
+        drawn.clear();
+        let mut out = Counted::new(drawn);
+        let start = Instant::now(rt)?;
+        write_tree_with(alloc, &numbered, &mut out, &config).map_err(failed)?;
+        let alike = start.elapsed(rt)?.as_nanos();
+        drawn = out.into_inner();
         let start = Instant::now(rt)?;
         let made = graph.expanded_once(NodeIndex(0), u32::MAX)?;
         let making = start.elapsed(rt)?.as_nanos();
         let made = made.places.len();
         let copying = copying(rt, &tree)?;
-        println!(rt; "places drawn in {once} ns, items in {items} ns, {made} places made in {making} ns, items copied in {copying} ns")?;
+        println!(rt; "places drawn in {once} ns, items in {items} ns, items that lie as the nodes do in {alike} ns, {made} places made in {making} ns, items copied in {copying} ns")?;
     }
     Ok(())
 }

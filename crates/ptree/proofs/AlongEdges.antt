@@ -1,5 +1,5 @@
 -- A graph that is drawn along its edges, with each node expanded once.
-use Rattle.std.specs.Prelude.{if◌then◌else◌, ◌≢◌, OnOk}
+use Rattle.std.specs.Prelude.{if◌then◌else◌, ◌≢◌, OnOk, slice_get}
 use Rattle.std.specs.Io.KnownBytes.{Appends}
 use Rattle.std.proofs.lemmas.Bool.Decides.{nat_tests}
 use Rattle.std.specs.List.{concat}
@@ -7,14 +7,13 @@ use Rattle.std.proofs.Common.{◌≡◌, ℕ, zero, suc, ◌-◌, Bool, true, fa
 use Rattle.std.proofs.lemmas.List.{append-nil}
 use Rattle.std.proofs.lemmas.Option.{slice_get-get_or}
 use Rattle.ptree.specs.declared.graph.Graph.{Graph}
-use Rattle.ptree.specs.declared.graph.places.Place.{Place}
 use Rattle.ptree.specs.Drawing.{Look}
 use Rattle.ptree.specs.Entries.{shape_entry, kid_entries, entries_below, item_entries, drawn_entries}
 use Rattle.ptree.specs.Graph.{weights_of, edges_of, neighbors_of}
 use Rattle.ptree.specs.GraphLinks.{newest_from}
-use Rattle.ptree.specs.Growing.{Grown, grown, is_seen, row_occurrences, grow, kids_grown, kids_seen, leaf_size, alone_at, flags_of, place_of}
+use Rattle.ptree.specs.Growing.{Grown, grown, is_seen, row_occurrences, grow, kids_grown, kids_seen, leaf_shape, flags_of}
 use Rattle.ptree.specs.Looks.{own_entry}
-use Rattle.ptree.specs.Occurrence.{OccurrenceTree, none, occurrence, row, occurrence_kids, occurrence_own, occurrence_shape, is_repeated_size}
+use Rattle.ptree.specs.Occurrence.{OccurrenceTree, none, occurrence, row, occurrence_kids, occurrence_own, occurrence_shape}
 use Rattle.ptree.specs.Pieces.{turning_piece, passing_piece}
 use Rattle.ptree.specs.Shape.{Shape, kids}
 use Rattle.ptree.specs.Writing.{AppendsPart}
@@ -39,11 +38,6 @@ last_tells edges v (suc i) h =
 pub length_row : (f : List Bool → ℕ → Grown) (seen : List Bool) (us : List ℕ) → length (row_occurrences f seen us) ≡ length us
 length_row f seen [] = refl
 length_row f seen (u ∷ us) = ap suc (length_row f (f seen u).seen us)
-
--- the mark of a size is that from which it was made
-leaf_mark : (b : Bool) → is_repeated_size (leaf_size b) ≡ b
-leaf_mark true = refl
-leaf_mark false = refl
 
 module _ (below : ℕ → List ℕ) where
   -- an occurrence is one of its node
@@ -77,21 +71,21 @@ module _ {N : Type 0} (text : N → List ℕ) (g : Graph N) (mark : List ℕ) wh
   pub kids_are : (t : OccurrenceTree) (ts : List OccurrenceTree) → occurrence_kids t ≡ ts → map shape_of ts ≡ kids (shape_of t)
   kids_are t ts e = ap (map shape_of) (sym e) ∙ kids_of_unfold (occurrence_own text g mark) occurrence_kids t
 
-  -- the own entry of a place is that of any occurrence of its node with its mark
-  own_alike : (look : Look) (outer : List ℕ) (last : Option Bool) (p : Place) (t : OccurrenceTree) → p.node.0 ≡ t.node → is_repeated_size p.size ≡ t.repeated
-      → own_entry look outer last (shape_of (alone_at p)) ≡ own_entry look outer last (shape_of t)
-  own_alike look outer last p t e m =
-      ap (λ v. own_entry look outer last (shape_of (occurrence v (is_repeated_size p.size) none))) e
-      ∙ ap (λ b. own_entry look outer last (shape_of (occurrence t.node b none))) m
+  -- what is at a place has the own entry of any occurrence of its node with its mark
+  own_alike : (look : Look) (outer : List ℕ) (last : Option Bool) (weight : Option N) (repeated : Bool) (t : OccurrenceTree) → weight ≡ slice_get (weights_of g) t.node → repeated ≡ t.repeated
+      → own_entry look outer last (leaf_shape text weight mark repeated) ≡ own_entry look outer last (shape_of t)
+  own_alike look outer last weight repeated t e m =
+      ap (λ w. own_entry look outer last (leaf_shape text w mark repeated)) e
+      ∙ ap (λ b. own_entry look outer last (leaf_shape text (slice_get (weights_of g) t.node) mark b)) m
 
   -- so also where a graph is drawn
-  pub own_grown : (look : Look) (outer : List ℕ) (last : Option Bool) (levels : ℕ) (items : List Bool) (v : ℕ) (repeated : Bool) (p : Place) → repeated ≡ is_seen items v → p ≡ place_of v (leaf_size repeated)
-      → own_entry look outer last (shape_of (alone_at p)) ≡ own_entry look outer last (shape_of (grow (neighbors_of (edges_of g)) levels (flags_of g items) v).occurrence)
-  own_grown look outer last levels items v repeated p flag leaf =
+  pub own_grown : (look : Look) (outer : List ℕ) (last : Option Bool) (levels : ℕ) (items : List Bool) (v : ℕ) (weight : Option N) (repeated : Bool) → weight ≡ slice_get (weights_of g) v → repeated ≡ is_seen items v
+      → own_entry look outer last (leaf_shape text weight mark repeated) ≡ own_entry look outer last (shape_of (grow (neighbors_of (edges_of g)) levels (flags_of g items) v).occurrence)
+  own_grown look outer last levels items v weight repeated e flag =
       let below = neighbors_of (edges_of g) in
       let seen = flags_of g items in
-      own_alike look outer last p (grow below levels seen v).occurrence (ap (λ (q : Place). q.node.0) leaf ∙ sym (grown_node below levels seen v))
-      (ap (λ (q : Place). is_repeated_size q.size) leaf ∙ (leaf_mark repeated ∙ (flag ∙ (sym (seen_all (length (weights_of g)) items v) ∙ sym (grown_mark below levels seen v)))))
+      own_alike look outer last weight repeated (grow below levels seen v).occurrence (e ∙ ap (slice_get (weights_of g)) (sym (grown_node below levels seen v)))
+      (flag ∙ (sym (seen_all (length (weights_of g)) items v) ∙ sym (grown_mark below levels seen v)))
 
 -- nothing is below a shape without children
 none_under : (look : Look) (left : ℕ) (outer : List ℕ) (x : Shape) → kids x ≡ [] → entries_below look left outer x ≡ []

@@ -2,7 +2,7 @@
 use Rattle.std.specs.Prelude.{slice_get, All, map, option_map, reverse}
 use Rattle.std.proofs.Common.{◌≡◌, ◌≢◌, ℕ, zero, suc, ◌-◌, ◌<◌, ◌≤◌, ◌⊎◌, inl, inr, Bool, true, false, if◌then◌else◌, List, [], ◌∷◌, ◌++◌, length, get_or, set, take, Some, sym, ◌∙◌, ap, subst, refl, eqb, arith, length-append, length-set}
 use Rattle.std.proofs.lemmas.List.{length-map, length-take, map-append, take-append-le, take_all}
-use Rattle.std.proofs.lemmas.List.Elements.{All-weaker, All-map, All-push, All-filter}
+use Rattle.std.proofs.lemmas.List.Elements.{All-get_or, All-weaker, All-map, All-push, All-filter}
 use Rattle.std.proofs.lemmas.List.Sorted.{All-permutation, IsPermutation-reverse}
 use Rattle.std.proofs.lemmas.Option.{slice_get_within, slice_get_read, slice_get-map}
 use Rattle.ptree.specs.declared.graph.Edge.{Edge}
@@ -121,6 +121,21 @@ module _ {N : Type 0} where
       subst (λ (es : List Edge). IsLinked (set nodes source (node written.weight count d)) es) grown
       (subst (λ (n : Node N). IsLinked (set nodes source n) (edges ++ edge source target read.newest ∷ [])) marked
       (linked-edge nodes edges source target d read l s t first))
+
+  -- the weight of a node, and the number of the newest edge from it
+  pub linked-at : (nodes : List (Node N)) (edges : List Edge) (v : ℕ) (n : Node N) → IsLinked nodes edges → v < length nodes → n ≡ get_or nodes v n
+      → (Some n.weight ≡ slice_get (map (λ n. n.weight) nodes) v) × (n.newest ≡ newest_from (map ends_of edges) v)
+  linked-at nodes edges v n l h r =
+      let found = slice_get_read nodes (length nodes) v n refl h r in (
+        sym (slice_get-map (λ n. n.weight) nodes v ∙ ap (option_map (λ n. n.weight)) found),
+        l.newest v n found,
+      )
+
+  -- the target of an edge is a node
+  pub linked-target : (nodes : List (Node N)) (edges : List Edge) (i : ℕ) (e : Edge) → IsLinked nodes edges → i < length edges → e ≡ get_or edges i e → e.target < length nodes
+  linked-target nodes edges i e l h r =
+      let ends : EndsBelow (length nodes) e = subst (EndsBelow (length nodes)) (sym r) (All-get_or (EndsBelow (length nodes)) edges i e h l.ends) in
+      ends.1
 
   -- if m is the number of the newest edge from v, its target is the first neighbour, and the edges
   -- before it give the others

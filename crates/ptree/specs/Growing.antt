@@ -1,10 +1,11 @@
 -- The occurrences of a graph expanded once by recursion, as private functions say them. Public
 -- contracts say them by addresses.
-use Rattle.std.specs.Prelude.{◌≡◌, ℕ, zero, suc, ◌+◌, ◌-◌, ◌^◌, ◌<◌, Bool, true, false, if◌then◌else◌, List, [], ◌∷◌, ◌++◌, length, drop, replicate, unwrap_or, slice_get, slice_set}
+use Rattle.std.specs.Prelude.{◌≡◌, ℕ, zero, suc, ◌+◌, ◌-◌, ◌^◌, ◌<◌, Bool, true, false, if◌then◌else◌, Option, List, [], ◌∷◌, ◌++◌, length, drop, replicate, unwrap_or, slice_get, slice_set}
 use Rattle.ptree.specs.declared.graph.Graph.{Graph}
 use Rattle.ptree.specs.declared.graph.places.Place.{Place}
 use Rattle.ptree.specs.Graph.{weights_of}
-use Rattle.ptree.specs.Occurrence.{OccurrenceTree, occurrence, none, row, is_repeated_size, size_below, trees_in}
+use Rattle.ptree.specs.Occurrence.{OccurrenceTree, occurrence, none, row, is_repeated_size, size_below, trees_in, weight_own}
+use Rattle.ptree.specs.Shape.{Shape, over_shape}
 
 -- an occurrence, and which nodes have occurrences below them by then
 pub record Grown : Type 0 where
@@ -80,9 +81,9 @@ AppendsPlaces old new ts = (ps : List Place) × (new ≡ old ++ ps) × ArePlaces
 abbrev pub place_at : List Place → ℕ → Place
 place_at ps i = unwrap_or (slice_get ps i) (place_of (2 ^ 64 - 1) 1)
 
--- the occurrence of a place without what is below it
-abbrev pub alone_at : Place → OccurrenceTree
-alone_at p = occurrence p.node.0 (is_repeated_size p.size) none
+-- the shape of what is at a place, without what is below it
+abbrev pub leaf_shape : {N : Type 0} → (N → List ℕ) → Option N → List ℕ → Bool → Shape
+leaf_shape text weight mark r = over_shape (weight_own text mark r weight) []
 
 -- some places are left, and this is the first of them, with those after it
 abbrev pub IsFirst : List Place → ℕ → Place → List Place → Type 0

@@ -1,6 +1,6 @@
 -- A graph as a tree in which each node is expanded once: its neighbours are below one of its
 -- occurrences, and the others are leaves.
-use Rattle.std.specs.Prelude.{◌≡◌, ◌≢◌, ◌↔◌, IsTrue, ℕ, zero, suc, ◌+◌, ◌-◌, ◌^◌, ◌<◌, Bool, true, false, if◌then◌else◌, nat_lt, List, [], ◌∷◌, ◌++◌, length, drop, map, count_by, Some, option_map, unwrap_or, slice_get}
+use Rattle.std.specs.Prelude.{◌≡◌, ◌≢◌, ◌↔◌, IsTrue, ℕ, zero, suc, ◌+◌, ◌-◌, ◌^◌, ◌<◌, Bool, true, false, if◌then◌else◌, nat_lt, List, [], ◌∷◌, ◌++◌, length, drop, map, count_by, Option, Some, option_map, unwrap_or, slice_get}
 use Rattle.ptree.specs.declared.graph.Graph.{Graph}
 use Rattle.ptree.specs.declared.graph.places.Occurrence.{Occurrence}
 use Rattle.ptree.specs.declared.graph.places.Place.{Place}
@@ -140,11 +140,14 @@ occurrence_at o i = first_tree (drop i o.places.items)
 abbrev pub mark_text : List ℕ → Bool → List ℕ
 mark_text mark r = if r then mark else []
 
--- what an occurrence writes: its node's text and the mark, painted as one, and nothing where there
--- is no such node
+-- what is written of a weight: its text and the mark, painted as one, and nothing where there is
+-- none
+abbrev pub weight_own : {N : Type 0} → (N → List ℕ) → List ℕ → Bool → Option N → StyleValue → List ℕ
+weight_own text mark r weight style = unwrap_or (option_map (λ w. painted_text style (text w ++ mark_text mark r)) weight) []
+
+-- what an occurrence writes: its node's weight, and nothing where there is no such node
 abbrev pub occurrence_own : {N : Type 0} → (N → List ℕ) → Graph N → List ℕ → OccurrenceTree → StyleValue → List ℕ
-occurrence_own text g mark p style =
-    unwrap_or (option_map (λ w. painted_text style (text w ++ mark_text mark p.repeated)) (slice_get (weights_of g) p.node)) []
+occurrence_own text g mark p style = weight_own text mark p.repeated (slice_get (weights_of g) p.node) style
 
 -- an occurrence as an item's meaning
 abbrev pub occurrence_shape : {N : Type 0} → (N → List ℕ) → Graph N → List ℕ → OccurrenceTree → Shape

@@ -1,10 +1,10 @@
 //! Graphs drawn with each node expanded once.
-ghost use Rattle.std.specs.Prelude.{◌≡◌, ◌↔◌, ◌++◌, [], ◌<◌, ℕ, List, drop, IfSome, IfNone};
+ghost use Rattle.std.specs.Prelude.{◌≡◌, ◌↔◌, ◌++◌, [], ◌<◌, ℕ, List, drop, IfSome, IfNone, option_copied};
 ghost use Rattle.ptree.specs.Drawing.{look_by, config_look, written_look, IsDrawing};
 ghost use Rattle.ptree.specs.Graph.{edges_of, neighbors_of, node_shape};
-ghost use Rattle.ptree.specs.Growing.{place_at, alone_at, IsNextPlace};
+ghost use Rattle.ptree.specs.Growing.{place_at, IsNextPlace};
 ghost use Rattle.ptree.specs.Loading.{effective_config};
-ghost use Rattle.ptree.specs.Occurrence.{OccurrenceTree, IsExpandedOnce, NoneRepeated, HasOneTree, trees_in, occurrence_own, occurrence_shape};
+ghost use Rattle.ptree.specs.Occurrence.{OccurrenceTree, IsExpandedOnce, NoneRepeated, HasOneTree, trees_in, weight_own, occurrence_shape};
 ghost use Rattle.ptree.specs.Style.{style_of, painted_text};
 ghost use Rattle.ptree.specs.Writing.{IsWritten, HasCause, IsDrawn, LeavesWholeEntries};
 ghost use Rattle.ptree.specs.declared.print_config.OutputKind.{OutputKind};
@@ -114,7 +114,16 @@ impl<'a, N: Label> TreeItem for OccurrenceItem<'a, N> {
         style: &Style,
     ) -> Result<(), DrawError> {
         let expanded = self.expanded;
-        write_place(alloc, f, style, expanded.graph, expanded.mark, self.place())
+        let place = self.place();
+        let weight = expanded.graph.node_weight(place.node);
+        write_weight(
+            alloc,
+            f,
+            style,
+            weight,
+            expanded.mark,
+            place.is_repeated(),
+        )
     }
 
     /// Makes an item of each occurrence below it.
@@ -146,22 +155,23 @@ fn next_below(places: &[Place], index: usize, left: usize) -> Option<usize>
     Some(places.get(index)?.below())
 }
 
-// Writes what is at a place.
+// Writes the text of a weight, and the mark after it where it is repeated, painted as one; nothing
+// where there is none.
 #[inline(always)]
-pub(super) fn write_place<N: Label, W: Sink>(
+pub(super) fn write_weight<N: Label, W: Sink>(
     alloc: Global,
     f: &mut W,
     style: &Style,
-    graph: &Graph<N>,
+    weight: Option<&N>,
     mark: &str,
-    place: Place,
+    repeated: bool,
 ) -> Result<(), DrawError>
     ensures bytes { IsWritten (W.contents f.old) (W.contents f.new) result
-        (occurrence_own N.text graph.now mark.now (alone_at place) (style_of style.now)) }
+        (weight_own N.text mark.now repeated (option_copied weight.entry) (style_of style.now)) }
     ensures cause { HasCause (W.faults f.old) (W.faults f.new) result }
 {
-    match graph.node_weight(place.node) {
-        Some(weight) if place.is_repeated() => write_repeated(alloc, f, style, weight, mark),
+    match weight {
+        Some(weight) if repeated => write_repeated(alloc, f, style, weight, mark),
         Some(weight) => weight.write_label(alloc, f, style),
         None => Ok(()),
     }

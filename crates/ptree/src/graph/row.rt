@@ -6,8 +6,8 @@ ghost use Rattle.ptree.specs.Drawing.{config_look};
 ghost use Rattle.ptree.specs.Entries.{item_entries, kid_entries, entries_below, drawn_entries};
 ghost use Rattle.ptree.specs.Graph.{weights_of, edges_of, neighbors_of};
 ghost use Rattle.ptree.specs.GraphLinks.{newest_from};
-ghost use Rattle.ptree.specs.Growing.{alone_at, flags_of, is_seen, grow, kids_grown, kids_seen};
-ghost use Rattle.ptree.specs.Looks.{look_of, own_entry};
+ghost use Rattle.ptree.specs.Growing.{flags_of, is_seen, grow, kids_grown, kids_seen};
+ghost use Rattle.ptree.specs.Looks.{look_of};
 ghost use Rattle.ptree.specs.Occurrence.{occurrence_shape};
 ghost use Rattle.ptree.specs.Pen.{brush_look, buffer_of, HoldsPassing, HoldsOwnText};
 ghost use Rattle.ptree.specs.Pieces.{passing_piece};
@@ -15,8 +15,8 @@ ghost use Rattle.ptree.specs.Style.{start_codes};
 ghost use Rattle.ptree.specs.Writing.{AppendsFirst, IsWritten, AreWritten, HasCause, HasErrorCause, IsDrawn, LeavesWholeEntries};
 ghost use Rattle.ptree.specs.declared.style.DrawError.TheVariants.{Memory};
 
-use super::once::write_place;
-use super::places::{Place, is_flagged, set_flag};
+use super::once::write_weight;
+use super::places::{is_flagged, set_flag};
 use super::{Edge, Graph, Label, NodeIndex};
 use crate::item::{Children, Shaped, TreeItem};
 use crate::output::brush::Brush;
@@ -34,24 +34,24 @@ pub(super) struct Marked<'a, N> {
     pub(super) mark: &'a str,
 }
 
-// A place as an item, without what is below it. Whether it is the start's is a part of the type, so
-// that what draws a place has one caller, the loop over a row, and is inlined there.
+// What is drawn at a place, without what is below it. Whether it is the start is a part of the type,
+// so that what draws a place has one caller, the loop over a row, and is inlined there.
 #[derive(Drop)]
-struct PlaceItem<'a, N, const IS_START: bool> {
-    marked: &'a Marked<'a, N>,
-    place: Place,
+struct Leaf<'a, N, const IS_START: bool> {
+    weight: Option<&'a N>,
+    mark: &'a str,
+    repeated: bool,
 }
 
-impl<N: Label, const IS_START: bool> Shaped for PlaceItem<'_, N, IS_START> {
-    ghost use Rattle.ptree.specs.Growing.{alone_at};
-    ghost use Rattle.ptree.specs.Occurrence.{occurrence_shape};
+impl<N: Label, const IS_START: bool> Shaped for Leaf<'_, N, IS_START> {
+    ghost use Rattle.std.specs.Prelude.{option_copied};
+    ghost use Rattle.ptree.specs.Growing.{leaf_shape};
 
-    ghost shape = { λ i. occurrence_shape N.text i.marked.now.graph.now i.marked.now.mark.now
-        (alone_at i.place) };
+    ghost shape = { λ l. leaf_shape N.text (option_copied l.weight) l.mark.now l.repeated };
 }
 
-impl<'a, N: Label, const IS_START: bool> TreeItem for PlaceItem<'a, N, IS_START> {
-    type Child = PlaceItem<'a, N, IS_START>;
+impl<'a, N: Label, const IS_START: bool> TreeItem for Leaf<'a, N, IS_START> {
+    type Child = Leaf<'a, N, IS_START>;
 
     #[inline(always)]
     fn write_self<W: Sink>(
@@ -60,14 +60,10 @@ impl<'a, N: Label, const IS_START: bool> TreeItem for PlaceItem<'a, N, IS_START>
         f: &mut W,
         style: &Style,
     ) -> Result<(), DrawError> {
-        let marked = self.marked;
-        write_place(alloc, f, style, marked.graph, marked.mark, self.place)
+        write_weight(alloc, f, style, self.weight, self.mark, self.repeated)
     }
 
-    fn children(
-        &self,
-        _alloc: Global,
-    ) -> Result<Children<'_, PlaceItem<'a, N, IS_START>>, AllocError> {
+    fn children(&self, _alloc: Global) -> Result<Children<'_, Leaf<'a, N, IS_START>>, AllocError> {
         Ok(Children::Lent(&[]))
     }
 }
@@ -78,35 +74,6 @@ fn is_oldest(edge: &Edge) -> bool
     ensures { result ≡ eqb edge.now.next 0 }
 {
     edge.next == 0
-}
-
-// Draws a place's own entry, as the engine draws that of an item.
-#[inline(always)]
-fn draw_own<N: Label, W: Sink, const IS_START: bool>(
-    marked: &Marked<'_, N>,
-    place: Place,
-    f: &mut W,
-    pen: &mut Pen,
-    brush: &Brush<'_>,
-    width: usize,
-    last: Option<bool>,
-) -> Result<(), Stop>
-    requires error { pen.old.error ≡ Memory }
-    requires width { width ≤ length (buffer_of pen.old) }
-    requires turned { HoldsOwnText brush.now pen.old width last }
-    ensures bytes { (outer : List ℕ)
-        → HoldsPassing brush.now pen.old width outer
-        → IsWritten (W.contents f.old) (W.contents f.new) result
-        (own_entry (brush_look brush.now) outer last
-        (occurrence_shape N.text marked.now.graph.now marked.now.mark.now (alone_at place))) }
-    ensures memory { OnErr result (pen.new.error ≡ Memory → W.contents f.new ≡ W.contents f.old) }
-    ensures cause { HasErrorCause (W.faults f.old) (W.faults f.new) pen.new.error }
-    ensures error { OnOk result (pen.new.error ≡ Memory) }
-    ensures kept { OnOk result (buffer_of pen.new ≡ buffer_of pen.old) }
-    ensures turned { pen.new.turned ≡ pen.old.turned }
-{
-    let item = PlaceItem::<N, IS_START> { marked, place };
-    draw_entry(&item, f, pen, brush, width, last)
 }
 
 // Draws a node at one of its places, and what is below it there, where the nodes that are seen are
@@ -128,6 +95,7 @@ fn draw_node<N: Label, W: Sink>(
     requires width { width ≤ length (buffer_of pen.old) }
     requires turned { HoldsOwnText brush.now pen.old width (Some is_last) }
     requires length { length seen.old.items ≤ length (weights_of marked.now.graph.now) }
+    requires node { node.0 < length (weights_of marked.now.graph.now) }
     ensures bytes { (outer : List ℕ)
         → HoldsPassing brush.now pen.old width outer
         → AreWritten (W.contents f.old) (W.contents f.new) result pen.new.error
@@ -147,13 +115,18 @@ fn draw_node<N: Label, W: Sink>(
     ensures turned { OnOk result
         (pen.new.turned ≡ true → buffer_of pen.new ≡ buffer_of pen.old) }
 {
+    let record = &marked.graph.nodes[node.0];
     let repeated = is_flagged(seen, node.0);
-    let place = Place::leaf(node, repeated);
-    draw_own::<N, W, false>(marked, place, f, pen, brush, width, Some(is_last))?;
+    let leaf = Leaf::<N, false> {
+        weight: Some(&record.weight),
+        mark: marked.mark,
+        repeated,
+    };
+    draw_entry(&leaf, f, pen, brush, width, Some(is_last))?;
     if repeated || levels_left == 0 {
         return Ok(());
     }
-    let newest = marked.graph.newest(node);
+    let newest = record.newest;
     if newest == 0 {
         return Ok(());
     }
@@ -301,8 +274,12 @@ fn draw_root<N: Label, W: Sink>(
 {
     let width = pen.line.len();
     pen.line.append(brush.end.as_bytes())?;
-    let place = Place::leaf(start, false);
-    draw_own::<N, W, true>(marked, place, f, pen, brush, width, None)?;
+    let leaf = Leaf::<N, true> {
+        weight: marked.graph.node_weight(start),
+        mark: marked.mark,
+        repeated: false,
+    };
+    draw_entry(&leaf, f, pen, brush, width, None)?;
     pen.line.truncate(width);
     if depth == 0 {
         return Ok(());

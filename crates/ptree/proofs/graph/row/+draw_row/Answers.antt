@@ -15,7 +15,7 @@ use Rattle.ptree.proofs.AlongEdges.{last_tells, length_row, kids_below, seen_bel
 use Rattle.ptree.proofs.EdgeLists.{newest_starts, newest_within, newest_has}
 use Rattle.ptree.proofs.Engine.{item_written, all_below, begun_none, begun_part, begun_then, begun_err, not_last, still_turned, long_enough, take_again, quiet}
 use Rattle.ptree.proofs.Growth.{stopped, without, entered, seen_made}
-use Rattle.ptree.proofs.Links.{linked-step}
+use Rattle.ptree.proofs.Links.{linked-at, linked-target, linked-step}
 use Rattle.ptree.proofs.NodeFlags.{seen_all}
 use Rattle.ptree.proofs.Written.{entries_none, entries_err, entry_part}
 use Rattle.ptree.proofs.graph.row.+draw_row.Goals as goal
@@ -71,6 +71,15 @@ draw_row-returns-in_err-turn-clause-bytes g t c = λ outer e.
 
 pub draw_row-turn-requires : goal.draw_row-turn-requires
 draw_row-turn-requires g t c = λ held last. c.loop-number.invariant.turned held (omega arith)
+
+pub draw_row-draw_node-requires : goal.draw_row-draw_node-requires
+draw_row-draw_node-requires g t c =
+    let graph = c.args.marked.now.graph.now in
+    let inv = c.loop-number.invariant in
+    let within = newest_within (edges_of graph) c.args.node.0 c.loop-number.number inv.newest in
+    let target = linked-target _ _ (c.loop-number.number - 1) c.index-edge.result.now graph.linked (omega (arith, within, length-map graph.edges.items ends_of)) c.index-edge.ensures in
+    let is_node : c.index-edge.result.now.target < length (weights_of graph) = omega (arith, target, length-map graph.nodes.items (λ n. n.weight)) in
+    grind (arith, common_steps, is_node)
 
 pub draw_row-returns-in_err-draw_node-clause-bytes : goal.draw_row-returns-in_err-draw_node-clause-bytes
 draw_row-returns-in_err-draw_node-clause-bytes g t c = λ outer e.
@@ -140,17 +149,18 @@ draw_row-returns-clause-seen g t c =
     let ended : c.loop-number.number ≡ 0 = omega (arith, c.loop-number-test.false) in
     ap (λ k. row_seen (grow (neighbors_of (edges_of graph)) c.args.levels_left) (flags_of graph c.loop-number.seen.items) (neighbors_of (take k (edges_of graph)) c.args.node.0)) (sym ended) ∙ c.loop-number.invariant.seen
 
-pub draw_node-returns-in_err-draw_own-clause-bytes : goal.draw_node-returns-in_err-draw_own-clause-bytes
-draw_node-returns-in_err-draw_own-clause-bytes g t c = λ outer e.
+pub draw_node-returns-in_err-draw_entry-clause-bytes : goal.draw_node-returns-in_err-draw_entry-clause-bytes
+draw_node-returns-in_err-draw_entry-clause-bytes g t c = λ outer e.
     let look = look_of c.args.brush.now.look.now in
     let graph = c.args.marked.now.graph.now in
     let shape : OccurrenceTree → Shape = occurrence_shape g.N.Label.text graph c.args.marked.now.mark.now in
     let v = c.args.node.0 in
     let seen = flags_of graph c.args.seen.now.items in
     let tree = (grow (neighbors_of (edges_of graph)) c.args.levels_left seen v).occurrence in
-    let own = own_grown g.N.Label.text graph c.args.marked.now.mark.now look outer (Some c.args.is_last) c.args.levels_left c.args.seen.now.items v c.is_flagged-repeated.result c.leaf-place.result (c.is_flagged-repeated.ensures ∙ ap (λ l. is_seen l v) c.deref.ensures.value) (search c.leaf-place.ensures) in
+    let node = linked-at _ _ v c.index-record.result.now graph.linked (omega (arith, c.requires.node, length-map graph.nodes.items (λ n. n.weight))) c.index-record.ensures in
+    let own = own_grown g.N.Label.text graph c.args.marked.now.mark.now look outer (Some c.args.is_last) c.args.levels_left c.args.seen.now.items v _ c.is_flagged-repeated.result node.0 (c.is_flagged-repeated.ensures ∙ ap (λ l. is_seen l v) c.deref.ensures.value) in
     entries_err _ _ _ _ _ _ c.from_residual.ensures.1
-    (entry_part _ _ _ _ (entries_below look c.args.levels_left (outer ++ passing_piece look.pieces c.args.is_last) (shape tree)) (part_as _ _ _ _ own (c.in_err-draw_own.ensures.bytes outer e)) c.in_err-draw_own.ensures.memory)
+    (entry_part _ _ _ _ (entries_below look c.args.levels_left (outer ++ passing_piece look.pieces c.args.is_last) (shape tree)) (part_as _ _ _ _ own (c.in_err-draw_entry.ensures.bytes outer e)) c.in_err-draw_entry.ensures.memory)
 
 pub draw_node-returns-clause-bytes : goal.draw_node-returns-clause-bytes
 draw_node-returns-clause-bytes g t c = λ outer e.
@@ -162,12 +172,13 @@ draw_node-returns-clause-bytes g t c = λ outer e.
     let seen = flags_of graph c.args.seen.now.items in
     let tree = (grow below c.args.levels_left seen v).occurrence in
     let flag : c.is_flagged-repeated.result ≡ is_seen seen v = c.is_flagged-repeated.ensures ∙ (ap (λ l. is_seen l v) c.deref.ensures.value ∙ sym (seen_all (length (weights_of graph)) c.args.seen.now.items v)) in
-    let own = own_grown g.N.Label.text graph c.args.marked.now.mark.now look outer (Some c.args.is_last) c.args.levels_left c.args.seen.now.items v c.is_flagged-repeated.result c.leaf-place.result (c.is_flagged-repeated.ensures ∙ ap (λ l. is_seen l v) c.deref.ensures.value) (search c.leaf-place.ensures) in
+    let node = linked-at _ _ v c.index-record.result.now graph.linked (omega (arith, c.requires.node, length-map graph.nodes.items (λ n. n.weight))) c.index-record.ensures in
+    let own = own_grown g.N.Label.text graph c.args.marked.now.mark.now look outer (Some c.args.is_last) c.args.levels_left c.args.seen.now.items v _ c.is_flagged-repeated.result node.0 (c.is_flagged-repeated.ensures ∙ ap (λ l. is_seen l v) c.deref.ensures.value) in
     let kids_in = kids_are g.N.Label.text graph c.args.marked.now.mark.now tree _ (kids_below below c.args.levels_left seen v c.if-levels_left-eq0.false (sym flag ∙ c.if-repeated.false)) in
     item_written look c.args.levels_left outer c.args.is_last (shape tree) _ _ _ _ _ (λ z. c.if-levels_left-eq0.false z)
-    (whole_as _ _ _ _ own (c.in_ok-draw_own.ensures.bytes outer e))
+    (whole_as _ _ _ _ own (c.in_ok-draw_entry.ensures.bytes outer e))
     (all_below look (entries_below look (c.args.levels_left - 1)) (outer ++ passing_piece look.pieces c.args.is_last) (shape tree) _ _ _ _ shape (kids_grown below (c.args.levels_left - 1) seen v) kids_in
-    (c.draw_below.ensures.bytes outer (ap (take c.args.width) c.in_ok-draw_own.ensures.kept ∙ e)))
+    (c.draw_below.ensures.bytes outer (ap (take c.args.width) c.in_ok-draw_entry.ensures.kept ∙ e)))
 
 pub draw_node-returns-clause-seen : goal.draw_node-returns-clause-seen
 draw_node-returns-clause-seen g t c = seen_ok _ _ _ c.draw_below.result (sym (seen_below (neighbors_of (edges_of c.args.marked.now.graph.now)) c.args.levels_left (flags_of c.args.marked.now.graph.now c.args.seen.now.items) c.args.node.0 c.if-levels_left-eq0.false
@@ -184,11 +195,12 @@ draw_node-returns-then-repeated-clause-bytes g t c = λ outer e.
     let seen = flags_of graph c.args.seen.now.items in
     let tree = (grow below c.args.levels_left seen v).occurrence in
     let flag : c.is_flagged-repeated.result ≡ is_seen seen v = c.is_flagged-repeated.ensures ∙ (ap (λ l. is_seen l v) c.deref.ensures.value ∙ sym (seen_all (length (weights_of graph)) c.args.seen.now.items v)) in
-    let own = own_grown g.N.Label.text graph marked.mark.now look outer (Some c.args.is_last) c.args.levels_left c.args.seen.now.items v c.is_flagged-repeated.result c.leaf-place.result (c.is_flagged-repeated.ensures ∙ ap (λ l. is_seen l v) c.deref.ensures.value) (search c.leaf-place.ensures) in
+    let node = linked-at _ _ v c.index-record.result.now graph.linked (omega (arith, c.requires.node, length-map graph.nodes.items (λ n. n.weight))) c.index-record.ensures in
+    let own = own_grown g.N.Label.text graph marked.mark.now look outer (Some c.args.is_last) c.args.levels_left c.args.seen.now.items v _ c.is_flagged-repeated.result node.0 (c.is_flagged-repeated.ensures ∙ ap (λ l. is_seen l v) c.deref.ensures.value) in
     let stop = stopped below c.args.levels_left seen v
     (elim c.then-repeated.branch [ draw_node-then-repeated-via-then-repeated w ↦ inl (sym flag ∙ w.if-repeated.true) | draw_node-then-repeated-via-else-repeated+then-levels_left-eq0 w ↦ inr w.if-levels_left-eq0.true ]) in
     leaf_written look c.args.levels_left outer c.args.is_last (shape tree) _ _ (sym (kids_are g.N.Label.text graph marked.mark.now tree [] (no_kids _ v _ seen stop)))
-    (whole_as _ _ _ _ own (c.in_ok-draw_own.ensures.bytes outer e))
+    (whole_as _ _ _ _ own (c.in_ok-draw_entry.ensures.bytes outer e))
 
 pub draw_node-returns-then-repeated-clause-seen : goal.draw_node-returns-then-repeated-clause-seen
 draw_node-returns-then-repeated-clause-seen g t c =
@@ -211,11 +223,12 @@ draw_node-returns-then-newest-eq0-clause-bytes g t c = λ outer e.
     let seen = flags_of graph c.args.seen.now.items in
     let tree = (grow below c.args.levels_left seen v).occurrence in
     let flag : c.is_flagged-repeated.result ≡ is_seen seen v = c.is_flagged-repeated.ensures ∙ (ap (λ l. is_seen l v) c.deref.ensures.value ∙ sym (seen_all (length (weights_of graph)) c.args.seen.now.items v)) in
-    let own = own_grown g.N.Label.text graph marked.mark.now look outer (Some c.args.is_last) c.args.levels_left c.args.seen.now.items v c.is_flagged-repeated.result c.leaf-place.result (c.is_flagged-repeated.ensures ∙ ap (λ l. is_seen l v) c.deref.ensures.value) (search c.leaf-place.ensures) in
-    let none : below v ≡ [] = sym (newest_starts edges v c.newest-newest.result c.newest-newest.ensures.newest).0 ∙ ap (λ k. neighbors_of (take k edges) v) c.if-newest-eq0.true in
+    let node = linked-at _ _ v c.index-record.result.now graph.linked (omega (arith, c.requires.node, length-map graph.nodes.items (λ n. n.weight))) c.index-record.ensures in
+    let own = own_grown g.N.Label.text graph marked.mark.now look outer (Some c.args.is_last) c.args.levels_left c.args.seen.now.items v _ c.is_flagged-repeated.result node.0 (c.is_flagged-repeated.ensures ∙ ap (λ l. is_seen l v) c.deref.ensures.value) in
+    let none : below v ≡ [] = sym (newest_starts edges v c.index-record.result.now.newest node.1).0 ∙ ap (λ k. neighbors_of (take k edges) v) c.if-newest-eq0.true in
     leaf_written look c.args.levels_left outer c.args.is_last (shape tree) _ _
     (sym (kids_are g.N.Label.text graph marked.mark.now tree [] (no_kids _ v _ seen (without below c.args.levels_left seen v c.if-levels_left-eq0.false (sym flag ∙ c.if-repeated.false) none))))
-    (whole_as _ _ _ _ own (c.in_ok-draw_own.ensures.bytes outer e))
+    (whole_as _ _ _ _ own (c.in_ok-draw_entry.ensures.bytes outer e))
 
 pub draw_node-returns-then-newest-eq0-clause-seen : goal.draw_node-returns-then-newest-eq0-clause-seen
 draw_node-returns-then-newest-eq0-clause-seen g t c =
@@ -224,15 +237,20 @@ draw_node-returns-then-newest-eq0-clause-seen g t c =
     let edges = edges_of graph in
     let seen = flags_of graph c.args.seen.now.items in
     let flag : c.is_flagged-repeated.result ≡ is_seen seen v = c.is_flagged-repeated.ensures ∙ (ap (λ l. is_seen l v) c.deref.ensures.value ∙ sym (seen_all (length (weights_of graph)) c.args.seen.now.items v)) in
-    let none : neighbors_of edges v ≡ [] = sym (newest_starts edges v c.newest-newest.result c.newest-newest.ensures.newest).0 ∙ ap (λ k. neighbors_of (take k edges) v) c.if-newest-eq0.true in
+    let node = linked-at _ _ v c.index-record.result.now graph.linked (omega (arith, c.requires.node, length-map graph.nodes.items (λ n. n.weight))) c.index-record.ensures in
+    let none : neighbors_of edges v ≡ [] = sym (newest_starts edges v c.index-record.result.now.newest node.1).0 ∙ ap (λ k. neighbors_of (take k edges) v) c.if-newest-eq0.true in
     seen_made _ _ seen _ (without (neighbors_of edges) c.args.levels_left seen v c.if-levels_left-eq0.false (sym flag ∙ c.if-repeated.false) none) (search rules)
+
+pub draw_node-index-record-requires : goal.draw_node-index-record-requires
+draw_node-index-record-requires g t c =
+    let nodes = c.args.marked.now.graph.now.nodes.items in
+    omega (arith, c.requires.node, length-map nodes (λ n. n.weight))
 
 pub draw_node-draw_below-requires : goal.draw_node-draw_below-requires
 draw_node-draw_below-requires g t c =
     let graph = c.args.marked.now.graph.now in
-    let within : c.args.node.0 < length (weights_of graph) =
-    elim (cases_lt c.args.node.0 (length (weights_of graph))) [ inl x ↦ x | inr x ↦ absurd (c.if-newest-eq0.false (c.newest-newest.ensures.no_node x)) ] in
-    grind (arith, common_steps, within)
+    let node = linked-at _ _ c.args.node.0 c.index-record.result.now graph.linked (omega (arith, c.requires.node, length-map graph.nodes.items (λ n. n.weight))) c.index-record.ensures in
+    grind (arith, common_steps, node.1)
 
 pub draw_below-returns-in_err-pass-clause-bytes : goal.draw_below-returns-in_err-pass-clause-bytes
 draw_below-returns-in_err-pass-clause-bytes g t c = λ outer e.
