@@ -212,19 +212,18 @@ fn once_tree(
 }
 
 // How many places are right below each place.
-fn child_counts(alloc: Global, places: &[Place]) -> Result<Vec<usize>, AllocError> {
+fn child_counts(
+    alloc: Global,
+    graph: &Graph<String>,
+    places: &[Place],
+) -> Result<Vec<usize>, AllocError> {
     let mut counts = Vec::new(alloc);
-    for (i, place) in places.iter().enumerate() {
-        let end = i.saturating_add(1).saturating_add(place.below());
-        let mut count: usize = 0;
-        let mut child = i.saturating_add(1);
-        while child < end {
-            count = count.saturating_add(1);
-            let Some(below) = places.get(child) else {
-                break;
-            };
-            child = child.saturating_add(1).saturating_add(below.below());
-        }
+    for place in places {
+        let count = if place.below() > 0 {
+            graph.neighbors(place.node)?.len()
+        } else {
+            0
+        };
         counts.push(count)?;
     }
     Ok(counts)
@@ -250,8 +249,8 @@ fn numbered_items(
     alloc: Global,
     graph: &Graph<String>,
     places: &[Place],
+    counts: &[usize],
 ) -> Result<Vec<Option<StringItem>>, AllocError> {
-    let counts = child_counts(alloc, places)?;
     let mut order = Vec::new(alloc);
     let mut items = Vec::new(alloc);
     for (i, place) in places.iter().enumerate() {
@@ -271,11 +270,14 @@ fn numbered_items(
 // of the nodes' numbers, as the graph's do.
 fn numbered_tree(alloc: Global, graph: &Graph<String>) -> Result<Option<StringItem>, AllocError> {
     let places = graph.expanded_once(NodeIndex(0), u32::MAX)?.places;
-    let counts = child_counts(alloc, &places)?;
-    let mut items = numbered_items(alloc, graph, &places)?;
+    let counts = child_counts(alloc, graph, &places)?;
+    let mut items = numbered_items(alloc, graph, &places, &counts)?;
     let mut done: Vec<StringItem> = Vec::new(alloc);
     // From the last place to the first: the trees that were done last are those below it, the first of them at the end.
-    while let Some(Some(mut item)) = items.pop() {
+    for _ in 0..places.len() {
+        let Some(Some(mut item)) = items.pop() else {
+            break;
+        };
         let count = counts.get(items.len()).copied().unwrap_or(0);
         for _ in 0..count {
             if let Some(child) = done.pop() {

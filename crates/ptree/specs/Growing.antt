@@ -4,7 +4,7 @@ use Rattle.std.specs.Prelude.{◌≡◌, ℕ, zero, suc, ◌+◌, ◌-◌, ◌^�
 use Rattle.ptree.specs.declared.graph.Graph.{Graph}
 use Rattle.ptree.specs.declared.graph.places.Place.{Place}
 use Rattle.ptree.specs.Graph.{weights_of}
-use Rattle.ptree.specs.Occurrence.{OccurrenceTree, occurrence, none, row, is_repeated_size, size_below, trees_in, weight_own}
+use Rattle.ptree.specs.Occurrence.{OccurrenceTree, occurrence, none, row, size_below, trees_in, weight_own}
 use Rattle.ptree.specs.Shape.{Shape, over_shape}
 
 -- an occurrence, and which nodes have occurrences below them by then

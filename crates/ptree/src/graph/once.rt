@@ -116,14 +116,7 @@ impl<'a, N: Label> TreeItem for OccurrenceItem<'a, N> {
         let expanded = self.expanded;
         let place = self.place();
         let weight = expanded.graph.node_weight(place.node);
-        write_weight(
-            alloc,
-            f,
-            style,
-            weight,
-            expanded.mark,
-            place.is_repeated(),
-        )
+        write_weight(alloc, f, style, weight, expanded.mark, place.is_repeated())
     }
 
     /// Makes an item of each occurrence below it.

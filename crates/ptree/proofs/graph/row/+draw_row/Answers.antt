@@ -1,5 +1,5 @@
 use Rattle.std.proofs.lemmas.List.{take_all, length-map}
-use Rattle.std.proofs.lemmas.Bool.{false≢true, cases_lt}
+use Rattle.std.proofs.lemmas.Bool.{false≢true}
 use Rattle.std.proofs.lemmas.Grind.{common_steps}
 use Rattle.std.proofs.Common.{Some, ◌≡◌, ◌<◌, ◌++◌, ◌∷◌, ◌-◌, ◌∙◌, [], inl, inr, eqb, ap, sym, map, take, length, refl, arith, rules, append_assoc}
 use Rattle.ptree.specs.Graph.{weights_of, edges_of, neighbors_of}
