@@ -298,7 +298,23 @@ fn copying(rt: &HostRuntime, tree: &StringItem) -> io::Result<u128> {
     Ok(copying)
 }
 
-/// Times the drawing of a graph with each node expanded once, and the drawing and copying of the same tree as items.
+// Draws a tree into memory. Returns what that took, in nanoseconds, and the memory.
+fn drawing(
+    rt: &HostRuntime,
+    tree: &StringItem,
+    memory: Vec<u8>,
+    config: &PrintConfig,
+) -> io::Result<(u128, Vec<u8>)> {
+    let mut drawn = memory;
+    drawn.clear();
+    let mut out = Counted::new(drawn);
+    let start = Instant::now(rt)?;
+    write_tree_with(rt.alloc(), tree, &mut out, config).map_err(failed)?;
+    Ok((start.elapsed(rt)?.as_nanos(), out.into_inner()))
+}
+
+/// Times the drawing of a graph with each node expanded once, the drawing of the same tree as items, laid out in the order of the drawing
+/// and in that of the nodes, and its copying.
 pub fn time_once(rt: &HostRuntime, shape: &str, nodes: u32, times: u32) -> io::Result<()> {
     let alloc = rt.alloc();
     let config = PrintConfig::default(alloc)?;
@@ -309,6 +325,9 @@ pub fn time_once(rt: &HostRuntime, shape: &str, nodes: u32, times: u32) -> io::R
     let Some(numbered) = numbered_tree(alloc, &graph)? else {
         return Ok(());
     };
+    if numbered != tree {
+        return Ok(());
+    }
     let places = graph.expanded_once(NodeIndex(0), u32::MAX)?.places.len();
     println!(rt; "{places} places")?;
     let mut drawn = Vec::new(alloc);
@@ -326,25 +345,15 @@ pub fn time_once(rt: &HostRuntime, shape: &str, nodes: u32, times: u32) -> io::R
         )
         .map_err(failed)?;
         let once = start.elapsed(rt)?.as_nanos();
-        drawn = out.into_inner();
-        drawn.clear();
-        let mut out = Counted::new(drawn);
-        let start = Instant::now(rt)?;
-        write_tree_with(alloc, &tree, &mut out, &config).map_err(failed)?;
-        let items = start.elapsed(rt)?.as_nanos();
-        drawn = out.into_inner();
-        drawn.clear();
-        let mut out = Counted::new(drawn);
-        let start = Instant::now(rt)?;
-        write_tree_with(alloc, &numbered, &mut out, &config).map_err(failed)?;
-        let alike = start.elapsed(rt)?.as_nanos();
-        drawn = out.into_inner();
+        let (items, memory) = drawing(rt, &tree, out.into_inner(), &config)?;
+        let (alike, memory) = drawing(rt, &numbered, memory, &config)?;
+        drawn = memory;
         let start = Instant::now(rt)?;
         let made = graph.expanded_once(NodeIndex(0), u32::MAX)?;
         let making = start.elapsed(rt)?.as_nanos();
         let made = made.places.len();
         let copying = copying(rt, &tree)?;
-        println!(rt; "places drawn in {once} ns, items in {items} ns, items that lie as the nodes do in {alike} ns, {made} places made in {making} ns, items copied in {copying} ns")?;
+        println!(rt; "places drawn in {once} ns, items in {items} ns, in the nodes' order in {alike} ns, {made} places made in {making} ns, items copied in {copying} ns")?;
     }
     Ok(())
 }

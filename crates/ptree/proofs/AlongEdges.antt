@@ -79,13 +79,25 @@ module _ {N : Type 0} (text : N → List ℕ) (g : Graph N) (mark : List ℕ) wh
       ∙ ap (λ b. own_entry look outer last (leaf_shape text (slice_get (weights_of g) t.node) mark b)) m
 
   -- so also where a graph is drawn
-  pub own_grown : (look : Look) (outer : List ℕ) (last : Option Bool) (levels : ℕ) (items : List Bool) (v : ℕ) (weight : Option N) (repeated : Bool) → weight ≡ slice_get (weights_of g) v → repeated ≡ is_seen items v
+  own_grown : (look : Look) (outer : List ℕ) (last : Option Bool) (levels : ℕ) (items : List Bool) (v : ℕ) (weight : Option N) (repeated : Bool) → weight ≡ slice_get (weights_of g) v → repeated ≡ is_seen items v
       → own_entry look outer last (leaf_shape text weight mark repeated) ≡ own_entry look outer last (shape_of (grow (neighbors_of (edges_of g)) levels (flags_of g items) v).occurrence)
   own_grown look outer last levels items v weight repeated e flag =
       let below = neighbors_of (edges_of g) in
       let seen = flags_of g items in
       own_alike look outer last weight repeated (grow below levels seen v).occurrence (e ∙ ap (slice_get (weights_of g)) (sym (grown_node below levels seen v)))
       (flag ∙ (sym (seen_all (length (weights_of g)) items v) ∙ sym (grown_mark below levels seen v)))
+
+  -- of which a part is written
+  pub own_part : (a b : Option (List ℕ)) (look : Look) (outer : List ℕ) (last : Option Bool) (levels : ℕ) (items : List Bool) (v : ℕ) (weight : Option N) (repeated : Bool)
+      → AppendsPart a b (own_entry look outer last (leaf_shape text weight mark repeated)) → weight ≡ slice_get (weights_of g) v → repeated ≡ is_seen items v
+      → AppendsPart a b (own_entry look outer last (shape_of (grow (neighbors_of (edges_of g)) levels (flags_of g items) v).occurrence))
+  own_part a b look outer last levels items v weight repeated h e flag = subst (λ (z : List ℕ). AppendsPart a b z) (own_grown look outer last levels items v weight repeated e flag) h
+
+  -- or all of it
+  pub own_whole : (a b : Option (List ℕ)) (look : Look) (outer : List ℕ) (last : Option Bool) (levels : ℕ) (items : List Bool) (v : ℕ) (weight : Option N) (repeated : Bool)
+      → Appends a b (own_entry look outer last (leaf_shape text weight mark repeated)) → weight ≡ slice_get (weights_of g) v → repeated ≡ is_seen items v
+      → Appends a b (own_entry look outer last (shape_of (grow (neighbors_of (edges_of g)) levels (flags_of g items) v).occurrence))
+  own_whole a b look outer last levels items v weight repeated h e flag = subst (λ (z : List ℕ). Appends a b z) (own_grown look outer last levels items v weight repeated e flag) h
 
 -- nothing is below a shape without children
 none_under : (look : Look) (left : ℕ) (outer : List ℕ) (x : Shape) → kids x ≡ [] → entries_below look left outer x ≡ []
@@ -104,14 +116,6 @@ leaf_written look left outer last x a b h w = alone_written a b _ (entries_below
 -- and so is a root
 pub leaf_root : (look : Look) (depth : ℕ) (x : Shape) (a b : Option (List ℕ)) → kids x ≡ [] → Appends a b (shape_entry look [] [] x) → Appends a b (concat (drawn_entries look depth x))
 leaf_root look depth x a b h w = alone_written a b _ (entries_below look depth [] x) (none_under look depth [] x h) w
-
--- the same text by another name, a part of it written
-pub part_as : (a b : Option (List ℕ)) (x y : List ℕ) → x ≡ y → AppendsPart a b x → AppendsPart a b y
-part_as a b x y e h = subst (λ (z : List ℕ). AppendsPart a b z) e h
-
--- and all of it
-pub whole_as : (a b : Option (List ℕ)) (x y : List ℕ) → x ≡ y → Appends a b x → Appends a b y
-whole_as a b x y e h = subst (λ (z : List ℕ). Appends a b z) e h
 
 -- all children were drawn
 pub all_begun : (look : Look) (below : List ℕ → Shape → List (List ℕ)) (outer : List ℕ) (all rest : List Shape) (a b : Option (List ℕ)) → rest ≡ [] → AreBegun look below outer all rest a b → Appends a b (concat (kid_entries look below outer all))

@@ -1,13 +1,13 @@
 //! Draws a graph with each node expanded once, along its edges, as the engine draws items. Nothing is
 //! made for a place.
-ghost use Rattle.std.specs.Prelude.{◌≡◌, ℕ, true, false, Some, length, take, map, ◌≤◌, ◌<◌, ◌≢◌, ◌++◌, [], OnOk, OnErr, Err, List, eqb};
+ghost use Rattle.std.specs.Prelude.{◌≡◌, ℕ, true, false, Some, None, slice_get, length, take, map, ◌≤◌, ◌<◌, ◌≢◌, ◌++◌, [], OnOk, OnErr, Err, List, eqb};
 ghost use Rattle.std.specs.List.{concat};
 ghost use Rattle.ptree.specs.Drawing.{config_look};
 ghost use Rattle.ptree.specs.Entries.{item_entries, kid_entries, entries_below, drawn_entries};
 ghost use Rattle.ptree.specs.Graph.{weights_of, edges_of, neighbors_of};
 ghost use Rattle.ptree.specs.GraphLinks.{newest_from};
-ghost use Rattle.ptree.specs.Growing.{flags_of, is_seen, grow, kids_grown, kids_seen};
-ghost use Rattle.ptree.specs.Looks.{look_of};
+ghost use Rattle.ptree.specs.Growing.{flags_of, is_seen, leaf_shape, grow, kids_grown, kids_seen};
+ghost use Rattle.ptree.specs.Looks.{look_of, own_entry};
 ghost use Rattle.ptree.specs.Occurrence.{occurrence_shape};
 ghost use Rattle.ptree.specs.Pen.{brush_look, buffer_of, HoldsPassing, HoldsOwnText};
 ghost use Rattle.ptree.specs.Pieces.{passing_piece};
@@ -252,6 +252,38 @@ fn draw_row<N: Label, W: Sink>(
     Ok(())
 }
 
+// Draws a start node's own entry, as the engine draws that of a root.
+fn draw_start<N: Label, W: Sink>(
+    marked: &Marked<'_, N>,
+    start: NodeIndex,
+    f: &mut W,
+    pen: &mut Pen,
+    brush: &Brush<'_>,
+    width: usize,
+) -> Result<(), Stop>
+    requires error { pen.old.error ≡ Memory }
+    requires width { width ≤ length (buffer_of pen.old) }
+    requires turned { HoldsOwnText brush.now pen.old width None }
+    ensures bytes { (outer : List ℕ)
+        → HoldsPassing brush.now pen.old width outer
+        → IsWritten (W.contents f.old) (W.contents f.new) result
+        (own_entry (brush_look brush.now) outer None
+        (leaf_shape N.text (slice_get (weights_of marked.now.graph.now) start.0) marked.now.mark.now
+        false)) }
+    ensures memory { OnErr result (pen.new.error ≡ Memory → W.contents f.new ≡ W.contents f.old) }
+    ensures cause { HasErrorCause (W.faults f.old) (W.faults f.new) pen.new.error }
+    ensures error { OnOk result (pen.new.error ≡ Memory) }
+    ensures kept { OnOk result (buffer_of pen.new ≡ buffer_of pen.old) }
+    ensures turned { pen.new.turned ≡ pen.old.turned }
+{
+    let leaf = Leaf::<N, true> {
+        weight: marked.graph.node_weight(start),
+        mark: marked.mark,
+        repeated: false,
+    };
+    draw_entry(&leaf, f, pen, brush, width, None)
+}
+
 // Draws a start node and what is below it. The buffer holds the branch's start codes.
 fn draw_root<N: Label, W: Sink>(
     marked: &Marked<'_, N>,
@@ -274,12 +306,7 @@ fn draw_root<N: Label, W: Sink>(
 {
     let width = pen.line.len();
     pen.line.append(brush.end.as_bytes())?;
-    let leaf = Leaf::<N, true> {
-        weight: marked.graph.node_weight(start),
-        mark: marked.mark,
-        repeated: false,
-    };
-    draw_entry(&leaf, f, pen, brush, width, None)?;
+    draw_start(marked, start, f, pen, brush, width)?;
     pen.line.truncate(width);
     if depth == 0 {
         return Ok(());

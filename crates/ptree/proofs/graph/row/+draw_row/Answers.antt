@@ -11,7 +11,7 @@ use Rattle.ptree.specs.Entries.{kid_entries, entries_below}
 use Rattle.ptree.specs.Occurrence.{OccurrenceTree, occurrence_shape}
 use Rattle.ptree.specs.Pieces.{passing_piece}
 use Rattle.ptree.specs.Shape.{Shape}
-use Rattle.ptree.proofs.AlongEdges.{last_tells, length_row, kids_below, seen_below, no_kids, kids_are, own_grown, leaf_written, part_as, whole_as, all_begun, seen_ok}
+use Rattle.ptree.proofs.AlongEdges.{last_tells, length_row, kids_below, seen_below, no_kids, kids_are, own_part, own_whole, leaf_written, all_begun, seen_ok}
 use Rattle.ptree.proofs.EdgeLists.{newest_starts, newest_within, newest_has}
 use Rattle.ptree.proofs.Engine.{item_written, all_below, begun_none, begun_part, begun_then, begun_err, not_last, still_turned, long_enough, take_again, quiet}
 use Rattle.ptree.proofs.Growth.{stopped, without, entered, seen_made}
@@ -158,9 +158,8 @@ draw_node-returns-in_err-draw_entry-clause-bytes g t c = λ outer e.
     let seen = flags_of graph c.args.seen.now.items in
     let tree = (grow (neighbors_of (edges_of graph)) c.args.levels_left seen v).occurrence in
     let node = linked-at _ _ v c.index-record.result.now graph.linked (omega (arith, c.requires.node, length-map graph.nodes.items (λ n. n.weight))) c.index-record.ensures in
-    let own = own_grown g.N.Label.text graph c.args.marked.now.mark.now look outer (Some c.args.is_last) c.args.levels_left c.args.seen.now.items v _ c.is_flagged-repeated.result node.0 (c.is_flagged-repeated.ensures ∙ ap (λ l. is_seen l v) c.deref.ensures.value) in
     entries_err _ _ _ _ _ _ c.from_residual.ensures.1
-    (entry_part _ _ _ _ (entries_below look c.args.levels_left (outer ++ passing_piece look.pieces c.args.is_last) (shape tree)) (part_as _ _ _ _ own (c.in_err-draw_entry.ensures.bytes outer e)) c.in_err-draw_entry.ensures.memory)
+    (entry_part _ _ _ _ (entries_below look c.args.levels_left (outer ++ passing_piece look.pieces c.args.is_last) (shape tree)) (own_part g.N.Label.text graph c.args.marked.now.mark.now _ _ look outer (Some c.args.is_last) c.args.levels_left c.args.seen.now.items v _ _ (c.in_err-draw_entry.ensures.bytes outer e) node.0 (c.is_flagged-repeated.ensures ∙ ap (λ l. is_seen l v) c.deref.ensures.value)) c.in_err-draw_entry.ensures.memory)
 
 pub draw_node-returns-clause-bytes : goal.draw_node-returns-clause-bytes
 draw_node-returns-clause-bytes g t c = λ outer e.
@@ -173,10 +172,9 @@ draw_node-returns-clause-bytes g t c = λ outer e.
     let tree = (grow below c.args.levels_left seen v).occurrence in
     let flag : c.is_flagged-repeated.result ≡ is_seen seen v = c.is_flagged-repeated.ensures ∙ (ap (λ l. is_seen l v) c.deref.ensures.value ∙ sym (seen_all (length (weights_of graph)) c.args.seen.now.items v)) in
     let node = linked-at _ _ v c.index-record.result.now graph.linked (omega (arith, c.requires.node, length-map graph.nodes.items (λ n. n.weight))) c.index-record.ensures in
-    let own = own_grown g.N.Label.text graph c.args.marked.now.mark.now look outer (Some c.args.is_last) c.args.levels_left c.args.seen.now.items v _ c.is_flagged-repeated.result node.0 (c.is_flagged-repeated.ensures ∙ ap (λ l. is_seen l v) c.deref.ensures.value) in
     let kids_in = kids_are g.N.Label.text graph c.args.marked.now.mark.now tree _ (kids_below below c.args.levels_left seen v c.if-levels_left-eq0.false (sym flag ∙ c.if-repeated.false)) in
     item_written look c.args.levels_left outer c.args.is_last (shape tree) _ _ _ _ _ (λ z. c.if-levels_left-eq0.false z)
-    (whole_as _ _ _ _ own (c.in_ok-draw_entry.ensures.bytes outer e))
+    (own_whole g.N.Label.text graph c.args.marked.now.mark.now _ _ look outer (Some c.args.is_last) c.args.levels_left c.args.seen.now.items v _ _ (c.in_ok-draw_entry.ensures.bytes outer e) node.0 (c.is_flagged-repeated.ensures ∙ ap (λ l. is_seen l v) c.deref.ensures.value))
     (all_below look (entries_below look (c.args.levels_left - 1)) (outer ++ passing_piece look.pieces c.args.is_last) (shape tree) _ _ _ _ shape (kids_grown below (c.args.levels_left - 1) seen v) kids_in
     (c.draw_below.ensures.bytes outer (ap (take c.args.width) c.in_ok-draw_entry.ensures.kept ∙ e)))
 
@@ -196,11 +194,10 @@ draw_node-returns-then-repeated-clause-bytes g t c = λ outer e.
     let tree = (grow below c.args.levels_left seen v).occurrence in
     let flag : c.is_flagged-repeated.result ≡ is_seen seen v = c.is_flagged-repeated.ensures ∙ (ap (λ l. is_seen l v) c.deref.ensures.value ∙ sym (seen_all (length (weights_of graph)) c.args.seen.now.items v)) in
     let node = linked-at _ _ v c.index-record.result.now graph.linked (omega (arith, c.requires.node, length-map graph.nodes.items (λ n. n.weight))) c.index-record.ensures in
-    let own = own_grown g.N.Label.text graph marked.mark.now look outer (Some c.args.is_last) c.args.levels_left c.args.seen.now.items v _ c.is_flagged-repeated.result node.0 (c.is_flagged-repeated.ensures ∙ ap (λ l. is_seen l v) c.deref.ensures.value) in
     let stop = stopped below c.args.levels_left seen v
     (elim c.then-repeated.branch [ draw_node-then-repeated-via-then-repeated w ↦ inl (sym flag ∙ w.if-repeated.true) | draw_node-then-repeated-via-else-repeated+then-levels_left-eq0 w ↦ inr w.if-levels_left-eq0.true ]) in
     leaf_written look c.args.levels_left outer c.args.is_last (shape tree) _ _ (sym (kids_are g.N.Label.text graph marked.mark.now tree [] (no_kids _ v _ seen stop)))
-    (whole_as _ _ _ _ own (c.in_ok-draw_entry.ensures.bytes outer e))
+    (own_whole g.N.Label.text graph marked.mark.now _ _ look outer (Some c.args.is_last) c.args.levels_left c.args.seen.now.items v _ _ (c.in_ok-draw_entry.ensures.bytes outer e) node.0 (c.is_flagged-repeated.ensures ∙ ap (λ l. is_seen l v) c.deref.ensures.value))
 
 pub draw_node-returns-then-repeated-clause-seen : goal.draw_node-returns-then-repeated-clause-seen
 draw_node-returns-then-repeated-clause-seen g t c =
@@ -224,11 +221,10 @@ draw_node-returns-then-newest-eq0-clause-bytes g t c = λ outer e.
     let tree = (grow below c.args.levels_left seen v).occurrence in
     let flag : c.is_flagged-repeated.result ≡ is_seen seen v = c.is_flagged-repeated.ensures ∙ (ap (λ l. is_seen l v) c.deref.ensures.value ∙ sym (seen_all (length (weights_of graph)) c.args.seen.now.items v)) in
     let node = linked-at _ _ v c.index-record.result.now graph.linked (omega (arith, c.requires.node, length-map graph.nodes.items (λ n. n.weight))) c.index-record.ensures in
-    let own = own_grown g.N.Label.text graph marked.mark.now look outer (Some c.args.is_last) c.args.levels_left c.args.seen.now.items v _ c.is_flagged-repeated.result node.0 (c.is_flagged-repeated.ensures ∙ ap (λ l. is_seen l v) c.deref.ensures.value) in
     let none : below v ≡ [] = sym (newest_starts edges v c.index-record.result.now.newest node.1).0 ∙ ap (λ k. neighbors_of (take k edges) v) c.if-newest-eq0.true in
     leaf_written look c.args.levels_left outer c.args.is_last (shape tree) _ _
     (sym (kids_are g.N.Label.text graph marked.mark.now tree [] (no_kids _ v _ seen (without below c.args.levels_left seen v c.if-levels_left-eq0.false (sym flag ∙ c.if-repeated.false) none))))
-    (whole_as _ _ _ _ own (c.in_ok-draw_entry.ensures.bytes outer e))
+    (own_whole g.N.Label.text graph marked.mark.now _ _ look outer (Some c.args.is_last) c.args.levels_left c.args.seen.now.items v _ _ (c.in_ok-draw_entry.ensures.bytes outer e) node.0 (c.is_flagged-repeated.ensures ∙ ap (λ l. is_seen l v) c.deref.ensures.value))
 
 pub draw_node-returns-then-newest-eq0-clause-seen : goal.draw_node-returns-then-newest-eq0-clause-seen
 draw_node-returns-then-newest-eq0-clause-seen g t c =
