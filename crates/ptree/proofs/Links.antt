@@ -122,21 +122,6 @@ module _ {N : Type 0} where
       (subst (λ (n : Node N). IsLinked (set nodes source n) (edges ++ edge source target read.newest ∷ [])) marked
       (linked-edge nodes edges source target d read l s t first))
 
-  -- the weight of a node, and the number of the newest edge from it
-  pub linked-at : (nodes : List (Node N)) (edges : List Edge) (v : ℕ) (n : Node N) → IsLinked nodes edges → v < length nodes → n ≡ get_or nodes v n
-      → (Some n.weight ≡ slice_get (map (λ n. n.weight) nodes) v) × (n.newest ≡ newest_from (map ends_of edges) v)
-  linked-at nodes edges v n l h r =
-      let found = slice_get_read nodes (length nodes) v n refl h r in (
-        sym (slice_get-map (λ n. n.weight) nodes v ∙ ap (option_map (λ n. n.weight)) found),
-        l.newest v n found,
-      )
-
-  -- the target of an edge is a node
-  pub linked-target : (nodes : List (Node N)) (edges : List Edge) (i : ℕ) (e : Edge) → IsLinked nodes edges → i < length edges → e ≡ get_or edges i e → e.target < length nodes
-  linked-target nodes edges i e l h r =
-      let ends : EndsBelow (length nodes) e = subst (EndsBelow (length nodes)) (sym r) (All-get_or (EndsBelow (length nodes)) edges i e h l.ends) in
-      ends.1
-
   -- if m is the number of the newest edge from v, its target is the first neighbour, and the edges
   -- before it give the others
   pub linked-step : (nodes : List (Node N)) (edges : List Edge) (v m : ℕ) (e : Edge) → IsLinked nodes edges → 0 < m
@@ -167,3 +152,20 @@ neighbors_below g v =
     let targets = All-weaker (EndsBelow (length g.nodes.items)) (λ (e : Edge). e.target < length (weights_of g)) (λ e k. omega (arith, counted)) g.edges.items g.linked.ends in
     let reversed = All-permutation IsBelow edges (reverse edges) (IsPermutation-reverse edges) (All-map IsBelow ends_of g.edges.items targets) in
     All-map (λ u. u < length (weights_of g)) (λ p. p.1) _ (All-filter (λ p. eqb p.0 v) IsBelow (reverse edges) reversed)
+
+-- a node has its weight, and the number of the newest edge from it
+pub node_at : {N : Type 0} (g : Graph N) (v : ℕ) (n : Node N) → v < length (weights_of g) → n ≡ get_or g.nodes.items v n
+    → (Some n.weight ≡ slice_get (weights_of g) v) × (n.newest ≡ newest_from (edges_of g) v)
+node_at g v n h r =
+    let found = slice_get_read g.nodes.items (length g.nodes.items) v n refl (omega (arith, h, length-map g.nodes.items (λ n. n.weight))) r in (
+      sym (slice_get-map (λ n. n.weight) g.nodes.items v ∙ ap (option_map (λ n. n.weight)) found),
+      g.linked.newest v n found,
+    )
+
+-- the target of the newest edge from a node, among the first m edges, is a node
+pub target_at : {N : Type 0} (g : Graph N) (v m : ℕ) (e : Edge) → 0 < m → m ≡ newest_from (take m (edges_of g)) v → e ≡ get_or g.edges.items (m - 1) e → e.target < length (weights_of g)
+target_at g v m e p n r =
+    let within = newest_within (edges_of g) v m n in
+    let ends : EndsBelow (length g.nodes.items) e = subst (EndsBelow (length g.nodes.items)) (sym r)
+    (All-get_or (EndsBelow (length g.nodes.items)) g.edges.items (m - 1) e (omega (arith, p, within, length-map g.edges.items ends_of)) g.linked.ends) in
+    omega (arith, ends.1, length-map g.nodes.items (λ n. n.weight))

@@ -1,7 +1,7 @@
 use Rattle.std.proofs.lemmas.List.{take_all, length-map}
 use Rattle.std.proofs.lemmas.Bool.{false≢true}
 use Rattle.std.proofs.lemmas.Grind.{common_steps}
-use Rattle.std.proofs.Common.{Some, ◌≡◌, ◌<◌, ◌++◌, ◌∷◌, ◌-◌, ◌∙◌, [], inl, inr, eqb, ap, sym, map, take, length, refl, arith, rules, append_assoc}
+use Rattle.std.proofs.Common.{Some, ◌≡◌, ◌++◌, ◌∷◌, ◌-◌, ◌∙◌, [], inl, inr, eqb, ap, sym, map, take, length, refl, arith, rules, append_assoc}
 use Rattle.ptree.specs.Graph.{weights_of, edges_of, neighbors_of}
 use Rattle.ptree.specs.GraphLinks.{ends_of}
 use Rattle.ptree.specs.Growing.{flags_of, is_seen, enter, grow, row_occurrences, row_seen, kids_grown}
@@ -15,7 +15,7 @@ use Rattle.ptree.proofs.AlongEdges.{last_tells, length_row, kids_below, seen_bel
 use Rattle.ptree.proofs.EdgeLists.{newest_starts, newest_within, newest_has}
 use Rattle.ptree.proofs.Engine.{item_written, all_below, begun_none, begun_part, begun_then, begun_err, not_last, still_turned, long_enough, take_again, quiet}
 use Rattle.ptree.proofs.Growth.{stopped, without, entered, seen_made}
-use Rattle.ptree.proofs.Links.{linked-at, linked-target, linked-step}
+use Rattle.ptree.proofs.Links.{node_at, target_at, linked-step}
 use Rattle.ptree.proofs.NodeFlags.{seen_all}
 use Rattle.ptree.proofs.Written.{entries_none, entries_err, entry_part}
 use Rattle.ptree.proofs.graph.row.+draw_row.Goals as goal
@@ -74,12 +74,8 @@ draw_row-turn-requires g t c = λ held last. c.loop-number.invariant.turned held
 
 pub draw_row-draw_node-requires : goal.draw_row-draw_node-requires
 draw_row-draw_node-requires g t c =
-    let graph = c.args.marked.now.graph.now in
-    let inv = c.loop-number.invariant in
-    let within = newest_within (edges_of graph) c.args.node.0 c.loop-number.number inv.newest in
-    let target = linked-target _ _ (c.loop-number.number - 1) c.index-edge.result.now graph.linked (omega (arith, within, length-map graph.edges.items ends_of)) c.index-edge.ensures in
-    let is_node : c.index-edge.result.now.target < length (weights_of graph) = omega (arith, target, length-map graph.nodes.items (λ n. n.weight)) in
-    grind (arith, common_steps, is_node)
+    let target = target_at c.args.marked.now.graph.now c.args.node.0 c.loop-number.number c.index-edge.result.now (omega arith) c.loop-number.invariant.newest c.index-edge.ensures in
+    grind (arith, common_steps, target)
 
 pub draw_row-returns-in_err-draw_node-clause-bytes : goal.draw_row-returns-in_err-draw_node-clause-bytes
 draw_row-returns-in_err-draw_node-clause-bytes g t c = λ outer e.
@@ -157,7 +153,7 @@ draw_node-returns-in_err-draw_entry-clause-bytes g t c = λ outer e.
     let v = c.args.node.0 in
     let seen = flags_of graph c.args.seen.now.items in
     let tree = (grow (neighbors_of (edges_of graph)) c.args.levels_left seen v).occurrence in
-    let node = linked-at _ _ v c.index-record.result.now graph.linked (omega (arith, c.requires.node, length-map graph.nodes.items (λ n. n.weight))) c.index-record.ensures in
+    let node = node_at graph v c.index-record.result.now c.requires.node c.index-record.ensures in
     entries_err _ _ _ _ _ _ c.from_residual.ensures.1
     (entry_part _ _ _ _ (entries_below look c.args.levels_left (outer ++ passing_piece look.pieces c.args.is_last) (shape tree)) (own_part g.N.Label.text graph c.args.marked.now.mark.now _ _ look outer (Some c.args.is_last) c.args.levels_left c.args.seen.now.items v _ _ (c.in_err-draw_entry.ensures.bytes outer e) node.0 (c.is_flagged-repeated.ensures ∙ ap (λ l. is_seen l v) c.deref.ensures.value)) c.in_err-draw_entry.ensures.memory)
 
@@ -171,7 +167,7 @@ draw_node-returns-clause-bytes g t c = λ outer e.
     let seen = flags_of graph c.args.seen.now.items in
     let tree = (grow below c.args.levels_left seen v).occurrence in
     let flag : c.is_flagged-repeated.result ≡ is_seen seen v = c.is_flagged-repeated.ensures ∙ (ap (λ l. is_seen l v) c.deref.ensures.value ∙ sym (seen_all (length (weights_of graph)) c.args.seen.now.items v)) in
-    let node = linked-at _ _ v c.index-record.result.now graph.linked (omega (arith, c.requires.node, length-map graph.nodes.items (λ n. n.weight))) c.index-record.ensures in
+    let node = node_at graph v c.index-record.result.now c.requires.node c.index-record.ensures in
     let kids_in = kids_are g.N.Label.text graph c.args.marked.now.mark.now tree _ (kids_below below c.args.levels_left seen v c.if-levels_left-eq0.false (sym flag ∙ c.if-repeated.false)) in
     item_written look c.args.levels_left outer c.args.is_last (shape tree) _ _ _ _ _ (λ z. c.if-levels_left-eq0.false z)
     (own_whole g.N.Label.text graph c.args.marked.now.mark.now _ _ look outer (Some c.args.is_last) c.args.levels_left c.args.seen.now.items v _ _ (c.in_ok-draw_entry.ensures.bytes outer e) node.0 (c.is_flagged-repeated.ensures ∙ ap (λ l. is_seen l v) c.deref.ensures.value))
@@ -185,19 +181,18 @@ draw_node-returns-clause-seen g t c = seen_ok _ _ _ c.draw_below.result (sym (se
 pub draw_node-returns-then-repeated-clause-bytes : goal.draw_node-returns-then-repeated-clause-bytes
 draw_node-returns-then-repeated-clause-bytes g t c = λ outer e.
     let look = look_of c.args.brush.now.look.now in
-    let marked = c.args.marked.now in
-    let graph = marked.graph.now in
+    let graph = c.args.marked.now.graph.now in
     let below = neighbors_of (edges_of graph) in
-    let shape : OccurrenceTree → Shape = occurrence_shape g.N.Label.text graph marked.mark.now in
+    let shape : OccurrenceTree → Shape = occurrence_shape g.N.Label.text graph c.args.marked.now.mark.now in
     let v = c.args.node.0 in
     let seen = flags_of graph c.args.seen.now.items in
     let tree = (grow below c.args.levels_left seen v).occurrence in
     let flag : c.is_flagged-repeated.result ≡ is_seen seen v = c.is_flagged-repeated.ensures ∙ (ap (λ l. is_seen l v) c.deref.ensures.value ∙ sym (seen_all (length (weights_of graph)) c.args.seen.now.items v)) in
-    let node = linked-at _ _ v c.index-record.result.now graph.linked (omega (arith, c.requires.node, length-map graph.nodes.items (λ n. n.weight))) c.index-record.ensures in
+    let node = node_at graph v c.index-record.result.now c.requires.node c.index-record.ensures in
     let stop = stopped below c.args.levels_left seen v
     (elim c.then-repeated.branch [ draw_node-then-repeated-via-then-repeated w ↦ inl (sym flag ∙ w.if-repeated.true) | draw_node-then-repeated-via-else-repeated+then-levels_left-eq0 w ↦ inr w.if-levels_left-eq0.true ]) in
-    leaf_written look c.args.levels_left outer c.args.is_last (shape tree) _ _ (sym (kids_are g.N.Label.text graph marked.mark.now tree [] (no_kids _ v _ seen stop)))
-    (own_whole g.N.Label.text graph marked.mark.now _ _ look outer (Some c.args.is_last) c.args.levels_left c.args.seen.now.items v _ _ (c.in_ok-draw_entry.ensures.bytes outer e) node.0 (c.is_flagged-repeated.ensures ∙ ap (λ l. is_seen l v) c.deref.ensures.value))
+    leaf_written look c.args.levels_left outer c.args.is_last (shape tree) _ _ (sym (kids_are g.N.Label.text graph c.args.marked.now.mark.now tree [] (no_kids _ v _ seen stop)))
+    (own_whole g.N.Label.text graph c.args.marked.now.mark.now _ _ look outer (Some c.args.is_last) c.args.levels_left c.args.seen.now.items v _ _ (c.in_ok-draw_entry.ensures.bytes outer e) node.0 (c.is_flagged-repeated.ensures ∙ ap (λ l. is_seen l v) c.deref.ensures.value))
 
 pub draw_node-returns-then-repeated-clause-seen : goal.draw_node-returns-then-repeated-clause-seen
 draw_node-returns-then-repeated-clause-seen g t c =
@@ -211,42 +206,35 @@ draw_node-returns-then-repeated-clause-seen g t c =
 pub draw_node-returns-then-newest-eq0-clause-bytes : goal.draw_node-returns-then-newest-eq0-clause-bytes
 draw_node-returns-then-newest-eq0-clause-bytes g t c = λ outer e.
     let look = look_of c.args.brush.now.look.now in
-    let marked = c.args.marked.now in
-    let graph = marked.graph.now in
-    let edges = edges_of graph in
-    let below = neighbors_of edges in
-    let shape : OccurrenceTree → Shape = occurrence_shape g.N.Label.text graph marked.mark.now in
+    let graph = c.args.marked.now.graph.now in
+    let below = neighbors_of (edges_of graph) in
+    let shape : OccurrenceTree → Shape = occurrence_shape g.N.Label.text graph c.args.marked.now.mark.now in
     let v = c.args.node.0 in
     let seen = flags_of graph c.args.seen.now.items in
     let tree = (grow below c.args.levels_left seen v).occurrence in
     let flag : c.is_flagged-repeated.result ≡ is_seen seen v = c.is_flagged-repeated.ensures ∙ (ap (λ l. is_seen l v) c.deref.ensures.value ∙ sym (seen_all (length (weights_of graph)) c.args.seen.now.items v)) in
-    let node = linked-at _ _ v c.index-record.result.now graph.linked (omega (arith, c.requires.node, length-map graph.nodes.items (λ n. n.weight))) c.index-record.ensures in
-    let none : below v ≡ [] = sym (newest_starts edges v c.index-record.result.now.newest node.1).0 ∙ ap (λ k. neighbors_of (take k edges) v) c.if-newest-eq0.true in
+    let node = node_at graph v c.index-record.result.now c.requires.node c.index-record.ensures in
+    let none : below v ≡ [] = sym (newest_starts (edges_of graph) v c.index-record.result.now.newest node.1).0 ∙ ap (λ k. neighbors_of (take k (edges_of graph)) v) c.if-newest-eq0.true in
     leaf_written look c.args.levels_left outer c.args.is_last (shape tree) _ _
-    (sym (kids_are g.N.Label.text graph marked.mark.now tree [] (no_kids _ v _ seen (without below c.args.levels_left seen v c.if-levels_left-eq0.false (sym flag ∙ c.if-repeated.false) none))))
-    (own_whole g.N.Label.text graph marked.mark.now _ _ look outer (Some c.args.is_last) c.args.levels_left c.args.seen.now.items v _ _ (c.in_ok-draw_entry.ensures.bytes outer e) node.0 (c.is_flagged-repeated.ensures ∙ ap (λ l. is_seen l v) c.deref.ensures.value))
+    (sym (kids_are g.N.Label.text graph c.args.marked.now.mark.now tree [] (no_kids _ v _ seen (without below c.args.levels_left seen v c.if-levels_left-eq0.false (sym flag ∙ c.if-repeated.false) none))))
+    (own_whole g.N.Label.text graph c.args.marked.now.mark.now _ _ look outer (Some c.args.is_last) c.args.levels_left c.args.seen.now.items v _ _ (c.in_ok-draw_entry.ensures.bytes outer e) node.0 (c.is_flagged-repeated.ensures ∙ ap (λ l. is_seen l v) c.deref.ensures.value))
 
 pub draw_node-returns-then-newest-eq0-clause-seen : goal.draw_node-returns-then-newest-eq0-clause-seen
 draw_node-returns-then-newest-eq0-clause-seen g t c =
     let graph = c.args.marked.now.graph.now in
     let v = c.args.node.0 in
-    let edges = edges_of graph in
     let seen = flags_of graph c.args.seen.now.items in
     let flag : c.is_flagged-repeated.result ≡ is_seen seen v = c.is_flagged-repeated.ensures ∙ (ap (λ l. is_seen l v) c.deref.ensures.value ∙ sym (seen_all (length (weights_of graph)) c.args.seen.now.items v)) in
-    let node = linked-at _ _ v c.index-record.result.now graph.linked (omega (arith, c.requires.node, length-map graph.nodes.items (λ n. n.weight))) c.index-record.ensures in
-    let none : neighbors_of edges v ≡ [] = sym (newest_starts edges v c.index-record.result.now.newest node.1).0 ∙ ap (λ k. neighbors_of (take k edges) v) c.if-newest-eq0.true in
-    seen_made _ _ seen _ (without (neighbors_of edges) c.args.levels_left seen v c.if-levels_left-eq0.false (sym flag ∙ c.if-repeated.false) none) (search rules)
+    let node = node_at graph v c.index-record.result.now c.requires.node c.index-record.ensures in
+    let none : neighbors_of (edges_of graph) v ≡ [] = sym (newest_starts (edges_of graph) v c.index-record.result.now.newest node.1).0 ∙ ap (λ k. neighbors_of (take k (edges_of graph)) v) c.if-newest-eq0.true in
+    seen_made _ _ seen _ (without (neighbors_of (edges_of graph)) c.args.levels_left seen v c.if-levels_left-eq0.false (sym flag ∙ c.if-repeated.false) none) (search rules)
 
 pub draw_node-index-record-requires : goal.draw_node-index-record-requires
-draw_node-index-record-requires g t c =
-    let nodes = c.args.marked.now.graph.now.nodes.items in
-    omega (arith, c.requires.node, length-map nodes (λ n. n.weight))
+draw_node-index-record-requires g t c = omega (arith, c.requires.node, length-map c.args.marked.now.graph.now.nodes.items (λ n. n.weight))
 
 pub draw_node-draw_below-requires : goal.draw_node-draw_below-requires
 draw_node-draw_below-requires g t c =
-    let graph = c.args.marked.now.graph.now in
-    let node = linked-at _ _ c.args.node.0 c.index-record.result.now graph.linked (omega (arith, c.requires.node, length-map graph.nodes.items (λ n. n.weight))) c.index-record.ensures in
-    grind (arith, common_steps, node.1)
+    grind (arith, common_steps, (node_at c.args.marked.now.graph.now c.args.node.0 c.index-record.result.now c.requires.node c.index-record.ensures).1)
 
 pub draw_below-returns-in_err-pass-clause-bytes : goal.draw_below-returns-in_err-pass-clause-bytes
 draw_below-returns-in_err-pass-clause-bytes g t c = λ outer e.
