@@ -1,12 +1,13 @@
 # Checks bin/ptree_cli and bin/build, in a copy over two small crates. A stub of `rt` notes each call, and makes a program that
 # prints a source, its words and its input.
-# shellcheck shell=bash
+# shellcheck shell=bash disable=SC2016,SC2154
 
 # Makes the copy. Progress is reported each second there.
 make_launched() {
     there=$scratch/launched
+    rm -rf "$there"
     chmod a+rx "$scratch"
-    mkdir -p "$there"/{bin/parts,path,few,crates/ptree/{src,specs,proofs},crates/ptree_cli/src}
+    mkdir -p "$there"/{bin/parts,path,few,tmp,crates/ptree/{src,specs,proofs},crates/ptree_cli/src}
     cp bin/build bin/ptree_cli "$there/bin"
     cp bin/parts/launch "$there/bin/parts"
     sed -i 's/^BETWEEN = 30$/BETWEEN = 1/' "$there/bin/build"
@@ -33,21 +34,22 @@ END
     chmod +x "$there/path/rt"
     # Commands of a path that has no `rt`.
     for tool in bash sh env find; do
-        ln -s "$(command -v $tool)" "$there/few/$tool"
+        ln -s "$(command -v "$tool")" "$there/few/$tool"
     done
     ln -s "$(python3 -c 'import sys; print(sys.executable)')" "$there/few/python3"
 }
 
-# Calls the launcher, and leaves what it writes in the scratch folder. It is called by a path that CDPATH leads elsewhere.
+# Calls a launcher, and leaves what it writes in the scratch folder. It is called by a path that CDPATH leads elsewhere. Arguments:
+# the launcher, the words.
 launch() {
     : >"$there/calls"
-    (cd "$there" && echo input | CDPATH=/ PATH=$there/path:$PATH bin/ptree_cli a 'b c') >"$scratch/out" 2>"$scratch/err"
+    (cd "$there" && echo input | CDPATH=/ PATH=$there/path:$PATH "$@") >"$scratch/out" 2>"$scratch/err"
 }
 
 # Checks a call of the launcher. Arguments: name, how often it must build, the source that the program must print.
 expect_launch() {
     local got builds
-    launch
+    launch bin/ptree_cli a 'b c'
     got=$?
     builds=$(grep -c run "$there/calls")
     if [ $got = 3 ] && [ "$builds" = "$2" ] && [ "$(cat "$scratch/out")" = "$3 <a> <b c>"$'\ninput' ]; then
@@ -115,6 +117,67 @@ check_changes_meanwhile() {
     expect_launch 'a source is changed during a build, and changed back' 2 six
 }
 
+# Checks that another program in the place of the built one leads to a build.
+check_replaced() {
+    local source=$there/crates/ptree/src/lib.rt made=$there/crates/ptree_cli/out/ptree_cli
+    cp -p "$source" "$scratch/source"
+    echo edit >"$source"
+    (cd "$there/crates/ptree_cli" && "$there/path/rt" run) >"$scratch/said"
+    cp -p "$scratch/source" "$source"
+    expect_launch 'a program that was built by hand from an edit' 1 six
+    sed -i s/six/older/ "$made"
+    touch -d 2001-01-01 "$made"
+    expect_launch 'another program, and its date is older' 1 six
+    : >"$made"
+    expect_launch 'a program without a byte' 1 six
+    rm -r "$there/crates/ptree_cli/out"
+    (cd "$there/crates/ptree_cli" && PATH=$there/path:$PATH "$there/bin/build" --around sh -c 'cd crates/ptree_cli && rt run') \
+        >"$scratch/said" 2>&1
+    expect_launch 'a program that a command has built' 0 six
+    : >"$made"
+    expect_launch 'a program without a byte, once a command had built it' 1 six
+}
+
+# Checks that of two first calls one builds, and the other waits for it.
+check_two_calls() {
+    local got
+    rm -r "$there/crates/ptree_cli/out"
+    echo 'rm -f "$at"; sleep 2' >"$there/at_lib"
+    (cd "$there" && PATH=$there/path:$PATH bin/ptree_cli c d </dev/null) >"$scratch/other_out" 2>"$scratch/other_err" &
+    launch bin/ptree_cli a b
+    got=$?
+    wait $!
+    if [ "$got, $?" = '3, 3' ] && [ "$(cat "$scratch/out" "$scratch/other_out")" = $'six <a> <b>\ninput\nsix <c> <d>' ] \
+        && [ "$(sort "$there/calls")" = $'lib\nrun' ] \
+        && [ "$(cat "$scratch/err" "$scratch/other_err" | grep -c 'another build of it is under way')" = 1 ]; then
+        report ok 'the launcher: two first calls at once build once'
+    else
+        report no "the launcher: two first calls at once: status $got, $(grep -c run "$there/calls") builds"
+        cat "$scratch"/{,other_}{out,err}
+    fi
+}
+
+# Checks calls at once that all find a touched source, and so make the record anew.
+check_many_calls() {
+    local call bad=0
+    local -a calls=()
+    touch "$there/crates.txt"
+    for call in {1..12}; do
+        (cd "$there" && exec bin/ptree_cli a b </dev/null >"$scratch/out$call" 2>&1) &
+        calls+=($!)
+    done
+    for call in {1..12}; do
+        wait "${calls[call - 1]}"
+        [ $? = 3 ] && [ "$(cat "$scratch/out$call")" = 'six <a> <b>' ] || bad=$call
+    done
+    if [ "$bad" = 0 ]; then
+        report ok 'the launcher: calls at once after a source is touched'
+    else
+        report no 'the launcher: calls at once after a source is touched'
+        cat "$scratch/out$bad"
+    fi
+}
+
 # Checks builds that cannot be made.
 check_no_build() {
     local -a someone=()
@@ -132,7 +195,7 @@ check_no_build() {
     PATH=$there/few "$there/bin/ptree_cli" a b </dev/null >"$scratch/out" 2>"$scratch/err"
     expect_refusal 'no rt' $? 'the command rt is not on the path'
     echo 'rm "$at"; echo "not proved" >&2; exit 1' >"$there/at_lib"
-    launch
+    launch bin/ptree_cli a b
     if [ $? = 1 ] && [ ! -s "$scratch/out" ] && [ "$(cat "$scratch/err")" = $'not proved\nptree_cli: it could not be built' ]; then
         report ok 'the launcher: a build that fails'
     else
@@ -156,31 +219,42 @@ check_progress() {
 
 # Prints the processes of a session that have not ended.
 live_in() {
-    ps -o stat=,pid=,args= -s "$1" | grep -v '^Z'
+    ps -o stat=,pid=,args= -s "$1" | awk '!/^Z/'
 }
 
-# Checks that a signal to a command alone ends the build, with all that it has started. Arguments: signal, command. (A shell
-# starts a command beside itself with SIGINT ignored, and nohup starts all with SIGHUP ignored, so both are set back.)
+# Checks that a signal to a command alone ends the build, with all that it has started, and leaves no temporary file.
+# Arguments: signal, command. (A shell starts a command beside itself with SIGINT ignored, and nohup starts all with SIGHUP ignored,
+# so both are set back.)
 check_signal() {
-    local name=$1 session got
+    local name=$1 session='' got live left
     shift
     rm -rf "$there/crates/ptree_cli/out" "$there/session"
-    echo 'rm "$at"; ps -o sid= $$ >"$there/session"; sleep 300' >"$there/at_lib"
-    PATH=$there/path:$PATH env --default-signal=INT,TERM,HUP "$@" </dev/null >"$scratch/out" 2>"$scratch/err" &
+    echo 'rm "$at"; ps -o sid= $$ >"$there/session"; echo half; sleep 300' >"$there/at_lib"
+    PATH=$there/path:$PATH TMPDIR=$there/tmp env --default-signal=INT,TERM,HUP "$@" </dev/null >"$scratch/out" 2>"$scratch/err" &
     for _ in $(seq 100); do
-        [ -s "$there/session" ] && break
+        if [ -s "$there/session" ] || ! kill -0 $! 2>/dev/null; then
+            break
+        fi
         sleep 0.1
     done
-    session=$(tr -d ' ' <"$there/session")
-    kill "-$name" $!
-    wait $!
+    [ -s "$there/session" ] && session=$(tr -d ' ' <"$there/session")
+    kill "-$name" $! 2>/dev/null
+    { wait $!; } 2>/dev/null
     got=$?
-    if [ -n "$session" ] && [ -z "$(live_in "$session")" ] && [ $got -gt 128 ] && [ ! -s "$scratch/out" ]; then
-        report ok "the launcher: SIG$name to $(basename "$1")"
+    # (what SIGKILL ends waits for nothing)
+    for _ in $(seq 20); do
+        live=$([ -z "$session" ] || live_in "$session")
+        [ -z "$live" ] && break
+        sleep 0.1
+    done
+    left=$(ls -A "$there/tmp")
+    if [ -n "$session" ] && [ -z "$live" ] && [ $got -gt 128 ] && [ ! -s "$scratch/out" ] && { [ "$name" = KILL ] || [ -z "$left" ]; }; then
+        report ok "the launcher: SIG$name to $(basename "$1") ${*:2}"
     else
-        report no "the launcher: SIG$name to $(basename "$1"): status $got"
-        live_in "$session" && kill -- "-$session"
+        report no "the launcher: SIG$name to $(basename "$1") ${*:2}: status $got, $left"
+        [ -z "$live" ] || { echo "$live" && kill -- "-$session"; }
     fi
+    rm -f "$there"/at_* "$there"/tmp/*
 }
 
 # Checks the launcher and the building of the program.
@@ -189,11 +263,15 @@ check_launcher() {
     make_launched
     check_changes
     check_changes_meanwhile
+    check_replaced
+    check_two_calls
+    check_many_calls
     check_no_build
     check_progress
     for name in INT TERM HUP; do
         check_signal $name "$there/bin/ptree_cli" a b
         check_signal $name "$there/bin/build" ptree_cli
     done
+    check_signal KILL "$there/bin/build" ptree_cli
     expect_launch 'a call after a build that was ended' 1 six
 }
