@@ -1,35 +1,44 @@
-# Checks bin/ptree_cli and bin/build, in a copy over two small crates. A stub of `rt` notes each call, and makes a program that
-# prints a source, its words and its input.
+# Checks bin/ptree_cli and bin/build, in a copy over small crates. A stub of `rt` notes each call, and makes or tries a program that
+# prints a source and two words, and once it is made its input too.
 # shellcheck shell=bash disable=SC2016,SC2154
 
-# Makes the copy. Progress is reported each second there.
+# Makes the copy. Progress is reported each second there. STUB replaces the launchers.
 make_launched() {
     there=$scratch/launched
     rm -rf "$there"
     chmod a+rx "$scratch"
-    mkdir -p "$there"/{bin/parts,path,few,tmp,crates/ptree/{src,specs,proofs},crates/ptree_cli/src}
-    cp bin/build bin/ptree_cli "$there/bin"
+    mkdir -p "$there"/{bin/parts,path,few,tmp,crates/ptree/{src,specs,proofs},crates/{ptree_cli,trees}/src}
+    cp bin/build "$there/bin"
+    cp "${STUB:-bin/ptree_cli}" "$there/bin/ptree_cli"
+    cp "${STUB:-bin/trees}" "$there/bin/trees"
     cp bin/parts/launch "$there/bin/parts"
     sed -i 's/^BETWEEN = 30$/BETWEEN = 1/' "$there/bin/build"
-    printf 'ptree: toml\nptree_cli: ptree\nother: ptree\n' >"$there/crates.txt"
+    printf 'ptree: toml\nptree_cli: ptree\ntrees: ptree\nother: ptree\n' >"$there/crates.txt"
     echo one >"$there/crates/ptree/src/lib.rt"
-    touch "$there/crates/ptree_cli/src/main.rt"
-    # The files `at_lib` and `at_run` say what happens in such a call.
+    touch "$there"/crates/{ptree_cli,trees}/src/main.rt
+    # The files `at_lib`, `at_run` and `at_try` say what happens in such a call.
     cat >"$there/path/rt" <<'END'
 #!/bin/sh
 there=${0%/*}/..
 echo "$1" >>"$there/calls"
 if [ "$1" = run ]; then
+    program=out/${PWD##*/}
     mkdir -p out
     echo "#!/bin/sh
 echo \"$(cat "$there/crates/ptree/src/lib.rt")\" \"<\$1>\" \"<\$2>\"
 cat
-exit 3" >out/ptree_cli
-    chmod +x out/ptree_cli
-    echo "rt: running out/ptree_cli;"
+exit 3" >"$program"
+    chmod +x "$program"
+    echo "rt: running $program;"
 fi
 at=$there/at_$1
 if [ -e "$at" ]; then . "$at"; fi
+if [ "$1" = try ]; then
+    echo "$(cat "$there/crates/ptree/src/lib.rt")" "<$3>" "<$4>"
+    cat
+    printf 'rt: a line of its own\nown line\nchecked: ended status=3\nrun=ended status=3 runners=1 proved=no\n' >&2
+    exit 3
+fi
 END
     chmod +x "$there/path/rt"
     # Commands of a path that has no `rt`.
@@ -194,6 +203,8 @@ check_no_build() {
     chmod -R u+w "$there/crates"
     PATH=$there/few "$there/bin/ptree_cli" a b </dev/null >"$scratch/out" 2>"$scratch/err"
     expect_refusal 'no rt' $? 'the command rt is not on the path'
+    PATH=$there/few "$there/bin/ptree_cli" words a </dev/null >"$scratch/out" 2>"$scratch/err"
+    expect_refusal 'no rt for a drawing' $? 'the command rt is not on the path'
     echo 'rm "$at"; echo "not proved" >&2; exit 1' >"$there/at_lib"
     launch bin/ptree_cli a b
     if [ $? = 1 ] && [ ! -s "$scratch/out" ] && [ "$(cat "$scratch/err")" = $'not proved\nptree_cli: it could not be built' ]; then
@@ -222,14 +233,14 @@ live_in() {
     ps -o stat=,pid=,args= -s "$1" | awk '!/^Z/'
 }
 
-# Checks that a signal to a command alone ends the build, with all that it has started, and leaves no temporary file.
+# Checks that a signal to a command alone ends the build or the try, with all that it has started, and leaves no temporary file.
 # Arguments: signal, command. (A shell starts a command beside itself with SIGINT ignored, and nohup starts all with SIGHUP ignored,
 # so both are set back.)
 check_signal() {
     local name=$1 session='' got live left
     shift
     rm -rf "$there/crates/ptree_cli/out" "$there/session"
-    echo 'rm "$at"; ps -o sid= $$ >"$there/session"; echo half; sleep 300' >"$there/at_lib"
+    echo 'rm "$at"; ps -o sid= $$ >"$there/session"; echo half; sleep 300' | tee "$there/at_lib" >"$there/at_try"
     PATH=$there/path:$PATH TMPDIR=$there/tmp env --default-signal=INT,TERM,HUP "$@" </dev/null >"$scratch/out" 2>"$scratch/err" &
     for _ in $(seq 100); do
         if [ -s "$there/session" ] || ! kill -0 $! 2>/dev/null; then
@@ -255,6 +266,104 @@ check_signal() {
         [ -z "$live" ] || { echo "$live" && kill -- "-$session"; }
     fi
     rm -f "$there"/at_* "$there"/tmp/*
+}
+
+# Checks a call that `rt try` draws, with one line on standard error before the program's own. Arguments: name, what it must draw, the
+# words.
+expect_try() {
+    local got name=$1 drawn=$2
+    shift 2
+    launch bin/ptree_cli "$@"
+    got=$?
+    if [ $got = 3 ] && [ "$(cat "$there/calls")" = try ] && [ "$(cat "$scratch/out")" = "$drawn" ] \
+        && head -n 1 "$scratch/err" | grep -q '^ptree_cli: .* unproved, .*; `bin/build ptree_cli` proves and builds it, once, in about [0-9]* min$' \
+        && [ "$(tail -n +2 "$scratch/err")" = 'own line' ]; then
+        report ok "the launcher: $name"
+    else
+        report no "the launcher: $name: status $got, $(xargs <"$there/calls")"
+        cat "$scratch/out" "$scratch/err"
+    fi
+}
+
+# Checks a call that is not drawn before a build. Arguments: name, the calls of rt, the launcher and its words, of which it must draw two.
+expect_build() {
+    local got name=$1 wanted=$2
+    shift 2
+    launch "$@"
+    got=$?
+    if [ $got = 3 ] && [ "$(xargs <"$there/calls")" = "$wanted" ] && [ "$(cat "$scratch/out")" = "one <${*: -2:1}> <${*: -1}>"$'\ninput' ]; then
+        report ok "the launcher builds first: $name"
+    else
+        report no "the launcher builds first: $name: status $got, $(xargs <"$there/calls")"
+        cat "$scratch/out" "$scratch/err"
+    fi
+    rm -rf "$there"/crates/*/out
+}
+
+# Draws before a build, with the streams of the call.
+draw_unbuilt() {
+    : >"$there/calls"
+    PATH=$there/path:$PATH "$there/bin/ptree_cli" words a
+}
+
+# Checks a drawing before a build whose output fails. Arguments: name, status.
+expect_unwritten() {
+    if [ "$2" = 1 ] && [ "$(cat "$there/calls")" = try ] && [ "$(wc -l <"$scratch/err")" = 2 ] \
+        && [ "$(tail -n 1 "$scratch/err")" = 'cannot write' ]; then
+        report ok "the launcher: a drawing before a build, and $1"
+    else
+        report no "the launcher: a drawing before a build, and $1: status $2"
+        cat "$scratch/err"
+    fi
+}
+
+# Checks which calls are drawn by `rt try` where the program is not built.
+check_tries() {
+    local there name
+    make_launched
+    expect_try 'a drawing before a build' 'one <words> <a>' words a
+    expect_try 'words of any form before a build' $'one <words> <-x\n--data>' words $'-x\n--data' --
+    expect_try 'an empty word before a build' 'one <words> <>' words '' b
+    PTREE_INDENT=4 expect_build 'a variable' 'lib run' bin/ptree_cli words a
+    expect_build 'a variable in lower case' 'lib run' env pTree_x= bin/ptree_cli words a
+    for name in .config/ptree.toml .config/ptree.json; do
+        touch "$HOME/$name"
+        expect_build "the file $name" 'lib run' bin/ptree_cli words a
+        rm "$HOME/$name"
+    done
+    mkdir "$there/folder"
+    touch "$there/folder/ptree.json"
+    XDG_CONFIG_HOME=$there/folder expect_build 'a file of another folder' 'lib run' bin/ptree_cli words a
+    mkdir "$there/home"
+    mv "$there/folder" "$there/home/.config"
+    HOME=home expect_build 'a file from here' 'lib run' bin/ptree_cli words a
+    expect_build 'a word that is not UTF-8' 'lib run' bin/ptree_cli words $'\xff'
+    expect_build 'another command' 'lib run' bin/ptree_cli json a
+    expect_build 'another program' 'lib run' bin/trees words a
+    cat <<<'rm "$at"; echo half; printf "checked: no-answer\nrun=no-answer runners=1 proved=no\n" >&2; exit 6' >"$there/at_try"
+    expect_build 'a try that is stopped' 'try lib run' bin/ptree_cli words a
+    cat <<<'rm "$at"; echo half; printf "checked: ended status=0\nrun=ended status=0 runners=1 proved=no\n" >&2; exit 4' >"$there/at_try"
+    expect_build 'a try that faults' 'try lib run' bin/ptree_cli words a
+    echo 'rm "$at"; echo half; kill -KILL $$' >"$there/at_try"
+    expect_build 'a try that is killed' 'try lib run' bin/ptree_cli words a
+    launch bin/ptree_cli json a
+    touch "$there/crates.txt"
+    expect_build 'nothing, if it is built and a source is touched' '' bin/ptree_cli words a
+    draw_unbuilt >/dev/full 2>"$scratch/err"
+    expect_unwritten 'a full device' $?
+    draw_unbuilt 2>"$scratch/err" | true
+    expect_unwritten 'a closed pipe' "${PIPESTATUS[0]}"
+    draw_unbuilt >&- 2>"$scratch/err"
+    expect_unwritten 'a closed output' $?
+    draw_unbuilt <&- >"$scratch/out" 2>&-
+    if [ $? = 3 ] && [ "$(cat "$there/calls")" = try ] && [ "$(cat "$scratch/out")" = 'one <words> <a>' ]; then
+        report ok 'the launcher: a drawing before a build without input and standard error'
+    else
+        report no 'the launcher: a drawing before a build without input and standard error'
+    fi
+    for name in INT TERM HUP; do
+        check_signal $name "$there/bin/ptree_cli" words a
+    done
 }
 
 # Checks the launcher and the building of the program.
