@@ -3,7 +3,7 @@
 use ptree::print_config::{FileSource, PrintConfig, Sources};
 use ptree::style::Counted;
 use ptree::value::{DocFormat, draw_document_with};
-use ptree_fixtures::full::{FULL_TOML, FULL_VARIABLES};
+use tests::fixtures::full::{FULL_TOML, FULL_VARIABLES};
 use std::alloc::{AllocError, Global};
 use std::io::{self, BufWriter, ErrorKind, Write};
 use std::time::Instant;

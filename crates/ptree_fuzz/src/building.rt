@@ -4,8 +4,8 @@ use crate::dice::Dice;
 use crate::made::text;
 use ptree::TreeBuilder;
 use ptree::builder::AddError;
-use ptree_fixtures::deviation::{Deviation, expect};
 use std::alloc::Global;
+use tests::fixtures::deviation::{Deviation, expect};
 
 // Ends a child or adds one, and adds the same one by its level to the other builder.
 fn add_to_both(

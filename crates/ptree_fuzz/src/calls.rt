@@ -10,9 +10,9 @@ use ptree::print_config::{ASCII_CHARS_PLUS, PrintConfig, Sources};
 use ptree::read::{pieces_readable, read_tree};
 use ptree::style::{Counted, DrawError};
 use ptree::value::{DocError, DocFormat, draw_document};
-use ptree_fixtures::deviation::{Deviation, expect};
-use ptree_fixtures::trees::plain;
 use std::alloc::{AllocError, Global};
+use tests::fixtures::deviation::{Deviation, expect};
+use tests::fixtures::trees::plain;
 
 // What the program writes on standard error for a usage error.
 const USAGE: &str =

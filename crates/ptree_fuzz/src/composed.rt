@@ -5,8 +5,8 @@ use ptree::item::StringItem;
 use ptree::output::Indent;
 use ptree::print_config::{PrintConfig, StyleWhen};
 use ptree::style::Style;
-use ptree_fixtures::deviation::Deviation;
 use std::alloc::{AllocError, Global};
+use tests::fixtures::deviation::Deviation;
 
 // A style where it is painted, and else the plain one.
 fn effective(style: &Style, config: &PrintConfig) -> Result<Style, AllocError> {

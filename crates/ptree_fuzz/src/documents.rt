@@ -4,8 +4,8 @@ use crate::dice::Dice;
 use crate::made::damaged;
 use ptree::print_config::{FileSource, Sources};
 use ptree::value::DocFormat;
-use ptree_fixtures::full::{FULL_JSON, FULL_TOML, FULL_VARIABLES};
 use std::alloc::{AllocError, Global};
+use tests::fixtures::full::{FULL_JSON, FULL_TOML, FULL_VARIABLES};
 
 // What stands for a value that is no list and no map, in JSON and in TOML. The last ones are
 // refused.

@@ -7,11 +7,11 @@ use ptree::graph::{EdgeError, NodeIndex, write_graph_with};
 use ptree::item::StringItem;
 use ptree::print_config::{PrintConfig, StyleWhen};
 use ptree::style::Counted;
-use ptree_fixtures::deviation::{Deviation, expect};
-use ptree_fixtures::failing::Failing;
-use ptree_fixtures::prefixes::leaves_prefix;
-use ptree_fixtures::trees::over;
 use std::alloc::{AllocError, Global};
+use tests::fixtures::deviation::{Deviation, expect};
+use tests::fixtures::failing::Failing;
+use tests::fixtures::prefixes::leaves_prefix;
+use tests::fixtures::trees::over;
 
 // The targets of the edges from a node, newest edge first.
 fn targets(alloc: Global, net: &MadeGraph, node: usize) -> Result<Vec<NodeIndex>, AllocError> {

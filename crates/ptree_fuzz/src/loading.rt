@@ -9,10 +9,10 @@ use ptree::output::{print_tree, print_tree_with, write_tree, write_tree_with};
 use ptree::print_config::{PrintConfig, Sources, first_fault, load};
 use ptree::style::{Counted, DrawError, Sink};
 use ptree::value::{ConvertError, DocError, DocFormat, Value, draw_document, draw_document_with};
-use ptree_fixtures::deviation::{Deviation, expect};
-use ptree_fixtures::failing::Failing;
-use ptree_fixtures::prefixes::{drawing_of, leaves_prefix};
 use std::alloc::{AllocError, Global};
+use tests::fixtures::deviation::{Deviation, expect};
+use tests::fixtures::failing::Failing;
+use tests::fixtures::prefixes::{drawing_of, leaves_prefix};
 
 // What a call wrote, and how it ended.
 #[derive(Drop)]

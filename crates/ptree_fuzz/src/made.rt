@@ -6,8 +6,8 @@ use ptree::graph::{Graph, NodeIndex};
 use ptree::item::StringItem;
 use ptree::print_config::{IndentChars, PrintConfig, StyleWhen};
 use ptree::style::{Color, Style};
-use ptree_fixtures::deviation::Deviation;
 use std::alloc::{AllocError, Global};
+use tests::fixtures::deviation::Deviation;
 
 // What texts are made of: what looks like a branch, line feeds, what ends lines elsewhere, codes,
 // and characters of one to four bytes.

@@ -17,9 +17,9 @@ mod rules;
 mod trees;
 
 use files::write_calls;
-use ptree_fixtures::words::number;
 use rules::try_cases;
 use std::{env, io};
+use tests::fixtures::words::number;
 
 // How many cases are tried if the words do not say.
 const CASES: u32 = 20;

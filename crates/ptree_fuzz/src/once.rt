@@ -10,10 +10,10 @@ use ptree::graph::{NodeIndex, write_graph_once_with};
 use ptree::item::StringItem;
 use ptree::print_config::PrintConfig;
 use ptree::style::Counted;
-use ptree_fixtures::deviation::{Deviation, expect};
-use ptree_fixtures::failing::Failing;
-use ptree_fixtures::prefixes::leaves_prefix;
 use std::alloc::{AllocError, Global};
+use tests::fixtures::deviation::{Deviation, expect};
+use tests::fixtures::failing::Failing;
+use tests::fixtures::prefixes::leaves_prefix;
 
 // An occurrence: its address, its node, and whether something is below it or an earlier one of
 // its node.

@@ -7,9 +7,9 @@ use ptree::item::StringItem;
 use ptree::output::Indent;
 use ptree::print_config::{ASCII_CHARS_PLUS, PrintConfig};
 use ptree::read::pieces_readable;
-use ptree_fixtures::deviation::{Deviation, expect};
-use ptree_fixtures::trees::{over, plain, read};
 use std::alloc::{AllocError, Global};
+use tests::fixtures::deviation::{Deviation, expect};
+use tests::fixtures::trees::{over, plain, read};
 
 /// The tree without what is below a level.
 pub fn cut(alloc: Global, tree: &StringItem, depth: u32) -> Result<StringItem, AllocError> {

@@ -6,9 +6,9 @@ use crate::graphs::try_graphs;
 use crate::loading;
 use crate::once::try_once;
 use crate::trees::try_trees;
-use ptree_fixtures::deviation::Deviation;
 use std::alloc::Global;
 use std::io::{self, ErrorKind};
+use tests::fixtures::deviation::Deviation;
 
 // Tries all rules on what a case deals.
 fn try_case(alloc: Global, dice: &mut Dice) -> Result<(), Deviation> {

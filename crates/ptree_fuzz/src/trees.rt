@@ -8,11 +8,11 @@ use ptree::item::StringItem;
 use ptree::output::{Indent, print_tree_with, write_tree_with};
 use ptree::print_config::{PrintConfig, StyleWhen};
 use ptree::style::Counted;
-use ptree_fixtures::deviation::{Deviation, expect};
-use ptree_fixtures::failing::{Answer, Failing, Limits};
-use ptree_fixtures::prefixes::leaves_prefix;
 use std::alloc::{AllocError, Global};
 use std::io::ErrorKind;
+use tests::fixtures::deviation::{Deviation, expect};
+use tests::fixtures::failing::{Answer, Failing, Limits};
+use tests::fixtures::prefixes::leaves_prefix;
 
 /// What `write_tree_with` writes of a tree.
 pub fn drawn(alloc: Global, tree: &StringItem, config: &PrintConfig) -> Result<String, Deviation> {

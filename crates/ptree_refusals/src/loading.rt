@@ -11,9 +11,9 @@ use ptree::print_config::{
     Fault, FileSource, PrintConfig, Sources, faults, first_fault, load, syntax_line,
 };
 use ptree::style::Counted;
-use ptree_fixtures::held::hold;
 use std::alloc::{AllocError, Global};
 use std::io::Write;
+use tests::fixtures::held::hold;
 
 // A file with a name, a text, a colour and a table, and the variable that is set beside it.
 const FILE: &str = "\

@@ -17,7 +17,6 @@ mod written;
 use failure::Failure;
 use own::{call_buffer, call_root, call_tree_alone, call_types};
 use ptree::print_config::PrintConfig;
-use ptree_fixtures::held::{Held, hold};
 use rows::{
     call_bad_source, call_document, call_painted, call_read, call_set, call_sources, call_tick,
     call_tree,
@@ -25,6 +24,7 @@ use rows::{
 use std::alloc::{AllocError, Global};
 use std::io::{self, Write};
 use styles::colored;
+use tests::fixtures::held::{Held, hold};
 use trial::{DEPTH, Trial};
 
 // The bytes that all notes fit in.

@@ -3,19 +3,19 @@
 use crate::failure::{Failure, expect};
 use crate::rows::{expect_bytes, expect_text};
 use crate::written::SHEET;
+use examples::own_types::{
+    Folder, Halved, Volume, drawing_of_folder, drawing_of_halved, drawing_of_volume,
+};
 use ptree::buffered::Buffered;
 use ptree::item::{Root, StringItem};
 use ptree::output::{print_tree_to, tree_bytes, tree_text};
 use ptree::presets::Preset;
 use ptree::print_config::PrintConfig;
 use ptree::style::{Counted, put_all};
-use ptree_callers::own_types::{
-    Folder, Halved, Volume, drawing_of_folder, drawing_of_halved, drawing_of_volume,
-};
-use ptree_fixtures::held::hold;
-use ptree_fixtures::screen::Screen;
-use ptree_fixtures::trees::{leaf, over, over_leaves};
 use std::alloc::{AllocError, Global};
+use tests::fixtures::held::hold;
+use tests::fixtures::screen::Screen;
+use tests::fixtures::trees::{leaf, over, over_leaves};
 
 /// r [a [b], c].
 pub fn branched(alloc: Global) -> Result<StringItem, AllocError> {

@@ -17,10 +17,10 @@ use ptree::print_config::{
 use ptree::read::pieces_readable;
 use ptree::style::{Color, Counted, Style};
 use ptree::value::{DocFormat, draw_document};
-use ptree_fixtures::drawings::PETGRAPH;
-use ptree_fixtures::held::{Held, hold};
-use ptree_fixtures::trees::{petgraph, plain};
 use std::alloc::{AllocError, Global};
+use tests::fixtures::drawings::PETGRAPH;
+use tests::fixtures::held::{Held, hold};
+use tests::fixtures::trees::{petgraph, plain};
 
 /// That a call returned these bytes.
 pub fn expect_bytes<E>(found: Result<Vec<u8>, E>, wanted: &str) -> Result<(), Failure>

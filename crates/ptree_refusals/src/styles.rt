@@ -5,9 +5,9 @@ use crate::trial::{DEPTH, Trial};
 use ptree::output::Indent;
 use ptree::print_config::{IndentChars, PrintConfig, StyleWhen, UTF_CHARS_BOLD, UTF_CHARS_DOUBLE};
 use ptree::style::{Color, Style};
-use ptree_fixtures::held::{Held, hold};
 use std::alloc::{AllocError, Global};
 use std::io::Write;
+use tests::fixtures::held::{Held, hold};
 
 // The style of a colour by its name.
 fn named(alloc: Global, name: &str) -> Result<Style, AllocError> {

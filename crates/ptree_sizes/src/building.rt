@@ -2,8 +2,8 @@
 
 use crate::sizes::{LEVELS, made, text};
 use ptree::TreeBuilder;
-use ptree_fixtures::deviation::{Deviation, expect};
 use std::alloc::{AllocError, Global};
+use tests::fixtures::deviation::{Deviation, expect};
 
 // Adds a leaf to the current item.
 fn add_child(alloc: Global, builder: &mut TreeBuilder) -> Result<(), AllocError> {

@@ -5,8 +5,8 @@ use ptree::output::tree_bytes;
 use ptree::print_config::{FileSource, PrintConfig, Sources};
 use ptree::style::Counted;
 use ptree::value::{DocFormat, Value, draw_document, draw_document_with};
-use ptree_fixtures::deviation::Deviation;
 use std::alloc::{AllocError, Global};
+use tests::fixtures::deviation::Deviation;
 
 // The most lists in one another that a document of either format may have.
 const NESTED: usize = 79;

@@ -6,8 +6,8 @@ use ptree::graph::{
 };
 use ptree::print_config::{FileSource, PrintConfig, Sources};
 use ptree::style::Counted;
-use ptree_fixtures::deviation::{Deviation, expect};
 use std::alloc::{AllocError, Global};
+use tests::fixtures::deviation::{Deviation, expect};
 
 const START: NodeIndex = NodeIndex(0);
 

@@ -4,8 +4,8 @@ use crate::sizes::{made, text};
 use ptree::print_config::{
     FileSource, PrintConfig, Sources, faults, first_fault, load, syntax_line,
 };
-use ptree_fixtures::deviation::{Deviation, expect};
 use std::alloc::{AllocError, Global};
+use tests::fixtures::deviation::{Deviation, expect};
 
 // The variables whose values are any texts.
 const TEXTS: [&str; 7] = [

@@ -10,10 +10,10 @@ mod parts;
 mod sizes;
 mod trees;
 
-use ptree_fixtures::deviation::{Deviation, report};
-use ptree_fixtures::words::number;
 use std::alloc::Global;
 use std::{env, io};
+use tests::fixtures::deviation::{Deviation, report};
+use tests::fixtures::words::number;
 
 // How long a text is, or how many of a thing there are.
 const SIZES: [usize; 6] = [0, 1, 2, 40, 300, 70_000];

@@ -9,9 +9,9 @@ use ptree::print_config::{
 };
 use ptree::read::pieces_readable;
 use ptree::style::{Color, Counted, Style, put_all};
-use ptree_fixtures::deviation::{Deviation, expect};
-use ptree_fixtures::trees::over_leaves;
 use std::alloc::{AllocError, Global};
+use tests::fixtures::deviation::{Deviation, expect};
+use tests::fixtures::trees::over_leaves;
 
 const PRESETS: [Preset; 10] = [
     Preset::Tree,

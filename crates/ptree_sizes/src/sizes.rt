@@ -1,7 +1,7 @@
 //! What the calls of each size share.
 
-use ptree_fixtures::deviation::Deviation;
 use std::alloc::{AllocError, Global};
+use tests::fixtures::deviation::Deviation;
 
 /// The most levels of what is drawn, and the longest text that is drawn once for each of many,
 /// since a drawing grows with their square.

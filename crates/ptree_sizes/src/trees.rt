@@ -2,6 +2,9 @@
 ghost use Rattle.ptree.specs.Readable.{HasReadablePieces};
 
 use crate::sizes::{LEVELS, made, text};
+use examples::own_types::{
+    Folder, Halved, Volume, drawing_of_folder, drawing_of_halved, drawing_of_volume, text_of_folder,
+};
 use ptree::item::{Root, StringItem};
 use ptree::output::{
     print_tree, print_tree_to, print_tree_with, tree_bytes, tree_text, write_tree, write_tree_with,
@@ -9,12 +12,9 @@ use ptree::output::{
 use ptree::print_config::{FileSource, PrintConfig, Sources};
 use ptree::read::{read_tree, read_tree_or_line};
 use ptree::style::Counted;
-use ptree_callers::own_types::{
-    Folder, Halved, Volume, drawing_of_folder, drawing_of_halved, drawing_of_volume, text_of_folder,
-};
-use ptree_fixtures::deviation::{Deviation, expect};
-use ptree_fixtures::screen::Screen;
 use std::alloc::{AllocError, Global};
+use tests::fixtures::deviation::{Deviation, expect};
+use tests::fixtures::screen::Screen;
 
 // So many leaves.
 fn leaves(alloc: Global, size: usize) -> Result<Vec<StringItem>, Deviation> {

@@ -6,11 +6,11 @@ use ptree::output::write_tree_with;
 use ptree::print_config::PrintConfig;
 use ptree::read::{pieces_readable, read_tree};
 use ptree::style::Counted;
-use ptree_fixtures::deviation::{Deviation, expect};
-use ptree_fixtures::trees::{over, over_leaves};
 use std::alloc::{AllocError, Global};
 use std::io::{self, BufWriter, Write};
 use std::str;
+use tests::fixtures::deviation::{Deviation, expect};
+use tests::fixtures::trees::{over, over_leaves};
 
 // The part that a long line is made of, of 64 bytes.
 const PART: &str = "0123456789abcdef0123456789abcdef0123456789abcdef0123456789abcde\u{7f}";

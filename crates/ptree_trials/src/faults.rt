@@ -10,13 +10,13 @@ use ptree::output::{print_tree_with, write_tree, write_tree_with};
 use ptree::print_config::{FileSource, PrintConfig, Sources, UTF_CHARS};
 use ptree::style::{Color, Counted, DrawError, Style, put_all};
 use ptree::value::{DocFormat, Value, draw_document, draw_document_with};
-use ptree_fixtures::deviation::Deviation;
-use ptree_fixtures::drawings::{PETGRAPH, TOML, TOML_DRAWN};
-use ptree_fixtures::failing::{Answer, Failing, Limits};
-use ptree_fixtures::prefixes::{drawing_of, leaves_prefix};
-use ptree_fixtures::trees::{leaf, over, over_leaves, petgraph, plain};
 use std::alloc::{AllocError, Global};
 use std::io::{self, ErrorKind};
+use tests::fixtures::deviation::Deviation;
+use tests::fixtures::drawings::{PETGRAPH, TOML, TOML_DRAWN};
+use tests::fixtures::failing::{Answer, Failing, Limits};
+use tests::fixtures::prefixes::{drawing_of, leaves_prefix};
+use tests::fixtures::trees::{leaf, over, over_leaves, petgraph, plain};
 
 const LINES: &str = "r\n: s\n├─ a\n│  : b\n│  └─ \n└─ c\n   : \n";
 

@@ -12,10 +12,10 @@ use ptree::output::tree_bytes;
 use ptree::print_config::PrintConfig;
 use ptree::read::{ReadError, read_tree, read_tree_or_line};
 use ptree::style::Counted;
-use ptree_fixtures::deviation::{Deviation, expect, report};
-use ptree_fixtures::trees::{leaf, over, over_leaves};
 use std::alloc::{AllocError, Global};
 use std::io;
+use tests::fixtures::deviation::{Deviation, expect, report};
+use tests::fixtures::trees::{leaf, over, over_leaves};
 
 // How many items a chain has below its root, and how many lines a text.
 const ITEMS: u32 = 200;

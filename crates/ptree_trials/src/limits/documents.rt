@@ -4,8 +4,8 @@ use super::steps;
 use ptree::print_config::PrintConfig;
 use ptree::style::Counted;
 use ptree::value::{DocError, DocFormat, draw_document_with};
-use ptree_fixtures::deviation::{Deviation, expect};
 use std::alloc::{AllocError, Global};
+use tests::fixtures::deviation::{Deviation, expect};
 
 // What opens a level of a document, what is in the last one, and what closes a level.
 type Parts = (&'static str, &'static str, &'static str);

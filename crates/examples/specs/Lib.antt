@@ -1,0 +1,4 @@
+pub mod Escapes
+pub mod OwnTypes
+pub mod Parts
+pub mod Tasks

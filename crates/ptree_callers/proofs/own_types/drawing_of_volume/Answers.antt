@@ -1,5 +1,0 @@
-use Rattle.std.proofs.Common.{sym}
-use Rattle.ptree_callers.proofs.own_types.drawing_of_volume.Goals as goal
-
-pub returns : goal.returns
-returns c = rw (sym c.as_str.ensures.value, sym c.as_slice.ensures.value) c.tree_bytes.ensures

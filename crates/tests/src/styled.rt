@@ -1,0 +1,77 @@
+//! Tests drawings of items with styles of their own, worked out by hand from the codes of ECMA-48.
+use crate::fixtures::expect::{expect_text, expect_tree};
+use examples::styling::{count_of_lent, drawn, drawn_plain};
+use ptree::print_config::{PrintConfig, StyleWhen};
+use ptree::style::{Color, Style};
+use ptree_trees::styled::StyledItem;
+use std::alloc::{AllocError, Global};
+use std::str;
+use std::test::Fail;
+
+// A bold red root over a leaf without a style, and one that is struck through.
+fn sample(alloc: Global) -> Result<StyledItem, AllocError> {
+    let mut urgent = Style::default();
+    urgent.bold = true;
+    urgent.foreground = Some(Color::Red);
+    let mut done = Style::default();
+    done.strikethrough = true;
+    let mut children = Vec::new(alloc);
+    children.push(StyledItem::leaf(alloc, "a", None)?)?;
+    children.push(StyledItem::leaf(alloc, "b", Some(done))?)?;
+    StyledItem::new(alloc, "r", Some(urgent), children)
+}
+
+// A configuration with plain branches and underlined leaves.
+fn underlined(alloc: Global, styled: StyleWhen) -> Result<PrintConfig, AllocError> {
+    let mut config = PrintConfig::default(alloc)?;
+    config.styled = styled;
+    config.branch = Style::default();
+    config.leaf.underline = true;
+    Ok(config)
+}
+
+#[test]
+fn each_in_its_style(rt: HostRuntime) -> Result<(), Fail> {
+    let alloc = rt.alloc();
+    let bytes = drawn(
+        alloc,
+        &sample(alloc)?,
+        &underlined(alloc, StyleWhen::Always)?,
+    )?;
+    expect_text(
+        str::from_utf8(&bytes)?,
+        "\x1b[1m\x1b[31mr\x1b[0m\n├─ \x1b[4ma\x1b[0m\n└─ \x1b[9mb\x1b[0m\n",
+    )
+}
+
+#[test]
+fn own_styles_stay_in_unstyled_output(rt: HostRuntime) -> Result<(), Fail> {
+    let alloc = rt.alloc();
+    let bytes = drawn(
+        alloc,
+        &sample(alloc)?,
+        &underlined(alloc, StyleWhen::Never)?,
+    )?;
+    expect_text(
+        str::from_utf8(&bytes)?,
+        "\x1b[1m\x1b[31mr\x1b[0m\n├─ a\n└─ \x1b[9mb\x1b[0m\n",
+    )
+}
+
+#[test]
+fn plain_has_no_codes(rt: HostRuntime) -> Result<(), Fail> {
+    let alloc = rt.alloc();
+    let config = underlined(alloc, StyleWhen::Never)?;
+    expect_text(
+        drawn_plain(alloc, &sample(alloc)?, &config)?.as_str(),
+        "r\n├─ a\n└─ b\n",
+    )
+}
+
+#[test]
+fn plain_has_the_texts(rt: HostRuntime) -> Result<(), Fail> {
+    let alloc = rt.alloc();
+    let item = sample(alloc)?;
+    assert!(rt; count_of_lent(alloc, &item)? == 2);
+    expect_tree(alloc, &item.plain(alloc)?, "r", &[(1, "a"), (1, "b")])
+}

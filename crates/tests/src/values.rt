@@ -1,0 +1,151 @@
+//! Tests values that no document has, and the kinds of values that conversions keep.
+
+use crate::fixtures::expect::expect_drawn;
+use ptree::value::Value;
+use std::alloc::{AllocError, Global};
+use std::test::Fail;
+
+// Expects that a value and its clone are drawn as this text under the default configuration, and
+// under a label as the label alone.
+fn expect_value(alloc: Global, value: Value, text: &str) -> Result<(), Fail> {
+    expect_drawn(alloc, &value.clone()?, text)?;
+    expect_drawn(alloc, &value, text)?;
+    expect_drawn(alloc, &(String::from_str(alloc, "l")?, value), "l\n")
+}
+
+#[test]
+fn texts_of_small_values(rt: HostRuntime) -> Result<(), Fail> {
+    for (value, text) in [
+        (Value::Bool(false), "false\n"),
+        (Value::U8(255), "255\n"),
+        (Value::U16(65535), "65535\n"),
+        (Value::U32(4294967295), "4294967295\n"),
+        (Value::U64(0), "0\n"),
+        (Value::U64(9), "9\n"),
+        (Value::U64(10), "10\n"),
+        (Value::U64(18446744073709551615), "18446744073709551615\n"),
+        (Value::I8(-128), "-128\n"),
+        (Value::I16(-32768), "-32768\n"),
+        (Value::I64(0), "0\n"),
+        (Value::I64(9223372036854775807), "9223372036854775807\n"),
+        (Value::I64(-9223372036854775808), "-9223372036854775808\n"),
+        (Value::Char('🌳'), "🌳\n"),
+        (Value::Unit, "\n"),
+        (Value::Option(None), "\n"),
+    ] {
+        expect_value(rt.alloc(), value, text)?;
+    }
+    Ok(())
+}
+
+// Makes an option of a wrapped number.
+fn wrapped(alloc: Global, number: i32) -> Result<Value, AllocError> {
+    let inner = Value::Newtype(Box::new(alloc, Value::I32(number))?);
+    Ok(Value::Option(Some(Box::new(alloc, inner)?)))
+}
+
+#[test]
+fn texts_of_values_that_hold_memory(rt: HostRuntime) -> Result<(), Fail> {
+    let alloc = rt.alloc();
+    expect_value(
+        alloc,
+        Value::String(String::from_str(alloc, "a\nb")?),
+        "a\n: b\n",
+    )?;
+    expect_value(alloc, wrapped(alloc, -2147483648)?, "-2147483648\n")?;
+    expect_value(alloc, Value::Seq(Vec::new(alloc)), "\n")?;
+    expect_value(alloc, Value::Map(Vec::new(alloc)), "\n")?;
+    expect_value(alloc, Value::Bytes(vec![in alloc; 65]?), "\n")
+}
+
+// Makes an option of a list.
+fn hidden(alloc: Global) -> Result<Value, AllocError> {
+    let list = Value::Seq(vec![in alloc; Value::Bool(true)]?);
+    Ok(Value::Option(Some(Box::new(alloc, list)?)))
+}
+
+#[test]
+fn draws_pairs(rt: HostRuntime) -> Result<(), Fail> {
+    let alloc = rt.alloc();
+    expect_drawn(
+        alloc,
+        &(String::from_str(alloc, "o")?, hidden(alloc)?),
+        "o\n",
+    )?;
+    expect_drawn(alloc, &(String::new(alloc), hidden(alloc)?), "\n")
+}
+
+#[test]
+fn draws_a_map_of_keys_of_any_kind(rt: HostRuntime) -> Result<(), Fail> {
+    let alloc = rt.alloc();
+    let map = Value::Map(vec![in alloc;
+        (Value::I8(-1), Value::Bytes(vec![in alloc; 1]?)),
+        (Value::Bool(true), Value::Char('x')),
+    ]?);
+    expect_drawn(alloc, &map, "\n├─ -1 = \n└─ true = x\n")
+}
+
+// Makes a map of lists, maps and a text, none of whose keys is a text.
+fn map_of_lists(alloc: Global) -> Result<Value, AllocError> {
+    let two = Value::Seq(vec![in alloc; Value::U8(1), Value::Unit]?);
+    let inner = Value::Map(vec![in alloc; (Value::Char('é'), two)]?);
+    let text = Value::String(String::from_str(alloc, "v")?);
+    Ok(Value::Map(vec![in alloc;
+        (Value::U16(700), inner),
+        (Value::Unit, Value::Seq(Vec::new(alloc))),
+        (Value::Unit, Value::Map(Vec::new(alloc))),
+        (Value::Seq(Vec::new(alloc)), text),
+    ]?))
+}
+
+#[test]
+fn draws_lists_under_keys_of_any_kind(rt: HostRuntime) -> Result<(), Fail> {
+    let alloc = rt.alloc();
+    let drawing = "\n├─ 700\n│  └─ é\n│     ├─ 1\n│     └─ \n├─ \n├─ \n└─  = v\n";
+    expect_drawn(alloc, &map_of_lists(alloc)?, drawing)
+}
+
+#[test]
+fn from_json_keeps_kinds(rt: HostRuntime) -> Result<(), Fail> {
+    let alloc = rt.alloc();
+    let parsed = serde_json::Value::from_str(alloc, "{\"b\":[1,-2],\"a\":null}")?;
+    let Value::Map(entries) = Value::from_json(alloc, &parsed)? else {
+        return Err(Fail::from("no map"));
+    };
+    let [
+        (Value::String(a), Value::Unit),
+        (Value::String(b), Value::Seq(items)),
+    ] = entries.as_slice()
+    else {
+        return Err(Fail::from("other entries"));
+    };
+    assert_eq!(rt; a.as_str(), "a");
+    assert_eq!(rt; b.as_str(), "b");
+    let [Value::U64(1), Value::I64(-2)] = items.as_slice() else {
+        return Err(Fail::from("other numbers"));
+    };
+    Ok(())
+}
+
+#[test]
+fn from_toml_keeps_kinds(rt: HostRuntime) -> Result<(), Fail> {
+    let alloc = rt.alloc();
+    let table = toml::table_from_str(alloc, "b = [1, true]\na = \"x\"")?;
+    let Value::Map(entries) = Value::from_toml(alloc, &toml::Value::Table(table))? else {
+        return Err(Fail::from("no map"));
+    };
+    let [
+        (Value::String(a), Value::String(x)),
+        (Value::String(b), Value::Seq(items)),
+    ] = entries.as_slice()
+    else {
+        return Err(Fail::from("other entries"));
+    };
+    assert_eq!(rt; a.as_str(), "a");
+    assert_eq!(rt; x.as_str(), "x");
+    assert_eq!(rt; b.as_str(), "b");
+    let [Value::I64(1), Value::Bool(true)] = items.as_slice() else {
+        return Err(Fail::from("other elements"));
+    };
+    Ok(())
+}
