@@ -1,15 +1,16 @@
 //! Callers that draw.
 ghost use Rattle.std.specs.Prelude.{◌≡◌, ◌++◌, [], ◌∷◌, IsOk};
 ghost use Rattle.ptree.specs.Address.{Address};
-ghost use Rattle.ptree.specs.Drawing.{written_look, own_at, prefix_text, entry_text};
+ghost use Rattle.ptree.specs.Drawing.{config_look, written_look, own_at, prefix_text, entry_text};
 ghost use Rattle.ptree.specs.Style.{painted_text};
 ghost use Rattle.ptree.specs.Texts.{HasNoLineFeed, line_feed};
 ghost use Rattle.ptree.specs.Tree.{tree_of, shape_of_tree};
 ghost use Rattle.ptree.specs.Writing.{HasCause, IsDrawn, IsWritten, LeavesWholeEntries};
+ghost use Rattle.ptree.specs.declared.print_config.OutputKind.{OutputKind};
 ghost use Rattle.ptree.specs.declared.print_config.StyleWhen.{StyleWhen};
 
 use ptree::item::StringItem;
-use ptree::output::{print_tree_to, write_tree_with};
+use ptree::output::{print_tree_to, print_tree_with, write_tree_with};
 use ptree::print_config::PrintConfig;
 use ptree::style::{DrawError, Sink, put_all};
 use std::alloc::Global;
@@ -79,4 +80,19 @@ pub fn print_unstyled<W: Sink + io::IsTerminal>(
     ensures cause { HasCause (W.faults out.old) (W.faults out.new) result }
 {
     print_tree_to(alloc, tree, out, config)
+}
+
+/// Prints to a terminal, or to anything else, as the caller says.
+pub fn print_where<W: Sink>(
+    alloc: Global,
+    tree: &StringItem,
+    out: &mut W,
+    terminal: bool,
+    config: &PrintConfig,
+) -> Result<(), DrawError>
+    ensures { IsDrawn (config_look config.now OutputKind.Stdout terminal)
+        (shape_of_tree (tree_of tree.now)) config.now.depth
+        (W.contents out.old) (W.contents out.new) result }
+{
+    print_tree_with(alloc, tree, out, terminal, config)
 }

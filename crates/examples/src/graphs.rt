@@ -13,7 +13,7 @@ ghost use Rattle.examples.specs.declared.graphs.Package.{Package};
 use ptree::PrintConfig;
 use ptree::graph::{
     Expanded, Graph, Label, NodeIndex, Occurrence, OccurrenceItem, Place, REPEATED_MARK,
-    print_graph_once, write_graph_once_with,
+    print_graph, print_graph_once, write_graph_once_with,
 };
 use ptree::item::TreeItem;
 use ptree::print_config::Sources;
@@ -214,4 +214,21 @@ pub fn print_needs_once<W: Sink>(
         ↔ IsDrawing look (node_shape text graph.now which.0) effective.depth drawing }
 {
     print_graph_once(alloc, graph, which, REPEATED_MARK, out, terminal, sources)
+}
+
+/// Prints all walks from a package along what is needed, under the sources that the caller has.
+pub fn print_needs<W: Sink>(
+    alloc: Global,
+    graph: &Graph<Package>,
+    which: NodeIndex,
+    out: &mut W,
+    terminal: bool,
+    sources: &Sources,
+) -> Result<(), DrawError>
+    ensures { let effective = effective_config sources.now in
+        IsDrawn (look_by effective OutputKind.Stdout terminal)
+        (node_shape (λ p. string_bytes p.name) graph.now which.0) effective.depth
+        (W.contents out.old) (W.contents out.new) result }
+{
+    print_graph(alloc, graph, which, out, terminal, sources)
 }
