@@ -1,7 +1,7 @@
 //! Tests what `Counted` asks of its writer or reader: each call once, with all its bytes or room,
 //! and nothing else.
 
-use crate::fixtures::expect::draw_to;
+use crate::expect::draw_to;
 use crate::fixtures::trees::petgraph;
 use ptree::style::{Counted, DrawError, Feed, Sink, Style, put_all};
 use std::alloc::Global;

@@ -3,10 +3,8 @@
 //! allocate its children, sources with every field, broken rules, values that are dropped by one
 //! call, and a program's words.
 
-pub mod barren;
 pub mod deviation;
 pub mod drawings;
-pub mod expect;
 pub mod failing;
 pub mod full;
 pub mod held;

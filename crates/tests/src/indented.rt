@@ -1,7 +1,6 @@
 //! Tests indented text: what is written, what is read, and each error.
-use crate::fixtures::expect::{expect_text, expect_tree};
+use crate::expect::{expect_text, expect_tree};
 use crate::fixtures::trees::{Below, tree};
-use ptree::TreeBuilder;
 use ptree_trees::indented::{
     Form, IndentError, WriteError, indented_text, is_line_text, is_unit, read_indented,
     write_indented,
@@ -9,14 +8,9 @@ use ptree_trees::indented::{
 use std::alloc::Global;
 use std::test::Fail;
 
-// The form with this unit and no bullet.
-fn plain(unit: &str) -> Form<'_> {
-    Form { unit, bullet: "" }
-}
-
-// The form with two blanks a level, and this bullet.
-fn listed(bullet: &str) -> Form<'_> {
-    Form { unit: "  ", bullet }
+// The form of a unit and a bullet.
+fn form<'a>(unit: &'a str, bullet: &'a str) -> Form<'a> {
+    Form { unit, bullet }
 }
 
 #[test]
@@ -67,56 +61,33 @@ fn expect_form(
     expect_tree(alloc, &read_indented(alloc, text, form)?, root, below)
 }
 
+const BELOW: Below = &[(1, "a"), (2, "b c"), (3, "d"), (1, "e")];
+
 #[test]
 fn forms(rt: HostRuntime) -> Result<(), Fail> {
-    let alloc = rt.alloc();
-    let below: Below = &[(1, "a"), (2, "b c"), (3, "d"), (1, "e")];
-    expect_form(
-        alloc,
-        "r\n  a\n    b c\n      d\n  e\n",
-        &plain("  "),
-        "r",
-        below,
-    )?;
-    expect_form(
-        alloc,
-        "r\n\ta\n\t\tb c\n\t\t\td\n\te\n",
-        &plain("\t"),
-        "r",
-        below,
-    )?;
-    expect_form(alloc, "r\n", &plain(" "), "r", &[])
-}
-
-#[test]
-fn forms_of_texts(rt: HostRuntime) -> Result<(), Fail> {
-    let alloc = rt.alloc();
-    expect_form(alloc, "\n \n", &plain(" "), "", &[(1, "")])?;
-    expect_form(alloc, "r \n  a\t\n", &plain("  "), "r ", &[(1, "a\t")])?;
-    expect_form(alloc, "r\r\n ä\r\n", &plain(" "), "r\r", &[(1, "ä\r")])?;
-    expect_form(alloc, "- r\n  - a\n", &plain("  "), "- r", &[(1, "- a")])
-}
-
-#[test]
-fn forms_with_bullets(rt: HostRuntime) -> Result<(), Fail> {
-    let alloc = rt.alloc();
-    let below: Below = &[(1, "a"), (2, "b"), (1, "c")];
-    expect_form(
-        alloc,
-        "- r\n  - a\n    - b\n  - c\n",
-        &listed("- "),
-        "r",
-        below,
-    )?;
-    expect_form(alloc, "*r\n  *a\n    *b\n  *c\n", &listed("*"), "r", below)?;
-    expect_form(alloc, "- \n  -  a\n", &listed("- "), "", &[(1, " a")])?;
-    expect_form(
-        alloc,
-        "- - r\n  - \ta\n",
-        &listed("- "),
-        "- r",
-        &[(1, "\ta")],
-    )
+    let texts: [(&str, &str, &str, &str, Below); 11] = [
+        ("  ", "", "r\n  a\n    b c\n      d\n  e\n", "r", BELOW),
+        ("\t", "", "r\n\ta\n\t\tb c\n\t\t\td\n\te\n", "r", BELOW),
+        (" ", "", "r\n", "r", &[]),
+        (" ", "", "\n \n", "", &[(1, "")]),
+        ("  ", "", "r \n  a\t\n", "r ", &[(1, "a\t")]),
+        (" ", "", "r\r\n ä\r\n", "r\r", &[(1, "ä\r")]),
+        ("  ", "", "- r\n  - a\n", "- r", &[(1, "- a")]),
+        (
+            "  ",
+            "- ",
+            "- r\n  - a\n    - b c\n      - d\n  - e\n",
+            "r",
+            BELOW,
+        ),
+        ("  ", "*", "*r\n  *a\n", "r", &[(1, "a")]),
+        ("  ", "- ", "- \n  -  a\n", "", &[(1, " a")]),
+        ("  ", "- ", "- - r\n  - \ta\n", "- r", &[(1, "\ta")]),
+    ];
+    for (unit, bullet, text, root, below) in texts {
+        expect_form(rt.alloc(), text, &form(unit, bullet), root, below)?;
+    }
+    Ok(())
 }
 
 // Expects that a text in a form is refused with this error.
@@ -132,47 +103,52 @@ fn expect_refused(alloc: Global, text: &str, form: &Form, wanted: IndentError) -
 
 #[test]
 fn wrong_lines(rt: HostRuntime) -> Result<(), Fail> {
-    for (text, unit, line) in [
-        (" r\n", " ", 1),
-        ("\tr\n", " ", 1),
-        ("r\nr\n", " ", 2),
-        ("r\n\n", " ", 2),
-        ("r\n  a\n", " ", 2),
-        ("r\n a\n", "  ", 2),
-        ("r\n\ta\n", " ", 2),
-        ("r\n a\n\tb\n", " ", 3),
-        ("r\n  a\n     b\n", "  ", 3),
-        ("r\n a\n  b\n c\n   d\n", " ", 5),
-        ("r\n a\n    b\nc", " ", 3),
+    for (unit, bullet, text, line) in [
+        (" ", "", " r\n", 1),
+        (" ", "", "\tr\n", 1),
+        (" ", "", "r\nr\n", 2),
+        (" ", "", "r\n\n", 2),
+        (" ", "", "r\n  a\n", 2),
+        ("  ", "", "r\n a\n", 2),
+        (" ", "", "r\n\ta\n", 2),
+        (" ", "", "r\n a\n\tb\n", 3),
+        ("  ", "", "r\n  a\n     b\n", 3),
+        (" ", "", "r\n a\n  b\n c\n   d\n", 5),
+        (" ", "", "r\n a\n    b\nc", 3),
+        ("  ", "- ", "r\n", 1),
+        ("  ", "- ", "-\n", 1),
+        ("  ", "- ", "  - r\n", 1),
+        ("  ", "- ", "- r\n  a\n", 2),
+        ("  ", "- ", "- r\n  * a\n", 2),
+        ("  ", "- ", "- r\n- a\n", 2),
+        ("  ", "- ", "- r\n - a\n", 2),
+        ("  ", "- ", "- r\n  - a\n      - b\n", 3),
     ] {
-        expect_refused(rt.alloc(), text, &plain(unit), IndentError::Line(line))?;
-    }
-    Ok(())
-}
-
-#[test]
-fn wrong_lines_with_bullets(rt: HostRuntime) -> Result<(), Fail> {
-    for (text, line) in [
-        ("r\n", 1),
-        ("-\n", 1),
-        ("  - r\n", 1),
-        ("- r\n  a\n", 2),
-        ("- r\n  * a\n", 2),
-        ("- r\n- a\n", 2),
-        ("- r\n - a\n", 2),
-        ("- r\n  - a\n      - b\n", 3),
-    ] {
-        expect_refused(rt.alloc(), text, &listed("- "), IndentError::Line(line))?;
+        expect_refused(
+            rt.alloc(),
+            text,
+            &form(unit, bullet),
+            IndentError::Line(line),
+        )?;
     }
     Ok(())
 }
 
 #[test]
 fn incomplete_texts(rt: HostRuntime) -> Result<(), Fail> {
-    for text in ["", "r", " r", "r\n a", "r\nr", "r\n a\n ", "r\n a\r"] {
-        expect_refused(rt.alloc(), text, &plain(" "), IndentError::End)?;
+    for (bullet, text) in [
+        ("", ""),
+        ("", "r"),
+        ("", " r"),
+        ("", "r\n a"),
+        ("", "r\nr"),
+        ("", "r\n a\n "),
+        ("", "r\n a\r"),
+        ("- ", "- r\n - a"),
+    ] {
+        expect_refused(rt.alloc(), text, &form(" ", bullet), IndentError::End)?;
     }
-    expect_refused(rt.alloc(), "- r\n  - a", &listed("- "), IndentError::End)
+    Ok(())
 }
 
 // Expects that a tree is not written, since a text of it cannot stand there.
@@ -186,47 +162,29 @@ fn expect_not_written(alloc: Global, form: &Form, root: &str, below: Below) -> R
 
 #[test]
 fn texts_that_are_not_written(rt: HostRuntime) -> Result<(), Fail> {
-    let alloc = rt.alloc();
-    expect_not_written(alloc, &plain(" "), " r", &[])?;
-    expect_not_written(alloc, &plain(" "), "r\n", &[])?;
-    expect_not_written(alloc, &plain(" "), "r", &[(1, "a\nb")])?;
-    expect_not_written(alloc, &plain(" "), "r", &[(1, "a"), (2, "\tb")])?;
-    expect_not_written(alloc, &listed("- "), "r", &[(1, "a\n")])?;
-    expect_not_written(alloc, &listed(" -"), "r", &[])
+    let texts: [(&str, &str, Below); 6] = [
+        ("", " r", &[]),
+        ("", "r\n", &[]),
+        ("", "r", &[(1, "a\nb")]),
+        ("", "r", &[(1, "a"), (2, "\tb")]),
+        ("- ", "r", &[(1, "a\n")]),
+        (" -", "r", &[]),
+    ];
+    for (bullet, root, below) in texts {
+        expect_not_written(rt.alloc(), &form(" ", bullet), root, below)?;
+    }
+    Ok(())
 }
 
 #[test]
 fn appended(rt: HostRuntime) -> Result<(), Fail> {
     let alloc = rt.alloc();
     let mut out = String::from_str(alloc, "before\n")?;
-    let item = tree(alloc, "r", &[(1, "a")])?;
-    write_indented(alloc, &item, &plain("\t"), &mut out)?;
+    write_indented(
+        alloc,
+        &tree(alloc, "r", &[(1, "a")])?,
+        &form("\t", ""),
+        &mut out,
+    )?;
     expect_text(out.as_str(), "before\nr\n\ta\n")
-}
-
-#[test]
-fn nothing_appended(rt: HostRuntime) -> Result<(), Fail> {
-    let alloc = rt.alloc();
-    let mut out = String::from_str(alloc, "before\n")?;
-    let item = tree(alloc, "r", &[(1, " a")])?;
-    assert!(rt; write_indented(alloc, &item, &plain("\t"), &mut out) == Err(WriteError::Text));
-    expect_text(out.as_str(), "before\n")
-}
-
-#[test]
-fn deep_chain(rt: HostRuntime) -> Result<(), Fail> {
-    let alloc = rt.alloc();
-    let mut builder = TreeBuilder::new(alloc, String::from_str(alloc, "r")?);
-    for level in 1..=300 {
-        builder.add_at_level(level, String::from_str(alloc, "a")?)?;
-    }
-    let item = builder.build()?;
-    let form = Form {
-        unit: " ",
-        bullet: "",
-    };
-    let text = indented_text(alloc, &item, &form)?;
-    assert_eq!(rt; text.len(), 2 + 300 * 2 + 300 * 301 / 2);
-    assert!(rt; read_indented(alloc, text.as_str(), &form)? == item);
-    Ok(())
 }

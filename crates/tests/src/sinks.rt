@@ -1,52 +1,11 @@
-//! Tests writers that accept little, that fail, and that accept everything, and readers.
+//! Tests readers, and that a writer is asked whether it is a terminal.
 
-use crate::fixtures::expect::{draw_to, expect_on_screen, expect_text};
-use crate::fixtures::failing::{Answer, Breaking, Failing};
-use crate::fixtures::trees::{over_leaves, petgraph};
-use ptree::buffered::Buffered;
-use ptree::style::{Counted, DrawError, Feed, put_all};
+use crate::expect::expect_on_screen;
+use crate::fixtures::failing::Breaking;
+use crate::fixtures::trees::over_leaves;
+use ptree::style::{Counted, Feed};
 use std::io::ErrorKind;
-use std::str;
 use std::test::Fail;
-
-#[test]
-fn whole_entries_and_a_part_of_one(rt: HostRuntime) -> Result<(), Fail> {
-    let alloc = rt.alloc();
-    let mut out = Counted::new(Failing::new(alloc, 119, 30, usize::MAX, Answer::Zero)?);
-    let result = draw_to(alloc, &petgraph(alloc)?, u32::MAX, &mut out);
-    assert!(rt; matches!(&result, Err(DrawError::Zero)));
-    let writer = out.into_inner();
-    expect_text(str::from_utf8(&writer.taken)?, "petgraph\n├── quickcheck\n")
-}
-
-#[test]
-fn nothing_is_asked_for_no_bytes(rt: HostRuntime) -> Result<(), Fail> {
-    let alloc = rt.alloc();
-    let mut out = Counted::new(Failing::new(alloc, 0, 0, 0, Answer::Zero)?);
-    assert!(rt; put_all(&mut out, b"").is_ok());
-    assert!(rt; out.into_inner().calls == 0);
-    Ok(())
-}
-
-#[test]
-fn nothing_is_asked_where_a_buffer_is_empty(rt: HostRuntime) -> Result<(), Fail> {
-    let alloc = rt.alloc();
-    let writer = Failing::new(alloc, 0, 0, 0, Answer::Zero)?;
-    let mut out = Buffered::with_capacity(alloc, 4, Counted::new(writer))?;
-    assert!(rt; out.flush().is_ok() && put_all(&mut out, b"").is_ok());
-    assert!(rt; out.flush().is_ok());
-    assert!(rt; out.into_inner().into_inner().calls == 0);
-    Ok(())
-}
-
-#[test]
-fn an_entry_is_one_put(rt: HostRuntime) -> Result<(), Fail> {
-    let alloc = rt.alloc();
-    let mut out = Counted::new(Failing::new(alloc, 119, 119, 119, Answer::Zero)?);
-    assert!(rt; draw_to(alloc, &petgraph(alloc)?, u32::MAX, &mut out).is_ok());
-    assert!(rt; out.into_inner().calls == 6);
-    Ok(())
-}
 
 #[test]
 fn a_writer_is_asked_whether_it_is_a_terminal(rt: HostRuntime) -> Result<(), Fail> {

@@ -1,6 +1,7 @@
 //! Tests drawings of items with styles of their own, worked out by hand from the codes of ECMA-48.
-use crate::fixtures::expect::{expect_text, expect_tree};
-use examples::styling::{count_of_lent, drawn, drawn_plain};
+use crate::expect::{expect_text, expect_tree};
+use crate::fixtures::held::hold;
+use examples::styling::drawn;
 use ptree::print_config::{PrintConfig, StyleWhen};
 use ptree::style::{Color, Style};
 use ptree_trees::styled::StyledItem;
@@ -30,48 +31,29 @@ fn underlined(alloc: Global, styled: StyleWhen) -> Result<PrintConfig, AllocErro
     Ok(config)
 }
 
-#[test]
-fn each_in_its_style(rt: HostRuntime) -> Result<(), Fail> {
-    let alloc = rt.alloc();
-    let bytes = drawn(
-        alloc,
-        &sample(alloc)?,
-        &underlined(alloc, StyleWhen::Always)?,
-    )?;
-    expect_text(
-        str::from_utf8(&bytes)?,
-        "\x1b[1m\x1b[31mr\x1b[0m\n├─ \x1b[4ma\x1b[0m\n└─ \x1b[9mb\x1b[0m\n",
-    )
+// Expects that the sample has this drawing.
+fn expect_styled(alloc: Global, styled: StyleWhen, wanted: &str) -> Result<(), Fail> {
+    let config = hold(underlined(alloc, styled))?;
+    let bytes = drawn(alloc, &sample(alloc)?, &config.value)?;
+    expect_text(str::from_utf8(&bytes)?, wanted)
 }
 
 #[test]
 fn own_styles_stay_in_unstyled_output(rt: HostRuntime) -> Result<(), Fail> {
     let alloc = rt.alloc();
-    let bytes = drawn(
-        alloc,
-        &sample(alloc)?,
-        &underlined(alloc, StyleWhen::Never)?,
-    )?;
-    expect_text(
-        str::from_utf8(&bytes)?,
-        "\x1b[1m\x1b[31mr\x1b[0m\n├─ a\n└─ \x1b[9mb\x1b[0m\n",
-    )
-}
-
-#[test]
-fn plain_has_no_codes(rt: HostRuntime) -> Result<(), Fail> {
-    let alloc = rt.alloc();
-    let config = underlined(alloc, StyleWhen::Never)?;
-    expect_text(
-        drawn_plain(alloc, &sample(alloc)?, &config)?.as_str(),
-        "r\n├─ a\n└─ b\n",
-    )
+    let styled = "\x1b[1m\x1b[31mr\x1b[0m\n├─ \x1b[4ma\x1b[0m\n└─ \x1b[9mb\x1b[0m\n";
+    expect_styled(alloc, StyleWhen::Always, styled)?;
+    let unstyled = "\x1b[1m\x1b[31mr\x1b[0m\n├─ a\n└─ \x1b[9mb\x1b[0m\n";
+    expect_styled(alloc, StyleWhen::Never, unstyled)
 }
 
 #[test]
 fn plain_has_the_texts(rt: HostRuntime) -> Result<(), Fail> {
     let alloc = rt.alloc();
-    let item = sample(alloc)?;
-    assert!(rt; count_of_lent(alloc, &item)? == 2);
-    expect_tree(alloc, &item.plain(alloc)?, "r", &[(1, "a"), (1, "b")])
+    expect_tree(
+        alloc,
+        &sample(alloc)?.plain(alloc)?,
+        "r",
+        &[(1, "a"), (1, "b")],
+    )
 }

@@ -1,6 +1,6 @@
 //! Tests values that no document has, and the kinds of values that conversions keep.
 
-use crate::fixtures::expect::expect_drawn;
+use crate::expect::expect_drawn;
 use ptree::value::Value;
 use std::alloc::{AllocError, Global};
 use std::test::Fail;
@@ -75,22 +75,14 @@ fn draws_pairs(rt: HostRuntime) -> Result<(), Fail> {
     expect_drawn(alloc, &(String::new(alloc), hidden(alloc)?), "\n")
 }
 
-#[test]
-fn draws_a_map_of_keys_of_any_kind(rt: HostRuntime) -> Result<(), Fail> {
-    let alloc = rt.alloc();
-    let map = Value::Map(vec![in alloc;
-        (Value::I8(-1), Value::Bytes(vec![in alloc; 1]?)),
-        (Value::Bool(true), Value::Char('x')),
-    ]?);
-    expect_drawn(alloc, &map, "\n├─ -1 = \n└─ true = x\n")
-}
-
-// Makes a map of lists, maps and a text, none of whose keys is a text.
+// Makes a map of lists, maps and single values, none of whose keys is a text.
 fn map_of_lists(alloc: Global) -> Result<Value, AllocError> {
     let two = Value::Seq(vec![in alloc; Value::U8(1), Value::Unit]?);
     let inner = Value::Map(vec![in alloc; (Value::Char('é'), two)]?);
     let text = Value::String(String::from_str(alloc, "v")?);
     Ok(Value::Map(vec![in alloc;
+        (Value::I8(-1), Value::Bytes(vec![in alloc; 1]?)),
+        (Value::Bool(true), Value::Char('x')),
         (Value::U16(700), inner),
         (Value::Unit, Value::Seq(Vec::new(alloc))),
         (Value::Unit, Value::Map(Vec::new(alloc))),
@@ -99,9 +91,10 @@ fn map_of_lists(alloc: Global) -> Result<Value, AllocError> {
 }
 
 #[test]
-fn draws_lists_under_keys_of_any_kind(rt: HostRuntime) -> Result<(), Fail> {
+fn draws_a_map_of_keys_of_any_kind(rt: HostRuntime) -> Result<(), Fail> {
     let alloc = rt.alloc();
-    let drawing = "\n├─ 700\n│  └─ é\n│     ├─ 1\n│     └─ \n├─ \n├─ \n└─  = v\n";
+    let drawing =
+        "\n├─ -1 = \n├─ true = x\n├─ 700\n│  └─ é\n│     ├─ 1\n│     └─ \n├─ \n├─ \n└─  = v\n";
     expect_drawn(alloc, &map_of_lists(alloc)?, drawing)
 }
 

@@ -1,0 +1,206 @@
+//! The code of `docs/EXAMPLES.md` that is not in the crate `examples`, and what the types there
+//! draw.
+ghost use Rattle.std.specs.Prelude.{◌≡◌, ◌<◌, OnOk};
+
+use crate::expect::{expect_drawn, expect_graph, expect_once, expect_text};
+use examples::own_types::{Folder, Halved};
+use examples::tasks::release;
+use ptree::TreeBuilder;
+use ptree::builder::AddError;
+use ptree::graph::Graph;
+use ptree::item::{Root, StringItem};
+use ptree::print_config::{FileSource, PrintConfig, Sources, first_fault, load, syntax_line};
+use ptree::read::read_tree;
+use std::alloc::{AllocError, Global};
+use std::test::Fail;
+
+const NOTES: &str = "\
+notes
+├─ shopping
+│  : by Friday
+│  └─ bread
+└─ call home
+   : after six
+";
+
+// Returns the notes, by calls that are chained.
+fn notes(alloc: Global) -> Result<StringItem, AllocError> {
+    let mut builder = TreeBuilder::new(alloc, String::from_str(alloc, "notes")?);
+    builder
+        .begin_child(String::from_str(alloc, "shopping\nby Friday")?)?
+        .add_empty_child(String::from_str(alloc, "bread")?)?
+        .end_child()
+        .add_empty_child(String::from_str(alloc, "call home\nafter six")?)?
+        .build()
+}
+
+#[test]
+fn notes_are_drawn(rt: HostRuntime) -> Result<(), Fail> {
+    let alloc = rt.alloc();
+    expect_drawn(alloc, &notes(alloc)?, NOTES)
+}
+
+// Reads a text under the default configuration.
+fn read_default(alloc: Global, text: &str) -> Result<Option<StringItem>, AllocError> {
+    let config = PrintConfig::default(alloc)?;
+    read_tree(alloc, text, &config)
+}
+
+#[test]
+fn notes_are_edited_as_text(rt: HostRuntime) -> Result<(), Fail> {
+    let alloc = rt.alloc();
+    let edited = NOTES.replace(alloc, "by Friday\n", "by Friday,\n│  : with flowers\n")?;
+    let notes = read_default(alloc, edited.as_str())?.ok_or("no drawing")?;
+    let shopping = notes.children.first().ok_or("no child")?;
+    expect_text(shopping.text.as_str(), "shopping\nby Friday,\nwith flowers")
+}
+
+// Adds a list of so many elements, and below it the two halves that are sorted first.
+fn add_list(alloc: Global, builder: &mut TreeBuilder, len: u32) -> Result<(), AddError>
+    ensures { OnOk result (builder.new.level ≡ builder.old.level) }
+{
+    if builder.level() == u32::MAX {
+        return Err(AddError::Level);
+    }
+    builder.begin_child(len.to_string(alloc)?)?;
+    if len > 1 {
+        add_list(alloc, builder, len / 2)?;
+        add_list(alloc, builder, len - len / 2)?;
+    }
+    builder.end_child();
+    Ok(())
+}
+
+#[test]
+fn a_recursion_builds_a_tree(rt: HostRuntime) -> Result<(), Fail> {
+    let alloc = rt.alloc();
+    let mut builder = TreeBuilder::new(alloc, String::from_str(alloc, "sort")?);
+    add_list(alloc, &mut builder, 3)?;
+    let text = "sort\n└─ 3\n   ├─ 1\n   └─ 2\n      ├─ 1\n      └─ 1\n";
+    expect_drawn(alloc, &builder.build()?, text)
+}
+
+#[test]
+fn a_tree_is_made_without_a_builder(rt: HostRuntime) -> Result<(), Fail> {
+    let alloc = rt.alloc();
+    let leaves = vec![in alloc;
+        StringItem::leaf(alloc, "bread")?,
+        StringItem::leaf(alloc, "milk")?,
+    ]?;
+    let shopping = StringItem::new(alloc, "shopping", leaves)?;
+    let mut list = String::new(alloc);
+    for (level, item) in shopping.items(alloc)? {
+        list.push_str(format!(in alloc; "{level} {}, ", item.text)?.as_str())?;
+    }
+    expect_text(list.as_str(), "0 shopping, 1 bread, 1 milk, ")
+}
+
+// What each package needs.
+fn packages(alloc: Global) -> Result<Graph<&'static str>, Fail> {
+    let mut packages = Graph::new(alloc);
+    let petgraph = packages.add_node("petgraph")?;
+    let fixedbitset = packages.add_node("fixedbitset")?;
+    let quickcheck = packages.add_node("quickcheck")?;
+    let rand = packages.add_node("rand")?;
+    let libc = packages.add_node("libc")?;
+    packages.extend_with_edges(&[
+        (petgraph, fixedbitset),
+        (petgraph, quickcheck),
+        (quickcheck, rand),
+        (rand, libc),
+        (quickcheck, libc),
+    ])?;
+    Ok(packages)
+}
+
+#[test]
+fn packages_are_a_graph(rt: HostRuntime) -> Result<(), Fail> {
+    let alloc = rt.alloc();
+    let text = "petgraph\n├─ quickcheck\n│  ├─ libc\n│  └─ rand\n│     └─ libc\n└─ fixedbitset\n";
+    expect_graph(alloc, &packages(alloc)?, text)
+}
+
+// Draws the modules from `app` and what needs `parser`, and expects both drawings.
+fn expect_modules(alloc: Global, needed: &str, needing: &str) -> Result<(), Fail> {
+    let mut modules = Graph::new(alloc);
+    let app = modules.add_node("app")?;
+    let parser = modules.add_node("parser")?;
+    let lexer = modules.add_node("lexer")?;
+    modules.extend_with_edges(&[
+        (lexer, parser),
+        (parser, lexer),
+        (app, lexer),
+        (app, parser),
+    ])?;
+    expect_once(alloc, &modules, app, needed)?;
+    expect_once(alloc, &modules.reversed(), parser, needing)
+}
+
+#[test]
+fn modules_are_drawn_once(rt: HostRuntime) -> Result<(), Fail> {
+    expect_modules(
+        rt.alloc(),
+        "app\n├─ parser\n│  └─ lexer\n│     └─ parser (*)\n└─ lexer (*)\n",
+        "parser\n├─ app\n└─ lexer\n   ├─ app\n   └─ parser (*)\n",
+    )
+}
+
+// A file and a variable.
+fn sources(alloc: Global, file: &str) -> Result<Sources, AllocError> {
+    let name = String::from_str(alloc, "PTREE_INDENT")?;
+    let value = String::from_str(alloc, "4")?;
+    Ok(Sources {
+        file: FileSource::Json(String::from_str(alloc, file)?),
+        variables: vec![in alloc; (name, value)]?,
+    })
+}
+
+#[test]
+fn sources_are_loaded(rt: HostRuntime) -> Result<(), Fail> {
+    let alloc = rt.alloc();
+    let sources = sources(alloc, "{\"depth\": 2}")?;
+    let config = load(alloc, &sources)?.ok_or("a fault")?;
+    assert!(rt; config.depth == 2 && config.indent == 4);
+    Ok(())
+}
+
+#[test]
+fn a_syntax_error_has_a_line(rt: HostRuntime) -> Result<(), Fail> {
+    let alloc = rt.alloc();
+    let sources = sources(alloc, "{\n  \"depth\": 2,\n}\n")?;
+    let fault = first_fault(alloc, &sources)?.ok_or("no fault")?;
+    let line = syntax_line(alloc, &sources.file)?.ok_or("no line")?;
+    let text = format!(in alloc; "line {line}: {fault}")?;
+    expect_text(
+        text.as_str(),
+        "line 3: the file is no document of its format",
+    )
+}
+
+// Makes a folder without folders in it.
+fn empty_folder(alloc: Global, name: &str) -> Result<Folder, AllocError> {
+    Ok(Folder {
+        name: String::from_str(alloc, name)?,
+        folders: Vec::new(alloc),
+    })
+}
+
+#[test]
+fn own_types_are_drawn(rt: HostRuntime) -> Result<(), Fail> {
+    let alloc = rt.alloc();
+    let halves = "5\n├─ 2\n│  ├─ 1\n│  └─ 1\n└─ 3\n   ├─ 1\n   └─ 2\n      ├─ 1\n      └─ 1\n";
+    expect_drawn(alloc, &Halved(5), halves)?;
+    let folders = vec![in alloc; empty_folder(alloc, "bin")?, empty_folder(alloc, "etc")?]?;
+    let root = Root {
+        text: "disk",
+        children: folders.as_slice(),
+    };
+    expect_drawn(alloc, &root, "disk\n├─ bin\n└─ etc\n")
+}
+
+#[test]
+fn tasks_have_their_own_styles(rt: HostRuntime) -> Result<(), Fail> {
+    let alloc = rt.alloc();
+    let text = "release\n├─ \x1b[9mchangelog\x1b[0m\n└─ \x1b[31mcall the printers\x1b[0m\n";
+    expect_drawn(alloc, &release(alloc)?, text)
+}
