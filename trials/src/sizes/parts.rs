@@ -1,0 +1,255 @@
+//! The calls of styles, characters, pieces, configurations and buffers.
+
+use crate::sizes::{made, text};
+use ptree::buffered::Buffered;
+use ptree::output::{Indent, tree_bytes};
+use ptree::presets::Preset;
+use ptree::print_config::{
+    ASCII_CHARS_PLUS, CharsError, IndentChars, PrintConfig, StaticIndentChars, StyleWhen,
+};
+use ptree::read::pieces_readable;
+use ptree::style::{Color, Counted, Style, put_all};
+use std::alloc::{AllocError, Global};
+use crate::deviation::{Deviation, expect};
+use tests::fixtures::trees::over_leaves;
+
+const PRESETS: [Preset; 10] = [
+    Preset::Tree,
+    Preset::TreeAscii,
+    Preset::CargoTree,
+    Preset::CargoTreeAscii,
+    Preset::Findmnt,
+    Preset::FindmntAscii,
+    Preset::Sqlite,
+    Preset::Maven,
+    Preset::Clang,
+    Preset::Ps,
+];
+
+const SETS: [&str; 7] = [
+    "utf",
+    "ascii",
+    "ascii-tick",
+    "ascii-plus",
+    "utf-bold",
+    "utf-dashed",
+    "utf-double",
+];
+
+// Characters that are empty, which no shipped set has.
+const EMPTY: StaticIndentChars = StaticIndentChars {
+    down_and_right: "",
+    down: "",
+    turn_right: "",
+    right: "",
+    empty: "",
+};
+
+// A style with two colours by names of so many bytes.
+fn named(alloc: Global, size: usize) -> Result<Style, AllocError> {
+    let mut style = Style::default();
+    style.bold = true;
+    style.foreground = Some(Color::Named(text(alloc, size)?));
+    style.background = Some(Color::Named(text(alloc, size)?));
+    Ok(style)
+}
+
+// Characters of so many bytes each.
+fn characters(alloc: Global, size: usize) -> Result<IndentChars, AllocError> {
+    Ok(IndentChars {
+        down_and_right: text(alloc, size)?,
+        down: text(alloc, size)?,
+        turn_right: text(alloc, size)?,
+        right: text(alloc, size)?,
+        empty: text(alloc, size)?,
+    })
+}
+
+// A configuration whose texts have so many bytes.
+fn config(alloc: Global, size: usize) -> Result<PrintConfig, AllocError> {
+    Ok(PrintConfig {
+        depth: u32::MAX,
+        indent: 3,
+        padding: 1,
+        styled: StyleWhen::Always,
+        characters: characters(alloc, size)?,
+        branch: named(alloc, size)?,
+        leaf: named(alloc, size)?,
+        continued: text(alloc, size)?,
+    })
+}
+
+// The calls of a style.
+fn try_style(alloc: Global, size: usize, input: &str) -> Result<(), Deviation> {
+    let style = named(alloc, size)?;
+    made(style.paint(alloc, input), "`Style::paint` succeeds")?;
+    let copy = made(style.clone(), "`Style::clone` succeeds")?;
+    expect(copy == style, "a copy of a style equals it")
+}
+
+// The calls of a colour.
+fn try_color(color: &Color) -> Result<(), Deviation> {
+    let copy = made(color.clone(), "`Color::clone` succeeds")?;
+    expect(copy == *color, "a copy of a colour equals it")
+}
+
+// The calls of styles and colours.
+fn try_styles(alloc: Global, size: usize) -> Result<(), Deviation> {
+    let input = text(alloc, size)?;
+    try_style(alloc, size, input.as_str())?;
+    try_color(&Color::Named(input))
+}
+
+// The calls of shipped sets of characters.
+fn try_sets(alloc: Global) -> Result<(), Deviation> {
+    for set in [ASCII_CHARS_PLUS, EMPTY] {
+        made(
+            IndentChars::from_static(alloc, set),
+            "`IndentChars::from_static` succeeds",
+        )?;
+    }
+    for name in SETS {
+        made(
+            IndentChars::from_name(alloc, name),
+            "`IndentChars::from_name` finds each shipped set",
+        )?;
+    }
+    Ok(())
+}
+
+// A name of no shipped set, none of which has a name of many letters.
+fn try_unknown(alloc: Global, size: usize) -> Result<(), Deviation> {
+    let name = text(alloc, size)?;
+    let is_unknown = matches!(
+        IndentChars::from_name(alloc, name.as_str()),
+        Err(CharsError::Unknown)
+    );
+    expect(is_unknown, "a name of no set is unknown")
+}
+
+// The copy of characters.
+fn try_characters(alloc: Global, size: usize) -> Result<(), Deviation> {
+    let characters = characters(alloc, size)?;
+    let copy = made(characters.clone(), "`IndentChars::clone` succeeds")?;
+    expect(copy == characters, "a copy of characters equals them")
+}
+
+// The calls that make pieces of wide characters.
+fn try_wide_pieces(alloc: Global, size: usize) -> Result<(), Deviation> {
+    let wide = characters(alloc, size)?;
+    made(
+        Indent::from_characters(alloc, 3, &wide),
+        "`Indent::from_characters` succeeds",
+    )?;
+    Ok(())
+}
+
+// The calls that make pieces of many characters.
+fn try_long_pieces(alloc: Global, size: usize) -> Result<(), Deviation> {
+    let single = characters(alloc, 1)?;
+    made(
+        Indent::from_characters(alloc, size, &single),
+        "`Indent::from_characters` succeeds",
+    )?;
+    for (indent, padding) in [(size, size), (size, 1), (3, size)] {
+        made(
+            Indent::from_characters_and_padding(alloc, indent, padding, &single),
+            "`Indent::from_characters_and_padding` succeeds",
+        )?;
+    }
+    Ok(())
+}
+
+// The copy of a configuration.
+fn try_copy(config: &PrintConfig) -> Result<(), Deviation> {
+    let copy = made(config.clone(), "`PrintConfig::clone` succeeds")?;
+    expect(copy == *config, "a copy of a configuration equals it")
+}
+
+// A drawing under a configuration.
+fn try_drawing(alloc: Global, config: &PrintConfig) -> Result<(), Deviation> {
+    let tree = over_leaves(alloc, "r", &["a\nb", "c"])?;
+    made(tree_bytes(alloc, &tree, config), "`tree_bytes` succeeds")?;
+    Ok(())
+}
+
+// The calls of a configuration, and a drawing under it.
+fn try_config(alloc: Global, config: &PrintConfig) -> Result<(), Deviation> {
+    made(
+        Indent::from_config(alloc, config),
+        "`Indent::from_config` succeeds",
+    )?;
+    made(pieces_readable(alloc, config), "`pieces_readable` succeeds")?;
+    made(
+        config.paint_branch(alloc, "a"),
+        "`PrintConfig::paint_branch` succeeds",
+    )?;
+    made(
+        config.paint_leaf(alloc, "a"),
+        "`PrintConfig::paint_leaf` succeeds",
+    )?;
+    try_copy(config)?;
+    try_drawing(alloc, config)
+}
+
+// The calls of a configuration of long texts.
+fn try_texts(alloc: Global, size: usize) -> Result<(), Deviation> {
+    let config = config(alloc, size)?;
+    try_config(alloc, &config)
+}
+
+// The calls of a configuration of wide pieces.
+fn try_widths(alloc: Global, size: usize) -> Result<(), Deviation> {
+    let mut wide = made(
+        PrintConfig::default(alloc),
+        "`PrintConfig::default` succeeds",
+    )?;
+    wide.indent = size;
+    try_config(alloc, &wide)?;
+    wide.padding = size;
+    try_config(alloc, &wide)
+}
+
+// The calls of presets.
+fn try_presets(alloc: Global) -> Result<(), Deviation> {
+    for preset in PRESETS {
+        made(preset.config(alloc), "`Preset::config` succeeds")?;
+    }
+    Ok(())
+}
+
+// What a buffer of a size passes on of these bytes, and more.
+fn passed_on(alloc: Global, size: usize, bytes: &[u8]) -> Result<Vec<u8>, Deviation> {
+    let sink = Counted::new(Vec::new(alloc));
+    let mut buffered = made(
+        Buffered::with_capacity(alloc, size, sink),
+        "`Buffered::with_capacity` succeeds",
+    )?;
+    for part in [bytes, b"yz"] {
+        made(put_all(&mut buffered, part), "a buffer takes all bytes")?;
+    }
+    made(buffered.flush(), "`Buffered::flush` succeeds")?;
+    Ok(buffered.into_inner().into_inner())
+}
+
+// The calls of a buffer of a size, which is given as many bytes, and more.
+fn try_buffer(alloc: Global, size: usize) -> Result<(), Deviation> {
+    let mut bytes = text(alloc, size)?.into_bytes();
+    let passed_on = passed_on(alloc, size, &bytes)?;
+    bytes.extend_from_slice(b"yz")?;
+    expect(passed_on == bytes, "a buffer passes on what it was given")
+}
+
+/// Tries all of them.
+pub fn try_all(alloc: Global, size: usize) -> Result<(), Deviation> {
+    try_styles(alloc, size)?;
+    try_sets(alloc)?;
+    try_unknown(alloc, size)?;
+    try_characters(alloc, size)?;
+    try_wide_pieces(alloc, size)?;
+    try_long_pieces(alloc, size)?;
+    try_texts(alloc, size)?;
+    try_widths(alloc, size)?;
+    try_presets(alloc)?;
+    try_buffer(alloc, size)
+}
