@@ -1,5 +1,6 @@
 //! Drawings of extreme sizes, to standard output.
 
+use crate::deviation::{Deviation, expect};
 use ptree::graph::{Graph, NodeIndex, write_graph_with};
 use ptree::item::StringItem;
 use ptree::output::write_tree_with;
@@ -9,7 +10,6 @@ use ptree::style::Counted;
 use std::alloc::{AllocError, Global};
 use std::io::{self, BufWriter, Write};
 use std::str;
-use crate::deviation::{Deviation, expect};
 use tests::fixtures::trees::{over, over_leaves};
 
 // The part that a long line is made of, of 64 bytes.

@@ -1,6 +1,8 @@
 //! Drawings to writers that fail at each byte in each way: what a writer took is a prefix of the
 //! whole drawing, and its answer is reported.
 
+use crate::deviation::Deviation;
+use crate::prefixes::{Limits, drawing_of, leaves_prefix};
 use ptree::graph::{
     Graph, Label, NodeIndex, REPEATED_MARK, print_graph, print_graph_once, write_graph_once_with,
     write_graph_with,
@@ -12,9 +14,7 @@ use ptree::style::{Color, Counted, DrawError, Style, put_all};
 use ptree::value::{DocFormat, Value, draw_document, draw_document_with};
 use std::alloc::{AllocError, Global};
 use std::io::{self, ErrorKind};
-use crate::deviation::Deviation;
 use tests::fixtures::failing::{Answer, Failing};
-use crate::prefixes::{Limits, drawing_of, leaves_prefix};
 use tests::fixtures::trees::{leaf, over, over_leaves, petgraph, plain};
 
 /// The drawing of [`petgraph`], four characters wide.

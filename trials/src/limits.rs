@@ -3,6 +3,7 @@
 
 mod documents;
 
+use crate::deviation::{Deviation, expect, report};
 use documents::{try_both, try_json, try_toml};
 use ptree::TreeBuilder;
 use ptree::builder::AddError;
@@ -14,7 +15,6 @@ use ptree::read::{ReadError, read_tree, read_tree_or_line};
 use ptree::style::Counted;
 use std::alloc::{AllocError, Global};
 use std::io;
-use crate::deviation::{Deviation, expect, report};
 use tests::fixtures::trees::{leaf, over, over_leaves};
 
 // How many items a chain has below its root.
@@ -287,7 +287,11 @@ pub fn try_limits(rt: &HostRuntime, lines: u32) -> io::Result<()> {
     report(rt, "a builder of 70,000 levels", try_levels(alloc))?;
     report(rt, "a text of many lines", try_lines(alloc, lines))?;
     report(rt, "many items", try_items(alloc, lines / 2))?;
-    report(rt, "many lines with a wrong one", try_wrong_lines(alloc, lines))?;
+    report(
+        rt,
+        "many lines with a wrong one",
+        try_wrong_lines(alloc, lines),
+    )?;
     report(rt, "a graph of 30 layers, expanded once", try_layers(alloc))?;
     report(rt, "JSON nested to the limit, and past it", try_json(alloc))?;
     report(rt, "TOML nested to the limit, and past it", try_toml(alloc))?;

@@ -30,7 +30,8 @@ use sizes::try_sizes;
 use std::process::ExitCode;
 use std::{env, io};
 
-const USAGE: &str = "usage: trials (faults | limits LINES | sizes MOST | refusals | rules SEED CASES \
+const USAGE: &str =
+    "usage: trials (faults | limits LINES | sizes MOST | refusals | rules SEED CASES \
                      | calls FOLDER SEED CASES | extreme NAME)";
 
 // A word's number, or 0 if there is none in it.

@@ -5,26 +5,26 @@ mod building;
 mod documents;
 mod failure;
 mod graphs;
+mod known;
 mod loading;
 mod own;
 mod reading;
-mod known;
 mod styles;
 mod trial;
 mod written;
 
 use crate::refusals::failure::Failure;
-use crate::refusals::own::{call_buffer, call_root, call_tree_alone, call_types};
-use ptree::print_config::PrintConfig;
 use crate::refusals::known::{
     call_bad_source, call_document, call_painted, call_read, call_set, call_sources, call_tick,
     call_tree,
 };
+use crate::refusals::own::{call_buffer, call_root, call_tree_alone, call_types};
+use crate::refusals::styles::colored;
+use crate::refusals::trial::{DEPTH, Trial};
+use ptree::print_config::PrintConfig;
 use std::alloc::{AllocError, Global};
 use std::io::{self, Write};
-use crate::refusals::styles::colored;
 use tests::fixtures::held::{Held, hold};
-use crate::refusals::trial::{DEPTH, Trial};
 
 // The bytes that all notes fit in.
 const ROOM: usize = 32_768;

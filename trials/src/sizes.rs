@@ -8,9 +8,9 @@ mod loading;
 mod parts;
 mod trees;
 
+use crate::deviation::{Deviation, report};
 use std::alloc::{AllocError, Global};
 use std::io;
-use crate::deviation::{Deviation, report};
 
 /// The most levels of what is drawn, and the longest text that is drawn once for each of many,
 /// since a drawing grows with their square.

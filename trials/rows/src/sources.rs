@@ -4,8 +4,15 @@
 mod spelled;
 mod values;
 
+use crate::files::Field;
+use crate::form::{lines_form, parse_text, parse_value, value_form};
+use crate::graphs::Nodes;
+use crate::outline::parse_tree;
+use crate::settings::set;
 use crate::sources::spelled::spelled;
 use crate::sources::values::{drawn_alone, drawn_labelled, value_of};
+use crate::tries::{Subject, Taken};
+use crate::trouble::Trouble;
 use ptree::graph::{print_graph, print_graph_once};
 use ptree::item::StringItem;
 use ptree::output::{print_tree, write_tree};
@@ -14,13 +21,6 @@ use ptree::print_config::{
 };
 use ptree::style::{Counted, DrawError};
 use ptree::value::{DocError, DocFormat, draw_document, draw_document_with};
-use crate::form::{lines_form, parse_text, parse_value, value_form};
-use crate::graphs::Nodes;
-use crate::outline::parse_tree;
-use crate::files::Field;
-use crate::settings::set;
-use crate::tries::{Subject, Taken};
-use crate::trouble::Trouble;
 use std::alloc::{AllocError, Global};
 
 /// A document under a label and a configuration, and sources with a tree and a graph to draw.

@@ -6,21 +6,21 @@ mod edits;
 mod programs;
 mod sets;
 
+use crate::files::Field;
+use crate::form::{lines_form, parse_text, parse_value, value_form};
+use crate::outline::{outline_of, parse_tree};
+use crate::settings::set;
 use crate::trees::building::Building;
 use crate::trees::edits::{Edit, cut_end, edited};
 use crate::trees::programs::program;
 use crate::trees::sets::{is_set, readable_grid, reads_back_in_all};
+use crate::tries::{Subject, Taken};
+use crate::trouble::Trouble;
 use ptree::item::StringItem;
 use ptree::output::{Indent, print_tree_with, tree_bytes, write_tree_with};
 use ptree::print_config::{OutputKind, PrintConfig};
 use ptree::read::{ReadError, pieces_readable, read_tree, read_tree_or_line};
 use ptree::style::{Counted, DrawError};
-use crate::form::{lines_form, parse_text, parse_value, value_form};
-use crate::outline::{outline_of, parse_tree};
-use crate::files::Field;
-use crate::settings::set;
-use crate::tries::{Subject, Taken};
-use crate::trouble::Trouble;
 use std::alloc::{AllocError, Global};
 
 /// A configuration, a tree, a text that may be edited, and a text to paint or to find a set by.

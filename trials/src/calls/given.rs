@@ -1,6 +1,7 @@
 //! Random calls of the program, and what the library's own calls give for the same words, sources
 //! and input.
 
+use crate::deviation::{Deviation, expect};
 use crate::rules::dice::Dice;
 use crate::rules::documents::{document, sources};
 use crate::rules::made::{damaged, is_too_wide, text, tree};
@@ -11,7 +12,6 @@ use ptree::read::{pieces_readable, read_tree};
 use ptree::style::{Counted, DrawError};
 use ptree::value::{DocError, DocFormat, draw_document};
 use std::alloc::{AllocError, Global};
-use crate::deviation::{Deviation, expect};
 use tests::fixtures::trees::plain;
 
 // What the program writes on standard error for a usage error.

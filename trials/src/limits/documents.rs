@@ -1,11 +1,11 @@
 //! Documents nested as deep as they may be, and one level deeper.
 
 use super::steps;
+use crate::deviation::{Deviation, expect};
 use ptree::print_config::PrintConfig;
 use ptree::style::Counted;
 use ptree::value::{DocError, DocFormat, draw_document_with};
 use std::alloc::{AllocError, Global};
-use crate::deviation::{Deviation, expect};
 
 // What opens a level of a document, what is in the last one, and what closes a level.
 type Parts = (&'static str, &'static str, &'static str);

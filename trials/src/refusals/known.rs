@@ -1,5 +1,6 @@
 //! Calls whose answers are written here.
 
+use crate::faults::PETGRAPH;
 use crate::refusals::building::{builder_of, end};
 use crate::refusals::failure::{Failure, expect};
 use crate::refusals::graphs::graph_drawn;
@@ -18,7 +19,6 @@ use ptree::read::pieces_readable;
 use ptree::style::{Color, Counted, Style};
 use ptree::value::{DocFormat, draw_document};
 use std::alloc::{AllocError, Global};
-use crate::faults::PETGRAPH;
 use tests::fixtures::held::{Held, hold};
 use tests::fixtures::trees::{petgraph, plain};
 

@@ -1,11 +1,11 @@
 //! Rules of building: both ways of it make the same tree.
 
+use crate::deviation::{Deviation, expect};
 use crate::rules::dice::Dice;
 use crate::rules::made::text;
 use ptree::TreeBuilder;
 use ptree::builder::AddError;
 use std::alloc::Global;
-use crate::deviation::{Deviation, expect};
 
 // Ends a child or adds one, and adds the same one by its level to the other builder.
 fn add_to_both(

@@ -1,12 +1,12 @@
 //! A drawing by its parts: the root's entry, and the drawings of the children after their pieces.
 
+use crate::deviation::Deviation;
 use crate::rules::trees::drawn;
 use ptree::item::StringItem;
 use ptree::output::Indent;
 use ptree::print_config::{PrintConfig, StyleWhen};
 use ptree::style::Style;
 use std::alloc::{AllocError, Global};
-use crate::deviation::Deviation;
 
 // A style where it is painted, and else the plain one.
 fn effective(style: &Style, config: &PrintConfig) -> Result<Style, AllocError> {

@@ -1,11 +1,11 @@
 //! Random documents, and random sources of a configuration.
 
+use crate::full::{FULL_JSON, FULL_TOML, FULL_VARIABLES};
 use crate::rules::dice::Dice;
 use crate::rules::made::damaged;
 use ptree::print_config::{FileSource, Sources};
 use ptree::value::DocFormat;
 use std::alloc::{AllocError, Global};
-use crate::full::{FULL_JSON, FULL_TOML, FULL_VARIABLES};
 
 // What stands for a value that is no list and no map, in JSON and in TOML. The last ones are
 // refused.

@@ -1,17 +1,17 @@
 //! Rules of graphs: their drawings are those of the trees of walks.
 
+use crate::deviation::{Deviation, expect};
+use crate::prefixes::leaves_prefix;
 use crate::rules::dice::Dice;
 use crate::rules::made::{MadeGraph, config, depth, net, start};
 use crate::rules::trees::{drawn, writer_limits};
+use ptree::TreeBuilder;
 use ptree::graph::{EdgeError, NodeIndex, write_graph_with};
 use ptree::item::StringItem;
 use ptree::print_config::{PrintConfig, StyleWhen};
 use ptree::style::Counted;
 use std::alloc::{AllocError, Global};
-use crate::deviation::{Deviation, expect};
 use tests::fixtures::failing::Failing;
-use crate::prefixes::leaves_prefix;
-use tests::fixtures::trees::over;
 
 // The targets of the edges from a node, newest edge first.
 fn targets(alloc: Global, net: &MadeGraph, node: usize) -> Result<Vec<NodeIndex>, AllocError> {
@@ -60,24 +60,50 @@ pub fn few_walks(
     Ok(depth)
 }
 
-// The tree of walks from a node, down to a level.
+// The text of a node.
+fn label(alloc: Global, net: &MadeGraph, node: usize) -> Result<String, AllocError> {
+    match net.texts.get(node) {
+        Some(text) => text.clone(),
+        None => Ok(String::new(alloc)),
+    }
+}
+
+// Adds the targets of the edges from a node at a level, the newest edge last, if a depth admits
+// them.
+fn push_targets(
+    net: &MadeGraph,
+    (level, node): (u32, usize),
+    depth: u32,
+    open: &mut Vec<(u32, usize)>,
+) -> Result<(), AllocError> {
+    if level < depth {
+        for (source, target) in &net.edges {
+            if *source == node {
+                open.push((level + 1, *target))?;
+            }
+        }
+    }
+    Ok(())
+}
+
+// The tree of walks from a node, down to a level at which there are few.
 fn walks(
     alloc: Global,
     net: &MadeGraph,
     node: usize,
     depth: u32,
-) -> Result<StringItem, AllocError> {
-    let mut children = Vec::new(alloc);
-    if depth > 0 {
-        for target in &targets(alloc, net, node)? {
-            children.push(walks(alloc, net, target.0, depth - 1)?)?;
-        }
+) -> Result<StringItem, Deviation> {
+    let mut builder = TreeBuilder::new(alloc, label(alloc, net, node)?);
+    let mut open = Vec::new(alloc);
+    push_targets(net, (0, node), depth, &mut open)?;
+    for _ in 0..WALKS {
+        let Some((level, node)) = open.pop() else {
+            break;
+        };
+        builder.add_at_level(level, label(alloc, net, node)?)?;
+        push_targets(net, (level, node), depth, &mut open)?;
     }
-    let text = match net.texts.get(node) {
-        Some(text) => text.as_str(),
-        None => "",
-    };
-    over(alloc, text, children)
+    Ok(builder.build()?)
 }
 
 // What `write_graph_with` writes.

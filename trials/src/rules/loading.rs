@@ -1,5 +1,7 @@
 //! Rules of sources and documents: what is loaded, what is drawn under it, and what is refused.
 
+use crate::deviation::{Deviation, expect};
+use crate::prefixes::{drawing_of, leaves_prefix};
 use crate::rules::dice::Dice;
 use crate::rules::documents::{document, sources};
 use crate::rules::made::{config, is_too_wide, text, tree};
@@ -10,9 +12,7 @@ use ptree::print_config::{PrintConfig, Sources, first_fault, load};
 use ptree::style::{Counted, DrawError, Sink};
 use ptree::value::{ConvertError, DocError, DocFormat, Value, draw_document, draw_document_with};
 use std::alloc::{AllocError, Global};
-use crate::deviation::{Deviation, expect};
 use tests::fixtures::failing::Failing;
-use crate::prefixes::{drawing_of, leaves_prefix};
 
 // What a call wrote, and how it ended.
 #[derive(Drop)]

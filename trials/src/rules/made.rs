@@ -1,5 +1,6 @@
 //! Random texts, trees, configurations and graphs.
 
+use crate::deviation::Deviation;
 use crate::rules::dice::Dice;
 use ptree::TreeBuilder;
 use ptree::graph::{Graph, NodeIndex};
@@ -7,7 +8,6 @@ use ptree::item::StringItem;
 use ptree::print_config::{IndentChars, PrintConfig, StyleWhen};
 use ptree::style::{Color, Style};
 use std::alloc::{AllocError, Global};
-use crate::deviation::Deviation;
 
 // What texts are made of: what looks like a branch, line feeds, what ends lines elsewhere, codes,
 // and characters of one to four bytes.

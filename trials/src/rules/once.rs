@@ -1,6 +1,8 @@
 //! Rules of graphs that are drawn with each node expanded once, beside what their definition by
 //! addresses gives.
 
+use crate::deviation::{Deviation, expect};
+use crate::prefixes::leaves_prefix;
 use crate::rules::dice::Dice;
 use crate::rules::graphs::{few_walks, nothing_drawn};
 use crate::rules::made::{MadeGraph, config, depth, net, start, text};
@@ -11,9 +13,7 @@ use ptree::item::StringItem;
 use ptree::print_config::PrintConfig;
 use ptree::style::Counted;
 use std::alloc::{AllocError, Global};
-use crate::deviation::{Deviation, expect};
 use tests::fixtures::failing::Failing;
-use crate::prefixes::leaves_prefix;
 
 // An occurrence: its address, its node, and whether something is below it or an earlier one of
 // its node.

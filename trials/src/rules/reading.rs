@@ -1,5 +1,6 @@
 //! Rules of reading: a drawing is read as its tree, and what is read is drawn as the text.
 
+use crate::deviation::{Deviation, expect};
 use crate::rules::dice::Dice;
 use crate::rules::made::damaged;
 use crate::rules::trees::drawn;
@@ -8,7 +9,6 @@ use ptree::output::Indent;
 use ptree::print_config::{ASCII_CHARS_PLUS, PrintConfig};
 use ptree::read::{pieces_readable, read_tree};
 use std::alloc::{AllocError, Global};
-use crate::deviation::{Deviation, expect};
 use tests::fixtures::trees::{over, plain};
 
 /// The tree without what is below a level.
@@ -23,11 +23,7 @@ pub fn cut(alloc: Global, tree: &StringItem, depth: u32) -> Result<StringItem, A
 }
 
 // What is read of a text, if the pieces and the marker are readable.
-fn read(
-    alloc: Global,
-    text: &str,
-    config: &PrintConfig,
-) -> Result<Option<StringItem>, AllocError> {
+fn read(alloc: Global, text: &str, config: &PrintConfig) -> Result<Option<StringItem>, AllocError> {
     if pieces_readable(alloc, config)? {
         read_tree(alloc, text, config)
     } else {

@@ -1,5 +1,7 @@
 //! Rules of trees: their drawings by those of their parts, printing and copying.
 
+use crate::deviation::{Deviation, expect};
+use crate::prefixes::{Limits, leaves_prefix};
 use crate::rules::composed::composed;
 use crate::rules::dice::Dice;
 use crate::rules::made::{config, tree};
@@ -10,9 +12,7 @@ use ptree::print_config::{PrintConfig, StyleWhen};
 use ptree::style::Counted;
 use std::alloc::{AllocError, Global};
 use std::io::ErrorKind;
-use crate::deviation::{Deviation, expect};
 use tests::fixtures::failing::{Answer, Failing};
-use crate::prefixes::{Limits, leaves_prefix};
 
 /// What `write_tree_with` writes of a tree.
 pub fn drawn(alloc: Global, tree: &StringItem, config: &PrintConfig) -> Result<String, Deviation> {

@@ -1,9 +1,9 @@
 //! The calls of builders.
 
+use crate::deviation::{Deviation, expect};
 use crate::sizes::{LEVELS, made, text};
 use ptree::TreeBuilder;
 use std::alloc::{AllocError, Global};
-use crate::deviation::{Deviation, expect};
 
 // Adds a leaf to the current item.
 fn add_child(alloc: Global, builder: &mut TreeBuilder) -> Result<(), AllocError> {

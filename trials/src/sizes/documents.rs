@@ -1,12 +1,12 @@
 //! The calls of values and documents.
 
+use crate::deviation::Deviation;
 use crate::sizes::{LEVELS, made, text};
 use ptree::output::tree_bytes;
 use ptree::print_config::{FileSource, PrintConfig, Sources};
 use ptree::style::Counted;
 use ptree::value::{DocFormat, Value, draw_document, draw_document_with};
 use std::alloc::{AllocError, Global};
-use crate::deviation::Deviation;
 
 // The most lists in one another that a document of either format may have.
 const NESTED: usize = 79;

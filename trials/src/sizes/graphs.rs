@@ -1,5 +1,6 @@
 //! The calls of graphs.
 
+use crate::deviation::{Deviation, expect};
 use crate::sizes::{LEVELS, made, text};
 use ptree::graph::{
     Graph, Label, NodeIndex, print_graph, print_graph_once, write_graph_once_with, write_graph_with,
@@ -7,7 +8,6 @@ use ptree::graph::{
 use ptree::print_config::{FileSource, PrintConfig, Sources};
 use ptree::style::Counted;
 use std::alloc::{AllocError, Global};
-use crate::deviation::{Deviation, expect};
 
 const START: NodeIndex = NodeIndex(0);
 

@@ -1,11 +1,11 @@
 //! The calls that load a configuration.
 
+use crate::deviation::{Deviation, expect};
 use crate::sizes::{made, text};
 use ptree::print_config::{
     FileSource, PrintConfig, Sources, faults, first_fault, load, syntax_line,
 };
 use std::alloc::{AllocError, Global};
-use crate::deviation::{Deviation, expect};
 
 // The variables whose values are any texts.
 const TEXTS: [&str; 7] = [

@@ -1,5 +1,6 @@
 //! The calls of styles, characters, pieces, configurations and buffers.
 
+use crate::deviation::{Deviation, expect};
 use crate::sizes::{made, text};
 use ptree::buffered::Buffered;
 use ptree::output::{Indent, tree_bytes};
@@ -10,7 +11,6 @@ use ptree::print_config::{
 use ptree::read::pieces_readable;
 use ptree::style::{Color, Counted, Style, put_all};
 use std::alloc::{AllocError, Global};
-use crate::deviation::{Deviation, expect};
 use tests::fixtures::trees::over_leaves;
 
 const PRESETS: [Preset; 10] = [

@@ -1,6 +1,7 @@
 //! The calls of items and of the reader, and those that draw.
 ghost use Rattle.ptree.specs.Readable.{HasReadablePieces};
 
+use crate::deviation::{Deviation, expect};
 use crate::sizes::{LEVELS, made, text};
 use examples::own_types::{
     Folder, Halved, Volume, drawing_of_folder, drawing_of_halved, drawing_of_volume, text_of_folder,
@@ -13,7 +14,6 @@ use ptree::print_config::{FileSource, PrintConfig, Sources};
 use ptree::read::{read_tree, read_tree_or_line};
 use ptree::style::Counted;
 use std::alloc::{AllocError, Global};
-use crate::deviation::{Deviation, expect};
 use tests::fixtures::screen::Screen;
 
 // So many leaves.

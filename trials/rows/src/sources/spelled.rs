@@ -1,9 +1,9 @@
 //! Writes a configuration as settings: only those that differ from the default.
 
-use ptree::print_config::{IndentChars, PrintConfig, StyleWhen};
-use ptree::style::{Color, Style};
 use crate::form::value_form;
 use crate::trouble::Trouble;
+use ptree::print_config::{IndentChars, PrintConfig, StyleWhen};
+use ptree::style::{Color, Style};
 use std::alloc::{AllocError, Global};
 
 // Appends a line of a word and a value.

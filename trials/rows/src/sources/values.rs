@@ -1,11 +1,11 @@
 //! Makes the value of a document, and draws it as an item.
 
+use crate::form::lines_form;
+use crate::trouble::Trouble;
 use ptree::item::TreeItem;
 use ptree::output::tree_text;
 use ptree::print_config::PrintConfig;
 use ptree::value::{ConvertError, DocFormat, Value};
-use crate::form::lines_form;
-use crate::trouble::Trouble;
 use std::alloc::Global;
 
 /// Why a document has no value: a word for it, or out of memory.

@@ -1,13 +1,13 @@
 //! Makes the calls of a builder and of a graph, and returns their results.
 
+use crate::form::{lines_form, parse_value};
+use crate::graphs::Nodes;
+use crate::trouble::Trouble;
 use ptree::TreeBuilder;
 use ptree::graph::{write_graph_once_with, write_graph_with};
 use ptree::item::StringItem;
 use ptree::print_config::PrintConfig;
 use ptree::style::Counted;
-use crate::form::{lines_form, parse_value};
-use crate::graphs::Nodes;
-use crate::trouble::Trouble;
 use std::alloc::Global;
 
 /// A builder, a graph, and whether the last call that can be refused was accepted.

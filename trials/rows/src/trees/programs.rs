@@ -1,8 +1,8 @@
 //! Finds the configurations of other programs that draw trees, by their names in rows.
 
+use crate::trouble::Trouble;
 use ptree::presets::Preset;
 use ptree::print_config::PrintConfig;
-use crate::trouble::Trouble;
 use std::alloc::Global;
 
 /// Returns the configuration of a program.

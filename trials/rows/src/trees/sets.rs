@@ -1,9 +1,9 @@
 //! Answers questions over many configurations.
 
+use crate::trouble::Trouble;
 use ptree::item::StringItem;
 use ptree::print_config::{CharsError, IndentChars, PrintConfig, StyleWhen};
 use ptree::read::{pieces_readable, read_tree};
-use crate::trouble::Trouble;
 use std::alloc::{AllocError, Global};
 
 /// Whether there is a set of characters with this name.
