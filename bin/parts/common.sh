@@ -152,29 +152,33 @@ make_stubs() {
     chmod +x "$scratch/nothing" "$scratch/no_memory" "$scratch/echo" "$scratch/drawing"
 }
 
-# Runs all checks of the part again with each of these stubs in the program's place. Each check must fail, but those that
-# bin/parts/passed_by_stubs names, with the reason why a stub may pass them.
-check_stubs() {
-    local part=${0##*/} count=$((passed + failed)) stub counts
+# Runs a group of checks, and again with each of these stubs in the program's place. Each check must fail then, but those that
+# bin/parts/passed_by_stubs names, with the reason why the stub may pass them. Arguments: the group, the stubs.
+check_with_stubs() {
+    local group=$1 part=${0##*/} count=$((passed + failed)) stub counts
+    shift
+    $group
+    count=$((passed + failed - count))
     for stub; do
-        STUB=$scratch/$stub "$top/bin/parts/$part" >"$scratch/said" 2>&1
+        STUB=$scratch/$stub CHECKS=$group "$top/bin/parts/$part" >"$scratch/said" 2>&1
         counts=$(tail -n 1 "$scratch/said")
         sed -n 's/^ok: //p' "$scratch/said" | sort >"$scratch/passed"
         sed -n "s/^$part $stub: \(.*\) <- .*/\1/p" bin/parts/passed_by_stubs | sort >"$scratch/may_pass"
-        if [ $((${counts%% *} + $(cut -d' ' -f3 <<<"$counts"))) = $count ] && diff "$scratch/passed" "$scratch/may_pass" >"$scratch/differs"; then
-            report ok "the stub of ${stub//_/ } passes none of $count checks but $(wc -l <"$scratch/may_pass")"
+        if [ "$(wc -l <"$scratch/passed") passed, $((count - $(wc -l <"$scratch/may_pass"))) failed" = "$counts" ] \
+            && diff "$scratch/passed" "$scratch/may_pass" >"$scratch/differs"; then
+            report ok "the stub of ${stub//_/ } passes none of these $count checks but $(wc -l <"$scratch/may_pass")"
         else
-            report no "the stub of ${stub//_/ } passes other checks than bin/parts/passed_by_stubs names: $counts, of $count"
+            report no "the stub of ${stub//_/ }: $counts of $count checks, and bin/parts/passed_by_stubs differs"
             cat "$scratch/differs"
         fi
     done
 }
 
-# If STUB names a program, runs all checks with it, or the groups of them that CHECKS names, and ends.
+# If STUB names a program, runs the groups of checks that CHECKS names with it, and ends.
 leave_to_stub() {
     local group
     [ -n "${STUB:-}" ] || return 0
-    for group in ${CHECKS:-check_all}; do
+    for group in $CHECKS; do
         $group
     done
     finish

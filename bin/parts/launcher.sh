@@ -25,11 +25,15 @@ if [ "$1" = run ]; then
     program=out/${PWD##*/}
     mkdir -p out
     echo "#!/bin/sh
-echo \"$(cat "$there/crates/ptree/src/lib.rt")\" \"<\$1>\" \"<\$2>\"
+echo \"$(cat ../ptree/src/lib.rt)\" \"<\$1>\" \"<\$2>\"
 cat
 exit 3" >"$program"
     chmod +x "$program"
     echo "rt: running $program;"
+fi
+if [ "$1" = lib ]; then
+    mkdir -p out/rlib
+    cat src/lib.rt >out/rlib/stamp
 fi
 at=$there/at_$1
 if [ -e "$at" ]; then . "$at"; fi
@@ -150,7 +154,7 @@ check_replaced() {
 # Checks that of two first calls one builds, and the other waits for it.
 check_two_calls() {
     local got
-    rm -r "$there/crates/ptree_cli/out"
+    rm -r "$there"/crates/*/out
     echo 'rm -f "$at"; sleep 2' >"$there/at_lib"
     (cd "$there" && PATH=$there/path:$PATH bin/ptree_cli c d </dev/null) >"$scratch/other_out" 2>"$scratch/other_err" &
     launch bin/ptree_cli a b
@@ -158,7 +162,7 @@ check_two_calls() {
     wait $!
     if [ "$got, $?" = '3, 3' ] && [ "$(cat "$scratch/out" "$scratch/other_out")" = $'six <a> <b>\ninput\nsix <c> <d>' ] \
         && [ "$(sort "$there/calls")" = $'lib\nrun' ] \
-        && [ "$(cat "$scratch/err" "$scratch/other_err" | grep -c 'another build of it is under way')" = 1 ]; then
+        && [ "$(cat "$scratch/err" "$scratch/other_err" | grep -c 'another build is under way')" = 1 ]; then
         report ok 'the launcher: two first calls at once build once'
     else
         report no "the launcher: two first calls at once: status $got, $(grep -c run "$there/calls") builds"
@@ -196,7 +200,7 @@ check_no_build() {
     "${someone[@]}" env "PATH=$there/path:$PATH" "$there/bin/ptree_cli" a b </dev/null >"$scratch/out" 2>"$scratch/err"
     expect_written 'the launcher: a folder that cannot be written, with a program that is built' $? 3 'six <a> <b>\n' ''
     chmod -R u+w "$there/crates"
-    rm -r "$there/crates/ptree_cli/out"
+    rm -r "$there"/crates/*/out
     chmod -R a-w "$there/crates"
     "${someone[@]}" env "PATH=$there/path:$PATH" "$there/bin/ptree_cli" a b </dev/null >"$scratch/out" 2>"$scratch/err"
     expect_refusal 'a folder that cannot be written' $? 'cannot be written'
@@ -207,7 +211,7 @@ check_no_build() {
     expect_refusal 'no rt for a drawing' $? 'the command rt is not on the path'
     echo 'rm "$at"; echo "not proved" >&2; exit 1' >"$there/at_lib"
     launch bin/ptree_cli a b
-    if [ $? = 1 ] && [ ! -s "$scratch/out" ] && [ "$(cat "$scratch/err")" = $'not proved\nptree_cli: it could not be built' ]; then
+    if [ $? = 1 ] && [ ! -s "$scratch/out" ] && [ "$(cat "$scratch/err")" = $'not proved\nptree_cli: ptree could not be built' ]; then
         report ok 'the launcher: a build that fails'
     else
         report no 'the launcher: a build that fails'
@@ -239,7 +243,7 @@ live_in() {
 check_signal() {
     local name=$1 session='' got live left
     shift
-    rm -rf "$there/crates/ptree_cli/out" "$there/session"
+    rm -rf "$there"/crates/*/out "$there/session"
     echo 'rm "$at"; ps -o sid= $$ >"$there/session"; echo half; sleep 300' | tee "$there/at_lib" >"$there/at_try"
     PATH=$there/path:$PATH TMPDIR=$there/tmp env --default-signal=INT,TERM,HUP "$@" </dev/null >"$scratch/out" 2>"$scratch/err" &
     for _ in $(seq 100); do
@@ -265,7 +269,7 @@ check_signal() {
         report no "the launcher: SIG$name to $(basename "$1") ${*:2}: status $got, $left"
         [ -z "$live" ] || { echo "$live" && kill -- "-$session"; }
     fi
-    rm -f "$there"/at_* "$there"/tmp/*
+    rm -rf "$there"/at_* "$there"/tmp/*
 }
 
 # Checks a call that `rt try` draws, with one line on standard error before the program's own. Arguments: name, what it must draw, the
