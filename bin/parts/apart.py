@@ -14,8 +14,14 @@ import re
 import shutil
 import subprocess
 import sys
+import tempfile
 
 TOP = os.path.dirname(os.path.dirname(os.path.dirname(os.path.abspath(__file__))))
+
+
+def kept(name):
+    """The folder of a repository that is kept between runs: the variable of this name, or else a folder among the temporary files."""
+    return os.environ.get(name.upper()) or os.path.join(tempfile.gettempdir(), name)
 
 
 def files_of(folder):

@@ -1,9 +1,9 @@
 //! Made documents, and a configuration of all variables and a file, with the time of each step.
 
+use crate::full::{FULL_TOML, FULL_VARIABLES};
 use ptree::print_config::{FileSource, PrintConfig, Sources};
 use ptree::style::Counted;
 use ptree::value::{DocFormat, draw_document_with};
-use tests::fixtures::full::{FULL_TOML, FULL_VARIABLES};
 use std::alloc::{AllocError, Global};
 use std::io::{self, BufWriter, ErrorKind, Write};
 use std::time::Instant;

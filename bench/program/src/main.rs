@@ -2,6 +2,7 @@
 #![tactic(auto)]
 
 mod documents;
+mod full;
 mod gallery;
 mod graphs;
 mod shapes;

@@ -1,7 +1,6 @@
 //! Tests of the public interface of `ptree` and `ptree_trees`, for all that cannot be a row: items,
 //! labels, writers and readers of one's own, errors, values that no document has, and the code of
-//! the pages. Everything else is rows, in the `data` of `ptree_tree_rows` and `ptree_source_rows`
-//! and in the `rows` of the programs.
+//! the pages. Everything else is rows, in `trials/rows` and in the `rows` of the programs.
 #![tactic(auto)]
 
 #[cfg(test)]

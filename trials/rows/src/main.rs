@@ -19,12 +19,18 @@ use std::{env, io};
 use trees::Trees;
 use tries::try_file;
 
+// Says which words are known.
+fn refuse(rt: &HostRuntime) -> io::Result<bool> {
+    println!(rt; "usage: rows (trees|sources) NAME")?;
+    Ok(false)
+}
+
 // Tries the file of rows of a kind, and returns whether all passed.
 fn try_rows(rt: &HostRuntime, kind: &str, name: &str) -> io::Result<bool> {
     match kind {
         "trees" => try_file::<Trees>(rt, name),
         "sources" => try_file::<Given>(rt, name),
-        _ => Ok(false),
+        _ => refuse(rt),
     }
 }
 
@@ -33,7 +39,7 @@ fn run(rt: &HostRuntime) -> io::Result<bool> {
     let words: Vec<String> = env::args(rt)?.skip(1).collect(rt.alloc())?;
     match words.as_slice() {
         [kind, name] => try_rows(rt, kind.as_str(), name.as_str()),
-        _ => Ok(false),
+        _ => refuse(rt),
     }
 }
 
