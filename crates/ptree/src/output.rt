@@ -46,7 +46,9 @@ where
     ensures cause { HasCause (W.faults f.old) (W.faults f.new) result }
 {
     let look = Look::of_config(alloc, config, output_kind, terminal)?;
-    draw(alloc, item, f, &look, config.depth)
+    let drawn = draw(alloc, item, f, &look, config.depth);
+    drop(look);
+    drawn
 }
 
 // Draws to output of a kind, under the configuration that sources denote.
@@ -71,7 +73,9 @@ where
     ensures cause { HasCause (W.faults f.old) (W.faults f.new) result }
 {
     let config = PrintConfig::from_env(alloc, sources)?;
-    draw_for(alloc, item, f, output_kind, terminal, &config)
+    let drawn = draw_for(alloc, item, f, output_kind, terminal, &config);
+    drop(config);
+    drawn
 }
 
 /// Draws as [`print_tree_with`], under the configuration that sources denote

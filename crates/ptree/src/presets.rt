@@ -63,14 +63,14 @@ const PS_CHARS: StaticIndentChars = StaticIndentChars {
 // The settings of a program's pieces.
 #[derive(Drop)]
 struct PieceSettings {
-    characters: StaticIndentChars,
+    characters: &'static StaticIndentChars,
     indent: usize,
     padding: usize,
 }
 
 impl PieceSettings {
-    fn new(characters: StaticIndentChars, indent: usize, padding: usize) -> PieceSettings
-        ensures characters { result.characters ≡ characters }
+    fn new(characters: &'static StaticIndentChars, indent: usize, padding: usize) -> PieceSettings
+        ensures characters { result.characters.now ≡ characters.now }
         ensures indent { result.indent ≡ indent }
         ensures padding { result.padding ≡ padding }
     {
@@ -85,22 +85,22 @@ impl PieceSettings {
 impl Preset {
     // Returns the settings of the program's pieces.
     fn pieces(self) -> PieceSettings
-        ensures { drawn_with (static_characters_of result.characters) result.indent result.padding
+        ensures { drawn_with (static_characters_of result.characters.now) result.indent result.padding
             ≡ preset_of self }
     {
         match self {
-            Preset::Tree => PieceSettings::new(TREE_CHARS, 0, 0),
-            Preset::Ps => PieceSettings::new(PS_CHARS, 0, 0),
-            Preset::CargoTree => PieceSettings::new(UTF_CHARS, 4, 1),
+            Preset::Tree => PieceSettings::new(&TREE_CHARS, 0, 0),
+            Preset::Ps => PieceSettings::new(&PS_CHARS, 0, 0),
+            Preset::CargoTree => PieceSettings::new(&UTF_CHARS, 4, 1),
             Preset::TreeAscii | Preset::CargoTreeAscii => PieceSettings::new(
-                ASCII_CHARS_TICK,
+                &ASCII_CHARS_TICK,
                 4,
                 1,
             ),
-            Preset::Findmnt => PieceSettings::new(UTF_CHARS, 2, 0),
-            Preset::FindmntAscii | Preset::Clang => PieceSettings::new(ASCII_CHARS_TICK, 2, 0),
-            Preset::Sqlite => PieceSettings::new(ASCII_CHARS_TICK, 3, 0),
-            Preset::Maven => PieceSettings::new(UTF_CHARS, 3, 1),
+            Preset::Findmnt => PieceSettings::new(&UTF_CHARS, 2, 0),
+            Preset::FindmntAscii | Preset::Clang => PieceSettings::new(&ASCII_CHARS_TICK, 2, 0),
+            Preset::Sqlite => PieceSettings::new(&ASCII_CHARS_TICK, 3, 0),
+            Preset::Maven => PieceSettings::new(&UTF_CHARS, 3, 1),
         }
     }
 
@@ -116,7 +116,7 @@ impl Preset {
     {
         let pieces = self.pieces();
         let mut config = PrintConfig::default(alloc)?;
-        config.characters = IndentChars::from_static(alloc, pieces.characters)?;
+        config.characters = IndentChars::from_static(alloc, *pieces.characters)?;
         config.indent = pieces.indent;
         config.padding = pieces.padding;
         Ok(config)

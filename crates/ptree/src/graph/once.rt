@@ -322,7 +322,7 @@ pub fn print_graph_once<N: Label, W: Sink>(
         ↔ IsDrawing look (node_shape N.text graph.now start.0) effective.depth text }
 {
     let config = PrintConfig::from_env(alloc, sources)?;
-    draw_once(
+    let drawn = draw_once(
         alloc,
         graph,
         start,
@@ -331,7 +331,9 @@ pub fn print_graph_once<N: Label, W: Sink>(
         OutputKind::Stdout,
         terminal,
         &config,
-    )
+    );
+    drop(config);
+    drawn
 }
 
 // Draws for output of a kind, `terminal` saying whether standard output is a terminal.

@@ -373,5 +373,7 @@ pub(super) fn draw_marked<N: Label, W: Sink>(
     ensures cause { HasCause (W.faults f.old) (W.faults f.new) result }
 {
     let look = Look::of_config(alloc, config, output_kind, terminal)?;
-    draw(alloc, marked, start, f, &look, config.depth)
+    let drawn = draw(alloc, marked, start, f, &look, config.depth);
+    drop(look);
+    drawn
 }

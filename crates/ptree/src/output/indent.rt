@@ -77,18 +77,36 @@ impl Indent {
         let right_pad = characters.right.as_str().repeat(alloc, n)?;
         let empty_pad = characters.empty.as_str().repeat(alloc, n)?;
         let item_pad = characters.empty.as_str().repeat(alloc, padding)?;
-        let (right_pad, empty_pad) = (right_pad.as_str(), empty_pad.as_str());
-        let item_pad = item_pad.as_str();
+        Indent::from_fillings(
+            alloc,
+            characters,
+            right_pad.as_str(),
+            empty_pad.as_str(),
+            item_pad.as_str(),
+        )
+    }
+
+    // Makes pieces of their first characters, what fills turning and passing ones, and the padding.
+    fn from_fillings(
+        alloc: Global,
+        characters: &IndentChars,
+        right: &str,
+        empty: &str,
+        padding: &str,
+    ) -> Result<Indent, AllocError>
+        ensures { IfOk result (λ i. let c = characters_of characters.now in
+            pieces_of i ≡ record {
+              regular = c.down_and_right ++ right.now ++ padding.now;
+              child = c.down ++ empty.now ++ padding.now;
+              last_regular = c.turn_right ++ right.now ++ padding.now;
+              last_child = c.empty ++ empty.now ++ padding.now;
+            }) }
+    {
         Ok(Indent {
-            regular_prefix: piece(
-                alloc,
-                characters.down_and_right.as_str(),
-                right_pad,
-                item_pad,
-            )?,
-            child_prefix: piece(alloc, characters.down.as_str(), empty_pad, item_pad)?,
-            last_regular_prefix: piece(alloc, characters.turn_right.as_str(), right_pad, item_pad)?,
-            last_child_prefix: piece(alloc, characters.empty.as_str(), empty_pad, item_pad)?,
+            regular_prefix: piece(alloc, characters.down_and_right.as_str(), right, padding)?,
+            child_prefix: piece(alloc, characters.down.as_str(), empty, padding)?,
+            last_regular_prefix: piece(alloc, characters.turn_right.as_str(), right, padding)?,
+            last_child_prefix: piece(alloc, characters.empty.as_str(), empty, padding)?,
         })
     }
 

@@ -133,7 +133,7 @@ impl IndentChars {
         let Some(set) = parse_set(Spelling::Exact, s) else {
             return Err(CharsError::Unknown);
         };
-        Ok(IndentChars::from_static(alloc, set)?)
+        Ok(IndentChars::from_static(alloc, *set)?)
     }
 }
 

@@ -207,7 +207,7 @@ impl<'a> Given<'a> {
     {
         let base = self
             .set(Field::Characters)
-            .unwrap_or(LentChars::of(UTF_CHARS));
+            .unwrap_or(LentChars::of(&UTF_CHARS));
         Ok(IndentChars {
             down_and_right: self.character(alloc, Field::DownAndRight, base.down_and_right)?,
             down: self.character(alloc, Field::Down, base.down)?,

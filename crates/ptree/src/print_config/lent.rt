@@ -20,8 +20,8 @@ pub(crate) struct LentChars<'a> {
 
 impl<'a> LentChars<'a> {
     // Returns the characters of a shipped set.
-    pub(crate) fn of(set: StaticIndentChars) -> LentChars<'a>
-        ensures { lent_characters_of result ≡ static_characters_of set }
+    pub(crate) fn of(set: &StaticIndentChars) -> LentChars<'a>
+        ensures { lent_characters_of result ≡ static_characters_of set.now }
     {
         LentChars {
             down_and_right: set.down_and_right,
@@ -53,7 +53,7 @@ pub(crate) fn set_node<'a>(value: FileNode<'a>) -> Option<LentChars<'a>>
 fn characters_in<'a>(table: FileNode<'a>) -> LentChars<'a>
     ensures { lent_characters_of result ≡ characters_in (node_of table.entry) }
 {
-    let regular = UTF_CHARS;
+    let regular = &UTF_CHARS;
     LentChars {
         down_and_right: text_at("down_and_right", table, regular.down_and_right),
         down: text_at("down", table, regular.down),

@@ -1,5 +1,5 @@
 //! Reads the texts of sources: keywords, numbers and colours.
-ghost use Rattle.std.specs.Prelude.{◌≡◌, option_map, IfOk};
+ghost use Rattle.std.specs.Prelude.{◌≡◌, option_map, option_copied, IfOk};
 ghost use Rattle.std.specs.Str.{str_eq_ignore_ascii_case, all_ascii_digits};
 ghost use Rattle.ptree.specs.Characters.{static_characters_of, is_spelled, parse_set};
 ghost use Rattle.ptree.specs.Color.{color_of};
@@ -35,21 +35,22 @@ impl Spelling {
 }
 
 // Returns the shipped set of a name.
-pub(crate) fn parse_set(spelling: Spelling, text: &str) -> Option<StaticIndentChars>
-    ensures { option_map static_characters_of result ≡ parse_set spelling text.now }
+pub(crate) fn parse_set(spelling: Spelling, text: &str) -> Option<&'static StaticIndentChars>
+    ensures { option_map static_characters_of (option_copied result)
+        ≡ parse_set spelling text.now }
 {
     if spelling.is(text, "utf") {
-        Some(UTF_CHARS)
+        Some(&UTF_CHARS)
     } else if spelling.is(text, "ascii") || spelling.is(text, "ascii-tick") {
-        Some(ASCII_CHARS_TICK)
+        Some(&ASCII_CHARS_TICK)
     } else if spelling.is(text, "ascii-plus") {
-        Some(ASCII_CHARS_PLUS)
+        Some(&ASCII_CHARS_PLUS)
     } else if spelling.is(text, "utf-bold") {
-        Some(UTF_CHARS_BOLD)
+        Some(&UTF_CHARS_BOLD)
     } else if spelling.is(text, "utf-dashed") {
-        Some(UTF_CHARS_DASHED)
+        Some(&UTF_CHARS_DASHED)
     } else if spelling.is(text, "utf-double") {
-        Some(UTF_CHARS_DOUBLE)
+        Some(&UTF_CHARS_DOUBLE)
     } else {
         None
     }

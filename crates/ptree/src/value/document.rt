@@ -139,7 +139,9 @@ pub fn draw_document<W: Sink>(
     ensures cause { HasDocumentCause (W.faults out.old) (W.faults out.new) result }
 {
     let config = PrintConfig::from_env(alloc, sources)?;
-    draw_document_with(alloc, format, text, label, &config, terminal, out)
+    let drawn = draw_document_with(alloc, format, text, label, &config, terminal, out);
+    drop(config);
+    drawn
 }
 
 /// Draws a document under a label to standard output. `terminal` says whether standard output is a

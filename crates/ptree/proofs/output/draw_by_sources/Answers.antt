@@ -5,10 +5,10 @@ use Rattle.ptree.proofs.Drawn.{drawn_nothing, whole_nothing}
 use Rattle.ptree.proofs.output.draw_by_sources.Goals as goal
 
 pub returns-clause-bytes : goal.returns-clause-bytes
-returns-clause-bytes g c = rw (sym c.in_ok-config.ensures.value) c.draw_for.ensures.bytes
+returns-clause-bytes g c = rw (sym c.in_ok-config.ensures.value) c.draw_for-drawn.ensures.bytes
 
 pub returns-clause-whole : goal.returns-clause-whole
-returns-clause-whole g c = rw (sym c.in_ok-config.ensures.value) c.draw_for.ensures.whole
+returns-clause-whole g c = rw (sym c.in_ok-config.ensures.value) c.draw_for-drawn.ensures.whole
 
 pub returns-in_err-config-clause-bytes : goal.returns-in_err-config-clause-bytes
 returns-in_err-config-clause-bytes g c = drawn_nothing _ (look_by (effective_config c.args.sources.now) c.args.output_kind c.args.terminal) _ _ _ _ c.from_residual.ensures.1

@@ -16,8 +16,8 @@ returns-clause-bytes g c =
     let config = c.args.config.now in
     let x = g.T.Shaped.shape c.args.item.now in
     let look = look_of c.in_ok-look.look in
-    subst (λ (l : Look). IsDrawn l x config.depth (g.W.Sink.contents c.args.f.now) (g.W.Sink.contents c.draw.new.f) c.draw.result) c.in_ok-look.ensures
-    (concat (drawn_entries look config.depth x), drawn_is_drawing look config.depth x, c.draw.ensures.bytes)
+    subst (λ (l : Look). IsDrawn l x config.depth (g.W.Sink.contents c.args.f.now) (g.W.Sink.contents c.draw-drawn.new.f) c.draw-drawn.result) c.in_ok-look.ensures
+    (concat (drawn_entries look config.depth x), drawn_is_drawing look config.depth x, c.draw-drawn.ensures.bytes)
 
 pub returns-in_err-look-clause-whole : goal.returns-in_err-look-clause-whole
 returns-in_err-look-clause-whole g c = whole_nothing (config_look c.args.config.now c.args.output_kind c.args.terminal) (g.T.Shaped.shape c.args.item.now) c.args.config.now.depth _ _
@@ -27,5 +27,5 @@ returns-clause-whole g c =
     let config = c.args.config.now in
     let x = g.T.Shaped.shape c.args.item.now in
     let look = look_of c.in_ok-look.look in
-    subst (λ (l : Look). LeavesWholeEntries l x config.depth (g.W.Sink.contents c.args.f.now) (g.W.Sink.contents c.draw.new.f) c.draw.result) c.in_ok-look.ensures
-    (whole_entries look x config.depth _ _ c.draw.result c.draw.ensures.whole)
+    subst (λ (l : Look). LeavesWholeEntries l x config.depth (g.W.Sink.contents c.args.f.now) (g.W.Sink.contents c.draw-drawn.new.f) c.draw-drawn.result) c.in_ok-look.ensures
+    (whole_entries look x config.depth _ _ c.draw-drawn.result c.draw-drawn.ensures.whole)

@@ -9,10 +9,10 @@ use Rattle.ptree.proofs.Growth.{graph_has_one}
 use Rattle.ptree.proofs.graph.once.print_graph_once.Goals as goal
 
 pub returns-clause-bytes : goal.returns-clause-bytes
-returns-clause-bytes g c = rw (sym c.in_ok-config.ensures.value) c.draw_once.ensures.bytes
+returns-clause-bytes g c = rw (sym c.in_ok-config.ensures.value) c.draw_once-drawn.ensures.bytes
 
 pub returns-clause-whole : goal.returns-clause-whole
-returns-clause-whole g c = rw (sym c.in_ok-config.ensures.value) c.draw_once.ensures.whole
+returns-clause-whole g c = rw (sym c.in_ok-config.ensures.value) c.draw_once-drawn.ensures.whole
 
 pub returns-clause-one_tree : goal.returns-clause-one_tree
 returns-clause-one_tree g c = graph_has_one c.args.graph.now c.args.start.0 (effective_config c.args.sources.now).depth

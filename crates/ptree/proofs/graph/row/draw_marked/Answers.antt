@@ -19,8 +19,8 @@ returns-clause-bytes g c =
     let config = c.args.config.now in
     let x = occurrence_shape g.N.Label.text c.args.marked.now.graph.now c.args.marked.now.mark.now ((grow (neighbors_of (edges_of c.args.marked.now.graph.now)) c.args.config.now.depth (flags_of c.args.marked.now.graph.now []) c.args.start.0).occurrence) in
     let look = look_of c.in_ok-look.look in
-    subst (λ (l : Look). IsDrawn l x config.depth (g.W.Sink.contents c.args.f.now) (g.W.Sink.contents c.draw.new.f) c.draw.result) c.in_ok-look.ensures
-    (concat (drawn_entries look config.depth x), drawn_is_drawing look config.depth x, c.draw.ensures.bytes)
+    subst (λ (l : Look). IsDrawn l x config.depth (g.W.Sink.contents c.args.f.now) (g.W.Sink.contents c.draw-drawn.new.f) c.draw-drawn.result) c.in_ok-look.ensures
+    (concat (drawn_entries look config.depth x), drawn_is_drawing look config.depth x, c.draw-drawn.ensures.bytes)
 
 pub returns-in_err-look-clause-whole : goal.returns-in_err-look-clause-whole
 returns-in_err-look-clause-whole g c = whole_nothing (config_look c.args.config.now c.args.output_kind c.args.terminal) (occurrence_shape g.N.Label.text c.args.marked.now.graph.now c.args.marked.now.mark.now ((grow (neighbors_of (edges_of c.args.marked.now.graph.now)) c.args.config.now.depth (flags_of c.args.marked.now.graph.now []) c.args.start.0).occurrence)) c.args.config.now.depth _ _
@@ -30,5 +30,5 @@ returns-clause-whole g c =
     let config = c.args.config.now in
     let x = occurrence_shape g.N.Label.text c.args.marked.now.graph.now c.args.marked.now.mark.now ((grow (neighbors_of (edges_of c.args.marked.now.graph.now)) c.args.config.now.depth (flags_of c.args.marked.now.graph.now []) c.args.start.0).occurrence) in
     let look = look_of c.in_ok-look.look in
-    subst (λ (l : Look). LeavesWholeEntries l x config.depth (g.W.Sink.contents c.args.f.now) (g.W.Sink.contents c.draw.new.f) c.draw.result) c.in_ok-look.ensures
-    (whole_entries look x config.depth _ _ c.draw.result c.draw.ensures.whole)
+    subst (λ (l : Look). LeavesWholeEntries l x config.depth (g.W.Sink.contents c.args.f.now) (g.W.Sink.contents c.draw-drawn.new.f) c.draw-drawn.result) c.in_ok-look.ensures
+    (whole_entries look x config.depth _ _ c.draw-drawn.result c.draw-drawn.ensures.whole)

@@ -7,10 +7,10 @@ use Rattle.ptree.proofs.Documents.{nothing_drawn, no_entries}
 use Rattle.ptree.proofs.value.document.draw_document.Goals as goal
 
 pub returns-clause-bytes : goal.returns-clause-bytes
-returns-clause-bytes g c = rw (sym c.in_ok-config.ensures.value) c.draw_document_with.ensures.bytes
+returns-clause-bytes g c = rw (sym c.in_ok-config.ensures.value) c.draw_document_with-drawn.ensures.bytes
 
 pub returns-clause-whole : goal.returns-clause-whole
-returns-clause-whole g c = rw (sym c.in_ok-config.ensures.value) c.draw_document_with.ensures.whole
+returns-clause-whole g c = rw (sym c.in_ok-config.ensures.value) c.draw_document_with-drawn.ensures.whole
 
 pub returns-in_err-config-clause-bytes : goal.returns-in_err-config-clause-bytes
 returns-in_err-config-clause-bytes g c =
