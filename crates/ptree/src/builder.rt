@@ -53,10 +53,10 @@ impl<T: Drop> From<AllocFailed<T>> for AddError {
 
 impl fmt::Display for AddError {
     fn fmt<W: fmt::Write>(&self, f: &mut fmt::Formatter<W>) -> fmt::Result {
-        match self {
-            AddError::Level => write!(f, "no item can follow at that level"),
-            AddError::Memory => write!(f, "out of memory"),
-        }
+        f.write_str(match self {
+            AddError::Level => "no item can follow at that level",
+            AddError::Memory => "out of memory",
+        })
     }
 }
 

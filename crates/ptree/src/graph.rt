@@ -74,10 +74,10 @@ impl<T: Drop> From<AllocFailed<T>> for EdgeError {
 
 impl fmt::Display for EdgeError {
     fn fmt<W: fmt::Write>(&self, f: &mut fmt::Formatter<W>) -> fmt::Result {
-        match self {
-            EdgeError::NoNode => write!(f, "an edge of a node that isn't in the graph"),
-            EdgeError::Memory => write!(f, "out of memory"),
-        }
+        f.write_str(match self {
+            EdgeError::NoNode => "an edge of a node that isn't in the graph",
+            EdgeError::Memory => "out of memory",
+        })
     }
 }
 

@@ -115,8 +115,9 @@ impl Preset {
         ensures readable { IfOk result HasReadablePieces }
     {
         let pieces = self.pieces();
+        let characters = IndentChars::from_static(alloc, *pieces.characters)?;
         let mut config = PrintConfig::default(alloc)?;
-        config.characters = IndentChars::from_static(alloc, *pieces.characters)?;
+        config.characters = characters;
         config.indent = pieces.indent;
         config.padding = pieces.padding;
         Ok(config)

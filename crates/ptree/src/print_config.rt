@@ -266,9 +266,9 @@ impl PrintConfig {
             padding: self.padding,
             styled: self.styled,
             continued: self.continued.clone()?,
+            characters: self.characters.clone()?,
             branch: self.branch.clone()?,
             leaf: self.leaf.clone()?,
-            characters: self.characters.clone()?,
         })
     }
 }

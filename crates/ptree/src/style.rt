@@ -301,11 +301,11 @@ impl From<DrawError> for io::Error {
 
 impl fmt::Display for DrawError {
     fn fmt<W: fmt::Write>(&self, f: &mut fmt::Formatter<W>) -> fmt::Result {
-        match self {
-            DrawError::Write(e) => write!(f, "cannot write: {e}"),
-            DrawError::Zero => write!(f, "cannot write: the writer took no bytes"),
-            DrawError::Memory => write!(f, "out of memory"),
-        }
+        f.write_str(match self {
+            DrawError::Write(e) => return write!(f, "cannot write: {e}"),
+            DrawError::Zero => "cannot write: the writer took no bytes",
+            DrawError::Memory => "out of memory",
+        })
     }
 }
 

@@ -5,7 +5,7 @@ ghost use Rattle.ptree.specs.Graph.{edges_of, neighbors_of, node_shape};
 ghost use Rattle.ptree.specs.Growing.{place_at, IsNextPlace};
 ghost use Rattle.ptree.specs.Loading.{effective_config};
 ghost use Rattle.ptree.specs.Occurrence.{OccurrenceTree, IsExpandedOnce, NoneRepeated, HasOneTree, trees_in, weight_own, occurrence_shape};
-ghost use Rattle.ptree.specs.Style.{style_of, painted_text};
+ghost use Rattle.ptree.specs.Style.{style_of, plain_value, painted_text};
 ghost use Rattle.ptree.specs.Writing.{IsWritten, HasCause, IsDrawn, LeavesWholeEntries};
 ghost use Rattle.ptree.specs.declared.print_config.OutputKind.{OutputKind};
 
@@ -196,6 +196,18 @@ fn write_repeated<N: Label, W: Sink>(
     write_with_codes(alloc, f, style, weight, mark)
 }
 
+// Writes a weight's text as it is.
+fn write_plain<N: Label, W: Sink>(alloc: Global, f: &mut W, weight: &N) -> Result<(), DrawError>
+    ensures bytes { IsWritten (W.contents f.old) (W.contents f.new) result
+        (painted_text plain_value (N.text weight.now)) }
+    ensures cause { HasCause (W.faults f.old) (W.faults f.new) result }
+{
+    let plain = Style::default();
+    let written = weight.write_label(alloc, f, &plain);
+    drop(plain);
+    written
+}
+
 // Writes a mark. One of four bytes, as [`REPEATED_MARK`] is, is copied at once, because their
 // number is known.
 #[inline(always)]
@@ -225,7 +237,7 @@ fn write_with_codes<N: Label, W: Sink>(
 {
     let codes = Codes::of(style);
     put_all(f, codes.as_bytes())?;
-    weight.write_label(alloc, f, &Style::default())?;
+    write_plain(alloc, f, weight)?;
     put_all(f, mark.as_bytes())?;
     put_all(f, codes.reset().as_bytes())
 }

@@ -342,8 +342,34 @@ fn draw<N: Label, W: Sink>(
     ensures cause { HasCause (W.faults f.old) (W.faults f.new) result }
 {
     let brush = Brush::new(alloc, look)?;
-    let mut pen = Pen::new(alloc, &look.branch)?;
-    match draw_root(marked, start, f, &mut pen, &brush, depth) {
+    let drawn = draw_with(marked, start, f, &brush, depth);
+    drop(brush);
+    drawn
+}
+
+// Draws a graph with each node expanded once with a brush, down to a depth.
+fn draw_with<N: Label, W: Sink>(
+    marked: &Marked<'_, N>,
+    start: NodeIndex,
+    f: &mut W,
+    brush: &Brush<'_>,
+    depth: u32,
+) -> Result<(), DrawError>
+    ensures bytes { IsWritten (W.contents f.old) (W.contents f.new) result
+        (concat (drawn_entries (brush_look brush.now) depth
+        (occurrence_shape N.text marked.now.graph.now marked.now.mark.now
+        (grow (neighbors_of (edges_of marked.now.graph.now)) depth
+        (flags_of marked.now.graph.now []) start.0).occurrence))) }
+    ensures whole { result ≡ Err Memory
+        → AppendsFirst (W.contents f.old) (W.contents f.new)
+        (drawn_entries (brush_look brush.now) depth
+        (occurrence_shape N.text marked.now.graph.now marked.now.mark.now
+        (grow (neighbors_of (edges_of marked.now.graph.now)) depth
+        (flags_of marked.now.graph.now []) start.0).occurrence)) }
+    ensures cause { HasCause (W.faults f.old) (W.faults f.new) result }
+{
+    let mut pen = Pen::new(brush.alloc, &brush.look.branch)?;
+    match draw_root(marked, start, f, &mut pen, brush, depth) {
         Ok(()) => Ok(()),
         Err(_) => Err(pen.into_error()),
     }

@@ -2,6 +2,7 @@
 ghost use Rattle.std.specs.Prelude.{◌≡◌, Some, IfOk, string_bytes};
 ghost use Rattle.ptree.specs.Looks.{look_of, AreOwnTexts, AreFurtherTexts, own_text, further_text};
 
+use crate::output::indent::joined;
 use crate::output::look::Look;
 use std::alloc::{AllocError, Global};
 
@@ -32,11 +33,11 @@ impl<'a> Brush<'a> {
         Ok(Brush {
             alloc,
             look,
-            regular: [pieces.turning(false), end.as_str()].concat(alloc)?,
-            last_regular: [pieces.turning(true), end.as_str()].concat(alloc)?,
-            root_further: [marker, end.as_str()].concat(alloc)?,
-            further: [pieces.passing(false), marker, end.as_str()].concat(alloc)?,
-            last_further: [pieces.passing(true), marker, end.as_str()].concat(alloc)?,
+            regular: joined(alloc, pieces.turning(false), "", end.as_str())?,
+            last_regular: joined(alloc, pieces.turning(true), "", end.as_str())?,
+            root_further: joined(alloc, "", marker, end.as_str())?,
+            further: joined(alloc, pieces.passing(false), marker, end.as_str())?,
+            last_further: joined(alloc, pieces.passing(true), marker, end.as_str())?,
             end,
         })
     }

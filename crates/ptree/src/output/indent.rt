@@ -103,10 +103,10 @@ impl Indent {
             }) }
     {
         Ok(Indent {
-            regular_prefix: piece(alloc, characters.down_and_right.as_str(), right, padding)?,
-            child_prefix: piece(alloc, characters.down.as_str(), empty, padding)?,
-            last_regular_prefix: piece(alloc, characters.turn_right.as_str(), right, padding)?,
-            last_child_prefix: piece(alloc, characters.empty.as_str(), empty, padding)?,
+            regular_prefix: joined(alloc, characters.down_and_right.as_str(), right, padding)?,
+            child_prefix: joined(alloc, characters.down.as_str(), empty, padding)?,
+            last_regular_prefix: joined(alloc, characters.turn_right.as_str(), right, padding)?,
+            last_child_prefix: joined(alloc, characters.empty.as_str(), empty, padding)?,
         })
     }
 
@@ -200,11 +200,11 @@ impl Indent {
     }
 }
 
-// Returns a piece: its first character, what fills it, and its padding.
-fn piece(alloc: Global, first: &str, filling: &str, padding: &str) -> Result<String, AllocError>
-    ensures { IfOk result (λ text. string_bytes text ≡ first.now ++ filling.now ++ padding.now) }
+// Joins three texts.
+pub(crate) fn joined(alloc: Global, a: &str, b: &str, c: &str) -> Result<String, AllocError>
+    ensures { IfOk result (λ text. string_bytes text ≡ a.now ++ b.now ++ c.now) }
 {
-    [first, filling, padding].concat(alloc)
+    [a, b, c].concat(alloc)
 }
 
 // Whether a text holds no line feed.

@@ -32,9 +32,9 @@ impl<'a> Look<'a> {
     {
         let styled = config.should_style_output(output_kind, terminal);
         Ok(Look {
+            pieces: Indent::from_config(alloc, config)?,
             branch: effective_style(&config.branch, styled)?,
             leaf: effective_style(&config.leaf, styled)?,
-            pieces: Indent::from_config(alloc, config)?,
             marker: config.continued.as_str(),
         })
     }

@@ -77,7 +77,7 @@ impl IndentChars {
     }
 
     // Makes characters of these texts.
-    fn from_texts(
+    pub(super) fn from_texts(
         alloc: Global,
         down_and_right: &str,
         down: &str,
@@ -193,10 +193,10 @@ impl<T: Drop> From<AllocFailed<T>> for CharsError {
 
 impl fmt::Display for CharsError {
     fn fmt<W: fmt::Write>(&self, f: &mut fmt::Formatter<W>) -> fmt::Result {
-        match self {
-            CharsError::Unknown => write!(f, "no set of characters has that name"),
-            CharsError::Memory => write!(f, "out of memory"),
-        }
+        f.write_str(match self {
+            CharsError::Unknown => "no set of characters has that name",
+            CharsError::Memory => "out of memory",
+        })
     }
 }
 

@@ -127,14 +127,14 @@ pub(crate) enum Kind {
 
 impl fmt::Display for Kind {
     fn fmt<W: fmt::Write>(&self, f: &mut fmt::Formatter<W>) -> fmt::Result {
-        match self {
-            Kind::Whole(greatest) => write!(f, "a whole number up to {greatest}"),
-            Kind::When => write!(f, "never, always or tty"),
-            Kind::Set => write!(f, "a set of characters"),
-            Kind::Text => write!(f, "a text"),
-            Kind::Color => write!(f, "a colour"),
-            Kind::Flag => write!(f, "true or false"),
-        }
+        f.write_str(match self {
+            Kind::Whole(greatest) => return write!(f, "a whole number up to {greatest}"),
+            Kind::When => "never, always or tty",
+            Kind::Set => "a set of characters",
+            Kind::Text => "a text",
+            Kind::Color => "a colour",
+            Kind::Flag => "true or false",
+        })
     }
 }
 

@@ -1,7 +1,7 @@
 //! The document of a configuration file, in either format.
 ghost use Rattle.std.specs.Prelude.{◌≡◌, ◌≤◌, ◌↔◌, Some, option_map, option_copied, is_some, is_none, IsSome, IfOk};
 ghost use Rattle.ptree.specs.Color.{color_of};
-ghost use Rattle.ptree.specs.File.{get, is_table, as_whole, as_text, as_flag, is_null, whole_node, when_node, as_rgb, json_rgb, toml_rgb, color_numbers, color_node};
+ghost use Rattle.ptree.specs.File.{get, is_table, as_whole, as_text, as_flag, is_null, whole_node, when_node, as_rgb, rgb, json_rgb, toml_rgb, color_numbers, color_node};
 ghost use Rattle.ptree.specs.Lent.{node_of, document_of};
 ghost use Rattle.ptree.specs.Loading.{file_fault};
 ghost use Rattle.ptree.specs.Sources.{file_document, json_document, toml_document};
@@ -232,6 +232,18 @@ pub(crate) struct Rgb {
     blue: u8,
 }
 
+impl Rgb {
+    // Returns the colour of three bytes, if all are there.
+    fn of(red: Option<u8>, green: Option<u8>, blue: Option<u8>) -> Option<Rgb>
+        ensures { result ≡ rgb red green blue }
+    {
+        match (red, green, blue) {
+            (Some(red), Some(green), Some(blue)) => Some(Rgb { red, green, blue }),
+            _ => None,
+        }
+    }
+}
+
 // A value in a document.
 #[derive(Clone, Copy)]
 pub(crate) enum FileNode<'a> {
@@ -392,11 +404,11 @@ fn json_rgb(items: &[serde_json::Value]) -> Option<Rgb>
     ensures { result ≡ json_rgb (json_items items.now) }
 {
     if let [r, g, b] = items {
-        Some(Rgb {
-            red: FileNode::Json(r).as_byte()?,
-            green: FileNode::Json(g).as_byte()?,
-            blue: FileNode::Json(b).as_byte()?,
-        })
+        Rgb::of(
+            FileNode::Json(r).as_byte(),
+            FileNode::Json(g).as_byte(),
+            FileNode::Json(b).as_byte(),
+        )
     } else {
         None
     }
@@ -407,11 +419,11 @@ fn toml_rgb(items: &[toml::Value]) -> Option<Rgb>
     ensures { result ≡ toml_rgb (toml_items items.now) }
 {
     if let [r, g, b] = items {
-        Some(Rgb {
-            red: FileNode::Toml(r).as_byte()?,
-            green: FileNode::Toml(g).as_byte()?,
-            blue: FileNode::Toml(b).as_byte()?,
-        })
+        Rgb::of(
+            FileNode::Toml(r).as_byte(),
+            FileNode::Toml(g).as_byte(),
+            FileNode::Toml(b).as_byte(),
+        )
     } else {
         None
     }

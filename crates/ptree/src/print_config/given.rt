@@ -1,5 +1,5 @@
 //! Looks fields up: in the variables, and in the document of the file.
-ghost use Rattle.std.specs.Prelude.{◌≡◌, option_map, option_copied, unwrap_or, is_some, string_bytes, IfOk};
+ghost use Rattle.std.specs.Prelude.{◌≡◌, option_map, option_copied, unwrap_or, is_some, IfOk};
 ghost use Rattle.std.specs.List.{list_any};
 ghost use Rattle.ptree.specs.Characters.{characters_of};
 ghost use Rattle.ptree.specs.Color.{color_of};
@@ -208,24 +208,21 @@ impl<'a> Given<'a> {
         let base = self
             .set(Field::Characters)
             .unwrap_or(LentChars::of(&UTF_CHARS));
-        Ok(IndentChars {
-            down_and_right: self.character(alloc, Field::DownAndRight, base.down_and_right)?,
-            down: self.character(alloc, Field::Down, base.down)?,
-            turn_right: self.character(alloc, Field::TurnRight, base.turn_right)?,
-            right: self.character(alloc, Field::Right, base.right)?,
-            empty: self.character(alloc, Field::Empty, base.empty)?,
-        })
+        IndentChars::from_texts(
+            alloc,
+            self.character(Field::DownAndRight, base.down_and_right),
+            self.character(Field::Down, base.down),
+            self.character(Field::TurnRight, base.turn_right),
+            self.character(Field::Right, base.right),
+            self.character(Field::Empty, base.empty),
+        )
     }
 
     // Returns a single character: the value of its variable, or else `other`.
-    fn character(&self, alloc: Global, field: Field, other: &str) -> Result<String, AllocError>
-        ensures { IfOk result (λ s.
-            string_bytes s ≡ unwrap_or (variable (given_of self.now) field) other.now) }
+    fn character(&self, field: Field, other: &'a str) -> &'a str
+        ensures { result.now ≡ unwrap_or (variable (given_of self.now) field) other.now }
     {
-        match self.variable(field) {
-            Some(value) => String::from_str(alloc, value),
-            None => String::from_str(alloc, other),
-        }
+        self.variable(field).unwrap_or(other)
     }
 
     // Returns the configuration, with each field by itself.
@@ -249,9 +246,9 @@ impl<'a> Given<'a> {
                 alloc,
                 self.text(Field::Continued).unwrap_or(DEFAULT_MARKER),
             )?,
+            characters: self.characters(alloc)?,
             branch: self.style(alloc, Part::Branch)?,
             leaf: self.style(alloc, Part::Leaf)?,
-            characters: self.characters(alloc)?,
         })
     }
 }

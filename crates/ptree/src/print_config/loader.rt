@@ -39,8 +39,8 @@ pub enum Fault {
 impl fmt::Display for Fault {
     fn fmt<W: fmt::Write>(&self, f: &mut fmt::Formatter<W>) -> fmt::Result {
         match self {
-            Fault::Unreadable => write!(f, "the file couldn't be read"),
-            Fault::Syntax => write!(f, "the file is no document of its format"),
+            Fault::Unreadable => f.write_str("the file couldn't be read"),
+            Fault::Syntax => f.write_str("the file is no document of its format"),
             Fault::Table(part) => write!(f, "the file's key {} is no table", part.key()),
             Fault::Variable(field) => {
                 write!(
@@ -79,7 +79,9 @@ pub fn load(alloc: Global, sources: &Sources) -> Result<Option<PrintConfig>, All
     ensures { IfOk result (λ config. option_map config_of config ≡ loaded_config sources.now) }
 {
     let document = Document::read(alloc, &sources.file)?;
-    load_with(alloc, sources, &document)
+    let loaded = load_with(alloc, sources, &document);
+    drop(document);
+    loaded
 }
 
 // Returns the configuration of the sources, given the document of their file.
@@ -111,7 +113,9 @@ pub fn first_fault(alloc: Global, sources: &Sources) -> Result<Option<Fault>, Al
 {
     let document = Document::read(alloc, &sources.file)?;
     let given = Given::of(sources, &document);
-    Ok(first_fault_in(&sources.file, &document, &given))
+    let fault = first_fault_in(&sources.file, &document, &given);
+    drop(document);
+    Ok(fault)
 }
 
 /// Returns all faults in the sources, in the order in which [`first_fault`] looks for them: the
@@ -129,7 +133,9 @@ pub fn faults(alloc: Global, sources: &Sources) -> Result<Vec<Fault>, AllocError
 {
     let document = Document::read(alloc, &sources.file)?;
     let given = Given::of(sources, &document);
-    faults_in(alloc, &sources.file, &document, &given)
+    let found = faults_in(alloc, &sources.file, &document, &given);
+    drop(document);
+    found
 }
 
 // Returns all faults in a file, its document and the variables.

@@ -46,11 +46,11 @@ impl<T: Drop> From<AllocFailed<T>> for ConvertError {
 
 impl fmt::Display for ConvertError {
     fn fmt<W: fmt::Write>(&self, f: &mut fmt::Formatter<W>) -> fmt::Result {
-        match self {
-            ConvertError::Float => write!(f, "a float, which is not drawn"),
-            ConvertError::Date => write!(f, "a date or a time, which is not drawn"),
-            ConvertError::Memory => write!(f, "out of memory"),
-        }
+        f.write_str(match self {
+            ConvertError::Float => "a float, which is not drawn",
+            ConvertError::Date => "a date or a time, which is not drawn",
+            ConvertError::Memory => "out of memory",
+        })
     }
 }
 

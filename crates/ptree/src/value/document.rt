@@ -92,10 +92,10 @@ impl<T: Drop> From<AllocFailed<T>> for DocError {
 impl fmt::Display for DocError {
     fn fmt<W: fmt::Write>(&self, f: &mut fmt::Formatter<W>) -> fmt::Result {
         match self {
-            DocError::Syntax => write!(f, "no document of its format"),
-            DocError::Float => write!(f, "{}", ConvertError::Float),
-            DocError::Date => write!(f, "{}", ConvertError::Date),
-            DocError::Draw(e) => write!(f, "{e}"),
+            DocError::Syntax => f.write_str("no document of its format"),
+            DocError::Float => fmt::Display::fmt(&ConvertError::Float, f),
+            DocError::Date => fmt::Display::fmt(&ConvertError::Date, f),
+            DocError::Draw(e) => fmt::Display::fmt(e, f),
         }
     }
 }
@@ -190,13 +190,10 @@ pub fn draw_document_with<W: Sink>(
     ensures cause { HasDocumentCause (W.faults out.old) (W.faults out.new) result }
 {
     let parsed = parse_document(alloc, format, text)?;
-    print_tree_with(
-        alloc,
-        &DocumentNode::root(label, &parsed),
-        out,
-        terminal,
-        config,
-    )?;
+    let root = DocumentNode::root(label, &parsed);
+    let drawn = print_tree_with(alloc, &root, out, terminal, config);
+    drop(parsed);
+    drawn?;
     Ok(())
 }
 
