@@ -109,19 +109,24 @@ expect_refusals() {
 # the number of those that are reported, and fails if the call does otherwise. Arguments: the message, the greatest number of requests,
 # the input, the words. The variables are those of the array `variables`.
 refuse_in_turn() {
-    local message=$1 most=$2 n status got spare=0
+    local message=$1 most=$2 n status got spare=0 whole whole_err out err
     printf '%s' "$3" >"$scratch/input"
     shift 3
     local -a call=("$program" "$@")
     refusals=0
     # shellcheck disable=SC2154
-    env -i "${variables[@]}" "${call[@]}" <"$scratch/input" >"$scratch/whole" 2>"$scratch/whole_err"
+    env -i "${variables[@]}" "${call[@]}" <"$scratch/input" >"$scratch/out" 2>"$scratch/err"
     status=$?
+    # (read starts no other process, which thousands of calls would feel)
+    IFS= read -rd '' whole <"$scratch/out"
+    IFS= read -rd '' whole_err <"$scratch/err"
     for n in $(seq 1 "$most"); do
         env -i "${variables[@]}" REFUSE="$n" LD_PRELOAD="$scratch/refuse.so" "${call[@]}" \
             <"$scratch/input" >"$scratch/out" 2>"$scratch/err" 9>"$scratch/refused"
         got=$?
-        if [ $got = $status ] && cmp -s "$scratch/out" "$scratch/whole" && cmp -s "$scratch/err" "$scratch/whole_err"; then
+        IFS= read -rd '' out <"$scratch/out"
+        IFS= read -rd '' err <"$scratch/err"
+        if [ $got = $status ] && [ "$out" = "$whole" ] && [ "$err" = "$whole_err" ]; then
             if [ -s "$scratch/refused" ]; then
                 spare=$((spare + 1))
                 continue
@@ -130,8 +135,7 @@ refuse_in_turn() {
             report no "$spare refusals pass unnoticed in: $*, and not 1"
             return 1
         fi
-        if [ $got != 1 ] || [ "$(cat "$scratch/err")" != "$message" ] \
-            || ! cmp -s "$scratch/out" <(head -c "$(stat -c %s "$scratch/out")" "$scratch/whole"); then
+        if [ $got != 1 ] || [ "$err" != "$message"$'\n' ] || [[ "$whole" != "$out"* ]]; then
             report no "refusal $n in: $* (status $got)"
             return 1
         fi
@@ -147,7 +151,7 @@ make_stubs() {
     chmod a+rx "$scratch"
     printf '#!/bin/sh\n' >"$scratch/nothing"
     printf '#!/bin/sh\necho "%s" >&2\nexit 1\n' "$1" >"$scratch/no_memory"
-    printf '#!/bin/sh\necho "$@"\n[ ! -f /dev/stdin ] || cat\n' >"$scratch/echo"
+    printf '#!/bin/sh\necho "$@"\n[ ! -f /dev/stdin ] || [ -n "${FAULT-}" ] || cat\n' >"$scratch/echo"
     printf '#!/bin/sh\nprintf "always\\n└─ this\\n"\n' >"$scratch/drawing"
     chmod +x "$scratch/nothing" "$scratch/no_memory" "$scratch/echo" "$scratch/drawing"
 }
