@@ -25,6 +25,8 @@ mod items;
 #[cfg(test)]
 mod pages;
 #[cfg(test)]
+mod refused;
+#[cfg(test)]
 mod sinks;
 #[cfg(test)]
 mod styled;
