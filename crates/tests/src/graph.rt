@@ -1,9 +1,7 @@
-//! Tests graphs whose labels are numbers or lent, and nodes as items.
+//! Tests graphs whose labels are numbers or lent.
 
 use crate::expect::expect_graph;
-use ptree::graph::{Graph, GraphNode, NodeIndex};
-use ptree::item::TreeItem;
-use ptree::style::{Counted, Style};
+use ptree::graph::Graph;
 use std::alloc::Global;
 use std::test::Fail;
 
@@ -22,27 +20,4 @@ fn labels_of_each_kind_are_drawn(rt: HostRuntime) -> Result<(), Fail> {
     let numbers = pair(alloc, 18446744073709551615u64, 0)?;
     expect_graph(alloc, &numbers, "18446744073709551615\n└─ 0\n")?;
     expect_graph(alloc, &pair(alloc, "x", "y")?, "x\n└─ y\n")
-}
-
-#[test]
-fn is_an_item(rt: HostRuntime) -> Result<(), Fail> {
-    let alloc = rt.alloc();
-    let graph = pair(alloc, "x", "y")?;
-    let node = GraphNode {
-        graph: &graph,
-        node: NodeIndex(0),
-    };
-    let same = node;
-    let copy = node.clone()?;
-    assert!(rt; same.node == copy.node);
-    let mut out = Counted::new(Vec::new(alloc));
-    node.write_self(alloc, &mut out, &Style::default())?;
-    assert!(rt; out.into_inner().as_slice() == b"x".as_slice());
-    let children = copy.children(alloc)?;
-    assert!(rt; children.as_slice().len() == 1);
-    let child = children.as_slice()[0].node;
-    assert!(rt; child == NodeIndex(1));
-    assert!(rt; graph.node_weight(child).copied() == Some("y"));
-    assert!(rt; graph.node_weight(NodeIndex(2)).is_none());
-    Ok(())
 }

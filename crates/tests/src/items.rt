@@ -2,6 +2,7 @@
 
 use crate::barren::Barren;
 use crate::expect::{draw_to, expect_text};
+use crate::fixtures::held::hold;
 use ptree::item::{Children, Shaped, TreeItem};
 use ptree::output::{tree_bytes, tree_text};
 use ptree::print_config::PrintConfig;
@@ -79,8 +80,8 @@ impl TreeItem for Raw {
 #[test]
 fn bytes_that_are_no_text_are_drawn(rt: HostRuntime) -> Result<(), Fail> {
     let alloc = rt.alloc();
-    let config = PrintConfig::default(alloc)?;
-    assert!(rt; tree_text(alloc, &Raw, &config)?.is_none());
-    assert!(rt; tree_bytes(alloc, &Raw, &config)?.as_slice() == b"\xff\n".as_slice());
+    let config = hold(PrintConfig::default(alloc))?;
+    assert!(rt; tree_text(alloc, &Raw, &config.value)?.is_none());
+    assert!(rt; tree_bytes(alloc, &Raw, &config.value)?.as_slice() == b"\xff\n".as_slice());
     Ok(())
 }

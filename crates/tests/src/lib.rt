@@ -10,8 +10,6 @@ mod change;
 #[cfg(test)]
 mod counted;
 #[cfg(test)]
-mod equality;
-#[cfg(test)]
 mod errors;
 #[cfg(test)]
 mod expect;

@@ -17,19 +17,6 @@ fn a_writer_is_asked_whether_it_is_a_terminal(rt: HostRuntime) -> Result<(), Fai
 }
 
 #[test]
-fn a_feed_gives_what_its_reader_gives(rt: HostRuntime) -> Result<(), Fail> {
-    let mut room = [0; 4];
-    let mut feed = Counted::new(b"abcdef".as_slice());
-    assert!(rt; feed.get(&mut [])? == 0);
-    for (count, bytes) in [(4, *b"abcd"), (2, *b"efcd"), (0, *b"efcd")] {
-        assert_eq!(rt; feed.get(&mut room)?, count);
-        assert!(rt; room == bytes, "{count}");
-    }
-    assert!(rt; feed.into_inner().is_empty());
-    Ok(())
-}
-
-#[test]
 fn an_error_of_a_reader_is_passed_on(rt: HostRuntime) -> Result<(), Fail> {
     for error in [ErrorKind::BrokenPipe, ErrorKind::Interrupted] {
         let mut room = [0; 4];

@@ -98,47 +98,55 @@ fn draws_a_map_of_keys_of_any_kind(rt: HostRuntime) -> Result<(), Fail> {
     expect_drawn(alloc, &map_of_lists(alloc)?, drawing)
 }
 
-#[test]
-fn from_json_keeps_kinds(rt: HostRuntime) -> Result<(), Fail> {
-    let alloc = rt.alloc();
-    let parsed = serde_json::Value::from_str(alloc, "{\"b\":[1,-2],\"a\":null}")?;
-    let Value::Map(entries) = Value::from_json(alloc, &parsed)? else {
-        return Err(Fail::from("no map"));
+// Whether a value is a map of no value under `a`, and of a natural and a negative number under `b`.
+fn has_kinds_of_json(value: &Value) -> bool {
+    let Value::Map(entries) = value else {
+        return false;
     };
     let [
         (Value::String(a), Value::Unit),
         (Value::String(b), Value::Seq(items)),
     ] = entries.as_slice()
     else {
-        return Err(Fail::from("other entries"));
+        return false;
     };
-    assert_eq!(rt; a.as_str(), "a");
-    assert_eq!(rt; b.as_str(), "b");
-    let [Value::U64(1), Value::I64(-2)] = items.as_slice() else {
-        return Err(Fail::from("other numbers"));
-    };
-    Ok(())
+    a.as_str() == "a"
+        && b.as_str() == "b"
+        && matches!(items.as_slice(), [Value::U64(1), Value::I64(-2)])
 }
 
 #[test]
-fn from_toml_keeps_kinds(rt: HostRuntime) -> Result<(), Fail> {
+fn from_json_keeps_kinds(rt: HostRuntime) -> Result<(), Fail> {
     let alloc = rt.alloc();
-    let table = toml::table_from_str(alloc, "b = [1, true]\na = \"x\"")?;
-    let Value::Map(entries) = Value::from_toml(alloc, &toml::Value::Table(table))? else {
-        return Err(Fail::from("no map"));
+    let parsed = serde_json::Value::from_str(alloc, "{\"b\":[1,-2],\"a\":null}")?;
+    let value = Value::from_json(alloc, &parsed)?;
+    assert!(rt; has_kinds_of_json(&value));
+    Ok(())
+}
+
+// Whether a value is a map of a text under `a`, and of a number and `true` under `b`.
+fn has_kinds_of_toml(value: &Value) -> bool {
+    let Value::Map(entries) = value else {
+        return false;
     };
     let [
         (Value::String(a), Value::String(x)),
         (Value::String(b), Value::Seq(items)),
     ] = entries.as_slice()
     else {
-        return Err(Fail::from("other entries"));
+        return false;
     };
-    assert_eq!(rt; a.as_str(), "a");
-    assert_eq!(rt; x.as_str(), "x");
-    assert_eq!(rt; b.as_str(), "b");
-    let [Value::I64(1), Value::Bool(true)] = items.as_slice() else {
-        return Err(Fail::from("other elements"));
-    };
+    a.as_str() == "a"
+        && x.as_str() == "x"
+        && b.as_str() == "b"
+        && matches!(items.as_slice(), [Value::I64(1), Value::Bool(true)])
+}
+
+#[test]
+fn from_toml_keeps_kinds(rt: HostRuntime) -> Result<(), Fail> {
+    let alloc = rt.alloc();
+    let table = toml::table_from_str(alloc, "b = [1, true]\na = \"x\"")?;
+    let value = Value::from_toml(alloc, &toml::Value::Table(table))?;
+    assert!(rt; has_kinds_of_toml(&value));
     Ok(())
 }
