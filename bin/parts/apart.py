@@ -4,8 +4,8 @@
   bin/parts/apart.py make HOUSE FOLDER             makes the crate, or brings it up to date, and prints its folder
   bin/parts/apart.py build HOUSE FOLDER [WORD..]   also proves and builds it, runs it with the words, and prints the program's path
 
-HOUSE is the folder of that repository. FOLDER/crate is the program's line of crates.txt, and FOLDER/src has its sources, under
-Rust's ending `.rs`: `rt ci` refuses files of Rattle outside of the crates that it proves.
+HOUSE is the folder of that repository. FOLDER/crate is the program's line of crates.txt, after which each line is the path of a further
+source file. FOLDER/src has its sources, under Rust's ending `.rs`: `rt ci` refuses files of Rattle outside of the crates that it proves.
 """
 import fcntl
 import filecmp
@@ -54,12 +54,12 @@ def link_or_copy(source, target):
         shutil.copy2(source, target)
 
 
-def lines_of(folder):
-    """The line of a program, after those of the crates of this repository that it reaches, by their names."""
+def read_crate(folder):
+    """The line of a program, after those of the crates of this repository that it reaches, by their names; and its further files."""
     with open(os.path.join(TOP, "crates.txt"), encoding="utf-8") as file:
         known = {re.match(r"\w+", line)[0]: line.strip() for line in file if re.match(r"\w", line)}
     with open(os.path.join(TOP, folder, "crate"), encoding="utf-8") as file:
-        own = file.read().strip()
+        own, *others = file.read().splitlines()
     found = {}
 
     def add(line):
@@ -69,12 +69,12 @@ def lines_of(folder):
                 found[name] = known[name]
 
     add(own)
-    return found | {own.split(":")[0]: own}
+    return found | {own.split(":")[0]: own}, others
 
 
-def make(house, folder, others=()):
-    """Makes a program's crate from a folder, and from other source files. Returns the crate's folder, and the names of its libraries."""
-    lines = lines_of(folder)
+def make(house, folder):
+    """Makes a program's crate from a folder. Returns the crate's folder, and the names of its libraries."""
+    lines, others = read_crate(folder)
     *libraries, name = lines
     crate = os.path.join(house, "crates", name)
     os.makedirs(house, exist_ok=True)
@@ -96,10 +96,10 @@ def make(house, folder, others=()):
     return crate, libraries
 
 
-def build(house, folder, words=(), others=()):
+def build(house, folder, words=()):
     """Makes a program's crate, proves and builds it, and runs it with the words. What is kept of the libraries' proofs is taken along.
     Returns the program's path."""
-    crate, libraries = make(house, folder, others)
+    crate, libraries = make(house, folder)
     for library in libraries:
         of, to = (os.path.join(top, "crates", library, "out") for top in (TOP, house))
         if os.path.isdir(of) and not os.path.isdir(to):

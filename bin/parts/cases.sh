@@ -15,16 +15,28 @@ add_case() {
     done >"$case.args"
 }
 
-# Tries the program of a folder on all cases. Each run has some seconds, and a deep stack: checked code needs more of it.
+# Tries the program of a folder on all cases.
 try_cases() {
     local crate
     crate=$(bin/parts/apart.py make "$scratch/house" "$1") || return
-    (ulimit -Ss "$(ulimit -Hs)"; cd "$crate" && "${RT:-rt}" try --seconds 300 --cases "$cases") >"$scratch/out" 2>"$scratch/err"
+    (cd "$crate" && "${RT:-rt}" try --seconds "${SECONDS_EACH:-300}" --cases "$cases") >"$scratch/out" 2>"$scratch/err"
+}
+
+# Checks the layout of the sources of the program that was tried.
+check_layout() {
+    local said
+    if said=$(cd "$scratch/house/crates/$(basename "$1")" && rt fmt 2>&1) && [ -z "$said" ]; then
+        report ok "the layout of $1"
+    else
+        report no "the layout of $1: $said"
+    fi
 }
 
 # Whether a case ended with a status, after writing what it must.
 has_ended() {
-    grep -qx "case=$1 run=ended status=$2 runners=1 proved=no" "$scratch/err"
+    local output=''
+    [ ! -f "$cases/$1.stdout" ] || output=' output=expected'
+    grep -qxF "case=$1 run=ended status=$2 runners=1$output proved=no" "$scratch/err"
 }
 
 # Prints what `rt try` says of a case; where it names none, all that it says.

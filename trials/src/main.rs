@@ -2,6 +2,7 @@
 //!
 //! - `faults` draws to writers that fail at each byte
 //! - `limits LINES` draws and reads texts of so many lines, and what is as large as it may be
+//! - `nested` draws a document of 6,560 levels
 //! - `sizes MOST` makes each call that allocates at several sizes
 //! - `refusals` makes calls that allocate, each once more if it was refused memory
 //! - `rules SEED CASES` tries the rules on random input
@@ -23,7 +24,7 @@ mod sizes;
 use calls::write_calls;
 use extreme::draw_extreme;
 use faults::try_faults;
-use limits::try_limits;
+use limits::{try_limits, try_nested};
 use refusals::try_refusals;
 use rules::try_rules;
 use sizes::try_sizes;
@@ -31,7 +32,7 @@ use std::process::ExitCode;
 use std::{env, io};
 
 const USAGE: &str =
-    "usage: trials (faults | limits LINES | sizes MOST | refusals | rules SEED CASES \
+    "usage: trials (faults | limits LINES | nested | sizes MOST | refusals | rules SEED CASES \
                      | calls FOLDER SEED CASES | extreme NAME)";
 
 // A word's number, or 0 if there is none in it.
@@ -44,6 +45,7 @@ fn run(rt: &HostRuntime, words: &[&str]) -> io::Result<bool> {
     match words {
         ["faults"] => try_faults(rt)?,
         ["limits", lines] => try_limits(rt, number(lines))?,
+        ["nested"] => try_nested(rt)?,
         ["sizes", most] => try_sizes(rt, number(most) as usize)?,
         ["refusals"] => try_refusals(rt)?,
         ["rules", seed, cases] => try_rules(rt, u64::from(number(seed)), number(cases))?,

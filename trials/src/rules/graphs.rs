@@ -87,12 +87,7 @@ fn push_targets(
 }
 
 // The tree of walks from a node, down to a level at which there are few.
-fn walks(
-    alloc: Global,
-    net: &MadeGraph,
-    node: usize,
-    depth: u32,
-) -> Result<StringItem, Deviation> {
+fn walks(alloc: Global, net: &MadeGraph, node: usize, depth: u32) -> Result<StringItem, Deviation> {
     let mut builder = TreeBuilder::new(alloc, label(alloc, net, node)?);
     let mut open = Vec::new(alloc);
     push_targets(net, (0, node), depth, &mut open)?;
