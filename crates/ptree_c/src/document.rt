@@ -81,7 +81,9 @@ fn drawing_by_preset(
         IsDocumentDrawing (config_at preset depth) format label.now text.now drawing.items) }
 {
     let config = config(alloc, preset, depth)?;
-    drawing_of_document(alloc, text, label, format, &config)
+    let drawing = drawing_of_document(alloc, text, label, format, &config);
+    drop(config);
+    drawing
 }
 
 // The drawing of a document as fields say.
@@ -98,7 +100,9 @@ fn drawing_by_fields(
         drawing.items) }
 {
     let config = config_of_fields(alloc, names, fields)?;
-    drawing_of_document(alloc, text, label, format, &config)
+    let drawing = drawing_of_document(alloc, text, label, format, &config);
+    drop(config);
+    drawing
 }
 
 /// Draws a document under a label into `out`, as much as there is room for, down to a depth, as a

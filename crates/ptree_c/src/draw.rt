@@ -29,7 +29,9 @@ fn draw_by_preset(
     ensures kept { OnErr result (out.new ≡ out.old) }
 {
     let config = config(alloc, preset, depth)?;
-    draw_outline(alloc, items, texts, &config, out)
+    let drawn = draw_outline(alloc, items, texts, &config, out);
+    drop(config);
+    drawn
 }
 
 // Draws items as fields say, and returns the length of the drawing.
@@ -47,7 +49,9 @@ fn draw_by_fields(
     ensures kept { OnErr result (out.new ≡ out.old) }
 {
     let config = config_of_fields(alloc, names, fields)?;
-    draw_outline(alloc, items, texts, &config, out)
+    let drawn = draw_outline(alloc, items, texts, &config, out);
+    drop(config);
+    drawn
 }
 
 /// Draws items into `out`, as much as there is room for, down to a depth, as a preset does. `found`

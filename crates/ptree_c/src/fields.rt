@@ -263,7 +263,9 @@ pub(crate) fn fields_of_config(alloc: Global, config: &PrintConfig) -> Result<Wr
     let mut names = Vec::new(alloc);
     let fields = write_config(&mut names, config)?;
     let again = config_of_fields(alloc, &names, &fields)?;
-    if again == *config {
+    let is_same = again == *config;
+    drop(again);
+    if is_same {
         Ok(Written { fields, names })
     } else {
         Err(Refusal::Memory)

@@ -152,7 +152,9 @@ fn walks_by_fields(
         drawing.items) }
 {
     let config = config_of_fields(alloc, names, fields)?;
-    Ok(drawing_of_walks(alloc, graph, start, &config)?)
+    let drawing = drawing_of_walks(alloc, graph, start, &config);
+    drop(config);
+    Ok(drawing?)
 }
 
 // The drawing with each node expanded once as fields say.
@@ -172,7 +174,9 @@ fn once_by_fields(
         return Err(Refusal::Part);
     };
     let config = config_of_fields(alloc, names, fields)?;
-    Ok(drawing_of_once(alloc, graph, start, mark, &config)?)
+    let drawing = drawing_of_once(alloc, graph, start, mark, &config);
+    drop(config);
+    Ok(drawing?)
 }
 
 // The drawing of all walks of the graph that C gives.

@@ -81,7 +81,11 @@ fn fields_of_sources(alloc: Global, sources: &Sources) -> Result<Written, Refusa
         AreLoaded sources.now written.names.items written.fields) }
 {
     match load(alloc, sources)? {
-        Some(config) => fields_of_config(alloc, &config),
+        Some(config) => {
+            let written = fields_of_config(alloc, &config);
+            drop(config);
+            written
+        }
         None => Err(Refusal::Fault(syntax_line(alloc, &sources.file)?.unwrap_or(0))),
     }
 }

@@ -273,7 +273,7 @@ pub(crate) fn draw_outline(
     let mut path = Vec::new(alloc);
     path.resize(deepest.min(config.depth) as usize, 0)?;
     let brush = Brush::new(alloc, config)?;
-    Ok(draw_by_brush(
+    let drawn = draw_by_brush(
         alloc,
         &brush,
         &mut path,
@@ -282,5 +282,7 @@ pub(crate) fn draw_outline(
         &flags,
         config.depth,
         out,
-    )?)
+    );
+    drop(brush);
+    Ok(drawn?)
 }

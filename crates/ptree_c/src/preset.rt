@@ -55,7 +55,9 @@ fn numbered(alloc: Global, preset: u32) -> Result<PrintConfig, Refusal>
 // Whether drawings of a preset can be read.
 fn readable(alloc: Global, preset: u32) -> Result<(), Refusal> {
     let config = numbered(alloc, preset)?;
-    if pieces_readable(alloc, &config)? {
+    let is_readable = pieces_readable(alloc, &config);
+    drop(config);
+    if is_readable? {
         Ok(())
     } else {
         Err(Refusal::Pieces)
@@ -68,7 +70,9 @@ fn fields_of_preset(alloc: Global, preset: u32) -> Result<Written, Refusal>
         config_value written.names.items written.fields ≡ numbered_config preset) }
 {
     let config = numbered(alloc, preset)?;
-    fields_of_config(alloc, &config)
+    let written = fields_of_config(alloc, &config);
+    drop(config);
+    written
 }
 
 /// Puts fields of a configuration into `config`, and their texts into `names`.

@@ -60,7 +60,9 @@ fn items_by_preset(alloc: Global, text: &[u8], preset: u32, depth: u32) -> Resul
         AreItemsOf (look_at preset depth) depth text.now flat.items.items flat.texts.items) }
 {
     let config = config(alloc, preset, depth)?;
-    items_of_text(alloc, text, &config)
+    let items = items_of_text(alloc, text, &config);
+    drop(config);
+    items
 }
 
 // The items of what is drawn as fields say.
@@ -75,7 +77,9 @@ fn items_by_fields(
         flat.texts.items) }
 {
     let config = config_of_fields(alloc, names, fields)?;
-    items_of_text(alloc, text, &config)
+    let items = items_of_text(alloc, text, &config);
+    drop(config);
+    items
 }
 
 // Puts items and their texts into the memory of the caller.

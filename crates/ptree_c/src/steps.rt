@@ -246,7 +246,10 @@ fn draw_by_fields(
 {
     let config = config_of_fields(alloc, names, fields)?;
     let brush = Brush::new(alloc, &config)?;
-    Ok(draw_steps(alloc, &brush, path, texts, steps, out)?)
+    let drawn = draw_steps(alloc, &brush, path, texts, steps, out);
+    drop(brush);
+    drop(config);
+    Ok(drawn?)
 }
 
 // Reports what was drawn.

@@ -5,4 +5,4 @@ use Rattle.ptree_c.proofs.document.drawing_by_fields.Goals as goal
 
 pub returns : goal.returns
 returns c =
-    subst (λ (v : ConfigValue). IfOk c.drawing_of_document.result (λ made. IsDocumentDrawing v c.args.format c.args.label.now c.args.text.now made.items)) c.in_ok-config.ensures c.drawing_of_document.ensures
+    subst (λ (v : ConfigValue). IfOk c.drawing_of_document-drawing.result (λ made. IsDocumentDrawing v c.args.format c.args.label.now c.args.text.now made.items)) c.in_ok-config.ensures c.drawing_of_document-drawing.ensures

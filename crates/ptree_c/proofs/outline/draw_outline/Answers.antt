@@ -6,8 +6,8 @@ use Rattle.ptree_c.specs.Steps.{steps_text}
 use Rattle.ptree_c.proofs.Outlined.{low_outline, outline_drawn, outline_same}
 use Rattle.ptree_c.proofs.outline.draw_outline.Goals as goal
 
-pub draw_by_brush-requires-clause-low : goal.draw_by_brush-requires-clause-low
-draw_by_brush-requires-clause-low c =
+pub draw_by_brush-drawn-requires-clause-low : goal.draw_by_brush-drawn-requires-clause-low
+draw_by_brush-drawn-requires-clause-low c =
     let path = c.deref_mut.result.now in
     let depth = c.args.config.now.depth in
     let deepest = c.in_ok-deepest.deepest in
@@ -15,8 +15,8 @@ draw_by_brush-requires-clause-low c =
     let fit : (n : ℕ) → n ≤ deepest → n ≤ depth → n ≤ length path = λ n low high. omega (arith, low, high, long, c.min.ensures) in
     low_outline deepest depth (length path) c.args.items.now fit c.in_ok-deepest.ensures
 
-pub draw_by_brush-requires-clause-same : goal.draw_by_brush-requires-clause-same
-draw_by_brush-requires-clause-same c = λ p q same_p same_q.
+pub draw_by_brush-drawn-requires-clause-same : goal.draw_by_brush-drawn-requires-clause-same
+draw_by_brush-drawn-requires-clause-same c = λ p q same_p same_q.
     let path = c.deref_mut.result.now in
     let depth = c.args.config.now.depth in
     let deepest = c.in_ok-deepest.deepest in
@@ -41,5 +41,5 @@ returns-clause-drawn c =
     ∙ ap (λ t. steps_text (written_look config) t path (steps_from config.depth 0 items flags)) c.new-known.ensures in (
       drawing,
       outline_drawn (written_look config) texts path items flags deepest config.depth drawing c.in_ok-deepest.ensures last fit same,
-      c.in_ok-draw_by_brush.ensures.filled,
+      c.in_ok-drawn.ensures.filled,
     )

@@ -7,4 +7,4 @@ use Rattle.ptree_c.proofs.read.items_by_fields.Goals as goal
 
 pub returns : goal.returns
 returns c =
-    subst (λ (v : ConfigValue). IfOk c.items_of_text.result (λ made. AreItemsOf (look_by v Unknown false) v.depth c.args.text.now made.items.items made.texts.items)) c.in_ok-config.ensures c.items_of_text.ensures
+    subst (λ (v : ConfigValue). IfOk c.items_of_text-items.result (λ made. AreItemsOf (look_by v Unknown false) v.depth c.args.text.now made.items.items made.texts.items)) c.in_ok-config.ensures c.items_of_text-items.ensures
