@@ -72,11 +72,13 @@ impl<T: Drop> From<AllocFailed<T>> for IndentError {
 
 impl fmt::Display for IndentError {
     fn fmt<W: fmt::Write>(&self, f: &mut fmt::Formatter<W>) -> fmt::Result {
-        match self {
-            IndentError::Line(line) => write!(f, "line {line} cannot continue the indented form"),
-            IndentError::End => write!(f, "the text is incomplete"),
-            IndentError::Memory => write!(f, "out of memory"),
-        }
+        f.write_str(match self {
+            IndentError::Line(line) => {
+                return write!(f, "line {line} cannot continue the indented form");
+            }
+            IndentError::End => "the text is incomplete",
+            IndentError::Memory => "out of memory",
+        })
     }
 }
 
@@ -105,10 +107,10 @@ impl From<AllocError> for WriteError {
 
 impl fmt::Display for WriteError {
     fn fmt<W: fmt::Write>(&self, f: &mut fmt::Formatter<W>) -> fmt::Result {
-        match self {
-            WriteError::Text => write!(f, "the text of an item cannot follow an indent"),
-            WriteError::Memory => write!(f, "out of memory"),
-        }
+        f.write_str(match self {
+            WriteError::Text => "the text of an item cannot follow an indent",
+            WriteError::Memory => "out of memory",
+        })
     }
 }
 

@@ -265,9 +265,12 @@ fn is_all_digits(text: &str) -> bool
 fn is_known_name(alloc: Global, name: &str) -> Result<bool, AllocError>
     ensures { IfOk result (λ b. b ≡ is_known_name name.now) }
 {
+    let name = String::from_str(alloc, name)?;
     let mut style = Style::default();
-    style.foreground = Some(Color::Named(String::from_str(alloc, name)?));
-    let painted = style.paint(alloc, "")?;
+    style.foreground = Some(Color::Named(name));
+    let painted = style.paint(alloc, "");
+    drop(style);
+    let painted = painted?;
     if painted.len() == 0 {
         Ok(false)
     } else {
