@@ -86,16 +86,19 @@ impl<'a> Brush<'a> {
         let is_styled = config.should_style_output(OutputKind::Unknown, false);
         let branch = effective_codes(alloc, &config.branch, is_styled)?;
         let leaf = effective_codes(alloc, &config.leaf, is_styled)?;
-        let pieces = Indent::from_config(alloc, config)?;
         let root = joined(alloc, &branch.end, &leaf.start)?;
+        let end = joined(alloc, &leaf.end, b"\n")?;
+        drop(leaf);
+        let further = joined(alloc, config.continued.as_bytes(), &branch.end)?;
+        let pieces = Indent::from_config(alloc, config)?;
         Ok(Brush {
             config,
             child: joined(alloc, pieces.regular_prefix.as_bytes(), &root)?,
             last_child: joined(alloc, pieces.last_regular_prefix.as_bytes(), &root)?,
-            end: joined(alloc, &leaf.end, b"\n")?,
-            further: joined(alloc, config.continued.as_bytes(), &branch.end)?,
             root,
             start: branch.start,
+            end,
+            further,
             pieces,
         })
     }
