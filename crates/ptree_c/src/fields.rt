@@ -14,7 +14,7 @@ use std::alloc::{AllocError, Global};
 
 /// A text: what lies between two places of the texts that a call is given with it.
 #[repr(C)]
-#[derive(Debug, Clone, Copy)]
+#[derive(Clone, Copy)]
 pub struct Part {
     /// Where the text begins.
     pub start: usize,
@@ -25,7 +25,7 @@ pub struct Part {
 
 /// A colour, or none.
 #[repr(C)]
-#[derive(Debug, Clone, Copy)]
+#[derive(Clone, Copy)]
 pub struct ColorFields {
     /// 0 for no colour; 1 to 8 for black, red, green, yellow, blue, purple, cyan and white; 9 for a
     /// number of the terminal's table; 10 for red, green and blue; 11 for a name.
@@ -46,7 +46,7 @@ pub struct ColorFields {
 
 /// A style. A flag is set if it is not 0.
 #[repr(C)]
-#[derive(Debug, Clone, Copy)]
+#[derive(Clone, Copy)]
 pub struct StyleFields {
     /// The colour of the text.
     pub foreground: ColorFields,
@@ -81,7 +81,7 @@ pub struct StyleFields {
 
 /// The characters that branches are drawn with.
 #[repr(C)]
-#[derive(Debug, Clone, Copy)]
+#[derive(Clone, Copy)]
 pub struct CharactersFields {
     /// Points down and right.
     pub down_and_right: Part,
@@ -101,7 +101,7 @@ pub struct CharactersFields {
 
 /// How a tree is drawn. The texts lie beside it.
 #[repr(C)]
-#[derive(Debug, Clone, Copy)]
+#[derive(Clone, Copy)]
 pub struct ConfigFields {
     /// The greatest level that is drawn.
     pub depth: u32,
@@ -246,7 +246,7 @@ pub(crate) fn config_of_fields(
 }
 
 /// The fields of a configuration, and its texts.
-#[derive(Debug, Drop)]
+#[derive(Drop)]
 pub(crate) struct Written {
     /// The fields.
     pub(crate) fields: ConfigFields,

@@ -22,7 +22,7 @@ use std::str;
 
 /// An edge, by the places of its nodes, which are counted from 0.
 #[repr(C)]
-#[derive(Debug, Clone, Copy)]
+#[derive(Clone, Copy)]
 pub struct Edge {
     /// The node that the edge leaves.
     pub source: usize,

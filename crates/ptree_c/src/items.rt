@@ -12,7 +12,7 @@ use std::str;
 /// An item of an outline. Its text is what the texts hold from the end of the item before it, or
 /// from their start, to its own end.
 #[repr(C)]
-#[derive(Debug, Clone, Copy)]
+#[derive(Clone, Copy)]
 pub struct Item {
     /// Where the item's text ends in the texts of all items.
     pub end: usize,
@@ -42,7 +42,7 @@ pub(crate) fn text_between(
 }
 
 /// The items of a tree, and their texts.
-#[derive(Debug, Drop)]
+#[derive(Drop)]
 pub(crate) struct Flat {
     /// The items.
     pub(crate) items: Vec<Item>,

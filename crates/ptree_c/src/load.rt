@@ -15,7 +15,7 @@ use std::str;
 
 /// A variable. Its name and its value are parts of the texts that a call is given with it.
 #[repr(C)]
-#[derive(Debug, Clone, Copy)]
+#[derive(Clone, Copy)]
 pub struct Variable {
     /// The name.
     pub name: Part,

@@ -7,7 +7,7 @@ use ptree::value::DocError;
 use std::alloc::{AllocError, AllocFailed};
 
 /// Why a call did nothing.
-#[derive(Debug, Clone, Copy, PartialEq, Eq)]
+#[derive(Clone, Copy)]
 pub enum Refusal {
     /// Memory ran out.
     Memory,

@@ -4,7 +4,7 @@ ghost use Rattle.ptree_c.specs.Rooms.{filled, IsFilled, IsSize};
 
 /// What a call found: how many bytes and items there are, or the place of what was refused.
 #[repr(C)]
-#[derive(Debug, Clone, Copy)]
+#[derive(Clone, Copy)]
 pub struct Found {
     /// The bytes of the whole drawing, or of all texts together.
     pub bytes: usize,

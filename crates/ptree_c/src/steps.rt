@@ -16,7 +16,7 @@ use std::alloc::{AllocError, Global};
 
 /// An item, with whether it is its parent's last child.
 #[repr(C)]
-#[derive(Debug, Clone, Copy)]
+#[derive(Clone, Copy)]
 pub struct Step {
     /// The item's text.
     pub text: Part,
@@ -29,7 +29,7 @@ pub struct Step {
 }
 
 // Why no more items were drawn.
-#[derive(Debug, Clone, Copy)]
+#[derive(Clone, Copy)]
 enum Stop {
     // All were drawn.
     All,
@@ -176,7 +176,7 @@ fn add_step(
 }
 
 // How many bytes were drawn, of how many items, and why it ended there.
-#[derive(Debug, Clone, Copy)]
+#[derive(Clone, Copy)]
 struct Drawn {
     bytes: usize,
     items: usize,
