@@ -50,18 +50,17 @@ impl fmt::Display for Fault {
                     field.kind()
                 )
             }
-            Fault::Key(field) => {
-                let (table, dot) = match field.table() {
-                    Some(table) => (table, "."),
-                    None => ("", ""),
-                };
-                write!(
-                    f,
-                    "the file's key {table}{dot}{} isn't {}",
-                    field.key(),
-                    field.kind()
-                )
-            }
+            Fault::Key(field) => match field.table() {
+                Some(table) => {
+                    write!(
+                        f,
+                        "the file's key {table}.{} isn't {}",
+                        field.key(),
+                        field.kind()
+                    )
+                }
+                None => write!(f, "the file's key {} isn't {}", field.key(), field.kind()),
+            },
         }
     }
 }
