@@ -233,15 +233,19 @@ pub(crate) fn config_of_fields(
 ) -> Result<PrintConfig, Refusal>
     ensures { IfOk result (λ config. config_of config ≡ config_value texts.now fields.now) }
 {
-    Ok(PrintConfig {
+    let characters = characters_of_fields(alloc, texts, &fields.characters)?;
+    let branch = style_of_fields(alloc, texts, &fields.branch)?;
+    let leaf = style_of_fields(alloc, texts, &fields.leaf)?;
+    let continued = text_of_part(alloc, texts, fields.continued);
+    continued.map(|continued| PrintConfig {
         depth: fields.depth,
         indent: fields.indent,
         padding: fields.padding,
         styled: styled(fields.styled),
-        characters: characters_of_fields(alloc, texts, &fields.characters)?,
-        branch: style_of_fields(alloc, texts, &fields.branch)?,
-        leaf: style_of_fields(alloc, texts, &fields.leaf)?,
-        continued: text_of_part(alloc, texts, fields.continued)?,
+        characters,
+        branch,
+        leaf,
+        continued,
     })
 }
 
