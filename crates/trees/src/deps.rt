@@ -38,39 +38,73 @@ pub fn read_dependencies(
     inverse: bool,
     is_terminal: bool,
 ) -> Result<Dependencies, Failure> {
-    let text = source.text.as_str();
-    let mut network = if text.trim_start().starts_with('{') {
-        package_lock(alloc, source)?
-    } else if text.contains("[[package]]") {
-        cargo_lock(alloc, source)?
-    } else {
-        pairs(alloc, source)?
-    };
+    let mut network = read_network(alloc, source)?;
     if inverse {
-        for edge in &mut network.edges {
-            *edge = (edge.1, edge.0);
-        }
+        network.reverse();
     }
     let start = match root {
         Some(name) => named(alloc, source, &network, name)?,
         None => top(alloc, source, &mut network)?,
     };
+    drawn(alloc, source, network, start, is_terminal)
+}
+
+impl Network {
+    // Turns each edge around.
+    fn reverse(&mut self) {
+        for edge in &mut self.edges {
+            *edge = (edge.1, edge.0);
+        }
+    }
+}
+
+// Returns the dependencies of an input in one of the three forms.
+fn read_network(alloc: Global, source: &Source) -> Result<Network, Failure> {
+    let text = source.text.as_str();
+    if text.trim_start().starts_with('{') {
+        package_lock(alloc, source)
+    } else if text.contains("[[package]]") {
+        cargo_lock(alloc, source)
+    } else {
+        pairs(alloc, source)
+    }
+}
+
+// Returns what is drawn of dependencies from a node on.
+fn drawn(
+    alloc: Global,
+    source: &Source,
+    network: Network,
+    root: NodeIndex,
+    is_terminal: bool,
+) -> Result<Dependencies, Failure> {
     let Network { labels, mut edges } = network;
     // A node's neighbours are drawn newest edge first.
     edges.reverse();
-    let mut graph = Graph::new(alloc);
-    for label in labels {
-        if is_terminal {
-            graph.add_node(escaped(alloc, label.as_str())?)?;
-        } else {
-            graph.add_node(label)?;
-        }
-    }
+    let mut graph = labelled(alloc, labels, is_terminal)?;
     match graph.extend_with_edges(&edges) {
-        Ok(()) => Ok(Dependencies { graph, root: start }),
+        Ok(()) => Ok(Dependencies { graph, root }),
         Err(EdgeError::Memory) => Err(Failure::Memory),
         Err(EdgeError::NoNode) => Err(source.wrong(alloc, "no dependencies")?),
     }
+}
+
+// Returns a graph of nodes with these labels, for a terminal escaped.
+fn labelled(
+    alloc: Global,
+    labels: Vec<String>,
+    is_terminal: bool,
+) -> Result<Graph<String>, AllocError> {
+    let mut graph = Graph::new(alloc);
+    for label in labels {
+        let label = if is_terminal {
+            escaped(alloc, label.as_str())?
+        } else {
+            label
+        };
+        graph.add_node(label)?;
+    }
+    Ok(graph)
 }
 
 // Returns the first node with this name: its label, or its label up to the version.
@@ -181,14 +215,17 @@ fn pairs(alloc: Global, source: &Source) -> Result<Network, Failure> {
 // Returns the dependencies of a `Cargo.lock`.
 fn cargo_lock(alloc: Global, source: &Source) -> Result<Network, Failure> {
     let value = toml_value(alloc, source)?;
-    let Some(packages) = value.get("package").and_then(|p| p.as_array()) else {
-        return Err(source.wrong(alloc, "no packages")?);
-    };
+    match value.get("package").and_then(|p| p.as_array()) {
+        Some(packages) => Ok(cargo_network(alloc, packages)?),
+        None => Err(source.wrong(alloc, "no packages")?),
+    }
+}
+
+// Returns the dependencies of the packages of a `Cargo.lock`.
+fn cargo_network(alloc: Global, packages: &[toml::Value]) -> Result<Network, AllocError> {
     let mut keys = Vec::new(alloc);
     for package in packages {
-        let name = toml_word(package, "name");
-        let version = toml_word(package, "version");
-        keys.push(format!(in alloc; "{name} {version}")?)?;
+        keys.push(cargo_key(alloc, package)?)?;
     }
     once(&mut keys)?;
     let mut edges = Vec::new(alloc);
@@ -200,6 +237,13 @@ fn cargo_lock(alloc: Global, source: &Source) -> Result<Network, Failure> {
         labels.push(key.replacen(alloc, " ", " v", 1)?)?;
     }
     Ok(Network { labels, edges })
+}
+
+// Returns the key of a package: its name and version.
+fn cargo_key(alloc: Global, package: &toml::Value) -> Result<String, AllocError> {
+    let name = toml_word(package, "name");
+    let version = toml_word(package, "version");
+    format!(in alloc; "{name} {version}")
 }
 
 // Returns the text at a key of a table.
@@ -217,9 +261,7 @@ fn push_needs(
     keys: &[String],
     edges: &mut Vec<(NodeIndex, NodeIndex)>,
 ) -> Result<(), AllocError> {
-    let name = toml_word(package, "name");
-    let version = toml_word(package, "version");
-    let key = format!(in alloc; "{name} {version}")?;
+    let key = cargo_key(alloc, package)?;
     let Some(from) = position(keys, key.as_str()) else {
         return Ok(());
     };
@@ -257,9 +299,18 @@ fn cargo_need(alloc: Global, keys: &[String], need: &str) -> Result<Option<NodeI
 // Returns the dependencies of a `package-lock.json`.
 fn package_lock(alloc: Global, source: &Source) -> Result<Network, Failure> {
     let value = json_value(alloc, source)?;
-    let Some(packages) = value.get("packages").and_then(|p| p.as_object()) else {
-        return Err(source.wrong(alloc, "no packages")?);
-    };
+    match value.get("packages").and_then(|p| p.as_object()) {
+        Some(packages) => Ok(npm_network(alloc, source, packages)?),
+        None => Err(source.wrong(alloc, "no packages")?),
+    }
+}
+
+// Returns the dependencies of the packages of a `package-lock.json`.
+fn npm_network(
+    alloc: Global,
+    source: &Source,
+    packages: &Map<String, serde_json::Value>,
+) -> Result<Network, AllocError> {
     let mut keys = Vec::new(alloc);
     for (path, _) in packages.iter() {
         keys.push(path.clone()?)?;

@@ -22,22 +22,45 @@ pub fn json(
     is_strict: bool,
 ) -> Result<StringItem, Failure> {
     let value = json_value(alloc, source)?;
-    let mut part = &value;
-    if let Some(at) = at {
-        for key in at.split('.') {
-            part = match json_part(part, key) {
-                Some(part) => part,
-                None => return Err(missing(alloc, source, at, key)?),
-            };
-        }
-    }
+    json_drawn(alloc, source, &value, at, label, is_strict)
+}
+
+// Returns the tree of the part of a JSON document at the keys `at`.
+fn json_drawn(
+    alloc: Global,
+    source: &Source,
+    value: &serde_json::Value,
+    at: Option<&str>,
+    label: Option<&str>,
+    is_strict: bool,
+) -> Result<StringItem, Failure> {
+    let part = json_at(alloc, source, value, at)?;
     if is_strict {
         if let Some(path) = json_refused_path(alloc, part)? {
             return Err(refused(alloc, source, "a float", at, &path)?);
         }
     }
-    let label = root_label(source, at, label);
-    Ok(json_tree(alloc, label, part)?)
+    Ok(json_tree(alloc, root_label(source, at, label), part)?)
+}
+
+// Returns the part of a JSON document at the keys `at`.
+fn json_at<'a>(
+    alloc: Global,
+    source: &Source,
+    value: &'a serde_json::Value,
+    at: Option<&str>,
+) -> Result<&'a serde_json::Value, Failure> {
+    let Some(at) = at else {
+        return Ok(value);
+    };
+    let mut part = value;
+    for key in at.split('.') {
+        part = match json_part(part, key) {
+            Some(part) => part,
+            None => return Err(missing(alloc, source, at, key)?),
+        };
+    }
+    Ok(part)
 }
 
 /// Returns the tree of a TOML document, or of the part at the keys `at`.
@@ -54,22 +77,45 @@ pub fn toml(
     is_strict: bool,
 ) -> Result<StringItem, Failure> {
     let value = toml_value(alloc, source)?;
-    let mut part = &value;
-    if let Some(at) = at {
-        for key in at.split('.') {
-            part = match toml_part(part, key) {
-                Some(part) => part,
-                None => return Err(missing(alloc, source, at, key)?),
-            };
-        }
-    }
+    toml_drawn(alloc, source, &value, at, label, is_strict)
+}
+
+// Returns the tree of the part of a TOML document at the keys `at`.
+fn toml_drawn(
+    alloc: Global,
+    source: &Source,
+    value: &toml::Value,
+    at: Option<&str>,
+    label: Option<&str>,
+    is_strict: bool,
+) -> Result<StringItem, Failure> {
+    let part = toml_at(alloc, source, value, at)?;
     if is_strict {
         if let Some(path) = toml_refused_path(alloc, part)? {
             return Err(refused(alloc, source, "a float, a date or a time", at, &path)?);
         }
     }
-    let label = root_label(source, at, label);
-    Ok(toml_tree(alloc, label, part)?)
+    Ok(toml_tree(alloc, root_label(source, at, label), part)?)
+}
+
+// Returns the part of a TOML document at the keys `at`.
+fn toml_at<'a>(
+    alloc: Global,
+    source: &Source,
+    value: &'a toml::Value,
+    at: Option<&str>,
+) -> Result<&'a toml::Value, Failure> {
+    let Some(at) = at else {
+        return Ok(value);
+    };
+    let mut part = value;
+    for key in at.split('.') {
+        part = match toml_part(part, key) {
+            Some(part) => part,
+            None => return Err(missing(alloc, source, at, key)?),
+        };
+    }
+    Ok(part)
 }
 
 /// Returns the value of a TOML document.

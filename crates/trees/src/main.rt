@@ -22,7 +22,7 @@ mod suggest;
 use failure::Failure;
 use ptree::buffered::Buffered;
 use ptree::style::Counted;
-use ptree_sources::surroundings::gather;
+use ptree_sources::surroundings::{Surroundings, gather};
 use run::run;
 use screen::Screen;
 use std::env::{self, VarError};
@@ -66,9 +66,19 @@ fn run_process(rt: &HostRuntime) -> Result<(), Failure> {
     let words = words(rt)?;
     let screen = find_screen(rt)?;
     let found = gather(rt, rt.alloc())?;
+    run_streams(rt, &words, screen, &found)
+}
+
+// Runs the words of a call over the streams of the process.
+fn run_streams(
+    rt: &HostRuntime,
+    words: &[String],
+    screen: Screen,
+    found: &Surroundings,
+) -> Result<(), Failure> {
     let mut input = rt.stdin();
     let mut out = Buffered::with_capacity(rt.alloc(), ROOM, Counted::new(io::writer(rt)))?;
-    let end = run(rt, words.as_slice(), &mut input, &mut out, screen, &found);
+    let end = run(rt, words, &mut input, &mut out, screen, found);
     match end {
         Ok(()) | Err(Failure::Said) => out.flush()?,
         Err(_) => {}

@@ -152,29 +152,15 @@ fn tree_on(
     Ok(Shown::Tree(tree, config))
 }
 
-// Returns the configuration of the sources, with the pieces that an option names.
-fn with_pieces(
-    alloc: Global,
-    name: Option<&str>,
-    found: &Surroundings,
-) -> Result<PrintConfig, Failure> {
-    let mut config = PrintConfig::from_env(alloc, &found.sources)?;
-    if let Some(name) = name {
-        let named = pieces::config(alloc, name)?;
-        config.characters = named.characters.clone()?;
-        config.indent = named.indent;
-        config.padding = named.padding;
-    }
-    Ok(config)
-}
-
-// Returns the configuration by which a drawing is read: all its levels, without colours.
+// Returns the configuration by which a drawing is read: that of the sources with the pieces that
+// `--as` names, all its levels, without colours.
 fn read_config(
     alloc: Global,
     options: &Options<'_>,
     found: &Surroundings,
 ) -> Result<PrintConfig, Failure> {
-    let mut config = with_pieces(alloc, options.value(Opt::As), found)?;
+    let mut config = PrintConfig::from_env(alloc, &found.sources)?;
+    set_pieces(alloc, &mut config, options.value(Opt::As))?;
     config.depth = u32::MAX;
     config.styled = StyleWhen::Never;
     Ok(config)
@@ -189,20 +175,52 @@ fn config(
     screen: Screen,
     found: &Surroundings,
 ) -> Result<PrintConfig, Failure> {
-    let mut config = with_pieces(alloc, options.value(named_by), found)?;
+    let mut config = PrintConfig::from_env(alloc, &found.sources)?;
+    set_options(alloc, &mut config, options, named_by, screen)?;
+    Ok(config)
+}
+
+// Sets what the options say of a drawing that is written.
+fn set_options(
+    alloc: Global,
+    config: &mut PrintConfig,
+    options: &Options<'_>,
+    named_by: Opt,
+    screen: Screen,
+) -> Result<(), Failure> {
+    set_pieces(alloc, config, options.value(named_by))?;
     if let Some(depth) = options.value(Opt::Depth) {
-        config.depth = match depth.parse::<u32>() {
-            Ok(depth) => depth,
-            Err(_) => {
-                let text = format!(in alloc;
-                    "--depth needs a number up to 4294967295, not {depth}"
-                )?;
-                return Err(Failure::Usage(text));
-            }
-        };
+        config.depth = parse_depth(alloc, depth)?;
     }
     config.styled = when(alloc, options.value(Opt::Color), config.styled, screen)?;
-    Ok(config)
+    Ok(())
+}
+
+// Sets the pieces that an option names.
+fn set_pieces(alloc: Global, config: &mut PrintConfig, name: Option<&str>) -> Result<(), Failure> {
+    let Some(name) = name else {
+        return Ok(());
+    };
+    let named = pieces::config(alloc, name)?;
+    take_pieces(config, &named)
+}
+
+// Sets the pieces of another configuration.
+fn take_pieces(config: &mut PrintConfig, named: &PrintConfig) -> Result<(), Failure> {
+    config.characters = named.characters.clone()?;
+    config.indent = named.indent;
+    config.padding = named.padding;
+    Ok(())
+}
+
+// Returns the depth that a word says.
+fn parse_depth(alloc: Global, depth: &str) -> Result<u32, Failure> {
+    match depth.parse::<u32>() {
+        Ok(depth) => Ok(depth),
+        Err(_) => Err(Failure::Usage(format!(in alloc;
+            "--depth needs a number up to 4294967295, not {depth}"
+        )?)),
+    }
 }
 
 // Returns when a drawing is coloured: as the option says, or else as the configuration does.
@@ -297,22 +315,58 @@ fn diff(
     screen: Screen,
     found: &Surroundings,
 ) -> Result<Outcome, Failure> {
-    let read = read_config(alloc, options, found)?;
-    let first = drawings::read(alloc, left, &read)?;
-    let second = drawings::read(alloc, right, &read)?;
-    let Some(said) = compare::first(alloc, &first, &second)? else {
-        return done(Shown::Text(String::new(alloc)));
-    };
-    let shown = if options.has(Opt::All) {
-        let config = config(alloc, options, Opt::As, screen, found)?;
-        both_on(alloc, &first, &second, screen, config)?
-    } else {
-        Shown::Text(said)
-    };
-    Ok(Outcome {
+    let (first, second) = read_both(alloc, options, left, right, found)?;
+    difference(alloc, options, &first, &second, screen, found)
+}
+
+// Returns the trees of two drawings.
+fn read_both(
+    alloc: Global,
+    options: &Options<'_>,
+    left: &Source,
+    right: &Source,
+    found: &Surroundings,
+) -> Result<(StringItem, StringItem), Failure> {
+    let config = read_config(alloc, options, found)?;
+    read_both_by(alloc, left, right, &config)
+}
+
+// Returns the trees of two drawings by a configuration.
+fn read_both_by(
+    alloc: Global,
+    left: &Source,
+    right: &Source,
+    config: &PrintConfig,
+) -> Result<(StringItem, StringItem), Failure> {
+    let first = drawings::read(alloc, left, config)?;
+    Ok((first, drawings::read(alloc, right, config)?))
+}
+
+// Says how two trees differ, if they do.
+fn difference(
+    alloc: Global,
+    options: &Options<'_>,
+    first: &StringItem,
+    second: &StringItem,
+    screen: Screen,
+    found: &Surroundings,
+) -> Result<Outcome, Failure> {
+    match compare::first(alloc, first, second)? {
+        None => done(Shown::Text(String::new(alloc))),
+        Some(_) if options.has(Opt::All) => {
+            let config = config(alloc, options, Opt::As, screen, found)?;
+            Ok(refusal(both_on(alloc, first, second, screen, config)?))
+        }
+        Some(said) => Ok(refusal(Shown::Text(said))),
+    }
+}
+
+// An outcome that is a refusal.
+fn refusal(shown: Shown) -> Outcome {
+    Outcome {
         shown,
         is_refusal: true,
-    })
+    }
 }
 
 // Returns a drawing of two trees for a screen. Two texts are equal exactly if their escapes are.

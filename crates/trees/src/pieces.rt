@@ -53,15 +53,18 @@ pub fn config(alloc: Global, name: &str) -> Result<PrintConfig, Failure> {
     if let Some(preset) = preset(name) {
         return Ok(preset.config(alloc)?);
     }
-    let mut config = PrintConfig::default(alloc)?;
     match IndentChars::from_name(alloc, name) {
-        Ok(characters) => {
-            config.characters = characters;
-            Ok(config)
-        }
+        Ok(characters) => Ok(with_characters(alloc, characters)?),
         Err(CharsError::Memory) => Err(Failure::Memory),
         Err(CharsError::Unknown) => Err(unknown(alloc, name)?),
     }
+}
+
+// Returns the default configuration with other characters.
+fn with_characters(alloc: Global, characters: IndentChars) -> Result<PrintConfig, AllocError> {
+    let mut config = PrintConfig::default(alloc)?;
+    config.characters = characters;
+    Ok(config)
 }
 
 // Says that there is no such name, and which one may be meant.
@@ -80,10 +83,20 @@ fn unknown(alloc: Global, name: &str) -> Result<Failure, AllocError> {
 /// Memory ran out.
 pub fn reading(alloc: Global, text: &str) -> Result<Option<&'static str>, Failure> {
     for name in NAMES {
-        let config = config(alloc, name)?;
-        if pieces_readable(alloc, &config)? && read_tree(alloc, text, &config)?.is_some() {
+        if is_read_with(alloc, text, name)? {
             return Ok(Some(name));
         }
     }
     Ok(None)
+}
+
+// Whether a text is a drawing with the pieces of a name.
+fn is_read_with(alloc: Global, text: &str, name: &str) -> Result<bool, Failure> {
+    let config = config(alloc, name)?;
+    is_read(alloc, text, &config)
+}
+
+// Whether a text is a drawing by a configuration that can be read.
+fn is_read(alloc: Global, text: &str, config: &PrintConfig) -> Result<bool, Failure> {
+    Ok(pieces_readable(alloc, config)? && read_tree(alloc, text, config)?.is_some())
 }

@@ -30,22 +30,33 @@ pub fn run<R: Files + AllocGlobal, I: Read, W: Sink>(
     screen: Screen,
     found: &Surroundings,
 ) -> Result<(), Failure> {
-    let alloc = rt.alloc();
+    if let Some(page) = page(words) {
+        return Ok(put_all(out, page.as_bytes())?);
+    }
+    let (command, words) = asked(rt.alloc(), words)?;
+    run_command(rt, command, words, input, out, screen, found)
+}
+
+// Returns the page that the first word asks for.
+fn page(words: &[String]) -> Option<&'static str> {
+    match words.first()?.as_str() {
+        "--help" | "-h" => Some(help::TREES),
+        "--version" | "-V" => Some(help::VERSION),
+        _ => None,
+    }
+}
+
+// Returns the command of a call, and its words: those behind it, or all if the first is a file.
+fn asked(alloc: Global, words: &[String]) -> Result<(Command, &[String]), Failure> {
     let Some((first, others)) = words.split_first() else {
         return Err(Failure::Usage(String::from_str(alloc, "no command; see trees --help")?));
     };
     let first = first.as_str();
-    if first == "--help" || first == "-h" {
-        return Ok(put_all(out, help::TREES.as_bytes())?);
-    }
-    if first == "--version" || first == "-V" {
-        return Ok(put_all(out, help::VERSION.as_bytes())?);
-    }
     if let Some(command) = Command::named(first) {
-        return run_command(rt, command, others, input, out, screen, found);
+        return Ok((command, others));
     }
     match Command::of_file(first) {
-        Some(command) => run_command(rt, command, words, input, out, screen, found),
+        Some(command) => Ok((command, words)),
         None => Err(unknown(alloc, first)?),
     }
 }
@@ -60,27 +71,79 @@ fn run_command<R: Files + AllocGlobal, I: Read, W: Sink>(
     screen: Screen,
     found: &Surroundings,
 ) -> Result<(), Failure> {
+    let options = Options::parse(rt.alloc(), command, words)?;
+    run_options(rt, command, &options, input, out, screen, found)
+}
+
+// Runs a command with its options.
+fn run_options<R: Files + AllocGlobal, I: Read, W: Sink>(
+    rt: &R,
+    command: Command,
+    options: &Options<'_>,
+    input: &mut I,
+    out: &mut W,
+    screen: Screen,
+    found: &Surroundings,
+) -> Result<(), Failure> {
     let alloc = rt.alloc();
-    let options = Options::parse(alloc, command, words)?;
     if options.has(Opt::Help) {
         return Ok(put_all(out, command.help().as_bytes())?);
     }
-    if command == Command::Config && !options.files.is_empty() {
-        return Err(Failure::Usage(String::from_str(alloc, "config reads no file")?));
+    let sources = read_sources(rt, command, options.files.as_slice(), input)?;
+    run_sources(
+        alloc,
+        command,
+        options,
+        sources.as_slice(),
+        out,
+        screen,
+        found,
+    )
+}
+
+// Runs a command over its inputs.
+fn run_sources<W: Sink>(
+    alloc: Global,
+    command: Command,
+    options: &Options<'_>,
+    sources: &[Source],
+    out: &mut W,
+    screen: Screen,
+    found: &Surroundings,
+) -> Result<(), Failure> {
+    let outcome = perform(alloc, command, options, sources, screen, found)?;
+    show(alloc, &outcome, out)
+}
+
+// Reads the inputs of a command: its files, or else standard input.
+fn read_sources<R: Files + AllocGlobal, I: Read>(
+    rt: &R,
+    command: Command,
+    files: &[&str],
+    input: &mut I,
+) -> Result<Vec<Source>, Failure> {
+    let alloc = rt.alloc();
+    if command != Command::Config {
+        let files = if files.is_empty() { &["-"] } else { files };
+        return read_files(rt, files, input);
     }
-    let mut sources = Vec::new(alloc);
-    for path in &options.files {
+    if files.is_empty() {
+        return Ok(Vec::new(alloc));
+    }
+    Err(Failure::Usage(String::from_str(alloc, "config reads no file")?))
+}
+
+// Reads files.
+fn read_files<R: Files + AllocGlobal, I: Read>(
+    rt: &R,
+    files: &[&str],
+    input: &mut I,
+) -> Result<Vec<Source>, Failure> {
+    let mut sources = Vec::new(rt.alloc());
+    for path in files {
         sources.push(Source::read(rt, path, input)?)?;
     }
-    if sources.is_empty() && command != Command::Config {
-        sources.push(Source::read(rt, "-", input)?)?;
-    }
-    let outcome = perform(alloc, command, &options, sources.as_slice(), screen, found)?;
-    show(alloc, &outcome, out)?;
-    if outcome.is_refusal {
-        return Err(Failure::Said);
-    }
-    Ok(())
+    Ok(sources)
 }
 
 // Writes what a call shows.
@@ -97,18 +160,26 @@ fn show<W: Sink>(alloc: Global, outcome: &Outcome, out: &mut W) -> Result<(), Fa
         }
         Shown::Text(text) => put_all(out, text.as_bytes())?,
     }
+    if outcome.is_refusal {
+        return Err(Failure::Said);
+    }
     Ok(())
 }
 
 // Says that there is no such command, and which one may be meant.
 fn unknown(alloc: Global, word: &str) -> Result<Failure, AllocError> {
-    let mut words = Vec::new(alloc);
-    for command in COMMANDS {
-        words.push(command.word())?;
-    }
-    let text = match nearest(alloc, word, &words)? {
+    let text = match nearest_command(alloc, word)? {
         Some(other) => format!(in alloc; "no command is named {word}; did you mean {other}?")?,
         None => format!(in alloc; "no command is named {word}; see trees --help")?,
     };
     Ok(Failure::Usage(text))
+}
+
+// Returns the command whose word has the fewest differences.
+fn nearest_command(alloc: Global, word: &str) -> Result<Option<&'static str>, AllocError> {
+    let mut words = Vec::new(alloc);
+    for command in COMMANDS {
+        words.push(command.word())?;
+    }
+    nearest(alloc, word, words.as_slice())
 }

@@ -99,28 +99,63 @@ fn push_settings(
     has_faults: bool,
 ) -> Result<(), AllocError> {
     let config = PrintConfig::from_env(alloc, &found.sources)?;
+    push_settings_of(alloc, text, &config, found, has_faults)
+}
+
+// Adds each setting of a configuration, and where it comes from.
+fn push_settings_of(
+    alloc: Global,
+    text: &mut String,
+    config: &PrintConfig,
+    found: &Surroundings,
+    has_faults: bool,
+) -> Result<(), AllocError> {
     let entries = entries(alloc, &found.sources.file)?;
     for field in FIELDS {
-        if field == Field::Characters {
-            continue;
-        }
-        let value = value_text(alloc, &config, field)?;
-        match field.table() {
-            Some(table) => write!(text, "{table}.{}: {value}", field.key())?,
-            None => write!(text, "{}: {value}", field.key())?,
-        }
-        let origin = if has_faults {
-            Origin::Default
-        } else {
-            origin_of(field, found, entries.as_slice())
-        };
-        match origin {
-            Origin::Variable(name) => writeln!(text, " (variable {name})")?,
-            Origin::File => text.push_str(" (file)\n")?,
-            Origin::Default => text.push_str(" (default)\n")?,
+        if field != Field::Characters {
+            push_setting(alloc, text, config, field)?;
+            push_origin(text, field, found, entries.as_slice(), has_faults)?;
         }
     }
     Ok(())
+}
+
+// Adds the name of a setting, and its value.
+fn push_setting(
+    alloc: Global,
+    text: &mut String,
+    config: &PrintConfig,
+    field: Field,
+) -> Result<(), AllocError> {
+    if let Some(table) = field.table() {
+        write!(text, "{table}.")?;
+    }
+    write!(
+        text,
+        "{}: {}",
+        field.key(),
+        value_text(alloc, config, field)?
+    )
+}
+
+// Adds where a setting comes from.
+fn push_origin(
+    text: &mut String,
+    field: Field,
+    found: &Surroundings,
+    entries: &[Entry],
+    has_faults: bool,
+) -> Result<(), AllocError> {
+    let origin = if has_faults {
+        Origin::Default
+    } else {
+        origin_of(field, found, entries)
+    };
+    match origin {
+        Origin::Variable(name) => writeln!(text, " (variable {name})"),
+        Origin::File => text.push_str(" (file)\n"),
+        Origin::Default => text.push_str(" (default)\n"),
+    }
 }
 
 // Where a setting comes from.

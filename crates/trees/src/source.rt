@@ -26,18 +26,10 @@ impl Source {
     ) -> Result<Source, Failure> {
         let alloc = rt.alloc();
         if path == "-" {
-            let name = String::from_str(alloc, "standard input")?;
-            let mut text = String::new(alloc);
-            return match input.read_to_string(&mut text) {
-                Ok(_) => Ok(Source { name, text }),
-                Err(e) => Err(unreadable(alloc, name.as_str(), e)?),
-            };
+            return read_input(alloc, input);
         }
         match fs::read_to_string(rt, path) {
-            Ok(text) => Ok(Source {
-                name: String::from_str(alloc, path)?,
-                text,
-            }),
+            Ok(text) => named(alloc, path, text),
             Err(e) => Err(unreadable(alloc, path, e)?),
         }
     }
@@ -70,6 +62,23 @@ impl Source {
         let name = &self.name;
         Ok(Failure::Input(format!(in alloc; "{name}: {wrong}")?))
     }
+}
+
+// Reads standard input.
+fn read_input<I: Read>(alloc: Global, input: &mut I) -> Result<Source, Failure> {
+    let mut text = String::new(alloc);
+    match input.read_to_string(&mut text) {
+        Ok(_) => named(alloc, "standard input", text),
+        Err(e) => Err(unreadable(alloc, "standard input", e)?),
+    }
+}
+
+// Returns a text with a name.
+fn named(alloc: Global, name: &str, text: String) -> Result<Source, Failure> {
+    Ok(Source {
+        name: String::from_str(alloc, name)?,
+        text,
+    })
 }
 
 // Says that an input was not read.
