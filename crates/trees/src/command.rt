@@ -1,275 +1,169 @@
-//! The commands, their options and their pages of help.
+//! The commands, with their inputs and the values of their options.
 
-use crate::help;
+use crate::pieces::Pieces;
+use crate::screen::Screen;
+use crate::source::Source;
+use crate::usage::Usage;
+use ptree::print_config::StyleWhen;
 
 /// What a call does.
-#[derive(Clone, Copy, Debug, PartialEq, Eq)]
-pub enum Command {
-    /// Draws a JSON document.
-    Json,
-
-    /// Draws a TOML document.
-    Toml,
+#[derive(Clone, Copy)]
+pub enum Command<'a> {
+    /// Draws the tree of an input: `json`, `toml`, `paths` and `outline`.
+    Draw(&'a Source, Tree<'a>, Drawing),
 
     /// Draws dependencies.
-    Deps,
-
-    /// Draws paths.
-    Paths,
-
-    /// Draws indented text.
-    Outline,
+    Deps(&'a Source, Deps<'a>, Drawing),
 
     /// Writes a drawing as indented text.
-    Indented,
+    Indented(&'a Source, Indented<'a>),
 
-    /// Says whether a text is a drawing.
-    Check,
+    /// Says whether texts are drawings, made with these pieces.
+    Check(&'a [Source], Option<Pieces>),
 
     /// Draws a drawing with other pieces.
-    Convert,
+    Convert(&'a Source, Convert<'a>),
 
     /// Finds the first difference of two drawings.
-    Diff,
+    Diff(&'a Source, &'a Source, Diff<'a>),
 
     /// Says which settings hold.
     Config,
 }
 
-/// All commands, in the order of the page of help.
-pub const COMMANDS: [Command; 10] = [
-    Command::Json,
-    Command::Toml,
-    Command::Deps,
-    Command::Paths,
-    Command::Outline,
-    Command::Indented,
-    Command::Check,
-    Command::Convert,
-    Command::Diff,
-    Command::Config,
-];
-
-impl Command {
-    /// Returns the command's word.
-    pub fn word(self) -> &'static str {
-        match self {
-            Command::Json => "json",
-            Command::Toml => "toml",
-            Command::Deps => "deps",
-            Command::Paths => "paths",
-            Command::Outline => "outline",
-            Command::Indented => "indented",
-            Command::Check => "check",
-            Command::Convert => "convert",
-            Command::Diff => "diff",
-            Command::Config => "config",
-        }
-    }
-
-    /// Returns the command with this word.
-    pub fn named(word: &str) -> Option<Command> {
-        for command in COMMANDS {
-            if command.word() == word {
-                return Some(command);
-            }
-        }
-        None
-    }
-
-    /// Returns the command that draws a file with such a name.
-    pub fn of_file(name: &str) -> Option<Command> {
-        if name.ends_with(".json") {
-            Some(Command::Json)
-        } else if name.ends_with(".toml") {
-            Some(Command::Toml)
-        } else {
-            None
-        }
-    }
-
-    // Whether the command can write a drawing.
-    fn draws(self) -> bool {
-        self != Command::Indented && self != Command::Check && self != Command::Config
-    }
-
-    /// Whether the command has this option.
-    pub fn takes(self, option: Opt) -> bool {
-        match option {
-            Opt::Help => true,
-            Opt::As => self != Command::Config,
-            Opt::Color => self.draws(),
-            Opt::Depth => self.draws() && self != Command::Diff,
-            Opt::At | Opt::Strict => self == Command::Json || self == Command::Toml,
-            Opt::Label => {
-                self == Command::Json
-                    || self == Command::Toml
-                    || self == Command::Paths
-                    || self == Command::Outline
-            }
-            Opt::To => self == Command::Convert,
-            Opt::Sort => self == Command::Convert || self == Command::Paths,
-            Opt::Keep => self == Command::Convert || self == Command::Paths,
-            Opt::Unit | Opt::Bullet => self == Command::Outline || self == Command::Indented,
-            Opt::Null => self == Command::Paths,
-            Opt::Root | Opt::Inverse | Opt::Walks => self == Command::Deps,
-            Opt::All => self == Command::Diff,
-        }
-    }
-
-    /// Returns the page of help.
-    pub fn help(self) -> &'static str {
-        match self {
-            Command::Json => help::JSON,
-            Command::Toml => help::TOML,
-            Command::Deps => help::DEPS,
-            Command::Paths => help::PATHS,
-            Command::Outline => help::OUTLINE,
-            Command::Indented => help::INDENTED,
-            Command::Check => help::CHECK,
-            Command::Convert => help::CONVERT,
-            Command::Diff => help::DIFF,
-            Command::Config => help::CONFIG,
-        }
-    }
+/// A form of texts that are drawn as a tree.
+#[derive(Clone, Copy)]
+pub enum Tree<'a> {
+    Json(Document<'a>),
+    Toml(Document<'a>),
+    Paths(Paths<'a>),
+    Outline(Outline<'a>),
 }
 
-/// An option.
-#[derive(Clone, Copy, Debug, PartialEq, Eq)]
-pub enum Opt {
-    /// Shows the page of help.
-    Help,
+/// How a drawing is written, beside the settings.
+#[derive(Clone, Copy)]
+pub struct Drawing {
+    /// The pieces. Without one they are those of the settings.
+    pub pieces: Option<Pieces>,
 
     /// The greatest level that is drawn.
-    Depth,
+    pub depth: Option<u32>,
 
-    /// The keys that lead to a part of a document.
-    At,
+    /// When it is coloured. `Tty` leaves it to the screen.
+    pub styled: Option<StyleWhen>,
 
-    /// Refuses floats and dates.
-    Strict,
-
-    /// The text of the root.
-    Label,
-
-    /// The pieces of the drawing that is read, or drawn.
-    As,
-
-    /// The pieces of the converted drawing.
-    To,
-
-    /// Sorts the children of each item.
-    Sort,
-
-    /// Keeps the items that contain a text.
-    Keep,
-
-    /// What a level is indented by.
-    Unit,
-
-    /// What stands before the text of each line of indented text.
-    Bullet,
-
-    /// Paths end in a zero byte.
-    Null,
-
-    /// The package at the root.
-    Root,
-
-    /// Draws who needs a package.
-    Inverse,
-
-    /// Draws a package's dependencies wherever it occurs.
-    Walks,
-
-    /// Draws both trees with all differences.
-    All,
-
-    /// When the drawing is coloured.
-    Color,
+    /// Where it is written to.
+    pub screen: Screen,
 }
 
-/// All options.
-pub const OPTIONS: [Opt; 17] = [
-    Opt::Help,
-    Opt::Depth,
-    Opt::At,
-    Opt::Strict,
-    Opt::Label,
-    Opt::As,
-    Opt::To,
-    Opt::Sort,
-    Opt::Keep,
-    Opt::Unit,
-    Opt::Bullet,
-    Opt::Null,
-    Opt::Root,
-    Opt::Inverse,
-    Opt::Walks,
-    Opt::All,
-    Opt::Color,
-];
-
-impl Opt {
-    /// Returns the option's word.
-    pub fn word(self) -> &'static str {
-        match self {
-            Opt::Help => "--help",
-            Opt::Depth => "--depth",
-            Opt::At => "--at",
-            Opt::Strict => "--strict",
-            Opt::Label => "--label",
-            Opt::As => "--as",
-            Opt::To => "--to",
-            Opt::Sort => "--sort",
-            Opt::Keep => "--keep",
-            Opt::Unit => "--unit",
-            Opt::Bullet => "--bullet",
-            Opt::Null => "--null",
-            Opt::Root => "--root",
-            Opt::Inverse => "--inverse",
-            Opt::Walks => "--walks",
-            Opt::All => "--all",
-            Opt::Color => "--color",
+impl Drawing {
+    /// Returns how a drawing with these pieces is read: with all its levels, without colours.
+    pub fn read_with(pieces: Option<Pieces>) -> Drawing {
+        Drawing {
+            pieces,
+            depth: Some(u32::MAX),
+            styled: Some(StyleWhen::Never),
+            screen: Screen {
+                is_terminal: false,
+                styled: false,
+            },
         }
     }
+}
 
-    /// Returns the option of a word, which may be one of a single letter.
-    pub fn named(word: &str) -> Option<Opt> {
-        if word == "-h" {
-            return Some(Opt::Help);
-        }
-        if word == "-0" {
-            return Some(Opt::Null);
-        }
-        for option in OPTIONS {
-            if option.word() == word {
-                return Some(option);
-            }
-        }
-        None
-    }
+/// Options of `json` and `toml`.
+#[derive(Clone, Copy)]
+pub struct Document<'a> {
+    /// The keys of the part that is drawn.
+    pub at: Option<&'a str>,
 
-    /// Whether a value follows the option.
-    pub fn takes_value(self) -> bool {
-        match self {
-            Opt::Help
-            | Opt::Strict
-            | Opt::Sort
-            | Opt::Null
-            | Opt::Inverse
-            | Opt::Walks
-            | Opt::All => false,
-            Opt::Depth
-            | Opt::At
-            | Opt::Label
-            | Opt::As
-            | Opt::To
-            | Opt::Keep
-            | Opt::Unit
-            | Opt::Bullet
-            | Opt::Root
-            | Opt::Color => true,
-        }
-    }
+    /// The text of the root.
+    pub label: Option<&'a str>,
+
+    /// Whether floats, dates and times are refused.
+    pub is_strict: bool,
+}
+
+/// Options of `deps`.
+#[derive(Clone, Copy)]
+pub struct Deps<'a> {
+    /// The package at the root.
+    pub root: Option<&'a str>,
+
+    /// Whether edges go from a package to those that need it.
+    pub is_inverse: bool,
+
+    /// Whether a package's dependencies are drawn wherever it occurs.
+    pub walks: bool,
+}
+
+/// Options of `paths`.
+#[derive(Clone, Copy)]
+pub struct Paths<'a> {
+    /// Whether each path ends in a zero byte, not in a line feed.
+    pub ends_in_zero: bool,
+
+    /// Whether the names in each folder are sorted.
+    pub is_sorted: bool,
+
+    /// A text. What contains it is drawn, with the folders above.
+    pub keep: Option<&'a str>,
+
+    /// The text of the root.
+    pub label: Option<&'a str>,
+}
+
+/// Options of `outline`.
+#[derive(Clone, Copy)]
+pub struct Outline<'a> {
+    /// What a level is indented by.
+    pub unit: Option<&'a str>,
+
+    /// What stands before the text of each line.
+    pub bullet: Option<&'a str>,
+
+    /// The text of a root above all lines.
+    pub label: Option<&'a str>,
+}
+
+/// Options of `indented`.
+#[derive(Clone, Copy)]
+pub struct Indented<'a> {
+    /// The pieces of the drawing that is read.
+    pub pieces: Option<Pieces>,
+
+    /// What a level is indented by. A wrong value is reported after a wrong drawing.
+    pub unit: Result<&'a str, Usage<'a>>,
+
+    /// What stands before the text of each line.
+    pub bullet: &'a str,
+}
+
+/// Options of `convert`.
+#[derive(Clone, Copy)]
+pub struct Convert<'a> {
+    /// The pieces of the drawing that is read.
+    pub pieces: Option<Pieces>,
+
+    /// How the tree is drawn. Wrong pieces are reported after a wrong drawing.
+    pub drawing: Result<Drawing, Usage<'a>>,
+
+    /// A text. What contains it is drawn, with the items above.
+    pub keep: Option<&'a str>,
+
+    /// Whether the children of each item are sorted.
+    pub is_sorted: bool,
+}
+
+/// Options of `diff`.
+#[derive(Clone, Copy)]
+pub struct Diff<'a> {
+    /// The pieces of both drawings.
+    pub pieces: Option<Pieces>,
+
+    /// Whether both trees are drawn in one, with all differences.
+    pub shows_all: bool,
+
+    /// How that is drawn. A wrong value is reported only if it is.
+    pub drawing: Result<Drawing, Usage<'a>>,
 }

@@ -68,6 +68,27 @@ fn push_side(
     said.push_str("\n")
 }
 
+/// How the texts of both trees are shown.
+#[derive(Clone, Copy)]
+pub struct Look {
+    /// Whether those that are in one tree alone are coloured.
+    pub is_colored: bool,
+
+    /// Whether they are escaped. Two texts are equal exactly if their escapes are.
+    pub is_escaped: bool,
+}
+
+impl Look {
+    // Returns the text that is shown of an item.
+    fn text(self, alloc: Global, item: &StringItem) -> Result<String, AllocError> {
+        if self.is_escaped {
+            escaped(alloc, item.text.as_str())
+        } else {
+            item.text.clone()
+        }
+    }
+}
+
 // Which of two trees alone has an item.
 #[derive(Clone, Copy)]
 enum Side {
@@ -85,8 +106,8 @@ impl Side {
     }
 
     // Returns the style of such a text.
-    fn style(self, is_colored: bool) -> Option<Style> {
-        if !is_colored {
+    fn style(self, look: Look) -> Option<Style> {
+        if !look.is_colored {
             return None;
         }
         let mut style = Style::default();
@@ -109,14 +130,25 @@ pub fn both(
     alloc: Global,
     left: &StringItem,
     right: &StringItem,
-    is_colored: bool,
+    look: Look,
 ) -> Result<StyledItem, AllocError> {
-    let children = both_children(alloc, left, right, is_colored)?;
-    if left.text != right.text {
-        let text = format!(in alloc; "- {}\n+ {}", left.text, right.text)?;
-        return StyledItem::new(alloc, text.as_str(), None, children);
+    let text = both_texts(alloc, left, right, look)?;
+    let children = both_children(alloc, left, right, look)?;
+    StyledItem::new(alloc, text.as_str(), None, children)
+}
+
+// Returns the text of both items, or both texts with their marks.
+fn both_texts(
+    alloc: Global,
+    left: &StringItem,
+    right: &StringItem,
+    look: Look,
+) -> Result<String, AllocError> {
+    let text = look.text(alloc, left)?;
+    if left.text == right.text {
+        return Ok(text);
     }
-    StyledItem::new(alloc, left.text.as_str(), None, children)
+    format!(in alloc; "- {text}\n+ {}", look.text(alloc, right)?)
 }
 
 // Returns the children of both items. An item of the left one goes with the next item of the right
@@ -126,7 +158,7 @@ fn both_children(
     alloc: Global,
     left: &StringItem,
     right: &StringItem,
-    is_colored: bool,
+    look: Look,
 ) -> Result<Vec<StyledItem>, AllocError> {
     let mut made = Vec::new(alloc);
     let others = right.children.as_slice();
@@ -138,16 +170,16 @@ fn both_children(
     for child in &left.children {
         match places.next_with(taken, child.text.as_str())? {
             Some(at) => {
-                push_right(alloc, &mut made, others.get(taken..at), is_colored)?;
+                push_right(alloc, &mut made, others.get(taken..at), look)?;
                 if let Some(other) = others.get(at) {
-                    made.push(both(alloc, child, other, is_colored)?)?;
+                    made.push(both(alloc, child, other, look)?)?;
                 }
                 taken = at.saturating_add(1);
             }
-            None => made.push(marked(alloc, Side::Left, child, is_colored)?)?,
+            None => made.push(marked(alloc, Side::Left, child, look)?)?,
         }
     }
-    push_right(alloc, &mut made, others.get(taken..), is_colored)?;
+    push_right(alloc, &mut made, others.get(taken..), look)?;
     Ok(made)
 }
 
@@ -194,10 +226,10 @@ fn push_right(
     alloc: Global,
     made: &mut Vec<StyledItem>,
     items: Option<&[StringItem]>,
-    is_colored: bool,
+    look: Look,
 ) -> Result<(), AllocError> {
     for item in items.unwrap_or(&[]) {
-        made.push(marked(alloc, Side::Right, item, is_colored)?)?;
+        made.push(marked(alloc, Side::Right, item, look)?)?;
     }
     Ok(())
 }
@@ -207,12 +239,13 @@ fn marked(
     alloc: Global,
     side: Side,
     item: &StringItem,
-    is_colored: bool,
+    look: Look,
 ) -> Result<StyledItem, AllocError> {
+    let text = look.text(alloc, item)?;
+    let text = format!(in alloc; "{}{text}", side.mark())?;
     let mut children = Vec::new(alloc);
     for child in &item.children {
-        children.push(marked(alloc, side, child, is_colored)?)?;
+        children.push(marked(alloc, side, child, look)?)?;
     }
-    let text = format!(in alloc; "{}{}", side.mark(), item.text)?;
-    StyledItem::new(alloc, text.as_str(), side.style(is_colored), children)
+    StyledItem::new(alloc, text.as_str(), side.style(look), children)
 }

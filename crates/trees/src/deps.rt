@@ -1,5 +1,6 @@
 //! Dependencies of lock files and of lists of pairs.
 
+use crate::command::Deps;
 use crate::document::{json_value, toml_value};
 use crate::failure::Failure;
 use crate::source::Source;
@@ -23,7 +24,7 @@ struct Network {
 }
 
 /// Returns the dependencies of a `Cargo.lock`, of a `package-lock.json`, or of lines of two words,
-/// the first of which needs the second. With `inverse` they are what needs what.
+/// the first of which needs the second, or those of what needs what.
 ///
 /// The root is the node named, or else what nothing needs. If there are several of those, they
 /// stand below a root with the name of the input. For a terminal the labels are escaped.
@@ -34,15 +35,14 @@ struct Network {
 pub fn read_dependencies(
     alloc: Global,
     source: &Source,
-    root: Option<&str>,
-    inverse: bool,
+    deps: Deps<'_>,
     is_terminal: bool,
 ) -> Result<Dependencies, Failure> {
     let mut network = read_network(alloc, source)?;
-    if inverse {
+    if deps.is_inverse {
         network.reverse();
     }
-    let start = match root {
+    let start = match deps.root {
         Some(name) => named(alloc, source, &network, name)?,
         None => top(alloc, source, &mut network)?,
     };
@@ -232,11 +232,13 @@ fn cargo_network(alloc: Global, packages: &[toml::Value]) -> Result<Network, All
     for package in packages {
         push_needs(alloc, package, &keys, &mut edges)?;
     }
-    let mut labels = Vec::new(alloc);
-    for key in &keys {
-        labels.push(key.replacen(alloc, " ", " v", 1)?)?;
+    for key in &mut keys {
+        *key = key.replacen(alloc, " ", " v", 1)?;
     }
-    Ok(Network { labels, edges })
+    Ok(Network {
+        labels: keys,
+        edges,
+    })
 }
 
 // Returns the key of a package: its name and version.
@@ -280,19 +282,15 @@ fn push_needs(
 fn cargo_need(alloc: Global, keys: &[String], need: &str) -> Result<Option<NodeIndex>, AllocError> {
     let mut words = need.split(' ');
     let name = words.next().unwrap_or("");
-    match words.next() {
-        Some(version) => {
-            let key = format!(in alloc; "{name} {version}")?;
-            Ok(position(keys, key.as_str()))
-        }
-        None => {
-            let key = format!(in alloc; "{name} ")?;
-            let at = keys.partition_point(|k| k.as_str() < key.as_str());
-            match keys.get(at) {
-                Some(found) if found.as_str().starts_with(key.as_str()) => Ok(Some(NodeIndex(at))),
-                _ => Ok(None),
-            }
-        }
+    let version = words.next();
+    let key = format!(in alloc; "{name} {}", version.unwrap_or(""))?;
+    if version.is_some() {
+        return Ok(position(keys, key.as_str()));
+    }
+    let at = keys.partition_point(|k| k.as_str() < key.as_str());
+    match keys.get(at) {
+        Some(found) if found.as_str().starts_with(key.as_str()) => Ok(Some(NodeIndex(at))),
+        _ => Ok(None),
     }
 }
 
@@ -321,11 +319,13 @@ fn npm_network(
         let needs = npm_names(alloc, package)?;
         push_npm_needs(alloc, path.as_str(), &needs, &keys, &mut edges)?;
     }
-    let mut labels = Vec::new(alloc);
-    for key in &keys {
-        labels.push(npm_label(alloc, source, packages, key.as_str())?)?;
+    for key in &mut keys {
+        *key = npm_label(alloc, source, packages, key.as_str())?;
     }
-    Ok(Network { labels, edges })
+    Ok(Network {
+        labels: keys,
+        edges,
+    })
 }
 
 // Returns the label of a package: its name and version.

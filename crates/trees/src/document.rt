@@ -1,5 +1,6 @@
 //! Documents as trees, with floats and dates as they are written.
 
+use crate::command::Document;
 use crate::failure::Failure;
 use crate::source::Source;
 use ptree::item::StringItem;
@@ -8,109 +9,128 @@ use ptree_trees::documents::{Step, json_refused_path, json_tree, toml_refused_pa
 use ptree_trees::escape::escaped;
 use std::alloc::{AllocError, Global};
 
-/// Returns the tree of a JSON document, or of the part at the keys `at`.
+/// The value of a document in one of the formats.
+pub trait Value: Sized + Drop {
+    /// What a strict call refuses.
+    const REFUSED: &'static str;
+
+    /// Returns the value of an input.
+    ///
+    /// # Errors
+    ///
+    /// `Input` with the line if the text is not of the format, and `Memory`.
+    fn read(alloc: Global, source: &Source) -> Result<Self, Failure>;
+
+    /// Returns the part at a key or, in a list, at a position counted from 0.
+    fn part(&self, key: &str) -> Option<&Self>;
+
+    /// Returns the path to the first value that a strict call refuses.
+    ///
+    /// # Errors
+    ///
+    /// Memory ran out.
+    fn refused_path(&self, alloc: Global) -> Result<Option<Vec<Step>>, AllocError>;
+
+    /// Returns the tree below a root with this text.
+    ///
+    /// # Errors
+    ///
+    /// Memory ran out.
+    fn tree(&self, alloc: Global, label: &str) -> Result<StringItem, AllocError>;
+}
+
+impl Value for serde_json::Value {
+    const REFUSED: &'static str = "a float";
+
+    fn read(alloc: Global, source: &Source) -> Result<serde_json::Value, Failure> {
+        json_value(alloc, source)
+    }
+
+    fn part(&self, key: &str) -> Option<&serde_json::Value> {
+        match self {
+            serde_json::Value::Object(members) => members.get(key),
+            serde_json::Value::Array(items) => items.get(key.parse::<usize>().ok()?),
+            _ => None,
+        }
+    }
+
+    fn refused_path(&self, alloc: Global) -> Result<Option<Vec<Step>>, AllocError> {
+        json_refused_path(alloc, self)
+    }
+
+    fn tree(&self, alloc: Global, label: &str) -> Result<StringItem, AllocError> {
+        json_tree(alloc, label, self)
+    }
+}
+
+impl Value for toml::Value {
+    const REFUSED: &'static str = "a float, a date or a time";
+
+    fn read(alloc: Global, source: &Source) -> Result<toml::Value, Failure> {
+        toml_value(alloc, source)
+    }
+
+    fn part(&self, key: &str) -> Option<&toml::Value> {
+        match self {
+            toml::Value::Table(table) => table.get(key),
+            toml::Value::Array(items) => items.get(key.parse::<usize>().ok()?),
+            _ => None,
+        }
+    }
+
+    fn refused_path(&self, alloc: Global) -> Result<Option<Vec<Step>>, AllocError> {
+        toml_refused_path(alloc, self)
+    }
+
+    fn tree(&self, alloc: Global, label: &str) -> Result<StringItem, AllocError> {
+        toml_tree(alloc, label, self)
+    }
+}
+
+/// Returns the tree of a document, or of the part that is asked for.
 ///
 /// # Errors
 ///
-/// `Input` with the line if the text is not JSON, if nothing is there, or if a float is there and
-/// `is_strict`, and `Memory`.
-pub fn json(
+/// `Input` with the line if the text is no document, if nothing is there, or if what a strict call
+/// refuses is there, and `Memory`.
+pub fn tree<V: Value>(
     alloc: Global,
     source: &Source,
-    at: Option<&str>,
-    label: Option<&str>,
-    is_strict: bool,
+    document: Document<'_>,
 ) -> Result<StringItem, Failure> {
-    let value = json_value(alloc, source)?;
-    json_drawn(alloc, source, &value, at, label, is_strict)
+    let value = V::read(alloc, source)?;
+    tree_of(alloc, source, &value, document)
 }
 
-// Returns the tree of the part of a JSON document at the keys `at`.
-fn json_drawn(
+// Returns the tree of the part of a value that is asked for.
+fn tree_of<V: Value>(
     alloc: Global,
     source: &Source,
-    value: &serde_json::Value,
-    at: Option<&str>,
-    label: Option<&str>,
-    is_strict: bool,
+    value: &V,
+    document: Document<'_>,
 ) -> Result<StringItem, Failure> {
-    let part = json_at(alloc, source, value, at)?;
-    if is_strict {
-        if let Some(path) = json_refused_path(alloc, part)? {
-            return Err(refused(alloc, source, "a float", at, &path)?);
+    let part = part_at(alloc, source, value, document.at)?;
+    if document.is_strict {
+        if let Some(path) = part.refused_path(alloc)? {
+            return Err(refused(alloc, source, V::REFUSED, document.at, &path)?);
         }
     }
-    Ok(json_tree(alloc, root_label(source, at, label), part)?)
+    Ok(part.tree(alloc, root_label(source, document))?)
 }
 
-// Returns the part of a JSON document at the keys `at`.
-fn json_at<'a>(
+// Returns the part of a value at the keys `at`.
+fn part_at<'a, V: Value>(
     alloc: Global,
     source: &Source,
-    value: &'a serde_json::Value,
+    value: &'a V,
     at: Option<&str>,
-) -> Result<&'a serde_json::Value, Failure> {
+) -> Result<&'a V, Failure> {
     let Some(at) = at else {
         return Ok(value);
     };
     let mut part = value;
     for key in at.split('.') {
-        part = match json_part(part, key) {
-            Some(part) => part,
-            None => return Err(missing(alloc, source, at, key)?),
-        };
-    }
-    Ok(part)
-}
-
-/// Returns the tree of a TOML document, or of the part at the keys `at`.
-///
-/// # Errors
-///
-/// `Input` with the line if the text is not TOML, if nothing is there, or if a float, a date or a
-/// time is there and `is_strict`, and `Memory`.
-pub fn toml(
-    alloc: Global,
-    source: &Source,
-    at: Option<&str>,
-    label: Option<&str>,
-    is_strict: bool,
-) -> Result<StringItem, Failure> {
-    let value = toml_value(alloc, source)?;
-    toml_drawn(alloc, source, &value, at, label, is_strict)
-}
-
-// Returns the tree of the part of a TOML document at the keys `at`.
-fn toml_drawn(
-    alloc: Global,
-    source: &Source,
-    value: &toml::Value,
-    at: Option<&str>,
-    label: Option<&str>,
-    is_strict: bool,
-) -> Result<StringItem, Failure> {
-    let part = toml_at(alloc, source, value, at)?;
-    if is_strict {
-        if let Some(path) = toml_refused_path(alloc, part)? {
-            return Err(refused(alloc, source, "a float, a date or a time", at, &path)?);
-        }
-    }
-    Ok(toml_tree(alloc, root_label(source, at, label), part)?)
-}
-
-// Returns the part of a TOML document at the keys `at`.
-fn toml_at<'a>(
-    alloc: Global,
-    source: &Source,
-    value: &'a toml::Value,
-    at: Option<&str>,
-) -> Result<&'a toml::Value, Failure> {
-    let Some(at) = at else {
-        return Ok(value);
-    };
-    let mut part = value;
-    for key in at.split('.') {
-        part = match toml_part(part, key) {
+        part = match part.part(key) {
             Some(part) => part,
             None => return Err(missing(alloc, source, at, key)?),
         };
@@ -163,8 +183,8 @@ fn wrong_line(alloc: Global, file: FileSource) -> Result<usize, AllocError> {
 }
 
 // Returns the text of the root: the label, or else the last key, or else the file's name.
-fn root_label<'a>(source: &'a Source, at: Option<&'a str>, label: Option<&'a str>) -> &'a str {
-    match (label, at) {
+fn root_label<'a>(source: &'a Source, document: Document<'a>) -> &'a str {
+    match (document.label, document.at) {
         (Some(label), _) => label,
         (None, Some(at)) => at,
         (None, None) => source.label(),
@@ -200,22 +220,4 @@ fn refused(
         wrong.push_str("the top")?;
     }
     source.wrong(alloc, wrong.as_str())
-}
-
-// Returns the part of a value at a key or, in a list, at a position counted from 0.
-fn json_part<'a>(value: &'a serde_json::Value, key: &str) -> Option<&'a serde_json::Value> {
-    match value {
-        serde_json::Value::Object(members) => members.get(key),
-        serde_json::Value::Array(items) => items.get(key.parse::<usize>().ok()?),
-        _ => None,
-    }
-}
-
-// Returns the part of a value at a key or, in a list, at a position counted from 0.
-fn toml_part<'a>(value: &'a toml::Value, key: &str) -> Option<&'a toml::Value> {
-    match value {
-        toml::Value::Table(table) => table.get(key),
-        toml::Value::Array(items) => items.get(key.parse::<usize>().ok()?),
-        _ => None,
-    }
 }

@@ -5,6 +5,7 @@ use crate::expected::beginnings;
 use crate::failure::Failure;
 use crate::pieces;
 use crate::source::Source;
+use crate::usage::Usage;
 use ptree::item::StringItem;
 use ptree::print_config::PrintConfig;
 use ptree::read::{ReadError, pieces_readable, read_tree_or_line};
@@ -19,8 +20,7 @@ use std::alloc::{AllocError, Global};
 /// under which it is one. `Memory` if memory ran out.
 pub fn read(alloc: Global, source: &Source, config: &PrintConfig) -> Result<StringItem, Failure> {
     if !pieces_readable(alloc, config)? {
-        let text = String::from_str(alloc, "drawings with these pieces cannot be read back")?;
-        return Err(Failure::Usage(text));
+        return Err(Usage::Unreadable.failure(alloc)?);
     }
     let text = source.text.as_str();
     match read_tree_or_line(alloc, text, config) {

@@ -1,7 +1,9 @@
 //! Trees of paths, and of indented text.
 
+use crate::command::{Indented, Outline, Paths};
 use crate::failure::Failure;
 use crate::source::Source;
+use crate::usage::Usage;
 use ptree::item::StringItem;
 use ptree_trees::indented::{
     Form, IndentError, WriteError, indented_text, is_line_text, is_unit, read_indented,
@@ -18,32 +20,26 @@ use std::alloc::{AllocError, Global};
 /// # Errors
 ///
 /// Memory ran out.
-pub fn paths(
-    alloc: Global,
-    source: &Source,
-    ends_in_zero: bool,
-    is_sorted: bool,
-    label: Option<&str>,
-) -> Result<StringItem, AllocError> {
-    let end = if ends_in_zero { '\0' } else { '\n' };
+pub fn paths(alloc: Global, source: &Source, paths: Paths<'_>) -> Result<StringItem, AllocError> {
+    let end = if paths.ends_in_zero { '\0' } else { '\n' };
     let text = source.text.as_str();
-    let mut paths = Vec::new(alloc);
+    let mut given = Vec::new(alloc);
     for path in text.split(end) {
         let path = path.strip_prefix("./").unwrap_or(path);
         let path = path.trim_start_matches('/').trim_end_matches('/');
         if !path.is_empty() && path != "." {
-            paths.push(path)?;
+            given.push(path)?;
         }
     }
-    let root = match label {
+    let root = match paths.label {
         Some(label) => label,
         None if text.starts_with('/') => "/",
         None => ".",
     };
-    if is_sorted {
-        return sorted_paths_tree(alloc, root, paths.as_slice(), '/');
+    if paths.is_sorted {
+        return sorted_paths_tree(alloc, root, given.as_slice(), '/');
     }
-    paths_tree(alloc, root, paths.as_slice(), '/')
+    paths_tree(alloc, root, given.as_slice(), '/')
 }
 
 /// Returns the tree of an indented text.
@@ -53,32 +49,22 @@ pub fn paths(
 ///
 /// # Errors
 ///
-/// `Input` with the line if the text has no such form, `Usage` if unit or bullet is none, and
-/// `Memory`.
+/// `Input` with the line if the text has no such form, `Usage` if the bullet is none, and `Memory`.
 pub fn outline(
     alloc: Global,
     source: &Source,
-    unit: Option<&str>,
-    bullet: Option<&str>,
-    label: Option<&str>,
+    outline: Outline<'_>,
 ) -> Result<StringItem, Failure> {
     let given = source.text.as_str();
-    let unit = match unit {
-        Some(unit) => parse_unit(alloc, unit)?,
-        None => String::from_str(alloc, first_indent(given))?,
-    };
     let form = Form {
-        unit: unit.as_str(),
-        bullet: bullet.unwrap_or(first_bullet(given)),
+        unit: outline.unit.unwrap_or(first_indent(given)),
+        bullet: outline.bullet.unwrap_or(first_bullet(given)),
     };
     if !is_unit(form.unit) || !is_line_text(form.bullet) {
-        return Err(Failure::Usage(String::from_str(
-            alloc,
-            "a bullet is one line, and begins with no blank",
-        )?));
+        return Err(Usage::Bullet.failure(alloc)?);
     }
-    let text = whole(alloc, given, &form, label)?;
-    let above = if label.is_some() { 1 } else { 0 };
+    let text = whole(alloc, given, &form, outline.label)?;
+    let above = if outline.label.is_some() { 1 } else { 0 };
     match read_indented(alloc, text.as_str(), &form) {
         Ok(tree) => Ok(tree),
         Err(IndentError::Line(line)) => {
@@ -98,19 +84,22 @@ fn whole(
     label: Option<&str>,
 ) -> Result<String, AllocError> {
     let mut text = String::new(alloc);
-    if let Some(label) = label {
-        text.push_str(form.bullet)?;
-        text.push_str(label)?;
-        text.push_str("\n")?;
-    }
-    for line in given.lines() {
-        if label.is_some() {
-            text.push_str(form.unit)?;
+    match label {
+        Some(label) => {
+            writeln!(text, "{}{label}", form.bullet)?;
+            push_lines(&mut text, form.unit, given)?;
         }
-        text.push_str(line)?;
-        text.push_str("\n")?;
+        None => push_lines(&mut text, "", given)?,
     }
     Ok(text)
+}
+
+// Adds each line of a text behind an indent.
+fn push_lines(text: &mut String, indent: &str, lines: &str) -> Result<(), AllocError> {
+    for line in lines.lines() {
+        writeln!(text, "{indent}{line}")?;
+    }
+    Ok(())
 }
 
 /// Returns the indented form of a tree.
@@ -123,13 +112,15 @@ pub fn indented(
     alloc: Global,
     source: &Source,
     tree: &StringItem,
-    unit: Option<&str>,
-    bullet: Option<&str>,
+    indented: Indented<'_>,
 ) -> Result<String, Failure> {
-    let unit = parse_unit(alloc, unit.unwrap_or("2"))?;
+    let unit = match indented.unit {
+        Ok(unit) => unit,
+        Err(wrong) => return Err(wrong.failure(alloc)?),
+    };
     let form = Form {
-        unit: unit.as_str(),
-        bullet: bullet.unwrap_or(""),
+        unit,
+        bullet: indented.bullet,
     };
     match indented_text(alloc, tree, &form) {
         Ok(text) => Ok(text),
@@ -138,26 +129,6 @@ pub fn indented(
             "a text of several lines, or one that begins with a blank, cannot be indented",
         )?),
         Err(WriteError::Memory) => Err(Failure::Memory),
-    }
-}
-
-// Returns the unit that a word names: `tab`, or a number of blanks up to 99.
-fn parse_unit(alloc: Global, word: &str) -> Result<String, Failure> {
-    if word == "tab" {
-        return Ok(String::from_str(alloc, "\t")?);
-    }
-    let mut unit = String::new(alloc);
-    match word.parse::<u8>() {
-        Ok(n) if 0 < n && n < 100 => {
-            for _i in 0..n {
-                unit.push_str(" ")?;
-            }
-            Ok(unit)
-        }
-        _ => Err(Failure::Usage(String::from_str(
-            alloc,
-            "--unit needs a number of blanks up to 99, or tab",
-        )?)),
     }
 }
 

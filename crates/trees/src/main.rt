@@ -10,7 +10,7 @@ mod expected;
 mod failure;
 mod help;
 mod lists;
-mod options;
+mod names;
 mod perform;
 mod pieces;
 mod run;
@@ -18,6 +18,8 @@ mod screen;
 mod settings;
 mod source;
 mod suggest;
+mod usage;
+mod words;
 
 use failure::Failure;
 use ptree::buffered::Buffered;
@@ -28,19 +30,17 @@ use screen::Screen;
 use std::env::{self, VarError};
 use std::io::{self, ErrorKind, IsTerminal};
 use std::process::ExitCode;
+use usage::Usage;
 
 // The size of the output's buffer.
 const ROOM: usize = 8192;
 
 // Returns the words of the call.
-fn words(rt: &HostRuntime) -> Result<Vec<String>, Failure> {
+fn arguments(rt: &HostRuntime) -> Result<Vec<String>, Failure> {
     let words = match env::args(rt) {
         Ok(words) => words.skip(1).collect(rt.alloc())?,
         Err(e) if e.kind() == ErrorKind::OutOfMemory => return Err(Failure::Memory),
-        Err(_) => {
-            let text = String::from_str(rt.alloc(), "a word is not UTF-8")?;
-            return Err(Failure::Usage(text));
-        }
+        Err(_) => return Err(Usage::NotUtf8.failure(rt.alloc())?),
     };
     Ok(words)
 }
@@ -63,7 +63,7 @@ fn find_screen(rt: &HostRuntime) -> Result<Screen, Failure> {
 
 // Runs the call over the streams of the process.
 fn run_process(rt: &HostRuntime) -> Result<(), Failure> {
-    let words = words(rt)?;
+    let words = arguments(rt)?;
     let screen = find_screen(rt)?;
     let found = gather(rt, rt.alloc())?;
     run_streams(rt, &words, screen, &found)

@@ -1,263 +1,119 @@
-//! Does what a command asks for, without writing anything.
+//! Does what a command asks for.
 
-use crate::command::{Command, Opt};
+use crate::command::{Command, Convert, Deps, Diff, Drawing, Indented, Tree};
+use crate::compare::{self, Look};
 use crate::deps::{Dependencies, read_dependencies};
 use crate::failure::Failure;
-use crate::options::Options;
-use crate::screen::Screen;
+use crate::pieces::Pieces;
 use crate::source::Source;
-use crate::{compare, document, drawings, lists, pieces, settings};
+use crate::{document, drawings, lists, settings};
+use ptree::graph::{REPEATED_MARK, write_graph_once_with, write_graph_with};
 use ptree::item::StringItem;
+use ptree::output::write_tree_with;
 use ptree::print_config::{PrintConfig, StyleWhen};
+use ptree::style::{Sink, put_all};
 use ptree_sources::surroundings::Surroundings;
 use ptree_trees::change::{kept, sorted};
 use ptree_trees::escape::escaped_item;
-use ptree_trees::styled::StyledItem;
 use std::alloc::{AllocError, Global};
 
-/// What a call writes.
-#[derive(Drop)]
-pub enum Shown {
-    /// A tree's drawing.
-    Tree(StringItem, PrintConfig),
-
-    /// The drawing of a tree with styles of its own.
-    Styled(StyledItem, PrintConfig),
-
-    /// The drawing of dependencies. The flag says that each package's are drawn wherever it stands.
-    Dependencies(Dependencies, PrintConfig, bool),
-
-    /// A text.
-    Text(String),
-}
-
-/// What a call writes, and whether it is a refusal.
-#[derive(Drop)]
-pub struct Outcome {
-    pub shown: Shown,
-    pub is_refusal: bool,
-}
-
-// An outcome that is no refusal.
-fn done(shown: Shown) -> Result<Outcome, Failure> {
-    Ok(Outcome {
-        shown,
-        is_refusal: false,
-    })
-}
-
-/// Does what a command asks for.
+/// Does what a command asks for. All else is done before the first byte is written.
 ///
 /// # Errors
 ///
-/// `Usage` if an option's value or the number of files is wrong, `Input` if an input is, and
-/// `Memory`.
-pub fn perform(
+/// `Usage` if a value is wrong, `Input` if an input is, `Said` if what was written is a refusal,
+/// `Output` if writing failed, and `Memory`.
+pub fn perform<W: Sink>(
     alloc: Global,
-    command: Command,
-    options: &Options<'_>,
-    sources: &[Source],
-    screen: Screen,
+    command: Command<'_>,
+    out: &mut W,
     found: &Surroundings,
-) -> Result<Outcome, Failure> {
-    match (command, sources) {
-        (Command::Config, _) => config_report(alloc, found),
-        (Command::Check, _) => check(alloc, sources, &read_config(alloc, options, found)?),
-        (Command::Diff, [left, right]) => diff(alloc, options, left, right, screen, found),
-        (Command::Diff, _) => usage(alloc, "diff needs two files"),
-        (_, [source]) => of_one(alloc, command, options, source, screen, found),
-        _ => usage(alloc, "more than one file"),
-    }
-}
-
-// Says which settings hold.
-fn config_report(alloc: Global, found: &Surroundings) -> Result<Outcome, Failure> {
-    let report = settings::describe(alloc, found)?;
-    Ok(Outcome {
-        shown: Shown::Text(report.text),
-        is_refusal: report.has_faults,
-    })
-}
-
-// Says that the words are wrong.
-fn usage(alloc: Global, text: &str) -> Result<Outcome, Failure> {
-    Err(Failure::Usage(String::from_str(alloc, text)?))
-}
-
-// Does what a command over one input asks for.
-fn of_one(
-    alloc: Global,
-    command: Command,
-    options: &Options<'_>,
-    source: &Source,
-    screen: Screen,
-    found: &Surroundings,
-) -> Result<Outcome, Failure> {
-    let config = config(alloc, options, Opt::As, screen, found)?;
-    let at = options.value(Opt::At);
-    let label = options.value(Opt::Label);
-    let unit = options.value(Opt::Unit);
-    let bullet = options.value(Opt::Bullet);
-    match command {
-        Command::Json => {
-            let tree = document::json(alloc, source, at, label, options.has(Opt::Strict))?;
-            done(tree_on(alloc, screen, tree, config)?)
-        }
-        Command::Toml => {
-            let tree = document::toml(alloc, source, at, label, options.has(Opt::Strict))?;
-            done(tree_on(alloc, screen, tree, config)?)
-        }
-        Command::Paths => {
-            let ends_in_zero = options.has(Opt::Null);
-            let is_sorted = options.has(Opt::Sort);
-            let tree = lists::paths(alloc, source, ends_in_zero, is_sorted, label)?;
-            let tree = kept_part(alloc, source, tree, options)?;
-            done(tree_on(alloc, screen, tree, config)?)
-        }
-        Command::Outline => {
-            let tree = lists::outline(alloc, source, unit, bullet, label)?;
-            done(tree_on(alloc, screen, tree, config)?)
-        }
-        Command::Indented => {
-            let tree = drawings::read(alloc, source, &read_config(alloc, options, found)?)?;
-            done(Shown::Text(lists::indented(alloc, source, &tree, unit, bullet)?))
-        }
-        Command::Deps => {
-            let root = options.value(Opt::Root);
-            let inverse = options.has(Opt::Inverse);
-            let found = read_dependencies(alloc, source, root, inverse, screen.is_terminal)?;
-            done(Shown::Dependencies(found, config, options.has(Opt::Walks)))
-        }
-        Command::Convert => {
-            let tree = drawings::read(alloc, source, &read_config(alloc, options, found)?)?;
-            let to = self::config(alloc, options, Opt::To, screen, found)?;
-            let tree = changed(alloc, source, tree, options)?;
-            done(tree_on(alloc, screen, tree, to)?)
-        }
-        Command::Check | Command::Diff | Command::Config => usage(alloc, "more than one file"),
-    }
-}
-
-// Returns a drawing for a screen: on a terminal, with its texts escaped.
-fn tree_on(
-    alloc: Global,
-    screen: Screen,
-    tree: StringItem,
-    config: PrintConfig,
-) -> Result<Shown, AllocError> {
-    if screen.is_terminal {
-        let escaped = escaped_item(alloc, &tree)?;
-        return Ok(Shown::Tree(escaped, config));
-    }
-    Ok(Shown::Tree(tree, config))
-}
-
-// Returns the configuration by which a drawing is read: that of the sources with the pieces that
-// `--as` names, all its levels, without colours.
-fn read_config(
-    alloc: Global,
-    options: &Options<'_>,
-    found: &Surroundings,
-) -> Result<PrintConfig, Failure> {
-    let mut config = PrintConfig::from_env(alloc, &found.sources)?;
-    set_pieces(alloc, &mut config, options.value(Opt::As))?;
-    config.depth = u32::MAX;
-    config.styled = StyleWhen::Never;
-    Ok(config)
-}
-
-// Returns the configuration by which a drawing is written: that of the sources, with the pieces
-// that an option names, and the other options.
-fn config(
-    alloc: Global,
-    options: &Options<'_>,
-    named_by: Opt,
-    screen: Screen,
-    found: &Surroundings,
-) -> Result<PrintConfig, Failure> {
-    let mut config = PrintConfig::from_env(alloc, &found.sources)?;
-    set_options(alloc, &mut config, options, named_by, screen)?;
-    Ok(config)
-}
-
-// Sets what the options say of a drawing that is written.
-fn set_options(
-    alloc: Global,
-    config: &mut PrintConfig,
-    options: &Options<'_>,
-    named_by: Opt,
-    screen: Screen,
 ) -> Result<(), Failure> {
-    set_pieces(alloc, config, options.value(named_by))?;
-    if let Some(depth) = options.value(Opt::Depth) {
-        config.depth = parse_depth(alloc, depth)?;
-    }
-    config.styled = when(alloc, options.value(Opt::Color), config.styled, screen)?;
-    Ok(())
-}
-
-// Sets the pieces that an option names.
-fn set_pieces(alloc: Global, config: &mut PrintConfig, name: Option<&str>) -> Result<(), Failure> {
-    let Some(name) = name else {
-        return Ok(());
-    };
-    let named = pieces::config(alloc, name)?;
-    take_pieces(config, &named)
-}
-
-// Sets the pieces of another configuration.
-fn take_pieces(config: &mut PrintConfig, named: &PrintConfig) -> Result<(), Failure> {
-    config.characters = named.characters.clone()?;
-    config.indent = named.indent;
-    config.padding = named.padding;
-    Ok(())
-}
-
-// Returns the depth that a word says.
-fn parse_depth(alloc: Global, depth: &str) -> Result<u32, Failure> {
-    match depth.parse::<u32>() {
-        Ok(depth) => Ok(depth),
-        Err(_) => Err(Failure::Usage(format!(in alloc;
-            "--depth needs a number up to 4294967295, not {depth}"
-        )?)),
+    match command {
+        Command::Draw(source, tree, drawing) => draw_source(
+            alloc, source, tree, drawing, out, found,
+        ),
+        Command::Deps(source, deps, drawing) => draw_deps(alloc, source, deps, drawing, out, found),
+        Command::Indented(source, indented) => write_indented(alloc, source, indented, out, found),
+        Command::Check(sources, pieces) => check(alloc, sources, pieces, out, found),
+        Command::Convert(source, convert) => draw_converted(alloc, source, convert, out, found),
+        Command::Diff(left, right, diff) => compare_drawings(alloc, left, right, diff, out, found),
+        Command::Config => show_settings(alloc, out, found),
     }
 }
 
-// Returns when a drawing is coloured: as the option says, or else as the configuration does.
-fn when(
+// What a command draws.
+#[derive(Clone, Copy)]
+enum Drawn<'a> {
+    Tree(&'a StringItem),
+
+    // Whether what is below a node is drawn wherever the node stands.
+    Graph(&'a Dependencies, bool),
+
+    // Two trees in one.
+    Both(&'a StringItem, &'a StringItem),
+}
+
+// Writes a text, which may be a refusal.
+fn say<W: Sink>(out: &mut W, text: &str, is_refusal: bool) -> Result<(), Failure> {
+    put_all(out, text.as_bytes())?;
+    if is_refusal {
+        return Err(Failure::Said);
+    }
+    Ok(())
+}
+
+// Draws the tree of an input.
+fn draw_source<W: Sink>(
     alloc: Global,
-    color: Option<&str>,
-    loaded: StyleWhen,
-    screen: Screen,
-) -> Result<StyleWhen, Failure> {
-    let auto = if screen.styled {
-        StyleWhen::Always
-    } else {
-        StyleWhen::Never
-    };
-    match color {
-        Some("always") => Ok(StyleWhen::Always),
-        Some("never") => Ok(StyleWhen::Never),
-        Some("auto") => Ok(auto),
-        None if loaded == StyleWhen::Tty => Ok(auto),
-        None => Ok(loaded),
-        Some(other) => Err(Failure::Usage(format!(in alloc;
-            "--color needs auto, always or never, not {other}"
-        )?)),
+    source: &Source,
+    tree: Tree<'_>,
+    drawing: Drawing,
+    out: &mut W,
+    found: &Surroundings,
+) -> Result<(), Failure> {
+    let tree = tree_of(alloc, source, tree)?;
+    draw(alloc, Drawn::Tree(&tree), drawing, out, found)
+}
+
+// Returns the tree of an input.
+fn tree_of(alloc: Global, source: &Source, tree: Tree<'_>) -> Result<StringItem, Failure> {
+    match tree {
+        Tree::Json(document) => document::tree::<serde_json::Value>(alloc, source, document),
+        Tree::Toml(document) => document::tree::<toml::Value>(alloc, source, document),
+        Tree::Paths(paths) => {
+            kept_part(
+                alloc,
+                source,
+                lists::paths(alloc, source, paths)?,
+                paths.keep,
+            )
+        }
+        Tree::Outline(outline) => lists::outline(alloc, source, outline),
     }
 }
 
-// Keeps a part of a tree, as the options say.
+// Returns a tree, or what contains a text in it.
 fn kept_part(
     alloc: Global,
     source: &Source,
     tree: StringItem,
-    options: &Options<'_>,
+    keep: Option<&str>,
 ) -> Result<StringItem, Failure> {
-    let Some(part) = options.value(Opt::Keep) else {
-        return Ok(tree);
-    };
-    match kept(alloc, &tree, |text: &str| text.contains(part))? {
+    match keep {
+        Some(part) => part_of(alloc, source, &tree, part),
+        None => Ok(tree),
+    }
+}
+
+// Returns what contains a text in a tree.
+fn part_of(
+    alloc: Global,
+    source: &Source,
+    tree: &StringItem,
+    part: &str,
+) -> Result<StringItem, Failure> {
+    match kept(alloc, tree, |text: &str| text.contains(part))? {
         Some(tree) => Ok(tree),
         None => {
             let wrong = format!(in alloc; "nothing contains {part}")?;
@@ -266,124 +122,289 @@ fn kept_part(
     }
 }
 
-// Keeps a part of a tree and sorts it, as the options say.
+// Draws trees or a graph.
+fn draw<W: Sink>(
+    alloc: Global,
+    drawn: Drawn<'_>,
+    drawing: Drawing,
+    out: &mut W,
+    found: &Surroundings,
+) -> Result<(), Failure> {
+    let config = config(alloc, drawing, found)?;
+    write_drawing(alloc, drawn, drawing.screen.is_terminal, out, &config)
+}
+
+// Writes a drawing.
+fn write_drawing<W: Sink>(
+    alloc: Global,
+    drawn: Drawn<'_>,
+    is_terminal: bool,
+    out: &mut W,
+    config: &PrintConfig,
+) -> Result<(), Failure> {
+    match drawn {
+        Drawn::Tree(tree) => write_tree(alloc, tree, is_terminal, out, config),
+        Drawn::Graph(graph, walks) => write_graph(alloc, graph, walks, out, config),
+        Drawn::Both(left, right) => write_both(alloc, left, right, is_terminal, out, config),
+    }
+}
+
+// Writes the drawing of a tree, for a terminal with its texts escaped.
+fn write_tree<W: Sink>(
+    alloc: Global,
+    tree: &StringItem,
+    is_terminal: bool,
+    out: &mut W,
+    config: &PrintConfig,
+) -> Result<(), Failure> {
+    if is_terminal {
+        let tree = escaped_item(alloc, tree)?;
+        return Ok(write_tree_with(alloc, &tree, out, config)?);
+    }
+    Ok(write_tree_with(alloc, tree, out, config)?)
+}
+
+// Returns the configuration of the settings, with what is said of a drawing.
+fn config(
+    alloc: Global,
+    drawing: Drawing,
+    found: &Surroundings,
+) -> Result<PrintConfig, AllocError> {
+    let mut config = PrintConfig::from_env(alloc, &found.sources)?;
+    set_drawing(alloc, &mut config, drawing)?;
+    Ok(config)
+}
+
+// Sets what is said of a drawing.
+fn set_drawing(
+    alloc: Global,
+    config: &mut PrintConfig,
+    drawing: Drawing,
+) -> Result<(), AllocError> {
+    if let Some(depth) = drawing.depth {
+        config.depth = depth;
+    }
+    config.styled = drawing.screen.when(drawing.styled.unwrap_or(config.styled));
+    match drawing.pieces {
+        Some(pieces) => pieces.set(alloc, config),
+        None => Ok(()),
+    }
+}
+
+// Draws dependencies.
+fn draw_deps<W: Sink>(
+    alloc: Global,
+    source: &Source,
+    deps: Deps<'_>,
+    drawing: Drawing,
+    out: &mut W,
+    found: &Surroundings,
+) -> Result<(), Failure> {
+    let dependencies = read_dependencies(alloc, source, deps, drawing.screen.is_terminal)?;
+    draw(
+        alloc,
+        Drawn::Graph(&dependencies, deps.walks),
+        drawing,
+        out,
+        found,
+    )
+}
+
+// Writes the drawing of a graph: what is below a node once, or wherever the node stands.
+fn write_graph<W: Sink>(
+    alloc: Global,
+    dependencies: &Dependencies,
+    walks: bool,
+    out: &mut W,
+    config: &PrintConfig,
+) -> Result<(), Failure> {
+    let Dependencies { graph, root } = dependencies;
+    if walks {
+        return Ok(write_graph_with(alloc, graph, *root, out, config)?);
+    }
+    Ok(write_graph_once_with(alloc, graph, *root, REPEATED_MARK, out, config)?)
+}
+
+// Returns the tree of a drawing, made with the pieces that are named, or with those of the settings.
+fn read_drawing(
+    alloc: Global,
+    source: &Source,
+    pieces: Option<Pieces>,
+    found: &Surroundings,
+) -> Result<StringItem, Failure> {
+    let config = config(alloc, Drawing::read_with(pieces), found)?;
+    drawings::read(alloc, source, &config)
+}
+
+// Writes a drawing as indented text.
+fn write_indented<W: Sink>(
+    alloc: Global,
+    source: &Source,
+    indented: Indented<'_>,
+    out: &mut W,
+    found: &Surroundings,
+) -> Result<(), Failure> {
+    let text = indented_text(alloc, source, indented, found)?;
+    say(out, text.as_str(), false)
+}
+
+// Returns a drawing as indented text.
+fn indented_text(
+    alloc: Global,
+    source: &Source,
+    indented: Indented<'_>,
+    found: &Surroundings,
+) -> Result<String, Failure> {
+    let tree = read_drawing(alloc, source, indented.pieces, found)?;
+    lists::indented(alloc, source, &tree, indented)
+}
+
+// Says of each input whether it is a drawing.
+fn check<W: Sink>(
+    alloc: Global,
+    sources: &[Source],
+    pieces: Option<Pieces>,
+    out: &mut W,
+    found: &Surroundings,
+) -> Result<(), Failure> {
+    let mut said = String::new(alloc);
+    let mut is_refusal = false;
+    for source in sources {
+        if !push_check(alloc, &mut said, source, pieces, found)? {
+            is_refusal = true;
+        }
+    }
+    say(out, said.as_str(), is_refusal)
+}
+
+// Adds whether an input is a drawing, and returns it.
+fn push_check(
+    alloc: Global,
+    said: &mut String,
+    source: &Source,
+    pieces: Option<Pieces>,
+    found: &Surroundings,
+) -> Result<bool, Failure> {
+    match read_drawing(alloc, source, pieces, found) {
+        Ok(tree) => {
+            let n = drawings::count(alloc, &tree)?;
+            writeln!(said, "{}: a drawing of {n} items", source.name)?;
+            Ok(true)
+        }
+        Err(Failure::Input(wrong)) => {
+            writeln!(said, "{wrong}")?;
+            Ok(false)
+        }
+        Err(other) => Err(other),
+    }
+}
+
+// Draws a drawing with other pieces.
+fn draw_converted<W: Sink>(
+    alloc: Global,
+    source: &Source,
+    convert: Convert<'_>,
+    out: &mut W,
+    found: &Surroundings,
+) -> Result<(), Failure> {
+    let tree = read_drawing(alloc, source, convert.pieces, found)?;
+    match convert.drawing {
+        Ok(drawing) => draw_changed(alloc, source, tree, convert, drawing, out, found),
+        Err(wrong) => Err(wrong.failure(alloc)?),
+    }
+}
+
+// Draws what is kept of a tree, sorted if that is asked for.
+fn draw_changed<W: Sink>(
+    alloc: Global,
+    source: &Source,
+    tree: StringItem,
+    convert: Convert<'_>,
+    drawing: Drawing,
+    out: &mut W,
+    found: &Surroundings,
+) -> Result<(), Failure> {
+    let tree = changed(alloc, source, tree, convert)?;
+    draw(alloc, Drawn::Tree(&tree), drawing, out, found)
+}
+
+// Returns what is kept of a tree, sorted if that is asked for.
 fn changed(
     alloc: Global,
     source: &Source,
     tree: StringItem,
-    options: &Options<'_>,
+    convert: Convert<'_>,
 ) -> Result<StringItem, Failure> {
-    let tree = kept_part(alloc, source, tree, options)?;
-    if options.has(Opt::Sort) {
+    let tree = kept_part(alloc, source, tree, convert.keep)?;
+    if convert.is_sorted {
         return Ok(sorted(alloc, &tree)?);
     }
     Ok(tree)
 }
 
-// Says of each input whether it is a drawing.
-fn check(alloc: Global, sources: &[Source], config: &PrintConfig) -> Result<Outcome, Failure> {
-    let mut said = String::new(alloc);
-    let mut is_refusal = false;
-    for source in sources {
-        match drawings::read(alloc, source, config) {
-            Ok(tree) => {
-                let name = &source.name;
-                let n = drawings::count(alloc, &tree)?;
-                let line = format!(in alloc; "{name}: a drawing of {n} items\n")?;
-                said.push_str(line.as_str())?;
-            }
-            Err(Failure::Input(wrong)) => {
-                said.push_str(wrong.as_str())?;
-                said.push_str("\n")?;
-                is_refusal = true;
-            }
-            Err(other) => return Err(other),
-        }
-    }
-    Ok(Outcome {
-        shown: Shown::Text(said),
-        is_refusal,
-    })
-}
-
 // Compares two drawings.
-fn diff(
+fn compare_drawings<W: Sink>(
     alloc: Global,
-    options: &Options<'_>,
     left: &Source,
     right: &Source,
-    screen: Screen,
+    diff: Diff<'_>,
+    out: &mut W,
     found: &Surroundings,
-) -> Result<Outcome, Failure> {
-    let (first, second) = read_both(alloc, options, left, right, found)?;
-    difference(alloc, options, &first, &second, screen, found)
+) -> Result<(), Failure> {
+    let left = read_drawing(alloc, left, diff.pieces, found)?;
+    compare_with(alloc, &left, right, diff, out, found)
 }
 
-// Returns the trees of two drawings.
-fn read_both(
+// Compares a tree with a drawing.
+fn compare_with<W: Sink>(
     alloc: Global,
-    options: &Options<'_>,
-    left: &Source,
+    left: &StringItem,
     right: &Source,
+    diff: Diff<'_>,
+    out: &mut W,
     found: &Surroundings,
-) -> Result<(StringItem, StringItem), Failure> {
-    let config = read_config(alloc, options, found)?;
-    read_both_by(alloc, left, right, &config)
+) -> Result<(), Failure> {
+    let right = read_drawing(alloc, right, diff.pieces, found)?;
+    show_difference(alloc, left, &right, diff, out, found)
 }
 
-// Returns the trees of two drawings by a configuration.
-fn read_both_by(
+// Shows how two trees differ, if they do.
+fn show_difference<W: Sink>(
     alloc: Global,
-    left: &Source,
-    right: &Source,
+    left: &StringItem,
+    right: &StringItem,
+    diff: Diff<'_>,
+    out: &mut W,
+    found: &Surroundings,
+) -> Result<(), Failure> {
+    match (compare::first(alloc, left, right)?, diff.drawing) {
+        (None, _) => Ok(()),
+        (Some(said), _) if !diff.shows_all => say(out, said.as_str(), true),
+        (Some(_), Ok(drawing)) => draw(alloc, Drawn::Both(left, right), drawing, out, found),
+        (Some(_), Err(wrong)) => Err(wrong.failure(alloc)?),
+    }
+}
+
+// Writes the drawing of two trees in one.
+fn write_both<W: Sink>(
+    alloc: Global,
+    left: &StringItem,
+    right: &StringItem,
+    is_terminal: bool,
+    out: &mut W,
     config: &PrintConfig,
-) -> Result<(StringItem, StringItem), Failure> {
-    let first = drawings::read(alloc, left, config)?;
-    Ok((first, drawings::read(alloc, right, config)?))
-}
-
-// Says how two trees differ, if they do.
-fn difference(
-    alloc: Global,
-    options: &Options<'_>,
-    first: &StringItem,
-    second: &StringItem,
-    screen: Screen,
-    found: &Surroundings,
-) -> Result<Outcome, Failure> {
-    match compare::first(alloc, first, second)? {
-        None => done(Shown::Text(String::new(alloc))),
-        Some(_) if options.has(Opt::All) => {
-            let config = config(alloc, options, Opt::As, screen, found)?;
-            Ok(refusal(both_on(alloc, first, second, screen, config)?))
-        }
-        Some(said) => Ok(refusal(Shown::Text(said))),
-    }
-}
-
-// An outcome that is a refusal.
-fn refusal(shown: Shown) -> Outcome {
-    Outcome {
-        shown,
-        is_refusal: true,
-    }
-}
-
-// Returns a drawing of two trees for a screen. Two texts are equal exactly if their escapes are.
-fn both_on(
-    alloc: Global,
-    first: &StringItem,
-    second: &StringItem,
-    screen: Screen,
-    config: PrintConfig,
-) -> Result<Shown, AllocError> {
-    let is_colored = config.styled == StyleWhen::Always;
-    let tree = if screen.is_terminal {
-        let first = escaped_item(alloc, first)?;
-        let second = escaped_item(alloc, second)?;
-        compare::both(alloc, &first, &second, is_colored)?
-    } else {
-        compare::both(alloc, first, second, is_colored)?
+) -> Result<(), Failure> {
+    let look = Look {
+        is_colored: config.styled == StyleWhen::Always,
+        is_escaped: is_terminal,
     };
-    Ok(Shown::Styled(tree, config))
+    let both = compare::both(alloc, left, right, look)?;
+    write_tree_with(alloc, &both, out, config)?;
+    Err(Failure::Said)
+}
+
+// Says which settings hold.
+fn show_settings<W: Sink>(alloc: Global, out: &mut W, found: &Surroundings) -> Result<(), Failure> {
+    let report = settings::describe(alloc, found)?;
+    say(out, report.text.as_str(), report.has_faults)
 }

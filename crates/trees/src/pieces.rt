@@ -1,11 +1,13 @@
 //! The pieces that drawings are made with, by name.
 
-use crate::failure::Failure;
-use crate::suggest::nearest;
 use ptree::presets::Preset;
-use ptree::print_config::{CharsError, IndentChars, PrintConfig};
+use ptree::print_config::{
+    ASCII_CHARS_PLUS, ASCII_CHARS_TICK, IndentChars, PrintConfig, StaticIndentChars, UTF_CHARS,
+    UTF_CHARS_BOLD, UTF_CHARS_DASHED, UTF_CHARS_DOUBLE,
+};
 use ptree::read::{pieces_readable, read_tree};
 use std::alloc::{AllocError, Global};
+use std::mem;
 
 /// The names: the library's sets of characters, and the programs whose drawings it knows.
 pub const NAMES: [&str; 16] = [
@@ -27,53 +29,80 @@ pub const NAMES: [&str; 16] = [
     "ps",
 ];
 
-// Returns the program of a name.
-fn preset(name: &str) -> Option<Preset> {
-    match name {
-        "tree" => Some(Preset::Tree),
-        "tree-ascii" => Some(Preset::TreeAscii),
-        "cargo-tree" => Some(Preset::CargoTree),
-        "cargo-tree-ascii" => Some(Preset::CargoTreeAscii),
-        "findmnt" => Some(Preset::Findmnt),
-        "findmnt-ascii" => Some(Preset::FindmntAscii),
-        "sqlite" => Some(Preset::Sqlite),
-        "maven" => Some(Preset::Maven),
-        "clang" => Some(Preset::Clang),
-        "ps" => Some(Preset::Ps),
-        _ => None,
-    }
+/// Pieces that drawings are made with.
+#[derive(Clone, Copy)]
+pub enum Pieces {
+    Utf,
+    UtfBold,
+    UtfDashed,
+    UtfDouble,
+    Ascii,
+    AsciiPlus,
+
+    /// Those of a program.
+    Program(Preset),
 }
 
-/// Returns the configuration of a name.
-///
-/// # Errors
-///
-/// `Usage` if there is no such name, and `Memory`.
-pub fn config(alloc: Global, name: &str) -> Result<PrintConfig, Failure> {
-    if let Some(preset) = preset(name) {
-        return Ok(preset.config(alloc)?);
+impl Pieces {
+    /// Returns the pieces of a name.
+    pub fn named(name: &str) -> Option<Pieces> {
+        let pieces = match name {
+            "utf" => Pieces::Utf,
+            "utf-bold" => Pieces::UtfBold,
+            "utf-dashed" => Pieces::UtfDashed,
+            "utf-double" => Pieces::UtfDouble,
+            "ascii" | "ascii-tick" => Pieces::Ascii,
+            "ascii-plus" => Pieces::AsciiPlus,
+            "tree" => Pieces::Program(Preset::Tree),
+            "tree-ascii" => Pieces::Program(Preset::TreeAscii),
+            "cargo-tree" => Pieces::Program(Preset::CargoTree),
+            "cargo-tree-ascii" => Pieces::Program(Preset::CargoTreeAscii),
+            "findmnt" => Pieces::Program(Preset::Findmnt),
+            "findmnt-ascii" => Pieces::Program(Preset::FindmntAscii),
+            "sqlite" => Pieces::Program(Preset::Sqlite),
+            "maven" => Pieces::Program(Preset::Maven),
+            "clang" => Pieces::Program(Preset::Clang),
+            "ps" => Pieces::Program(Preset::Ps),
+            _ => return None,
+        };
+        Some(pieces)
     }
-    match IndentChars::from_name(alloc, name) {
-        Ok(characters) => Ok(with_characters(alloc, characters)?),
-        Err(CharsError::Memory) => Err(Failure::Memory),
-        Err(CharsError::Unknown) => Err(unknown(alloc, name)?),
+
+    /// Sets the characters, the indent and the padding of a configuration to these pieces.
+    ///
+    /// # Errors
+    ///
+    /// Memory ran out.
+    pub fn set(self, alloc: Global, config: &mut PrintConfig) -> Result<(), AllocError> {
+        let mut own = self.config(alloc)?;
+        mem::swap(&mut config.characters, &mut own.characters);
+        config.indent = own.indent;
+        config.padding = own.padding;
+        Ok(())
+    }
+
+    // Returns the default configuration with these pieces.
+    fn config(self, alloc: Global) -> Result<PrintConfig, AllocError> {
+        match self {
+            Pieces::Utf => with_characters(alloc, UTF_CHARS),
+            Pieces::UtfBold => with_characters(alloc, UTF_CHARS_BOLD),
+            Pieces::UtfDashed => with_characters(alloc, UTF_CHARS_DASHED),
+            Pieces::UtfDouble => with_characters(alloc, UTF_CHARS_DOUBLE),
+            Pieces::Ascii => with_characters(alloc, ASCII_CHARS_TICK),
+            Pieces::AsciiPlus => with_characters(alloc, ASCII_CHARS_PLUS),
+            Pieces::Program(preset) => preset.config(alloc),
+        }
     }
 }
 
 // Returns the default configuration with other characters.
-fn with_characters(alloc: Global, characters: IndentChars) -> Result<PrintConfig, AllocError> {
+fn with_characters(
+    alloc: Global,
+    characters: StaticIndentChars,
+) -> Result<PrintConfig, AllocError> {
     let mut config = PrintConfig::default(alloc)?;
-    config.characters = characters;
+    config.characters = IndentChars::from_static(alloc, characters)?;
     Ok(config)
-}
-
-// Says that there is no such name, and which one may be meant.
-fn unknown(alloc: Global, name: &str) -> Result<Failure, AllocError> {
-    let text = match nearest(alloc, name, &NAMES)? {
-        Some(other) => format!(in alloc; "no pieces are named {name}; did you mean {other}?")?,
-        None => format!(in alloc; "no pieces are named {name}; see trees --help")?,
-    };
-    Ok(Failure::Usage(text))
 }
 
 /// Returns the name of the first pieces under which a text is a drawing.
@@ -81,22 +110,24 @@ fn unknown(alloc: Global, name: &str) -> Result<Failure, AllocError> {
 /// # Errors
 ///
 /// Memory ran out.
-pub fn reading(alloc: Global, text: &str) -> Result<Option<&'static str>, Failure> {
+pub fn reading(alloc: Global, text: &str) -> Result<Option<&'static str>, AllocError> {
     for name in NAMES {
-        if is_read_with(alloc, text, name)? {
-            return Ok(Some(name));
+        if let Some(pieces) = Pieces::named(name) {
+            if is_read_with(alloc, text, pieces)? {
+                return Ok(Some(name));
+            }
         }
     }
     Ok(None)
 }
 
-// Whether a text is a drawing with the pieces of a name.
-fn is_read_with(alloc: Global, text: &str, name: &str) -> Result<bool, Failure> {
-    let config = config(alloc, name)?;
+// Whether a text is a drawing with these pieces.
+fn is_read_with(alloc: Global, text: &str, pieces: Pieces) -> Result<bool, AllocError> {
+    let config = pieces.config(alloc)?;
     is_read(alloc, text, &config)
 }
 
 // Whether a text is a drawing by a configuration that can be read.
-fn is_read(alloc: Global, text: &str, config: &PrintConfig) -> Result<bool, Failure> {
+fn is_read(alloc: Global, text: &str, config: &PrintConfig) -> Result<bool, AllocError> {
     Ok(pieces_readable(alloc, config)? && read_tree(alloc, text, config)?.is_some())
 }

@@ -1,5 +1,7 @@
 //! What standard output is.
 
+use ptree::print_config::StyleWhen;
+
 /// What standard output is.
 #[derive(Clone, Copy)]
 pub struct Screen {
@@ -8,4 +10,15 @@ pub struct Screen {
 
     /// Whether drawings are coloured if no option says it.
     pub styled: bool,
+}
+
+impl Screen {
+    /// Returns when drawings are coloured, where `Tty` leaves it to the screen.
+    pub fn when(self, styled: StyleWhen) -> StyleWhen {
+        match styled {
+            StyleWhen::Tty if self.styled => StyleWhen::Always,
+            StyleWhen::Tty => StyleWhen::Never,
+            other => other,
+        }
+    }
 }

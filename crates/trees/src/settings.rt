@@ -1,6 +1,6 @@
 //! Says which settings hold, where each comes from, and what is wrong with the sources.
 
-use crate::suggest::nearest;
+use crate::suggest::Nearest;
 use ptree::print_config::{
     FIELDS, Fault, Field, Part, PrintConfig, Spelling, StyleField, StyleWhen, faults, last_value,
 };
@@ -84,11 +84,11 @@ fn push_warning(alloc: Global, text: &mut String, warning: &Warning) -> Result<(
 
 // Returns the variable of a field whose name has the fewest differences.
 fn nearest_variable(alloc: Global, name: &str) -> Result<Option<&'static str>, AllocError> {
-    let mut names = Vec::new(alloc);
+    let mut nearest = Nearest::to(name);
     for field in FIELDS {
-        names.push(field.variable())?;
+        nearest.try_word(alloc, field.variable())?;
     }
-    nearest(alloc, name, names.as_slice())
+    Ok(nearest.word)
 }
 
 // Adds each setting, and where it comes from.
