@@ -40,8 +40,7 @@ fn push_path(
         let Some(above) = item else {
             break;
         };
-        said.push_str(escaped(alloc, above.text.as_str())?.as_str())?;
-        said.push_str(" / ")?;
+        write!(said, "{} / ", escaped(alloc, above.text.as_str())?)?;
         item = above.children.get(*position);
     }
     match found.address.last() {
@@ -60,12 +59,10 @@ fn push_side(
     mark: &str,
     item: Option<&StringItem>,
 ) -> Result<(), AllocError> {
-    said.push_str(mark)?;
     match item {
-        Some(item) => said.push_str(escaped(alloc, item.text.as_str())?.as_str())?,
-        None => said.push_str("(nothing)")?,
+        Some(item) => writeln!(said, "{mark}{}", escaped(alloc, item.text.as_str())?),
+        None => writeln!(said, "{mark}(nothing)"),
     }
-    said.push_str("\n")
 }
 
 /// How the texts of both trees are shown.

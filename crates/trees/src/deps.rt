@@ -140,26 +140,24 @@ fn top(alloc: Global, source: &Source, network: &mut Network) -> Result<NodeInde
             *flag = true;
         }
     }
+    let above = NodeIndex(network.labels.len());
     let mut tops = Vec::new(alloc);
     for (i, flag) in needed.iter().enumerate() {
         if !flag {
-            tops.push(NodeIndex(i))?;
+            tops.push((above, NodeIndex(i)))?;
         }
     }
-    if tops.len() == 1 {
-        return Ok(tops[0]);
+    match tops.as_slice() {
+        [(_, only)] => Ok(*only),
+        [] if !needed.is_empty() => Ok(NodeIndex(0)),
+        _ => {
+            network
+                .labels
+                .push(String::from_str(alloc, source.label())?)?;
+            network.edges.append(&mut tops)?;
+            Ok(above)
+        }
     }
-    if tops.is_empty() && !network.labels.is_empty() {
-        return Ok(NodeIndex(0));
-    }
-    let above = NodeIndex(network.labels.len());
-    network
-        .labels
-        .push(String::from_str(alloc, source.label())?)?;
-    for node in &tops {
-        network.edges.push((above, *node))?;
-    }
-    Ok(above)
 }
 
 // Returns the position of a key.
@@ -169,10 +167,9 @@ fn position(keys: &[String], key: &str) -> Option<NodeIndex> {
 }
 
 // Sorts keys, and leaves each once.
-fn once(keys: &mut Vec<String>) -> Result<(), AllocError> {
+fn once(keys: &mut Vec<String>) {
     keys.sort_unstable();
     keys.dedup();
-    Ok(())
 }
 
 // Returns the dependencies of lines of two words.
@@ -195,7 +192,7 @@ fn pairs(alloc: Global, source: &Source) -> Result<Network, Failure> {
         keys.push(String::from_str(alloc, second)?)?;
         lines.push((first, second))?;
     }
-    once(&mut keys)?;
+    once(&mut keys);
     let mut edges = Vec::new(alloc);
     for (first, second) in &lines {
         // `tsort` takes a word twice as a node alone.
@@ -215,19 +212,19 @@ fn pairs(alloc: Global, source: &Source) -> Result<Network, Failure> {
 // Returns the dependencies of a `Cargo.lock`.
 fn cargo_lock(alloc: Global, source: &Source) -> Result<Network, Failure> {
     let value = toml_value(alloc, source)?;
-    match value.get("package").and_then(|p| p.as_array()) {
-        Some(packages) => Ok(cargo_network(alloc, packages)?),
-        None => Err(source.wrong(alloc, "no packages")?),
-    }
+    cargo_network(alloc, source, &value)
 }
 
 // Returns the dependencies of the packages of a `Cargo.lock`.
-fn cargo_network(alloc: Global, packages: &[toml::Value]) -> Result<Network, AllocError> {
+fn cargo_network(alloc: Global, source: &Source, lock: &toml::Value) -> Result<Network, Failure> {
+    let Some(packages) = lock.get("package").and_then(|p| p.as_array()) else {
+        return Err(source.wrong(alloc, "no packages")?);
+    };
     let mut keys = Vec::new(alloc);
     for package in packages {
         keys.push(cargo_key(alloc, package)?)?;
     }
-    once(&mut keys)?;
+    once(&mut keys);
     let mut edges = Vec::new(alloc);
     for package in packages {
         push_needs(alloc, package, &keys, &mut edges)?;
@@ -297,27 +294,26 @@ fn cargo_need(alloc: Global, keys: &[String], need: &str) -> Result<Option<NodeI
 // Returns the dependencies of a `package-lock.json`.
 fn package_lock(alloc: Global, source: &Source) -> Result<Network, Failure> {
     let value = json_value(alloc, source)?;
-    match value.get("packages").and_then(|p| p.as_object()) {
-        Some(packages) => Ok(npm_network(alloc, source, packages)?),
-        None => Err(source.wrong(alloc, "no packages")?),
-    }
+    npm_network(alloc, source, &value)
 }
 
 // Returns the dependencies of the packages of a `package-lock.json`.
 fn npm_network(
     alloc: Global,
     source: &Source,
-    packages: &Map<String, serde_json::Value>,
-) -> Result<Network, AllocError> {
+    lock: &serde_json::Value,
+) -> Result<Network, Failure> {
+    let Some(packages) = lock.get("packages").and_then(|p| p.as_object()) else {
+        return Err(source.wrong(alloc, "no packages")?);
+    };
     let mut keys = Vec::new(alloc);
     for (path, _) in packages.iter() {
         keys.push(path.clone()?)?;
     }
-    once(&mut keys)?;
+    once(&mut keys);
     let mut edges = Vec::new(alloc);
     for (path, package) in packages.iter() {
-        let needs = npm_names(alloc, package)?;
-        push_npm_needs(alloc, path.as_str(), &needs, &keys, &mut edges)?;
+        push_npm_needs(alloc, path.as_str(), package, &keys, &mut edges)?;
     }
     for key in &mut keys {
         *key = npm_label(alloc, source, packages, key.as_str())?;
@@ -390,14 +386,14 @@ fn push_names<'a>(
 fn push_npm_needs(
     alloc: Global,
     path: &str,
-    needs: &[&str],
+    package: &serde_json::Value,
     keys: &[String],
     edges: &mut Vec<(NodeIndex, NodeIndex)>,
 ) -> Result<(), AllocError> {
     let Some(from) = position(keys, path) else {
         return Ok(());
     };
-    for name in needs {
+    for name in &npm_names(alloc, package)? {
         if let Some(to) = npm_need(alloc, path, name, keys)? {
             edges.push((from, to))?;
         }

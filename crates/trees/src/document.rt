@@ -205,12 +205,8 @@ fn refused(
     at: Option<&str>,
     path: &[Step],
 ) -> Result<Failure, AllocError> {
-    let mut wrong = format!(in alloc; "{what} is at ")?;
-    let mut between = "";
-    if let Some(at) = at {
-        wrong.push_str(at)?;
-        between = ".";
-    }
+    let mut wrong = format!(in alloc; "{what} is at {}", at.unwrap_or(""))?;
+    let mut between = if at.is_some() { "." } else { "" };
     for step in path {
         let part = format!(in alloc; "{between}{step}")?;
         wrong.push_str(escaped(alloc, part.as_str())?.as_str())?;

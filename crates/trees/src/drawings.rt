@@ -48,15 +48,17 @@ fn wrong_line(
     requires { HasReadablePieces config.now }
 {
     let (before, wrong) = split_at_line(text, line);
-    let wrong = escaped(alloc, wrong)?;
-    let mut said = format!(in alloc; "cannot continue the drawing:\n  {wrong}")?;
+    let mut said = format!(in alloc;
+        "cannot continue the drawing:\n  {}",
+        escaped(alloc, wrong)?
+    )?;
     if push_other(alloc, &mut said, text)? {
         return Ok(said);
     }
     let could = beginnings(alloc, before, config)?;
     if !could.is_empty() {
-        said.push_str("\nhere could stand, before a text:\n")?;
-        said.push_str(could.as_str().trim_end_matches('\n'))?;
+        let could = could.as_str().trim_end_matches('\n');
+        write!(said, "\nhere could stand, before a text:\n{could}")?;
     }
     Ok(said)
 }

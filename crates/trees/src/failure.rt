@@ -5,7 +5,7 @@ use std::alloc::{AllocError, AllocFailed};
 use std::io::ErrorKind;
 
 /// Why a call did not do what it was asked.
-#[derive(Debug, Drop)]
+#[derive(Drop)]
 pub enum Failure {
     /// The words are wrong. The text says what is, and what would be right.
     Usage(String),

@@ -67,12 +67,24 @@ pub fn outline(
     let above = if outline.label.is_some() { 1 } else { 0 };
     match read_indented(alloc, text.as_str(), &form) {
         Ok(tree) => Ok(tree),
-        Err(IndentError::Line(line)) => {
+        Err(wrong) => Err(wrong_indent(alloc, source, wrong, above)?),
+    }
+}
+
+// Says why a text has no indented form, where so many lines were put above it.
+fn wrong_indent(
+    alloc: Global,
+    source: &Source,
+    wrong: IndentError,
+    above: usize,
+) -> Result<Failure, AllocError> {
+    match wrong {
+        IndentError::Line(line) => {
             let line = line.saturating_sub(above);
-            Err(source.wrong_at(alloc, line, "the line's indent fits no level")?)
+            source.wrong_at(alloc, line, "the line's indent fits no level")
         }
-        Err(IndentError::End) => Err(source.wrong(alloc, "empty")?),
-        Err(IndentError::Memory) => Err(Failure::Memory),
+        IndentError::End => source.wrong(alloc, "empty"),
+        IndentError::Memory => Ok(Failure::Memory),
     }
 }
 

@@ -3,7 +3,7 @@
 use crate::help;
 
 /// A command's name.
-#[derive(Clone, Copy, Debug, PartialEq, Eq)]
+#[derive(Clone, Copy, PartialEq, Eq)]
 pub enum CommandName {
     /// Draws a JSON document.
     Json,
@@ -137,7 +137,7 @@ impl CommandName {
 }
 
 /// An option.
-#[derive(Clone, Copy, Debug, PartialEq, Eq)]
+#[derive(Clone, Copy, PartialEq, Eq)]
 pub enum Opt {
     /// Shows the page of help.
     Help,

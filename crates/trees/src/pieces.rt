@@ -100,8 +100,9 @@ fn with_characters(
     alloc: Global,
     characters: StaticIndentChars,
 ) -> Result<PrintConfig, AllocError> {
+    let characters = IndentChars::from_static(alloc, characters)?;
     let mut config = PrintConfig::default(alloc)?;
-    config.characters = IndentChars::from_static(alloc, characters)?;
+    config.characters = characters;
     Ok(config)
 }
 

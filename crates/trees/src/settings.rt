@@ -73,7 +73,7 @@ fn push_warning(alloc: Global, text: &mut String, warning: &Warning) -> Result<(
     let said = format!(in alloc; "{warning}")?;
     write!(text, "warning: {}", escaped(alloc, said.as_str())?)?;
     let meant = match warning {
-        Warning::Variable(name) => nearest_variable(alloc, name.as_str())?,
+        Warning::Variable(name) => nearest_variable(name.as_str()),
         _ => None,
     };
     match meant {
@@ -83,12 +83,12 @@ fn push_warning(alloc: Global, text: &mut String, warning: &Warning) -> Result<(
 }
 
 // Returns the variable of a field whose name has the fewest differences.
-fn nearest_variable(alloc: Global, name: &str) -> Result<Option<&'static str>, AllocError> {
+fn nearest_variable(name: &str) -> Option<&'static str> {
     let mut nearest = Nearest::to(name);
     for field in FIELDS {
-        nearest.try_word(alloc, field.variable())?;
+        nearest.try_word(field.variable());
     }
-    Ok(nearest.word)
+    nearest.word
 }
 
 // Adds each setting, and where it comes from.

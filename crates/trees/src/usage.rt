@@ -110,7 +110,7 @@ impl<'a> Usage<'a> {
         let mut text = format!(in alloc; "{self}")?;
         match self {
             Usage::Command(word) | Usage::Option(_, word) | Usage::Pieces(word) => {
-                self.push_hint(alloc, &mut text, word)?;
+                self.push_hint(&mut text, word)?;
                 Ok(Failure::Usage(text))
             }
             Usage::Memory => Ok(Failure::Memory),
@@ -119,8 +119,8 @@ impl<'a> Usage<'a> {
     }
 
     // Adds the right name for a wrong one, or else the page that has them.
-    fn push_hint(self, alloc: Global, text: &mut String, wrong: &str) -> Result<(), AllocError> {
-        match (self.nearest(alloc, wrong)?, self) {
+    fn push_hint(self, text: &mut String, wrong: &str) -> Result<(), AllocError> {
+        match (self.nearest(wrong), self) {
             (Some(name), _) => write!(text, "; did you mean {name}?"),
             (None, Usage::Option(command, _)) => {
                 write!(text, "; see trees {} --help", command.word())
@@ -130,27 +130,27 @@ impl<'a> Usage<'a> {
     }
 
     // Returns the nearest name that would be right in the place of a wrong one.
-    fn nearest(self, alloc: Global, wrong: &str) -> Result<Option<&'static str>, AllocError> {
+    fn nearest(self, wrong: &str) -> Option<&'static str> {
         let mut nearest = Nearest::to(wrong);
         match self {
             Usage::Command(_) => {
                 for command in COMMANDS {
-                    nearest.try_word(alloc, command.word())?;
+                    nearest.try_word(command.word());
                 }
             }
             Usage::Option(command, _) => {
                 for option in OPTIONS {
                     if command.takes(option) {
-                        nearest.try_word(alloc, option.word())?;
+                        nearest.try_word(option.word());
                     }
                 }
             }
             _ => {
                 for name in NAMES {
-                    nearest.try_word(alloc, name)?;
+                    nearest.try_word(name);
                 }
             }
         }
-        Ok(nearest.word)
+        nearest.word
     }
 }
