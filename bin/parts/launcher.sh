@@ -115,6 +115,9 @@ check_changes() {
     expect_launch "another program's line of crates.txt is changed" 0 three
     rm -r "$there/crates/ptree_cli/out"
     expect_launch 'the program is deleted' 1 three
+    echo 'stub logic two' >"$there/KIT-ID"
+    touch "$source"
+    expect_launch 'the kit has another logic' 1 three
 }
 
 # Checks that a source that changes during a build leads to another build.
@@ -176,7 +179,7 @@ check_many_calls() {
     local -a calls=()
     touch "$there/crates.txt"
     for call in {1..12}; do
-        (cd "$there" && exec bin/ptree_cli a b </dev/null >"$scratch/out$call" 2>&1) &
+        (cd "$there" && PATH=$there/path:$PATH exec bin/ptree_cli a b </dev/null >"$scratch/out$call" 2>&1) &
         calls+=($!)
     done
     for call in {1..12}; do
