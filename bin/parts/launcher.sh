@@ -8,7 +8,7 @@ make_launched() {
     rm -rf "$there"
     chmod a+rx "$scratch"
     mkdir -p "$there"/{bin/parts,path,few,tmp,crates/ptree/{src,specs,proofs},crates/{ptree_cli,trees}/src}
-    cp bin/build "$there/bin"
+    cp bin/build bin/install "$there/bin"
     cp "${STUB:-bin/ptree_cli}" "$there/bin/ptree_cli"
     cp "${STUB:-bin/trees}" "$there/bin/trees"
     cp bin/parts/launch "$there/bin/parts"
@@ -235,6 +235,21 @@ check_progress() {
     fi
 }
 
+# Checks that an installation reports the build of all its parts, and puts them there.
+check_installing() {
+    rm -r "$there"/crates/*/out
+    echo 'rm "$at"; echo "5 of 10 functions checked"; sleep 4' >"$there/at_lib"
+    launch bin/install installed ptree_cli trees
+    if [ $? = 0 ] && [ ! -s "$scratch/out" ] && [ "$(xargs <"$there/calls")" = 'lib run run' ] \
+        && grep -q '^bin/build: proving ptree, function 5 of 10; about [0-9]* min left$' "$scratch/err" \
+        && [ "$("$there/installed/bin/ptree_cli" a b </dev/null)" = 'six <a> <b>' ] && [ -x "$there/installed/bin/trees" ]; then
+        report ok 'an installation reports its build'
+    else
+        report no "an installation reports its build: $(xargs <"$there/calls")"
+        cat "$scratch/out" "$scratch/err"
+    fi
+}
+
 # Prints the processes of a session that have not ended.
 live_in() {
     ps -o stat=,pid=,args= -s "$1" | awk '!/^Z/'
@@ -384,6 +399,7 @@ check_launcher() {
     check_many_calls
     check_no_build
     check_progress
+    check_installing
     for name in INT TERM HUP; do
         check_signal $name "$there/bin/ptree_cli" a b
         check_signal $name "$there/bin/build" ptree_cli
