@@ -14,6 +14,9 @@
 //! ```
 #![warn(missing_docs)]
 
+#[cfg(feature = "petgraph")]
+compile_error!("there is no feature `petgraph` here: leave it out, and copy the nodes and edges of your graph into a `ptree::graph::Graph`");
+
 mod border;
 pub mod builder;
 pub mod graph;

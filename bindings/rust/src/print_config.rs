@@ -2,11 +2,12 @@
 use crate::border;
 use crate::style::Style;
 use crate::value::DocFormat;
+use std::env;
 use std::fmt::Display;
-use std::io::{self, IsTerminal};
-use std::path::{Path, PathBuf};
+use std::fs::{self, Metadata};
+use std::io::{self, ErrorKind, IsTerminal};
+use std::os::unix::fs::{FileTypeExt, MetadataExt};
 use std::str::FromStr;
-use std::{env, fs};
 
 /// When output is styled.
 #[derive(Clone, Copy, Debug, PartialEq, Eq)]
@@ -101,17 +102,15 @@ impl PrintConfig {
         let variables: Vec<_> = env::vars_os()
             .filter_map(|(name, value)| Some((name.into_string().ok()?, value.into_string().ok()?)))
             .collect();
-        let Some(file) = find_file()? else {
+        let Some(path) = find_file(&variables)? else {
             return border::load(None, &variables);
         };
-        let text = fs::read_to_string(&file)?;
-        let is_json = file.extension().is_some_and(|ending| ending == "json");
-        let format = if is_json {
+        let format = if path.ends_with(".json") {
             DocFormat::Json
         } else {
             DocFormat::Toml
         };
-        border::load(Some((format, &text)), &variables)
+        border::load(Some((format, &fs::read_to_string(path)?)), &variables)
     }
 
     /// Whether output of a kind is styled.
@@ -134,53 +133,61 @@ impl PrintConfig {
     }
 }
 
-// The configuration file, if there is one. That a named one is missing is an error.
-fn find_file() -> io::Result<Option<PathBuf>> {
-    let (base, is_named) = match env::var_os("PTREE_CONFIG") {
-        Some(named) if named == "/dev/null" => return Ok(None),
-        Some(named) => (PathBuf::from(named), true),
-        None => match user_folder() {
-            Some(folder) => (folder.join("ptree"), false),
-            None => return Ok(None),
-        },
+// The value of a variable. The last one of a name counts.
+fn value_of<'a>(variables: &'a [(String, String)], name: &str) -> Option<&'a str> {
+    let mut found = variables.iter().rev().filter(|(other, _)| other == name);
+    found.next().map(|(_, value)| value.as_str())
+}
+
+// The path of the configuration file, if there is one: the first one that is not missing. That a named one is missing is an error.
+fn find_file(variables: &[(String, String)]) -> io::Result<Option<String>> {
+    let named = value_of(variables, "PTREE_CONFIG");
+    let paths = match named {
+        Some(named) => named_paths(named),
+        None => user_paths(variables),
     };
-    for candidate in candidates(&base, is_named) {
-        match fs::metadata(&candidate) {
-            Ok(found) if found.is_file() => return Ok(Some(candidate)),
-            Ok(_) => return Err(io::Error::from(io::ErrorKind::InvalidInput)),
-            Err(error) if error.kind() == io::ErrorKind::NotFound => {}
+    for path in paths {
+        match fs::metadata(&path) {
+            Ok(found) if found.is_file() || is_null(&found) => return Ok(Some(path)),
+            Ok(_) => return Err(ErrorKind::InvalidInput.into()),
+            Err(error) if error.kind() == ErrorKind::NotFound => {}
             Err(error) => return Err(error),
         }
     }
-    if is_named {
-        return Err(io::Error::from(io::ErrorKind::NotFound));
+    match named {
+        Some(_) => Err(ErrorKind::NotFound.into()),
+        None => Ok(None),
     }
-    Ok(None)
 }
 
-// The paths at which a file may be. A path with an ending is taken as it is.
-fn candidates(base: &Path, is_named: bool) -> Vec<PathBuf> {
-    let text = base.as_os_str().to_string_lossy();
-    if is_named && (text.ends_with(".toml") || text.ends_with(".json")) {
-        return vec![base.to_path_buf()];
-    }
-    let with = |ending: &str| {
-        let mut path = base.as_os_str().to_os_string();
-        path.push(ending);
-        PathBuf::from(path)
-    };
-    vec![with(".toml"), with(".json")]
+// Whether a file is the null device. A FIFO would wait, and another device may have no end.
+fn is_null(found: &Metadata) -> bool {
+    let null = fs::metadata("/dev/null").map(|null| null.rdev());
+    found.file_type().is_char_device() && null.is_ok_and(|null| null == found.rdev())
 }
 
-// The user's folder of configurations.
-fn user_folder() -> Option<PathBuf> {
-    if let Some(folder) = env::var_os("XDG_CONFIG_HOME").map(PathBuf::from) {
-        if folder.is_absolute() {
-            return Some(folder);
-        }
+// A path with each ending.
+fn with_endings(stem: &str) -> Vec<String> {
+    vec![format!("{stem}.toml"), format!("{stem}.json")]
+}
+
+// The paths that a value names. One with an ending is a path itself.
+fn named_paths(value: &str) -> Vec<String> {
+    if value.ends_with(".toml") || value.ends_with(".json") {
+        vec![value.to_string()]
+    } else {
+        with_endings(value)
     }
-    let home = env::var_os("HOME").filter(|home| !home.is_empty())?;
-    Some(PathBuf::from(home).join(".config"))
+}
+
+// The paths in the user's folder of configurations.
+fn user_paths(variables: &[(String, String)]) -> Vec<String> {
+    let of = |name| value_of(variables, name);
+    match (of("XDG_CONFIG_HOME"), of("HOME")) {
+        (Some(folder), _) if folder.starts_with('/') => with_endings(&format!("{folder}/ptree")),
+        (_, Some(home)) if !home.is_empty() => with_endings(&format!("{home}/.config/ptree")),
+        _ => Vec::new(),
+    }
 }
 
 /// A program that draws trees.

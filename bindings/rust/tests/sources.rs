@@ -1,6 +1,10 @@
 //! Loads configurations from the environment and from files. The environment is one for all threads, so this is one test.
 use ptree::print_config::{StyleWhen, ASCII_CHARS_TICK, UTF_CHARS, UTF_CHARS_DOUBLE};
 use ptree::{Color, PrintConfig};
+use std::ffi::OsStr;
+use std::os::unix::ffi::OsStrExt;
+use std::os::unix::fs::symlink;
+use std::path::Path;
 use std::{env, fs, process};
 
 #[test]
@@ -117,5 +121,51 @@ fn configurations_are_loaded() {
     assert_eq!(PrintConfig::from_env().indent, 9);
     fs::write(folder.join("ptree.toml"), "indent = 8").expect("a file");
     assert_eq!(PrintConfig::from_env().indent, 8);
+    env::remove_var("PTREE_LEAF_BACKGROUND");
+    env::remove_var("PTREE_LEAF_BOLD");
+    files_are_found(&folder);
     fs::remove_dir_all(&folder).expect("a folder");
+}
+
+// Loads from the files that values of `PTREE_CONFIG` lead to. A variable counts unless there is a fault.
+fn files_are_found(folder: &Path) {
+    env::set_var("PTREE_DEPTH", "6");
+    let load = |value: &OsStr| {
+        env::set_var("PTREE_CONFIG", value);
+        let config = PrintConfig::from_env();
+        (config.indent, config.depth)
+    };
+    let at = |name: &str| load(folder.join(name).as_os_str());
+    let fault = (3, u32::MAX);
+    let json = "{\"indent\": 7}";
+    for name in ["only.json", ".json"] {
+        fs::write(folder.join(name), json).expect("a file");
+    }
+    assert_eq!(at("only"), (7, 6));
+    assert_eq!(at("only.json"), (7, 6));
+    assert_eq!(at("only.toml"), fault);
+    // The name may be an ending alone.
+    assert_eq!(at(".json"), (7, 6));
+    assert_eq!(at(""), (7, 6));
+
+    for (device, name) in [
+        ("null", "null.toml"),
+        ("null", "null.json"),
+        ("zero", "zero.toml"),
+    ] {
+        symlink(format!("/dev/{device}"), folder.join(name)).expect("a link");
+    }
+    assert_eq!(at("null.toml"), (3, 6));
+    assert_eq!(at("null.json"), fault);
+    assert_eq!(at("zero.toml"), fault);
+    // A device's name has no ending, as any other.
+    assert_eq!(load(OsStr::new("/dev/null")), fault);
+
+    // A value that is not UTF-8 is ignored, so the user's file counts, and one below a file is a fault.
+    assert_eq!(load(OsStr::from_bytes(b"\xff.toml")), (8, 6));
+    assert_eq!(at("only.json/ptree.toml"), fault);
+    env::remove_var("PTREE_CONFIG");
+    env::set_var("XDG_CONFIG_HOME", "not/absolute");
+    env::set_var("HOME", "/dev/null");
+    assert_eq!(PrintConfig::from_env().depth, u32::MAX);
 }
