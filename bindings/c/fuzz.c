@@ -162,7 +162,7 @@ static void give_config(struct given *given) {
         given->has_long_pieces = 1;
     }
     if (one_in(3)) config->depth = (uint32_t)below(5);
-    config->styled = (uint32_t)below(3);
+    config->styled = (uint32_t)below(one_in(30) ? 5 : 3);
     if (one_in(4)) config->branch = some_style(given->names_length);
     if (one_in(4)) config->leaf = some_style(given->names_length);
     if (one_in(6)) config->continued = some_part(given->names_length);
@@ -207,7 +207,7 @@ static uint32_t draw(const struct given *given, size_t call, size_t other, uint8
 
 /* Checks that a call that has found no memory had a reason. */
 static void need_reason(const struct given *given, uint32_t refusal) {
-    need(refusal <= PTREE_EDGE, "a number of no refusal");
+    need(refusal <= PTREE_STYLED, "a number of no refusal");
     need(refusal != PTREE_MEMORY || was_refused || given->has_long_pieces, "memory ran out, and none was refused");
     need(!was_refused || refusal == PTREE_MEMORY || refusal == PTREE_DONE, "refused memory counts as another refusal");
 }

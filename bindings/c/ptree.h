@@ -32,7 +32,7 @@ enum ptree_refusal {
     PTREE_UTF8 = 2,        /* a text is not UTF-8; `place` says which: an item's place, or the argument's as each call says */
     PTREE_LEVEL = 3,       /* the item at `place` has a level that no item can have there, or there is no item; a step is deeper than the path */
     PTREE_PRESET = 4,      /* there is no preset of that number */
-    PTREE_PIECES = 5,      /* the pieces of the preset are not readable */
+    PTREE_PIECES = 5,      /* the pieces of the preset or configuration are not readable */
     PTREE_LINE = 6,        /* line `place`, counted from 1, cannot continue the drawing */
     PTREE_INCOMPLETE = 7,  /* the text is incomplete: a sibling is missing, or the last line feed */
     PTREE_SYNTAX = 8,      /* the document is invalid in its format */
@@ -43,7 +43,8 @@ enum ptree_refusal {
     PTREE_NAMES = 13,      /* a text of the configuration, a name or a mark is not UTF-8, ends before it begins, or lies beyond its texts */
     PTREE_COLOR = 14,      /* there is no colour of that kind */
     PTREE_FAULT = 15,      /* a source is at fault; `place` is the line of the file, if its syntax is wrong, and otherwise 0 */
-    PTREE_EDGE = 16        /* an end of the edge at `place` is no node */
+    PTREE_EDGE = 16,       /* an end of the edge at `place` is no node */
+    PTREE_STYLED = 17      /* `styled` has none of the numbers of ptree_styled */
 };
 
 /* The presets: what a drawing looks like. */
@@ -190,7 +191,7 @@ uint32_t ptree_load(const uint8_t *file, size_t file_length, uint32_t format, co
                     size_t names_length, struct ptree_found *found);
 
 /* Draws items into `out` as a configuration says. Done, `found->bytes` is the length of the whole drawing, and `found->items` the number
- * of items given. Refusals: MEMORY, UTF8, LEVEL, END, NAMES, COLOR; `out` is unchanged.
+ * of items given. Refusals: MEMORY, UTF8, LEVEL, END, NAMES, COLOR, STYLED; `out` is unchanged.
  *
  * For styles of items of their own, paint their texts by ptree_paint, and give the configuration a plain style of leaves. */
 uint32_t ptree_draw_with(const struct ptree_item *items, size_t items_count, const uint8_t *texts, size_t texts_length,
@@ -206,20 +207,20 @@ uint32_t ptree_draw_with(const struct ptree_item *items, size_t items_count, con
  *
  * `found->items` is the number of items drawn, and `found->bytes` the length of their whole entries, after a refusal too. Done, all items
  * were drawn if `found->place` is 0, and otherwise it is the length of the next entry, which has no room behind the others: take away
- * what was drawn, and go on with that item. Refusals: MEMORY, UTF8, LEVEL (deeper than `path`), END, NAMES, COLOR; `place` is the
- * item's. Nothing checks that the levels and flags are those of a tree: each entry is drawn as its flag and those of `path` say. */
+ * what was drawn, and go on with that item. Refusals: MEMORY, UTF8, LEVEL (deeper than `path`), END, NAMES, COLOR, STYLED;
+ * `place` is the item's. Nothing checks that the levels and flags are those of a tree: each entry is drawn as its flag and those of `path` say. */
 uint32_t ptree_draw_steps(const struct ptree_step *steps, size_t steps_count, const uint8_t *texts, size_t texts_length, uint8_t *path,
                           size_t path_length, const struct ptree_config *config, const uint8_t *names, size_t names_length,
                           uint8_t *out, size_t out_length, struct ptree_found *found);
 
-/* Reads what ptree_draw_with draws, as ptree_read does. Refusals: MEMORY, UTF8 (`place` is 0), PIECES, LINE, INCOMPLETE, NAMES, COLOR;
- * `items` and `texts` are unchanged. */
+/* Reads what ptree_draw_with draws, as ptree_read does. Refusals: MEMORY, UTF8 (`place` is 0), PIECES, LINE, INCOMPLETE, NAMES, COLOR,
+ * STYLED; `items` and `texts` are unchanged. */
 uint32_t ptree_read_with(const uint8_t *text, size_t text_length, const struct ptree_config *config, const uint8_t *names,
                          size_t names_length, struct ptree_item *items, size_t items_count, uint8_t *texts, size_t texts_length,
                          struct ptree_found *found);
 
 /* Draws a document as a configuration says, and otherwise as ptree_draw_document does. Refusals: those of ptree_draw_document without
- * PRESET, and NAMES, COLOR; `out` is unchanged. */
+ * PRESET, and NAMES, COLOR, STYLED; `out` is unchanged. */
 uint32_t ptree_draw_document_with(const uint8_t *text, size_t text_length, const uint8_t *label, size_t label_length, uint32_t format,
                                   const struct ptree_config *config, const uint8_t *names, size_t names_length, uint8_t *out,
                                   size_t out_length, struct ptree_found *found);
@@ -227,7 +228,7 @@ uint32_t ptree_draw_document_with(const uint8_t *text, size_t text_length, const
 /* Draws all walks of a graph from the node at place `start` into `out`. The texts of the nodes stand one behind the other; `ends` says
  * where each one's ends. A node's neighbours are drawn newest edge first. In a graph with a cycle only the configuration's depth ends the
  * drawing. A `start` that is no node's place is drawn as one empty line. Refusals: MEMORY, UTF8, END (`place` is the node's), EDGE, NAMES,
- * COLOR; `out` is unchanged. */
+ * COLOR, STYLED; `out` is unchanged. */
 uint32_t ptree_draw_walks(const size_t *ends, size_t nodes, const uint8_t *texts, size_t texts_length, const struct ptree_edge *edges,
                           size_t edges_count, size_t start, const struct ptree_config *config, const uint8_t *names,
                           size_t names_length, uint8_t *out, size_t out_length, struct ptree_found *found);

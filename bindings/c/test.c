@@ -164,6 +164,9 @@ static void refuses_some_steps(void) {
     expect(ptree_draw_steps(whole, 1, TEXT("a\xff"), path, 0, &config, names, 64, out, 8, &found) == PTREE_DONE && found.bytes == 2, "a part");
     config.characters.right.end = 99;
     expect(ptree_draw_steps(whole, 1, TEXT("a"), path, 0, &config, names, 64, out, 8, &found) == PTREE_NAMES && found.items == 0, "bad names");
+    give_cargo_tree(&config, names);
+    config.styled = 3;
+    expect(ptree_draw_steps(whole, 1, TEXT("a"), path, 0, &config, names, 64, out, 8, &found) == PTREE_STYLED && found.items == 0, "bad styled");
 }
 
 static void reads_into_each_size(void) {
@@ -233,6 +236,7 @@ static void knows_presets_and_refusals(void) {
     for (uint32_t preset = 0; preset <= 10; preset++) expect(ptree_is_readable(preset) == PTREE_DONE, "a preset is readable");
     expect(ptree_is_readable(11) == PTREE_PRESET, "no preset is readable");
     expect(ptree_refusal_text(PTREE_MEMORY, out, 80) == 13 && memcmp(out, "out of memory", 13) == 0, "the text of a refusal");
+    expect(ptree_refusal_text(PTREE_PIECES, out, 80) == 27 && memcmp(out, "the pieces are not readable", 27) == 0, "a text without a preset");
     expect(ptree_refusal_text(99, out, 0) == 14, "the text of no refusal");
 }
 
@@ -338,6 +342,11 @@ static void draws_by_fields(void) {
     draws_as(&given, "\x1b[1m\x1b[38;5;9mr\x1b[0m\n", "an unknown name");
     config->styled = PTREE_TTY;
     draws_as(&given, "r\n", "no terminal");
+    config->styled = PTREE_TTY + 1;
+    refuses_config(&given, PTREE_STYLED, "the first number that styles nothing");
+    config->styled = UINT32_MAX;
+    refuses_config(&given, PTREE_STYLED, "the last number that styles nothing");
+    config->styled = PTREE_TTY;
     config->leaf.foreground.kind = 12;
     refuses_config(&given, PTREE_COLOR, "no colour");
     config->leaf.foreground.kind = UINT32_MAX;
@@ -479,7 +488,47 @@ static uint32_t call_once(const char *call) {
     return call_by_fields(call);
 }
 
+/* Makes a call over many items, whose levels are 1 to 8 again and again. So the cost of an item can be counted. */
+static uint32_t call_with_many(const char *call, size_t count) {
+    struct ptree_item *many = malloc(count * sizeof *many);
+    struct ptree_step *given = malloc(count * sizeof *given);
+    struct ptree_edge *edges = malloc(count * sizeof *edges);
+    size_t *ends = malloc(count * sizeof *ends), size = 64 * count;
+    uint8_t *labels = malloc(count), *out = malloc(size), names[64], path[8];
+    struct ptree_config config;
+    struct ptree_found found;
+    uint32_t refusal = ptree_config(PTREE_CARGO_TREE, &config, names, 64, &found);
+    memset(labels, 'x', count);
+    for (size_t i = 0; i < count; i++) {
+        uint32_t level = i ? 1 + (uint32_t)(i - 1) % 8 : 0;
+        many[i] = (struct ptree_item){i + 1, level};
+        given[i] = (struct ptree_step){{i, i + 1}, level, level > 1};
+        edges[i] = (struct ptree_edge){i / 2, i};
+        ends[i] = i + 1;
+    }
+    if (strcmp(call, "steps") == 0) {
+        refusal |= ptree_draw_steps(given, count, labels, count, path, 8, &config, names, 64, out, size, &found);
+    } else if (strcmp(call, "once") == 0) {
+        refusal |= ptree_draw_once(ends, count, labels, count, edges, count, 0, TEXT("!"), &config, names, 64, out, size, &found);
+        found.items = found.bytes > count ? count : 0;
+    } else {
+        refusal |= ptree_draw_with(many, count, labels, count, &config, names, 64, out, size, &found);
+        size = found.bytes;
+        if (strcmp(call, "read_with") == 0) {
+            refusal |= ptree_read_with(out, size, &config, names, 64, many, count, labels, count, &found);
+        }
+    }
+    free(many);
+    free(given);
+    free(edges);
+    free(ends);
+    free(labels);
+    free(out);
+    return refusal | (found.items != count);
+}
+
 int main(int count, char **words) {
+    if (count > 2) return (int)call_with_many(words[1], strtoul(words[2], NULL, 10));
     if (count > 1) return (int)call_once(words[1]);
     draws_into_each_size();
     draws_to_a_depth();

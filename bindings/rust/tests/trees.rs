@@ -211,10 +211,9 @@ fn the_first_wrong_line_is_reported() {
         characters: ASCII_CHARS_TICK.into(),
         ..PrintConfig::default()
     };
-    assert_eq!(
-        read_tree("r\n", &ticks).expect_err("pieces").kind(),
-        ErrorKind::InvalidInput
-    );
+    let error = read_tree("r\n", &ticks).expect_err("pieces");
+    assert_eq!(error.kind(), ErrorKind::InvalidInput);
+    assert_eq!(error.to_string(), "the pieces are not readable");
 }
 
 #[test]

@@ -59,7 +59,7 @@ characters_value texts c = record {
   empty = part_text texts c.empty;
 }
 
--- 0 is never, 1 is always, and any other number is on a terminal
+-- 0 is never, 1 is always, and 2 is on a terminal; the calls refuse any other number
 abbrev pub when_styled : ℕ → StyleWhen
 when_styled n = if nat_eq n 0 then Never else (if nat_eq n 1 then Always else Tty)
 

@@ -1,7 +1,7 @@
 -- The numbers of refusals.
 use Rattle.std.specs.Prelude.{ℕ}
 use Rattle.ptree_c.specs.declared.refusal.Refusal.{Refusal}
-use Rattle.ptree_c.specs.declared.refusal.Refusal.TheVariants.{Memory, Utf8, Level, Preset, Pieces, Line, Incomplete, Syntax, Float, Date, End, Format, Part, Color, Fault, Edge}
+use Rattle.ptree_c.specs.declared.refusal.Refusal.TheVariants.{Memory, Utf8, Level, Preset, Pieces, Line, Incomplete, Syntax, Float, Date, End, Format, Part, Color, Fault, Edge, Styled}
 
 -- the number of a refusal
 abbrev pub refusal_number : Refusal → ℕ
@@ -21,6 +21,7 @@ refusal_number Part = 13
 refusal_number Color = 14
 refusal_number (Fault n) = 15
 refusal_number (Edge n) = 16
+refusal_number Styled = 17
 
 -- the place of what was refused, or 0
 abbrev pub refusal_place : Refusal → ℕ
@@ -40,3 +41,4 @@ refusal_place Part = 0
 refusal_place Color = 0
 refusal_place (Fault n) = n
 refusal_place (Edge n) = n
+refusal_place Styled = 0

@@ -1,9 +1,10 @@
 //! Configurations and styles as C gives them: by their fields.
-ghost use Rattle.std.specs.Prelude.{◌≡◌, IfOk, option_map, string_bytes};
+ghost use Rattle.std.specs.Prelude.{◌≡◌, ◌<◌, IfOk, Err, option_map, string_bytes};
 ghost use Rattle.ptree.specs.Characters.{characters_of};
 ghost use Rattle.ptree.specs.Color.{color_of};
 ghost use Rattle.ptree.specs.Config.{config_of};
 ghost use Rattle.ptree.specs.Style.{style_of};
+ghost use Rattle.ptree_c.specs.declared.refusal.Refusal.TheVariants.{Styled};
 ghost use Rattle.ptree_c.specs.Fields.{part_text, color_value, is_set, style_value, characters_value, when_styled, config_value};
 
 use crate::items::text_between;
@@ -106,8 +107,8 @@ pub struct ConfigFields {
     /// The greatest level that is drawn.
     pub depth: u32,
 
-    /// When output is styled: 0 is never, 1 is always, and any other number is on a terminal, which
-    /// no call of this library draws to.
+    /// When output is styled: 0 is never, 1 is always, and 2 is on a terminal, which no call of this
+    /// library draws to.
     pub styled: u32,
 
     /// The width of a piece in characters, including the padding.
@@ -213,15 +214,15 @@ fn characters_of_fields(
 }
 
 // When output is styled, by a number.
-fn styled(number: u32) -> StyleWhen
-    ensures { result ≡ when_styled number }
+fn styled(number: u32) -> Result<StyleWhen, Refusal>
+    ensures ok { IfOk result (λ styled. styled ≡ when_styled number) }
+    ensures refused { 2 < number → result ≡ Err Styled }
 {
-    if number == 0 {
-        StyleWhen::Never
-    } else if number == 1 {
-        StyleWhen::Always
-    } else {
-        StyleWhen::Tty
+    match number {
+        0 => Ok(StyleWhen::Never),
+        1 => Ok(StyleWhen::Always),
+        2 => Ok(StyleWhen::Tty),
+        _ => Err(Refusal::Styled),
     }
 }
 
@@ -233,6 +234,7 @@ pub(crate) fn config_of_fields(
 ) -> Result<PrintConfig, Refusal>
     ensures { IfOk result (λ config. config_of config ≡ config_value texts.now fields.now) }
 {
+    let styled = styled(fields.styled)?;
     let characters = characters_of_fields(alloc, texts, &fields.characters)?;
     let branch = style_of_fields(alloc, texts, &fields.branch)?;
     let leaf = style_of_fields(alloc, texts, &fields.leaf)?;
@@ -241,7 +243,7 @@ pub(crate) fn config_of_fields(
         depth: fields.depth,
         indent: fields.indent,
         padding: fields.padding,
-        styled: styled(fields.styled),
+        styled,
         characters,
         branch,
         leaf,

@@ -21,7 +21,7 @@ pub enum Refusal {
     /// There is no preset of that number.
     Preset,
 
-    /// The pieces of the preset are not readable.
+    /// The pieces of the configuration are not readable.
     Pieces,
 
     /// This line, counted from 1, cannot continue the drawing.
@@ -57,6 +57,9 @@ pub enum Refusal {
 
     /// An end of the edge at this place, counted from 0, is no node.
     Edge(usize),
+
+    /// No output is styled by that number.
+    Styled,
 }
 
 impl From<AllocError> for Refusal {
@@ -102,6 +105,7 @@ impl Refusal {
             Refusal::Color => 14,
             Refusal::Fault(_) => 15,
             Refusal::Edge(_) => 16,
+            Refusal::Styled => 17,
         }
     }
 
@@ -140,7 +144,7 @@ fn text_of_number(number: u32) -> &'static str {
         2 => "a text is not UTF-8",
         3 => "no item can have that level there",
         4 => "there is no preset of that number",
-        5 => "the pieces of the preset are not readable",
+        5 => "the pieces are not readable",
         6 => "that line cannot continue the drawing",
         7 => "the text is incomplete",
         8 => "the document is invalid in its format",
@@ -152,6 +156,7 @@ fn text_of_number(number: u32) -> &'static str {
         14 => "there is no colour of that kind",
         15 => "the file or a variable is at fault",
         16 => "an end of an edge is no node",
+        17 => "there is no value of `styled` with that number",
         _ => "no such number",
     }
 }
