@@ -145,6 +145,24 @@ refuse_in_turn() {
     return 1
 }
 
+# Prints how many instructions a command takes, by valgrind. The only variables are those of the array `variables`.
+instructions() {
+    env -i "${variables[@]}" valgrind --tool=callgrind --callgrind-out-file=/dev/null --log-file="$scratch/counted" "$@" \
+        >"$scratch/out" 2>"$scratch/err"
+    sed -n 's/,//g; s/.* refs: *//p' "$scratch/counted"
+}
+
+# Checks how many instructions each further unit of a call takes, so that neither a cost passes that grows as the square of the size nor
+# one that is a third higher than before. Arguments: the call, the instructions of a size and of twice the size, the size, the most.
+expect_each() {
+    local each=$((($3 - $2) / $4))
+    if [ $each -gt 0 ] && [ $each -le "$5" ]; then
+        report ok "the cost of ${1//_/ } ($each instructions each)"
+    else
+        report no "the cost of ${1//_/ }: $each instructions each, and not at most $5"
+    fi
+}
+
 # Makes stubs, programs that stand in for the built one: one that does nothing, one that never has memory, one that prints its words and
 # its input, and one that prints one drawing. Argument: what the program says if memory runs out.
 make_stubs() {
