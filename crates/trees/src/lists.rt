@@ -24,7 +24,7 @@ use std::alloc::{AllocError, Global};
 /// before it don't, or the reverse, and there is no label. `Memory` if memory ran out.
 pub fn paths(alloc: Global, source: &Source, paths: Paths<'_>) -> Result<StringItem, Failure> {
     let given = given_paths(alloc, source, paths)?;
-    let root = paths.label.unwrap_or(given.root.unwrap_or("."));
+    let root = paths.label.unwrap_or(given.root());
     if paths.is_sorted {
         return Ok(sorted_paths_tree(alloc, root, given.paths.as_slice(), '/')?);
     }
@@ -37,8 +37,8 @@ struct Given<'a> {
     // The paths, without what stands before their first names.
     paths: Vec<&'a str>,
 
-    // The root at which they begin, `/` or `.`, if there are some.
-    root: Option<&'static str>,
+    // Whether they begin with a slash, if there are some.
+    is_absolute: Option<bool>,
 }
 
 // Returns the paths of an input.
@@ -50,7 +50,7 @@ fn given_paths<'a>(
     let end = if paths.ends_in_zero { '\0' } else { '\n' };
     let mut given = Given {
         paths: Vec::new(alloc),
-        root: None,
+        is_absolute: None,
     };
     for (i, path) in source.text.as_str().split_inclusive(end).enumerate() {
         if let Some(wrong) = given.push(without_end(path, end), paths.label.is_some())? {
@@ -70,6 +70,15 @@ fn without_end(path: &str, end: char) -> &str {
 }
 
 impl<'a> Given<'a> {
+    // Returns the text of the root.
+    fn root(&self) -> &'static str {
+        if self.is_absolute.unwrap_or(false) {
+            "/"
+        } else {
+            "."
+        }
+    }
+
     // Takes a path, or says what is wrong with it. A label is a root for all paths.
     fn push(&mut self, path: &'a str, has_label: bool) -> Result<Option<&'static str>, AllocError> {
         if path.is_empty() {
@@ -78,11 +87,11 @@ impl<'a> Given<'a> {
         if path.contains('\0') {
             return Ok(Some("a zero byte; -0 takes paths that end in one"));
         }
-        let root = if path.starts_with('/') { "/" } else { "." };
-        if !has_label && self.root.unwrap_or(root) != root {
+        let is_absolute = path.starts_with('/');
+        if !has_label && self.is_absolute.unwrap_or(is_absolute) != is_absolute {
             return Ok(Some("only some paths begin with /; --label gives a root for all"));
         }
-        self.root = Some(root);
+        self.is_absolute = Some(is_absolute);
         let path = path.strip_prefix("./").unwrap_or(path);
         let path = path.trim_start_matches('/').trim_end_matches('/');
         if !path.is_empty() && path != "." {
