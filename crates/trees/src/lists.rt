@@ -23,41 +23,59 @@ use std::alloc::{AllocError, Global};
 /// `Input` with the number of the path if it holds a zero byte, or if it begins with `/` and those
 /// before it don't, or the reverse, and there is no label. `Memory` if memory ran out.
 pub fn paths(alloc: Global, source: &Source, paths: Paths<'_>) -> Result<StringItem, Failure> {
-    let given = given_paths(alloc, source, paths)?;
-    let root = paths.label.unwrap_or(given.root());
-    if paths.is_sorted {
-        return Ok(sorted_paths_tree(alloc, root, given.paths.as_slice(), '/')?);
-    }
-    Ok(paths_tree(alloc, root, given.paths.as_slice(), '/')?)
-}
-
-// Paths below one root.
-#[derive(Drop)]
-struct Given<'a> {
-    // The paths, without what stands before their first names.
-    paths: Vec<&'a str>,
-
-    // Whether they begin with a slash, if there are some.
-    is_absolute: Option<bool>,
-}
-
-// Returns the paths of an input.
-fn given_paths<'a>(
-    alloc: Global,
-    source: &'a Source,
-    paths: Paths<'_>,
-) -> Result<Given<'a>, Failure> {
-    let end = if paths.ends_in_zero { '\0' } else { '\n' };
-    let mut given = Given {
-        paths: Vec::new(alloc),
-        is_absolute: None,
-    };
-    for (i, path) in source.text.as_str().split_inclusive(end).enumerate() {
-        if let Some(wrong) = given.push(without_end(path, end), paths.label.is_some())? {
-            return Err(source.wrong_at(alloc, i.saturating_add(1), wrong)?);
+    let root = root_of(alloc, source, paths)?;
+    let end = end_of(paths);
+    let mut given = Vec::new(alloc);
+    for path in source.text.as_str().split_inclusive(end) {
+        let path = without_end(path, end);
+        let path = path.strip_prefix("./").unwrap_or(path);
+        let path = path.trim_start_matches('/').trim_end_matches('/');
+        if !path.is_empty() && path != "." {
+            given.push(path)?;
         }
     }
-    Ok(given)
+    if paths.is_sorted {
+        return Ok(sorted_paths_tree(alloc, root, given.as_slice(), '/')?);
+    }
+    Ok(paths_tree(alloc, root, given.as_slice(), '/')?)
+}
+
+// Checks paths, and returns the text of their root.
+fn root_of<'a>(alloc: Global, source: &Source, paths: Paths<'a>) -> Result<&'a str, Failure> {
+    let end = end_of(paths);
+    let mut is_absolute = None;
+    for (i, path) in source.text.as_str().split_inclusive(end).enumerate() {
+        let path = without_end(path, end);
+        if let Some(wrong) = wrong_path(path, paths.label, is_absolute) {
+            return Err(source.wrong_at(alloc, i.saturating_add(1), wrong)?);
+        }
+        if !path.is_empty() {
+            is_absolute = Some(path.starts_with('/'));
+        }
+    }
+    match paths.label {
+        Some(label) => Ok(label),
+        None if is_absolute.unwrap_or(false) => Ok("/"),
+        None => Ok("."),
+    }
+}
+
+// Returns what is wrong with a path, if anything. Without a label, all begin with a slash if those
+// before it do.
+fn wrong_path(path: &str, label: Option<&str>, is_absolute: Option<bool>) -> Option<&'static str> {
+    let begins = path.starts_with('/');
+    if path.contains('\0') {
+        Some("a zero byte; -0 takes paths that end in one")
+    } else if label.is_none() && !path.is_empty() && is_absolute.unwrap_or(begins) != begins {
+        Some("only some paths begin with /; --label gives a root for all")
+    } else {
+        None
+    }
+}
+
+// Returns what paths end in.
+fn end_of(paths: Paths<'_>) -> char {
+    if paths.ends_in_zero { '\0' } else { '\n' }
 }
 
 // Returns a path without what ends it: a zero byte, or a line feed with a carriage return before it.
@@ -66,38 +84,6 @@ fn without_end(path: &str, end: char) -> &str {
         Some(path) if end == '\n' => path.strip_suffix('\r').unwrap_or(path),
         Some(path) => path,
         None => path,
-    }
-}
-
-impl<'a> Given<'a> {
-    // Returns the text of the root.
-    fn root(&self) -> &'static str {
-        if self.is_absolute.unwrap_or(false) {
-            "/"
-        } else {
-            "."
-        }
-    }
-
-    // Takes a path, or says what is wrong with it. A label is a root for all paths.
-    fn push(&mut self, path: &'a str, has_label: bool) -> Result<Option<&'static str>, AllocError> {
-        if path.is_empty() {
-            return Ok(None);
-        }
-        if path.contains('\0') {
-            return Ok(Some("a zero byte; -0 takes paths that end in one"));
-        }
-        let is_absolute = path.starts_with('/');
-        if !has_label && self.is_absolute.unwrap_or(is_absolute) != is_absolute {
-            return Ok(Some("only some paths begin with /; --label gives a root for all"));
-        }
-        self.is_absolute = Some(is_absolute);
-        let path = path.strip_prefix("./").unwrap_or(path);
-        let path = path.trim_start_matches('/').trim_end_matches('/');
-        if !path.is_empty() && path != "." {
-            self.paths.push(path)?;
-        }
-        Ok(None)
     }
 }
 
