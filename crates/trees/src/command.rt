@@ -19,7 +19,7 @@ pub enum Command<'a> {
     Indented(&'a Source, Indented<'a>),
 
     /// Says whether texts are drawings, made with these pieces.
-    Check(&'a [Source], Option<Pieces>),
+    Check(&'a [Source], Option<Pieces>, Screen),
 
     /// Draws a drawing with other pieces.
     Convert(&'a Source, Convert<'a>),
@@ -136,7 +136,10 @@ pub struct Indented<'a> {
     pub unit: Result<&'a str, Usage<'a>>,
 
     /// What stands before the text of each line.
-    pub bullet: &'a str,
+    pub bullet: Option<&'a str>,
+
+    /// Whether it is written to a terminal.
+    pub is_terminal: bool,
 }
 
 /// Options of `convert`.

@@ -16,9 +16,12 @@ use std::alloc::{AllocError, Global};
 ///
 /// # Errors
 ///
-/// `Input` with the first wrong line if the text is no drawing, and with the name of other pieces
-/// under which it is one. `Memory` if memory ran out.
+/// `Input` if the text could not be read, or with the first wrong line if it is no drawing, and with
+/// the name of other pieces under which it is one. `Memory` if memory ran out.
 pub fn read(alloc: Global, source: &Source, config: &PrintConfig) -> Result<StringItem, Failure> {
+    if let Some(fault) = &source.fault {
+        return Err(Failure::Input(fault.clone()?));
+    }
     if !pieces_readable(alloc, config)? {
         return Err(Usage::Unreadable.failure(alloc)?);
     }

@@ -9,8 +9,8 @@ use std::alloc::{AllocError, Global};
 // How many levels are tried. Each takes a reading of the text before.
 const LEVELS: u8 = 32;
 
-/// Returns the prefixes of lines that could follow these lines of a drawing, each on a line of its
-/// own after two blanks. A text follows each of them.
+/// Returns the prefixes of an item's line that could follow these lines of a drawing, each once, on a
+/// line of its own after two blanks. A text follows each of them.
 ///
 /// It tries the first 32 levels, from the root on.
 ///
@@ -24,22 +24,74 @@ pub fn beginnings(alloc: Global, before: &str, config: &PrintConfig) -> Result<S
     let mut found = String::new(alloc);
     let mut front = String::new(alloc);
     let mut rest = last_line(before);
-    for _level in 0..LEVELS {
-        for piece in [
-            indent.regular_prefix.as_str(),
-            indent.last_regular_prefix.as_str(),
-        ] {
-            if can_follow(alloc, before, front.as_str(), piece, config)? {
-                push_line(&mut found, front.as_str(), piece)?;
+    for level in 1..=LEVELS {
+        push_items(alloc, &mut found, before, front.as_str(), &indent, config)?;
+        if let Some((piece, left)) = passing(&indent, rest) {
+            front.push_str(piece)?;
+            rest = left;
+        } else {
+            if level < LEVELS {
+                push_below(
+                    alloc,
+                    &mut found,
+                    before,
+                    front.as_str(),
+                    rest,
+                    &indent,
+                    config,
+                )?;
             }
-        }
-        let Some((piece, left)) = passing(&indent, rest) else {
             break;
-        };
-        front.push_str(piece)?;
-        rest = left;
+        }
     }
     Ok(found)
+}
+
+// Adds what could follow below the item whose line goes on so behind the passing pieces. If the
+// pieces of items are equal, it may be a last child or not.
+fn push_below(
+    alloc: Global,
+    found: &mut String,
+    before: &str,
+    front: &str,
+    rest: &str,
+    indent: &Indent,
+    config: &PrintConfig,
+) -> Result<(), AllocError>
+    requires { HasReadablePieces config.now }
+{
+    let (child, last) = (&indent.child_prefix, &indent.last_child_prefix);
+    let is_child = rest.starts_with(indent.regular_prefix.as_str());
+    if is_child {
+        let front = format!(in alloc; "{front}{child}")?;
+        push_items(alloc, found, before, front.as_str(), indent, config)?;
+    }
+    if rest.starts_with(indent.last_regular_prefix.as_str()) && !(is_child && child == last) {
+        let front = format!(in alloc; "{front}{last}")?;
+        push_items(alloc, found, before, front.as_str(), indent, config)?;
+    }
+    Ok(())
+}
+
+// Adds the prefixes of items that could follow behind these passing pieces.
+fn push_items(
+    alloc: Global,
+    found: &mut String,
+    before: &str,
+    front: &str,
+    indent: &Indent,
+    config: &PrintConfig,
+) -> Result<(), AllocError>
+    requires { HasReadablePieces config.now }
+{
+    let (regular, last) = (&indent.regular_prefix, &indent.last_regular_prefix);
+    if can_follow(alloc, before, front, regular.as_str(), config)? {
+        push_line(found, front, regular.as_str())?;
+    }
+    if last != regular && can_follow(alloc, before, front, last.as_str(), config)? {
+        push_line(found, front, last.as_str())?;
+    }
+    Ok(())
 }
 
 // Returns the last line of whole lines.
@@ -51,24 +103,15 @@ fn last_line(text: &str) -> &str {
     }
 }
 
-// Returns the piece that passes below the next piece of a line, and what follows that one. Nothing
-// follows the piece of an item's own line.
+// Returns the passing piece with which a line begins, and what follows it.
 fn passing<'a>(indent: &'a Indent, line: &'a str) -> Option<(&'a str, &'a str)> {
-    let (child, last) = (
+    for piece in [
         indent.child_prefix.as_str(),
         indent.last_child_prefix.as_str(),
-    );
-    if let Some(rest) = line.strip_prefix(child) {
-        return Some((child, rest));
-    }
-    if let Some(rest) = line.strip_prefix(last) {
-        return Some((last, rest));
-    }
-    if line.starts_with(indent.regular_prefix.as_str()) {
-        return Some((child, ""));
-    }
-    if line.starts_with(indent.last_regular_prefix.as_str()) {
-        return Some((last, ""));
+    ] {
+        if let Some(rest) = line.strip_prefix(piece) {
+            return Some((piece, rest));
+        }
     }
     None
 }

@@ -80,7 +80,7 @@ pub const PATHS: &str = "\
 usage: trees paths [-0] [--sort] [--keep TEXT] [--label TEXT] [--depth N] [--as PIECES]
                    [--color WHEN] [FILE]
 
-Draws paths, one on each line.
+Draws paths, one on each line. All of them begin with /, or none does, unless there is a label.
 
   -0, --null    each path ends in a zero byte, as after find -print0
   --sort        sort the names in each folder by their bytes
@@ -94,7 +94,7 @@ usage: trees outline [--unit UNIT] [--bullet TEXT] [--label TEXT] [--depth N] [-
                      [--color WHEN] [FILE]
 
 Draws indented text. The first line is the root; each level further has one unit more before
-its text.
+its text. Blank lines don't count.
 
   --unit UNIT    tab, or a number of blanks; else it is the indent of the first line that has one
   --bullet TEXT  what stands before each text; else it is -, * or + if the first line has it
@@ -105,7 +105,8 @@ its text.
 pub const INDENTED: &str = "\
 usage: trees indented [--unit UNIT] [--bullet TEXT] [--as PIECES] [FILE]
 
-Writes a drawing as indented text.
+Writes a drawing as indented text, which outline with the same options draws again. What would
+be lost there is refused.
 
   --unit UNIT    tab, or a number of blanks; 2 by default
   --bullet TEXT  what to write before each text, as a dash and a blank
@@ -117,7 +118,7 @@ pub const CHECK: &str = "\
 usage: trees check [--as PIECES] [FILE..]
 
 Says whether texts are drawings. If one isn't, it says which line cannot continue the drawing,
-and with which pieces it would be one; the status is 1 then.
+and with which pieces it would be one; the status is 1 then, and if a file can't be read.
 
   --as PIECES   the pieces of the drawings; else those of the settings
 ";

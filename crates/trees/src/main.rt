@@ -26,7 +26,7 @@ use ptree::buffered::Buffered;
 use ptree::style::Counted;
 use ptree_sources::surroundings::{Surroundings, gather};
 use run::run;
-use screen::Screen;
+use screen::{Screen, shown};
 use std::env::{self, VarError};
 use std::io::{self, ErrorKind, IsTerminal};
 use std::process::ExitCode;
@@ -89,12 +89,22 @@ fn run_streams(
 // Says on standard error why the call did not do what it was asked. A fault there changes nothing.
 fn tell(rt: &HostRuntime, failure: &Failure) {
     let _ = match failure {
-        Failure::Usage(text) => eprintln!(rt; "trees: {text}"),
-        Failure::Input(text) => eprintln!(rt; "trees: {text}"),
+        Failure::Usage(text) | Failure::Input(text) => tell_text(rt, text.as_str()),
         Failure::Output(ErrorKind::BrokenPipe) | Failure::Said => Ok(()),
         Failure::Output(_) => eprintln!(rt; "trees: cannot write"),
         Failure::Memory => eprintln!(rt; "trees: out of memory"),
     };
+}
+
+// Says a text on standard error, as a terminal may get it if that is one.
+fn tell_text(rt: &HostRuntime, text: &str) -> io::Result<()> {
+    if !rt.stderr().is_terminal() {
+        return eprintln!(rt; "trees: {text}");
+    }
+    match shown(rt.alloc(), text) {
+        Ok(text) => eprintln!(rt; "trees: {text}"),
+        Err(_) => eprintln!(rt; "trees: out of memory"),
+    }
 }
 
 fn main(rt: HostRuntime) -> ExitCode {

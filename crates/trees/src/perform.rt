@@ -5,6 +5,7 @@ use crate::compare::{self, Look};
 use crate::deps::{Dependencies, read_dependencies};
 use crate::failure::Failure;
 use crate::pieces::Pieces;
+use crate::screen::{Screen, shown};
 use crate::source::Source;
 use crate::{document, drawings, lists, settings};
 use ptree::graph::{REPEATED_MARK, write_graph_once_with, write_graph_with};
@@ -35,7 +36,9 @@ pub fn perform<W: Sink>(
         ),
         Command::Deps(source, deps, drawing) => draw_deps(alloc, source, deps, drawing, out, found),
         Command::Indented(source, indented) => write_indented(alloc, source, indented, out, found),
-        Command::Check(sources, pieces) => check(alloc, sources, pieces, out, found),
+        Command::Check(sources, pieces, screen) => {
+            check(alloc, sources, pieces, screen, out, found)
+        }
         Command::Convert(source, convert) => draw_converted(alloc, source, convert, out, found),
         Command::Diff(left, right, diff) => compare_drawings(alloc, left, right, diff, out, found),
         Command::Config => show_settings(alloc, out, found),
@@ -264,6 +267,7 @@ fn check<W: Sink>(
     alloc: Global,
     sources: &[Source],
     pieces: Option<Pieces>,
+    screen: Screen,
     out: &mut W,
     found: &Surroundings,
 ) -> Result<(), Failure> {
@@ -273,6 +277,9 @@ fn check<W: Sink>(
         if !push_check(alloc, &mut said, source, pieces, found)? {
             is_refusal = true;
         }
+    }
+    if screen.is_terminal {
+        return say(out, shown(alloc, said.as_str())?.as_str(), is_refusal);
     }
     say(out, said.as_str(), is_refusal)
 }
@@ -288,7 +295,8 @@ fn push_check(
     match read_drawing(alloc, source, pieces, found) {
         Ok(tree) => {
             let n = drawings::count(alloc, &tree)?;
-            writeln!(said, "{}: a drawing of {n} items", source.name)?;
+            let items = if n == 1 { "item" } else { "items" };
+            writeln!(said, "{}: a drawing of {n} {items}", source.name)?;
             Ok(true)
         }
         Err(Failure::Input(wrong)) => {

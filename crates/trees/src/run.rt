@@ -2,7 +2,7 @@
 
 use crate::failure::Failure;
 use crate::help;
-use crate::names::Opt;
+use crate::names::{CommandName, Opt};
 use crate::perform::perform;
 use crate::screen::Screen;
 use crate::source::Source;
@@ -73,9 +73,24 @@ fn read_sources<R: Files + AllocGlobal, I: Read>(
     };
     let mut sources = Vec::new(rt.alloc());
     for path in paths {
-        sources.push(Source::read(rt, path, input)?)?;
+        sources.push(read_source(rt, words.name, path, input)?)?;
     }
     Ok(sources)
+}
+
+// Reads an input. `check` goes on if it can't be read.
+fn read_source<R: Files + AllocGlobal, I: Read>(
+    rt: &R,
+    command: CommandName,
+    path: &str,
+    input: &mut I,
+) -> Result<Source, Failure> {
+    match Source::read(rt, path, input) {
+        Err(Failure::Input(fault)) if command == CommandName::Check => {
+            Ok(Source::unread(rt.alloc(), fault))
+        }
+        read => read,
+    }
 }
 
 // Runs the command over its inputs.

@@ -1,6 +1,8 @@
 //! What standard output is.
 
 use ptree::print_config::StyleWhen;
+use ptree_trees::escape::escaped;
+use std::alloc::{AllocError, Global};
 
 /// What standard output is.
 #[derive(Clone, Copy)]
@@ -21,4 +23,20 @@ impl Screen {
             other => other,
         }
     }
+}
+
+/// Returns lines as a terminal may get them: each character is escaped that it would act on, but no
+/// line feed. Backslashes stay, since a part of a line may be escaped already.
+///
+/// # Errors
+///
+/// Memory ran out.
+pub fn shown(alloc: Global, lines: &str) -> Result<String, AllocError> {
+    let mut shown = String::new(alloc);
+    for part in lines.split_inclusive(['\n', '\\']) {
+        let rest = part.trim_end_matches(['\n', '\\']);
+        shown.push_str(escaped(alloc, rest)?.as_str())?;
+        shown.push_str(part.strip_prefix(rest).unwrap_or(""))?;
+    }
+    Ok(shown)
 }

@@ -11,6 +11,9 @@ use std::rt::Files;
 pub struct Source {
     pub name: String,
     pub text: String,
+
+    /// What is said if it could not be read. Then its text is empty.
+    pub fault: Option<String>,
 }
 
 impl Source {
@@ -31,6 +34,15 @@ impl Source {
         match fs::read_to_string(rt, path) {
             Ok(text) => named(alloc, path, text),
             Err(e) => Err(unreadable(alloc, path, e)?),
+        }
+    }
+
+    /// Returns an input that could not be read.
+    pub fn unread(alloc: Global, fault: String) -> Source {
+        Source {
+            name: String::new(alloc),
+            text: String::new(alloc),
+            fault: Some(fault),
         }
     }
 
@@ -78,6 +90,7 @@ fn named(alloc: Global, name: &str, text: String) -> Result<Source, Failure> {
     Ok(Source {
         name: String::from_str(alloc, name)?,
         text,
+        fault: None,
     })
 }
 

@@ -46,6 +46,9 @@ pub enum Usage<'a> {
     /// A text is no bullet.
     Bullet,
 
+    /// A text cannot be the root of an outline.
+    Label,
+
     /// `config` is given a file.
     ConfigFile,
 
@@ -94,6 +97,7 @@ impl<'a> Usage<'a> {
             Usage::Unreadable => ("drawings with these pieces cannot be read back", "", ""),
             Usage::Unit => ("--unit needs a number of blanks up to 99, or tab", "", ""),
             Usage::Bullet => ("a bullet is one line, and begins with no blank", "", ""),
+            Usage::Label => ("--label needs one line that begins with no blank", "", ""),
             Usage::ConfigFile => ("config reads no file", "", ""),
             Usage::TwoFiles => ("diff needs two files", "", ""),
             Usage::OneFile => ("more than one file", "", ""),

@@ -137,8 +137,8 @@ impl<'a> Words<'a> {
             (CommandName::Deps, [source]) => self.deps(source, screen),
             (CommandName::Paths, [source]) => self.draw(source, Tree::Paths(self.paths()), screen),
             (CommandName::Outline, [source]) => self.outline(source, screen),
-            (CommandName::Indented, [source]) => self.indented(source),
-            (CommandName::Check, _) => Ok(Command::Check(sources, self.pieces(Opt::As)?)),
+            (CommandName::Indented, [source]) => self.indented(source, screen),
+            (CommandName::Check, _) => Ok(Command::Check(sources, self.pieces(Opt::As)?, screen)),
             (CommandName::Convert, [source]) => self.convert(source, screen),
             (CommandName::Diff, [left, right]) => self.diff(left, right, screen),
             (CommandName::Diff, _) => Err(Usage::TwoFiles),
@@ -202,11 +202,12 @@ impl<'a> Words<'a> {
     }
 
     // Returns the command `indented`.
-    fn indented(&self, source: &'a Source) -> Result<Command<'a>, Usage<'a>> {
+    fn indented(&self, source: &'a Source, screen: Screen) -> Result<Command<'a>, Usage<'a>> {
         let indented = Indented {
             pieces: self.pieces(Opt::As)?,
             unit: parse_unit(self.value(Opt::Unit).unwrap_or("2")),
-            bullet: self.value(Opt::Bullet).unwrap_or(""),
+            bullet: self.value(Opt::Bullet),
+            is_terminal: screen.is_terminal,
         };
         Ok(Command::Indented(source, indented))
     }
