@@ -10,3 +10,4 @@ pub mod input;
 pub mod opened;
 pub mod paths;
 pub mod surroundings;
+pub mod words;

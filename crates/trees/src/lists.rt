@@ -2,6 +2,7 @@
 
 use crate::command::{Indented, Outline, Paths};
 use crate::failure::Failure;
+use crate::levels::{TOO_DEEP, deep_line, has_more_names};
 use crate::source::Source;
 use crate::usage::Usage;
 use ptree::item::StringItem;
@@ -19,27 +20,39 @@ use std::alloc::{AllocError, Global};
 ///
 /// # Errors
 ///
-/// Memory ran out.
-pub fn paths(alloc: Global, source: &Source, paths: Paths<'_>) -> Result<StringItem, AllocError> {
-    let end = if paths.ends_in_zero { '\0' } else { '\n' };
-    let text = source.text.as_str();
+/// `Input` if a path has more names than there are levels, and `Memory`.
+pub fn paths(alloc: Global, source: &Source, paths: Paths<'_>) -> Result<StringItem, Failure> {
+    let given = given_paths(alloc, source, paths.ends_in_zero)?;
+    let root = match paths.label {
+        Some(label) => label,
+        None if source.text.as_str().starts_with('/') => "/",
+        None => ".",
+    };
+    if paths.is_sorted {
+        return Ok(sorted_paths_tree(alloc, root, given.as_slice(), '/')?);
+    }
+    Ok(paths_tree(alloc, root, given.as_slice(), '/')?)
+}
+
+// Returns the paths of a text.
+fn given_paths<'a>(
+    alloc: Global,
+    source: &'a Source,
+    ends_in_zero: bool,
+) -> Result<Vec<&'a str>, Failure> {
+    let end = if ends_in_zero { '\0' } else { '\n' };
     let mut given = Vec::new(alloc);
-    for path in text.split(end) {
+    for (i, path) in source.text.as_str().split(end).enumerate() {
         let path = path.strip_prefix("./").unwrap_or(path);
         let path = path.trim_start_matches('/').trim_end_matches('/');
+        if has_more_names(path) {
+            return Err(source.wrong_at(alloc, i.saturating_add(1), TOO_DEEP)?);
+        }
         if !path.is_empty() && path != "." {
             given.push(path)?;
         }
     }
-    let root = match paths.label {
-        Some(label) => label,
-        None if text.starts_with('/') => "/",
-        None => ".",
-    };
-    if paths.is_sorted {
-        return sorted_paths_tree(alloc, root, given.as_slice(), '/');
-    }
-    paths_tree(alloc, root, given.as_slice(), '/')
+    Ok(given)
 }
 
 /// Returns the tree of an indented text.
@@ -65,6 +78,9 @@ pub fn outline(
     }
     let text = whole(alloc, given, &form, outline.label)?;
     let above = if outline.label.is_some() { 1 } else { 0 };
+    if let Some(line) = deep_line(text.as_str(), form.unit) {
+        return Err(source.wrong_at(alloc, line.saturating_sub(above), TOO_DEEP)?);
+    }
     match read_indented(alloc, text.as_str(), &form) {
         Ok(tree) => Ok(tree),
         Err(wrong) => Err(wrong_indent(alloc, source, wrong, above)?),
