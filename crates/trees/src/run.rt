@@ -13,7 +13,7 @@ use std::env::Env;
 use std::io::Read;
 use std::rt::Files;
 
-/// Runs the words of a call. The settings are gathered once the words are found to be right.
+/// Runs the words of a call. The settings are gathered once its command and inputs are known.
 ///
 /// # Errors
 ///
