@@ -1,5 +1,6 @@
 //! The commands, with their inputs and the values of their options.
 
+use crate::levels::LEVELS;
 use crate::pieces::Pieces;
 use crate::screen::Screen;
 use crate::source::Source;
@@ -61,7 +62,7 @@ impl Drawing {
     pub fn read_with(pieces: Option<Pieces>) -> Drawing {
         Drawing {
             pieces,
-            depth: Some(u32::MAX),
+            depth: Some(LEVELS),
             styled: Some(StyleWhen::Never),
             screen: Screen {
                 is_terminal: false,

@@ -116,8 +116,12 @@ fn passing<'a>(indent: &'a Indent, line: &'a str) -> Option<(&'a str, &'a str)> 
     None
 }
 
-// Whether an item that begins so can follow lines of a drawing.
-fn can_follow(
+/// Whether an item that begins so can follow lines of a drawing.
+///
+/// # Errors
+///
+/// Memory ran out.
+pub fn can_follow(
     alloc: Global,
     before: &str,
     front: &str,

@@ -2,6 +2,7 @@
 
 use crate::command::{Indented, Outline, Paths};
 use crate::failure::Failure;
+use crate::levels::{TOO_DEEP, deep_line, has_more_names};
 use crate::source::Source;
 use crate::usage::Usage;
 use ptree::item::StringItem;
@@ -20,24 +21,29 @@ use std::alloc::{AllocError, Global};
 ///
 /// # Errors
 ///
-/// `Input` with the number of the path if it holds a zero byte, or if it begins with `/` and those
-/// before it don't, or the reverse, and there is no label. `Memory` if memory ran out.
+/// `Input` with the number of the path if it holds a zero byte, or has more names than there are
+/// levels, or if it begins with `/` and those before it don't, or the reverse, and there is no
+/// label. `Memory` if memory ran out.
 pub fn paths(alloc: Global, source: &Source, paths: Paths<'_>) -> Result<StringItem, Failure> {
     let root = root_of(alloc, source, paths)?;
     let end = end_of(paths);
     let mut given = Vec::new(alloc);
     for path in source.text.as_str().split_inclusive(end) {
-        let path = without_end(path, end);
-        let path = path.strip_prefix("./").unwrap_or(path);
-        let path = path.trim_start_matches('/').trim_end_matches('/');
-        if !path.is_empty() && path != "." {
-            given.push(path)?;
+        let names = names_of(without_end(path, end));
+        if !names.is_empty() && names != "." {
+            given.push(names)?;
         }
     }
     if paths.is_sorted {
         return Ok(sorted_paths_tree(alloc, root, given.as_slice(), '/')?);
     }
     Ok(paths_tree(alloc, root, given.as_slice(), '/')?)
+}
+
+// Returns the names of a path.
+fn names_of(path: &str) -> &str {
+    let path = path.strip_prefix("./").unwrap_or(path);
+    path.trim_start_matches('/').trim_end_matches('/')
 }
 
 // Checks paths, and returns the text of their root.
@@ -66,6 +72,8 @@ fn wrong_path(path: &str, label: Option<&str>, is_absolute: Option<bool>) -> Opt
     let begins = path.starts_with('/');
     if path.contains('\0') {
         Some("a zero byte; -0 takes paths that end in one")
+    } else if has_more_names(names_of(path)) {
+        Some(TOO_DEEP)
     } else if label.is_none() && !path.is_empty() && is_absolute.unwrap_or(begins) != begins {
         Some("only some paths begin with /; --label gives a root for all")
     } else {
@@ -115,6 +123,10 @@ pub fn outline(
     }
     let text = whole(alloc, given, &form, outline.label)?;
     let above = if outline.label.is_some() { 1 } else { 0 };
+    if let Some(line) = deep_line(text.as_str(), form.unit) {
+        let line = line_of(given, line.saturating_sub(above));
+        return Err(source.wrong_at(alloc, line, TOO_DEEP)?);
+    }
     match read_indented(alloc, text.as_str(), &form) {
         Ok(tree) => Ok(tree),
         Err(wrong) => Err(wrong_indent(alloc, source, wrong, above)?),

@@ -9,6 +9,7 @@ mod drawings;
 mod expected;
 mod failure;
 mod help;
+mod levels;
 mod lists;
 mod names;
 mod perform;
@@ -24,7 +25,7 @@ mod words;
 use failure::Failure;
 use ptree::buffered::Buffered;
 use ptree::style::Counted;
-use ptree_sources::surroundings::{Surroundings, gather};
+use ptree_sources::words::words;
 use run::run;
 use screen::{Screen, shown};
 use std::env::{self, VarError};
@@ -37,12 +38,11 @@ const ROOM: usize = 8192;
 
 // Returns the words of the call.
 fn arguments(rt: &HostRuntime) -> Result<Vec<String>, Failure> {
-    let words = match env::args(rt) {
-        Ok(words) => words.skip(1).collect(rt.alloc())?,
-        Err(e) if e.kind() == ErrorKind::OutOfMemory => return Err(Failure::Memory),
-        Err(_) => return Err(Usage::NotUtf8.failure(rt.alloc())?),
-    };
-    Ok(words)
+    match words(rt, rt.alloc()) {
+        Ok(words) => Ok(words),
+        Err(e) if e.kind() == ErrorKind::OutOfMemory => Err(Failure::Memory),
+        Err(_) => Err(Usage::NotUtf8.failure(rt.alloc())?),
+    }
 }
 
 // Returns what standard output is. Drawings are coloured on a terminal, unless NO_COLOR is set.
@@ -65,20 +65,14 @@ fn find_screen(rt: &HostRuntime) -> Result<Screen, Failure> {
 fn run_process(rt: &HostRuntime) -> Result<(), Failure> {
     let words = arguments(rt)?;
     let screen = find_screen(rt)?;
-    let found = gather(rt, rt.alloc())?;
-    run_streams(rt, &words, screen, &found)
+    run_streams(rt, &words, screen)
 }
 
 // Runs the words of a call over the streams of the process.
-fn run_streams(
-    rt: &HostRuntime,
-    words: &[String],
-    screen: Screen,
-    found: &Surroundings,
-) -> Result<(), Failure> {
+fn run_streams(rt: &HostRuntime, words: &[String], screen: Screen) -> Result<(), Failure> {
     let mut input = rt.stdin();
     let mut out = Buffered::with_capacity(rt.alloc(), ROOM, Counted::new(io::writer(rt)))?;
-    let end = run(rt, words, &mut input, &mut out, screen, found);
+    let end = run(rt, words, &mut input, &mut out, screen);
     match end {
         Ok(()) | Err(Failure::Said) => out.flush()?,
         Err(_) => {}

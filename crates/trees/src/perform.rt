@@ -4,6 +4,7 @@ use crate::command::{Command, Convert, Deps, Diff, Drawing, Indented, Tree};
 use crate::compare::{self, Look};
 use crate::deps::{Dependencies, read_dependencies};
 use crate::failure::Failure;
+use crate::levels::{LEVELS, TOO_DEEP, has_more_below};
 use crate::pieces::Pieces;
 use crate::screen::{Screen, shown};
 use crate::source::Source;
@@ -51,7 +52,7 @@ enum Drawn<'a> {
     Tree(&'a StringItem),
 
     // Whether what is below a node is drawn wherever the node stands.
-    Graph(&'a Dependencies, bool),
+    Graph(&'a Source, &'a Dependencies, bool),
 
     // Two trees in one.
     Both(&'a StringItem, &'a StringItem),
@@ -147,7 +148,9 @@ fn write_drawing<W: Sink>(
 ) -> Result<(), Failure> {
     match drawn {
         Drawn::Tree(tree) => write_tree(alloc, tree, is_terminal, out, config),
-        Drawn::Graph(graph, walks) => write_graph(alloc, graph, walks, out, config),
+        Drawn::Graph(source, graph, walks) => {
+            write_graph(alloc, source, graph, walks, out, config)
+        }
         Drawn::Both(left, right) => write_both(alloc, left, right, is_terminal, out, config),
     }
 }
@@ -206,7 +209,7 @@ fn draw_deps<W: Sink>(
     let dependencies = read_dependencies(alloc, source, deps, drawing.screen.is_terminal)?;
     draw(
         alloc,
-        Drawn::Graph(&dependencies, deps.walks),
+        Drawn::Graph(source, &dependencies, deps.walks),
         drawing,
         out,
         found,
@@ -216,12 +219,17 @@ fn draw_deps<W: Sink>(
 // Writes the drawing of a graph: what is below a node once, or wherever the node stands.
 fn write_graph<W: Sink>(
     alloc: Global,
+    source: &Source,
     dependencies: &Dependencies,
     walks: bool,
     out: &mut W,
     config: &PrintConfig,
 ) -> Result<(), Failure> {
     let Dependencies { graph, root } = dependencies;
+    if config.depth > LEVELS && has_more_below(alloc, graph, *root, walks)? {
+        let wrong = format!(in alloc; "{TOO_DEEP}; a --depth draws fewer")?;
+        return Err(source.wrong(alloc, wrong.as_str())?);
+    }
     if walks {
         return Ok(write_graph_with(alloc, graph, *root, out, config)?);
     }

@@ -1,5 +1,6 @@
 //! The pieces that drawings are made with, by name.
 
+use crate::levels::LEVELS;
 use ptree::presets::Preset;
 use ptree::print_config::{
     ASCII_CHARS_PLUS, ASCII_CHARS_TICK, IndentChars, PrintConfig, StaticIndentChars, UTF_CHARS,
@@ -124,7 +125,8 @@ pub fn reading(alloc: Global, text: &str) -> Result<Option<&'static str>, AllocE
 
 // Whether a text is a drawing with these pieces.
 fn is_read_with(alloc: Global, text: &str, pieces: Pieces) -> Result<bool, AllocError> {
-    let config = pieces.config(alloc)?;
+    let mut config = pieces.config(alloc)?;
+    config.depth = LEVELS;
     is_read(alloc, text, &config)
 }
 

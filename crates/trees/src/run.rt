@@ -1,4 +1,4 @@
-//! Runs the words of a call over any files, reader and writer.
+//! Runs the words of a call over any surroundings, reader and writer.
 
 use crate::failure::Failure;
 use crate::help;
@@ -8,30 +8,32 @@ use crate::screen::Screen;
 use crate::source::Source;
 use crate::words::Words;
 use ptree::style::{Sink, put_all};
-use ptree_sources::surroundings::Surroundings;
-use std::alloc::Global;
+use ptree_sources::surroundings::gather;
+use std::env::Env;
 use std::io::Read;
 use std::rt::Files;
 
-/// Runs the words of a call.
+/// Runs the words of a call. The settings are gathered once its command and inputs are known.
 ///
 /// # Errors
 ///
 /// What went wrong. If standard output failed, a part of the output may have been written; else
 /// nothing was, except for `Said`.
-pub fn run<R: Files + AllocGlobal, I: Read, W: Sink>(
+pub fn run<R: Env + Files + AllocGlobal, I: Read, W: Sink>(
     rt: &R,
     words: &[String],
     input: &mut I,
     out: &mut W,
     screen: Screen,
-    found: &Surroundings,
-) -> Result<(), Failure> {
+) -> Result<(), Failure>
+where
+    R::File: Drop,
+{
     if let Some(page) = page(words) {
         return Ok(put_all(out, page.as_bytes())?);
     }
     match Words::parse(rt.alloc(), words) {
-        Ok(words) => run_words(rt, &words, input, out, screen, found),
+        Ok(words) => run_words(rt, &words, input, out, screen),
         Err(wrong) => Err(wrong.failure(rt.alloc())?),
     }
 }
@@ -46,19 +48,21 @@ fn page(words: &[String]) -> Option<&'static str> {
 }
 
 // Reads the inputs that words name, and runs the command over them.
-fn run_words<R: Files + AllocGlobal, I: Read, W: Sink>(
+fn run_words<R: Env + Files + AllocGlobal, I: Read, W: Sink>(
     rt: &R,
     words: &Words<'_>,
     input: &mut I,
     out: &mut W,
     screen: Screen,
-    found: &Surroundings,
-) -> Result<(), Failure> {
+) -> Result<(), Failure>
+where
+    R::File: Drop,
+{
     if words.has(Opt::Help) {
         return Ok(put_all(out, words.name.help().as_bytes())?);
     }
     let sources = read_sources(rt, words, input)?;
-    run_over(rt.alloc(), words, sources.as_slice(), out, screen, found)
+    run_over(rt, words, sources.as_slice(), out, screen)
 }
 
 // Reads the inputs that words name.
@@ -93,17 +97,20 @@ fn read_source<R: Files + AllocGlobal, I: Read>(
     }
 }
 
-// Runs the command over its inputs.
-fn run_over<W: Sink>(
-    alloc: Global,
+// Runs the command over its inputs and the settings.
+fn run_over<R: Env + Files + AllocGlobal, W: Sink>(
+    rt: &R,
     words: &Words<'_>,
     sources: &[Source],
     out: &mut W,
     screen: Screen,
-    found: &Surroundings,
-) -> Result<(), Failure> {
+) -> Result<(), Failure>
+where
+    R::File: Drop,
+{
+    let alloc = rt.alloc();
     match words.command(sources, screen) {
-        Ok(command) => perform(alloc, command, out, found),
+        Ok(command) => perform(alloc, command, out, &gather(rt, alloc)?),
         Err(wrong) => Err(wrong.failure(alloc)?),
     }
 }
