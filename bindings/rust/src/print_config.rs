@@ -137,7 +137,6 @@ impl PrintConfig {
 // The configuration file, if there is one. That a named one is missing is an error.
 fn find_file() -> io::Result<Option<PathBuf>> {
     let (base, is_named) = match env::var_os("PTREE_CONFIG") {
-        Some(named) if named == "/dev/null" => return Ok(None),
         Some(named) => (PathBuf::from(named), true),
         None => match user_folder() {
             Some(folder) => (folder.join("ptree"), false),
