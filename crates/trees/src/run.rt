@@ -1,16 +1,17 @@
-//! Runs the words of a call over any files, reader and writer.
+//! Runs the words of a call over any files, reader and writers.
 
 use crate::failure::Failure;
 use crate::help;
-use crate::names::Opt;
+use crate::names::{CommandName, Opt};
 use crate::perform::perform;
 use crate::screen::Screen;
 use crate::source::Source;
 use crate::words::Words;
+use ptree::print_config::first_fault;
 use ptree::style::{Sink, put_all};
 use ptree_sources::surroundings::Surroundings;
-use std::alloc::Global;
-use std::io::Read;
+use std::alloc::AllocError;
+use std::io::{Eprint, Read};
 use std::rt::Files;
 
 /// Runs the words of a call.
@@ -19,7 +20,7 @@ use std::rt::Files;
 ///
 /// What went wrong. If standard output failed, a part of the output may have been written; else
 /// nothing was, except for `Said`.
-pub fn run<R: Files + AllocGlobal, I: Read, W: Sink>(
+pub fn run<R: Files + AllocGlobal + Eprint, I: Read, W: Sink>(
     rt: &R,
     words: &[String],
     input: &mut I,
@@ -46,7 +47,7 @@ fn page(words: &[String]) -> Option<&'static str> {
 }
 
 // Reads the inputs that words name, and runs the command over them.
-fn run_words<R: Files + AllocGlobal, I: Read, W: Sink>(
+fn run_words<R: Files + AllocGlobal + Eprint, I: Read, W: Sink>(
     rt: &R,
     words: &Words<'_>,
     input: &mut I,
@@ -58,7 +59,7 @@ fn run_words<R: Files + AllocGlobal, I: Read, W: Sink>(
         return Ok(put_all(out, words.name.help().as_bytes())?);
     }
     let sources = read_sources(rt, words, input)?;
-    run_over(rt.alloc(), words, sources.as_slice(), out, screen, found)
+    run_over(rt, words, sources.as_slice(), out, screen, found)
 }
 
 // Reads the inputs that words name.
@@ -79,8 +80,8 @@ fn read_sources<R: Files + AllocGlobal, I: Read>(
 }
 
 // Runs the command over its inputs.
-fn run_over<W: Sink>(
-    alloc: Global,
+fn run_over<R: AllocGlobal + Eprint, W: Sink>(
+    rt: &R,
     words: &Words<'_>,
     sources: &[Source],
     out: &mut W,
@@ -88,7 +89,26 @@ fn run_over<W: Sink>(
     found: &Surroundings,
 ) -> Result<(), Failure> {
     match words.command(sources, screen) {
-        Ok(command) => perform(alloc, command, out, found),
-        Err(wrong) => Err(wrong.failure(alloc)?),
+        Ok(command) => {
+            tell_fault(rt, words.name, found)?;
+            perform(rt.alloc(), command, out, found)
+        }
+        Err(wrong) => Err(wrong.failure(rt.alloc())?),
     }
+}
+
+// Says on standard error which fault leaves the default settings, unless the command shows all. A
+// fault there changes nothing.
+fn tell_fault<R: AllocGlobal + Eprint>(
+    rt: &R,
+    name: CommandName,
+    found: &Surroundings,
+) -> Result<(), AllocError> {
+    if name == CommandName::Config {
+        return Ok(());
+    }
+    if let Some(fault) = first_fault(rt.alloc(), &found.sources)? {
+        let _ = eprintln!(rt; "trees: {fault}; the default settings are used, see trees config");
+    }
+    Ok(())
 }
