@@ -1,4 +1,7 @@
 //! The sources of a configuration, from what surrounds a program.
+ghost use Rattle.std.specs.Prelude.{◌≡◌, ◌↔◌, Ok};
+ghost use Rattle.std.specs.declared.io.ErrorKind.TheVariants.{NotFound};
+ghost use Rattle.ptree_sources.specs.declared.opened.Opened.TheVariants.{Missing};
 
 use crate::candidates::candidates;
 use crate::environment::variables;
@@ -188,7 +191,9 @@ fn read<F: Read + Drop>(alloc: Global, file: F) -> Result<Opened, AllocError> {
 }
 
 // Returns what it means that a file could not be opened. Only a file that is not found is missing.
-fn refused(kind: ErrorKind) -> Result<Opened, AllocError> {
+fn refused(kind: ErrorKind) -> Result<Opened, AllocError>
+    ensures { (result ≡ Ok Missing) ↔ (kind ≡ NotFound) }
+{
     match kind {
         ErrorKind::NotFound => Ok(Opened::Missing),
         ErrorKind::OutOfMemory => Err(AllocError),
