@@ -110,10 +110,12 @@ fn configurations_are_loaded() {
     assert_eq!(load("toml", "indent = 5\n"), PrintConfig::default());
     env::remove_var("ptree_depth");
     assert_eq!(load("toml", "indent = \n"), PrintConfig::default());
-    env::set_var("PTREE_CONFIG", folder.join("missing.toml"));
-    assert_eq!(PrintConfig::from_env(), PrintConfig::default());
-    env::set_var("PTREE_CONFIG", &folder);
-    assert_eq!(PrintConfig::from_env(), PrintConfig::default());
+    env::set_var("PTREE_INDENT", "9");
+    for path in [folder.join("missing.toml"), folder.clone(), "/dev/null".into()] {
+        env::set_var("PTREE_CONFIG", path);
+        assert_eq!(PrintConfig::from_env(), PrintConfig::default());
+    }
+    env::remove_var("PTREE_INDENT");
 
     // The file of the user's folder.
     env::remove_var("PTREE_CONFIG");

@@ -12,9 +12,9 @@ use std::alloc::{AllocError, Global};
 /// are compared exactly, and the last one of a name counts.
 ///
 /// `PTREE_CONFIG` names a file by its path. Without the ending `.toml` or `.json` it names the two
-/// files with these endings, unless it is `/dev/null`, which is a path too. If `PTREE_CONFIG` is
-/// not set, the file is `ptree.toml` or `ptree.json` in the folder that `XDG_CONFIG_HOME` names, if
-/// that begins with a slash, or else in `.config` of `HOME`, unless that is empty.
+/// files with these endings. If `PTREE_CONFIG` is not set, the file is `ptree.toml` or `ptree.json`
+/// in the folder that `XDG_CONFIG_HOME` names, if that begins with a slash, or else in `.config` of
+/// `HOME`, unless that is empty.
 ///
 /// # Errors
 ///

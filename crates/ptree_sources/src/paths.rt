@@ -19,11 +19,11 @@ fn is_path(value: &str) -> bool
     ensures { result ≡ is_path value.now }
 {
     let bytes = value.as_bytes();
-    bytes.ends_with(b".json") || bytes.ends_with(b".toml") || value == "/dev/null"
+    bytes.ends_with(b".json") || bytes.ends_with(b".toml")
 }
 
 /// Returns the paths that a value of `PTREE_CONFIG` names: the value itself if it ends in `.toml`
-/// or `.json` or is `/dev/null`, and otherwise the value with each of these endings.
+/// or `.json`, and otherwise the value with each of these endings.
 ///
 /// # Errors
 ///

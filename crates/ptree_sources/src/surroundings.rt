@@ -1,4 +1,7 @@
 //! The sources of a configuration, from what surrounds a program.
+ghost use Rattle.std.specs.Prelude.{◌≡◌, ◌↔◌, Ok};
+ghost use Rattle.std.specs.declared.io.ErrorKind.TheVariants.{NotFound};
+ghost use Rattle.ptree_sources.specs.declared.opened.Opened.TheVariants.{Missing};
 
 use crate::candidates::candidates;
 use crate::environment::variables;
@@ -35,8 +38,8 @@ struct Found {
 /// Returns the variables of the environment, and the file that they lead to, as
 /// [`candidates`](crate::candidates::candidates) says.
 ///
-/// Entries that are not UTF-8 are left out. Only a regular file is opened, and the null device
-/// counts as an empty file. It takes time and memory for the environment and the file.
+/// Entries that are not UTF-8 are left out. Only a regular file and the null device are opened.
+/// It takes time and memory for the environment and the file.
 ///
 /// # Errors
 ///
@@ -119,8 +122,8 @@ fn entry<R: Env>(rt: &R, alloc: Global, i: usize) -> Result<Option<Vec<u8>>, All
     Err(AllocError)
 }
 
-// Returns the first file that exists, with its path. If none exists, and the user named the paths,
-// that counts as an unreadable file at the first of them.
+// Returns the file at the first path that is not missing, with its path. If all are missing, and
+// the user named them, that counts as an unreadable file at the first of them.
 fn find_file<R: Files>(rt: &R, alloc: Global, candidates: &Candidates) -> Result<Found, AllocError>
 where
     R::File: Drop,
@@ -153,16 +156,14 @@ where
     Ok(open(rt, alloc, path)?.source(path))
 }
 
-// Opens and reads a file. Anything but a regular file is not opened: a FIFO would wait, and a
-// device may have no end. The exception is the null device, which people use in place of an empty
-// file.
+// Opens and reads a file. A FIFO would wait, and a device may have no end, so of what is no regular
+// file only the null device is opened.
 fn open<R: Files>(rt: &R, alloc: Global, path: &str) -> Result<Opened, AllocError>
 where
     R::File: Drop,
 {
     match fs::metadata(rt, path) {
-        Ok(found) if found.is_file() => {}
-        Ok(found) if is_null(rt, &found) => return Ok(Opened::Read(Vec::new(alloc))),
+        Ok(found) if found.is_file() || is_null(rt, &found) => {}
         Ok(_) => return Ok(Opened::Refused),
         Err(e) => return refused(e.kind()),
     }
@@ -172,7 +173,7 @@ where
     }
 }
 
-// Whether the file is the device /dev/null, by whatever name.
+// Whether a file is the null device.
 fn is_null<R: Files>(rt: &R, found: &Metadata) -> bool {
     let Ok(null) = fs::metadata(rt, "/dev/null") else {
         return false;
@@ -189,8 +190,10 @@ fn read<F: Read + Drop>(alloc: Global, file: F) -> Result<Opened, AllocError> {
     }
 }
 
-// Returns what it means that a file could not be opened.
-fn refused(kind: ErrorKind) -> Result<Opened, AllocError> {
+// Returns what it means that a file could not be opened. Only a file that is not found is missing.
+fn refused(kind: ErrorKind) -> Result<Opened, AllocError>
+    ensures { (result ≡ Ok Missing) ↔ (kind ≡ NotFound) }
+{
     match kind {
         ErrorKind::NotFound => Ok(Opened::Missing),
         ErrorKind::OutOfMemory => Err(AllocError),

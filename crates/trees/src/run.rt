@@ -1,4 +1,4 @@
-//! Runs the words of a call over any surroundings, reader and writer.
+//! Runs the words of a call over any surroundings, reader and writers.
 
 use crate::failure::Failure;
 use crate::help;
@@ -7,10 +7,12 @@ use crate::perform::perform;
 use crate::screen::Screen;
 use crate::source::Source;
 use crate::words::Words;
+use ptree::print_config::first_fault;
 use ptree::style::{Sink, put_all};
-use ptree_sources::surroundings::gather;
+use ptree_sources::surroundings::{Surroundings, gather};
+use std::alloc::AllocError;
 use std::env::Env;
-use std::io::Read;
+use std::io::{Eprint, Read};
 use std::rt::Files;
 
 /// Runs the words of a call. The settings are gathered once its command and inputs are known.
@@ -19,7 +21,7 @@ use std::rt::Files;
 ///
 /// What went wrong. If standard output failed, a part of the output may have been written; else
 /// nothing was, except for `Said`.
-pub fn run<R: Env + Files + AllocGlobal, I: Read, W: Sink>(
+pub fn run<R: Env + Files + AllocGlobal + Eprint, I: Read, W: Sink>(
     rt: &R,
     words: &[String],
     input: &mut I,
@@ -48,7 +50,7 @@ fn page(words: &[String]) -> Option<&'static str> {
 }
 
 // Reads the inputs that words name, and runs the command over them.
-fn run_words<R: Env + Files + AllocGlobal, I: Read, W: Sink>(
+fn run_words<R: Env + Files + AllocGlobal + Eprint, I: Read, W: Sink>(
     rt: &R,
     words: &Words<'_>,
     input: &mut I,
@@ -98,7 +100,7 @@ fn read_source<R: Files + AllocGlobal, I: Read>(
 }
 
 // Runs the command over its inputs and the settings.
-fn run_over<R: Env + Files + AllocGlobal, W: Sink>(
+fn run_over<R: Env + Files + AllocGlobal + Eprint, W: Sink>(
     rt: &R,
     words: &Words<'_>,
     sources: &[Source],
@@ -110,7 +112,27 @@ where
 {
     let alloc = rt.alloc();
     match words.command(sources, screen) {
-        Ok(command) => perform(alloc, command, out, &gather(rt, alloc)?),
+        Ok(command) => {
+            let found = gather(rt, alloc)?;
+            tell_fault(rt, words.name, &found)?;
+            perform(alloc, command, out, &found)
+        }
         Err(wrong) => Err(wrong.failure(alloc)?),
     }
+}
+
+// Says on standard error which fault leaves the default settings, unless the command shows all. A
+// fault there changes nothing.
+fn tell_fault<R: AllocGlobal + Eprint>(
+    rt: &R,
+    name: CommandName,
+    found: &Surroundings,
+) -> Result<(), AllocError> {
+    if name == CommandName::Config {
+        return Ok(());
+    }
+    if let Some(fault) = first_fault(rt.alloc(), &found.sources)? {
+        let _ = eprintln!(rt; "trees: {fault}; the default settings are used, see trees config");
+    }
+    Ok(())
 }
