@@ -446,6 +446,121 @@ static void draws_graphs(void) {
     free(given.names);
 }
 
+/* A tree, a graph and sources of a size: a root whose text has `size` bytes over `size` children, each of one byte. */
+struct large {
+    size_t size, drawn;
+    struct given given;
+    uint8_t *texts, *out;
+};
+
+/* A call of a size must be done, since memory is ample, and find so many bytes. */
+static void done(const struct large *large, uint32_t got, const struct ptree_found *found, size_t bytes, const char *name) {
+    expect(got == PTREE_DONE && found->bytes == bytes && found->place == 0, name);
+    if (got != PTREE_DONE || found->bytes != bytes) {
+        printf("  size %zu: refusal %u, %zu bytes, and not %zu\n", large->size, (unsigned)got, found->bytes, bytes);
+    }
+}
+
+static void draws_and_reads_large(const struct large *large) {
+    size_t size = large->size, count = size + 1, room_size = large->drawn;
+    const struct given *given = &large->given;
+    struct ptree_item *outline = room(count * sizeof *outline);
+    struct ptree_step *one_by_one = room(count * sizeof *one_by_one);
+    struct ptree_found found;
+    uint8_t path[1], *labels = room(2 * size);
+    for (size_t i = 0; i < count; i++) {
+        outline[i] = (struct ptree_item){size + i, i > 0};
+        one_by_one[i] = (struct ptree_step){{i ? size + i - 1 : 0, size + i}, i > 0, i == size};
+    }
+    done(large, ptree_draw(outline, count, large->texts, 2 * size, PTREE_CARGO_TREE, ALL, large->out, room_size, &found), &found, large->drawn,
+        "a large drawing");
+    done(large, ptree_draw_with(outline, count, large->texts, 2 * size, &given->config, given->names, given->length, large->out, room_size, &found),
+        &found, large->drawn, "a large drawing by fields");
+    done(large, ptree_draw_steps(one_by_one, count, large->texts, 2 * size, path, 1, &given->config, given->names, given->length, large->out,
+        room_size, &found), &found, large->drawn, "a large drawing of steps");
+    done(large, ptree_read(large->out, large->drawn, PTREE_CARGO_TREE, ALL, outline, count, labels, 2 * size, &found), &found, 2 * size,
+        "a large reading");
+    done(large, ptree_read_with(large->out, large->drawn, &given->config, given->names, given->length, outline, count, labels, 2 * size, &found),
+        &found, 2 * size, "a large reading by fields");
+    expect(found.items == count && memcmp(labels, large->texts, 2 * size) == 0, "the texts of a large reading");
+    free(outline);
+    free(one_by_one);
+    free(labels);
+}
+
+/* The root has an edge to each other node, and the first of these one back, so that its neighbours are drawn last. */
+static void draws_large_graphs(struct large *large) {
+    size_t size = large->size, *ends = room((size + 1) * sizeof *ends), back = size ? 15 + 2 * size : 0;
+    struct given *given = &large->given;
+    struct ptree_edge *edges = room((size + 1) * sizeof *edges);
+    struct ptree_found found;
+    for (size_t i = 0; i <= size; i++) {
+        ends[i] = size + i;
+        edges[i] = i < size ? (struct ptree_edge){0, i + 1} : (struct ptree_edge){1, 0};
+    }
+    done(large, ptree_draw_once(ends, size + 1, large->texts, 2 * size, edges, size ? size + 1 : 0, 0, large->texts, size, &given->config,
+        given->names, given->length, large->out, large->drawn, &found), &found, large->drawn + back, "a large graph once");
+    given->config.depth = 1;
+    done(large, ptree_draw_walks(ends, size + 1, large->texts, 2 * size, edges, size ? size + 1 : 0, 0, &given->config, given->names,
+        given->length, large->out, large->drawn, &found), &found, large->drawn, "the walks of a large graph");
+    given->config.depth = ALL;
+    free(ends);
+    free(edges);
+}
+
+/* A list of `size` numbers, and the text. */
+static void draws_large_documents(const struct large *large) {
+    size_t size = large->size, length = 0;
+    char *document = room(3 * size + 64);
+    struct ptree_found found;
+    length += (size_t)sprintf(document, "{\"list\": [0");
+    for (size_t i = 0; i < size; i++) length += (size_t)sprintf(document + length, ",0");
+    length += (size_t)sprintf(document + length, "], \"text\": \"%.*s\"}", (int)size, (const char *)large->texts);
+    done(large, ptree_draw_document((const uint8_t *)document, length, TEXT("r"), PTREE_JSON, PTREE_CARGO_TREE, ALL, large->out, large->drawn,
+        &found), &found, 2 + 15 + 18 * (size + 1) + 18 + size, "a large document");
+    done(large, ptree_draw_document_with((const uint8_t *)document, length, TEXT("r"), PTREE_JSON, &large->given.config, large->given.names,
+        large->given.length, large->out, large->drawn, &found), &found, 2 + 15 + 18 * (size + 1) + 18 + size, "a large document by fields");
+    free(document);
+}
+
+/* A file of `size` keys of no field, and of the text as a marker; and as many variables of no field. */
+static void loads_large(const struct large *large) {
+    size_t size = large->size, length = 1;
+    char *file = room(24 * size + size + 64);
+    struct ptree_variable *variables = room(size * sizeof *variables);
+    struct ptree_config config;
+    struct ptree_found found;
+    file[0] = '{';
+    for (size_t i = 0; i < size; i++) {
+        variables[i] = (struct ptree_variable){{0, 11}, {11, 12}};
+        length += (size_t)sprintf(file + length, "\"other_%zu\": 1,\n", i);
+    }
+    length += (size_t)sprintf(file + length, "\"continued\": \"%.*s\"}", (int)size, (const char *)large->texts);
+    expect(ptree_load((const uint8_t *)file, length, PTREE_JSON, variables, size, TEXT("PTREE_OTHER1"), &config, large->out, large->drawn, &found)
+        == PTREE_DONE && config.continued.end - config.continued.start == size, "large sources");
+    free(file);
+    free(variables);
+}
+
+static void makes_large_calls(void) {
+    const size_t sizes[] = {0, 1, 2, 40, 2500, 70000};
+    const struct ptree_style bold = {.bold = 1};
+    struct ptree_found found;
+    for (size_t i = 0; i < sizeof sizes / sizeof *sizes; i++) {
+        size_t size = sizes[i];
+        struct large large = {size, size + 1 + 12 * size, given_by(PTREE_CARGO_TREE), room(2 * size), room(size + 1 + 12 * size)};
+        memset(large.texts, 'x', 2 * size);
+        draws_and_reads_large(&large);
+        draws_large_graphs(&large);
+        draws_large_documents(&large);
+        loads_large(&large);
+        done(&large, ptree_paint(large.texts, size, &bold, TEXT(""), large.out, large.drawn, &found), &found, size + 8, "a large painted text");
+        free(large.given.names);
+        free(large.texts);
+        free(large.out);
+    }
+}
+
 static uint32_t call_by_fields(const char *call) {
     static struct ptree_item got[8];
     static uint8_t out[64], names[64];
@@ -546,6 +661,7 @@ int main(int count, char **words) {
     paints();
     loads();
     draws_graphs();
+    makes_large_calls();
     if (!failed) puts("all calls are right");
     return failed;
 }
