@@ -15,7 +15,7 @@ A FILE is a path; without one, or as -, it is standard input.
 commands:
   json      draw a JSON document
   toml      draw a TOML document
-  deps      draw dependencies: Cargo.lock, package-lock.json, or lines of two words
+  deps      draw dependencies: of a lock file, or lines of two words
   paths     draw paths, as find and git ls-files print them
   outline   draw indented text
   indented  write a drawing as indented text
@@ -67,10 +67,10 @@ usage: trees deps [--root NAME] [--inverse] [--walks] [--depth N] [--as PIECES] 
                   [FILE]
 
 Draws dependencies, each package's once; (*) marks a package whose dependencies stand above.
-FILE is a Cargo.lock, a package-lock.json, or lines of two words, the first of which needs
-the second, as go mod graph prints them.
+FILE is a Cargo.lock, package-lock.json, poetry.lock or uv.lock, or lines of two words, the
+first of which needs the second, as go mod graph prints them.
 
-  --root NAME   draw from this package; else from what nothing needs
+  --root NAME   draw from this package, b or b@2.0.0; else from what nothing needs
   --inverse     draw what needs a package
   --walks       draw a package's dependencies wherever it stands; give a --depth too
 ";
