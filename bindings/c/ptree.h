@@ -160,7 +160,7 @@ struct ptree_config {
     uint32_t depth;                      /* the greatest level that is drawn; the root has level 0 */
     uint32_t styled;                     /* PTREE_NEVER, PTREE_ALWAYS or PTREE_TTY */
     size_t indent;                       /* the width of a piece in characters, including the padding */
-    size_t padding;                      /* how many blanks end a piece */
+    size_t padding;                      /* how many of the `empty` characters end a piece */
     struct ptree_characters characters;
     struct ptree_style branch;
     struct ptree_style leaf;

@@ -231,12 +231,37 @@ static void draws_documents(void) {
     expect(ptree_draw_document(TEXT("1"), TEXT(""), PTREE_JSON, 11, ALL, out, 128, &found) == PTREE_PRESET, "an unknown preset");
 }
 
+/* The text of each refusal, by its number, and that of any other number. */
+static const char *const refusal_texts[] = {
+    "done",
+    "out of memory",
+    "a text is not UTF-8",
+    "no item can have that level there",
+    "there is no preset of that number",
+    "the pieces are not readable",
+    "that line cannot continue the drawing",
+    "the text is incomplete",
+    "the document is invalid in its format",
+    "the document holds a float",
+    "the document holds a date or a time",
+    "the text of an item ends before it begins, or beyond the texts",
+    "there is no format of that number",
+    "a text of the configuration is not UTF-8, or lies beyond its texts",
+    "there is no colour of that kind",
+    "the file or a variable is at fault",
+    "an end of an edge is no node",
+    "no such number",
+};
+
 static void knows_presets_and_refusals(void) {
     uint8_t out[80];
     for (uint32_t preset = 0; preset <= 10; preset++) expect(ptree_is_readable(preset) == PTREE_DONE, "a preset is readable");
     expect(ptree_is_readable(11) == PTREE_PRESET, "no preset is readable");
-    expect(ptree_refusal_text(PTREE_MEMORY, out, 80) == 13 && memcmp(out, "out of memory", 13) == 0, "the text of a refusal");
-    expect(ptree_refusal_text(PTREE_PIECES, out, 80) == 27 && memcmp(out, "the pieces are not readable", 27) == 0, "a text without a preset");
+    for (uint32_t number = 0; number <= 17; number++) {
+        const char *want = refusal_texts[number];
+        size_t length = strlen(want);
+        expect(ptree_refusal_text(number, out, 80) == length && memcmp(out, want, length) == 0, want);
+    }
     expect(ptree_refusal_text(99, out, 0) == 14, "the text of no refusal");
 }
 

@@ -5,7 +5,7 @@ use Rattle.std.proofs.lemmas.Bool.{cases_lt}
 use Rattle.std.proofs.lemmas.List.{append-nil, length-drop, drop_all, drop_at}
 use Rattle.ptree.specs.declared.graph.places.Place.{Place}
 use Rattle.ptree.specs.Growing.{place_of, place_at, leaf_size, ArePlaces, AppendsPlaces, IsFirst, IsNextPlace}
-use Rattle.ptree.specs.Occurrence.{OccurrenceTree, occurrence, occurrence_kids, none, row, is_repeated_size, size_below, trees_by, trees_in, first_tree}
+use Rattle.ptree.specs.Occurrence.{Occurrences, none, item, OccurrenceTree, occurrence, occurrence_kids, row, row_size, occurrence_count, its_place, row_places, tree_places, is_repeated_size, size_below, trees_by, trees_in, first_tree}
 use Rattle.ptree.proofs.Occurrences.{occurrences_of_row}
 
 -- more steps than places change nothing
@@ -39,38 +39,70 @@ trees_first left p ps =
 
 -- ## Places of trees
 
+-- a row has a place for each occurrence
+pub length-row_places : (c : Occurrences) → length (row_places c) ≡ row_size c
+length-row_places none = refl
+length-row_places (item v r c rest) = omega (arith, length-append (row_places c) (row_places rest), length-row_places c, length-row_places rest)
+
+-- those of a row of two lists
+row_places-append : (ts us : List OccurrenceTree) → row_places (row (ts ++ us)) ≡ row_places (row ts) ++ row_places (row us)
+row_places-append [] us = refl
+row_places-append (t ∷ ts) us =
+    ap (λ l. its_place t.node t.repeated t.children ∷ (row_places t.children ++ l)) (row_places-append ts us)
+    ∙ ap (λ l. its_place t.node t.repeated t.children ∷ l) (sym (append_assoc (row_places t.children) (row_places (row ts)) (row_places (row us))))
+
 -- none
 pub places_nil : ArePlaces [] []
-places_nil left rest = let e : 0 + left ≡ left = omega arith in ap (λ n. trees_in n rest) e
+places_nil = record { trees = λ left rest. (let e : 0 + left ≡ left = omega arith in ap (λ n. trees_in n rest) e); places = refl }
+
+-- the trees of two lists, one after the other
+trees_append : (ps qs : List Place) (ts us : List OccurrenceTree) → ArePlaces ps ts → ArePlaces qs us → (left : ℕ) (rest : List Place) → trees_in (length (ps ++ qs) + left) ((ps ++ qs) ++ rest) ≡ (ts ++ us) ++ trees_in left rest
+trees_append ps qs ts us h k left rest =
+    let count : length (ps ++ qs) + left ≡ length ps + (length qs + left) = omega (arith, length-append ps qs) in
+    ap (λ n. trees_in n ((ps ++ qs) ++ rest)) count ∙ (ap (trees_in (length ps + (length qs + left))) (append_assoc ps qs rest)
+    ∙ (h.trees (length qs + left) (qs ++ rest) ∙ (ap (λ z. ts ++ z) (k.trees left rest) ∙ sym (append_assoc ts us (trees_in left rest)))))
 
 -- those of two lists, one after the other
 pub places_append : (ps qs : List Place) (ts us : List OccurrenceTree) → ArePlaces ps ts → ArePlaces qs us → ArePlaces (ps ++ qs) (ts ++ us)
-places_append ps qs ts us h k left rest =
-    let count : length (ps ++ qs) + left ≡ length ps + (length qs + left) = omega (arith, length-append ps qs) in
-    ap (λ n. trees_in n ((ps ++ qs) ++ rest)) count ∙ (ap (trees_in (length ps + (length qs + left))) (append_assoc ps qs rest)
-    ∙ (h (length qs + left) (qs ++ rest) ∙ (ap (λ z. ts ++ z) (k left rest) ∙ sym (append_assoc ts us (trees_in left rest)))))
+places_append ps qs ts us h k = record {
+  trees = trees_append ps qs ts us h k;
+  places = ap (λ l. l ++ qs) h.places ∙ (ap (λ l. row_places (row ts) ++ l) k.places ∙ sym (row_places-append ts us));
+}
 
--- a place and those below it
-pub places_over : (v : ℕ) (ps : List Place) (ts : List OccurrenceTree) → ArePlaces ps ts → ArePlaces (place_of v (suc (length ps)) ∷ ps) (occurrence v false (row ts) ∷ [])
-places_over v ps ts h left rest =
+-- the tree of a place and those below it
+tree_over : (v : ℕ) (ps : List Place) (ts : List OccurrenceTree) → ArePlaces ps ts → (left : ℕ) (rest : List Place)
+    → trees_in (suc (length ps) + left) (place_of v (suc (length ps)) ∷ (ps ++ rest)) ≡ occurrence v false (row ts) ∷ trees_in left rest
+tree_over v ps ts h left rest =
     let p = place_of v (suc (length ps)) in
     let count : suc (length ps) + left ≡ suc (length ps + left) = omega arith in
     let behind : (length ps + left) - length ps ≡ left = omega arith in
     let none : length ps + 0 ≡ length ps = omega arith in
-    let below : trees_in (length ps) (ps ++ rest) ≡ ts = ap (λ n. trees_in n (ps ++ rest)) (sym none) ∙ (h 0 rest ∙ (ap (λ z. ts ++ z) (trees_none rest) ∙ append-nil ts)) in
+    let below : trees_in (length ps) (ps ++ rest) ≡ ts = ap (λ n. trees_in n (ps ++ rest)) (sym none) ∙ (h.trees 0 rest ∙ (ap (λ z. ts ++ z) (trees_none rest) ∙ append-nil ts)) in
     ap (λ n. trees_in n (p ∷ (ps ++ rest))) count ∙ (trees_first (length ps + left) p (ps ++ rest)
     ∙ (ap (λ z. occurrence v false (row z) ∷ trees_in ((length ps + left) - length ps) (drop (length ps) (ps ++ rest))) below
     ∙ (ap (λ n. occurrence v false (row ts) ∷ trees_in n (drop (length ps) (ps ++ rest))) behind
     ∙ ap (λ z. occurrence v false (row ts) ∷ trees_in left z) (drop_at ps rest (length ps) refl))))
 
--- a place with nothing below it
-pub places_leaf : (v : ℕ) (m : Bool) → ArePlaces (place_of v (leaf_size m) ∷ []) (occurrence v m none ∷ [])
-places_leaf v false left rest = places_over v [] [] places_nil left rest
-places_leaf v true left rest =
+-- a place and those below it
+pub places_over : (v : ℕ) (ps : List Place) (ts : List OccurrenceTree) → ArePlaces ps ts → ArePlaces (place_of v (suc (length ps)) ∷ ps) (occurrence v false (row ts) ∷ [])
+places_over v ps ts h = record {
+  trees = tree_over v ps ts h;
+  places = ap (λ l. place_of v (suc (length l)) ∷ l) h.places
+      ∙ (ap (λ n. place_of v (suc n) ∷ row_places (row ts)) (length-row_places (row ts)) ∙ ap (λ l. place_of v (suc (row_size (row ts))) ∷ l) (sym (append-nil (row_places (row ts)))));
+}
+
+-- a repeated place is a tree
+tree_repeated : (v left : ℕ) (rest : List Place) → trees_in (1 + left) (place_of v 0 ∷ rest) ≡ occurrence v true none ∷ trees_in left rest
+tree_repeated v left rest =
     let count : 1 + left ≡ suc left = omega arith in
     let behind : left - 0 ≡ left = omega arith in
     ap (λ n. trees_in n (place_of v 0 ∷ rest)) count ∙ (trees_first left (place_of v 0) rest
     ∙ (ap (λ z. occurrence v true (row z) ∷ trees_in (left - 0) rest) (trees_none rest) ∙ ap (λ n. occurrence v true none ∷ trees_in n rest) behind))
+
+-- a place with nothing below it
+pub places_leaf : (v : ℕ) (m : Bool) → ArePlaces (place_of v (leaf_size m) ∷ []) (occurrence v m none ∷ [])
+places_leaf v false = places_over v [] [] places_nil
+places_leaf v true = record { trees = tree_repeated v; places = refl }
 
 -- ## Appending
 
@@ -108,12 +140,22 @@ appends_over xs ys zs v index size ts (ps, e, h) i s z =
 pub tree_of_places : (ps : List Place) (t : OccurrenceTree) → AppendsPlaces [] ps (t ∷ []) → first_tree ps ≡ t
 tree_of_places ps t (qs, e, h) = ap first_tree e ∙ one qs h where
   one : (qs : List Place) → ArePlaces qs (t ∷ []) → first_tree qs ≡ t
-  one [] h = let never : [] ≡ t ∷ [] = h 0 [] in absurd (cc)
+  one [] h = let never : [] ≡ t ∷ [] = h.trees 0 [] in absurd (cc)
   one (p ∷ qs) h =
       let count : suc (length qs) + 0 ≡ suc (length qs) = omega arith in
-      let all : trees_in (suc (length qs)) (p ∷ qs) ≡ t ∷ [] = ap (λ l. trees_in (suc (length qs)) l) (sym (append-nil (p ∷ qs))) ∙ (ap (λ n. trees_in n ((p ∷ qs) ++ [])) (sym count) ∙ h 0 []) in
+      let all : trees_in (suc (length qs)) (p ∷ qs) ≡ t ∷ [] = ap (λ l. trees_in (suc (length qs)) l) (sym (append-nil (p ∷ qs))) ∙ (ap (λ n. trees_in n ((p ∷ qs) ++ [])) (sym count) ∙ h.trees 0 []) in
       let front : first_tree (p ∷ qs) ∷ trees_in (length qs - size_below p.size) (drop (size_below p.size) qs) ≡ t ∷ [] = sym (trees_first (length qs) p qs) ∙ all in
       cc
+
+-- these places are those of the first tree
+pub places_of_tree : {old new ps : List Place} {t : OccurrenceTree} → old ≡ [] → new ≡ old ++ ps → ArePlaces ps (t ∷ []) → new ≡ tree_places (first_tree new)
+places_of_tree {new = new} {ps = ps} {t = t} empty added h =
+    let all : new ≡ ps = added ∙ ap (λ l. l ++ ps) empty in
+    all ∙ (h.places ∙ (append-nil (tree_places t) ∙ ap tree_places (sym (tree_of_places new t (ps, all, h)))))
+
+-- so there are as many as it has occurrences
+pub number_of_places : {old new ps : List Place} {t : OccurrenceTree} → old ≡ [] → new ≡ old ++ ps → ArePlaces ps (t ∷ []) → length new ≡ occurrence_count (first_tree new)
+number_of_places {new = new} empty added h = ap length (places_of_tree empty added h) ∙ ap suc (length-row_places (first_tree new).children)
 
 -- ## Items
 

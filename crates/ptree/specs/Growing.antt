@@ -4,7 +4,7 @@ use Rattle.std.specs.Prelude.{◌≡◌, ℕ, zero, suc, ◌+◌, ◌-◌, ◌^�
 use Rattle.ptree.specs.declared.graph.Graph.{Graph}
 use Rattle.ptree.specs.declared.graph.places.Place.{Place}
 use Rattle.ptree.specs.Graph.{weights_of}
-use Rattle.ptree.specs.Occurrence.{OccurrenceTree, occurrence, none, row, size_below, trees_in, weight_own}
+use Rattle.ptree.specs.Occurrence.{OccurrenceTree, occurrence, none, row, row_places, size_below, trees_in, weight_own}
 use Rattle.ptree.specs.Shape.{Shape, over_shape}
 
 -- an occurrence, and which nodes have occurrences below them by then
@@ -69,9 +69,10 @@ abbrev pub leaf_size : Bool → ℕ
 leaf_size true = 0
 leaf_size false = 1
 
--- the places are those of the trees, whatever follows them
-abbrev pub ArePlaces : List Place → List OccurrenceTree → Type 0
-ArePlaces ps ts = (left : ℕ) (rest : List Place) → trees_in (length ps + left) (ps ++ rest) ≡ ts ++ trees_in left rest
+-- the places are those of the trees, whatever follows them, and each has its size
+pub record ArePlaces (ps : List Place) (ts : List OccurrenceTree) : Type 0 where
+  pub trees : (left : ℕ) (rest : List Place) → trees_in (length ps + left) (ps ++ rest) ≡ ts ++ trees_in left rest
+  pub places : ps ≡ row_places (row ts)
 
 -- the places of the trees are appended
 abbrev pub AppendsPlaces : List Place → List Place → List OccurrenceTree → Type 0

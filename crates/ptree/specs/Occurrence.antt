@@ -98,6 +98,20 @@ abbrev pub HasSize : List (ℕ × ℕ) → OccurrenceTree → Type 0
 HasSize edges t =
     (expanded : ℕ → Bool) × ((v : ℕ) → IsTrue (expanded v) ↔ IsExpanded t v) × (occurrence_count t ≡ suc (count_by (λ e. expanded e.0) edges))
 
+-- the place of an occurrence: its node, and how many occurrences there are here and below, or 0 if
+-- it is repeated
+abbrev pub its_place : ℕ → Bool → Occurrences → Place
+its_place v r c = record { node = record { 0 = v }; size = if r then 0 else suc (row_size c) }
+
+-- the places of a row, in order: each occurrence's own, and then those of what is below it
+abbrev pub row_places : Occurrences → List Place
+row_places none = []
+row_places (item v r c rest) = its_place v r c ∷ (row_places c ++ row_places rest)
+
+-- the places of a tree
+abbrev pub tree_places : OccurrenceTree → List Place
+tree_places t = its_place t.node t.repeated t.children ∷ row_places t.children
+
 -- a place of size 0 is repeated
 abbrev pub is_repeated_size : ℕ → Bool
 is_repeated_size zero = true

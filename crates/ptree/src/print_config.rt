@@ -12,6 +12,7 @@ mod file;
 mod given;
 mod lent;
 mod loader;
+mod open;
 mod parse;
 
 use crate::style::Style;

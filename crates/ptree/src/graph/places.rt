@@ -3,7 +3,7 @@ ghost use Rattle.std.specs.Prelude.{◌≡◌, ◌≢◌, ◌∷◌, [], ◌≤�
 ghost use Rattle.ptree.specs.Graph.{weights_of, edges_of, neighbors_of};
 ghost use Rattle.ptree.specs.GraphLinks.{newest_from};
 ghost use Rattle.ptree.specs.Growing.{is_seen, grow, all_flags, place_of, leaf_size, AppendsPlaces};
-ghost use Rattle.ptree.specs.Occurrence.{IsExpandedOnce, LeavesUnrepeated, ExpandsFirst, HasOneTree, HasSize, is_repeated_size, size_below, first_tree, occurrence_tree};
+ghost use Rattle.ptree.specs.Occurrence.{IsExpandedOnce, LeavesUnrepeated, ExpandsFirst, HasOneTree, HasSize, occurrence_count, tree_places, is_repeated_size, size_below, first_tree, occurrence_tree};
 
 use super::{Graph, NodeIndex};
 use std::alloc::AllocError;
@@ -79,6 +79,10 @@ impl<N> Graph<N> {
         ensures tree { IfOk result (λ o.
             IsExpandedOnce (neighbors_of (edges_of self.now)) start.0 depth (occurrence_tree o)) }
         ensures one_tree { HasOneTree (neighbors_of (edges_of self.now)) start.0 depth }
+        // Each place is an occurrence's, in order, and has the number of occurrences here and below.
+        ensures places { IfOk result (λ o. o.places.items ≡ tree_places (occurrence_tree o)) }
+        ensures count { IfOk result (λ o.
+            length o.places.items ≡ occurrence_count (occurrence_tree o)) }
         // There is one for each edge from a node that is expanded, and one more.
         ensures size { IfOk result (λ o. HasSize (edges_of self.now) (occurrence_tree o)) }
         ensures first { IfOk result (λ o.

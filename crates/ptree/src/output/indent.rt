@@ -41,7 +41,8 @@ impl Indent {
         )
     }
 
-    /// Makes pieces that are `indent_size` characters wide, the last one of them blank.
+    /// Makes pieces that are `indent_size` characters wide, the last one of them the `empty`
+    /// character.
     ///
     /// # Errors
     ///
@@ -57,7 +58,8 @@ impl Indent {
         Indent::from_characters_and_padding(alloc, indent_size, 1, characters)
     }
 
-    /// Makes pieces that are `indent_size` characters wide, the last `padding` of them blank.
+    /// Makes pieces that are `indent_size` characters wide, the last `padding` of them `empty`
+    /// characters.
     ///
     /// A piece always has its first character and its padding, even if that is wider.
     ///

@@ -93,7 +93,7 @@ pub enum Field {
     /// The character that points right.
     Right,
 
-    /// The blank character.
+    /// The character of columns without a branch, and of the padding.
     Empty,
 
     /// A field of the style of a part.

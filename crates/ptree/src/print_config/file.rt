@@ -9,6 +9,7 @@ ghost use Rattle.ptree.specs.declared.print_config.loader.Fault.TheVariants.{Syn
 ghost use Rattle.serde_json.specs.View.{items_view as json_items};
 ghost use Rattle.toml.specs.View.{items_view as toml_items};
 
+use crate::print_config::open::with_last_value;
 use crate::print_config::parse::{Spelling, parse_when};
 use crate::print_config::{FileSource, StyleWhen};
 use crate::style::Color;
@@ -83,9 +84,11 @@ fn parse_json(alloc: Global, text: &str) -> Result<Option<Document>, AllocError>
 /// the line where the text ends. If the top of a JSON text is not an object, it is the line of the
 /// top's first byte.
 ///
-/// The text is parsed once. A JSON text that is wrong before its end is parsed again up to the line
-/// before the reported one, and further times only if the wrong byte is before that line: at most
-/// eight times, and twice for each doubling of the distance in lines.
+/// The text is parsed once. A TOML text that is wrong in a value is parsed again up to that value's
+/// key, and once more for each key around it that occurs twice. A JSON text that is wrong before
+/// its end is parsed again up to the line before the reported one, and further times only if the
+/// wrong byte is before that line: at most eight times, and twice for each doubling of the distance
+/// in lines.
 ///
 /// # Errors
 ///
@@ -104,12 +107,37 @@ pub fn syntax_line(alloc: Global, file: &FileSource) -> Result<Option<usize>, Al
 fn toml_line(alloc: Global, text: &str) -> Result<Option<usize>, AllocError>
     ensures { IfOk result (λ line. is_some line ≡ is_none (toml_document text.now)) }
 {
+    match toml_place(alloc, text)? {
+        Some(place) => Ok(Some(line_at(text, first_place(alloc, text, place)?))),
+        None => Ok(None),
+    }
+}
+
+// Returns the place at which the reader finds that a text is no TOML document.
+fn toml_place(alloc: Global, text: &str) -> Result<Option<usize>, AllocError>
+    ensures { IfOk result (λ place. is_some place ≡ is_none (toml_document text.now)) }
+{
     match toml::table_from_str(alloc, text) {
         Ok(_) => Ok(None),
         Err(e) => match e.span() {
-            Some(span) => Ok(Some(line_at(text, span.start))),
+            Some(span) => Ok(Some(span.start)),
             None => Err(AllocError),
         },
+    }
+}
+
+// Returns the first wrong place of a TOML text, given the one that the reader finds.
+//
+// The reader reads a value before it looks whether its key occurs twice. So it is given the text up
+// to the last key before the place whose value is not over, with 0 as the value.
+fn first_place(alloc: Global, text: &str, found: usize) -> Result<usize, AllocError> {
+    let mut place = found;
+    'keys: loop {
+        let before = with_last_value(alloc, text.get(..place).unwrap_or(text))?;
+        match toml_place(alloc, before.as_str())? {
+            Some(earlier) if earlier < place => place = earlier,
+            _ => return Ok(place),
+        }
     }
 }
 
