@@ -250,6 +250,7 @@ static const char *const refusal_texts[] = {
     "there is no colour of that kind",
     "the file or a variable is at fault",
     "an end of an edge is no node",
+    "there is no value of `styled` with that number",
     "no such number",
 };
 
@@ -257,7 +258,7 @@ static void knows_presets_and_refusals(void) {
     uint8_t out[80];
     for (uint32_t preset = 0; preset <= 10; preset++) expect(ptree_is_readable(preset) == PTREE_DONE, "a preset is readable");
     expect(ptree_is_readable(11) == PTREE_PRESET, "no preset is readable");
-    for (uint32_t number = 0; number <= 17; number++) {
+    for (uint32_t number = 0; number <= 18; number++) {
         const char *want = refusal_texts[number];
         size_t length = strlen(want);
         expect(ptree_refusal_text(number, out, 80) == length && memcmp(out, want, length) == 0, want);

@@ -1,7 +1,9 @@
-//! Makes each call of the library that allocates, at several sizes. If memory is ample, none may
+//! Makes each call of the libraries that allocates, at several sizes. If memory is ample, none may
 //! fail.
 
 mod building;
+mod changed;
+mod described;
 mod documents;
 mod graphs;
 mod loading;
@@ -39,11 +41,20 @@ fn try_size(alloc: Global, size: usize) -> Result<(), Deviation> {
     building::try_all(alloc, size)?;
     graphs::try_all(alloc, size)?;
     documents::try_all(alloc, size)?;
-    loading::try_all(alloc, size)
+    loading::try_all(alloc, size)?;
+    changed::try_all(alloc, size)?;
+    described::try_all(alloc, size)
 }
 
-/// Tries all calls at each size up to this one, names each size, and stops at the first call that
-/// fails.
+// Tries the calls that are fast at a greater size.
+fn try_many(alloc: Global) -> Result<(), Deviation> {
+    parts::try_all(alloc, 2_500)?;
+    changed::try_all(alloc, 2_500)?;
+    building::try_all(alloc, 40_000)
+}
+
+/// Tries all calls at each size up to this one, and some at greater ones. Names each size, and
+/// stops at the first call that fails.
 pub fn try_sizes(rt: &HostRuntime, most: usize) -> io::Result<()> {
     let alloc = rt.alloc();
     for size in SIZES {
@@ -52,5 +63,5 @@ pub fn try_sizes(rt: &HostRuntime, most: usize) -> io::Result<()> {
             report(rt, name.as_str(), try_size(alloc, size))?;
         }
     }
-    Ok(())
+    report(rt, "many", try_many(alloc))
 }

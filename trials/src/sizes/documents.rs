@@ -8,11 +8,11 @@ use ptree::style::Counted;
 use ptree::value::{DocFormat, Value, draw_document, draw_document_with};
 use std::alloc::{AllocError, Global};
 
-// The most lists in one another that a document of either format may have.
-const NESTED: usize = 79;
+/// The most lists in one another that a document of either format may have.
+pub const NESTED: usize = 79;
 
-// Appends a text so many times.
-fn push_times(out: &mut String, part: &str, count: usize) -> Result<(), AllocError> {
+/// Appends a text so many times.
+pub fn push_times(out: &mut String, part: &str, count: usize) -> Result<(), AllocError> {
     for _ in 0..count {
         out.push_str(part)?;
     }
@@ -32,36 +32,39 @@ fn push_keys(
     Ok(())
 }
 
-// Appends a list of so many lists in one another, the last one with an empty text.
-fn push_lists(out: &mut String, quotes: &str, levels: usize) -> Result<(), AllocError> {
+/// Appends so many lists in one another, around a value.
+pub fn push_lists(out: &mut String, value: &str, levels: usize) -> Result<(), AllocError> {
     push_times(out, "[", levels)?;
-    out.push_str(quotes)?;
+    out.push_str(value)?;
     push_times(out, "]", levels)
 }
 
-// Appends a document of a text, of a list and of lists in one another, and after them so many
-// keys.
-fn push_json(alloc: Global, out: &mut String, size: usize) -> Result<(), AllocError> {
-    out.push_str("{\"text\":\"")?;
+/// A document of a text, of a list and of lists in one another, and after them so many keys.
+pub fn json(alloc: Global, size: usize) -> Result<String, AllocError> {
+    let mut document = String::from_str(alloc, "{\"text\":\"")?;
+    let out = &mut document;
     push_times(out, "x", size)?;
     out.push_str("\",\"list\":[0")?;
     push_times(out, ", -1", size)?;
     out.push_str("],\"lists\":")?;
     push_lists(out, "\"\"", size.min(NESTED))?;
     push_keys(alloc, out, (",\"key ", "\":null"), size)?;
-    out.push('}')
+    out.push('}')?;
+    Ok(document)
 }
 
-// Appends the same in TOML.
-fn push_toml(alloc: Global, out: &mut String, size: usize) -> Result<(), AllocError> {
-    out.push_str("text = '")?;
+/// The same in TOML.
+pub fn toml(alloc: Global, size: usize) -> Result<String, AllocError> {
+    let mut document = String::from_str(alloc, "text = '")?;
+    let out = &mut document;
     push_times(out, "x", size)?;
     out.push_str("'\nlist = [0")?;
     push_times(out, ", -1", size)?;
     out.push_str("]\nlists = ")?;
     push_lists(out, "''", size.min(NESTED))?;
     out.push('\n')?;
-    push_keys(alloc, out, ("key_", " = true\n"), size)
+    push_keys(alloc, out, ("key_", " = true\n"), size)?;
+    Ok(document)
 }
 
 // The drawing of a value alone.
@@ -137,8 +140,7 @@ fn json_value(alloc: Global, document: &str) -> Result<Value, Deviation> {
 
 // A document in JSON.
 fn try_json(alloc: Global, size: usize, label: &str) -> Result<(), Deviation> {
-    let mut document = String::new(alloc);
-    push_json(alloc, &mut document, size)?;
+    let document = json(alloc, size)?;
     try_document(alloc, DocFormat::Json, document.as_str(), label)?;
     let value = json_value(alloc, document.as_str())?;
     try_value(alloc, &value, label)
@@ -155,8 +157,7 @@ fn toml_value(alloc: Global, document: &str) -> Result<Value, Deviation> {
 
 // A document in TOML.
 fn try_toml(alloc: Global, size: usize, label: &str) -> Result<(), Deviation> {
-    let mut document = String::new(alloc);
-    push_toml(alloc, &mut document, size)?;
+    let document = toml(alloc, size)?;
     try_document(alloc, DocFormat::Toml, document.as_str(), label)?;
     let value = toml_value(alloc, document.as_str())?;
     try_value(alloc, &value, label)

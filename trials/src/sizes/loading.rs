@@ -3,7 +3,7 @@
 use crate::deviation::{Deviation, expect};
 use crate::sizes::{made, text};
 use ptree::print_config::{
-    FileSource, PrintConfig, Sources, faults, first_fault, load, syntax_line,
+    FIELDS, Field, FileSource, PrintConfig, Sources, faults, first_fault, load, syntax_line,
 };
 use std::alloc::{AllocError, Global};
 
@@ -89,11 +89,41 @@ fn try_faulty(alloc: Global, size: usize, file: FileSource) -> Result<(), Deviat
     try_sources(alloc, &Sources { file, variables }, false)
 }
 
+// Sources in which each field has a wrong value in its variable and at its key, if there is a value
+// that it does not accept. The set of characters is the table of five of them.
+fn all_wrong(alloc: Global) -> Result<Sources, AllocError> {
+    let mut variables = Vec::new(alloc);
+    let mut file = String::new(alloc);
+    for field in FIELDS {
+        let name = String::from_str(alloc, field.variable())?;
+        variables.push((name, String::from_str(alloc, "?")?))?;
+        match field.table() {
+            _ if field == Field::Characters => {}
+            Some(table) => writeln!(file, "{table}.{} = []", field.key())?,
+            None => writeln!(file, "{} = []", field.key())?,
+        }
+    }
+    Ok(Sources {
+        file: FileSource::Toml(file),
+        variables,
+    })
+}
+
+// All faults that sources can have: all keys but one are wrong, and the variables but for six texts
+// and four colours.
+fn try_all_wrong(alloc: Global) -> Result<(), Deviation> {
+    let sources = all_wrong(alloc)?;
+    try_sources(alloc, &sources, false)?;
+    let all = made(faults(alloc, &sources), "`faults` succeeds")?;
+    expect(all.len() == 51, "each wrong value is a fault")
+}
+
 /// Tries all of them.
 pub fn try_all(alloc: Global, size: usize) -> Result<(), Deviation> {
     try_good(alloc, size, FileSource::Absent)?;
     try_good(alloc, size, FileSource::Toml(toml(alloc, size)?))?;
     try_good(alloc, size, FileSource::Json(json(alloc, size)?))?;
+    try_all_wrong(alloc)?;
     let mut faulty = "\n".repeat(alloc, size)?;
     faulty.push_str("?")?;
     try_faulty(alloc, size, FileSource::Json(faulty.clone()?))?;

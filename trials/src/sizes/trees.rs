@@ -181,14 +181,13 @@ fn try_leaf(alloc: Global, part: &str, size: usize) -> Result<(), Deviation> {
     try_tree(alloc, &leaf)
 }
 
-// A tree of many children.
-fn try_wide(alloc: Global, size: usize) -> Result<(), Deviation> {
+/// A tree of many children, below a long text.
+pub fn wide(alloc: Global, size: usize) -> Result<StringItem, Deviation> {
     let text = text(alloc, size)?;
-    let wide = made(
+    made(
         StringItem::new(alloc, text.as_str(), leaves(alloc, size)?),
         "`StringItem::new` succeeds",
-    )?;
-    try_tree(alloc, &wide)
+    )
 }
 
 // A tree of many levels.
@@ -205,7 +204,7 @@ fn try_trees(alloc: Global, size: usize) -> Result<(), Deviation> {
     for part in ["x", "\n", "a\n"] {
         try_leaf(alloc, part, size)?;
     }
-    try_wide(alloc, size)?;
+    try_tree(alloc, &wide(alloc, size)?)?;
     try_deep(alloc, size)
 }
 
