@@ -4,7 +4,7 @@ pub returns : goal.returns
 returns g c =
     record {
       end = c.perform-end.result;
-      status = assumption c.report.ensures;
+      status = c.report.ensures.status;
       ends = c.perform-end.ensures.ends;
       cause = c.perform-end.ensures.cause;
       read = c.perform-end.ensures.read;
