@@ -42,11 +42,11 @@ pub fn has_more_below(
     root: NodeIndex,
     walks: bool,
 ) -> Result<bool, AllocError> {
-    if walks {
-        return has_longer_walk(alloc, graph, root);
-    }
     let once = graph.expanded_once(root, LEVELS.saturating_add(1))?;
-    has_deeper_place(alloc, once.places.as_slice())
+    if has_deeper_place(alloc, once.places.as_slice(), walks)? {
+        return Ok(true);
+    }
+    Ok(walks && has_longer_walk(alloc, graph, root)?)
 }
 
 // Whether a walk from a node has more steps than there are levels.
@@ -79,17 +79,28 @@ fn next_ends(
     Ok(next)
 }
 
-// Whether one of the places of a drawing is deeper than there are levels.
-fn has_deeper_place(alloc: Global, places: &[Place]) -> Result<bool, AllocError> {
-    // The last places below those that the next one may be below.
-    let mut lasts = Vec::new(alloc);
+// Whether one of the places of a drawing is deeper than there are levels or, if all walks are drawn,
+// is below a place of its node.
+fn has_deeper_place(alloc: Global, places: &[Place], walks: bool) -> Result<bool, AllocError> {
+    // The last place below each of those that are above the next one, and its node.
+    let mut above = Vec::new(alloc);
     for (i, place) in places.iter().enumerate() {
-        let level = lasts.partition_point(|last| *last >= i);
-        if level > LEVELS as usize {
+        let level = above.partition_point(|(last, _)| *last >= i);
+        above.truncate(level);
+        if level > LEVELS as usize || (walks && has_node(&above, place.node)) {
             return Ok(true);
         }
-        lasts.truncate(level);
-        lasts.push(i.saturating_add(place.below()))?;
+        above.push((i.saturating_add(place.below()), place.node))?;
     }
     Ok(false)
+}
+
+// Whether a place is one of a node.
+fn has_node(places: &[(usize, NodeIndex)], node: NodeIndex) -> bool {
+    for (_, other) in places {
+        if *other == node {
+            return true;
+        }
+    }
+    false
 }
