@@ -90,7 +90,7 @@ fn form_not_read(source: &Source) -> Option<&'static str> {
     None
 }
 
-// Returns edges, each once, or the other way round.
+// Returns edges, each once, and turned around if what needs a node is drawn.
 fn edges_once(
     alloc: Global,
     edges: &[(NodeIndex, NodeIndex)],
@@ -123,25 +123,36 @@ fn drawn(
         mut edges,
         paths: _,
     } = network;
-    let count = labels.len();
     // A node's neighbours are drawn newest edge first.
     edges.reverse();
-    let mut graph = labelled(alloc, labels, is_terminal)?;
+    let mut graph = labelled(alloc, &labels, is_terminal)?;
     extend(alloc, source, &mut graph, &edges)?;
-    if let Some(root) = start {
-        return Ok(Dependencies { graph, root });
-    }
-    let tops = root::tops(alloc, &graph, &edges, count)?;
-    if let [only] = tops.as_slice() {
-        return Ok(Dependencies { graph, root: *only });
-    }
-    let root = graph.add_node(shown(alloc, source.label(), is_terminal)?)?;
-    let mut above = Vec::new(alloc);
-    for top in tops.iter().rev() {
-        above.push((root, *top))?;
-    }
-    extend(alloc, source, &mut graph, &above)?;
+    let root = match start {
+        Some(root) => root,
+        None => top(alloc, source, &mut graph, &edges, is_terminal)?,
+    };
     Ok(Dependencies { graph, root })
+}
+
+// Returns the top of a graph with these edges. If there are several, they get one above them.
+fn top(
+    alloc: Global,
+    source: &Source,
+    graph: &mut Graph<String>,
+    edges: &[(NodeIndex, NodeIndex)],
+    is_terminal: bool,
+) -> Result<NodeIndex, Failure> {
+    let above = graph.add_node(shown(alloc, source.label(), is_terminal)?)?;
+    let tops = root::tops(alloc, graph, edges, above.0)?;
+    if let [only] = tops.as_slice() {
+        return Ok(*only);
+    }
+    let mut edges = Vec::new(alloc);
+    for top in tops.iter().rev() {
+        edges.push((above, *top))?;
+    }
+    extend(alloc, source, graph, &edges)?;
+    Ok(above)
 }
 
 // Adds edges to a graph.
@@ -161,7 +172,7 @@ fn extend(
 // Returns a graph of nodes with these labels, for a terminal escaped.
 fn labelled(
     alloc: Global,
-    labels: Vec<String>,
+    labels: &[String],
     is_terminal: bool,
 ) -> Result<Graph<String>, AllocError> {
     let mut graph = Graph::new(alloc);

@@ -19,9 +19,9 @@ pub fn named(
     network: &Network,
     name: &str,
 ) -> Result<NodeIndex, Failure> {
-    let mut found = nodes(alloc, network, |text| text == name)?;
+    let mut found = nodes(alloc, network, name, true)?;
     if found.is_empty() {
-        found = nodes(alloc, network, |text| is_named(text, name))?;
+        found = nodes(alloc, network, name, false)?;
     }
     match found.as_slice() {
         [only] => Ok(*only),
@@ -30,16 +30,22 @@ pub fn named(
     }
 }
 
-// Returns the nodes of which a label or a path is meant.
-fn nodes<F: Fn(&str) -> bool>(
+// Returns the nodes that have a name as their label or path, or in a part of these.
+fn nodes(
     alloc: Global,
     network: &Network,
-    is_meant: F,
+    name: &str,
+    is_whole: bool,
 ) -> Result<Vec<NodeIndex>, AllocError> {
     let mut found = Vec::new(alloc);
     for (i, label) in network.labels.iter().enumerate() {
-        let path = network.paths.get(i);
-        if is_meant(label.as_str()) || path.is_some_and(|path| is_meant(path.as_str())) {
+        let path = network.paths.get(i).map_or("", |path| path.as_str());
+        let is_meant = if is_whole {
+            label.as_str() == name || path == name
+        } else {
+            is_named(label.as_str(), name)
+        };
+        if is_meant {
             found.push(NodeIndex(i))?;
         }
     }
