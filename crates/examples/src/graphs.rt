@@ -80,6 +80,15 @@ pub fn needs_once(graph: &Graph<Package>, which: NodeIndex) -> Result<Occurrence
     graph.expanded_once(which, 9)
 }
 
+/// How many times a package is named where each one's needs are shown once: as often as the tree has
+/// occurrences.
+pub fn times_named(graph: &Graph<Package>, which: NodeIndex) -> Result<usize, AllocError>
+    ensures { IfOk result (λ n. (t : OccurrenceTree)
+        → IsExpandedOnce (neighbors_of (edges_of graph.now)) which.0 9 t → n ≡ occurrence_count t) }
+{
+    Ok(graph.expanded_once(which, 9)?.places.len())
+}
+
 /// The same, of a package that needs something: of its occurrences above the depth, the first has
 /// its needs below it, and the others have nothing.
 pub fn first_needs_once(graph: &Graph<Package>, which: NodeIndex) -> Result<Occurrence, AllocError>

@@ -1,9 +1,12 @@
-//! Tests readers, and that a writer is asked whether it is a terminal.
+//! Tests readers, what a buffer passes on, how sinks fail, and that a writer is asked whether it is
+//! a terminal.
 
 use crate::expect::expect_on_screen;
-use crate::fixtures::failing::Breaking;
+use crate::fixtures::failing::{Answer, Breaking, Failing};
 use crate::fixtures::trees::over_leaves;
-use ptree::style::{Counted, Feed};
+use ptree::buffered::Buffered;
+use ptree::style::{Counted, DrawError, Feed, put_all};
+use std::alloc::Global;
 use std::io::ErrorKind;
 use std::test::Fail;
 
@@ -33,5 +36,57 @@ fn an_error_of_a_reader_is_passed_on(rt: HostRuntime) -> Result<(), Fail> {
         }
         assert!(rt; feed.into_inner().rest.is_empty());
     }
+    Ok(())
+}
+
+// Makes a buffer before a writer with this much room.
+fn buffer(
+    alloc: Global,
+    capacity: usize,
+    room: usize,
+    answer: Answer,
+) -> Result<Buffered<Counted<Failing>>, Fail> {
+    let sink = Counted::new(Failing::new(alloc, 8, room, 8, answer)?);
+    match Buffered::with_capacity(alloc, capacity, sink) {
+        Ok(buffered) => Ok(buffered),
+        Err(_) => Err(Fail::new(format_args!("out of memory"))),
+    }
+}
+
+// Expects that a call failed as the writer does.
+fn expect_failed(found: Result<(), DrawError>, answer: Answer) -> Result<(), Fail> {
+    match (&found, answer) {
+        (Err(DrawError::Zero), Answer::Zero) => Ok(()),
+        (Err(DrawError::Write(e)), Answer::Error(kind)) if e.kind() == kind => Ok(()),
+        _ => Err(Fail::new(format_args!("{found:?}"))),
+    }
+}
+
+// Expects that each call fails as the writer does, directly and through a buffer.
+fn expect_failures(alloc: Global, answer: Answer) -> Result<(), Fail> {
+    let mut sink = Counted::new(Failing::new(alloc, 8, 2, 8, answer)?);
+    expect_failed(put_all(&mut sink, b"abc"), answer)?;
+    let mut buffered = buffer(alloc, 4, 2, answer)?;
+    put_all(&mut buffered, b"abc")?;
+    expect_failed(buffered.flush(), answer)?;
+    expect_failed(buffered.flush(), answer)?;
+    expect_failed(put_all(&mut buffered, b"d"), answer)
+}
+
+#[test]
+fn an_error_is_told_from_accepting_nothing(rt: HostRuntime) -> Result<(), Fail> {
+    expect_failures(rt.alloc(), Answer::Zero)?;
+    expect_failures(rt.alloc(), Answer::Error(ErrorKind::BrokenPipe))
+}
+
+#[test]
+fn a_buffer_passes_on_what_it_holds_when_it_is_full(rt: HostRuntime) -> Result<(), Fail> {
+    let mut buffered = buffer(rt.alloc(), 4, 8, Answer::Zero)?;
+    for part in ["ab", "cd", "e"] {
+        put_all(&mut buffered, part.as_bytes())?;
+    }
+    buffered.flush()?;
+    let writer = buffered.into_inner().into_inner();
+    assert!(rt; writer.taken.as_slice() == b"abcde".as_slice() && writer.calls == 2);
     Ok(())
 }
