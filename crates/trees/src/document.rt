@@ -148,7 +148,8 @@ pub fn toml_value(alloc: Global, source: &Source) -> Result<toml::Value, Failure
         Ok(table) => Ok(toml::Value::Table(table)),
         Err(e) if e.is_memory() => Err(Failure::Memory),
         Err(e) => {
-            let line = wrong_line(alloc, FileSource::Toml(source.text.clone()?))?;
+            // (the line that the reader names, since its message is about that)
+            let line = line_at(source.text.as_str(), e.span().map_or(0, |span| span.start));
             let why = e.message();
             let wrong = format!(in alloc; "not TOML: {why}")?;
             Err(source.wrong_at(alloc, line, wrong.as_str())?)
@@ -180,6 +181,12 @@ pub fn json_value(alloc: Global, source: &Source) -> Result<serde_json::Value, F
 // Returns the line at which a text stops being a document of its format.
 fn wrong_line(alloc: Global, file: FileSource) -> Result<usize, AllocError> {
     Ok(syntax_line(alloc, &file)?.unwrap_or(1))
+}
+
+// Returns the line, counted from 1, of a byte of a text.
+fn line_at(text: &str, place: usize) -> usize {
+    let feeds = text.bytes().take(place).filter(|byte| *byte == b'\n');
+    feeds.count().saturating_add(1)
 }
 
 // Returns the text of the root: the label, or else the last key, or else the file's name.
