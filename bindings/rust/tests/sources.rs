@@ -111,7 +111,11 @@ fn configurations_are_loaded() {
     env::remove_var("ptree_depth");
     assert_eq!(load("toml", "indent = \n"), PrintConfig::default());
     env::set_var("PTREE_INDENT", "9");
-    for path in [folder.join("missing.toml"), folder.clone(), "/dev/null".into()] {
+    for path in [
+        folder.join("missing.toml"),
+        folder.clone(),
+        "/dev/null".into(),
+    ] {
         env::set_var("PTREE_CONFIG", path);
         assert_eq!(PrintConfig::from_env(), PrintConfig::default());
     }
