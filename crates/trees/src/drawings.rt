@@ -1,9 +1,9 @@
 //! Reads drawings, and says where a text is none.
 ghost use Rattle.ptree.specs.Readable.{HasReadablePieces};
 
-use crate::expected::{beginnings, can_follow};
+use crate::expected::{beginnings, is_too_deep};
 use crate::failure::Failure;
-use crate::levels::{LEVELS, TOO_DEEP};
+use crate::levels::TOO_DEEP;
 use crate::pieces;
 use crate::source::Source;
 use crate::usage::Usage;
@@ -52,7 +52,7 @@ fn wrong_line(
     requires { HasReadablePieces config.now }
 {
     let (before, wrong) = split_at_line(text, line);
-    if is_too_deep(alloc, before, wrong, config)? {
+    if is_too_deep(alloc, wrong, config)? {
         return Ok(String::from_str(alloc, TOO_DEEP)?);
     }
     let mut said = format!(in alloc;
@@ -68,21 +68,6 @@ fn wrong_line(
         write!(said, "\nhere could stand, before a text:\n{could}")?;
     }
     Ok(said)
-}
-
-// Whether a line is wrong only in that it is below the greatest level.
-fn is_too_deep(
-    alloc: Global,
-    before: &str,
-    line: &str,
-    config: &PrintConfig,
-) -> Result<bool, AllocError> {
-    if line.len() <= LEVELS as usize {
-        return Ok(false);
-    }
-    let mut deeper = config.clone()?;
-    deeper.depth = u32::MAX;
-    Ok(pieces_readable(alloc, &deeper)? && can_follow(alloc, before, "", line, &deeper)?)
 }
 
 // Returns the lines before a line, and the line.

@@ -1,6 +1,7 @@
 //! What could stand in the place of a wrong line.
 ghost use Rattle.ptree.specs.Readable.{HasReadablePieces};
 
+use crate::levels;
 use ptree::output::Indent;
 use ptree::print_config::PrintConfig;
 use ptree::read::{ReadError, read_tree_or_line};
@@ -103,6 +104,32 @@ fn last_line(text: &str) -> &str {
     }
 }
 
+/// Whether a line is that of an item below the greatest level.
+///
+/// # Errors
+///
+/// Memory ran out.
+pub fn is_too_deep(alloc: Global, line: &str, config: &PrintConfig) -> Result<bool, AllocError> {
+    if line.len() <= levels::LEVELS as usize {
+        return Ok(false);
+    }
+    let indent = Indent::from_config(alloc, config)?;
+    Ok(has_more_pieces(&indent, line))
+}
+
+// Whether the piece of an item stands behind as many passing pieces as there are levels.
+fn has_more_pieces(indent: &Indent, line: &str) -> bool {
+    let mut rest = line;
+    for _level in 0..levels::LEVELS {
+        let Some((_, left)) = passing(indent, rest) else {
+            return false;
+        };
+        rest = left;
+    }
+    rest.starts_with(indent.regular_prefix.as_str())
+        || rest.starts_with(indent.last_regular_prefix.as_str())
+}
+
 // Returns the passing piece with which a line begins, and what follows it.
 fn passing<'a>(indent: &'a Indent, line: &'a str) -> Option<(&'a str, &'a str)> {
     for piece in [
@@ -116,12 +143,8 @@ fn passing<'a>(indent: &'a Indent, line: &'a str) -> Option<(&'a str, &'a str)> 
     None
 }
 
-/// Whether an item that begins so can follow lines of a drawing.
-///
-/// # Errors
-///
-/// Memory ran out.
-pub fn can_follow(
+// Whether an item that begins so can follow lines of a drawing.
+fn can_follow(
     alloc: Global,
     before: &str,
     front: &str,
