@@ -1,6 +1,7 @@
 //! Sinks of a caller's own.
 ghost use Rattle.std.specs.Io.KnownBytes.{Appends};
-ghost use Rattle.std.specs.Prelude.{◌≡◌, None, IfOk};
+ghost use Rattle.std.specs.Prelude.{◌≡◌, ◌≤◌, length, None, IfOk};
+ghost use Rattle.ptree.specs.Buffered.{inner_sink, held_bytes};
 
 use ptree::buffered::Buffered;
 use ptree::style::{DrawError, Sink, put_all};
@@ -59,4 +60,23 @@ pub fn flush_twice<S: Sink + Drop>(alloc: Global, sink: S) -> Result<S, DrawErro
     buffered.flush()?;
     buffered.flush()?;
     Ok(buffered.into_inner())
+}
+
+/// Puts bytes into a new buffer. It holds 4096 bytes at most, and the sink is not called if the
+/// bytes are no more.
+pub fn gather<S: Sink + Drop>(
+    alloc: Global,
+    sink: S,
+    bytes: &[u8],
+) -> Result<Buffered<S>, DrawError>
+    ensures fits { IfOk result (λ b. length (held_bytes b) ≤ 4096) }
+    ensures waits { length bytes.now ≤ 4096 → IfOk result (λ b. inner_sink b ≡ sink) }
+{
+    let Ok(mut buffered) = Buffered::with_capacity(alloc, 4096, sink) else {
+        return Err(DrawError::Memory);
+    };
+    match buffered.put(bytes) {
+        Ok(_) => Ok(buffered),
+        Err(e) => Err(DrawError::Write(e)),
+    }
 }

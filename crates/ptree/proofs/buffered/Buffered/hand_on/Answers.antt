@@ -1,9 +1,10 @@
 use Rattle.std.proofs.Common.{arith}
 use Rattle.std.proofs.lemmas.Grind.{elements}
+use Rattle.ptree.proofs.Handing.{keeps_given}
 use Rattle.ptree.proofs.buffered.Buffered.hand_on.Goals as goal
 
 pub returns-clause-bytes : goal.returns-clause-bytes
-returns-clause-bytes g c = grind (arith, elements)
+returns-clause-bytes g c = keeps_given _ _ c.put_until_fault-taken.result.0 _ _ (rw c.deref.ensures.value at c.put_until_fault-taken.ensures.bytes) c.remove_prefix.ensures.bytes
 
 pub returns-clause-done : goal.returns-clause-done
 returns-clause-done g c = grind (arith, elements)
