@@ -1,5 +1,5 @@
 //! Configurations and styles as C gives them: by their fields.
-ghost use Rattle.std.specs.Prelude.{◌≡◌, ◌<◌, IfOk, Err, option_map, string_bytes};
+ghost use Rattle.std.specs.Prelude.{◌≡◌, ◌≤◌, ◌<◌, IfOk, IsOk, Err, option_map, string_bytes};
 ghost use Rattle.ptree.specs.Characters.{characters_of};
 ghost use Rattle.ptree.specs.Color.{color_of};
 ghost use Rattle.ptree.specs.Config.{config_of};
@@ -216,6 +216,7 @@ fn characters_of_fields(
 // When output is styled, by a number.
 fn styled(number: u32) -> Result<StyleWhen, Refusal>
     ensures ok { IfOk result (λ styled. styled ≡ when_styled number) }
+    ensures known { number ≤ 2 → IsOk result }
     ensures refused { 2 < number → result ≡ Err Styled }
 {
     match number {
