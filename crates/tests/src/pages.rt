@@ -1,4 +1,4 @@
-//! The code of `docs/EXAMPLES.md` that is not in the crate `examples`, and what the types there
+//! The code of `docs/GUIDE.md` that is not in the crate `examples`, and what the types there
 //! draw.
 ghost use Rattle.std.specs.Prelude.{◌≡◌, ◌<◌, OnOk};
 
