@@ -1,4 +1,4 @@
-//! Measures the library: `ptree_bench TASK SHAPE ITEMS TIMES`. The tasks are in the `README.md` of `bench/`.
+//! Measures the library: `ptree_bench TASK SHAPE ITEMS TIMES`. `bench/run` makes the tables of `docs/FIGURES.md` of what they print.
 #![tactic(auto)]
 
 mod documents;
