@@ -66,6 +66,11 @@ block() {
     awk -v fence="\`\`\`$2" -v n="$3" '$0 == fence && --n == 0 { inside = 1; next } /^```/ { inside = 0 } inside' "$1"
 }
 
+# Prints a section of a page, from its heading to the next one of its level. Arguments: page, title.
+section() {
+    awk -v title="## $2" '/^## / { inside = $0 == title } inside' "$1"
+}
+
 # Checks that a command of a page writes what the page shows. Arguments: name, the command, what it must write. The part sets
 # `launcher` to what is called in the place of `named`, the program's name in the page.
 expect_shown() {

@@ -1,4 +1,4 @@
-//! Sets fields of a configuration, by the keys of `docs/CONFIGURATION.md`.
+//! Sets fields of a configuration, by the keys of `docs/CLI.md`.
 
 use crate::form::parse_value;
 use crate::trouble::Trouble;
