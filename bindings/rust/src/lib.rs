@@ -1,7 +1,7 @@
 //! Draws trees as text, and reads the drawings back exactly.
 //!
 //! The names and types are those of the crate `ptree` 0.5.2. What draws and reads is a static library that is proved; this
-//! crate gathers items, passes them on and writes what comes back. `docs/RUST.md` of the repository says what holds.
+//! crate gathers items, passes them on and writes what comes back. `docs/BINDINGS.md` of the repository says what holds.
 //!
 //! ```
 //! use ptree::{write_tree_with, PrintConfig, TreeBuilder};

@@ -1,5 +1,5 @@
 //! Draws trees and documents for programs in C, and reads drawings: a static library over `ptree`.
-//! `docs/C.md` of the repository has the page for callers, and `bindings/c/ptree.h` the header.
+//! `docs/BINDINGS.md` of the repository is for callers, and `bindings/c/ptree.h` is the header.
 #![tactic(auto)]
 
 mod answer;
