@@ -1,4 +1,5 @@
-//! Measures the library: `ptree_bench TASK SHAPE ITEMS TIMES`. `bench/run` makes the tables of `docs/FIGURES.md` of what they print.
+//! Measures the library: `ptree_bench TASK SHAPE ITEMS TIMES`. `bench/run` makes the tables of
+//! `docs/FIGURES.md` of what the tasks print.
 #![tactic(auto)]
 
 mod documents;
