@@ -33,3 +33,8 @@ pub use crate::output::{print_tree, print_tree_with, write_tree, write_tree_with
 pub use crate::print_config::{IndentChars, PrintConfig};
 pub use crate::read::read_tree;
 pub use crate::style::{Color, Style};
+
+// The examples of the page are tests of the documentation.
+#[cfg(doctest)]
+#[doc = include_str!("../../../docs/BINDINGS.md")]
+struct Page;
