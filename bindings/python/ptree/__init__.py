@@ -1,0 +1,351 @@
+"""Draws trees as text, and reads the drawings back exactly.
+
+>>> from ptree import Tree, draw, read
+>>> notes = Tree("notes", [Tree("shopping", ["bread"]), "call home"])
+>>> print(notes, end="")
+notes
+├─ shopping
+│  └─ bread
+└─ call home
+>>> read(str(notes)) == notes
+True
+>>> print(draw(notes, "tree --charset=ascii", depth=1), end="")
+notes
+|-- shopping
+`-- call home
+
+A drawing is a text with a line feed behind each line. What draws and reads is a library whose answers are proved; docs/PYTHON.md of its
+repository says what holds. Every call may raise MemoryError, and UnicodeEncodeError for a text with half a surrogate pair. A call that
+raises has changed nothing, unless it says so.
+"""
+from __future__ import annotations
+
+import ctypes
+import dataclasses
+import functools
+import graphlib
+import itertools
+import json
+import math
+import operator
+import struct
+import sys
+from collections.abc import Callable, Hashable, Iterable, Iterator, Mapping
+from typing import Any, TextIO, TypeVar
+
+from . import _library as c
+from ._config import PRESETS, Characters, Config, NamedColor, Style, _fields, _style_in, config_of, document_stack
+from ._library import ConfigError, DocumentError, PtreeError, ReadError
+
+__all__ = [
+    "Tree", "Config", "Style", "Characters", "NamedColor", "PRESETS", "PtreeError", "ReadError", "DocumentError", "ConfigError",
+    "draw", "draw_parts", "print_tree", "read", "draw_json", "draw_toml", "draw_graph", "paint",
+]  # fmt: skip
+for _public in (Config, Style, Characters, NamedColor, PtreeError, ReadError, DocumentError, ConfigError):
+    _public.__module__ = __name__
+Node = TypeVar("Node")
+Key = TypeVar("Key", bound=Hashable)
+_children = operator.attrgetter("children")
+_utf8 = str.encode
+
+
+class Tree:
+    """A label, and the trees below it. `str(tree)` is its drawing.
+
+    A label is any text, with line feeds too. No call makes a step of its own for each level, so a tree may be as deep as memory holds.
+    """
+
+    __slots__ = ("label", "children")
+    #: The tree's own text.
+    label: str
+    #: The trees below it, in order.
+    children: list[Tree]
+
+    def __init__(self, label: str, children: Iterable[Tree | str] = ()):
+        """Makes a tree. A child that is a text becomes a tree without children.
+
+        Raises TypeError if the label is no text, or the children are one text.
+        """
+        if not isinstance(label, str):
+            raise TypeError(f"a label is a text, and not {label!r}")
+        if isinstance(children, str):
+            raise TypeError("the children are a list of trees or texts, and not one text")
+        self.label = label
+        self.children = [child if isinstance(child, Tree) else Tree(child) for child in children]
+
+    def add(self, child: Tree | str) -> Tree:
+        """Adds a child behind the others, and returns it."""
+        self.children.append(child if isinstance(child, Tree) else Tree(child))
+        return self.children[-1]
+
+    def walk(self) -> Iterator[tuple[int, Tree]]:
+        """Returns this tree and all trees below it in the order of drawing, each with its level. This one has level 0."""
+        return ((level, tree) for level, tree, _ in _walk(self, _children, None))
+
+    def __eq__(self, other: object) -> bool:
+        """Whether two trees have the same labels at the same places."""
+        if not isinstance(other, Tree):
+            return NotImplemented
+        pairs = itertools.zip_longest(self.walk(), other.walk(), fillvalue=(-1, self))
+        return all(a[0] == b[0] and a[1].label == b[1].label for a, b in pairs)
+
+    __hash__ = None  # type: ignore[assignment]
+
+    def __str__(self) -> str:
+        return draw(self)
+
+    def __repr__(self) -> str:
+        return f"<Tree {self.label!r}, {len(self.children)} children>"
+
+
+def _label(node: Any) -> str:
+    return node.label if isinstance(node, Tree) else str(node)
+
+
+def _walk(root: Node, children: Callable[[Node], Iterable[Node]], depth: int | None) -> Iterator[tuple[int, Node, bool]]:
+    """All nodes in the order of drawing, each with its level, and whether it is its parent's last child."""
+    yield 0, root, True
+    above = [iter(children(root) if depth != 0 else ())]
+    # the next child of each node above, or `above` if there is none
+    ahead: list[Any] = [next(above[0], above)]
+    while above:
+        node = ahead[-1]
+        if node is above:
+            above.pop()
+            ahead.pop()
+            continue
+        ahead[-1] = next(above[-1], above)
+        level = len(above)
+        yield level, node, ahead[-1] is above
+        if depth is None or level < depth:
+            above.append(iter(children(node)))
+            ahead.append(next(above[-1], above))
+
+
+def draw(
+    root: Node, config: Config | str | None = None, *, label: Callable[[Node], str] = _label,
+    children: Callable[[Node], Iterable[Node]] = _children, **changes: Any,
+) -> str:  # fmt: skip
+    """Returns the drawing of a tree.
+
+    `config` is a Config or the name of a preset, and `changes` are other values of its fields. For nodes of another type give `label`,
+    unless `str` is right, and `children`; these are not asked for at the greatest level that is drawn. A tree that leads back to itself
+    needs a depth.
+
+    Raises ConfigError if there is no such preset, ValueError for a number out of range, TypeError for a label that is no text or a field
+    that is none.
+
+    >>> print(draw(3, label=str, children=range), end="")
+    3
+    ├─ 0
+    ├─ 1
+    │  └─ 0
+    └─ 2
+       ├─ 0
+       └─ 1
+          └─ 0
+    """
+    config = config_of(config, changes)
+    pack = struct.Struct(c.ITEM).pack
+    texts, items, end = [], [], 0
+    for level, node, _ in _walk(root, children, config.depth):
+        text = _utf8(label(node))
+        texts.append(text)
+        end += len(text)
+        items.append(pack(end, level))
+    return _text("draw_with", b"".join(items), len(items), b"".join(texts), end, *_fields(config), guess=2 * end + 40 * len(items))
+
+
+def _text(call: str, *given: Any, guess: int = 0) -> str:
+    """The text that a call writes."""
+    number, text, found = c.written(call, *given, guess=guess)
+    if number != c.DONE:
+        c.refuse(number, found.place)
+    return text
+
+
+def draw_parts(
+    root: Node, config: Config | str | None = None, *, label: Callable[[Node], str] = _label,
+    children: Callable[[Node], Iterable[Node]] = _children, items: int = 500, **changes: Any,
+) -> Iterator[str]:  # fmt: skip
+    """Returns the drawing in parts, each of so many items at most; joined they are what `draw` returns.
+
+    Nodes are asked for while it draws, one ahead at each level, and only those above an item are kept. So a tree of any size is drawn with
+    little memory. Arguments and errors are those of `draw`; `items` is at least 1. The parts before an error stand.
+    """
+    if items < 1:
+        raise ValueError(f"a part has at least one item, and not {items}")
+    config = config_of(config, changes)
+    return _parts(_walk(root, children, config.depth), label, items, _fields(config))
+
+
+def _parts(nodes: Iterator[tuple[int, Node, bool]], label: Callable[[Node], str], items: int, fields: tuple[Any, bytes, int]) -> Iterator[str]:
+    """The entries of nodes, of so many at a time."""
+    pack, path = struct.Struct(c.STEP).pack, bytearray(64)
+    while part := list(itertools.islice(nodes, items)):
+        texts, steps, start, deepest = [], [], 0, 0
+        for level, node, is_last in part:
+            text = _utf8(label(node))
+            texts.append(text)
+            steps.append(pack(start, start + len(text), level, is_last))
+            start += len(text)
+            deepest = max(deepest, level)
+        path.extend(bytes(max(0, deepest - len(path))))
+        yield _steps(b"".join(steps), b"".join(texts), path, fields)
+
+
+def _steps(steps: bytes, texts: bytes, path: bytearray, fields: tuple[Any, bytes, int]) -> str:
+    """The entries of some items. `path` says which items above them are last children, and afterwards the same for the next ones."""
+    width, found, out = struct.calcsize(c.STEP), c.Found(), []
+    left = len(steps) // width
+    size = 4 * len(texts) + 64 * left
+    levels = ctypes.byref(ctypes.c_char.from_buffer(path)) if path else b""
+    while True:
+        made, at = c.room(size)
+        number = c.library.ptree_draw_steps(steps, left, texts, len(texts), levels, len(path), *fields, at, size, found)
+        if number != c.DONE:
+            c.refuse(number, found.place)
+        out.append(made[: found.bytes])
+        if not found.place:
+            return b"".join(out).decode()
+        # (the next entry has no room behind the others)
+        steps, left, size = steps[found.items * width :], left - found.items, max(size, found.place)
+
+
+def print_tree(
+    root: Node, config: Config | str | None = None, file: TextIO | None = None, *, label: Callable[[Node], str] = _label,
+    children: Callable[[Node], Iterable[Node]] = _children, **changes: Any,
+) -> None:  # fmt: skip
+    """Writes the drawing of a tree to a file, or to standard output.
+
+    It is styled if `styled` of the configuration is `always`, or `tty`, the default, and the file is standard output and a terminal.
+    Nodes are asked for while it writes. Arguments and errors are those of `draw`; an error of the file is raised as it is. Whole entries
+    that were written before an error stand.
+    """
+    out = sys.stdout if file is None else file
+    config = config_of(config, changes)
+    if config.styled == "tty" and out is sys.stdout and out.isatty():
+        config = dataclasses.replace(config, styled="always")
+    for part in draw_parts(root, config, label=label, children=children):
+        out.write(part)
+
+
+def read(text: str, config: Config | str | None = None, **changes: Any) -> Tree:
+    """Returns the tree whose drawing a text is, of no more levels than the configuration's depth. `draw` draws it as the same text.
+
+    `config` and `changes` are those of `draw`; of them the pieces, the marker and the depth are used.
+
+    Raises ReadError if the text is no drawing: its `line` is the first that cannot continue one, counted from 1, or None if the text ends
+    too early. Raises ConfigError if the pieces and the marker cannot be told apart in every drawing.
+    """
+    given, found, config = text.encode(), c.Found(), config_of(config, changes)
+    most = given.count(b"\n")
+    (items, items_at), (texts, texts_at) = c.room(struct.calcsize(c.ITEM) * most), c.room(len(given))
+    call = (given, len(given), *_fields(config), items_at, most, texts_at, len(given), found)
+    number = c.deep(_reading_stack(given), lambda: c.library.ptree_read_with(*call))
+    if number != c.DONE:
+        c.refuse(number, found.place)
+    path, start = [Tree("")], 0
+    for end, level in struct.iter_unpack(c.ITEM, memoryview(items)[: struct.calcsize(c.ITEM) * found.items]):
+        del path[level + 1 :]
+        path.append(path[level].add(texts[start:end].decode()))
+        start = end
+    return path[1]
+
+
+def _reading_stack(text: bytes) -> int:
+    """How much stack the reading of a text may need: 200 bytes for each level. An item of level n has n pieces of a byte or more in its
+    line, and there is an item of each level above it."""
+    few = 200 * math.isqrt(2 * len(text))
+    return few if few <= 32768 else min(few, 200 * max(map(len, text.split(b"\n"))))
+
+
+def draw_json(document: Any, label: str = "", config: Config | str | None = None, **changes: Any) -> str:
+    """Returns the drawing of a JSON document under a label. A text is taken as the document's text, and any other value as its value.
+
+    Keys are in ascending order. Under an empty label the root has the text of the document, if that is neither a list nor an object.
+    `config` and `changes` are those of `draw`.
+
+    Raises DocumentError if it is no document, or holds a float: so is a number outside of -2**63 to 2**64 - 1. Raises what
+    `json.dumps` does of a value.
+    """
+    return _document(document if isinstance(document, str) else json.dumps(document), label, c.JSON, config_of(config, changes))
+
+
+def draw_toml(document: str, label: str = "", config: Config | str | None = None, **changes: Any) -> str:
+    """Returns the drawing of a TOML document under a label, with keys in ascending order. `config` and `changes` are those of `draw`.
+
+    Raises DocumentError if it is no document, or holds a float, a date or a time.
+    """
+    return _document(document, label, c.TOML, config_of(config, changes))
+
+
+def _document(document: str, label: str, number: int, config: Config) -> str:
+    text, name = document.encode(), label.encode()
+    call = functools.partial(_text, "draw_document_with", text, len(text), name, len(name), number, *_fields(config), guess=4 * len(text) + 100)
+    return c.deep(document_stack(text), call)
+
+
+def draw_graph(
+    edges: Mapping[Key, Iterable[Key]], start: Key, config: Config | str | None = None, *, once: bool = True, mark: str = " (*)",
+    label: Callable[[Key], str] = str, **changes: Any,
+) -> str:  # fmt: skip
+    """Returns the drawing of a graph from a node. `edges` has the nodes below each node, in order; a node that it lacks has none.
+
+    A node is expanded where it comes first, and `mark` is put behind its label where it comes again. If `once` is false, all walks are
+    drawn: these can be far more than there are nodes, and have no end in a cycle, so give a depth. `config` and `changes` are those of
+    `draw`.
+
+    Raises graphlib.CycleError, a ValueError, for walks round a cycle without a depth; otherwise as `draw` does.
+
+    >>> print(draw_graph({"app": ["parser", "lexer"], "parser": ["lexer"], "lexer": ["parser"]}, "app"), end="")
+    app
+    ├─ parser
+    │  └─ lexer
+    │     └─ parser (*)
+    └─ lexer (*)
+    """
+    config = config_of(config, changes)
+    numbers: dict[Key, int] = {start: 0}
+    below: dict[Key, list[Key]] = {}
+    ahead = [start]
+    while ahead:
+        node = ahead.pop()
+        below[node] = list(edges.get(node, ()))
+        for to in below[node]:
+            if to not in numbers:
+                numbers[to] = len(numbers)
+                ahead.append(to)
+    levels = len(numbers)
+    if not once:
+        try:
+            graphlib.TopologicalSorter(below).prepare()
+        except graphlib.CycleError:
+            if config.depth is None:
+                raise
+            levels = config.depth
+    levels = levels if config.depth is None else min(levels, config.depth)
+    texts = [_utf8(label(node)) for node in numbers]
+    ends = list(itertools.accumulate(map(len, texts)))
+    # (the library draws a node's newest edge first)
+    pairs = [number for node, targets in below.items() for to in reversed(targets) for number in (numbers[node], numbers[to])]
+    given = (_sizes(ends), len(ends), b"".join(texts), ends[-1], _sizes(pairs), len(pairs) // 2, 0)
+    marks = (mark.encode(), len(mark.encode())) if once else ()
+    call = functools.partial(_text, "draw_once" if once else "draw_walks", *given, *marks, *_fields(config), guess=1000)
+    return c.deep(512 * levels, call)
+
+
+def _sizes(numbers: list[int]) -> bytes:
+    """Numbers as an array of `size_t`."""
+    return struct.pack(f"{len(numbers)}{c.SIZE}", *numbers)
+
+
+def paint(text: str, style: Style) -> str:
+    """Returns a text painted in a style: the codes of a terminal, the text, and a reset if there is a code.
+
+    >>> paint("leaf", Style("green", bold=True))
+    '\\x1b[1m\\x1b[32mleaf\\x1b[0m'
+    """
+    names, given = bytearray(), text.encode()
+    fields = _style_in(names, style)
+    return _text("paint", given, len(given), ctypes.byref(fields), bytes(names), len(names), guess=len(given) + 100)
