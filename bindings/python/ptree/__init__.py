@@ -306,25 +306,22 @@ def draw_graph(
     └─ lexer (*)
     """
     config = config_of(config, changes)
-    numbers: dict[Key, int] = {start: 0}
-    below: dict[Key, list[Key]] = {}
-    ahead = [start]
-    while ahead:
-        node = ahead.pop()
-        below[node] = list(edges.get(node, ()))
-        for to in below[node]:
-            if to not in numbers:
-                numbers[to] = len(numbers)
-                ahead.append(to)
-    levels = len(numbers)
+    numbers, below = {start: 0}, {start: list(edges.get(start, ()))}
+    # (each node is expanded where it comes first, as in the drawing)
+    above, levels = [iter(below[start])], 0
+    while above:
+        for node in above[-1]:
+            levels = max(levels, len(above))
+            if node not in numbers:
+                numbers[node], below[node] = len(numbers), list(edges.get(node, ()))
+                above.append(iter(below[node]))
+                break
+        else:
+            above.pop()
     if not once:
-        try:
-            graphlib.TopologicalSorter(below).prepare()
-        except graphlib.CycleError:
-            if config.depth is None:
-                raise
-            levels = config.depth
-    levels = levels if config.depth is None else min(levels, config.depth)
+        levels = _longest_walk(below, start, config.depth)
+    elif config.depth is not None:
+        levels = min(levels, config.depth)
     texts = [_utf8(label(node)) for node in numbers]
     ends = list(itertools.accumulate(map(len, texts)))
     # (the library draws a node's newest edge first)
@@ -333,6 +330,19 @@ def draw_graph(
     marks = (mark.encode(), len(mark.encode())) if once else ()
     call = functools.partial(_text, "draw_once" if once else "draw_walks", *given, *marks, *_fields(config), guess=1000)
     return c.deep(512 * levels, call)
+
+
+def _longest_walk(below: dict[Key, list[Key]], start: Key, depth: int | None) -> int:
+    """How many levels the walks from a node have. Round a cycle only a depth ends them."""
+    levels: dict[Key, int] = {}
+    try:
+        for node in graphlib.TopologicalSorter(below).static_order():
+            levels[node] = max((levels[to] + 1 for to in below[node]), default=0)
+    except graphlib.CycleError:
+        if depth is None:
+            raise
+        return depth
+    return levels[start] if depth is None else min(levels[start], depth)
 
 
 def _sizes(numbers: list[int]) -> bytes:

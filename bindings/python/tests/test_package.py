@@ -196,7 +196,7 @@ class Package(unittest.TestCase):
                 self.assertEqual(Config.from_env(variables), config, variables)
             script = "import ptree; print(ptree.Config.from_env().indent)"
             env = {b"HOME": folder.encode(), b"PTREE_LIBRARY": os.environb[b"PTREE_LIBRARY"], b"PTREE_DEPTH": b"\xff"}
-            said = subprocess.run([sys.executable, "-c", script], env=env, cwd=os.path.dirname(HERE), capture_output=True)
+            said = subprocess.run([sys.executable, "-B", "-c", script], env=env, cwd=os.path.dirname(HERE), capture_output=True)
             self.assertEqual((said.stdout, said.stderr), (b"7\n", b""))
 
     def test_print(self):
@@ -211,13 +211,12 @@ class Package(unittest.TestCase):
             try:
                 ptree.print_tree(Tree("r", ["a"]), leaf=Style("red"))
                 ptree.print_tree(Tree("r"), styled="never", leaf=Style("red"))
-                terminal.flush()
-                ptree.print_tree(Tree("r"), file=io.StringIO(), leaf=Style("red"))
+                print("end", flush=True)
             finally:
                 sys.stdout = before
-            expected = "\033[2m\033[0m\033[31mr\033[0m\r\n\033[2m└─ \033[0m\033[31ma\033[0m\r\nr\r\n"
+            expected = "\033[2m\033[0m\033[31mr\033[0m\r\n\033[2m└─ \033[0m\033[31ma\033[0m\r\nr\r\nend\r\n"
             found = b""
-            while found.count(b"\n") < 3:
+            while not found.endswith(b"end\r\n"):
                 found += shown.read(1000)
         self.assertEqual(found.decode(), expected)
 
@@ -255,6 +254,7 @@ class Package(unittest.TestCase):
         self.assertEqual(draw_graph(edges, "app", once=False, depth=1), "app\n├─ parser\n└─ lexer\n")
         self.assertEqual(draw_graph({}, "alone"), "alone\n")
         self.assertEqual(draw_graph({1: [2, 2], 3: [3]}, 1, once=False, label=hex), "0x1\n├─ 0x2\n└─ 0x2\n")
+        self.assertEqual(draw_graph({1: [3, 2], 2: [3], 3: [4]}, 1), "1\n├─ 3\n│  └─ 4\n└─ 2\n   └─ 3 (*)\n")
 
     def test_a_deep_graph_takes_no_stack_of_the_caller(self):
         edges = {n: [n + 1] for n in range(100_000)}
