@@ -242,7 +242,7 @@ def read(text: str, config: Config | str | None = None, **changes: Any) -> Tree:
     most = given.count(b"\n")
     (items, items_at), (texts, texts_at) = c.room(struct.calcsize(c.ITEM) * most), c.room(len(given))
     call = (given, len(given), *_fields(config), items_at, most, texts_at, len(given), found)
-    number = c.deep(_reading_stack(given), lambda: c.library.ptree_read_with(*call))
+    number = c.deep(_reading_stack(given), lambda: int(c.library.ptree_read_with(*call)))
     if number != c.DONE:
         c.refuse(number, found.place)
     path, start = [Tree("")], 0

@@ -174,7 +174,7 @@ class Config:
 
         Raises MemoryError alone.
         """
-        given = _texts((os.environb if variables is None else variables).items())
+        given = _texts(os.environb.items()) if variables is None else _texts(variables.items())
         try:
             path = _file_of(given)
             if path is None:

@@ -67,8 +67,9 @@ _NEW = ("faults",)
 def _path() -> str:
     """The path of the shared library: what PTREE_LIBRARY says, or beside the package, as in a wheel, or below the prefix of Python, or the
     name by which the system's loader looks for it."""
+    named = os.environ.get("PTREE_LIBRARY", "")
     paths = (os.path.join(os.path.dirname(os.path.abspath(__file__)), "libptree.so"), os.path.join(sys.prefix, "lib", "libptree.so.0.5"))
-    return os.environ.get("PTREE_LIBRARY") or next(filter(os.path.exists, paths), "libptree.so.0.5")
+    return named or next((path for path in paths if os.path.exists(path)), "libptree.so.0.5")
 
 
 def _load(path: str) -> ctypes.CDLL:
@@ -110,7 +111,7 @@ class ConfigError(PtreeError):
     the line of a file whose syntax is wrong, counted from 1, or None."""
 
 
-_ERRORS = {
+_ERRORS: dict[int, type[PtreeError]] = {
     **dict.fromkeys((LINE, INCOMPLETE), ReadError),
     **dict.fromkeys((SYNTAX, FLOAT, DATE), DocumentError),
     **dict.fromkeys((PRESET, PIECES, NAMES, COLOR, FAULT, STYLED), ConfigError),
