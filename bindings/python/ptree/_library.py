@@ -81,7 +81,7 @@ def _load(path: str) -> ctypes.CDLL:
                 call.argtypes, call.restype = parameters, c_uint32
         found.ptree_refusal_text.argtypes, found.ptree_refusal_text.restype = [c_uint32, *_ROOM], c_size_t
     except (OSError, AttributeError) as error:
-        raise ImportError(f"the shared library of ptree 0.5 is not found ({error}); PTREE_LIBRARY can have its path") from error
+        raise ImportError(f"no shared library of ptree 0.5, name it in PTREE_LIBRARY: {error}") from error
     return found
 
 
