@@ -130,7 +130,9 @@ class Package(unittest.TestCase):
         cases = ({"depth": 2**32}, {"depth": -1}, {"indent": -1}, {"indent": 2**64}, {"padding": 2**64}, {"styled": "maybe"})
         for changes in cases:
             with self.assertRaises(ValueError):
-                draw(Tree("r"), **changes)
+                Config(**changes)
+            with self.assertRaises(ValueError):
+                draw_parts(Tree("r"), **changes)
         for color in (256, -1, (1, 2, 256), (1, 2), (1, 2, 3, 4)):
             with self.assertRaises(ValueError):
                 Style(color)
@@ -146,7 +148,8 @@ class Package(unittest.TestCase):
 
     def test_colours(self):
         for color, code in (
-            ("red", "31"), (NamedColor("red"), "31"), ("Red", "38;2;255;0;0"), ("#102030", "38;2;16;32;48"), ("steelblue", "38;2;70;130;180"), (7, "38;5;7"), ((1, 2, 255), "38;2;1;2;255"),
+            ("red", "31"), (NamedColor("red"), "31"), ("Red", "38;2;255;0;0"), ("#102030", "38;2;16;32;48"),
+            ("steelblue", "38;2;70;130;180"), (7, "38;5;7"), ((1, 2, 255), "38;2;1;2;255"),
         ):  # fmt: skip
             self.assertEqual(paint("x", Style(color)), f"\033[{code}mx\033[0m")
             config = Config(styled="always", branch=Style(), leaf=Style(color))
@@ -206,15 +209,17 @@ class Package(unittest.TestCase):
 
     def test_print_to_a_terminal(self):
         ours, theirs = pty.openpty()
-        with os.fdopen(theirs, "w") as terminal, open(ours, "rb", 0) as shown:
+        with os.fdopen(theirs, "w") as terminal, os.fdopen(os.dup(theirs), "w") as other, open(ours, "rb", 0) as shown:
             before, sys.stdout = sys.stdout, terminal
             try:
                 ptree.print_tree(Tree("r", ["a"]), leaf=Style("red"))
                 ptree.print_tree(Tree("r"), styled="never", leaf=Style("red"))
-                print("end", flush=True)
+                terminal.flush()
+                ptree.print_tree(Tree("r"), file=other, leaf=Style("red"))
+                print("end", file=other, flush=True)
             finally:
                 sys.stdout = before
-            expected = "\033[2m\033[0m\033[31mr\033[0m\r\n\033[2m└─ \033[0m\033[31ma\033[0m\r\nr\r\nend\r\n"
+            expected = "\033[2m\033[0m\033[31mr\033[0m\r\n\033[2m└─ \033[0m\033[31ma\033[0m\r\nr\r\nr\r\nend\r\n"
             found = b""
             while not found.endswith(b"end\r\n"):
                 found += shown.read(1000)
@@ -232,7 +237,10 @@ class Package(unittest.TestCase):
         self.assertLess(len(asked), 9)
         parts = "".join(draw_parts(6, label=str, children=children))
         self.assertEqual((parts.count("\n"), parts), (64, draw(6, label=str, children=children)))
-        self.assertEqual(draw(6, label=str, children=children, depth=1), "6\n├─ 0\n├─ 1\n├─ 2\n├─ 3\n├─ 4\n└─ 5\n")
+        for call in (draw, draw_parts):
+            asked.clear()
+            self.assertEqual("".join(call(3, label=str, children=children, depth=1)), "3\n├─ 0\n├─ 1\n└─ 2\n")
+            self.assertEqual(asked, [3])
 
     def test_parts_of_many_levels_and_long_labels(self):
         tree = Tree("r")
