@@ -338,9 +338,31 @@ static void draw_any_steps(const struct given *given) {
     free(out);
 }
 
+/* The names and values of variables. */
+static const uint8_t named[] = "PTREE_DEPTHPTREE_LEAF_FOREGROUND7tealptree_styledalways";
+
+/* Asks for the faults in sources that loading has ended with a refusal. */
+static void find_faults(const struct given *given, uint32_t format, const struct ptree_variable *variables, size_t count, uint32_t loaded) {
+    struct ptree_found found;
+    size_t size = below(200), lines = 0;
+    uint8_t *out = room(size);
+    was_refused = 0;
+    refused_in = one_in(4) ? (long)below(40) : -1;
+    uint32_t refusal = ptree_faults(given->texts, given->length, format, variables, count, named, sizeof named - 1, out, size, &found);
+    refused_in = -1;
+    need_reason(given, refusal);
+    if (refusal != PTREE_MEMORY) need(refusal == (loaded == PTREE_FAULT ? PTREE_DONE : loaded), "faults are refused otherwise than loading");
+    if (refusal == PTREE_DONE) {
+        need((found.items == 0) == (loaded == PTREE_DONE), "sources are loaded in spite of a fault");
+        for (size_t i = 0; i < found.bytes && i < size; i++) lines += out[i] == '\n';
+        need(lines == found.items || found.bytes > size, "there are not as many lines as faults");
+    }
+    for (size_t i = refusal ? 0 : found.bytes; i < size; i++) need(out[i] == '#', "what is behind the faults was changed");
+    free(out);
+}
+
 /* Loads a configuration from any text and variables. */
 static void load_any(const struct given *given) {
-    static const uint8_t named[] = "PTREE_DEPTHPTREE_LEAF_FOREGROUND7tealptree_styledalways";
     struct ptree_variable variables[] = {{{0, 11}, {32, 33}}, {{11, 32}, {33, 37}}, {{37, 49}, {49, 55}}, {some_part(55), some_part(55)}};
     struct ptree_config config;
     struct ptree_found found;
@@ -349,7 +371,9 @@ static void load_any(const struct given *given) {
     memset(&config, '#', sizeof config);
     was_refused = 0;
     refused_in = one_in(4) ? (long)below(40) : -1;
-    uint32_t refusal = ptree_load(given->texts, given->length, (uint32_t)below(4), variables, below(5), named, 55, &config, names, size, &found);
+    uint32_t format = (uint32_t)below(5);
+    size_t count = below(5);
+    uint32_t refusal = ptree_load(given->texts, given->length, format, variables, count, named, sizeof named - 1, &config, names, size, &found);
     refused_in = -1;
     need_reason(given, refusal);
     if (refusal) {
@@ -357,6 +381,7 @@ static void load_any(const struct given *given) {
         for (size_t i = 0; i < sizeof config; i++) need(((char *)&config)[i] == '#', "a refusal changed the configuration");
     }
     free(names);
+    if (refusal != PTREE_MEMORY) find_faults(given, format, variables, count, refusal);
 }
 
 static void try_case(void) {

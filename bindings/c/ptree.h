@@ -1,7 +1,8 @@
 /* ptree: trees drawn as text, drawings read back, and JSON and TOML documents drawn.
  *
- * Each call returns a refusal's number: PTREE_DONE, which is 0, or why nothing was done. No call ends the process, keeps a pointer, or
- * hands memory over: all memory is the caller's, and what a call allocates it frees before it returns.
+ * Each call but ptree_is_styled and ptree_refusal_text returns a refusal's number: PTREE_DONE, which is 0, or why nothing was done. No
+ * call ends the process, keeps a pointer, or hands memory over: all memory is the caller's, and what a call allocates it frees before it
+ * returns.
  *
  * A result goes into the caller's memory, as much of it as there is room for, and `found` gets its whole size, as `snprintf` returns a
  * length. So make a call with lengths of 0 to learn the size, and again with the room for it. What is behind a result in its memory
@@ -42,7 +43,7 @@ enum ptree_refusal {
     PTREE_NO_FORMAT = 12,  /* there is no format of that number */
     PTREE_NAMES = 13,      /* a text of the configuration, a name or a mark is not UTF-8, ends before it begins, or lies beyond its texts */
     PTREE_COLOR = 14,      /* there is no colour of that kind */
-    PTREE_FAULT = 15,      /* a source is at fault; `place` is the line of the file, if its syntax is wrong, and otherwise 0 */
+    PTREE_FAULT = 15,      /* a source is at fault (ptree_faults); `place` is the line of the file, if its syntax is wrong, and otherwise 0 */
     PTREE_EDGE = 16,       /* an end of the edge at `place` is no node */
     PTREE_STYLED = 17      /* `styled` has none of the numbers of ptree_styled */
 };
@@ -66,7 +67,9 @@ enum ptree_preset {
 enum ptree_format {
     PTREE_JSON = 0,
     PTREE_TOML = 1,
-    PTREE_NO_FILE = 2  /* for ptree_load alone: there is no file */
+    /* for ptree_load and ptree_faults alone, which then read no byte of a file: */
+    PTREE_NO_FILE = 2,    /* there is no file */
+    PTREE_UNREADABLE = 3  /* there is a file, but it could not be read as UTF-8 */
 };
 
 /* The kinds of colours. */
@@ -89,7 +92,7 @@ enum ptree_color_kind {
 enum ptree_styled {
     PTREE_NEVER = 0,
     PTREE_ALWAYS = 1,
-    PTREE_TTY = 2  /* on a terminal: what is drawn into memory is not styled */
+    PTREE_TTY = 2  /* on a terminal: what is drawn into memory is not styled (ptree_is_styled) */
 };
 
 /* The depth that draws and reads every level. */
@@ -160,7 +163,7 @@ struct ptree_config {
     uint32_t depth;                      /* the greatest level that is drawn; the root has level 0 */
     uint32_t styled;                     /* PTREE_NEVER, PTREE_ALWAYS or PTREE_TTY */
     size_t indent;                       /* the width of a piece in characters, including the padding */
-    size_t padding;                      /* how many of the `empty` characters end a piece */
+    size_t padding;                      /* how many copies of `characters.empty` end a piece */
     struct ptree_characters characters;
     struct ptree_style branch;
     struct ptree_style leaf;
@@ -189,6 +192,18 @@ uint32_t ptree_config(uint32_t preset, struct ptree_config *config, uint8_t *nam
 uint32_t ptree_load(const uint8_t *file, size_t file_length, uint32_t format, const struct ptree_variable *variables,
                     size_t variables_count, const uint8_t *texts, size_t texts_length, struct ptree_config *config, uint8_t *names,
                     size_t names_length, struct ptree_found *found);
+
+/* Puts the texts of all faults in the sources that ptree_load takes into `out`, each ended by a line feed. Done, `found->bytes` is the
+ * length of all texts, and `found->items` the number of faults: 0 exactly if ptree_load can load these sources. Refusals: MEMORY, UTF8
+ * (of the file), NO_FORMAT, NAMES (of a variable); `out` is unchanged. */
+uint32_t ptree_faults(const uint8_t *file, size_t file_length, uint32_t format, const struct ptree_variable *variables,
+                      size_t variables_count, const uint8_t *texts, size_t texts_length, uint8_t *out, size_t out_length,
+                      struct ptree_found *found);
+
+/* Whether output is styled: returns PTREE_ALWAYS if it is, PTREE_NEVER if it is not, and PTREE_STYLED if `styled` has none of the numbers
+ * of ptree_styled. The other two numbers say whether it is standard output, and whether that is a terminal: 0 is no, and any other is yes.
+ * Put what is returned into a configuration's `styled`, to draw into memory what you then write there. */
+uint32_t ptree_is_styled(uint32_t styled, uint32_t is_standard_output, uint32_t is_terminal);
 
 /* Draws items into `out` as a configuration says. Done, `found->bytes` is the length of the whole drawing, and `found->items` the number
  * of items given. Refusals: MEMORY, UTF8, LEVEL, END, NAMES, COLOR, STYLED; `out` is unchanged.
@@ -227,8 +242,8 @@ uint32_t ptree_draw_document_with(const uint8_t *text, size_t text_length, const
 
 /* Draws all walks of a graph from the node at place `start` into `out`. The texts of the nodes stand one behind the other; `ends` says
  * where each one's ends. A node's neighbours are drawn newest edge first. In a graph with a cycle only the configuration's depth ends the
- * drawing. A `start` that is no node's place is drawn as one empty line. Refusals: MEMORY, UTF8, END (`place` is the node's), EDGE, NAMES,
- * COLOR, STYLED; `out` is unchanged. */
+ * drawing. A `start` that is no node's place is drawn as one empty line; if output is styled, it has the codes of branches, and none of
+ * leaves. Refusals: MEMORY, UTF8, END (`place` is the node's), EDGE, NAMES, COLOR, STYLED; `out` is unchanged. */
 uint32_t ptree_draw_walks(const size_t *ends, size_t nodes, const uint8_t *texts, size_t texts_length, const struct ptree_edge *edges,
                           size_t edges_count, size_t start, const struct ptree_config *config, const uint8_t *names,
                           size_t names_length, uint8_t *out, size_t out_length, struct ptree_found *found);
@@ -255,8 +270,9 @@ uint32_t ptree_draw(const struct ptree_item *items, size_t items_count, const ui
 uint32_t ptree_read(const uint8_t *text, size_t text_length, uint32_t preset, uint32_t depth, struct ptree_item *items,
                     size_t items_count, uint8_t *texts, size_t texts_length, struct ptree_found *found);
 
-/* Draws a document under a label into `out`, down to a depth. Done, `found->bytes` is the length of the whole drawing. Refusals:
- * MEMORY, UTF8 (`place` is 0 for the document, 1 for the label), PRESET, SYNTAX, FLOAT, DATE, NO_FORMAT; `out` is unchanged. */
+/* Draws a document under a label into `out`, down to a depth. If the label is empty, the root has the text of the value. Done,
+ * `found->bytes` is the length of the whole drawing. Refusals: MEMORY, UTF8 (`place` is 0 for the document, 1 for the label), PRESET, SYNTAX,
+ * FLOAT, DATE, NO_FORMAT; `out` is unchanged. */
 uint32_t ptree_draw_document(const uint8_t *text, size_t text_length, const uint8_t *label, size_t label_length, uint32_t format,
                              uint32_t preset, uint32_t depth, uint8_t *out, size_t out_length, struct ptree_found *found);
 

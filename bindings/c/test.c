@@ -219,6 +219,8 @@ static void draws_documents(void) {
         == PTREE_DONE && found.bytes == sizeof want - 1 && memcmp(out, want, sizeof want - 1) == 0, "a TOML document");
     expect(ptree_draw_document(TEXT("[1]"), TEXT("doc"), PTREE_JSON, PTREE_DEFAULT, 0, small, 2, &found) == PTREE_DONE
         && found.bytes == 4 && memcmp(small, "do", 3) == 0, "a document into little room");
+    expect(ptree_draw_document(TEXT("5"), TEXT(""), PTREE_JSON, PTREE_DEFAULT, ALL, out, 128, &found) == PTREE_DONE
+        && found.bytes == 2 && memcmp(out, "5\n", 2) == 0, "a document under no label");
     expect(ptree_draw_document(TEXT("[1"), TEXT(""), PTREE_JSON, 0, ALL, out, 128, &found) == PTREE_SYNTAX, "bad JSON");
     expect(ptree_draw_document(TEXT("a"), TEXT(""), PTREE_TOML, 0, ALL, out, 128, &found) == PTREE_SYNTAX, "bad TOML");
     expect(ptree_draw_document(TEXT("[1.5]"), TEXT(""), PTREE_JSON, 0, ALL, out, 128, &found) == PTREE_FLOAT, "a float");
@@ -417,6 +419,17 @@ static void paints(void) {
     expect(ptree_paint(TEXT("hi"), &style, TEXT("#Gree"), out, 32, &found) == PTREE_NAMES, "a name that is cut off");
 }
 
+/* The number that each number of `styled` gives for other output, then for standard output that is no terminal and that is one. */
+static void says_what_is_styled(void) {
+    const uint32_t want[][3] = {{0, 0, 0}, {1, 1, 1}, {0, 0, 1}, {17, 17, 17}};
+    for (uint32_t styled = 0; styled <= 3; styled++) {
+        expect(ptree_is_styled(styled, 0, 0) == want[styled][0] && ptree_is_styled(styled, 0, 1) == want[styled][0], "other output");
+        expect(ptree_is_styled(styled, 1, 0) == want[styled][1], "no terminal");
+        expect(ptree_is_styled(styled, 1, 1) == want[styled][2] && ptree_is_styled(styled, 256, UINT32_MAX) == want[styled][2], "a terminal");
+    }
+    expect(ptree_is_styled(UINT32_MAX, 1, 1) == PTREE_STYLED, "the last number that styles nothing");
+}
+
 static void loads(void) {
     const char file[] = "{\"indent\": 5, \"leaf\": {\"foreground\": \"teal\"}}";
     const char named[] = "PTREE_DEPTH7ptree_indent8HOME/";
@@ -438,10 +451,52 @@ static void loads(void) {
     expect(ptree_load(TEXT("{\"depth\": -1}"), PTREE_JSON, variables, 0, TEXT(""), &given.config, given.names, 100, &found) == PTREE_FAULT
         && found.place == 0, "a fault of a value");
     expect(ptree_load(TEXT("\xff"), PTREE_JSON, variables, 0, TEXT(""), &given.config, given.names, 100, &found) == PTREE_UTF8, "no UTF-8");
-    expect(ptree_load(TEXT(""), 3, variables, 0, TEXT(""), &given.config, given.names, 100, &found) == PTREE_NO_FORMAT, "no format");
+    expect(ptree_load(TEXT("\xff"), PTREE_NO_FILE, variables, 0, TEXT(""), &given.config, given.names, 100, &found) == PTREE_DONE,
+        "no file is read");
+    expect(ptree_load(TEXT("\xff"), PTREE_UNREADABLE, variables, 0, TEXT(""), &given.config, given.names, 100, &found) == PTREE_FAULT
+        && found.place == 0, "a file that could not be read");
+    expect(ptree_load(TEXT(""), 4, variables, 0, TEXT(""), &given.config, given.names, 100, &found) == PTREE_NO_FORMAT, "no format");
     expect(ptree_load(TEXT(""), PTREE_TOML, variables, 3, TEXT("PTREE_DEPTH7"), &given.config, given.names, 100, &found) == PTREE_NAMES,
         "a variable beyond the texts");
     free(given.names);
+}
+
+/* The faults in a file of a format and in two variables must be these, in room of each size. */
+static void has_faults(const char *file, uint32_t format, const char *named, size_t count, const char *want, const char *name) {
+    const struct ptree_variable variables[] = {{{0, 11}, {11, 12}}, {{12, 24}, {24, 25}}};
+    const size_t length = strlen(want);
+    struct ptree_config config;
+    uint8_t names[64];
+    for (size_t size = 0; size <= length + 1; size++) {
+        struct ptree_found found = {7, 7, 7};
+        uint8_t *out = room(size);
+        expect(ptree_faults((const uint8_t *)file, strlen(file), format, variables, 2, (const uint8_t *)named, strlen(named), out, size, &found)
+            == PTREE_DONE && found.bytes == length && found.items == count && found.place == 0, name);
+        expect(memcmp(out, want, size < length ? size : length) == 0 && (size <= length || out[length] == '#'), name);
+        expect((ptree_load((const uint8_t *)file, strlen(file), format, variables, 2, (const uint8_t *)named, strlen(named), &config, names, 64,
+            &found) == PTREE_DONE) == (count == 0), "sources without a fault are loaded");
+        free(out);
+    }
+}
+
+static void finds_faults(void) {
+    const char right[] = "PTREE_DEPTH7PTREE_STYLED7";
+    has_faults("{}", PTREE_JSON, "PTREE_DEPTH7PTREE_INDENT8", 0, "", "no fault");
+    has_faults("{\"depth\": -1, \"leaf\": 1}", PTREE_JSON, "PTREE_DEPTHxPTREE_STYLED7", 4,
+        "the file's key leaf is no table\nthe variable PTREE_DEPTH isn't a whole number up to 4294967295\n"
+        "the file's key depth isn't a whole number up to 4294967295\nthe variable PTREE_STYLED isn't never, always or tty\n", "each fault");
+    has_faults("depth = ", PTREE_TOML, right, 2, "the file is no document of its format\nthe variable PTREE_STYLED isn't never, always or tty\n",
+        "a fault of syntax");
+    has_faults("\xff", PTREE_UNREADABLE, right, 2, "the file couldn't be read\nthe variable PTREE_STYLED isn't never, always or tty\n",
+        "an unreadable file");
+    has_faults("\xff", PTREE_NO_FILE, right, 1, "the variable PTREE_STYLED isn't never, always or tty\n", "no file");
+    struct ptree_found found;
+    const struct ptree_variable variable = {{0, 11}, {11, 12}};
+    uint8_t out[4] = "###";
+    expect(ptree_faults(TEXT("\xff"), PTREE_TOML, &variable, 0, TEXT(""), out, 3, &found) == PTREE_UTF8 && found.place == 0, "no UTF-8");
+    expect(ptree_faults(TEXT("\xff"), 4, &variable, 0, TEXT(""), out, 3, &found) == PTREE_NO_FORMAT, "no format");
+    expect(ptree_faults(TEXT(""), PTREE_TOML, &variable, 1, TEXT("PTREE_DEPTH"), out, 3, &found) == PTREE_NAMES, "a value beyond the texts");
+    expect(found.bytes == 0 && found.items == 0 && memcmp(out, "###", 3) == 0, "a refusal leaves the room");
 }
 
 static void draws_graphs(void) {
@@ -461,6 +516,11 @@ static void draws_graphs(void) {
         && found.bytes == 1 && out[0] == '\n', "a start that is no node");
     expect(ptree_draw_walks(ends, 0, TEXT(""), edges, 0, 0, &given.config, given.names, given.length, out, 64, &found) == PTREE_DONE
         && found.bytes == 1, "no node");
+    given.config.styled = PTREE_ALWAYS;
+    given.config.leaf.bold = 1;
+    expect(ptree_draw_walks(ends, 3, TEXT("abc"), edges, 3, 3, &given.config, given.names, given.length, out, 64, &found) == PTREE_DONE
+        && found.bytes == 9 && memcmp(out, "\x1b[2m\x1b[0m\n", 9) == 0, "the codes of no node");
+    given.config.styled = PTREE_NEVER;
     expect(ptree_draw_walks(ends, 3, TEXT("abc"), wrong, 2, 0, &given.config, given.names, given.length, out, 64, &found) == PTREE_EDGE
         && found.place == 1, "an edge to no node");
     expect(ptree_draw_once(ends, 3, TEXT("abc"), far, 1, 0, TEXT(""), &given.config, given.names, given.length, out, 64, &found) == PTREE_EDGE
@@ -564,6 +624,8 @@ static void loads_large(const struct large *large) {
     length += (size_t)sprintf(file + length, "\"continued\": \"%.*s\"}", (int)size, (const char *)large->texts);
     expect(ptree_load((const uint8_t *)file, length, PTREE_JSON, variables, size, TEXT("PTREE_OTHER1"), &config, large->out, large->drawn, &found)
         == PTREE_DONE && config.continued.end - config.continued.start == size, "large sources");
+    done(large, ptree_faults((const uint8_t *)file, length, PTREE_JSON, variables, size, TEXT("PTREE_OTHER1"), large->out, large->drawn, &found),
+        &found, 0, "the faults of large sources");
     free(file);
     free(variables);
 }
@@ -599,6 +661,9 @@ static uint32_t call_by_fields(const char *call) {
     if (strcmp(call, "paint") == 0) return ptree_paint(TEXT("hi"), &style, TEXT("teal"), out, 64, &found);
     if (strcmp(call, "load") == 0) {
         return ptree_load(TEXT("{\"indent\": 5}"), PTREE_JSON, variables, 1, TEXT("PTREE_DEPTH7"), &config, names, 64, &found);
+    }
+    if (strcmp(call, "faults") == 0) {
+        return ptree_faults(TEXT("{\"indent\": \"x\"}"), PTREE_JSON, variables, 1, TEXT("PTREE_DEPTHx"), out, 64, &found);
     }
     uint32_t refusal = ptree_config(PTREE_CARGO_TREE, &config, names, 64, &found);
     if (refusal || strcmp(call, "config") == 0) return refusal;
@@ -685,7 +750,9 @@ int main(int count, char **words) {
     draws_by_fields();
     reads_by_fields();
     paints();
+    says_what_is_styled();
     loads();
+    finds_faults();
     draws_graphs();
     makes_large_calls();
     if (!failed) puts("all calls are right");

@@ -6,7 +6,7 @@ mod calls;
 mod fields;
 mod steps;
 
-use crate::print_config::PrintConfig;
+use crate::print_config::{FileSource, PrintConfig};
 use crate::read::ReadError;
 use crate::style::Style;
 use crate::value::DocFormat;
@@ -208,23 +208,13 @@ pub(crate) fn preset(number: u32) -> io::Result<PrintConfig> {
     })
 }
 
-/// The configuration of a file and of variables. There is none if a value is at fault.
+/// The configuration of a file and of variables. There is none if there is a fault in them.
 pub(crate) fn load(
-    file: Option<(DocFormat, &str)>,
+    file: &FileSource,
     variables: &[(String, String)],
 ) -> io::Result<Option<PrintConfig>> {
-    let mut texts = Vec::new();
-    let mut fields = Vec::new();
-    for (name, value) in variables {
-        fields.push(Variable {
-            name: part_of(&mut texts, name),
-            value: part_of(&mut texts, value),
-        });
-    }
-    let (format, text) = match file {
-        Some((format, text)) => (format_number(format), text),
-        None => (2, ""),
-    };
+    let (format, text) = file_of(file);
+    let (fields, texts) = variables_for(variables);
     let loaded = config_from(|config, names, found| unsafe {
         ptree_load(
             text.as_ptr(),
@@ -245,6 +235,49 @@ pub(crate) fn load(
         Err(error) if error.kind() == ErrorKind::InvalidInput => Ok(None),
         Err(error) => Err(error),
     }
+}
+
+/// The texts of all faults in a file and in variables.
+pub(crate) fn faults(file: &FileSource, variables: &[(String, String)]) -> io::Result<Vec<String>> {
+    let (format, text) = file_of(file);
+    let (fields, texts) = variables_for(variables);
+    let lines = bytes_of(256, |out, found| unsafe {
+        ptree_faults(
+            text.as_ptr(),
+            text.len(),
+            format,
+            fields.as_ptr(),
+            fields.len(),
+            texts.as_ptr(),
+            texts.len(),
+            out.as_mut_ptr(),
+            out.len(),
+            found,
+        )
+    })?;
+    Ok(text_of(&lines)?.lines().map(String::from).collect())
+}
+
+// The number of a file's format, and its text.
+fn file_of(file: &FileSource) -> (u32, &str) {
+    match file {
+        FileSource::Text(format, text) => (format_number(*format), text),
+        FileSource::Absent => (2, ""),
+        FileSource::Unreadable => (3, ""),
+    }
+}
+
+// Variables as parts of texts, and the texts.
+fn variables_for(variables: &[(String, String)]) -> (Vec<Variable>, Vec<u8>) {
+    let mut texts = Vec::new();
+    let mut fields = Vec::new();
+    for (name, value) in variables {
+        fields.push(Variable {
+            name: part_of(&mut texts, name),
+            value: part_of(&mut texts, value),
+        });
+    }
+    (fields, texts)
 }
 
 // The number of a format.

@@ -82,10 +82,22 @@ impl PrintConfig {
     /// Returns the configuration of the environment's variables and of the file that they name or that is in the user's folder of
     /// configurations, or the complete default if there is a fault in them.
     pub fn from_env() -> PrintConfig {
-        PrintConfig::try_from_env()
+        let (file, variables) = sources_of_env();
+        border::load(&file, &variables)
             .ok()
             .flatten()
             .unwrap_or_default()
+    }
+
+    /// Returns the texts of all faults in what [`PrintConfig::from_env`] reads, such as `the variable PTREE_STYLED isn't never, always or
+    /// tty`. If there is one, `from_env` returns the default.
+    ///
+    /// # Errors
+    ///
+    /// Memory ran out.
+    pub fn faults_of_env() -> io::Result<Vec<String>> {
+        let (file, variables) = sources_of_env();
+        border::faults(&file, &variables)
     }
 
     /// Returns the configuration with which another program draws.
@@ -95,22 +107,6 @@ impl PrintConfig {
     /// Memory ran out.
     pub fn from_preset(preset: Preset) -> io::Result<PrintConfig> {
         border::preset(preset as u32)
-    }
-
-    // The configuration of the environment, if there is no fault in it.
-    fn try_from_env() -> io::Result<Option<PrintConfig>> {
-        let variables: Vec<_> = env::vars_os()
-            .filter_map(|(name, value)| Some((name.into_string().ok()?, value.into_string().ok()?)))
-            .collect();
-        let Some(path) = find_file(&variables)? else {
-            return border::load(None, &variables);
-        };
-        let format = if path.ends_with(".json") {
-            DocFormat::Json
-        } else {
-            DocFormat::Toml
-        };
-        border::load(Some((format, &fs::read_to_string(path)?)), &variables)
     }
 
     /// Whether output of a kind is styled.
@@ -131,6 +127,40 @@ impl PrintConfig {
     pub fn paint_leaf(&self, input: impl Display) -> impl Display {
         self.leaf.paint(input)
     }
+}
+
+/// The configuration file, as it was found.
+pub(crate) enum FileSource {
+    /// There is no file.
+    Absent,
+
+    /// There is a file, but it could not be read as UTF-8.
+    Unreadable,
+
+    /// The text of a file.
+    Text(DocFormat, String),
+}
+
+// The file and the variables of the environment.
+fn sources_of_env() -> (FileSource, Vec<(String, String)>) {
+    let variables: Vec<_> = env::vars_os()
+        .filter_map(|(name, value)| Some((name.into_string().ok()?, value.into_string().ok()?)))
+        .collect();
+    let file = read_file(&variables).unwrap_or(FileSource::Unreadable);
+    (file, variables)
+}
+
+// The configuration file that variables lead to.
+fn read_file(variables: &[(String, String)]) -> io::Result<FileSource> {
+    let Some(path) = find_file(variables)? else {
+        return Ok(FileSource::Absent);
+    };
+    let format = if path.ends_with(".json") {
+        DocFormat::Json
+    } else {
+        DocFormat::Toml
+    };
+    Ok(FileSource::Text(format, fs::read_to_string(path)?))
 }
 
 // The value of a variable. The last one of a name counts.

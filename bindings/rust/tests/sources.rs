@@ -106,8 +106,17 @@ fn configurations_are_loaded() {
     );
 
     // A fault means the whole default.
+    assert!(faults().is_empty());
     env::set_var("ptree_depth", "-4");
     assert_eq!(load("toml", "indent = 5\n"), PrintConfig::default());
+    let depth = "the variable PTREE_DEPTH isn't a whole number up to 4294967295";
+    assert_eq!(faults(), [depth]);
+    env::set_var("PTREE_CONFIG", folder.join("given.toml"));
+    fs::write(folder.join("given.toml"), "indent = \n").expect("a file");
+    assert_eq!(faults(), ["the file is no document of its format", depth]);
+    fs::write(folder.join("given.toml"), b"\xff").expect("a file");
+    assert_eq!(faults(), ["the file couldn't be read", depth]);
+    env::remove_var("PTREE_CONFIG");
     env::remove_var("ptree_depth");
     assert_eq!(load("toml", "indent = \n"), PrintConfig::default());
     env::set_var("PTREE_INDENT", "9");
@@ -131,6 +140,11 @@ fn configurations_are_loaded() {
     env::remove_var("PTREE_LEAF_BOLD");
     files_are_found(&folder);
     fs::remove_dir_all(&folder).expect("a folder");
+}
+
+// The faults in the environment.
+fn faults() -> Vec<String> {
+    PrintConfig::faults_of_env().expect("memory")
 }
 
 // Loads from the files that values of `PTREE_CONFIG` lead to. A variable counts unless there is a fault.

@@ -3,10 +3,11 @@ use Rattle.std.specs.Prelude.{ℕ, ◌-◌, Bool, true, false, if◌then◌else�
 use Rattle.std.proofs.Common.{inl, inr}
 use Rattle.ptree.specs.Characters.{Characters}
 use Rattle.ptree.specs.Color.{ColorValue}
-use Rattle.ptree.specs.Config.{ConfigValue}
+use Rattle.ptree.specs.Config.{ConfigValue, is_styled}
 use Rattle.ptree.specs.Drawing.{Look, look_by}
 use Rattle.ptree.specs.Style.{StyleValue}
-use Rattle.ptree.specs.declared.print_config.OutputKind.TheVariants.{Unknown}
+use Rattle.ptree.specs.declared.print_config.OutputKind.{OutputKind}
+use Rattle.ptree.specs.declared.print_config.OutputKind.TheVariants.{Stdout, Unknown}
 use Rattle.ptree.specs.declared.print_config.StyleWhen.{StyleWhen}
 use Rattle.ptree.specs.declared.print_config.StyleWhen.TheVariants.{Never, Always, Tty}
 use Rattle.ptree.specs.declared.style.color.Color.TheVariants.{Black, Red, Green, Yellow, Blue, Purple, Cyan, White, Fixed, RGB}
@@ -63,6 +64,15 @@ characters_value texts c = record {
 abbrev pub when_styled : ℕ → StyleWhen
 when_styled n = if nat_eq n 0 then Never else (if nat_eq n 1 then Always else Tty)
 
+-- standard output, unless the number is 0
+abbrev pub output_kind : ℕ → OutputKind
+output_kind n = if is_set n then Stdout else Unknown
+
+-- 1 for always if this output is styled, and 0 for never if it is not
+abbrev pub number_styled : ℕ → ℕ → ℕ → ℕ
+number_styled number is_standard_output is_terminal =
+    if is_styled (when_styled number) (output_kind is_standard_output) (is_set is_terminal) then 1 else 0
+
 -- the configuration that fields mean
 unfoldable pub config_value : List ℕ → ConfigFields → ConfigValue
 config_value texts c = record {
@@ -79,6 +89,10 @@ config_value texts c = record {
 -- the look that fields give what is drawn into memory
 abbrev pub look_of : List ℕ → ConfigFields → Look
 look_of texts c = look_by (config_value texts c) Unknown false
+
+-- the look that fields give output of a kind; the last number says whether standard output is a terminal
+abbrev pub output_look : List ℕ → ConfigFields → ℕ → ℕ → Look
+output_look texts c is_standard_output is_terminal = look_by (config_value texts c) (output_kind is_standard_output) (is_set is_terminal)
 
 -- the depth that fields mean
 abbrev pub depth_of : List ℕ → ConfigFields → ℕ

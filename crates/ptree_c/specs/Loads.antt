@@ -1,5 +1,5 @@
 -- Sources of configurations as C gives them.
-use Rattle.std.specs.Prelude.{◌≡◌, ℕ, if◌then◌else◌, nat_eq, List, [], map, Some, string_bytes}
+use Rattle.std.specs.Prelude.{◌≡◌, ℕ, if◌then◌else◌, nat_lt, List, [], map, Some, string_bytes}
 use Rattle.ptree.specs.Loading.{loaded_config}
 use Rattle.ptree.specs.Sources.{Variables, variables_of}
 use Rattle.ptree.specs.declared.print_config.FileSource.{FileSource}
@@ -16,9 +16,9 @@ file_parts (Toml text) = (1, string_bytes text)
 file_parts Absent = (2, [])
 file_parts Unreadable = (3, [])
 
--- the number of a format and a text; 2 is no file, and has none
+-- the number of a format and a text, which is read of a document alone
 abbrev pub file_given : ℕ → List ℕ → ℕ × List ℕ
-file_given n text = if nat_eq n 2 then (2, []) else (n, text)
+file_given n text = (n, (if nat_lt n 2 then text else []))
 
 -- the names and values of variables
 abbrev pub variable_texts : List ℕ → List Variable → Variables

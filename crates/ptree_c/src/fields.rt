@@ -96,7 +96,7 @@ pub struct CharactersFields {
     /// Points right.
     pub right: Part,
 
-    /// A blank.
+    /// Fills a piece.
     pub empty: Part,
 }
 
@@ -114,7 +114,7 @@ pub struct ConfigFields {
     /// The width of a piece in characters, including the padding.
     pub indent: usize,
 
-    /// How many blanks end a piece.
+    /// How many copies of the character `empty` end a piece.
     pub padding: usize,
 
     /// The characters.
@@ -213,8 +213,8 @@ fn characters_of_fields(
     })
 }
 
-// When output is styled, by a number.
-fn styled(number: u32) -> Result<StyleWhen, Refusal>
+/// When output is styled, by a number.
+pub(crate) fn styled(number: u32) -> Result<StyleWhen, Refusal>
     ensures ok { IfOk result (λ styled. styled ≡ when_styled number) }
     ensures known { number ≤ 2 → IsOk result }
     ensures refused { 2 < number → result ≡ Err Styled }

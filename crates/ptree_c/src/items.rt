@@ -32,9 +32,16 @@ pub(crate) fn text_between(
 ) -> Result<String, Refusal>
     ensures { IfOk result (λ text. string_bytes text ≡ take (end - from) (drop from texts.now)) }
 {
-    let Some(bytes) = texts.get(from..end) else {
-        return Err(Refusal::End(place));
-    };
+    match texts.get(from..end) {
+        Some(bytes) => text_of(alloc, bytes, place),
+        None => Err(Refusal::End(place)),
+    }
+}
+
+/// The text of bytes, which belong to this place.
+pub(crate) fn text_of(alloc: Global, bytes: &[u8], place: usize) -> Result<String, Refusal>
+    ensures { IfOk result (λ text. string_bytes text ≡ bytes.now) }
+{
     match str::from_utf8(bytes) {
         Ok(text) => Ok(String::from_str(alloc, text)?),
         Err(_) => Err(Refusal::Utf8(place)),

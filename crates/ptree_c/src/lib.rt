@@ -6,6 +6,7 @@ mod answer;
 mod brush;
 pub mod document;
 pub mod draw;
+pub mod faults;
 pub mod fields;
 pub mod graph;
 pub mod items;

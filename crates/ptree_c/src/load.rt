@@ -6,12 +6,12 @@ ghost use Rattle.ptree_c.specs.Rooms.{filled};
 
 use crate::answer::refuse;
 use crate::fields::{ConfigFields, Part, Written, fields_of_config, text_of_part};
+use crate::items::text_of;
 use crate::preset::put_fields;
 use crate::refusal::Refusal;
 use crate::room::Found;
 use ptree::print_config::{FileSource, Sources, load, syntax_line};
 use std::alloc::Global;
-use std::str;
 
 /// A variable. Its name and its value are parts of the texts that a call is given with it.
 #[repr(C)]
@@ -24,17 +24,16 @@ pub struct Variable {
     pub value: Part,
 }
 
-// The file of a format's number: 0 is JSON, 1 is TOML, and 2 is no file.
+// The file of a format's number: 0 is JSON, 1 is TOML, 2 is no file, and 3 is one that could not be
+// read.
 fn file_of(alloc: Global, format: u32, text: &[u8]) -> Result<FileSource, Refusal>
     ensures { IfOk result (λ file. file_parts file ≡ file_given format text.now) }
 {
-    let Ok(text) = str::from_utf8(text) else {
-        return Err(Refusal::Utf8(0));
-    };
     match format {
-        0 => Ok(FileSource::Json(String::from_str(alloc, text)?)),
-        1 => Ok(FileSource::Toml(String::from_str(alloc, text)?)),
+        0 => Ok(FileSource::Json(text_of(alloc, text, 0)?)),
+        1 => Ok(FileSource::Toml(text_of(alloc, text, 0)?)),
         2 => Ok(FileSource::Absent),
+        3 => Ok(FileSource::Unreadable),
         _ => Err(Refusal::Format),
     }
 }
@@ -59,8 +58,8 @@ fn pairs_of(
     Ok(pairs)
 }
 
-// The sources that C gives.
-fn sources_of(
+/// The sources that C gives.
+pub(crate) fn sources_of(
     alloc: Global,
     file: &[u8],
     format: u32,
@@ -107,9 +106,9 @@ fn fields_loaded(
 }
 
 /// Puts the fields of the configuration of a file and of variables into `config`, and their texts
-/// into `names`, as much as there is room for. Format 0 is JSON, 1 is TOML, and 2 is no file. The
-/// names and values of the variables are parts of `texts`. `found` gets the length of all texts, or
-/// after a fault in the file's syntax its line.
+/// into `names`, as much as there is room for. Format 0 is JSON, 1 is TOML, 2 is no file, and 3 is
+/// one that could not be read. The names and values of the variables are parts of `texts`. `found`
+/// gets the length of all texts, or after a fault in the file's syntax its line.
 #[unsafe(no_mangle)]
 pub extern "C" fn ptree_load(
     alloc: Global,

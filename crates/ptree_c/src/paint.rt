@@ -1,13 +1,15 @@
-//! Paints texts.
-ghost use Rattle.std.specs.Prelude.{◌≡◌, ◌<◌, IfOk, length, string_bytes};
+//! Paints texts, and says what output is styled.
+ghost use Rattle.std.specs.Prelude.{◌≡◌, ◌<◌, ◌≤◌, ℕ, List, IfOk, length, string_bytes};
 ghost use Rattle.ptree.specs.Style.{painted_text};
-ghost use Rattle.ptree_c.specs.Fields.{style_value};
+ghost use Rattle.ptree_c.specs.Fields.{style_value, number_styled, look_of, output_look};
 ghost use Rattle.ptree_c.specs.Rooms.{filled};
+ghost use Rattle.ptree_c.specs.declared.fields.ConfigFields.{ConfigFields};
 
 use crate::answer::{put_bytes, refuse};
-use crate::fields::{StyleFields, style_of_fields};
+use crate::fields::{StyleFields, style_of_fields, styled};
 use crate::refusal::Refusal;
 use crate::room::Found;
+use ptree::print_config::StyleWhen;
 use std::alloc::Global;
 use std::str;
 
@@ -47,5 +49,25 @@ pub extern "C" fn ptree_paint(
     match painted(alloc, text, style, names) {
         Ok(text) => put_bytes(text.as_bytes(), 0, out, found),
         Err(refusal) => refuse(refusal, found),
+    }
+}
+
+/// Returns 1 if output is styled by the number of `styled`, 0 if it is not, and 17 if there is no
+/// such number. The other two say whether it is standard output, and whether that is a terminal: 0
+/// is no, and any other number is yes.
+#[unsafe(no_mangle)]
+pub extern "C" fn ptree_is_styled(number: u32, is_standard_output: u32, is_terminal: u32) -> u32
+    ensures styled { number ≤ 2 → result ≡ number_styled number is_standard_output is_terminal }
+    ensures refused { 2 < number → result ≡ 17 }
+    // Fields that say so draw into memory what they would draw to that output.
+    ensures look { number ≤ 2 → (names : List ℕ) (fields : ConfigFields) → fields.styled ≡ number
+        → look_of names (record fields { styled = result })
+        ≡ output_look names fields is_standard_output is_terminal }
+{
+    match styled(number) {
+        Ok(StyleWhen::Never) => 0,
+        Ok(StyleWhen::Always) => 1,
+        Ok(StyleWhen::Tty) => (is_standard_output != 0 && is_terminal != 0) as u32,
+        Err(refusal) => refusal.number(),
     }
 }

@@ -202,5 +202,18 @@ extern "C" {
         found: *mut Found,
     ) -> u32;
 
+    pub(super) fn ptree_faults(
+        file: *const u8,
+        file_length: usize,
+        format: u32,
+        variables: *const Variable,
+        variables_count: usize,
+        texts: *const u8,
+        texts_length: usize,
+        out: *mut u8,
+        out_length: usize,
+        found: *mut Found,
+    ) -> u32;
+
     pub(super) fn ptree_refusal_text(refusal: u32, out: *mut u8, out_length: usize) -> usize;
 }
