@@ -98,6 +98,26 @@ make_refusing() {
     fi
 }
 
+# Makes the shared libraries of the library for C, whose crate is built, for scripts in Python.
+use_library() {
+    if ! bin/parts/shared_library "$scratch/library" refusing; then
+        report no 'the shared library is not made'
+        finish
+        exit 1
+    fi
+    export PTREE_LIBRARY=$scratch/library/libptree.so PYTHONDONTWRITEBYTECODE=1
+}
+
+# Makes shared libraries that stand in for it: one that does nothing, and one that never has memory.
+make_stub_libraries() {
+    local name number=0
+    for name in nothing no_memory; do
+        grep -o '\bptree_[a-z_]*(' bindings/c/ptree.h | sort -u | sed "s/.*/unsigned &void) { return $number; }/" >"$scratch/$name.c"
+        cc -shared -fPIC -o "$scratch/$name.so" "$scratch/$name.c"
+        number=1
+    done
+}
+
 # Checks that a call met at least the number of refusals in bin/refusals.txt. Arguments: the call, the number that it met.
 expect_refusals() {
     local wanted
