@@ -4,8 +4,8 @@
   bin/parts/apart.py make HOUSE FOLDER             makes the crate, or brings it up to date, and prints its folder
   bin/parts/apart.py build HOUSE FOLDER [WORD..]   also proves and builds it, runs it with the words, and prints the program's path
 
-HOUSE is the folder of that repository. FOLDER/crate is the program's line of crates.txt, after which each line is the path of a further
-source file. FOLDER/src has its sources, under Rust's ending `.rs`: `rt ci` refuses files of Rattle outside of the crates that it proves.
+HOUSE is the folder of that repository. FOLDER/crate is the program's line of crates.txt. FOLDER/src has its sources, under Rust's ending
+`.rs`: `rt ci` refuses files of Rattle outside of the crates that it proves.
 """
 import fcntl
 import filecmp
@@ -55,11 +55,11 @@ def link_or_copy(source, target):
 
 
 def read_crate(folder):
-    """The line of a program, after those of the crates of this repository that it reaches, by their names; and its further files."""
+    """The line of a program, after those of the crates of this repository that it reaches, by their names."""
     with open(os.path.join(TOP, "crates.txt"), encoding="utf-8") as file:
         known = {re.match(r"\w+", line)[0]: line.strip() for line in file if re.match(r"\w", line)}
     with open(os.path.join(TOP, folder, "crate"), encoding="utf-8") as file:
-        own, *others = file.read().splitlines()
+        own = file.read().strip()
     found = {}
 
     def add(line):
@@ -69,12 +69,12 @@ def read_crate(folder):
                 found[name] = known[name]
 
     add(own)
-    return found | {own.split(":")[0]: own}, others
+    return found | {own.split(":")[0]: own}
 
 
 def make(house, folder):
     """Makes a program's crate from a folder. Returns the crate's folder, and the names of its libraries."""
-    lines, others = read_crate(folder)
+    lines = read_crate(folder)
     *libraries, name = lines
     crate = os.path.join(house, "crates", name)
     os.makedirs(house, exist_ok=True)
@@ -86,9 +86,7 @@ def make(house, folder):
         for library in libraries:
             for part in "src", "specs", "proofs":
                 copy_files(files_of(os.path.join(TOP, "crates", library, part)), os.path.join(house, "crates", library, part))
-        sources = files_of(os.path.join(TOP, folder, "src"))
-        sources |= {os.path.basename(path).replace(".rs", ".rt"): os.path.join(TOP, path) for path in others}
-        copy_files(sources, os.path.join(crate, "src"))
+        copy_files(files_of(os.path.join(TOP, folder, "src")), os.path.join(crate, "src"))
         for part in "specs", "proofs":
             os.makedirs(os.path.join(crate, part), exist_ok=True)
             with open(os.path.join(crate, part, "Lib.antt"), "w", encoding="utf-8"):

@@ -3,6 +3,7 @@
 use crate::deviation::{Deviation, expect};
 use crate::sizes::{LEVELS, made, text};
 use ptree::TreeBuilder;
+use ptree::builder::AddError;
 use std::alloc::{AllocError, Global};
 
 // Adds a leaf to the current item.
@@ -74,11 +75,33 @@ fn try_children(alloc: Global, size: usize) -> Result<(), Deviation> {
     begin_children(alloc, &mut builder, size.saturating_sub(LEVELS))
 }
 
+// Adds items, each a level below the one before it, after which no item can follow two levels
+// deeper, and one can at the first level. (A tree of so many levels would overflow the stack.)
+fn try_deep(alloc: Global, builder: &mut TreeBuilder, levels: u32) -> Result<(), Deviation> {
+    let first = builder.level();
+    for level in first..levels {
+        made(
+            builder.add_at_level(level.saturating_add(1), text(alloc, 1)?),
+            "`TreeBuilder::add_at_level` succeeds",
+        )?;
+    }
+    let level = levels.max(first);
+    expect(builder.level() == level, "the last item has its level")?;
+    let refused = builder.add_at_level(level.saturating_add(2), String::new(alloc));
+    expect(
+        refused == Err(AddError::Level),
+        "a level that can't follow is refused",
+    )?;
+    builder.add_at_level(1, String::new(alloc))?;
+    expect(builder.level() == 1, "a builder goes back to a level")
+}
+
 // A builder of many items by levels.
 fn try_levels(alloc: Global, size: usize) -> Result<(), Deviation> {
     let mut builder = TreeBuilder::new(alloc, text(alloc, size)?);
     add_by_level(alloc, &mut builder, size)?;
-    try_built(&mut builder, size)
+    try_built(&mut builder, size)?;
+    try_deep(alloc, &mut builder, u32::try_from(size).unwrap_or(u32::MAX))
 }
 
 /// Tries all of them.
