@@ -1,5 +1,5 @@
-//! Makes calls of the library that allocate, and those that were refused memory once more. Prints
-//! what they returned and how many were refused.
+//! Makes calls of the library that allocate and that C has not, and those that were refused memory
+//! once more. Prints what they returned and how many were refused.
 
 mod building;
 mod documents;
@@ -14,10 +14,7 @@ mod trial;
 mod written;
 
 use crate::refusals::failure::Failure;
-use crate::refusals::known::{
-    call_bad_source, call_document, call_painted, call_read, call_set, call_sources, call_tick,
-    call_tree,
-};
+use crate::refusals::known::call_tree;
 use crate::refusals::own::{call_buffer, call_root, call_tree_alone, call_types};
 use crate::refusals::styles::colored;
 use crate::refusals::trial::{DEPTH, Trial};
@@ -41,25 +38,16 @@ enum Call {
     Graph,
     Numbers,
     Reader,
-    Lines,
     Boxed,
     Json,
     Toml,
-    JsonDrawn,
     TomlDrawn,
     Faulty,
     Good,
     Under,
     Tree,
-    Read,
-    Tick,
-    Painted,
-    Document,
     Cycle,
     OpenBuilder,
-    Sources,
-    BadSource,
-    Set,
     TreeAlone,
     Root,
     Buffer,
@@ -67,7 +55,7 @@ enum Call {
 }
 
 // All of them, in this order.
-const CALLS: [Call; 32] = [
+const CALLS: [Call; 23] = [
     Call::Styles,
     Call::Characters,
     Call::Pieces,
@@ -77,25 +65,16 @@ const CALLS: [Call; 32] = [
     Call::Graph,
     Call::Numbers,
     Call::Reader,
-    Call::Lines,
     Call::Boxed,
     Call::Json,
     Call::Toml,
-    Call::JsonDrawn,
     Call::TomlDrawn,
     Call::Faulty,
     Call::Good,
     Call::Under,
     Call::Tree,
-    Call::Read,
-    Call::Tick,
-    Call::Painted,
-    Call::Document,
     Call::Cycle,
     Call::OpenBuilder,
-    Call::Sources,
-    Call::BadSource,
-    Call::Set,
     Call::TreeAlone,
     Call::Root,
     Call::Buffer,
@@ -128,25 +107,16 @@ impl Trial {
             Call::Graph => self.call_graph(alloc, plain),
             Call::Numbers => self.call_numbers(alloc, plain),
             Call::Reader => self.call_reader(alloc, plain),
-            Call::Lines => self.call_lines(alloc, plain),
             Call::Boxed => self.call_boxed(alloc, plain),
             Call::Json => self.call_json(alloc, plain),
             Call::Toml => self.call_toml(alloc, plain),
-            Call::JsonDrawn => self.call_json_drawn(alloc, plain),
             Call::TomlDrawn => self.call_toml_drawn(alloc),
             Call::Faulty => self.call_faulty(alloc),
             Call::Good => self.call_good(alloc),
             Call::Under => self.call_under(alloc),
             Call::Tree => call_tree(alloc),
-            Call::Read => call_read(alloc),
-            Call::Tick => call_tick(alloc),
-            Call::Painted => call_painted(alloc),
-            Call::Document => call_document(alloc),
             Call::Cycle => self.call_cycle(alloc),
             Call::OpenBuilder => self.call_open_builder(alloc),
-            Call::Sources => call_sources(alloc),
-            Call::BadSource => call_bad_source(alloc),
-            Call::Set => call_set(alloc),
             Call::TreeAlone => call_tree_alone(alloc),
             Call::Root => call_root(alloc),
             Call::Buffer => call_buffer(alloc),

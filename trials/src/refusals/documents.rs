@@ -6,23 +6,13 @@ use crate::refusals::trial::Trial;
 use crate::refusals::written::{SHEET, entries_written};
 use ptree::print_config::{PrintConfig, Sources};
 use ptree::style::Counted;
-use ptree::value::{DocFormat, Value, draw_document, draw_document_with};
+use ptree::value::{DocFormat, Value, draw_document};
 use std::alloc::{AllocError, Global};
 
-// A document in JSON, and its drawing under the label `j`, by its entries.
+// A document in JSON.
 const JSON: &str = "{\"b\\nc\":\"d\\ne\",\"a\":[1,{\"b\":null}],\"n\":-5}";
 
-const JSON_ENTRIES: [&str; 7] = [
-    "j\n",
-    "├─ a\n",
-    "│  ├─ 1\n",
-    "│  └─ \n",
-    "│     └─ b = \n",
-    "├─ b\n│  : c = d\n│  : e\n",
-    "└─ n = -5\n",
-];
-
-// The same of a document in TOML, with indent 4.
+// A document in TOML, and its drawing under the label `j` with indent 4, by its entries.
 const TOML: &str = "toml = [\"yaml\", [\"json\"]]\ndepth = 3\n[set]\n\"\" = \"utf\"\n";
 
 const TOML_ENTRIES: [&str; 8] = [
@@ -48,13 +38,6 @@ fn boxed(alloc: Global) -> Result<Value, AllocError> {
         Value::Newtype(Box::new(alloc, Value::U8(1))?),
     ))?;
     Ok(Value::Map(entries))
-}
-
-// What is drawn of the document in JSON.
-fn json_drawn(alloc: Global, config: &PrintConfig) -> Result<Vec<u8>, Failure> {
-    let mut out = Counted::new(Vec::with_capacity(alloc, SHEET)?);
-    let result = draw_document_with(alloc, DocFormat::Json, JSON, "j", config, false, &mut out);
-    entries_written(out, result, &JSON_ENTRIES)
 }
 
 // What is drawn of the document in TOML under sources.
@@ -117,11 +100,6 @@ impl Trial {
     /// The calls of the value of a document in TOML.
     pub fn call_toml(&mut self, alloc: Global, config: &PrintConfig) -> Result<(), Failure> {
         self.note_value(alloc, toml_value(alloc)?, config)
-    }
-
-    /// The drawing of a document in JSON.
-    pub fn call_json_drawn(&mut self, alloc: Global, config: &PrintConfig) -> Result<(), Failure> {
-        self.note_bytes(json_drawn(alloc, config))
     }
 
     /// The drawing of a document in TOML, under sources.

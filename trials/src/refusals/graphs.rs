@@ -2,16 +2,14 @@
 //! refused memory.
 
 use crate::refusals::failure::Failure;
-use crate::refusals::trial::{DEPTH, Trial};
+use crate::refusals::trial::Trial;
 use crate::refusals::written::SHEET;
 use ptree::graph::{
-    EdgeError, Graph, Label, NodeIndex, Occurrence, REPEATED_MARK, write_graph_once_with,
-    write_graph_with,
+    EdgeError, Graph, Label, NodeIndex, REPEATED_MARK, write_graph_once_with, write_graph_with,
 };
 use ptree::print_config::PrintConfig;
 use ptree::style::Counted;
 use std::alloc::Global;
-use std::io::Write;
 
 // The edges that a graph of texts is given, in two calls.
 const EDGES: [[(NodeIndex, NodeIndex); 3]; 2] = [
@@ -120,20 +118,6 @@ impl Trial {
         Ok(())
     }
 
-    // Notes the places of a graph where each node is expanded once.
-    fn note_occurrences(&mut self, first: &Occurrence) -> Result<(), Failure> {
-        for place in &first.places {
-            writeln!(self.notes, "occurrence {} {}", place.node.0, place.size)?;
-        }
-        Ok(())
-    }
-
-    // Notes the neighbours of the first node, and the places of the graph from that node.
-    fn note_parts(&mut self, graph: &Graph<String>) -> Result<(), Failure> {
-        self.note_neighbors(&graph.neighbors(NodeIndex(0))?)?;
-        self.note_occurrences(&graph.expanded_once(NodeIndex(0), DEPTH)?)
-    }
-
     // Adds nodes to a graph.
     fn add_nodes(&mut self, alloc: Global, graph: &mut Graph<String>) -> Result<(), Failure> {
         for text in ["v", "w", "x", "y", "z"] {
@@ -143,7 +127,7 @@ impl Trial {
         Ok(())
     }
 
-    // Adds edges to a graph, and notes its parts and its drawing.
+    // Adds edges to a graph, and notes the neighbours of the first node and the drawing.
     fn add_edges(
         &mut self,
         alloc: Global,
@@ -152,7 +136,7 @@ impl Trial {
         config: &PrintConfig,
     ) -> Result<(), Failure> {
         self.connect(graph, edges)?;
-        self.note_parts(graph)?;
+        self.note_neighbors(&graph.neighbors(NodeIndex(0))?)?;
         self.note_graph(alloc, graph, config)
     }
 

@@ -7,9 +7,7 @@ use ptree::TreeBuilder;
 use ptree::graph::{Graph, NodeIndex, REPEATED_MARK, print_graph, print_graph_once};
 use ptree::item::StringItem;
 use ptree::output::{print_tree, write_tree};
-use ptree::print_config::{
-    Fault, FileSource, PrintConfig, Sources, faults, first_fault, load, syntax_line,
-};
+use ptree::print_config::{Fault, FileSource, PrintConfig, Sources, first_fault};
 use ptree::style::Counted;
 use std::alloc::{AllocError, Global};
 use std::io::Write;
@@ -125,30 +123,9 @@ fn graph_printed_once(
 }
 
 impl Trial {
-    // Notes the drawing of a tree under what is loaded of sources.
-    fn note_loaded(
-        &mut self,
-        alloc: Global,
-        tree: &StringItem,
-        sources: &Sources,
-    ) -> Result<(), Failure> {
-        match load(alloc, sources)? {
-            Some(config) => self.note_drawing(alloc, tree, &config),
-            None => self.note("nothing is loaded"),
-        }
-    }
-
     // Notes a fault of sources.
     fn note_fault(&mut self, fault: &Fault) -> Result<(), Failure> {
         Ok(writeln!(self.notes, "{fault}")?)
-    }
-
-    // Notes faults of sources.
-    fn note_faults(&mut self, faults: &[Fault]) -> Result<(), Failure> {
-        for fault in faults {
-            self.note_fault(fault)?;
-        }
-        Ok(())
     }
 
     // Notes the first fault of sources.
@@ -156,14 +133,6 @@ impl Trial {
         match first {
             Some(fault) => self.note_fault(&fault),
             None => self.note("no fault"),
-        }
-    }
-
-    // Notes the wrong line of a file.
-    fn note_line(&mut self, line: Option<usize>) -> Result<(), Failure> {
-        match line {
-            Some(line) => self.note_number("line", line),
-            None => self.note("no bad line"),
         }
     }
 
@@ -178,29 +147,11 @@ impl Trial {
         self.note_drawing(alloc, tree, &config.value)
     }
 
-    // Notes the first fault of sources and all of them, and the wrong line of their file.
-    fn note_wrong(&mut self, alloc: Global, sources: &Sources) -> Result<(), Failure> {
-        self.note_first(first_fault(alloc, sources)?)?;
-        self.note_faults(&faults(alloc, sources)?)?;
-        self.note_line(syntax_line(alloc, &sources.file)?)
-    }
-
-    // Notes what is loaded of sources, their faults, and what `from_env` returns.
-    fn note_sources(
-        &mut self,
-        alloc: Global,
-        tree: &StringItem,
-        sources: &Sources,
-    ) -> Result<(), Failure> {
-        self.note_loaded(alloc, tree, sources)?;
-        self.note_wrong(alloc, sources)?;
-        self.note_found(alloc, tree, sources)
-    }
-
     // The calls of sources.
     fn call_sources(&mut self, alloc: Global, sources: &Sources) -> Result<(), Failure> {
         let tree = small(alloc)?;
-        self.note_sources(alloc, &tree, sources)
+        self.note_first(first_fault(alloc, sources)?)?;
+        self.note_found(alloc, &tree, sources)
     }
 
     // The calls that draw a tree under sources.

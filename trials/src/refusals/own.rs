@@ -17,8 +17,8 @@ use tests::fixtures::held::hold;
 use tests::fixtures::screen::Screen;
 use tests::fixtures::trees::{leaf, over, over_leaves};
 
-/// r [a [b], c].
-pub fn branched(alloc: Global) -> Result<StringItem, AllocError> {
+// r [a [b], c].
+fn branched(alloc: Global) -> Result<StringItem, AllocError> {
     let a = over_leaves(alloc, "a", &["b"])?;
     over(alloc, "r", vec![in alloc; a, leaf(alloc, "c")?]?)
 }

@@ -51,11 +51,6 @@ impl Trial {
         self.note(text?.as_str())
     }
 
-    /// Notes the pieces of a configuration.
-    pub fn note_pieces(&mut self, alloc: Global, config: &PrintConfig) -> Result<(), Failure> {
-        self.note_indent(Indent::from_config(alloc, config))
-    }
-
     /// The calls that make pieces of characters.
     pub fn call_pieces(&mut self, alloc: Global) -> Result<(), Failure> {
         let bold = hold(IndentChars::from_static(alloc, UTF_CHARS_BOLD))?;
@@ -95,8 +90,7 @@ impl Trial {
     // The calls of a style.
     fn call_style(&mut self, alloc: Global, leaf: &Style) -> Result<(), Failure> {
         let style = hold(leaf.clone())?;
-        self.note_flag(style.value == *leaf)?;
-        self.note_text(style.value.paint(alloc, "painted"))
+        self.note_flag(style.value == *leaf)
     }
 
     /// The calls of styles.

@@ -5,7 +5,7 @@ use crate::sizes::{LEVELS, made, text};
 use ptree::output::tree_bytes;
 use ptree::print_config::{FileSource, PrintConfig, Sources};
 use ptree::style::Counted;
-use ptree::value::{DocFormat, Value, draw_document, draw_document_with};
+use ptree::value::{DocFormat, Value, draw_document};
 use std::alloc::{AllocError, Global};
 
 /// The most lists in one another that a document of either format may have.
@@ -92,29 +92,13 @@ fn try_value(alloc: Global, value: &Value, label: &str) -> Result<(), Deviation>
     try_labelled(alloc, &pair)
 }
 
-// The call that draws a document under a configuration.
-fn try_document_with(
-    alloc: Global,
-    format: DocFormat,
-    document: &str,
-    label: &str,
-) -> Result<(), Deviation> {
-    let config = PrintConfig::default(alloc)?;
-    let mut out = Counted::new(Vec::new(alloc));
-    made(
-        draw_document_with(alloc, format, document, label, &config, true, &mut out),
-        "`draw_document_with` succeeds",
-    )
-}
-
-// The calls that draw a document.
+// The call that draws a document under sources.
 fn try_document(
     alloc: Global,
     format: DocFormat,
     document: &str,
     label: &str,
 ) -> Result<(), Deviation> {
-    try_document_with(alloc, format, document, label)?;
     let sources = Sources {
         file: FileSource::Absent,
         variables: Vec::new(alloc),

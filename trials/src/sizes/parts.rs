@@ -4,37 +4,12 @@ use crate::deviation::{Deviation, expect};
 use crate::sizes::{made, text};
 use ptree::buffered::Buffered;
 use ptree::output::{Indent, tree_bytes};
-use ptree::presets::Preset;
 use ptree::print_config::{
     ASCII_CHARS_PLUS, CharsError, IndentChars, PrintConfig, StaticIndentChars, StyleWhen,
 };
-use ptree::read::pieces_readable;
 use ptree::style::{Color, Counted, Style, put_all};
 use std::alloc::{AllocError, Global};
 use tests::fixtures::trees::over_leaves;
-
-const PRESETS: [Preset; 10] = [
-    Preset::Tree,
-    Preset::TreeAscii,
-    Preset::CargoTree,
-    Preset::CargoTreeAscii,
-    Preset::Findmnt,
-    Preset::FindmntAscii,
-    Preset::Sqlite,
-    Preset::Maven,
-    Preset::Clang,
-    Preset::Ps,
-];
-
-const SETS: [&str; 7] = [
-    "utf",
-    "ascii",
-    "ascii-tick",
-    "ascii-plus",
-    "utf-bold",
-    "utf-dashed",
-    "utf-double",
-];
 
 // Characters that are empty, which no shipped set has.
 const EMPTY: StaticIndentChars = StaticIndentChars {
@@ -79,10 +54,9 @@ fn config(alloc: Global, size: usize) -> Result<PrintConfig, AllocError> {
     })
 }
 
-// The calls of a style.
-fn try_style(alloc: Global, size: usize, input: &str) -> Result<(), Deviation> {
+// The copy of a style.
+fn try_style(alloc: Global, size: usize) -> Result<(), Deviation> {
     let style = named(alloc, size)?;
-    made(style.paint(alloc, input), "`Style::paint` succeeds")?;
     let copy = made(style.clone(), "`Style::clone` succeeds")?;
     expect(copy == style, "a copy of a style equals it")
 }
@@ -95,9 +69,8 @@ fn try_color(color: &Color) -> Result<(), Deviation> {
 
 // The calls of styles and colours.
 fn try_styles(alloc: Global, size: usize) -> Result<(), Deviation> {
-    let input = text(alloc, size)?;
-    try_style(alloc, size, input.as_str())?;
-    try_color(&Color::Named(input))
+    try_style(alloc, size)?;
+    try_color(&Color::Named(text(alloc, size)?))
 }
 
 // The calls of shipped sets of characters.
@@ -106,12 +79,6 @@ fn try_sets(alloc: Global) -> Result<(), Deviation> {
         made(
             IndentChars::from_static(alloc, set),
             "`IndentChars::from_static` succeeds",
-        )?;
-    }
-    for name in SETS {
-        made(
-            IndentChars::from_name(alloc, name),
-            "`IndentChars::from_name` finds each shipped set",
         )?;
     }
     Ok(())
@@ -176,11 +143,6 @@ fn try_drawing(alloc: Global, config: &PrintConfig) -> Result<(), Deviation> {
 // The calls of a configuration, and a drawing under it.
 fn try_config(alloc: Global, config: &PrintConfig) -> Result<(), Deviation> {
     made(
-        Indent::from_config(alloc, config),
-        "`Indent::from_config` succeeds",
-    )?;
-    made(pieces_readable(alloc, config), "`pieces_readable` succeeds")?;
-    made(
         config.paint_branch(alloc, "a"),
         "`PrintConfig::paint_branch` succeeds",
     )?;
@@ -208,14 +170,6 @@ fn try_widths(alloc: Global, size: usize) -> Result<(), Deviation> {
     try_config(alloc, &wide)?;
     wide.padding = size;
     try_config(alloc, &wide)
-}
-
-// The calls of presets.
-fn try_presets(alloc: Global) -> Result<(), Deviation> {
-    for preset in PRESETS {
-        made(preset.config(alloc), "`Preset::config` succeeds")?;
-    }
-    Ok(())
 }
 
 // What a buffer of a size passes on of these bytes, and more.
@@ -250,6 +204,5 @@ pub fn try_all(alloc: Global, size: usize) -> Result<(), Deviation> {
     try_long_pieces(alloc, size)?;
     try_texts(alloc, size)?;
     try_widths(alloc, size)?;
-    try_presets(alloc)?;
     try_buffer(alloc, size)
 }
