@@ -96,7 +96,8 @@ def try_layers(lines):
 def try_json(lines):
     """127 lists and objects, and 128."""
     for levels, front, inner, end, text in ((127, "[", "", "]", ""), (126, '{"k":', "{}", "}", "k")):
-        expect(ptree.draw_json(front * levels + inner + end * levels, "d", PLAIN) == "d\n" + steps("", text, 126), "a document has its drawing")
+        drawing = ptree.draw_json(front * levels + inner + end * levels, "d", PLAIN)
+        expect(drawing == "d\n" + steps("", text, 126), "a document has its drawing")
         expect_refused(ptree.draw_json, front * (levels + 1) + inner + end * (levels + 1))
     expect_refused(ptree.draw_json, '[{"k":' * 64 + "[]" + "}]" * 64)
 
@@ -162,10 +163,11 @@ def try_graphs(size):
     nodes, loops = ["a"] * (size + 1), [(0, 0)] * size
     levels = min(size, LEVELS)
     path = [(place, place + 1) for place in range(levels)]
+    chain = "b\n" + steps("", "b", levels)
     level = calls.changed(PLAIN, depth=1)
     for mark in (None, " (*)"):
         expect(calls.graph(nodes, star, 0, level, mark) == "a\n" + below, "a star has its drawing")
-        expect(calls.graph(["b"] * (levels + 1), path, 0, PLAIN, mark) == "b\n" + steps("", "b", levels), "a chain of nodes has its drawing")
+        expect(calls.graph(["b"] * (levels + 1), path, 0, PLAIN, mark) == chain, "a chain of nodes has its drawing")
         expect(calls.graph(["a"], loops, 0, level, mark) == "a\n" + below.replace("a", "a" + (mark or "")), "a loop has its drawing")
 
 
@@ -180,9 +182,12 @@ def try_documents(size):
     json += "".join(f',"{key}":null' for key in keys) + "}"
     toml = f"text = '{text}'\nlist = [0{', -1' * size}]\nlists = {'[' * nested}''{']' * nested}\n"
     toml += "".join(f"\"{key}\" = ''\n" for key in keys)
-    drawing = f"{text}d\n" + "".join(f"├─ {key} = \n" for key in sorted(keys)) + "├─ list\n" + "".join(f"│  {line}\n" for line in items.splitlines())
-    drawing += "├─ lists\n" + "".join(f"│  {line}\n" for line in lists.split("\n")[:-1]) if nested else "├─ lists = \n"
-    drawing += f"└─ text = {text}\n"
+
+    def below(lines):
+        return "".join(f"│  {line}\n" for line in lines.split("\n")[:-1])
+
+    drawing = f"{text}d\n" + "".join(f"├─ {key} = \n" for key in sorted(keys)) + "├─ list\n" + below(items)
+    drawing += ("├─ lists\n" + below(lists) if nested else "├─ lists = \n") + f"└─ text = {text}\n"
     expect(ptree.draw_json(json, text + "d", PLAIN) == drawing, "a document in JSON has its drawing")
     expect(ptree.draw_toml(toml, text + "d", PLAIN) == drawing, "a document in TOML has its drawing")
 
@@ -195,7 +200,8 @@ def try_sources(size):
     wanted = ptree.Config(characters=ptree.Characters(*[text] * 5), leaf=ptree.Style(ptree.NamedColor(text)))
     toml = "".join(f"other_{number} = 1\n" for number in range(size)) + f"continued = '{text}'\n"
     json = "{" + "".join(f'"other_{number}":1,\n' for number in range(size)) + f'"continued":"{text}"}}'
-    for number, file, config in ((c.NO_FILE, "", wanted), *((number, file, calls.changed(wanted, continued=text)) for number, file in ((c.TOML, toml), (c.JSON, json)))):
+    both = calls.changed(wanted, continued=text)
+    for number, file, config in ((c.NO_FILE, "", wanted), (c.TOML, toml, both), (c.JSON, json, both)):
         given = calls.sources(file, number, variables)
         expect(calls.load(given) == config and calls.faults(given) == [], "good sources are loaded")
     for number in (c.TOML, c.JSON):

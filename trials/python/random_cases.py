@@ -125,9 +125,11 @@ def fields(dice):
 def configuration(fields):
     """A configuration as the package has it."""
 
+    def color_of(color):
+        return ptree.NamedColor(str(color)) if isinstance(color, Name) else color
+
     def style_of(style):
-        colors = {key: ptree.NamedColor(str(style[key])) if isinstance(style[key], Name) else style[key] for key in ("foreground", "background")}
-        return ptree.Style(**{**style, **colors})
+        return ptree.Style(**{**style, **{key: color_of(style[key]) for key in ("foreground", "background")}})
 
     parts = {"characters": ptree.Characters(**fields["characters"]), **{part: style_of(fields[part]) for part in ("branch", "leaf")}}
     return ptree.Config(**{**fields, **parts})
@@ -317,8 +319,8 @@ def try_sources(dice, counts):
 
 
 KINDS = [
-    "drawings", "texts read", "texts with a wrong line", "texts that end too early", "walks of graphs", "graphs drawn once", "documents in JSON",
-    "documents in TOML", "syntax", "float", "date", "sources", "sources with a fault",
+    "drawings", "texts read", "texts with a wrong line", "texts that end too early", "walks of graphs", "graphs drawn once",
+    "documents in JSON", "documents in TOML", "syntax", "float", "date", "sources", "sources with a fault",
 ]  # fmt: skip
 
 
@@ -357,7 +359,8 @@ def redraw_input(dice, config):
         return b""
     look = Look(config)
     drawing = reference.draw(tree(dice, 9), look)
-    return dice.choice([drawing, exchanged(dice, drawing, look), damaged(dice, drawing)]).encode() + (b"\xff" if dice.random() < 0.05 else b"")
+    found = dice.choice([drawing, exchanged(dice, drawing, look), damaged(dice, drawing)]).encode()
+    return found + (b"\xff" if dice.random() < 0.05 else b"")
 
 
 def answer(words, is_terminal, config, given):
@@ -392,7 +395,7 @@ def answer(words, is_terminal, config, given):
 
 
 # Variables that make pieces which cannot be told apart, and ones that are too long.
-HARD = [("PTREE_CONTINUED", ""), ("PTREE_CONTINUED", "├"), ("PTREE_INDENT", "18446744073709551615"), ("PTREE_PADDING", "18446744073709551615")]
+HARD = [("PTREE_CONTINUED", ""), ("PTREE_CONTINUED", "├"), ("PTREE_INDENT", str(2**64 - 1)), ("PTREE_PADDING", str(2**64 - 1))]
 
 
 def try_call(dice, program, folder, counts):

@@ -319,6 +319,7 @@ class Wrong(Exception):
 
 
 def known(table, key):
+    """What a table has at a key, or a word that a list has."""
     if key not in table:
         raise Wrong
     return table[key] if isinstance(table, dict) else key
@@ -359,6 +360,11 @@ def as_byte(value):
     return number_kind(255).of_key(value)
 
 
+def set_of_key(value):
+    """The characters of a set by its name, or of a table, whose keys are fields of their own."""
+    return value if isinstance(value, dict) else known(SETS, as_text(value))
+
+
 def color_of_variable(text):
     return int(text) if re.fullmatch("[0-9]{1,3}", text) and int(text) < 256 else Name(lowered(text))
 
@@ -375,7 +381,7 @@ TEXT = Kind("a text", as_text, as_text)
 FLAG = Kind("true or false", lambda text: known(FLAG_WORDS, lowered(text)), as_flag)
 COLOR = Kind("a colour", color_of_variable, color_of_key)
 WORD = Kind("never, always or tty", lambda text: known(STYLED, lowered(text)), lambda value: known(STYLED, as_text(value)))
-SET = Kind("a set of characters", lambda text: known(SETS, lowered(text)), lambda value: value if isinstance(value, dict) else known(SETS, as_text(value)))
+SET = Kind("a set of characters", lambda text: known(SETS, lowered(text)), set_of_key)
 # The fields in the order of faults: the table of a field, or none, its key, and its kind.
 FIELDS = [
     (None, "depth", number_kind(2**32 - 1)), (None, "indent", number_kind(2**64 - 1)), (None, "padding", number_kind(2**64 - 1)),

@@ -24,7 +24,12 @@ COLORS = ptree.Config(
 )  # fmt: skip
 JSON = '{"b\\nc":"d\\ne","a":[1,{"b":null}],"n":-5}'
 TOML = 'toml = ["yaml", ["json"]]\ndepth = 3\n[set]\n"" = "utf"\n'
-GOOD_TOML = 'styled = "always"\nindent = 4\ncharacters = { right = "~" }\ncontinued = "> "\nleaf = { foreground = "teal", background = [1, 2, 3] }\n'
+GOOD_TOML = """styled = "always"
+indent = 4
+characters = { right = "~" }
+continued = "> "
+leaf = { foreground = "teal", background = [1, 2, 3] }
+"""
 GOOD_JSON = '{"leaf": {"foreground": "teal"}, "indent": 4}'
 BAD_TOML = "depth = 'x'\nleaf = 3\n"
 NODES = ["r", "a\nb", "c", "d"]

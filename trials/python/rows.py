@@ -1,11 +1,11 @@
 #!/usr/bin/env python3
 """Tries files of rows over the library for C. docs/ROWS.md describes their format.
 
-  rows.py [--damage] [--program CRATE] FILE..     tries files of rows. The folder of a file, `trees` or `sources`, says what its rows are of.
-                                                  --damage changes each answer too, one at a time, which must be noticed
+  rows.py [--damage] [--program CRATE] FILE..
 
-CRATE is the folder of the program of trials/rows, which makes by `rt try` the calls that the library for C has not: those of a builder and
-of a `Value`.
+The folder of a file, `trees` or `sources`, says what its rows are of. With --damage each answer is also changed, one at a time, which must
+be noticed. CRATE is the folder of the program of trials/rows, which makes by `rt try` the calls that the library for C has not: those of a
+builder and of a `Value`.
 
 The library for C draws outlines by code of its own, and graphs by the calls of the library. So each tree is drawn twice: as an outline, and
 as the graph that has its walks.
