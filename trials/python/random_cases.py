@@ -3,8 +3,8 @@
 
   random_cases.py library SEED CASES          the library for C: drawings, texts that are read, graphs, documents and sources
   random_cases.py program PATH SEED CASES     calls of the program ptree_cli at a path
-  random_cases.py rows KIND SEED CASES        prints rows of what the library for C has no call for: of `trees` calls of a builder, of
-                                              `sources` values of documents
+  random_cases.py rows KIND SEED CASES        prints rows of what the library for C has no call for: of `trees` calls of builders and
+                                              graphs, of `sources` values of documents
 
 At the first case that differs it says how to make the case again, and ends with status 1.
 """
@@ -212,6 +212,13 @@ def try_graph(dice, counts):
         found = calls.graph(nodes, edges, start, configuration(given), mark)
         expect(found, wanted, "the drawing of a graph", nodes=nodes, edges=edges, start=start, mark=mark, config=given)
         counts[kind] += 1
+    wrong = [*edges, dice.choice([(0, len(nodes)), (len(nodes), 0)])]
+    dice.shuffle(wrong)
+    try:
+        found = calls.graph(nodes, wrong, start, configuration(given), mark)
+    except ptree.PtreeError as error:
+        found = error.number
+    expect(found, c.EDGE, "an edge of no node", nodes=nodes, edges=wrong)
 
 
 def document_value(dice, format, levels):
@@ -473,6 +480,23 @@ def builder_lines(dice):
     return [*lines, "= built", *outline(root)]
 
 
+def graph_lines(dice):
+    """Calls of a graph, which is turned round at times and grows on, and neighbours of its nodes."""
+    nodes, edges, lines = [plain_text(dice) for _ in range(dice.randint(1, 6))], [], []
+    lines += [f"node {value_form(node)}".rstrip(" ") for node in nodes]
+    for _ in range(dice.randint(1, 3)):
+        more = [(dice.randrange(len(nodes)), dice.randrange(len(nodes))) for _ in range(dice.randrange(8))]
+        edges += more
+        lines.append("edges " + " ".join(f"{source}>{target}" for source, target in more))
+        if dice.random() < 0.5:
+            edges = [(target, source) for source, target in edges]
+            lines.append("reversed")
+    for start in range(len(nodes) + 1):
+        below = [str(target) for source, target in reversed(edges) if source == start]
+        lines += [f"start {start}", " ".join(["= neighbors", *below])]
+    return lines
+
+
 def value_lines(dice):
     """A document's value, alone and under a label."""
     format, label, given = dice.choice(("json", "toml")), plain_text(dice), reference.default()
@@ -492,8 +516,9 @@ def value_lines(dice):
 
 
 def print_rows(kind, seed, cases):
-    lines_of = {"trees": builder_lines, "sources": value_lines}[kind]
+    makers = {"trees": [builder_lines, graph_lines], "sources": [value_lines]}[kind]
     for case in range(cases):
+        lines_of = makers[case % len(makers)]
         print(f"row case {case} of seed {seed}", *lines_of(random.Random(f"{seed} {case}")), "", sep="\n")
 
 

@@ -5,7 +5,7 @@
 
 The folder of a file, `trees` or `sources`, says what its rows are of. With --damage each answer is also changed, one at a time, which must
 be noticed. CRATE is the folder of the program of trials/rows, which makes by `rt try` the calls that the library for C has not: those of a
-builder and of a `Value`.
+builder, of a graph's neighbours, also where it is turned round, and of a `Value`.
 
 The library for C draws outlines by code of its own, and graphs by the calls of the library. So each tree is drawn twice: as an outline, and
 as the graph that has its walks.
@@ -337,6 +337,7 @@ class Trees(Row):
         self.text = self.edited = self.word = ""
         self.is_about_builder = False
         program.call("root", "")
+        program.call("nodes", "")
 
     def keep_text(self, body):
         self.text = self.edited = parse_text(body)
@@ -362,6 +363,8 @@ class Trees(Row):
             return self.build(word, body)
         if word in ("built", "level") or word == "outcome" and self.is_about_builder:
             return self.ask_builder(line, word)
+        if word == "neighbors":
+            return self.program.ask(line, word, str(self.start)).removeprefix(" ")
         return super().take(line, word, body)
 
     def edit(self, edit, body):
@@ -405,9 +408,18 @@ class Trees(Row):
     def ask_outcome(self):
         return "taken" if self.is_taken else "refused"
 
+    def keep_node(self, body):
+        super().keep_node(body)
+        self.program.call("node", self.nodes[-1])
+
     def keep_edges(self, body):
         self.is_about_builder = False
         super().keep_edges(body)
+        self.program.call("edges", body)
+
+    def keep_reversed(self, body):
+        super().keep_reversed(body)
+        self.program.call("reversed", "")
 
     def ask_drawn(self):
         return self.drawn(self.config)
@@ -507,12 +519,6 @@ class Trees(Row):
 
     def ask_graph_once(self):
         return lines_form(calls.graph(self.nodes, self.edges, self.start, self.config, self.mark))
-
-    def ask_neighbors(self):
-        """The lines of a drawing to level 1, in which each node's text is its number."""
-        bare = ptree.Config(depth=1, indent=0, padding=0, characters=ptree.Characters("", "", "", "", ""))
-        drawn = calls.graph([str(place) for place in range(len(self.nodes))], self.edges, self.start, bare)
-        return " ".join(drawn.split("\n")[1:-1])
 
 
 # The beginning of the text of a fault, what follows its name, and its form.
@@ -681,10 +687,10 @@ class Program:
             raise Trouble("the byte 0 in a text of a builder or of a value")
         self.calls.append(f"{word}\0{text}\0")
 
-    def ask(self, line, word):
+    def ask(self, line, word, text=""):
         """The answer to a word at a line of the file."""
         if self.answers is None:
-            self.call(word, "")
+            self.call(word, text)
             self.asked.append((self.file, line))
             raise Unasked
         if (self.file, line) not in self.answers:

@@ -1,25 +1,27 @@
-//! Makes the calls that the library for C has none for, those of a builder and of a `Value`, for
-//! rows that ask for them (`trials/python/rows.py`).
+//! Makes the calls that the library for C has none for, those of a builder, a graph that is turned
+//! round and a `Value`, for rows that ask for them (`trials/python/rows.py`).
 //!
 //! Standard input is calls, each a word and a text, which the byte 0 ends. Each answer is its length
 //! in bytes, a blank, its text and a line feed.
 #![tactic(auto)]
 
 use ptree::TreeBuilder;
+use ptree::graph::{Graph, NodeIndex};
 use ptree::item::{StringItem, TreeItem};
 use ptree::output::tree_text;
 use ptree::print_config::{FileSource, PrintConfig, Sources, load};
 use ptree::value::{ConvertError, Value};
 use std::alloc::{AllocError, Global};
-use std::io;
 use std::process::ExitCode;
+use std::{io, mem};
 
-// What calls have made: a builder, whether it took the last item by its level, and a document under
-// a configuration.
+// What calls have made: a builder, whether it took the last item by its level, a graph, and a
+// document under a configuration.
 #[derive(Drop)]
 struct Made {
     builder: TreeBuilder,
     taken: bool,
+    graph: Graph<String>,
     config: PrintConfig,
     label: String,
     is_json: bool,
@@ -57,6 +59,21 @@ fn items_of(alloc: Global, tree: &StringItem) -> Result<String, AllocError> {
     Ok(out)
 }
 
+// A node by its number.
+fn node(text: &str) -> Result<NodeIndex, AllocError> {
+    Ok(NodeIndex(text.parse::<usize>().map_err(|_| AllocError)?))
+}
+
+// Edges such as `0>1 0>2`.
+fn edges_of(alloc: Global, text: &str) -> Result<Vec<(NodeIndex, NodeIndex)>, AllocError> {
+    let mut edges = Vec::new(alloc);
+    for pair in text.split_whitespace() {
+        let (source, target) = pair.split_once('>').ok_or(AllocError)?;
+        edges.push((node(source)?, node(target)?))?;
+    }
+    Ok(edges)
+}
+
 // The configuration that a file in TOML means.
 fn config_of(alloc: Global, file: &str) -> Result<PrintConfig, AllocError> {
     let sources = Sources {
@@ -71,6 +88,7 @@ impl Made {
         Ok(Made {
             builder: TreeBuilder::new(alloc, String::new(alloc)),
             taken: true,
+            graph: Graph::new(alloc),
             config: PrintConfig::default(alloc)?,
             label: String::new(alloc),
             is_json: true,
@@ -110,6 +128,21 @@ impl Made {
         Ok(())
     }
 
+    // Turns the graph's edges round.
+    fn reverse(&mut self, alloc: Global) {
+        let graph = mem::replace(&mut self.graph, Graph::new(alloc));
+        self.graph = graph.reversed();
+    }
+
+    // The neighbours of a node, each behind a blank.
+    fn neighbors(&self, alloc: Global, text: &str) -> Result<String, AllocError> {
+        let mut out = String::new(alloc);
+        for neighbor in self.graph.neighbors(node(text)?)?.iter() {
+            out.push_str(format!(in alloc; " {}", neighbor.0)?.as_str())?;
+        }
+        Ok(out)
+    }
+
     // The document's value.
     fn value(&self, alloc: Global) -> Result<Value, &'static str> {
         if self.is_json {
@@ -139,8 +172,14 @@ impl Made {
     }
 
     // Answers a word, where it asks for something.
-    fn answer(&mut self, alloc: Global, word: &str) -> Result<Option<String>, AllocError> {
+    fn answer(
+        &mut self,
+        alloc: Global,
+        word: &str,
+        text: &str,
+    ) -> Result<Option<String>, AllocError> {
         let found = match word {
+            "neighbors" => self.neighbors(alloc, text)?,
             "level" => format!(in alloc; "{}", self.builder.level())?,
             "outcome" => String::from_str(alloc, if self.taken { "taken" } else { "refused" })?,
             "built" => items_of(alloc, &self.builder.build()?)?,
@@ -159,6 +198,16 @@ impl Made {
             "leaf" => self.add(alloc, text, false)?,
             "end" => self.end()?,
             "at" => self.add_at(alloc, text)?,
+            "nodes" => self.graph = Graph::new(alloc),
+            "node" => {
+                self.graph.add_node(String::from_str(alloc, text)?)?;
+            }
+            // (edges of no node are refused, and rows ask C for that)
+            "edges" => {
+                let edges = edges_of(alloc, text)?;
+                self.graph.extend_with_edges(edges.as_slice()).unwrap_or(());
+            }
+            "reversed" => self.reverse(alloc),
             "settings" => self.config = config_of(alloc, text)?,
             "label" => self.label = String::from_str(alloc, text)?,
             "json" | "toml" => {
@@ -182,7 +231,7 @@ fn run(rt: &HostRuntime) -> io::Result<()> {
             word = Some(part);
             continue;
         };
-        match made.answer(alloc, called)? {
+        match made.answer(alloc, called, part)? {
             Some(found) => println!(rt; "{} {found}", found.len())?,
             None => made.call(alloc, called, part)?,
         }
