@@ -98,6 +98,11 @@ def parse_number(form, limit, trouble="no number of this setting"):
     return int(form)
 
 
+def parse_edge(pair):
+    source, _, target = pair.partition(">")
+    return parse_number(source, 2**64, "no number of a node"), parse_number(target, 2**64, "no number of a node")
+
+
 def parse_label(form):
     if not form:
         raise Trouble("an item without a text: a backslash stands for the empty one")
@@ -315,7 +320,7 @@ class Row:
 
     def keep_edges(self, body):
         """The edges are accepted if a drawing with them is not refused for them."""
-        pairs = [tuple(parse_number(end, 2**64, "no number of a node") for end in (pair + ">").split(">")[:2]) for pair in body.split()]
+        pairs = list(map(parse_edge, body.split()))
         try:
             calls.graph(self.nodes, self.edges + pairs, 0, ptree.Config(depth=0))
             self.is_taken, self.edges = True, self.edges + pairs
@@ -324,9 +329,9 @@ class Row:
                 raise
             self.is_taken = False
 
-    def on_terminal(self, config):
-        """The configuration that draws into memory what goes to a terminal."""
-        return changed(config, styled="always" if calls.is_styled(config, True, True) else "never")
+    def shown(self, config, is_terminal):
+        """The configuration that draws into memory what goes to standard output."""
+        return changed(config, styled="always" if calls.is_styled(config, True, is_terminal) else "never")
 
 
 class Trees(Row):
@@ -424,10 +429,13 @@ class Trees(Row):
     def ask_drawn(self):
         return self.drawn(self.config)
 
-    ask_returned = ask_elsewhere = ask_drawn
+    ask_returned = ask_drawn
 
     def ask_on_terminal(self):
-        return self.drawn(self.on_terminal(self.config))
+        return self.drawn(self.shown(self.config, True))
+
+    def ask_elsewhere(self):
+        return self.drawn(self.shown(self.config, False))
 
     def ask_read(self):
         """The outline of what is read. It is drawn as the text, and is the tree from then on."""
@@ -624,22 +632,26 @@ class Sources(Row):
     def ask_written(self):
         return self.drawn(self.meant())
 
-    ask_elsewhere = ask_written
-
     def ask_on_terminal(self):
-        return self.drawn(self.on_terminal(self.meant()))
+        return self.drawn(self.shown(self.meant(), True))
+
+    def ask_elsewhere(self):
+        return self.drawn(self.shown(self.meant(), False))
+
+    def graph(self, is_terminal, mark=None):
+        return lines_form(calls.graph(self.nodes, self.edges, self.start, self.shown(self.meant(), is_terminal), mark))
 
     def ask_graph_elsewhere(self):
-        return lines_form(calls.graph(self.nodes, self.edges, self.start, self.meant()))
+        return self.graph(False)
 
     def ask_graph_on_terminal(self):
-        return lines_form(calls.graph(self.nodes, self.edges, self.start, self.on_terminal(self.meant())))
+        return self.graph(True)
 
     def ask_graph_once_elsewhere(self):
-        return lines_form(calls.graph(self.nodes, self.edges, self.start, self.meant(), self.mark))
+        return self.graph(False, self.mark)
 
     def ask_graph_once_on_terminal(self):
-        return lines_form(calls.graph(self.nodes, self.edges, self.start, self.on_terminal(self.meant()), self.mark))
+        return self.graph(True, self.mark)
 
     def document_under(self, config):
         """The drawing of the document, or the word for why it is refused."""
@@ -653,7 +665,7 @@ class Sources(Row):
         return self.document_under(self.config)
 
     def ask_document_on_terminal(self):
-        return self.document_under(self.on_terminal(self.config))
+        return self.document_under(self.shown(self.config, True))
 
     def ask_document_under_sources(self):
         return self.document_under(self.meant())
