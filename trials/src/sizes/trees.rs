@@ -11,7 +11,7 @@ use ptree::output::{
     print_tree, print_tree_to, print_tree_with, tree_bytes, tree_text, write_tree, write_tree_with,
 };
 use ptree::print_config::{FileSource, PrintConfig, Sources};
-use ptree::read::{read_tree, read_tree_or_line};
+use ptree::read::read_tree;
 use ptree::style::Counted;
 use std::alloc::{AllocError, Global};
 use tests::fixtures::screen::Screen;
@@ -113,21 +113,6 @@ fn try_read(
     }
 }
 
-// The call that reads a drawing or says which line is wrong.
-fn try_read_by_lines(
-    alloc: Global,
-    tree: &StringItem,
-    config: &PrintConfig,
-    drawing: &str,
-) -> Result<(), Deviation>
-    requires { HasReadablePieces config.now }
-{
-    match read_tree_or_line(alloc, drawing, config) {
-        Ok(read) => expect(read == *tree, "a drawing is read as its tree"),
-        Err(_) => Err(Deviation::of("`read_tree_or_line` reads a drawing")),
-    }
-}
-
 // The calls of a tree whose drawing is this text.
 fn try_drawing(
     alloc: Global,
@@ -141,8 +126,7 @@ fn try_drawing(
     try_written(alloc, tree, config)?;
     try_shown(alloc, tree, config)?;
     try_under(alloc, tree)?;
-    try_read(alloc, tree, config, drawing)?;
-    try_read_by_lines(alloc, tree, config, drawing)
+    try_read(alloc, tree, config, drawing)
 }
 
 // The calls of a tree under a configuration.
