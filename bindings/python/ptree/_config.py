@@ -155,7 +155,7 @@ class Config:
 
         Variables count before keys of the file; unknown variables and keys are ignored.
 
-        Raises ConfigError if a value of either is wrong, or the file's syntax; the error's `line` says where.
+        Raises ConfigError with the texts of all faults if a value of either is wrong, or the file's syntax; `line` says where that is.
         """
         if format not in ("toml", "json"):
             raise ValueError(f"a format is toml or json, and not {format!r}")
@@ -286,13 +286,13 @@ def _fields(config: Config) -> tuple[Any, bytes, int]:
 
 
 def _filled(call: Callable[..., int], said: Callable[[], str] | None = None) -> Config:
-    """The configuration that a call fills in. `said` has the text of a fault, where the library has a call for it."""
+    """The configuration that a call fills in. `said` has the texts of all faults, if there can be one."""
     fields, found, size = c.Config(), c.Found(), 200
     while True:
         names, at = c.room(size)
         number = call(fields, at, size, found)
         if number != c.DONE:
-            c.refuse(number, found.place, said() if said and number == c.FAULT and hasattr(c.library, "ptree_faults") else "")
+            c.refuse(number, found.place, said() if said and number == c.FAULT else "")
         if found.bytes <= size:
             break
         size = found.bytes

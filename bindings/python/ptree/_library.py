@@ -59,9 +59,8 @@ _CALLS: dict[str, list[Any]] = {
     "read": [*_TEXT, *_NUMBER, *_NUMBER, *_ROOM, *_ROOM, *_FOUND],
     "draw_document": [*_TEXT, *_TEXT, *_NUMBER, *_NUMBER, *_NUMBER, *_ROOM, *_FOUND],
     "is_readable": _NUMBER,
+    "is_styled": [*_NUMBER, *_NUMBER, *_NUMBER],
 }  # fmt: skip
-# Calls that a library may lack.
-_NEW = ("faults",)
 
 
 def _path() -> str:
@@ -76,9 +75,8 @@ def _load(path: str) -> ctypes.CDLL:
     try:
         found = ctypes.CDLL(path)
         for name, parameters in _CALLS.items():
-            if name not in _NEW or hasattr(found, "ptree_" + name):
-                call = getattr(found, "ptree_" + name)
-                call.argtypes, call.restype = parameters, c_uint32
+            call = getattr(found, "ptree_" + name)
+            call.argtypes, call.restype = parameters, c_uint32
         found.ptree_refusal_text.argtypes, found.ptree_refusal_text.restype = [c_uint32, *_ROOM], c_size_t
     except (OSError, AttributeError) as error:
         raise ImportError(f"no shared library of ptree 0.5, name it in PTREE_LIBRARY: {error}") from error

@@ -165,10 +165,12 @@ class Package(unittest.TestCase):
         with self.assertRaises(ValueError):
             Config.load("{}", "JSON")
 
-    def test_the_text_of_a_fault(self):
-        text = "the variable PTREE_STYLED isn't never, always or tty" if hasattr(ptree.c.library, "ptree_faults") else "fault"
-        with self.assertRaisesRegex(ptree.ConfigError, text):
-            Config.load(variables={"PTREE_STYLED": "maybe"})
+    def test_the_texts_of_faults(self):
+        texts = "the variable PTREE_STYLED isn't never, always or tty; the file's key leaf.bold isn't true or false"
+        with self.assertRaisesRegex(ptree.ConfigError, f"^{texts}$"):
+            Config.load("leaf.bold = 1", variables={"PTREE_STYLED": "maybe"})
+        with self.assertRaisesRegex(ptree.ConfigError, "^the file is no document of its format, in line 2$"):
+            Config.load("indent = 4\n= 5\n")
 
     def test_surroundings(self):
         with tempfile.TemporaryDirectory() as folder:
