@@ -50,15 +50,13 @@ _utf8 = str.encode
 
 
 class Tree:
-    """A label, and the trees below it. `str(tree)` is its drawing.
+    """A `label`, which is any text, with line feeds too, and `children`, a list of the trees below it. `str(tree)` is its drawing.
 
-    A label is any text, with line feeds too. No call makes a step of its own for each level, so a tree may be as deep as memory holds.
+    A tree may be as deep as memory holds.
     """
 
     __slots__ = ("label", "children")
-    #: The tree's own text.
     label: str
-    #: The trees below it, in order.
     children: list[Tree]
 
     def __init__(self, label: str, children: Iterable[Tree | str] = ()):
@@ -266,8 +264,8 @@ def draw_json(document: Any, label: str = "", config: Config | str | None = None
     Keys are in ascending order. Under an empty label the root has the text of the document, if that is neither a list nor an object.
     `config` and `changes` are those of `draw`.
 
-    Raises DocumentError if it is no document, or holds a float: so is a number outside of -2**63 to 2**64 - 1. Raises what
-    `json.dumps` does of a value.
+    Raises DocumentError if it is no document, has more than 127 lists and objects in one another, or holds a float, as `-0` is and a
+    number outside of -2**63 to 2**64 - 1. Raises what `json.dumps` does of a value.
     """
     return _document(document if isinstance(document, str) else json.dumps(document), label, c.JSON, config_of(config, changes))
 
@@ -275,7 +273,8 @@ def draw_json(document: Any, label: str = "", config: Config | str | None = None
 def draw_toml(document: str, label: str = "", config: Config | str | None = None, **changes: Any) -> str:
     """Returns the drawing of a TOML document under a label, with keys in ascending order. `config` and `changes` are those of `draw`.
 
-    Raises DocumentError if it is no document, or holds a float, a date or a time.
+    Raises DocumentError if it is no document, has more than 80 arrays and inline tables in one another or parts in a key, or holds a float,
+    a date or a time.
     """
     return _document(document, label, c.TOML, config_of(config, changes))
 

@@ -84,7 +84,14 @@ class Style:
 
 @dataclasses.dataclass(frozen=True)
 class Characters:
-    """The characters that branches are drawn with. Each may be any text, even an empty one."""
+    """The characters that branches are drawn with, by default the set `utf`. Each may be any text, even an empty one.
+
+    - `down_and_right`: points down and right.
+    - `down`: points straight down.
+    - `turn_right`: turns from down to right.
+    - `right`: points right.
+    - `empty`: a blank.
+    """
 
     down_and_right: str = "├"
     down: str = "│"
@@ -108,24 +115,25 @@ class Characters:
 class Config:
     """How a tree is drawn.
 
-    Raises ValueError for a number that is out of range, and for an unknown value of `styled`.
+    - `depth`: the greatest level that is drawn, below 2**32; the root has level 0. None draws all.
+    - `styled`: when a drawing is styled, `never`, `always` or `tty`: only what `print_tree` writes to standard output, if that is a terminal.
+    - `indent`: the width of a piece in characters, including the padding, below 2**64.
+    - `padding`: how many of the `empty` characters end a piece, below 2**64.
+    - `characters`: the characters of branches. The name of a set is replaced by the set.
+    - `branch`: the style of branches.
+    - `leaf`: the style of labels.
+    - `continued`: the marker before each further line of a label. Under an empty one no drawing can be read.
+
+    Raises ValueError for a number that is out of range, and for an unknown value of `styled`; ConfigError for an unknown set.
     """
 
-    #: The greatest level that is drawn; the root has level 0. None draws all.
     depth: int | None = None
-    #: When a drawing is styled. `tty` is only what `print_tree` writes to standard output, if that is a terminal.
     styled: Literal["never", "always", "tty"] = "tty"
-    #: The width of a piece in characters, including the padding, below 2**64.
     indent: int = 3
-    #: How many of the `empty` characters end a piece, below 2**64.
     padding: int = 1
-    #: The characters of branches. The name of a set is replaced by the set.
     characters: Characters = Characters()
-    #: The style of branches.
     branch: Style = Style(dimmed=True)
-    #: The style of labels.
     leaf: Style = Style()
-    #: The marker before each further line of a label. Without one, no drawing can be read.
     continued: str = ": "
 
     def __post_init__(self) -> None:

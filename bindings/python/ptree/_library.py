@@ -87,11 +87,10 @@ library = _load(_path())
 
 
 class PtreeError(ValueError):
-    """Why the library refuses a call."""
+    """Why the library refuses a call: `number` is the refusal's in ptree.h, and `line` the line where the input is wrong, counted from 1, or
+    None."""
 
-    #: The refusal's number in ptree.h.
     number: int = 0
-    #: The line where the input is wrong, counted from 1, or None.
     line: int | None = None
 
 
@@ -106,7 +105,7 @@ class DocumentError(PtreeError):
 
 class ConfigError(PtreeError):
     """There is no such preset or set of characters, a source of the configuration is at fault, or no drawing can be read under it. `line` is
-    the line of a file whose syntax is wrong, counted from 1, or None."""
+    the line of a file where its syntax is wrong, counted from 1, or None."""
 
 
 _ERRORS: dict[int, type[PtreeError]] = {
