@@ -65,7 +65,7 @@ USAGE = "usage: ptree_cli [--tty] (words ROOT [CHILD..] | json LABEL | toml LABE
 
 
 def full_file(language):
-    """The file with every key that docs/CONFIGURATION.md shows."""
+    """The file with every key that docs/CLI.md shows."""
     with open(os.path.join(calls.TOP, "docs", "CONFIGURATION.md"), encoding="utf-8") as page:
         return re.search(f"```{language}\n(depth = 4\n.*?|{{\n  \"depth\".*?)```", page.read(), re.S)[1]
 

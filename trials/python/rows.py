@@ -1,5 +1,5 @@
 #!/usr/bin/env python3
-"""Tries files of rows over the library for C. docs/ROWS.md describes their format.
+"""Tries files of rows over the library for C. docs/CONTRIBUTING.md describes their format.
 
   rows.py [--damage] [--program CRATE] FILE..
 

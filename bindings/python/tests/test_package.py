@@ -67,7 +67,7 @@ class Package(unittest.TestCase):
         self.assertEqual(Config.load(), Config())
 
     def test_a_configuration_has_each_field_of_a_file(self):
-        with open(os.path.join(HERE, "../../../docs/CONFIGURATION.md"), encoding="utf-8") as page:
+        with open(os.path.join(HERE, "../../../docs/CLI.md"), encoding="utf-8") as page:
             file = re.search("^```toml\n(.*?)^```$", page.read(), re.MULTILINE | re.DOTALL)[1]
         steelblue = NamedColor("steelblue")
         expected = Config(
