@@ -154,7 +154,8 @@ refuse_in_turn() {
         if [ $got = $status ] && [ "$out" = "$whole" ] && [ "$err" = "$whole_err" ]; then
             if [ -s "$scratch/refused" ]; then
                 spare=$((spare + 1))
-                continue
+                # (after a second one the others need not be tried)
+                [ $spare -gt 1 ] || continue
             fi
             [ $spare = 1 ] && return
             report no "$spare refusals pass unnoticed in: $*, and not 1"
