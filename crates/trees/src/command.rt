@@ -4,7 +4,6 @@ use crate::levels::LEVELS;
 use crate::pieces::Pieces;
 use crate::screen::Screen;
 use crate::source::Source;
-use crate::usage::Usage;
 use ptree::print_config::StyleWhen;
 
 /// What a call does.
@@ -26,7 +25,7 @@ pub enum Command<'a> {
     Convert(&'a Source, Convert<'a>),
 
     /// Finds the first difference of two drawings.
-    Diff(&'a Source, &'a Source, Diff<'a>),
+    Diff(&'a Source, &'a Source, Diff),
 
     /// Says which settings hold.
     Config,
@@ -133,8 +132,8 @@ pub struct Indented<'a> {
     /// The pieces of the drawing that is read.
     pub pieces: Option<Pieces>,
 
-    /// What a level is indented by. A wrong value is reported after a wrong drawing.
-    pub unit: Result<&'a str, Usage<'a>>,
+    /// What a level is indented by.
+    pub unit: &'a str,
 
     /// What stands before the text of each line.
     pub bullet: Option<&'a str>,
@@ -149,8 +148,8 @@ pub struct Convert<'a> {
     /// The pieces of the drawing that is read.
     pub pieces: Option<Pieces>,
 
-    /// How the tree is drawn. Wrong pieces are reported after a wrong drawing.
-    pub drawing: Result<Drawing, Usage<'a>>,
+    /// How the tree is drawn.
+    pub drawing: Drawing,
 
     /// A text. What contains it is drawn, with the items above.
     pub keep: Option<&'a str>,
@@ -161,13 +160,10 @@ pub struct Convert<'a> {
 
 /// Options of `diff`.
 #[derive(Clone, Copy)]
-pub struct Diff<'a> {
-    /// The pieces of both drawings.
-    pub pieces: Option<Pieces>,
-
+pub struct Diff {
     /// Whether both trees are drawn in one, with all differences.
     pub shows_all: bool,
 
-    /// How that is drawn. A wrong value is reported only if it is.
-    pub drawing: Result<Drawing, Usage<'a>>,
+    /// How that is drawn. The drawings that are read have its pieces.
+    pub drawing: Drawing,
 }

@@ -103,8 +103,7 @@ fn without_end(path: &str, end: char) -> &str {
 ///
 /// # Errors
 ///
-/// `Input` with the line if the text has no such form, `Usage` if the bullet or the label is none,
-/// and `Memory`.
+/// `Input` with the line if the text has no such form, `Usage` if the bullet is none, and `Memory`.
 pub fn outline(
     alloc: Global,
     source: &Source,
@@ -115,11 +114,8 @@ pub fn outline(
         unit: outline.unit.unwrap_or(first_indent(given)),
         bullet: outline.bullet.unwrap_or(first_bullet(given)),
     };
-    if !is_unit(form.unit) || !is_line_text(form.bullet) || form.bullet.ends_with('\r') {
+    if !is_unit(form.unit) || !is_line_text(form.bullet) {
         return Err(Usage::Bullet.failure(alloc)?);
-    }
-    if !is_line_text(outline.label.unwrap_or("")) {
-        return Err(Usage::Label.failure(alloc)?);
     }
     let text = whole(alloc, given, &form, outline.label)?;
     let above = if outline.label.is_some() { 1 } else { 0 };
@@ -202,27 +198,22 @@ fn is_blank(line: &str) -> bool {
 ///
 /// # Errors
 ///
-/// `Input` with the line if `outline` would make another text of one in the tree, `Usage` if the
-/// unit or the bullet is none, and `Memory`.
+/// `Input` with the line if `outline` would make another text of one in the tree, and `Memory`.
 pub fn indented(
     alloc: Global,
     source: &Source,
     tree: &StringItem,
     indented: Indented<'_>,
 ) -> Result<String, Failure> {
-    let unit = match indented.unit {
-        Ok(unit) => unit,
-        Err(wrong) => return Err(wrong.failure(alloc)?),
-    };
-    let bullet = indented.bullet.unwrap_or("");
-    if !is_line_text(bullet) || bullet.ends_with('\r') {
-        return Err(Usage::Bullet.failure(alloc)?);
-    }
     check_texts(alloc, source, tree, indented.bullet)?;
+    let form = Form {
+        unit: indented.unit,
+        bullet: indented.bullet.unwrap_or(""),
+    };
     if indented.is_terminal {
-        return escaped_form(alloc, source, tree, &Form { unit, bullet });
+        return escaped_form(alloc, source, tree, &form);
     }
-    form_text(alloc, source, tree, &Form { unit, bullet })
+    form_text(alloc, source, tree, &form)
 }
 
 // Checks that `outline` makes the same texts again. Each stands on the line of its number.

@@ -23,8 +23,8 @@ use std::alloc::{AllocError, Global};
 ///
 /// # Errors
 ///
-/// `Usage` if a value is wrong, `Input` if an input is, `Said` if what was written is a refusal,
-/// `Output` if writing failed, and `Memory`.
+/// `Usage` if drawings with the pieces cannot be read back, `Input` if an input is wrong, `Said` if
+/// what was written is a refusal, `Output` if writing failed, and `Memory`.
 pub fn perform<W: Sink>(
     alloc: Global,
     command: Command<'_>,
@@ -323,34 +323,18 @@ fn draw_converted<W: Sink>(
     out: &mut W,
     found: &Surroundings,
 ) -> Result<(), Failure> {
-    let tree = read_drawing(alloc, source, convert.pieces, found)?;
-    match convert.drawing {
-        Ok(drawing) => draw_changed(alloc, source, tree, convert, drawing, out, found),
-        Err(wrong) => Err(wrong.failure(alloc)?),
-    }
+    let tree = converted(alloc, source, convert, found)?;
+    draw(alloc, Drawn::Tree(&tree), convert.drawing, out, found)
 }
 
-// Draws what is kept of a tree, sorted if that is asked for.
-fn draw_changed<W: Sink>(
+// Returns what is kept of the tree of a drawing, sorted if that is asked for.
+fn converted(
     alloc: Global,
     source: &Source,
-    tree: StringItem,
     convert: Convert<'_>,
-    drawing: Drawing,
-    out: &mut W,
     found: &Surroundings,
-) -> Result<(), Failure> {
-    let tree = changed(alloc, source, tree, convert)?;
-    draw(alloc, Drawn::Tree(&tree), drawing, out, found)
-}
-
-// Returns what is kept of a tree, sorted if that is asked for.
-fn changed(
-    alloc: Global,
-    source: &Source,
-    tree: StringItem,
-    convert: Convert<'_>,
 ) -> Result<StringItem, Failure> {
+    let tree = read_drawing(alloc, source, convert.pieces, found)?;
     let tree = kept_part(alloc, source, tree, convert.keep)?;
     if convert.is_sorted {
         return Ok(sorted(alloc, &tree)?);
@@ -363,11 +347,11 @@ fn compare_drawings<W: Sink>(
     alloc: Global,
     left: &Source,
     right: &Source,
-    diff: Diff<'_>,
+    diff: Diff,
     out: &mut W,
     found: &Surroundings,
 ) -> Result<(), Failure> {
-    let left = read_drawing(alloc, left, diff.pieces, found)?;
+    let left = read_drawing(alloc, left, diff.drawing.pieces, found)?;
     compare_with(alloc, &left, right, diff, out, found)
 }
 
@@ -376,11 +360,11 @@ fn compare_with<W: Sink>(
     alloc: Global,
     left: &StringItem,
     right: &Source,
-    diff: Diff<'_>,
+    diff: Diff,
     out: &mut W,
     found: &Surroundings,
 ) -> Result<(), Failure> {
-    let right = read_drawing(alloc, right, diff.pieces, found)?;
+    let right = read_drawing(alloc, right, diff.drawing.pieces, found)?;
     show_difference(alloc, left, &right, diff, out, found)
 }
 
@@ -389,15 +373,14 @@ fn show_difference<W: Sink>(
     alloc: Global,
     left: &StringItem,
     right: &StringItem,
-    diff: Diff<'_>,
+    diff: Diff,
     out: &mut W,
     found: &Surroundings,
 ) -> Result<(), Failure> {
-    match (compare::first(alloc, left, right)?, diff.drawing) {
-        (None, _) => Ok(()),
-        (Some(said), _) if !diff.shows_all => say(out, said.as_str(), true),
-        (Some(_), Ok(drawing)) => draw(alloc, Drawn::Both(left, right), drawing, out, found),
-        (Some(_), Err(wrong)) => Err(wrong.failure(alloc)?),
+    match compare::first(alloc, left, right)? {
+        None => Ok(()),
+        Some(said) if !diff.shows_all => say(out, said.as_str(), true),
+        Some(_) => draw(alloc, Drawn::Both(left, right), diff.drawing, out, found),
     }
 }
 

@@ -9,6 +9,7 @@ use crate::screen::Screen;
 use crate::source::Source;
 use crate::usage::Usage;
 use ptree::print_config::StyleWhen;
+use ptree_trees::indented::is_line_text;
 use std::alloc::Global;
 
 // The greatest unit, of 99 blanks.
@@ -183,10 +184,14 @@ impl<'a> Words<'a> {
             Some(word) => Some(parse_unit(word)?),
             None => None,
         };
+        let label = self.value(Opt::Label);
+        if !is_line_text(label.unwrap_or("")) {
+            return Err(Usage::Label);
+        }
         let outline = Outline {
             unit,
-            bullet: self.value(Opt::Bullet),
-            label: self.value(Opt::Label),
+            bullet: self.bullet()?,
+            label,
         };
         Ok(Command::Draw(source, Tree::Outline(outline), drawing))
     }
@@ -205,8 +210,8 @@ impl<'a> Words<'a> {
     fn indented(&self, source: &'a Source, screen: Screen) -> Result<Command<'a>, Usage<'a>> {
         let indented = Indented {
             pieces: self.pieces(Opt::As)?,
-            unit: parse_unit(self.value(Opt::Unit).unwrap_or("2")),
-            bullet: self.value(Opt::Bullet),
+            unit: parse_unit(self.value(Opt::Unit).unwrap_or("2"))?,
+            bullet: self.bullet()?,
             is_terminal: screen.is_terminal,
         };
         Ok(Command::Indented(source, indented))
@@ -215,8 +220,8 @@ impl<'a> Words<'a> {
     // Returns the command `convert`.
     fn convert(&self, source: &'a Source, screen: Screen) -> Result<Command<'a>, Usage<'a>> {
         let convert = Convert {
-            pieces: self.drawing(Opt::As, screen)?.pieces,
-            drawing: self.drawing(Opt::To, screen),
+            pieces: self.pieces(Opt::As)?,
+            drawing: self.drawing(Opt::To, screen)?,
             keep: self.value(Opt::Keep),
             is_sorted: self.has(Opt::Sort),
         };
@@ -231,9 +236,8 @@ impl<'a> Words<'a> {
         screen: Screen,
     ) -> Result<Command<'a>, Usage<'a>> {
         let diff = Diff {
-            pieces: self.pieces(Opt::As)?,
             shows_all: self.has(Opt::All),
-            drawing: self.drawing(Opt::As, screen),
+            drawing: self.drawing(Opt::As, screen)?,
         };
         Ok(Command::Diff(left, right, diff))
     }
@@ -256,6 +260,14 @@ impl<'a> Words<'a> {
         match Pieces::named(name) {
             Some(pieces) => Ok(Some(pieces)),
             None => Err(Usage::Pieces(name)),
+        }
+    }
+
+    // Returns what stands before the text of each line.
+    fn bullet(&self) -> Result<Option<&'a str>, Usage<'a>> {
+        match self.value(Opt::Bullet) {
+            Some(word) if !is_line_text(word) || word.ends_with('\r') => Err(Usage::Bullet),
+            bullet => Ok(bullet),
         }
     }
 
