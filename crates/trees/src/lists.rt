@@ -15,9 +15,9 @@ use std::alloc::{AllocError, Global};
 
 /// Returns the tree of paths: one on each line, or each before a zero byte.
 ///
-/// `./` before a path, slashes at its end, and empty paths don't count. The root's text is the
-/// label, or else `/` if the paths begin with it, or else `.`. The names in a folder stand in the
-/// order in which they come first, or sorted by their bytes.
+/// What is before the first name other than `.` doesn't count, nor do slashes at the end, nor paths
+/// without such a name. The root's text is the label, or else `/` if the paths begin with it, or else
+/// `.`. The names in a folder stand in the order in which they come first, or sorted by their bytes.
 ///
 /// # Errors
 ///
@@ -30,7 +30,7 @@ pub fn paths(alloc: Global, source: &Source, paths: Paths<'_>) -> Result<StringI
     let mut given = Vec::new(alloc);
     for path in source.text.as_str().split_inclusive(end) {
         let names = names_of(without_end(path, end));
-        if !names.is_empty() && names != "." {
+        if !names.is_empty() {
             given.push(names)?;
         }
     }
@@ -40,10 +40,16 @@ pub fn paths(alloc: Global, source: &Source, paths: Paths<'_>) -> Result<StringI
     Ok(paths_tree(alloc, root, given.as_slice(), '/')?)
 }
 
-// Returns the names of a path.
+// Returns the names of a path, from the first one on that is not `.`.
 fn names_of(path: &str) -> &str {
-    let path = path.strip_prefix("./").unwrap_or(path);
-    path.trim_start_matches('/').trim_end_matches('/')
+    let mut at = 0usize;
+    for name in path.split('/') {
+        if !name.is_empty() && name != "." {
+            break;
+        }
+        at = at.saturating_add(name.len()).saturating_add(1);
+    }
+    path.get(at..).unwrap_or("").trim_end_matches('/')
 }
 
 // Checks paths, and returns the text of their root.
