@@ -227,7 +227,7 @@ fn write_graph<W: Sink>(
 ) -> Result<(), Failure> {
     let Dependencies { graph, root } = dependencies;
     if config.depth > LEVELS && has_more_below(alloc, graph, *root, walks)? {
-        let wrong = format!(in alloc; "{TOO_DEEP}; a --depth draws fewer")?;
+        let wrong = format!(in alloc; "{TOO_DEEP}; give --depth 5000, or less")?;
         return Err(source.wrong(alloc, wrong.as_str())?);
     }
     if walks {
