@@ -694,7 +694,8 @@ static uint32_t call_once(const char *call) {
     return call_by_fields(call);
 }
 
-/* Makes a call over many items, whose levels are 1 to 8 again and again. So the cost of an item can be counted. */
+/* Makes a call over many items, whose levels are 1 to 8 again and again, or over one of as many lines. So the cost of an item, or of a
+   line, can be counted. */
 static uint32_t call_with_many(const char *call, size_t count) {
     struct ptree_item *many = malloc(count * sizeof *many);
     struct ptree_step *given = malloc(count * sizeof *given);
@@ -702,7 +703,7 @@ static uint32_t call_with_many(const char *call, size_t count) {
     size_t *ends = malloc(count * sizeof *ends), size = 64 * count;
     uint8_t *labels = malloc(count), *out = malloc(size), names[64], path[8];
     struct ptree_config config;
-    struct ptree_found found;
+    struct ptree_found found = {0};
     uint32_t refusal = ptree_config(PTREE_CARGO_TREE, &config, names, 64, &found);
     memset(labels, 'x', count);
     for (size_t i = 0; i < count; i++) {
@@ -714,6 +715,11 @@ static uint32_t call_with_many(const char *call, size_t count) {
     }
     if (strcmp(call, "steps") == 0) {
         refusal |= ptree_draw_steps(given, count, labels, count, path, 8, &config, names, 64, out, size, &found);
+    } else if (strcmp(call, "lines") == 0) {
+        memset(labels, '\n', count);
+        given->text.end = count;
+        refusal |= ptree_draw_steps(given, 1, labels, count, path, 8, &config, names, 64, out, size, &found);
+        found.items = found.bytes > count ? count : 0;
     } else if (strcmp(call, "once") == 0) {
         refusal |= ptree_draw_once(ends, count, labels, count, edges, count, 0, TEXT("!"), &config, names, 64, out, size, &found);
         found.items = found.bytes > count ? count : 0;
