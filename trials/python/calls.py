@@ -13,7 +13,6 @@ from ptree import _config
 from ptree import _library as c
 
 UNREADABLE = 3
-c.library.ptree_is_styled.argtypes, c.library.ptree_is_styled.restype = [ctypes.c_uint32] * 3, ctypes.c_uint32
 
 
 def changed(value, **changes):
