@@ -62,7 +62,8 @@ fn expect_failed(found: Result<(), DrawError>, answer: Answer) -> Result<(), Fai
     }
 }
 
-// Expects that each call fails as the writer does, directly and through a buffer.
+// Expects that each call fails as the writer does: directly, through a buffer, and through one that
+// is too small to hold what it is given.
 fn expect_failures(alloc: Global, answer: Answer) -> Result<(), Fail> {
     let mut sink = Counted::new(Failing::new(alloc, 8, 2, 8, answer)?);
     expect_failed(put_all(&mut sink, b"abc"), answer)?;
@@ -70,7 +71,9 @@ fn expect_failures(alloc: Global, answer: Answer) -> Result<(), Fail> {
     put_all(&mut buffered, b"abc")?;
     expect_failed(buffered.flush(), answer)?;
     expect_failed(buffered.flush(), answer)?;
-    expect_failed(put_all(&mut buffered, b"d"), answer)
+    expect_failed(put_all(&mut buffered, b"d"), answer)?;
+    let mut small = buffer(alloc, 1, 0, answer)?;
+    expect_failed(put_all(&mut small, b"abc"), answer)
 }
 
 #[test]
