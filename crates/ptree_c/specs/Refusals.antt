@@ -1,7 +1,9 @@
--- The numbers of refusals.
-use Rattle.std.specs.Prelude.{ℕ}
+-- The numbers of refusals, and why calls refuse.
+use Rattle.std.specs.Prelude.{◌≡◌, ◌<◌, ◌⊎◌, ℕ}
+use Rattle.ptree_c.specs.declared.fields.ConfigFields.{ConfigFields}
 use Rattle.ptree_c.specs.declared.refusal.Refusal.{Refusal}
 use Rattle.ptree_c.specs.declared.refusal.Refusal.TheVariants.{Memory, Utf8, Level, Preset, Pieces, Line, Incomplete, Syntax, Float, Date, End, Format, Part, Color, Fault, Edge, Styled}
+use Rattle.ptree_c.specs.declared.room.Found.{Found}
 
 -- the number of a refusal
 abbrev pub refusal_number : Refusal → ℕ
@@ -42,3 +44,19 @@ refusal_place Color = 0
 refusal_place (Fault n) = n
 refusal_place (Edge n) = n
 refusal_place Styled = 0
+
+-- a call returned the number of this refusal, and found its place and nothing else
+abbrev pub IsRefused : ℕ → Found → Refusal → Type 0
+IsRefused number found e = (number ≡ refusal_number e) × (found ≡ record { bytes = 0; items = 0; place = refusal_place e })
+
+-- memory ran out, or a text or a colour of the fields is wrong
+abbrev pub IsNamesRefusal : Refusal → Type 0
+IsNamesRefusal e = (e ≡ Memory) ⊎ (e ≡ Part) ⊎ (e ≡ Color)
+
+-- likewise, or no number styles so
+abbrev pub IsFieldsRefusal : ConfigFields → Refusal → Type 0
+IsFieldsRefusal c e = IsNamesRefusal e ⊎ ((e ≡ Styled) × (2 < c.styled))
+
+-- memory ran out, or the text or the level of an item is wrong
+abbrev pub IsItemsRefusal : Refusal → Type 0
+IsItemsRefusal e = (e ≡ Memory) ⊎ ((n : ℕ) × ((e ≡ Utf8 n) ⊎ (e ≡ Level n) ⊎ (e ≡ End n)))

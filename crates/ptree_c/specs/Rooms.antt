@@ -1,9 +1,14 @@
 -- What a call leaves in the memory of its caller.
 use Rattle.std.specs.Prelude.{◌≡◌, ◌≤◌, ℕ, List, ◌++◌, length, take, drop}
+use Rattle.ptree_c.specs.declared.room.Found.{Found}
 
 -- the values, as many as there is room for, and then what was there
 abbrev pub filled : {A : Type 0} → List A → List A → List A
 filled room values = take (length room) values ++ drop (length values) room
+
+-- what a call that is done has found
+abbrev pub found_sizes : ℕ → ℕ → Found
+found_sizes bytes items = record { bytes = bytes; items = items; place = 0 }
 
 -- a number of bytes that can be reported
 abbrev pub IsSize : ℕ → Type 0

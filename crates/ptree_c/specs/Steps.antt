@@ -64,3 +64,8 @@ DrawsTrees look texts =
 abbrev pub DrawsParts : Look → List ℕ → Type 0
 DrawsParts look texts =
     (path : List ℕ) (a b : List Step) → steps_text look texts path (a ++ b) ≡ steps_text look texts path a ++ steps_text look texts (path_after path a) b
+
+-- the item after so many of these is there, and this is the length of its entry below a path
+abbrev pub IsNextLength : Look → (texts path : List ℕ) → List Step → (items n : ℕ) → Type 0
+IsNextLength look texts path steps items n =
+    (s : Step) × (after : List Step) × (drop items steps ≡ s ∷ after) × (n ≡ length (step_entry look texts path s))

@@ -1,6 +1,7 @@
 //! Puts what a call made, or why it made nothing, into the memory of the caller.
 ghost use Rattle.std.specs.Prelude.{◌≡◌, ◌<◌, length};
-ghost use Rattle.ptree_c.specs.Rooms.{filled};
+ghost use Rattle.ptree_c.specs.Refusals.{IsRefused};
+ghost use Rattle.ptree_c.specs.Rooms.{filled, found_sizes};
 
 use crate::refusal::Refusal;
 use crate::room::{Found, fill};
@@ -8,9 +9,7 @@ use crate::room::{Found, fill};
 /// Reports the sizes of what was done, and returns that it was.
 pub(crate) fn report(bytes: usize, items: usize, found: &mut Found) -> u32
     ensures done { result ≡ 0 }
-    ensures length { found.new.bytes ≡ bytes }
-    ensures items { found.new.items ≡ items }
-    ensures place { found.new.place ≡ 0 }
+    ensures found { found.new ≡ found_sizes bytes items }
 {
     found.bytes = bytes;
     found.items = items;
@@ -22,9 +21,7 @@ pub(crate) fn report(bytes: usize, items: usize, found: &mut Found) -> u32
 pub(crate) fn put_bytes(bytes: &[u8], items: usize, out: &mut [u8], found: &mut Found) -> u32
     ensures done { result ≡ 0 }
     ensures bytes { out.new ≡ filled out.old bytes.now }
-    ensures length { found.new.bytes ≡ length bytes.now }
-    ensures items { found.new.items ≡ items }
-    ensures place { found.new.place ≡ 0 }
+    ensures found { found.new ≡ found_sizes (length bytes.now) items }
 {
     fill(out, bytes);
     report(bytes.len(), items, found)
@@ -32,9 +29,8 @@ pub(crate) fn put_bytes(bytes: &[u8], items: usize, out: &mut [u8], found: &mut 
 
 /// Returns the number of a refusal, and reports its place.
 pub(crate) fn refuse(refusal: Refusal, found: &mut Found) -> u32
-    ensures refused { 0 < result }
-    ensures bytes { found.new.bytes ≡ 0 }
-    ensures items { found.new.items ≡ 0 }
+    ensures not_done { 0 < result }
+    ensures found { IsRefused result found.new refusal }
 {
     found.bytes = 0;
     found.items = 0;

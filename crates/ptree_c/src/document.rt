@@ -1,15 +1,16 @@
 //! Draws JSON and TOML documents.
-ghost use Rattle.std.specs.Prelude.{◌≡◌, ◌<◌, ℕ, List, IfOk, length};
+ghost use Rattle.std.specs.Prelude.{◌≡◌, ◌⊎◌, ◌<◌, ℕ, List, IfOk, IfErr, IsErrOf, length};
 ghost use Rattle.ptree.specs.Config.{config_of};
-ghost use Rattle.ptree_c.specs.Calls.{IsDocumentDrawing, IsDrawingOfDocument, IsFormat};
+ghost use Rattle.ptree_c.specs.Calls.{IsDocumentDrawing, IsDrawingOfDocument, IsFormat, IsTextRefusal, IsDocumentRefusal};
 ghost use Rattle.ptree_c.specs.Fields.{config_value};
-ghost use Rattle.ptree_c.specs.Presets.{config_at};
-ghost use Rattle.ptree_c.specs.Rooms.{filled};
+ghost use Rattle.ptree_c.specs.Presets.{config_at, IsPresetRefusal};
+ghost use Rattle.ptree_c.specs.Refusals.{IsRefused, IsFieldsRefusal};
+ghost use Rattle.ptree_c.specs.Rooms.{filled, found_sizes};
 
 use crate::answer::{put_bytes, refuse};
 use crate::fields::{ConfigFields, config_of_fields};
 use crate::preset::config;
-use crate::refusal::{Refusal, refused_document};
+use crate::refusal::Refusal;
 use crate::room::Found;
 use ptree::PrintConfig;
 use ptree::style::Counted;
@@ -19,7 +20,8 @@ use std::str;
 
 // The format of a number.
 fn format_of(number: u32) -> Result<DocFormat, Refusal>
-    ensures { IfOk result (IsFormat number) }
+    ensures format { IfOk result (IsFormat number) }
+    ensures refused { IfErr result (λ e. (e ≡ Refusal.Format) × (1 < number)) }
 {
     match number {
         0 => Ok(DocFormat::Json),
@@ -35,13 +37,20 @@ fn draw_in_memory(
     text: &str,
     label: &str,
     config: &PrintConfig,
-) -> Result<Vec<u8>, DocError>
-    ensures { IfOk result (λ drawn.
+) -> Result<Vec<u8>, Refusal>
+    ensures drawn { IfOk result (λ drawn.
         IsDrawingOfDocument (config_of config.now) format label.now text.now drawn.items) }
+    ensures refused { IfErr result (IsTextRefusal format text.now) }
 {
     let mut out = Counted::new(Vec::new(alloc));
-    draw_document_with(alloc, format, text, label, config, false, &mut out)?;
-    Ok(out.into_inner())
+    match draw_document_with(alloc, format, text, label, config, false, &mut out) {
+        Ok(()) => Ok(out.into_inner()),
+        Err(DocError::Syntax) => Err(Refusal::Syntax),
+        Err(DocError::Float) => Err(Refusal::Float),
+        Err(DocError::Date) => Err(Refusal::Date),
+        // A vector fails only if memory ran out.
+        Err(DocError::Draw(_)) => Err(Refusal::Memory),
+    }
 }
 
 // The drawing of a document under a label.
@@ -52,8 +61,9 @@ fn drawing_of_document(
     format: u32,
     config: &PrintConfig,
 ) -> Result<Vec<u8>, Refusal>
-    ensures { IfOk result (λ drawing.
+    ensures drawn { IfOk result (λ drawing.
         IsDocumentDrawing (config_of config.now) format label.now text.now drawing.items) }
+    ensures refused { IfErr result (IsDocumentRefusal format label.now text.now) }
 {
     let format = format_of(format)?;
     let Ok(text) = str::from_utf8(text) else {
@@ -62,10 +72,7 @@ fn drawing_of_document(
     let Ok(label) = str::from_utf8(label) else {
         return Err(Refusal::Utf8(1));
     };
-    match draw_in_memory(alloc, format, text, label, config) {
-        Ok(drawing) => Ok(drawing),
-        Err(error) => Err(refused_document(error)),
-    }
+    draw_in_memory(alloc, format, text, label, config)
 }
 
 // The drawing of a document as a preset does.
@@ -77,8 +84,10 @@ fn drawing_by_preset(
     preset: u32,
     depth: u32,
 ) -> Result<Vec<u8>, Refusal>
-    ensures { IfOk result (λ drawing.
+    ensures drawn { IfOk result (λ drawing.
         IsDocumentDrawing (config_at preset depth) format label.now text.now drawing.items) }
+    ensures refused { IfErr result (λ e. IsPresetRefusal preset e
+        ⊎ IsDocumentRefusal format label.now text.now e) }
 {
     let config = config(alloc, preset, depth)?;
     let drawing = drawing_of_document(alloc, text, label, format, &config);
@@ -95,9 +104,12 @@ fn drawing_by_fields(
     fields: &ConfigFields,
     names: &[u8],
 ) -> Result<Vec<u8>, Refusal>
-    ensures { IfOk result (λ drawing.
+    ensures drawn { IfOk result (λ drawing.
         IsDocumentDrawing (config_value names.now fields.now) format label.now text.now
         drawing.items) }
+    ensures refused { IfErr result (λ e. IsFieldsRefusal fields.now e
+        ⊎ IsDocumentRefusal format label.now text.now e) }
+    ensures styled { 2 < fields.now.styled → IsErrOf result Refusal.Styled }
 {
     let config = config_of_fields(alloc, names, fields)?;
     let drawing = drawing_of_document(alloc, text, label, format, &config);
@@ -120,8 +132,10 @@ pub extern "C" fn ptree_draw_document(
 ) -> u32
     ensures drawn { result ≡ 0 → (drawing : List ℕ)
         × IsDocumentDrawing (config_at preset depth) format label.now text.now drawing
-        × (out.new ≡ filled out.old drawing) × (found.new.bytes ≡ length drawing) }
+        × (out.new ≡ filled out.old drawing) × (found.new ≡ found_sizes (length drawing) 0) }
     ensures kept { 0 < result → out.new ≡ out.old }
+    ensures refused { 0 < result → (e : Refusal) × IsRefused result found.new e
+        × (IsPresetRefusal preset e ⊎ IsDocumentRefusal format label.now text.now e) }
 {
     match drawing_by_preset(alloc, text, label, format, preset, depth) {
         Ok(drawing) => put_bytes(&drawing, 0, out, found),
@@ -145,8 +159,11 @@ pub extern "C" fn ptree_draw_document_with(
 ) -> u32
     ensures drawn { result ≡ 0 → (drawing : List ℕ)
         × IsDocumentDrawing (config_value names.now config.now) format label.now text.now drawing
-        × (out.new ≡ filled out.old drawing) × (found.new.bytes ≡ length drawing) }
+        × (out.new ≡ filled out.old drawing) × (found.new ≡ found_sizes (length drawing) 0) }
     ensures kept { 0 < result → out.new ≡ out.old }
+    ensures refused { 0 < result → (e : Refusal) × IsRefused result found.new e
+        × (IsFieldsRefusal config.now e ⊎ IsDocumentRefusal format label.now text.now e) }
+    ensures styled { 2 < config.now.styled → result ≡ 17 }
 {
     match drawing_by_fields(alloc, text, label, format, config, names) {
         Ok(drawing) => put_bytes(&drawing, 0, out, found),

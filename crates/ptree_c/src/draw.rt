@@ -1,9 +1,10 @@
 //! Draws items.
-ghost use Rattle.std.specs.Prelude.{◌≡◌, ◌<◌, ℕ, List, IfOk, OnErr, length};
+ghost use Rattle.std.specs.Prelude.{◌≡◌, ◌⊎◌, ◌<◌, ℕ, List, IfOk, IfErr, IsErrOf, OnErr, length};
 ghost use Rattle.ptree_c.specs.Calls.{IsItemsDrawing};
 ghost use Rattle.ptree_c.specs.Fields.{depth_of, look_of};
-ghost use Rattle.ptree_c.specs.Presets.{look_at};
-ghost use Rattle.ptree_c.specs.Rooms.{filled, IsFilled};
+ghost use Rattle.ptree_c.specs.Presets.{look_at, IsPresetRefusal};
+ghost use Rattle.ptree_c.specs.Refusals.{IsRefused, IsFieldsRefusal, IsItemsRefusal};
+ghost use Rattle.ptree_c.specs.Rooms.{filled, found_sizes, IsFilled};
 
 use crate::answer::{refuse, report};
 use crate::fields::{ConfigFields, config_of_fields};
@@ -27,6 +28,7 @@ fn draw_by_preset(
         × IsItemsDrawing (look_at preset depth) depth items.now texts.now drawing
         × IsFilled out.old drawing out.new size) }
     ensures kept { OnErr result (out.new ≡ out.old) }
+    ensures refused { IfErr result (λ e. IsPresetRefusal preset e ⊎ IsItemsRefusal e) }
 {
     let config = config(alloc, preset, depth)?;
     let drawn = draw_outline(alloc, items, texts, &config, out);
@@ -47,6 +49,8 @@ fn draw_by_fields(
         × IsItemsDrawing (look_of names.now fields.now) (depth_of names.now fields.now) items.now
         texts.now drawing × IsFilled out.old drawing out.new size) }
     ensures kept { OnErr result (out.new ≡ out.old) }
+    ensures refused { IfErr result (λ e. IsFieldsRefusal fields.now e ⊎ IsItemsRefusal e) }
+    ensures styled { 2 < fields.now.styled → IsErrOf result Refusal.Styled }
 {
     let config = config_of_fields(alloc, names, fields)?;
     let drawn = draw_outline(alloc, items, texts, &config, out);
@@ -68,8 +72,11 @@ pub extern "C" fn ptree_draw(
 ) -> u32
     ensures drawn { result ≡ 0 → (drawing : List ℕ)
         × IsItemsDrawing (look_at preset depth) depth items.now texts.now drawing
-        × (out.new ≡ filled out.old drawing) × (found.new.bytes ≡ length drawing) }
+        × (out.new ≡ filled out.old drawing)
+        × (found.new ≡ found_sizes (length drawing) (length items.now)) }
     ensures kept { 0 < result → out.new ≡ out.old }
+    ensures refused { 0 < result → (e : Refusal) × IsRefused result found.new e
+        × (IsPresetRefusal preset e ⊎ IsItemsRefusal e) }
 {
     match draw_by_preset(alloc, items, texts, preset, depth, out) {
         Ok(size) => report(size, items.len(), found),
@@ -91,8 +98,12 @@ pub extern "C" fn ptree_draw_with(
 ) -> u32
     ensures drawn { result ≡ 0 → (drawing : List ℕ)
         × IsItemsDrawing (look_of names.now config.now) (depth_of names.now config.now) items.now
-        texts.now drawing × (out.new ≡ filled out.old drawing) × (found.new.bytes ≡ length drawing) }
+        texts.now drawing × (out.new ≡ filled out.old drawing)
+        × (found.new ≡ found_sizes (length drawing) (length items.now)) }
     ensures kept { 0 < result → out.new ≡ out.old }
+    ensures refused { 0 < result → (e : Refusal) × IsRefused result found.new e
+        × (IsFieldsRefusal config.now e ⊎ IsItemsRefusal e) }
+    ensures styled { 2 < config.now.styled → result ≡ 17 }
 {
     match draw_by_fields(alloc, items, texts, config, names, out) {
         Ok(size) => report(size, items.len(), found),

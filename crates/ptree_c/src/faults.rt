@@ -2,7 +2,8 @@
 ghost use Rattle.std.specs.Prelude.{◌≡◌, ◌<◌, ℕ, List, IfOk, length};
 ghost use Rattle.ptree.specs.AllFaults.{all_faults};
 ghost use Rattle.ptree_c.specs.Loads.{AreSources};
-ghost use Rattle.ptree_c.specs.Rooms.{filled};
+ghost use Rattle.ptree_c.specs.Refusals.{IsRefused};
+ghost use Rattle.ptree_c.specs.Rooms.{filled, found_sizes};
 
 use crate::answer::{put_bytes, refuse};
 use crate::load::{Variable, sources_of};
@@ -66,12 +67,12 @@ pub extern "C" fn ptree_faults(
     out: &mut [u8],
     found: &mut Found,
 ) -> u32
-    ensures counted { result ≡ 0 → (s : Sources)
+    ensures found { result ≡ 0 → (s : Sources) × (lines : List ℕ)
         × AreSources file.now format variables.now texts.now s
-        × (found.new.items ≡ length (all_faults s)) }
-    ensures put { result ≡ 0 → (lines : List ℕ)
-        × (out.new ≡ filled out.old lines) × (found.new.bytes ≡ length lines) }
+        × (out.new ≡ filled out.old lines)
+        × (found.new ≡ found_sizes (length lines) (length (all_faults s))) }
     ensures kept { 0 < result → out.new ≡ out.old }
+    ensures refused { 0 < result → (e : Refusal) × IsRefused result found.new e }
 {
     match faults_given(alloc, file, format, variables, texts) {
         Ok(report) => put_bytes(report.lines.as_bytes(), report.count, out, found),

@@ -1,11 +1,12 @@
 //! Configurations and styles as C gives them: by their fields.
-ghost use Rattle.std.specs.Prelude.{◌≡◌, ◌≤◌, ◌<◌, IfOk, IsOk, Err, option_map, string_bytes};
+ghost use Rattle.std.specs.Prelude.{◌≡◌, ◌⊎◌, ◌≤◌, ◌<◌, IfOk, IfErr, IsErrOf, IsOk, Err, option_map, string_bytes};
 ghost use Rattle.ptree.specs.Characters.{characters_of};
 ghost use Rattle.ptree.specs.Color.{color_of};
 ghost use Rattle.ptree.specs.Config.{config_of};
 ghost use Rattle.ptree.specs.Style.{style_of};
 ghost use Rattle.ptree_c.specs.declared.refusal.Refusal.TheVariants.{Styled};
 ghost use Rattle.ptree_c.specs.Fields.{part_text, color_value, is_set, style_value, characters_value, when_styled, config_value};
+ghost use Rattle.ptree_c.specs.Refusals.{IsNamesRefusal, IsFieldsRefusal};
 
 use crate::items::text_between;
 use crate::refusal::Refusal;
@@ -132,7 +133,8 @@ pub struct ConfigFields {
 
 /// The text of a part.
 pub(crate) fn text_of_part(alloc: Global, texts: &[u8], part: Part) -> Result<String, Refusal>
-    ensures { IfOk result (λ text. string_bytes text ≡ part_text texts.now part) }
+    ensures text { IfOk result (λ text. string_bytes text ≡ part_text texts.now part) }
+    ensures refused { IfErr result IsNamesRefusal }
 {
     match text_between(alloc, texts, part.start, part.end, 0) {
         Ok(text) => Ok(text),
@@ -147,7 +149,8 @@ fn color_of_fields(
     texts: &[u8],
     fields: ColorFields,
 ) -> Result<Option<Color>, Refusal>
-    ensures { IfOk result (λ color. option_map color_of color ≡ color_value texts.now fields) }
+    ensures color { IfOk result (λ color. option_map color_of color ≡ color_value texts.now fields) }
+    ensures refused { IfErr result IsNamesRefusal }
 {
     match fields.kind {
         0 => Ok(None),
@@ -179,7 +182,8 @@ pub(crate) fn style_of_fields(
     texts: &[u8],
     fields: &StyleFields,
 ) -> Result<Style, Refusal>
-    ensures { IfOk result (λ style. style_of style ≡ style_value texts.now fields.now) }
+    ensures style { IfOk result (λ style. style_of style ≡ style_value texts.now fields.now) }
+    ensures refused { IfErr result IsNamesRefusal }
 {
     Ok(Style {
         foreground: color_of_fields(alloc, texts, fields.foreground)?,
@@ -201,8 +205,9 @@ fn characters_of_fields(
     texts: &[u8],
     fields: &CharactersFields,
 ) -> Result<IndentChars, Refusal>
-    ensures { IfOk result (λ characters.
+    ensures characters { IfOk result (λ characters.
         characters_of characters ≡ characters_value texts.now fields.now) }
+    ensures refused { IfErr result IsNamesRefusal }
 {
     Ok(IndentChars {
         down_and_right: text_of_part(alloc, texts, fields.down_and_right)?,
@@ -233,7 +238,9 @@ pub(crate) fn config_of_fields(
     texts: &[u8],
     fields: &ConfigFields,
 ) -> Result<PrintConfig, Refusal>
-    ensures { IfOk result (λ config. config_of config ≡ config_value texts.now fields.now) }
+    ensures value { IfOk result (λ config. config_of config ≡ config_value texts.now fields.now) }
+    ensures refused { IfErr result (IsFieldsRefusal fields.now) }
+    ensures styled { 2 < fields.now.styled → IsErrOf result Refusal.Styled }
 {
     let styled = styled(fields.styled)?;
     let characters = characters_of_fields(alloc, texts, &fields.characters)?;
@@ -263,19 +270,21 @@ pub(crate) struct Written {
 }
 
 /// The fields of a configuration. They are read again, and compared with it.
-pub(crate) fn fields_of_config(alloc: Global, config: &PrintConfig) -> Result<Written, Refusal>
+pub(crate) fn fields_of_config(alloc: Global, config: &PrintConfig) -> Result<Written, AllocError>
     ensures { IfOk result (λ written.
         config_value written.names.items written.fields ≡ config_of config.now) }
 {
     let mut names = Vec::new(alloc);
     let fields = write_config(&mut names, config)?;
-    let again = config_of_fields(alloc, &names, &fields)?;
+    let Ok(again) = config_of_fields(alloc, &names, &fields) else {
+        return Err(AllocError);
+    };
     let is_same = again == *config;
     drop(again);
     if is_same {
         Ok(Written { fields, names })
     } else {
-        Err(Refusal::Memory)
+        Err(AllocError)
     }
 }
 

@@ -7,7 +7,8 @@ ghost use Rattle.ptree.specs.Graph.{weights_of, edges_of};
 ghost use Rattle.ptree.specs.Occurrence.{occurrence_shape, occurrence_tree};
 ghost use Rattle.ptree_c.specs.Fields.{depth_of, look_of};
 ghost use Rattle.ptree_c.specs.Graphs.{labels_from, IsGraphOf, IsWalksDrawing, IsOnceDrawing};
-ghost use Rattle.ptree_c.specs.Rooms.{filled};
+ghost use Rattle.ptree_c.specs.Refusals.{IsRefused};
+ghost use Rattle.ptree_c.specs.Rooms.{filled, found_sizes};
 
 use crate::answer::{put_bytes, refuse};
 use crate::fields::{ConfigFields, config_of_fields};
@@ -235,8 +236,9 @@ pub extern "C" fn ptree_draw_walks(
     ensures drawn { result ≡ 0 → (g : Graph (String Global)) × (drawing : List ℕ)
         × IsGraphOf ends.now texts.now edges.now g
         × IsWalksDrawing (look_of names.now config.now) (depth_of names.now config.now) g start drawing
-        × (out.new ≡ filled out.old drawing) × (found.new.bytes ≡ length drawing) }
+        × (out.new ≡ filled out.old drawing) × (found.new ≡ found_sizes (length drawing) 0) }
     ensures kept { 0 < result → out.new ≡ out.old }
+    ensures refused { 0 < result → (e : Refusal) × IsRefused result found.new e }
 {
     match walks_given(alloc, ends, texts, edges, start, config, names) {
         Ok(drawing) => put_bytes(&drawing, 0, out, found),
@@ -262,8 +264,9 @@ pub extern "C" fn ptree_draw_once(
     ensures drawn { result ≡ 0 → (g : Graph (String Global)) × (drawing : List ℕ)
         × IsGraphOf ends.now texts.now edges.now g
         × IsOnceDrawing (look_of names.now config.now) (depth_of names.now config.now) g start mark.now drawing
-        × (out.new ≡ filled out.old drawing) × (found.new.bytes ≡ length drawing) }
+        × (out.new ≡ filled out.old drawing) × (found.new ≡ found_sizes (length drawing) 0) }
     ensures kept { 0 < result → out.new ≡ out.old }
+    ensures refused { 0 < result → (e : Refusal) × IsRefused result found.new e }
 {
     match once_given(alloc, ends, texts, edges, start, mark, config, names) {
         Ok(drawing) => put_bytes(&drawing, 0, out, found),

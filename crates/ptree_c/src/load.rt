@@ -2,7 +2,8 @@
 ghost use Rattle.std.specs.Prelude.{◌≡◌, ◌<◌, ℕ, List, IfOk, length};
 ghost use Rattle.ptree.specs.Sources.{variables_of};
 ghost use Rattle.ptree_c.specs.Loads.{file_parts, file_given, variable_texts, AreSources, AreLoaded};
-ghost use Rattle.ptree_c.specs.Rooms.{filled};
+ghost use Rattle.ptree_c.specs.Refusals.{IsRefused};
+ghost use Rattle.ptree_c.specs.Rooms.{filled, found_sizes};
 
 use crate::answer::refuse;
 use crate::fields::{ConfigFields, Part, Written, fields_of_config, text_of_part};
@@ -83,7 +84,7 @@ fn fields_of_sources(alloc: Global, sources: &Sources) -> Result<Written, Refusa
         Some(config) => {
             let written = fields_of_config(alloc, &config);
             drop(config);
-            written
+            Ok(written?)
         }
         None => Err(Refusal::Fault(syntax_line(alloc, &sources.file)?.unwrap_or(0))),
     }
@@ -123,8 +124,9 @@ pub extern "C" fn ptree_load(
     ensures loaded { result ≡ 0 → (s : Sources) × (got : List ℕ)
         × AreSources file.now format variables.now texts.now s
         × AreLoaded s got config.new
-        × (names.new ≡ filled names.old got) × (found.new.bytes ≡ length got) }
+        × (names.new ≡ filled names.old got) × (found.new ≡ found_sizes (length got) 0) }
     ensures kept { 0 < result → (config.new ≡ config.old) × (names.new ≡ names.old) }
+    ensures refused { 0 < result → (e : Refusal) × IsRefused result found.new e }
 {
     match fields_loaded(alloc, file, format, variables, texts) {
         Ok(written) => put_fields(&written, config, names, found),

@@ -1,10 +1,11 @@
 //! Draws the items of an outline without making their tree.
-ghost use Rattle.std.specs.Prelude.{◌≡◌, ◌≤◌, ◌+◌, ◌∷◌, ◌++◌, [], ℕ, List, not, length, IfOk, IfSome, OnOk, OnErr};
+ghost use Rattle.std.specs.Prelude.{◌≡◌, ◌≤◌, ◌+◌, ◌∷◌, ◌++◌, [], ℕ, List, not, length, IfOk, IfErr, IfSome, OnOk, OnErr};
 ghost use Rattle.ptree.specs.Drawing.{written_look};
 ghost use Rattle.ptree_c.specs.Calls.{IsItemsDrawing};
 ghost use Rattle.ptree_c.specs.Fields.{is_set};
 ghost use Rattle.ptree_c.specs.Outlines.{has_later_item, AreLater, AreLastFlags, AreItems, AreLow, kept_before, kept_path, steps_from};
 ghost use Rattle.ptree_c.specs.Pens.{HoldsPath, HasRoom, brush_look};
+ghost use Rattle.ptree_c.specs.Refusals.{IsItemsRefusal};
 ghost use Rattle.ptree_c.specs.Rooms.{filled, IsFilled, IsSize};
 ghost use Rattle.ptree_c.specs.Steps.{steps_text};
 ghost use Rattle.ptree_c.specs.declared.items.Item.{Item};
@@ -21,7 +22,8 @@ use std::alloc::{AllocError, Global};
 
 // Checks items and their texts, and returns the deepest level.
 fn deepest_of_items(items: &[Item], texts: &Texts<'_>) -> Result<u32, Refusal>
-    ensures { IfOk result (λ deepest. AreItems deepest items.now) }
+    ensures deepest { IfOk result (λ deepest. AreItems deepest items.now) }
+    ensures refused { IfErr result IsItemsRefusal }
 {
     let Some((root, below)) = items.split_first() else {
         return Err(Refusal::Level(0));
@@ -266,6 +268,7 @@ pub(crate) fn draw_outline(
         × IsItemsDrawing (written_look config.now) config.now.depth items.now texts.now drawing
         × IsFilled out.old drawing out.new size) }
     ensures kept { OnErr result (out.new ≡ out.old) }
+    ensures refused { IfErr result IsItemsRefusal }
 {
     let known = Texts::new(texts);
     let deepest = deepest_of_items(items, &known)?;

@@ -2,7 +2,8 @@
 ghost use Rattle.std.specs.Prelude.{◌≡◌, ◌<◌, ◌≤◌, ℕ, List, IfOk, length, string_bytes};
 ghost use Rattle.ptree.specs.Style.{painted_text};
 ghost use Rattle.ptree_c.specs.Fields.{style_value, number_styled, look_of, output_look};
-ghost use Rattle.ptree_c.specs.Rooms.{filled};
+ghost use Rattle.ptree_c.specs.Refusals.{IsRefused};
+ghost use Rattle.ptree_c.specs.Rooms.{filled, found_sizes};
 ghost use Rattle.ptree_c.specs.declared.fields.ConfigFields.{ConfigFields};
 
 use crate::answer::{put_bytes, refuse};
@@ -43,8 +44,10 @@ pub extern "C" fn ptree_paint(
 ) -> u32
     ensures painted { result ≡ 0
         → (out.new ≡ filled out.old (painted_text (style_value names.now style.now) text.now))
-        × (found.new.bytes ≡ length (painted_text (style_value names.now style.now) text.now)) }
+        × (found.new
+        ≡ found_sizes (length (painted_text (style_value names.now style.now) text.now)) 0) }
     ensures kept { 0 < result → out.new ≡ out.old }
+    ensures refused { 0 < result → (e : Refusal) × IsRefused result found.new e }
 {
     match painted(alloc, text, style, names) {
         Ok(text) => put_bytes(text.as_bytes(), 0, out, found),

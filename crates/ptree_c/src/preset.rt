@@ -1,9 +1,10 @@
 //! The configurations that C names by a number.
-ghost use Rattle.std.specs.Prelude.{◌≡◌, ◌<◌, ℕ, List, IfOk, IfErr, length};
+ghost use Rattle.std.specs.Prelude.{◌≡◌, ◌<◌, ℕ, List, IfOk, IfErr, OnOk, length};
 ghost use Rattle.ptree.specs.Config.{config_of};
 ghost use Rattle.ptree_c.specs.Fields.{config_value};
-ghost use Rattle.ptree_c.specs.Presets.{config_at, numbered_config, IsPresetRefusal};
-ghost use Rattle.ptree_c.specs.Rooms.{filled};
+ghost use Rattle.ptree_c.specs.Presets.{config_at, numbered_config, IsPresetRefusal, IsReadablePreset, IsReadableRefusal};
+ghost use Rattle.ptree_c.specs.Refusals.{refusal_number, IsRefused};
+ghost use Rattle.ptree_c.specs.Rooms.{filled, found_sizes};
 
 use crate::answer::{put_bytes, refuse};
 use crate::fields::{ConfigFields, Written, fields_of_config};
@@ -31,7 +32,7 @@ pub const PRESETS: [Preset; 10] = [
 /// The configuration of a preset's number, with this depth.
 pub(crate) fn config(alloc: Global, preset: u32, depth: u32) -> Result<PrintConfig, Refusal>
     ensures value { IfOk result (λ config. config_of config ≡ config_at preset depth) }
-    ensures refused { IfErr result IsPresetRefusal }
+    ensures refused { IfErr result (IsPresetRefusal preset) }
 {
     let mut config = numbered(alloc, preset)?;
     config.depth = depth;
@@ -41,7 +42,7 @@ pub(crate) fn config(alloc: Global, preset: u32, depth: u32) -> Result<PrintConf
 // The configuration of a preset's number.
 fn numbered(alloc: Global, preset: u32) -> Result<PrintConfig, Refusal>
     ensures value { IfOk result (λ config. config_of config ≡ numbered_config preset) }
-    ensures refused { IfErr result IsPresetRefusal }
+    ensures refused { IfErr result (IsPresetRefusal preset) }
 {
     if preset == 0 {
         return Ok(PrintConfig::default(alloc)?);
@@ -53,7 +54,10 @@ fn numbered(alloc: Global, preset: u32) -> Result<PrintConfig, Refusal>
 }
 
 // Whether drawings of a preset can be read.
-fn readable(alloc: Global, preset: u32) -> Result<(), Refusal> {
+fn readable(alloc: Global, preset: u32) -> Result<(), Refusal>
+    ensures readable { OnOk result (IsReadablePreset preset) }
+    ensures refused { IfErr result (IsReadableRefusal preset) }
+{
     let config = numbered(alloc, preset)?;
     let is_readable = pieces_readable(alloc, &config);
     drop(config);
@@ -66,13 +70,14 @@ fn readable(alloc: Global, preset: u32) -> Result<(), Refusal> {
 
 // The fields of a preset.
 fn fields_of_preset(alloc: Global, preset: u32) -> Result<Written, Refusal>
-    ensures { IfOk result (λ written.
+    ensures fields { IfOk result (λ written.
         config_value written.names.items written.fields ≡ numbered_config preset) }
+    ensures refused { IfErr result (IsPresetRefusal preset) }
 {
     let config = numbered(alloc, preset)?;
     let written = fields_of_config(alloc, &config);
     drop(config);
-    written
+    Ok(written?)
 }
 
 /// Puts fields of a configuration into `config`, and their texts into `names`.
@@ -85,7 +90,7 @@ pub(crate) fn put_fields(
     ensures done { result ≡ 0 }
     ensures fields { config.new ≡ written.now.fields }
     ensures names { names.new ≡ filled names.old written.now.names.items }
-    ensures length { found.new.bytes ≡ length written.now.names.items }
+    ensures found { found.new ≡ found_sizes (length written.now.names.items) 0 }
 {
     *config = written.fields;
     put_bytes(&written.names, 0, names, found)
@@ -103,8 +108,10 @@ pub extern "C" fn ptree_config(
 ) -> u32
     ensures made { result ≡ 0 → (texts : List ℕ)
         × (config_value texts config.new ≡ numbered_config preset)
-        × (names.new ≡ filled names.old texts) × (found.new.bytes ≡ length texts) }
+        × (names.new ≡ filled names.old texts) × (found.new ≡ found_sizes (length texts) 0) }
     ensures kept { 0 < result → (config.new ≡ config.old) × (names.new ≡ names.old) }
+    ensures refused { 0 < result → (e : Refusal) × IsRefused result found.new e
+        × IsPresetRefusal preset e }
 {
     match fields_of_preset(alloc, preset) {
         Ok(written) => put_fields(&written, config, names, found),
@@ -115,7 +122,11 @@ pub extern "C" fn ptree_config(
 /// Tests whether there is a preset of that number, and its drawings can be read: 0, or else 1, 4 or
 /// 5.
 #[unsafe(no_mangle)]
-pub extern "C" fn ptree_is_readable(alloc: Global, preset: u32) -> u32 {
+pub extern "C" fn ptree_is_readable(alloc: Global, preset: u32) -> u32
+    ensures readable { result ≡ 0 → IsReadablePreset preset }
+    ensures refused { 0 < result → (e : Refusal) × (result ≡ refusal_number e)
+        × IsReadableRefusal preset e }
+{
     match readable(alloc, preset) {
         Ok(()) => 0,
         Err(refusal) => refusal.number(),

@@ -1,15 +1,15 @@
 //! Reads a drawing.
-ghost use Rattle.std.specs.Prelude.{◌≡◌, ◌<◌, ℕ, List, IfOk, IsErrOf, length};
-ghost use Rattle.ptree.specs.Continuation.{EndsWrong, IsFirstWrongLine};
+ghost use Rattle.std.specs.Prelude.{◌≡◌, ◌⊎◌, ◌<◌, ℕ, List, IfOk, IfErr, IsErrOf, length};
 ghost use Rattle.ptree.specs.Drawing.{written_look};
 ghost use Rattle.ptree.specs.DrawnForm.{IsDrawnForm};
 ghost use Rattle.ptree.specs.Tree.{tree_of};
-ghost use Rattle.ptree_c.specs.Calls.{AreItemsOf};
+ghost use Rattle.ptree_c.specs.Calls.{AreItemsOf, IsReadRefusal};
 ghost use Rattle.ptree_c.specs.Fields.{depth_of, look_of};
-ghost use Rattle.ptree_c.specs.Presets.{look_at};
-ghost use Rattle.ptree_c.specs.Rooms.{filled};
+ghost use Rattle.ptree_c.specs.Presets.{look_at, IsPresetRefusal};
+ghost use Rattle.ptree_c.specs.Refusals.{IsRefused, IsFieldsRefusal};
+ghost use Rattle.ptree_c.specs.Rooms.{filled, found_sizes};
 
-use crate::answer::refuse;
+use crate::answer::{refuse, report};
 use crate::fields::{ConfigFields, config_of_fields};
 use crate::items::{Flat, Item, items_of_tree};
 use crate::preset::config;
@@ -25,10 +25,8 @@ use std::str;
 fn tree_of_text(alloc: Global, text: &[u8], config: &PrintConfig) -> Result<StringItem, Refusal>
     ensures some { IfOk result (λ t.
         IsDrawnForm (written_look config.now) config.now.depth text.now (tree_of t)) }
-    ensures line { (n : ℕ) → IsErrOf result (Refusal.Line n)
-        → IsFirstWrongLine (written_look config.now) config.now.depth text.now n }
-    ensures end { IsErrOf result Refusal.Incomplete
-        → EndsWrong (written_look config.now) config.now.depth text.now }
+    ensures refused { IfErr result
+        (IsReadRefusal (written_look config.now) config.now.depth text.now) }
 {
     let Ok(text) = str::from_utf8(text) else {
         return Err(Refusal::Utf8(0));
@@ -46,9 +44,11 @@ fn tree_of_text(alloc: Global, text: &[u8], config: &PrintConfig) -> Result<Stri
 
 // The items of the tree whose drawing a text is.
 fn items_of_text(alloc: Global, text: &[u8], config: &PrintConfig) -> Result<Flat, Refusal>
-    ensures { IfOk result (λ flat.
+    ensures items { IfOk result (λ flat.
         AreItemsOf (written_look config.now) config.now.depth text.now flat.items.items
         flat.texts.items) }
+    ensures refused { IfErr result
+        (IsReadRefusal (written_look config.now) config.now.depth text.now) }
 {
     let tree = tree_of_text(alloc, text, config)?;
     Ok(items_of_tree(alloc, &tree)?)
@@ -56,8 +56,10 @@ fn items_of_text(alloc: Global, text: &[u8], config: &PrintConfig) -> Result<Fla
 
 // The items of what a preset draws.
 fn items_by_preset(alloc: Global, text: &[u8], preset: u32, depth: u32) -> Result<Flat, Refusal>
-    ensures { IfOk result (λ flat.
+    ensures items { IfOk result (λ flat.
         AreItemsOf (look_at preset depth) depth text.now flat.items.items flat.texts.items) }
+    ensures refused { IfErr result (λ e. IsPresetRefusal preset e
+        ⊎ IsReadRefusal (look_at preset depth) depth text.now e) }
 {
     let config = config(alloc, preset, depth)?;
     let items = items_of_text(alloc, text, &config);
@@ -72,9 +74,12 @@ fn items_by_fields(
     fields: &ConfigFields,
     names: &[u8],
 ) -> Result<Flat, Refusal>
-    ensures { IfOk result (λ flat.
+    ensures items { IfOk result (λ flat.
         AreItemsOf (look_of names.now fields.now) (depth_of names.now fields.now) text.now flat.items.items
         flat.texts.items) }
+    ensures refused { IfErr result (λ e. IsFieldsRefusal fields.now e
+        ⊎ IsReadRefusal (look_of names.now fields.now) (depth_of names.now fields.now) text.now e) }
+    ensures styled { 2 < fields.now.styled → IsErrOf result Refusal.Styled }
 {
     let config = config_of_fields(alloc, names, fields)?;
     let items = items_of_text(alloc, text, &config);
@@ -87,15 +92,12 @@ fn put_items(flat: &Flat, items: &mut [Item], texts: &mut [u8], found: &mut Foun
     ensures done { result ≡ 0 }
     ensures items { items.new ≡ filled items.old flat.now.items.items }
     ensures texts { texts.new ≡ filled texts.old flat.now.texts.items }
-    ensures count { found.new.items ≡ length flat.now.items.items }
-    ensures bytes { found.new.bytes ≡ length flat.now.texts.items }
+    ensures found { found.new
+        ≡ found_sizes (length flat.now.texts.items) (length flat.now.items.items) }
 {
     fill(items, &flat.items);
     fill(texts, &flat.texts);
-    found.bytes = flat.texts.len();
-    found.items = flat.items.len();
-    found.place = 0;
-    0
+    report(flat.texts.len(), flat.items.len(), found)
 }
 
 /// Reads what a preset draws down to a depth, into `items` and `texts`, as much as there is room
@@ -114,8 +116,10 @@ pub extern "C" fn ptree_read(
     ensures read { result ≡ 0 → (got : List Item) × (labels : List ℕ)
         × AreItemsOf (look_at preset depth) depth text.now got labels
         × (items.new ≡ filled items.old got) × (texts.new ≡ filled texts.old labels)
-        × (found.new.items ≡ length got) × (found.new.bytes ≡ length labels) }
+        × (found.new ≡ found_sizes (length labels) (length got)) }
     ensures kept { 0 < result → (items.new ≡ items.old) × (texts.new ≡ texts.old) }
+    ensures refused { 0 < result → (e : Refusal) × IsRefused result found.new e
+        × (IsPresetRefusal preset e ⊎ IsReadRefusal (look_at preset depth) depth text.now e) }
 {
     match items_by_preset(alloc, text, preset, depth) {
         Ok(flat) => put_items(&flat, items, texts, found),
@@ -139,8 +143,12 @@ pub extern "C" fn ptree_read_with(
     ensures read { result ≡ 0 → (got : List Item) × (labels : List ℕ)
         × AreItemsOf (look_of names.now config.now) (depth_of names.now config.now) text.now got labels
         × (items.new ≡ filled items.old got) × (texts.new ≡ filled texts.old labels)
-        × (found.new.items ≡ length got) × (found.new.bytes ≡ length labels) }
+        × (found.new ≡ found_sizes (length labels) (length got)) }
     ensures kept { 0 < result → (items.new ≡ items.old) × (texts.new ≡ texts.old) }
+    ensures refused { 0 < result → (e : Refusal) × IsRefused result found.new e
+        × (IsFieldsRefusal config.now e
+        ⊎ IsReadRefusal (look_of names.now config.now) (depth_of names.now config.now) text.now e) }
+    ensures styled { 2 < config.now.styled → result ≡ 17 }
 {
     match items_by_fields(alloc, text, config, names) {
         Ok(flat) => put_items(&flat, items, texts, found),

@@ -3,7 +3,6 @@ ghost use Rattle.std.specs.Prelude.{◌≡◌, ◌<◌};
 ghost use Rattle.ptree_c.specs.Refusals.{refusal_number, refusal_place};
 
 use crate::room::fill;
-use ptree::value::DocError;
 use std::alloc::{AllocError, AllocFailed};
 
 /// Why a call did nothing.
@@ -122,17 +121,6 @@ impl Refusal {
             | Refusal::Edge(place) => place,
             _ => 0,
         }
-    }
-}
-
-/// The refusal of a document.
-pub(crate) fn refused_document(error: DocError) -> Refusal {
-    match error {
-        DocError::Syntax => Refusal::Syntax,
-        DocError::Float => Refusal::Float,
-        DocError::Date => Refusal::Date,
-        // (what is drawn goes into memory, which fails only if there is none left)
-        DocError::Draw(_) => Refusal::Memory,
     }
 }
 

@@ -3,7 +3,7 @@ ghost use Rattle.std.specs.Prelude.{◌≡◌, ◌≢◌, ◌≤◌, ◌<◌, �
 ghost use Rattle.ptree_c.specs.Fields.{look_of};
 ghost use Rattle.ptree_c.specs.Pens.{HoldsPath, brush_look};
 ghost use Rattle.ptree_c.specs.Rooms.{filled, IsFilled, IsSize};
-ghost use Rattle.ptree_c.specs.Steps.{own_flag, path_with, path_after, step_entry, steps_text, DrawsTrees, DrawsParts};
+ghost use Rattle.ptree_c.specs.Steps.{own_flag, path_with, path_after, step_entry, steps_text, IsNextLength, DrawsTrees, DrawsParts};
 
 use crate::answer::refuse;
 use crate::brush::Brush;
@@ -166,6 +166,8 @@ fn add_step(
     ensures held { OnOk result (HoldsPath brush.now path.new pen.new) }
     ensures room { IfOk result (λ end. end ≤ length out.old) }
     ensures full { IfErr result (λ stop. (n : ℕ) → stop ≡ Stop.Full n → length out.old < at + n) }
+    ensures length { IfErr result (λ stop. (n : ℕ) → stop ≡ Stop.Full n
+        → n ≡ length (step_entry (brush_look brush.now) texts.now.bytes.now path.old step.now)) }
     ensures stopped { IfErr result (λ stop. stop ≢ Stop.All) }
 {
     match reach_step(pen, brush, path, texts, step, place) {
@@ -202,6 +204,8 @@ fn draw_steps(
     ensures all { IfOk result (λ d. d.stop ≡ Stop.All → d.items ≡ length steps.now) }
     ensures full { IfOk result (λ d. (n : ℕ) → d.stop ≡ Stop.Full n
         → length out.old < d.bytes + n) }
+    ensures next { IfOk result (λ d. (n : ℕ) → d.stop ≡ Stop.Full n
+        → IsNextLength (brush_look brush.now) texts.now path.new steps.now d.items n) }
 {
     let known = Texts::new(texts);
     let mut pen = Pen::new(alloc, brush)?;
@@ -243,6 +247,8 @@ fn draw_by_fields(
     ensures all { IfOk result (λ d. d.stop ≡ Stop.All → d.items ≡ length steps.now) }
     ensures full { IfOk result (λ d. (n : ℕ) → d.stop ≡ Stop.Full n
         → length out.old < d.bytes + n) }
+    ensures next { IfOk result (λ d. (n : ℕ) → d.stop ≡ Stop.Full n
+        → IsNextLength (look_of names.now fields.now) texts.now path.new steps.now d.items n) }
 {
     let config = config_of_fields(alloc, names, fields)?;
     let brush = Brush::new(alloc, &config)?;
@@ -305,6 +311,10 @@ pub extern "C" fn ptree_draw_steps(
     ensures all { result ≡ 0 → found.new.place ≡ 0 → found.new.items ≡ length steps.now }
     ensures full { result ≡ 0 → 0 < found.new.place
         → length out.old < found.new.bytes + found.new.place }
+    // `place` is the length of the next item's entry.
+    ensures next { result ≡ 0 → 0 < found.new.place
+        → IsNextLength (look_of names.now config.now) texts.now path.new steps.now found.new.items
+        found.new.place }
     // The entries of a tree's items are its drawing, also where several calls draw them.
     ensures trees { DrawsTrees (look_of names.now config.now) texts.now }
     ensures parts { DrawsParts (look_of names.now config.now) texts.now }

@@ -1,7 +1,8 @@
 //! The texts of items.
-ghost use Rattle.std.specs.Prelude.{◌≡◌, false};
+ghost use Rattle.std.specs.Prelude.{◌≡◌, false, IfErr};
 ghost use Rattle.ptree.specs.Texts.{HasNoLineFeed};
 ghost use Rattle.ptree_c.specs.Fields.{part_text};
+ghost use Rattle.ptree_c.specs.Refusals.{IsItemsRefusal};
 
 use crate::fields::Part;
 use crate::refusal::Refusal;
@@ -29,7 +30,9 @@ impl<'a> Texts<'a> {
     }
 
     /// Checks the text of the item at a place.
-    pub(crate) fn check(&self, start: usize, end: usize, place: usize) -> Result<(), Refusal> {
+    pub(crate) fn check(&self, start: usize, end: usize, place: usize) -> Result<(), Refusal>
+        ensures { IfErr result IsItemsRefusal }
+    {
         let Some(text) = self.bytes.get(start..end) else {
             return Err(Refusal::End(place));
         };

@@ -9,4 +9,4 @@ use Rattle.ptree_c.proofs.draw.draw_by_fields.Goals as goal
 pub returns-clause-drawn : goal.returns-clause-drawn
 returns-clause-drawn c =
     subst (λ (v : ConfigValue). IfOk c.draw_outline-drawn.result (λ size. (drawing : List ℕ) × IsItemsDrawing (look_by v Unknown false) v.depth c.args.items.now c.args.texts.now drawing × IsFilled c.args.out.now drawing c.draw_outline-drawn.new.out size))
-    c.in_ok-config.ensures c.draw_outline-drawn.ensures.drawn
+    c.in_ok-config.ensures.value c.draw_outline-drawn.ensures.drawn

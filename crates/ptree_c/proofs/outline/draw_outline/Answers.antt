@@ -13,7 +13,7 @@ draw_by_brush-drawn-requires-clause-low c =
     let deepest = c.in_ok-deepest.deepest in
     let long : length path ≡ c.min.result = c.deref_mut.ensures.len ∙ c.in_ok-resize.ensures.len in
     let fit : (n : ℕ) → n ≤ deepest → n ≤ depth → n ≤ length path = λ n low high. omega (arith, low, high, long, c.min.ensures) in
-    low_outline deepest depth (length path) c.args.items.now fit c.in_ok-deepest.ensures
+    low_outline deepest depth (length path) c.args.items.now fit c.in_ok-deepest.ensures.deepest
 
 pub draw_by_brush-drawn-requires-clause-same : goal.draw_by_brush-drawn-requires-clause-same
 draw_by_brush-drawn-requires-clause-same c = λ p q same_p same_q.
@@ -23,7 +23,7 @@ draw_by_brush-drawn-requires-clause-same c = λ p q same_p same_q.
     let long : length path ≡ c.min.result = c.deref_mut.ensures.len ∙ c.in_ok-resize.ensures.len in
     let fit : (r : List ℕ) → length r ≡ length path → (n : ℕ) → n ≤ deepest → n ≤ depth → n ≤ length r = λ r same n low high. omega (arith, low, high, long, same, c.min.ensures) in
     let last = subst (λ (f : List ℕ). AreLastFlags c.args.items.now f) (sym c.deref.ensures.value) c.in_ok-flags.ensures.flags in
-    outline_same (brush_look c.in_ok-brush.brush) c.new-known.result.bytes.now p q c.args.items.now c.deref.result.now deepest depth c.in_ok-deepest.ensures last (fit p same_p) (fit q same_q)
+    outline_same (brush_look c.in_ok-brush.brush) c.new-known.result.bytes.now p q c.args.items.now c.deref.result.now deepest depth c.in_ok-deepest.ensures.deepest last (fit p same_p) (fit q same_q)
 
 pub returns-clause-drawn : goal.returns-clause-drawn
 returns-clause-drawn c =
@@ -40,6 +40,6 @@ returns-clause-drawn c =
     let same = ap (λ k. steps_text k c.new-known.result.bytes.now path (steps_from config.depth 0 items flags)) (ap written_look c.in_ok-brush.ensures)
     ∙ ap (λ t. steps_text (written_look config) t path (steps_from config.depth 0 items flags)) c.new-known.ensures in (
       drawing,
-      outline_drawn (written_look config) texts path items flags deepest config.depth drawing c.in_ok-deepest.ensures last fit same,
+      outline_drawn (written_look config) texts path items flags deepest config.depth drawing c.in_ok-deepest.ensures.deepest last fit same,
       c.in_ok-drawn.ensures.filled,
     )

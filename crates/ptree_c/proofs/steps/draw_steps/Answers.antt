@@ -1,4 +1,4 @@
-use Rattle.std.proofs.Common.{◌++◌, take, sym, ap, ◌∙◌, subst, arith}
+use Rattle.std.proofs.Common.{length, ◌++◌, take, sym, ap, ◌∙◌, subst, arith}
 use Rattle.ptree_c.specs.Pens.{brush_look}
 use Rattle.ptree_c.specs.Rooms.{IsFilled}
 use Rattle.ptree_c.specs.Steps.{path_after, path_with, step_entry, steps_text}
@@ -29,3 +29,11 @@ loop-step-preserved c =
       held = c.in-Ok.ensures.held;
       room = omega (arith, c.in-Ok.ensures.room, c.add_step.auto.out);
     }
+
+pub returns-in-Err-clause-next : goal.returns-in-Err-clause-next
+returns-in-Err-clause-next c = λ n is_full.
+    let look = brush_look c.args.brush.now in
+    let s = c.in-Some.step.now in
+    let same = ap (λ t. length (step_entry look t c.loop-step.path s)) c.new-known.ensures
+    ∙ ap (λ p. length (step_entry look c.args.texts.now p s)) (sym c.in-Err.ensures.kept.1) in
+    (s, c.in-Some.tail.now, sym c.loop-step.invariant.left ∙ c.in-Some.ensures.cases.0, c.in-Err.ensures.length n is_full ∙ same)
