@@ -1,5 +1,5 @@
 //! Draws items that are given one by one, as many at once as the caller likes.
-ghost use Rattle.std.specs.Prelude.{◌≡◌, ◌≢◌, ◌≤◌, ◌<◌, ◌+◌, ◌-◌, ◌++◌, ℕ, List, length, take, IfOk, IfErr, IfSome, OnOk, OnErr, ◌⊎◌};
+ghost use Rattle.std.specs.Prelude.{◌≡◌, ◌≢◌, ◌≤◌, ◌<◌, ◌+◌, ◌-◌, ◌++◌, ℕ, List, length, take, IfOk, IfErr, IsErrOf, IfSome, OnOk, OnErr, ◌⊎◌};
 ghost use Rattle.ptree_c.specs.Fields.{look_of};
 ghost use Rattle.ptree_c.specs.Pens.{HoldsPath, brush_look};
 ghost use Rattle.ptree_c.specs.Rooms.{filled, IsFilled, IsSize};
@@ -249,6 +249,7 @@ fn draw_by_fields(
         → length out.old < d.bytes + n) }
     ensures next { IfOk result (λ d. (n : ℕ) → d.stop ≡ Stop.Full n
         → IsNextLength (look_of names.now fields.now) texts.now path.new steps.now d.items n) }
+    ensures styled { 2 < fields.now.styled → IsErrOf result Refusal.Styled }
 {
     let config = config_of_fields(alloc, names, fields)?;
     let brush = Brush::new(alloc, &config)?;
@@ -315,6 +316,7 @@ pub extern "C" fn ptree_draw_steps(
     ensures next { result ≡ 0 → 0 < found.new.place
         → IsNextLength (look_of names.now config.now) texts.now path.new steps.now found.new.items
         found.new.place }
+    ensures styled { 2 < config.now.styled → result ≡ 17 }
     // The entries of a tree's items are its drawing, also where several calls draw them.
     ensures trees { DrawsTrees (look_of names.now config.now) texts.now }
     ensures parts { DrawsParts (look_of names.now config.now) texts.now }
