@@ -1,10 +1,9 @@
 //! Draws graphs.
 ghost use Rattle.std.specs.Prelude.{◌≡◌, ◌<◌, ◌++◌, [], ◌∷◌, ℕ, List, IfOk, OnOk, length, map, string_bytes, String};
 ghost use Rattle.std.specs.declared.alloc.Global.{Global};
-ghost use Rattle.ptree.specs.Drawing.{written_look, IsDrawing};
+ghost use Rattle.ptree.specs.Drawing.{written_look};
 ghost use Rattle.ptree.specs.declared.graph.Graph.{Graph};
 ghost use Rattle.ptree.specs.Graph.{weights_of, edges_of};
-ghost use Rattle.ptree.specs.Occurrence.{occurrence_shape, occurrence_tree};
 ghost use Rattle.ptree_c.specs.Fields.{depth_of, look_of};
 ghost use Rattle.ptree_c.specs.Graphs.{labels_from, IsGraphOf, IsWalksDrawing, IsOnceDrawing};
 ghost use Rattle.ptree_c.specs.Refusals.{IsRefused};
@@ -16,8 +15,9 @@ use crate::items::text_between;
 use crate::refusal::Refusal;
 use crate::room::Found;
 use ptree::PrintConfig;
-use ptree::graph::{EdgeError, Expanded, Graph, GraphNode, NodeIndex, Occurrence, OccurrenceItem};
+use ptree::graph::{EdgeError, Graph, GraphNode, NodeIndex, write_graph_once_with};
 use ptree::output::tree_bytes;
+use ptree::style::Counted;
 use std::alloc::{AllocError, Global};
 use std::str;
 
@@ -100,30 +100,6 @@ fn drawing_of_walks(
     tree_bytes(alloc, &node, config)
 }
 
-// The drawing of places at which the nodes of a graph are.
-fn drawing_of_places(
-    alloc: Global,
-    graph: &Graph<String>,
-    mark: &str,
-    occurrence: &Occurrence,
-    config: &PrintConfig,
-) -> Result<Vec<u8>, AllocError>
-    ensures { IfOk result (λ drawing. IsDrawing (written_look config.now)
-        (occurrence_shape string_bytes graph.now mark.now (occurrence_tree occurrence.now))
-        config.now.depth drawing.items) }
-{
-    let expanded = Expanded {
-        graph,
-        mark,
-        occurrence,
-    };
-    let root = OccurrenceItem {
-        expanded: &expanded,
-        index: 0,
-    };
-    tree_bytes(alloc, &root, config)
-}
-
 // The drawing of a graph from a node, with each node expanded once.
 fn drawing_of_once(
     alloc: Global,
@@ -136,8 +112,12 @@ fn drawing_of_once(
         IsOnceDrawing (written_look config.now) config.now.depth graph.now start mark.now
         drawing.items) }
 {
-    let occurrence = graph.expanded_once(NodeIndex(start), config.depth)?;
-    drawing_of_places(alloc, graph, mark, &occurrence, config)
+    let mut out = Counted::new(Vec::new(alloc));
+    // A vector fails only if memory ran out.
+    match write_graph_once_with(alloc, graph, NodeIndex(start), mark, &mut out, config) {
+        Ok(()) => Ok(out.into_inner()),
+        Err(_) => Err(AllocError),
+    }
 }
 
 // The drawing of all walks as fields say.
