@@ -1,5 +1,4 @@
 """The calls of ptree.h that the package `ptree` does not make, or not for each input: what the trials of this folder share."""
-import ctypes
 import dataclasses
 import itertools
 import os
