@@ -83,7 +83,7 @@ def tried(folder, mistake):
     with tempfile.TemporaryDirectory() as scratch:
         copy = os.path.join(scratch, "trials", "python")
         shutil.copytree(os.path.join(TOP, "trials", "python"), copy, ignore=shutil.ignore_patterns("__pycache__"))
-        for part in ("bindings", "docs"):
+        for part in ("bindings", "trials/rows"):
             os.symlink(os.path.join(TOP, part), os.path.join(scratch, part))
         with open(os.path.join(copy, name), encoding="utf-8") as file:
             text = file.read()

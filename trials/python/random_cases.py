@@ -65,9 +65,10 @@ USAGE = "usage: ptree_cli [--tty] (words ROOT [CHILD..] | json LABEL | toml LABE
 
 
 def full_file(language):
-    """The file with every key that docs/CLI.md shows."""
-    with open(os.path.join(calls.TOP, "docs", "CONFIGURATION.md"), encoding="utf-8") as page:
-        return re.search(f"```{language}\n(depth = 4\n.*?|{{\n  \"depth\".*?)```", page.read(), re.S)[1]
+    """The file with every key, as a row has it."""
+    with open(os.path.join(calls.TOP, "trials", "rows", "sources", "sources.rows"), encoding="utf-8") as rows:
+        lines = re.search(f"^row every key in {language.upper()}\n{language}_file\n((?:\\|.*\n)+)", rows.read(), re.M)[1]
+    return re.sub("^\\|", "", lines, flags=re.M)
 
 
 FULL = {language: full_file(language) for language in ("toml", "json")}
