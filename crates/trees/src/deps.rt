@@ -13,6 +13,10 @@ use ptree_trees::escape::escaped;
 use std::alloc::{AllocError, Global};
 use std::collections::BTreeSet;
 
+const PNPM: &str = "lock files of pnpm are not read";
+
+const YARN: &str = "lock files of yarn are not read";
+
 /// What is drawn: a graph, and the node at the root.
 #[derive(Drop)]
 pub struct Dependencies {
@@ -29,7 +33,32 @@ pub struct Network {
     /// The paths of the nodes in a `package-lock.json`, and else nothing.
     pub paths: Vec<String>,
 
-    pub edges: Vec<(NodeIndex, NodeIndex)>,
+    // Whether what needs a node is drawn.
+    is_inverse: bool,
+
+    edges: Vec<(NodeIndex, NodeIndex)>,
+
+    // The edges, in ascending order.
+    sorted: BTreeSet<(usize, usize)>,
+}
+
+impl Network {
+    /// Adds what a node needs, unless it is there.
+    ///
+    /// # Errors
+    ///
+    /// Memory ran out.
+    pub fn add_need(&mut self, node: usize, need: usize) -> Result<(), AllocError> {
+        let (from, to) = if self.is_inverse {
+            (need, node)
+        } else {
+            (node, need)
+        };
+        if self.sorted.insert((from, to))? {
+            self.edges.push((NodeIndex(from), NodeIndex(to)))?;
+        }
+        Ok(())
+    }
 }
 
 /// Returns the dependencies of a lock file, or of lines of two words, the first of which needs the
@@ -48,138 +77,100 @@ pub fn read_dependencies(
     deps: Deps<'_>,
     is_terminal: bool,
 ) -> Result<Dependencies, Failure> {
-    let mut network = read_network(alloc, source)?;
-    network.edges = edges_once(alloc, &network.edges, deps.is_inverse)?;
-    let start = match deps.root {
-        Some(name) => Some(root::named(alloc, source, &network, name)?),
-        None => None,
+    let mut network = Network {
+        labels: Vec::new(alloc),
+        paths: Vec::new(alloc),
+        is_inverse: deps.is_inverse,
+        edges: Vec::new(alloc),
+        sorted: BTreeSet::new(alloc),
     };
-    drawn(alloc, source, network, start, is_terminal)
+    let drawn = drawn(alloc, source, &mut network, deps.root, is_terminal);
+    drop(network);
+    drawn
 }
 
-// Returns the dependencies of an input in one of the forms.
-fn read_network(alloc: Global, source: &Source) -> Result<Network, Failure> {
+// Reads an input into an empty network, and returns what is drawn of it: from the node with a name on,
+// or from what nothing needs.
+fn drawn(
+    alloc: Global,
+    source: &Source,
+    network: &mut Network,
+    name: Option<&str>,
+    is_terminal: bool,
+) -> Result<Dependencies, Failure> {
+    read_network(alloc, source, network)?;
+    let root = match name {
+        Some(name) => root::named(alloc, source, network, name)?,
+        None => top(alloc, source.label(), network)?,
+    };
+    // A node's neighbours are drawn newest edge first.
+    network.edges.reverse();
+    let graph = graph(alloc, source, network, is_terminal)?;
+    Ok(Dependencies { graph, root })
+}
+
+// Reads the dependencies of an input in one of the forms.
+fn read_network(alloc: Global, source: &Source, network: &mut Network) -> Result<(), Failure> {
     let text = source.text.as_str();
-    if let Some(form) = form_not_read(source) {
-        let wrong = format!(in alloc; "lock files of {form} are not read")?;
-        Err(source.wrong(alloc, wrong.as_str())?)
+    if let Some(wrong) = form_not_read(source) {
+        Err(source.wrong(alloc, wrong)?)
     } else if text.trim_start().starts_with('{') {
-        npm::package_lock(alloc, source)
+        npm::package_lock(alloc, source, network)
     } else if text.contains("[[package]]") {
-        packages::toml_lock(alloc, source)
+        packages::toml_lock(alloc, source, network)
     } else {
-        pairs::pairs(alloc, source)
+        pairs::pairs(alloc, source, network)
     }
 }
 
-// Returns whose lock file an input is, if it is one that looks like pairs of words.
+// Says of a lock file that looks like pairs of words that it is not read.
 fn form_not_read(source: &Source) -> Option<&'static str> {
     match source.label() {
-        "pnpm-lock.yaml" => return Some("pnpm"),
-        "yarn.lock" => return Some("yarn"),
+        "pnpm-lock.yaml" => return Some(PNPM),
+        "yarn.lock" => return Some(YARN),
         _ => {}
     }
     for line in source.text.as_str().lines() {
         if line.starts_with("lockfileVersion:") {
-            return Some("pnpm");
+            return Some(PNPM);
         }
         if line.starts_with("# yarn lockfile ") || line.starts_with("__metadata:") {
-            return Some("yarn");
+            return Some(YARN);
         }
     }
     None
 }
 
-// Returns edges, each once, and turned around if what needs a node is drawn.
-fn edges_once(
-    alloc: Global,
-    edges: &[(NodeIndex, NodeIndex)],
-    is_inverse: bool,
-) -> Result<Vec<(NodeIndex, NodeIndex)>, AllocError> {
-    let mut seen = BTreeSet::new(alloc);
-    let mut once = Vec::new(alloc);
-    for (from, to) in edges {
-        if seen.insert((from.0, to.0))? {
-            once.push(if is_inverse {
-                (*to, *from)
-            } else {
-                (*from, *to)
-            })?;
-        }
-    }
-    Ok(once)
-}
-
-// Returns what is drawn of dependencies, from a node on or from what nothing needs.
-fn drawn(
-    alloc: Global,
-    source: &Source,
-    network: Network,
-    start: Option<NodeIndex>,
-    is_terminal: bool,
-) -> Result<Dependencies, Failure> {
-    let Network {
-        labels,
-        mut edges,
-        paths: _,
-    } = network;
-    // A node's neighbours are drawn newest edge first.
-    edges.reverse();
-    let mut graph = labelled(alloc, &labels, is_terminal)?;
-    extend(alloc, source, &mut graph, &edges)?;
-    let root = match start {
-        Some(root) => root,
-        None => top(alloc, source, &mut graph, &edges, is_terminal)?,
-    };
-    Ok(Dependencies { graph, root })
-}
-
-// Returns the top of a graph with these edges. If there are several, they get one above them.
-fn top(
-    alloc: Global,
-    source: &Source,
-    graph: &mut Graph<String>,
-    edges: &[(NodeIndex, NodeIndex)],
-    is_terminal: bool,
-) -> Result<NodeIndex, Failure> {
-    let above = graph.add_node(shown(alloc, source.label(), is_terminal)?)?;
-    let tops = root::tops(alloc, graph, edges, above.0)?;
+// Returns what nothing needs. If there are several nodes, they get one with this label above them.
+fn top(alloc: Global, label: &str, network: &mut Network) -> Result<NodeIndex, AllocError> {
+    let tops = root::tops(alloc, network)?;
     if let [only] = tops.as_slice() {
-        return Ok(*only);
+        return Ok(NodeIndex(*only));
     }
-    let mut edges = Vec::new(alloc);
-    for top in tops.iter().rev() {
-        edges.push((above, *top))?;
+    let above = NodeIndex(network.labels.len());
+    network.labels.push(String::from_str(alloc, label)?)?;
+    for top in &tops {
+        network.edges.push((above, NodeIndex(*top)))?;
     }
-    extend(alloc, source, graph, &edges)?;
     Ok(above)
 }
 
-// Adds edges to a graph.
-fn extend(
+// Returns the graph of a network, for a terminal with its labels escaped.
+fn graph(
     alloc: Global,
     source: &Source,
-    graph: &mut Graph<String>,
-    edges: &[(NodeIndex, NodeIndex)],
-) -> Result<(), Failure> {
-    match graph.extend_with_edges(edges) {
-        Ok(()) => Ok(()),
-        Err(EdgeError::Memory) => Err(Failure::Memory),
-        Err(EdgeError::NoNode) => Err(source.wrong(alloc, "no dependencies")?),
-    }
-}
-
-// Returns a graph of nodes with these labels, for a terminal escaped.
-fn labelled(
-    alloc: Global,
-    labels: &[String],
+    network: &Network,
     is_terminal: bool,
-) -> Result<Graph<String>, AllocError> {
+) -> Result<Graph<String>, Failure> {
     let mut graph = Graph::new(alloc);
-    for label in labels {
+    for label in &network.labels {
         graph.add_node(shown(alloc, label.as_str(), is_terminal)?)?;
     }
-    Ok(graph)
+    match graph.extend_with_edges(&network.edges) {
+        Ok(()) => Ok(graph),
+        Err(EdgeError::Memory) => Err(Failure::Memory),
+        Err(EdgeError::NoNode) => Err(wrong(alloc, source, &["no dependencies"])),
+    }
 }
 
 // Returns a label as it is shown.
@@ -191,7 +182,16 @@ fn shown(alloc: Global, label: &str, is_terminal: bool) -> Result<String, AllocE
     }
 }
 
-// Says what is wrong with an input, in words that have names of the input.
-fn wrong(alloc: Global, source: &Source, words: &str) -> Result<Failure, AllocError> {
-    source.wrong(alloc, escaped(alloc, words)?.as_str())
+// Says what is wrong with an input, in parts that may be names of the input.
+fn wrong(alloc: Global, source: &Source, parts: &[&str]) -> Failure {
+    said(alloc, source, parts).unwrap_or(Failure::Memory)
+}
+
+// Says what is wrong with an input.
+fn said(alloc: Global, source: &Source, parts: &[&str]) -> Result<Failure, AllocError> {
+    let mut words = String::new(alloc);
+    for part in parts {
+        words.push_str(part)?;
+    }
+    source.wrong(alloc, escaped(alloc, words.as_str())?.as_str())
 }

@@ -4,98 +4,102 @@ use crate::deps::{Network, wrong};
 use crate::document::json_value;
 use crate::failure::Failure;
 use crate::source::Source;
-use ptree::graph::NodeIndex;
 use serde_json::{Map, Value};
 use std::alloc::{AllocError, Global};
+use std::collections::BTreeMap;
+use std::iter;
 
 // The packages by their paths.
 type Packages = Map<String, Value>;
 
-/// Returns the dependencies of a `package-lock.json`.
+// What stands in folders: whether it is the package that is the last one itself, which comes behind
+// those in its `node_modules`, its path or else its name there, and the node.
+type Step<'a> = (Vec<&'a str>, bool, &'a str, usize);
+
+// The lists of what a package needs.
+const LISTS: [&str; 4] = [
+    "dependencies",
+    "devDependencies",
+    "optionalDependencies",
+    "peerDependencies",
+];
+
+const OLD: &str = "a file of lockfileVersion 1 is not read; npm 7 and later write newer ones";
+
+/// Adds the dependencies of a `package-lock.json`.
 ///
 /// # Errors
 ///
 /// `Input` if the text is no such file, or one without paths, and `Memory`.
-pub fn package_lock(alloc: Global, source: &Source) -> Result<Network, Failure> {
+pub fn package_lock(alloc: Global, source: &Source, network: &mut Network) -> Result<(), Failure> {
     let lock = json_value(alloc, source)?;
-    let Some(packages) = lock.get("packages").and_then(|p| p.as_object()) else {
-        let wrong = if lock.get("dependencies").is_some() {
-            "a file of lockfileVersion 1 is not read; npm 7 and later write newer ones"
-        } else {
-            "no packages"
-        };
-        return Err(source.wrong(alloc, wrong)?);
-    };
-    network(alloc, source, packages)
+    read(alloc, source, &lock, network)
 }
 
-// Returns the dependencies of packages.
-fn network(alloc: Global, source: &Source, packages: &Packages) -> Result<Network, Failure> {
-    let nodes = nodes(alloc, source, packages)?;
-    let places = make_places(alloc, source, packages, &nodes)?;
-    let edges = edges(alloc, source, packages, &nodes, &places)?;
-    let mut labels = Vec::new(alloc);
-    let mut paths = Vec::new(alloc);
-    for (path, label) in nodes {
-        labels.push(label)?;
-        paths.push(String::from_str(alloc, path)?)?;
-    }
-    Ok(Network {
-        labels,
-        paths,
-        edges,
-    })
-}
-
-// Returns the paths and labels of the packages that are no links, in ascending order.
-fn nodes<'a>(
+// Adds the dependencies of a file.
+fn read(
     alloc: Global,
     source: &Source,
-    packages: &'a Packages,
-) -> Result<Vec<(&'a str, String)>, Failure> {
-    let mut nodes = Vec::new(alloc);
+    lock: &Value,
+    network: &mut Network,
+) -> Result<(), Failure> {
+    let Some(Value::Object(packages)) = lock.get("packages") else {
+        let is_old = lock.get("dependencies").is_some();
+        return Err(wrong(alloc, source, &[if is_old { OLD } else { "no packages" }]));
+    };
+    push_nodes(alloc, source, packages, network)?;
+    let steps = steps(alloc, source, packages, &network.paths)?;
+    push_needs(alloc, source, packages, &steps, network)
+}
+
+// Adds the packages that are no links, in ascending order of their paths.
+fn push_nodes(
+    alloc: Global,
+    source: &Source,
+    packages: &Packages,
+    network: &mut Network,
+) -> Result<(), Failure> {
     for (path, package) in packages.iter() {
         if package.as_object().is_none() {
-            let words = format!(in alloc; "{path} is no package")?;
-            return Err(wrong(alloc, source, words.as_str())?);
+            return Err(wrong(alloc, source, &[path.as_str(), " is no package"]));
         }
         if !is_link(package) {
-            let path = path.as_str();
-            nodes.push((path, label(alloc, source, path, package)?))?;
+            network
+                .labels
+                .push(label(alloc, source.label(), path.as_str(), package)?)?;
+            network.paths.push(path.clone()?)?;
         }
     }
-    nodes.sort_unstable();
-    Ok(nodes)
+    Ok(())
 }
 
 // Whether a package is a link to another one.
 fn is_link(package: &Value) -> bool {
-    package
-        .get("link")
-        .and_then(|l| l.as_bool())
-        .unwrap_or(false)
+    matches!(package.get("link"), Some(Value::Bool(true)))
+}
+
+// Returns the text at a key of a package.
+fn word<'a>(package: &'a Value, key: &str) -> Option<&'a str> {
+    package.get(key)?.as_str()
 }
 
 // Returns the label of a package: its name and version. In a folder of another name it is an alias.
-fn label(
-    alloc: Global,
-    source: &Source,
-    path: &str,
-    package: &Value,
-) -> Result<String, AllocError> {
-    let given = package.get("name").and_then(|n| n.as_str());
+fn label(alloc: Global, root: &str, path: &str, package: &Value) -> Result<String, AllocError> {
+    let given = word(package, "name");
     let name = match (place(path), given) {
-        (Some((_, name)), Some(given)) if name != given => {
-            format!(in alloc; "{name}@npm:{given}")?
-        }
-        (_, Some(given)) => String::from_str(alloc, given)?,
-        (_, None) if path.is_empty() => String::from_str(alloc, source.label())?,
-        (_, None) => String::from_str(alloc, last_name(path))?,
+        (Some((_, name)), _) | (None, Some(name)) => name,
+        (None, None) if path.is_empty() => root,
+        (None, None) => last_name(path),
     };
-    match package.get("version").and_then(|v| v.as_str()) {
-        Some(version) => format!(in alloc; "{name}@{version}"),
-        None => Ok(name),
+    let mut label = String::from_str(alloc, name)?;
+    match given {
+        Some(given) if given != name => write!(label, "@npm:{given}")?,
+        _ => {}
     }
+    if let Some(version) = word(package, "version") {
+        write!(label, "@{version}")?;
+    }
+    Ok(label)
 }
 
 // Returns the last name of a path, with the scope before it.
@@ -108,8 +112,7 @@ fn last_name(path: &str) -> &str {
         None => above,
     };
     if scope.starts_with('@') {
-        let length = scope.len().saturating_add(1).saturating_add(name.len());
-        path.get(path.len().saturating_sub(length)..)
+        path.get(above.len().saturating_sub(scope.len())..)
             .unwrap_or(name)
     } else {
         name
@@ -127,233 +130,208 @@ fn place(path: &str) -> Option<(&str, &str)> {
     }
 }
 
-// What stands in folders: packages under their names in `node_modules`, and packages that need some.
-#[derive(Drop)]
-struct Places<'a> {
-    // The names, in ascending order.
-    names: Vec<&'a str>,
-
-    // The folder, the position of the name, and the node. After the names of a folder comes the
-    // package that is the folder itself, with the number of names.
-    steps: Vec<(Vec<&'a str>, usize, usize)>,
-}
-
-// Returns the places of packages, those of folders after those of the folders above.
-fn make_places<'a>(
+// Returns what stands in folders, those of a folder after those of the folders above. Nodes have
+// these paths.
+fn steps<'a>(
     alloc: Global,
     source: &Source,
     packages: &'a Packages,
-    nodes: &[(&'a str, String)],
-) -> Result<Places<'a>, Failure> {
-    let names = installed_names(alloc, packages)?;
+    paths: &[String],
+) -> Result<Vec<Step<'a>>, Failure> {
     let mut steps = Vec::new(alloc);
     for (path, package) in packages.iter() {
         let path = path.as_str();
         let meant = target(path, package);
-        let Ok(node) = nodes.binary_search_by(|n| n.0.cmp(meant)) else {
-            let words = format!(in alloc; "{path} links to {meant}, which is not there")?;
-            return Err(wrong(alloc, source, words.as_str())?);
+        let Ok(node) = paths.binary_search_by(|p| p.as_str().cmp(meant)) else {
+            let parts = [path, " links to ", meant, ", which is not there"];
+            return Err(wrong(alloc, source, &parts));
         };
         if let Some((folder, name)) = place(path) {
-            if let Ok(name) = names.binary_search(&name) {
-                steps.push((folders(alloc, folder)?, name, node))?;
-            }
+            steps.push((folders(alloc, folder)?, false, name, node))?;
         }
         if !is_link(package) {
-            steps.push((folders(alloc, path)?, names.len(), node))?;
+            steps.push((folders(alloc, path)?, true, path, node))?;
         }
     }
     steps.sort_unstable();
-    Ok(Places { names, steps })
+    Ok(steps)
 }
 
 // Returns the path of a package, or that to which a link leads.
 fn target<'a>(path: &'a str, package: &'a Value) -> &'a str {
     if is_link(package) {
-        package
-            .get("resolved")
-            .and_then(|r| r.as_str())
-            .unwrap_or("")
+        word(package, "resolved").unwrap_or("")
     } else {
         path
     }
 }
 
-// Returns the names under which packages are installed, in ascending order. One may stand there
-// several times: a search finds the same place each time.
-fn installed_names<'a>(alloc: Global, packages: &'a Packages) -> Result<Vec<&'a str>, AllocError> {
-    let mut names = Vec::new(alloc);
-    for (path, _) in packages.iter() {
-        if let Some((_, name)) = place(path.as_str()) {
-            names.push(name)?;
-        }
-    }
-    names.sort_unstable();
-    Ok(names)
-}
-
 // Returns the folders of a path. Those of the project are below one more.
 fn folders<'a>(alloc: Global, path: &'a str) -> Result<Vec<&'a str>, AllocError> {
-    let mut folders = Vec::new(alloc);
-    if path != ".." && !path.starts_with("../") {
-        folders.push(".")?;
-    }
-    for folder in path.split('/') {
-        if !folder.is_empty() {
-            folders.push(folder)?;
-        }
-    }
-    Ok(folders)
+    let top = if path == ".." || path.starts_with("../") {
+        ""
+    } else {
+        "."
+    };
+    let parts = iter::once(top).chain(path.split('/'));
+    parts.filter(|part| !part.is_empty()).collect(alloc)
 }
 
-// Returns the edges: what a package needs is the one in the nearest `node_modules` of the folders
-// from its own up.
-fn edges(
+// Adds what packages need, in the order of the names: the one in the nearest `node_modules` of the
+// folders from their own up.
+fn push_needs<'a>(
     alloc: Global,
     source: &Source,
-    packages: &Packages,
-    nodes: &[(&str, String)],
-    places: &Places<'_>,
-) -> Result<Vec<(NodeIndex, NodeIndex)>, Failure> {
-    let mut nearest = Nearest {
-        nodes: vec![in alloc; None; places.names.len()]?,
+    packages: &'a Packages,
+    steps: &[Step<'a>],
+    network: &mut Network,
+) -> Result<(), Failure> {
+    let mut walk = Walk {
+        packages,
+        nearest: BTreeMap::new(alloc),
         open: Vec::new(alloc),
+        needs: Vec::new(alloc),
     };
-    let mut found = Vec::new(alloc);
-    for (folder, name, node) in &places.steps {
-        nearest.leave(folder);
-        if *name < places.names.len() {
-            nearest.enter(folder, *name, *node)?;
-        } else if let Some((path, _)) = nodes.get(*node) {
-            for need in &needs(alloc, source, packages, path)? {
-                if let Some(to) = nearest.node(&places.names, need) {
-                    found.push((*node, found.len(), to))?;
-                }
+    let added = walk.add(alloc, source, steps, network);
+    drop(walk);
+    added
+}
+
+// A walk through all folders.
+#[derive(Drop)]
+struct Walk<'s, 'a> {
+    packages: &'a Packages,
+
+    // The nearest package of each name, seen from the folder.
+    nearest: BTreeMap<&'a str, Option<usize>>,
+
+    // The packages in `node_modules` of the folders above, the nearest last: folder, name, and the
+    // next one of that name.
+    open: Vec<(&'s [&'a str], &'a str, Option<usize>)>,
+
+    // The packages with what they need, and its name.
+    needs: Vec<(usize, &'a str, usize)>,
+}
+
+impl<'s, 'a> Walk<'s, 'a> {
+    // Goes these steps, and adds what packages need.
+    fn add(
+        &mut self,
+        alloc: Global,
+        source: &Source,
+        steps: &'s [Step<'a>],
+        network: &mut Network,
+    ) -> Result<(), Failure> {
+        for (folder, is_package, name, node) in steps {
+            self.leave(folder);
+            if *is_package {
+                self.push_needs(alloc, source, *node, name)?;
+            } else {
+                self.enter(folder, name, *node)?;
             }
         }
+        self.needs.sort_unstable();
+        for (node, _, need) in &self.needs {
+            network.add_need(*node, *need)?;
+        }
+        Ok(())
     }
-    found.sort_unstable();
-    let mut edges = Vec::new(alloc);
-    for (from, _, to) in found {
-        edges.push((NodeIndex(from), NodeIndex(to)))?;
+
+    // Enters a folder with a package under a name.
+    fn enter(
+        &mut self,
+        folder: &'s [&'a str],
+        name: &'a str,
+        node: usize,
+    ) -> Result<(), AllocError> {
+        let next = self.nearest.insert(name, Some(node))?;
+        self.open.push((folder, name, next.flatten()))?;
+        Ok(())
     }
-    Ok(edges)
-}
 
-// The nearest package of each name, seen from a folder.
-#[derive(Drop)]
-struct Nearest<'a> {
-    nodes: Vec<Option<usize>>,
-
-    // The packages in `node_modules` of the folders above, the nearest last: folder, position of the
-    // name, and the next one of that name.
-    open: Vec<(&'a [&'a str], usize, Option<usize>)>,
-}
-
-// Whether a folder is another one or above it.
-fn is_above(above: &[&str], folder: &[&str]) -> bool {
-    above.len() <= folder.len() && above.iter().zip(folder.iter()).all(|(a, b)| a == b)
-}
-
-impl<'a> Nearest<'a> {
     // Leaves the folders that are not above a folder.
-    fn leave(&mut self, folder: &[&str]) {
+    fn leave(&mut self, folder: &'s [&'a str]) {
         for _ in 0..self.open.len() {
-            match self.open.last() {
-                Some((above, name, next)) if !is_above(above, folder) => {
-                    if let Some(node) = self.nodes.get_mut(*name) {
-                        *node = *next;
-                    }
-                }
-                _ => return,
+            let Some((above, name, next)) = self.open.last() else {
+                return;
+            };
+            if folder.starts_with(above) {
+                return;
+            }
+            if let Some(nearest) = self.nearest.get_mut(*name) {
+                *nearest = *next;
             }
             let _ = self.open.pop();
         }
     }
 
-    // Enters a folder with a package under a name.
-    fn enter(&mut self, folder: &'a [&'a str], name: usize, node: usize) -> Result<(), AllocError> {
-        if let Some(nearest) = self.nodes.get_mut(name) {
-            self.open.push((folder, name, *nearest))?;
-            *nearest = Some(node);
+    // Adds the needs of a package. Its lists may name the same: a name among `optionalDependencies`
+    // is often in another list too.
+    fn push_needs(
+        &mut self,
+        alloc: Global,
+        source: &Source,
+        node: usize,
+        path: &str,
+    ) -> Result<(), Failure> {
+        let Some(package) = self.packages.get(path) else {
+            return Ok(());
+        };
+        for list in LISTS {
+            match package.get(list) {
+                // Only what is not in `node_modules` is developed.
+                Some(_) if list == "devDependencies" && place(path).is_some() => {}
+                Some(Value::Object(needs)) => self.push_list(node, needs)?,
+                Some(_) => {
+                    let parts = [list, " of ", path, " is no object"];
+                    return Err(wrong(alloc, source, &parts));
+                }
+                None => {}
+            }
+        }
+        match package.get("workspaces") {
+            Some(workspaces) if path.is_empty() => {
+                self.push_workspaces(alloc, source, node, workspaces)
+            }
+            _ => Ok(()),
+        }
+    }
+
+    // Adds the needs of a list.
+    fn push_list(&mut self, node: usize, needs: &'a Packages) -> Result<(), AllocError> {
+        for name in needs.keys() {
+            self.push_need(node, name.as_str())?;
         }
         Ok(())
     }
 
-    // Returns the nearest package of a name.
-    fn node(&self, names: &[&str], name: &str) -> Option<usize> {
-        let at = names.binary_search_by(|n| n.cmp(&name)).ok()?;
-        *self.nodes.get(at)?
-    }
-}
-
-// Returns the names of what a package needs, in the order of their bytes. The lists of a package may
-// name the same: a name among `optionalDependencies` is often in another list too.
-fn needs<'a>(
-    alloc: Global,
-    source: &Source,
-    packages: &'a Packages,
-    path: &str,
-) -> Result<Vec<&'a str>, Failure> {
-    let mut names = Vec::new(alloc);
-    let Some(package) = packages.get(path) else {
-        return Ok(names);
-    };
-    for kind in [
-        "dependencies",
-        "devDependencies",
-        "optionalDependencies",
-        "peerDependencies",
-    ] {
-        match package.get(kind) {
-            // Only what is not in `node_modules` is developed.
-            Some(_) if kind == "devDependencies" && place(path).is_some() => {}
-            Some(Value::Object(needs)) => push_names(needs, &mut names)?,
-            Some(_) => {
-                let words = format!(in alloc; "{kind} of {path} is no object")?;
-                return Err(wrong(alloc, source, words.as_str())?);
-            }
-            None => {}
-        }
-    }
-    if path.is_empty() {
-        if let Some(workspaces) = package.get("workspaces") {
-            push_workspaces(alloc, source, packages, workspaces, &mut names)?;
-        }
-    }
-    names.sort_unstable();
-    Ok(names)
-}
-
-// Adds the names of a list of needs.
-fn push_names<'a>(needs: &'a Packages, names: &mut Vec<&'a str>) -> Result<(), AllocError> {
-    for (name, _) in needs.iter() {
-        names.push(name.as_str())?;
-    }
-    Ok(())
-}
-
-// Adds the names of the links to workspaces.
-fn push_workspaces<'a>(
-    alloc: Global,
-    source: &Source,
-    packages: &'a Packages,
-    workspaces: &Value,
-    names: &mut Vec<&'a str>,
-) -> Result<(), Failure> {
-    let patterns = patterns(alloc, source, workspaces)?;
-    for (path, package) in packages.iter() {
-        match place(path.as_str()) {
-            Some(("", name)) if is_link(package) => {
-                let target = target(path.as_str(), package);
-                if patterns.iter().any(|pattern| lies_in(target, pattern)) {
-                    names.push(name)?;
+    // Adds the need of the links to workspaces.
+    fn push_workspaces(
+        &mut self,
+        alloc: Global,
+        source: &Source,
+        node: usize,
+        workspaces: &Value,
+    ) -> Result<(), Failure> {
+        let patterns = patterns(alloc, source, workspaces)?;
+        for (path, package) in self.packages.iter() {
+            match place(path.as_str()) {
+                Some(("", name)) if is_workspace(path.as_str(), package, patterns) => {
+                    self.push_need(node, name)?;
                 }
+                _ => {}
             }
-            _ => {}
         }
+        Ok(())
     }
-    Ok(())
+
+    // Adds the need of the nearest package of a name, if there is one.
+    fn push_need(&mut self, node: usize, name: &'a str) -> Result<(), AllocError> {
+        if let Some(Some(need)) = self.nearest.get(name) {
+            self.needs.push((node, name, *need))?;
+        }
+        Ok(())
+    }
 }
 
 // Returns the patterns of workspaces. Each part of one is a name, `*`, or at the end `**`.
@@ -361,24 +339,27 @@ fn patterns<'a>(
     alloc: Global,
     source: &Source,
     workspaces: &'a Value,
-) -> Result<Vec<&'a str>, Failure> {
-    let mut patterns = Vec::new(alloc);
-    let listed = workspaces.get("packages").unwrap_or(workspaces);
-    let Some(listed) = listed.as_array() else {
-        return Err(source.wrong(alloc, "workspaces is no list")?);
+) -> Result<&'a [Value], Failure> {
+    let Some(patterns) = workspaces.get("packages").unwrap_or(workspaces).as_array() else {
+        return Err(wrong(alloc, source, &["workspaces is no list"]));
     };
-    for pattern in listed {
+    for pattern in patterns {
         match pattern.as_str() {
-            Some(pattern) if is_plain(pattern) => patterns.push(plain(pattern))?,
-            _ => {
-                let words = format!(in alloc;
-                    "workspaces are read as a/b, a/* and a/**, not {pattern}"
-                )?;
-                return Err(wrong(alloc, source, words.as_str())?);
-            }
+            Some(text) if is_plain(text) => {}
+            _ => return Err(not_plain(alloc, source, pattern)?),
         }
     }
     Ok(patterns)
+}
+
+// Says that a pattern is not read.
+fn not_plain(alloc: Global, source: &Source, pattern: &Value) -> Result<Failure, AllocError> {
+    let pattern = format!(in alloc; "{pattern}")?;
+    let parts = [
+        "workspaces are read as a/b, a/* and a/**, not ",
+        pattern.as_str(),
+    ];
+    Ok(wrong(alloc, source, &parts))
 }
 
 // Returns a pattern without a `./` before it and slashes around it.
@@ -396,6 +377,19 @@ fn is_plain(pattern: &str) -> bool {
         _ => pattern,
     };
     above.split('/').all(|part| part == "*" || !part.contains(|c: char| "*?[]{}()!\\".contains(c)))
+}
+
+// Whether a package is a link to one of the workspaces that patterns mean.
+fn is_workspace(path: &str, package: &Value, patterns: &[Value]) -> bool {
+    for pattern in patterns {
+        match pattern.as_str() {
+            Some(pattern) if lies_in(target(path, package), plain(pattern)) => {
+                return is_link(package);
+            }
+            _ => {}
+        }
+    }
+    false
 }
 
 // Whether a path is one of those that a pattern means.

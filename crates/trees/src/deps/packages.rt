@@ -4,127 +4,130 @@ use crate::deps::{Network, wrong};
 use crate::document::toml_value;
 use crate::failure::Failure;
 use crate::source::Source;
-use ptree::graph::NodeIndex;
 use std::alloc::{AllocError, Global};
-use std::cmp::Ordering;
-use toml::Value;
+use toml::{Table, Value};
 
 // A package: its name, version and source without a revision, and the position of its table.
-type Package<'a> = (String, &'a str, &'a str, usize);
+type Package<'a> = (&'a str, &'a str, &'a str, usize);
 
-// What is known of a package that is needed.
-#[derive(Clone, Copy)]
-struct Need<'a> {
-    name: &'a str,
-    version: Option<&'a str>,
-    source: Option<&'a str>,
-}
+// The tables of further lists of needs.
+const GROUPS: [&str; 2] = ["optional-dependencies", "dev-dependencies"];
 
-// Why a need has not one package.
-#[derive(Clone, Copy)]
-enum Fault {
-    Missing,
-    Several,
-}
-
-// The packages of an input, in ascending order.
-#[derive(Drop)]
-struct Lock<'a> {
-    source: &'a Source,
-    packages: Vec<Package<'a>>,
-}
-
-/// Returns the dependencies of a lock file with tables `[[package]]`.
+/// Adds the dependencies of a lock file with tables `[[package]]`.
 ///
 /// # Errors
 ///
 /// `Input` if the text is no such file, and `Memory`.
-pub fn toml_lock(alloc: Global, source: &Source) -> Result<Network, Failure> {
-    let value = toml_value(alloc, source)?;
-    network(alloc, source, &value)
+pub fn toml_lock(alloc: Global, input: &Source, network: &mut Network) -> Result<(), Failure> {
+    let mut lock = toml_value(alloc, input)?;
+    read(alloc, input, &mut lock, network)
 }
 
-// Returns the dependencies of the packages of a lock file.
-fn network(alloc: Global, source: &Source, value: &Value) -> Result<Network, Failure> {
-    let tables = tables(alloc, source, value)?;
-    let lock = Lock {
-        source,
-        packages: packages(alloc, source, &tables)?,
+// Adds the dependencies of a lock file.
+fn read(
+    alloc: Global,
+    input: &Source,
+    lock: &mut Value,
+    network: &mut Network,
+) -> Result<(), Failure> {
+    let tables = tables(alloc, input, lock)?;
+    let packages = packages(alloc, input, tables)?;
+    push_packages(alloc, input, tables, &packages, network)
+}
+
+// Returns the tables of packages. The first versions of Cargo.lock have one of them as `[root]`. In
+// a poetry.lock their names get the form that names are compared in.
+fn tables<'a>(alloc: Global, input: &Source, lock: &'a mut Value) -> Result<&'a [Value], Failure> {
+    let root = match lock.as_table_mut() {
+        Some(lock) => lock.remove("root"),
+        None => None,
     };
-    let mut edges = Vec::new(alloc);
-    for (i, (_, _, _, at)) in lock.packages.iter().enumerate() {
-        if let Some(table) = tables.get(*at) {
-            lock.push_edges(alloc, i, table, &mut edges)?;
+    let Some(Value::Array(tables)) = lock.get_mut("package") else {
+        return Err(wrong(alloc, input, &["no packages"]));
+    };
+    if let Some(root) = root {
+        tables.insert(0, root)?;
+    }
+    if tables.iter().any(has_table_of_needs) {
+        normalize(alloc, tables)?;
+    }
+    Ok(tables.as_slice())
+}
+
+// Whether a package has its dependencies in a table, as in `poetry.lock`.
+fn has_table_of_needs(table: &Value) -> bool {
+    matches!(table.get("dependencies"), Some(Value::Table(_)))
+}
+
+// Brings the names of Python packages into the form that names are compared in.
+fn normalize(alloc: Global, tables: &mut [Value]) -> Result<(), AllocError> {
+    for table in tables {
+        // (a package without a version is refused, by the name that it has)
+        if version(table).is_none() {
+            continue;
+        }
+        if let Some(Value::String(name)) = table.get_mut("name") {
+            *name = normalized(alloc, name.as_str())?;
         }
     }
-    Ok(Network {
-        labels: labels(alloc, &lock.packages, &tables)?,
-        paths: Vec::new(alloc),
-        edges,
-    })
+    Ok(())
 }
 
-// Returns the tables of packages. The first versions of Cargo.lock have one of them as `[root]`.
-fn tables<'a>(alloc: Global, source: &Source, value: &'a Value) -> Result<Vec<&'a Value>, Failure> {
-    let Some(packages) = value.get("package").and_then(|p| p.as_array()) else {
-        return Err(source.wrong(alloc, "no packages")?);
-    };
-    let mut tables = Vec::new(alloc);
-    if let Some(root) = value.get("root") {
-        tables.push(root)?;
+// Returns a name of a Python package in the form that names are compared in: in lower case, with a
+// dash for dashes, dots and underscores.
+fn normalized(alloc: Global, name: &str) -> Result<String, AllocError> {
+    let mut text = String::new(alloc);
+    for c in name.chars() {
+        match c {
+            '-' | '_' | '.' if text.ends_with('-') => {}
+            '-' | '_' | '.' => text.push('-')?,
+            c => text.push(c.to_ascii_lowercase())?,
+        }
     }
-    for package in packages {
-        tables.push(package)?;
-    }
-    Ok(tables)
+    Ok(text)
 }
 
 // Returns the packages of these tables, in ascending order.
 fn packages<'a>(
     alloc: Global,
-    source: &Source,
-    tables: &[&'a Value],
+    input: &Source,
+    tables: &'a [Value],
 ) -> Result<Vec<Package<'a>>, Failure> {
-    let is_poetry = has_tables_of_needs(tables);
     let mut packages = Vec::new(alloc);
     for (at, table) in tables.iter().enumerate() {
-        let Some(name) = word(table, "name") else {
-            return Err(source.wrong(alloc, "a package has no name")?);
-        };
-        let Some(version) = version(table) else {
-            let words = format!(in alloc; "{name} has no version")?;
-            return Err(wrong(alloc, source, words.as_str())?);
-        };
-        let name = if is_poetry {
-            normalized(alloc, name)?
-        } else {
-            String::from_str(alloc, name)?
-        };
-        packages.push((name, version, without_revision(source_of(table)), at))?;
+        packages.push(package(alloc, input, table, at)?)?;
     }
     packages.sort_unstable();
     for (one, next) in packages.iter().zip(packages.iter().skip(1)) {
-        if is_same(one, next) && one.2 == next.2 {
-            let words = format!(in alloc; "{} {} stands twice", one.0, one.1)?;
-            return Err(wrong(alloc, source, words.as_str())?);
+        if is_same(one, Some(next)) && one.2 == next.2 {
+            return Err(wrong(alloc, input, &[one.0, " ", one.1, " stands twice"]));
         }
     }
     Ok(packages)
 }
 
-// Whether some package has its dependencies in a table, as in `poetry.lock`.
-fn has_tables_of_needs(tables: &[&Value]) -> bool {
-    for table in tables {
-        if let Some(Value::Table(_)) = table.get("dependencies") {
-            return true;
-        }
+// Returns the package of a table.
+fn package<'a>(
+    alloc: Global,
+    input: &Source,
+    table: &'a Value,
+    at: usize,
+) -> Result<Package<'a>, Failure> {
+    let Some(name) = word(table, "name") else {
+        return Err(wrong(alloc, input, &["a package has no name"]));
+    };
+    match version(table) {
+        Some(version) => Ok((name, version, without_revision(source_of(table)), at)),
+        None => Err(wrong(alloc, input, &[name, " has no version"])),
     }
-    false
 }
 
-// Whether two packages have one name and version.
-fn is_same(one: &Package<'_>, other: &Package<'_>) -> bool {
-    one.0.as_str() == other.0.as_str() && one.1 == other.1
+// Whether a package and another one, if there is one, have one name and version.
+fn is_same(package: &Package<'_>, other: Option<&Package<'_>>) -> bool {
+    match other {
+        Some(other) => package.0 == other.0 && package.1 == other.1,
+        None => false,
+    }
 }
 
 // Returns the text at a key of a table.
@@ -144,7 +147,7 @@ fn version(table: &Value) -> Option<&str> {
 fn source_of(table: &Value) -> &str {
     match table.get("source") {
         Some(Value::String(text)) => text.as_str(),
-        Some(Value::Table(parts)) => match parts.get("url").or(parts.iter().next().map(|p| p.1)) {
+        Some(Value::Table(parts)) => match parts.get("url").or(parts.values().next()) {
             Some(part) => part.as_str().unwrap_or(""),
             None => "",
         },
@@ -161,157 +164,162 @@ fn without_revision(source: &str) -> &str {
     }
 }
 
-// Returns a name of a Python package in the form that names are compared in: in lower case, with a
-// dash for dashes, dots and underscores.
-fn normalized(alloc: Global, name: &str) -> Result<String, AllocError> {
-    let mut text = String::new(alloc);
-    for c in name.chars() {
-        match c {
-            '-' | '_' | '.' if text.ends_with('-') => {}
-            '-' | '_' | '.' => text.push('-')?,
-            c => text.push(c.to_ascii_lowercase())?,
+// Adds packages, and what each needs.
+fn push_packages<'p>(
+    alloc: Global,
+    input: &'p Source,
+    tables: &[Value],
+    packages: &'p [Package<'p>],
+    network: &mut Network,
+) -> Result<(), Failure> {
+    push_labels(alloc, tables, packages, &mut network.labels)?;
+    for (node, package) in packages.iter().enumerate() {
+        if let Some(table) = tables.get(package.3) {
+            let needing = Needing {
+                input,
+                packages,
+                node,
+                name: package.0,
+            };
+            needing.push_needs(alloc, table, network)?;
         }
     }
-    Ok(text)
+    Ok(())
 }
 
-// Returns the labels of packages: name, version, and the source if it is needed to tell them apart.
-fn labels(
+// Adds the labels of packages, with the source if it is needed to tell them apart.
+fn push_labels(
     alloc: Global,
+    tables: &[Value],
     packages: &[Package<'_>],
-    tables: &[&Value],
-) -> Result<Vec<String>, AllocError> {
-    let mut labels = Vec::new(alloc);
+    labels: &mut Vec<String>,
+) -> Result<(), AllocError> {
     let mut before = None;
     for (i, package) in packages.iter().enumerate() {
-        let (name, version, _, at) = package;
-        let source = tables.get(*at).map_or("", |table| source_of(table));
         let after = packages.get(i.saturating_add(1));
-        let is_alone = !before.is_some_and(|p| is_same(p, package))
-            && !after.is_some_and(|p| is_same(p, package));
-        labels.push(match (version.is_empty(), is_alone || source.is_empty()) {
-            (true, true) => name.clone()?,
-            (true, false) => format!(in alloc; "{name} ({source})")?,
-            (false, true) => format!(in alloc; "{name} v{version}")?,
-            (false, false) => format!(in alloc; "{name} v{version} ({source})")?,
-        })?;
+        let is_twin = is_same(package, before) || is_same(package, after);
+        let source = match tables.get(package.3) {
+            Some(table) if is_twin => source_of(table),
+            _ => "",
+        };
+        labels.push(label(alloc, package.0, package.1, source)?)?;
         before = Some(package);
     }
-    Ok(labels)
+    Ok(())
 }
 
-impl<'a> Lock<'a> {
-    // Adds the edges from a package.
-    fn push_edges(
-        &self,
-        alloc: Global,
-        from: usize,
-        table: &Value,
-        edges: &mut Vec<(NodeIndex, NodeIndex)>,
-    ) -> Result<(), Failure> {
-        match table.get("dependencies") {
-            Some(Value::Table(needs)) => {
-                for (name, _) in needs.iter() {
-                    self.push_python_need(alloc, from, name.as_str(), edges)?;
-                }
-            }
-            Some(needs) => self.push_needs(alloc, from, needs, edges)?,
-            None => {}
-        }
-        for kind in ["optional-dependencies", "dev-dependencies"] {
-            if let Some(Value::Table(groups)) = table.get(kind) {
-                for (_, needs) in groups.iter() {
-                    self.push_needs(alloc, from, needs, edges)?;
-                }
-            }
-        }
-        Ok(())
+// Returns the label of a package: its name, and its version and source if they are given.
+fn label(alloc: Global, name: &str, version: &str, source: &str) -> Result<String, AllocError> {
+    let mut label = String::from_str(alloc, name)?;
+    if !version.is_empty() {
+        write!(label, " v{version}")?;
     }
+    if !source.is_empty() {
+        write!(label, " ({source})")?;
+    }
+    Ok(label)
+}
 
-    // Adds the edges to the packages of a list.
+// A package whose needs are read.
+#[derive(Clone, Copy)]
+struct Needing<'p> {
+    input: &'p Source,
+
+    // All packages.
+    packages: &'p [Package<'p>],
+
+    node: usize,
+    name: &'p str,
+}
+
+impl<'p> Needing<'p> {
+    // Adds the needs of its table.
     fn push_needs(
         &self,
         alloc: Global,
-        from: usize,
-        needs: &Value,
-        edges: &mut Vec<(NodeIndex, NodeIndex)>,
+        table: &Value,
+        network: &mut Network,
     ) -> Result<(), Failure> {
-        let Some(needs) = needs.as_array() else {
-            return Err(self.refused(alloc, from, "has dependencies that are no list")?);
-        };
-        for need in needs {
-            let Some(need) = Need::read(need) else {
-                return Err(self.refused(alloc, from, "has a dependency that is no text")?);
-            };
-            match self.package(need) {
-                Ok(to) => edges.push((NodeIndex(from), NodeIndex(to)))?,
-                Err(fault) => return Err(self.faulty(alloc, from, need.name, fault)?),
+        match table.get("dependencies") {
+            Some(Value::Table(needs)) => self.push_python_needs(alloc, needs, network)?,
+            Some(needs) => self.push_list(alloc, needs, network)?,
+            None => {}
+        }
+        for kind in &GROUPS {
+            if let Some(Value::Table(groups)) = table.get(*kind) {
+                for needs in groups.values() {
+                    self.push_list(alloc, needs, network)?;
+                }
             }
         }
         Ok(())
     }
 
-    // Adds the edge to a package of a table of `poetry.lock`, if it is locked.
-    fn push_python_need(
+    // Adds the needs of a list.
+    fn push_list(
         &self,
         alloc: Global,
-        from: usize,
-        name: &str,
-        edges: &mut Vec<(NodeIndex, NodeIndex)>,
+        needs: &Value,
+        network: &mut Network,
     ) -> Result<(), Failure> {
-        let normal = normalized(alloc, name)?;
-        match self.package(Need::of(normal.as_str())) {
-            Ok(to) => edges.push((NodeIndex(from), NodeIndex(to)))?,
-            Err(Fault::Missing) => {}
-            Err(fault) => return Err(self.faulty(alloc, from, name, fault)?),
+        let Some(needs) = needs.as_array() else {
+            let parts = [self.name, " has dependencies that are no list"];
+            return Err(wrong(alloc, self.input, &parts));
+        };
+        for need in needs {
+            let Some(need) = Need::read(need) else {
+                let parts = [self.name, " has a dependency that is no text"];
+                return Err(wrong(alloc, self.input, &parts));
+            };
+            match need.find(self.packages) {
+                Ok(at) => network.add_need(self.node, at)?,
+                Err(why) => return Err(self.faulty(alloc, need.name, why)),
+            }
         }
         Ok(())
     }
 
-    // Returns the package that is needed.
-    fn package(&self, need: Need<'_>) -> Result<usize, Fault> {
-        let at = self
-            .packages
-            .partition_point(|p| matches!(need.order(p), Ordering::Less));
-        let Some(found) = self.packages.get(at) else {
-            return Err(Fault::Missing);
-        };
-        if !need.is(found) {
-            return Err(Fault::Missing);
-        }
-        // A package in a folder has no source, so it cannot be named with one.
-        let is_in_folder = need.version.is_some() && found.2.is_empty();
-        match self.packages.get(at.saturating_add(1)) {
-            Some(next) if need.is(next) && !is_in_folder => Err(Fault::Several),
-            _ => Ok(at),
-        }
-    }
-
-    // Says that a package needs what is not there, or what is there several times.
-    fn faulty(
+    // Adds those needs of a table of `poetry.lock` that are locked.
+    fn push_python_needs(
         &self,
         alloc: Global,
-        from: usize,
-        name: &str,
-        fault: Fault,
-    ) -> Result<Failure, AllocError> {
-        let why = match fault {
-            Fault::Missing => "which is not there",
-            Fault::Several => "of which several are there",
-        };
-        let words = format!(in alloc; "needs {name}, {why}")?;
-        self.refused(alloc, from, words.as_str())
+        needs: &Table,
+        network: &mut Network,
+    ) -> Result<(), Failure> {
+        for name in needs.keys() {
+            let normal = normalized(alloc, name.as_str())?;
+            match Need::of(normal.as_str()).find(self.packages) {
+                Ok(at) => network.add_need(self.node, at)?,
+                Err(Fault::Missing) => {}
+                Err(why) => return Err(self.faulty(alloc, name.as_str(), why)),
+            }
+        }
+        Ok(())
     }
 
-    // Says what is wrong with a package.
-    fn refused(&self, alloc: Global, from: usize, words: &str) -> Result<Failure, AllocError> {
-        let name = match self.packages.get(from) {
-            Some(package) => package.0.as_str(),
-            None => "",
+    // Says that it needs what is not there, or what is there several times.
+    fn faulty(&self, alloc: Global, need: &str, why: Fault) -> Failure {
+        let why = match why {
+            Fault::Missing => ", which is not there",
+            Fault::Several => ", of which several are there",
         };
-        let words = format!(in alloc; "{name} {words}")?;
-        wrong(alloc, self.source, words.as_str())
+        wrong(alloc, self.input, &[self.name, " needs ", need, why])
     }
+}
+
+// What is known of a package that is needed. A source is known only with a version.
+#[derive(Clone, Copy)]
+struct Need<'a> {
+    name: &'a str,
+    version: Option<&'a str>,
+    source: Option<&'a str>,
+}
+
+// Why a need has not one package.
+#[derive(Clone, Copy)]
+enum Fault {
+    Missing,
+    Several,
 }
 
 impl<'a> Need<'a> {
@@ -324,47 +332,63 @@ impl<'a> Need<'a> {
         }
     }
 
-    // Returns the need of an entry: `name`, `name version` or `name version (source)` in a
-    // Cargo.lock, or a table in a uv.lock.
+    // Returns the need of an entry: a text, or a table in a uv.lock.
     fn read(entry: &'a Value) -> Option<Need<'a>> {
-        if let Value::Table(_) = entry {
-            return Some(Need {
-                name: word(entry, "name")?,
-                version: word(entry, "version"),
-                source: entry
-                    .get("source")
-                    .map(|_| without_revision(source_of(entry))),
-            });
+        if let Value::String(text) = entry {
+            return Some(Need::of_text(text.as_str()));
         }
-        let Some((name, rest)) = entry.as_str()?.split_once(' ') else {
-            return Some(Need::of(entry.as_str()?));
-        };
-        let (version, source) = match rest.split_once(" (") {
-            Some((version, source)) => (version, source.strip_suffix(')').or(Some(""))),
-            None => (rest, None),
+        let name = word(entry, "name")?;
+        let version = word(entry, "version");
+        let source = match (version, entry.get("source")) {
+            (Some(_), Some(_)) => Some(without_revision(source_of(entry))),
+            _ => None,
         };
         Some(Need {
             name,
-            version: Some(version),
-            source: source.map(without_revision),
+            version,
+            source,
         })
     }
 
-    // Returns how a package compares with what is known.
-    fn order(&self, package: &Package<'_>) -> Ordering {
-        let (name, version, source, _) = package;
-        let Some(wanted) = self.version else {
-            return name.as_str().cmp(self.name);
+    // Returns the need of a text: `name`, `name version` or `name version (source)`.
+    fn of_text(text: &'a str) -> Need<'a> {
+        let Some((name, rest)) = text.split_once(' ') else {
+            return Need::of(text);
         };
-        let by_name = name.as_str().cmp(self.name).then(version.cmp(&wanted));
-        match self.source {
-            Some(wanted) => by_name.then(source.cmp(&wanted)),
-            None => by_name,
+        let (version, source) = match rest.split_once(" (") {
+            Some((version, source)) => {
+                let source = source.strip_suffix(')').unwrap_or("");
+                (version, Some(without_revision(source)))
+            }
+            None => (rest, None),
+        };
+        Need {
+            name,
+            version: Some(version),
+            source,
+        }
+    }
+
+    // Returns the position of the package that is needed, or why there is not one.
+    fn find(&self, packages: &[Package<'_>]) -> Result<usize, Fault> {
+        let (version, source) = (self.version.unwrap_or(""), self.source.unwrap_or(""));
+        let least = (self.name, version, source, 0);
+        let at = packages.partition_point(|package| *package < least);
+        match (packages.get(at), packages.get(at.saturating_add(1))) {
+            (Some(found), _) if !self.is(found) => Err(Fault::Missing),
+            (None, _) => Err(Fault::Missing),
+            // A package in a folder has no source, so it cannot be named with one.
+            (Some(found), _) if self.version.is_some() && found.2.is_empty() => Ok(at),
+            (_, Some(next)) if self.is(next) => Err(Fault::Several),
+            _ => Ok(at),
         }
     }
 
     // Whether a package is as known.
     fn is(&self, package: &Package<'_>) -> bool {
-        matches!(self.order(package), Ordering::Equal)
+        let (name, version, source, _) = *package;
+        self.name == name
+            && self.version.unwrap_or(version) == version
+            && self.source.unwrap_or(source) == source
     }
 }

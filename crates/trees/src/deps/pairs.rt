@@ -3,17 +3,47 @@
 use crate::deps::Network;
 use crate::failure::Failure;
 use crate::source::Source;
-use ptree::graph::NodeIndex;
-use std::alloc::Global;
+use std::alloc::{AllocError, Global};
 
-/// Returns the dependencies of lines of two words. A word twice is a node alone, as `tsort` takes it.
+/// Adds the dependencies of lines of two words. A word twice is a node alone, as `tsort` takes it.
 ///
 /// # Errors
 ///
 /// `Input` with the line that has another number of words, and `Memory`.
-pub fn pairs(alloc: Global, source: &Source) -> Result<Network, Failure> {
-    let mut labels = Vec::new(alloc);
-    let mut lines = Vec::new(alloc);
+pub fn pairs(alloc: Global, source: &Source, network: &mut Network) -> Result<(), Failure> {
+    let words = words(alloc, source)?;
+    let mut names = words.clone()?;
+    names.sort_unstable();
+    names.dedup();
+    push_pairs(alloc, &words, &names, network)?;
+    Ok(())
+}
+
+// Adds the nodes with these names, which ascend, and the needs of pairs of words.
+fn push_pairs(
+    alloc: Global,
+    words: &[&str],
+    names: &[&str],
+    network: &mut Network,
+) -> Result<(), AllocError> {
+    for name in names {
+        network.labels.push(String::from_str(alloc, name)?)?;
+    }
+    for pair in words.chunks(2) {
+        let [first, second] = pair else {
+            continue;
+        };
+        match (names.binary_search(first), names.binary_search(second)) {
+            (Ok(node), Ok(need)) if node != need => network.add_need(node, need)?,
+            _ => {}
+        }
+    }
+    Ok(())
+}
+
+// Returns the words of lines of two words.
+fn words<'a>(alloc: Global, source: &'a Source) -> Result<Vec<&'a str>, Failure> {
+    let mut words = Vec::new(alloc);
     for (i, line) in source.text.as_str().lines().enumerate() {
         let line = line.trim();
         if line.is_empty() {
@@ -26,30 +56,8 @@ pub fn pairs(alloc: Global, source: &Source) -> Result<Network, Failure> {
         if second.contains(char::is_whitespace) {
             return Err(source.wrong_at(alloc, i.saturating_add(1), "more than two words")?);
         }
-        labels.push(String::from_str(alloc, first)?)?;
-        labels.push(String::from_str(alloc, second)?)?;
-        lines.push((first, second))?;
+        words.push(first)?;
+        words.push(second)?;
     }
-    labels.sort_unstable();
-    labels.dedup();
-    let mut edges = Vec::new(alloc);
-    for (first, second) in &lines {
-        if first == second {
-            continue;
-        }
-        if let (Some(from), Some(to)) = (position(&labels, first), position(&labels, second)) {
-            edges.push((from, to))?;
-        }
-    }
-    Ok(Network {
-        labels,
-        paths: Vec::new(alloc),
-        edges,
-    })
-}
-
-// Returns the position of a label.
-fn position(labels: &[String], label: &str) -> Option<NodeIndex> {
-    let found = labels.binary_search_by(|l| l.as_str().cmp(label));
-    Some(NodeIndex(found.ok()?))
+    Ok(words)
 }

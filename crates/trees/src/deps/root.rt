@@ -4,7 +4,7 @@ use crate::deps::{Network, wrong};
 use crate::failure::Failure;
 use crate::source::Source;
 use crate::suggest::Nearest;
-use ptree::graph::{Graph, NodeIndex};
+use ptree::graph::NodeIndex;
 use std::alloc::{AllocError, Global};
 
 /// Returns the node with this name: its label, its path, or its label up to the version. The version
@@ -25,7 +25,7 @@ pub fn named(
     }
     match found.as_slice() {
         [only] => Ok(*only),
-        [] => Err(unknown(alloc, source, network, name)?),
+        [] => Err(unknown(alloc, source, network, name)),
         several => Err(ambiguous(alloc, source, network, name, several)?),
     }
 }
@@ -39,7 +39,10 @@ fn nodes(
 ) -> Result<Vec<NodeIndex>, AllocError> {
     let mut found = Vec::new(alloc);
     for (i, label) in network.labels.iter().enumerate() {
-        let path = network.paths.get(i).map_or("", |path| path.as_str());
+        let path = match network.paths.get(i) {
+            Some(path) => path.as_str(),
+            None => "",
+        };
         let is_meant = if is_whole {
             label.as_str() == name || path == name
         } else {
@@ -93,23 +96,19 @@ fn parts(text: &str) -> (&str, &str) {
 }
 
 // Says that no node has a name, and which name may be meant.
-fn unknown(
-    alloc: Global,
-    source: &Source,
-    network: &Network,
-    name: &str,
-) -> Result<Failure, AllocError> {
+fn unknown(alloc: Global, source: &Source, network: &Network, name: &str) -> Failure {
     let mut nearest = Nearest::to(name);
     for label in &network.labels {
         nearest.try_word(parts(label.as_str()).0);
         nearest.try_word(label.as_str());
     }
-    let hint = match nearest.word {
-        Some(word) => format!(in alloc; "; did you mean {word}?")?,
-        None => String::new(alloc),
-    };
-    let words = format!(in alloc; "nothing is named {name}{hint}")?;
-    wrong(alloc, source, words.as_str())
+    match nearest.word {
+        Some(near) => {
+            let parts = ["nothing is named ", name, "; did you mean ", near, "?"];
+            wrong(alloc, source, &parts)
+        }
+        None => wrong(alloc, source, &["nothing is named ", name]),
+    }
 }
 
 // Says which nodes have a name, with their paths if they have some.
@@ -123,16 +122,24 @@ fn ambiguous(
     let mut words = format!(in alloc; "several are named {name}")?;
     let mut between = ": ";
     for node in found {
-        let (Some(label), path) = (network.labels.get(node.0), network.paths.get(node.0)) else {
-            continue;
-        };
-        write!(words, "{between}{label}")?;
-        if let Some(path) = path {
-            write!(words, " in {path}")?;
-        }
+        push_node(&mut words, network, node.0, between)?;
         between = ", ";
     }
-    wrong(alloc, source, words.as_str())
+    Ok(wrong(alloc, source, &[words.as_str()]))
+}
+
+// Adds a node, with its path if it has one.
+fn push_node(
+    words: &mut String,
+    network: &Network,
+    node: usize,
+    between: &str,
+) -> Result<(), AllocError> {
+    match (network.labels.get(node), network.paths.get(node)) {
+        (Some(label), Some(path)) => write!(words, "{between}{label} in {path}"),
+        (Some(label), None) => write!(words, "{between}{label}"),
+        (None, _) => Ok(()),
+    }
 }
 
 /// Returns what nothing needs, and of each cycle that nothing else needs the first node. All other
@@ -141,79 +148,65 @@ fn ambiguous(
 /// # Errors
 ///
 /// Memory ran out.
-pub fn tops(
-    alloc: Global,
-    graph: &Graph<String>,
-    edges: &[(NodeIndex, NodeIndex)],
-    count: usize,
-) -> Result<Vec<NodeIndex>, AllocError> {
-    let mut needed = vec![in alloc; false; count]?;
-    for (_, to) in edges {
+pub fn tops(alloc: Global, network: &Network) -> Result<Vec<usize>, AllocError> {
+    let mut needed = vec![in alloc; false; network.labels.len()]?;
+    for (_, to) in &network.sorted {
         mark(&mut needed, *to);
     }
-    let mut reached = vec![in alloc; false; count]?;
-    let mut tops = Vec::new(alloc);
-    for (i, is_needed) in needed.iter().enumerate() {
-        if !is_needed && reach(alloc, graph, NodeIndex(i), &mut reached)? {
-            tops.push(NodeIndex(i))?;
+    let mut nodes = Vec::new(alloc);
+    for is_needed in [false, true] {
+        for (i, marked) in needed.iter().enumerate() {
+            if *marked == is_needed {
+                nodes.push(i)?;
+            }
         }
     }
-    tops.append(&mut cycles(alloc, graph, reached)?)?;
+    // None of the first ones reaches a later one, and those that a later one reaches are no tops.
+    let mut firsts = firsts(alloc, network, &nodes)?;
+    firsts.reverse();
+    let mut tops = self::firsts(alloc, network, &firsts)?;
+    tops.reverse();
     Ok(tops)
 }
 
-// Returns of each cycle that nothing else needs the first node, of those that are not reached yet.
-fn cycles(
-    alloc: Global,
-    graph: &Graph<String>,
-    mut reached: Vec<bool>,
-) -> Result<Vec<NodeIndex>, AllocError> {
-    let mut reached_again = reached.clone()?;
+// Returns those of these nodes that none before them reaches.
+fn firsts(alloc: Global, network: &Network, nodes: &[usize]) -> Result<Vec<usize>, AllocError> {
+    let mut reached = vec![in alloc; false; network.labels.len()]?;
     let mut firsts = Vec::new(alloc);
-    for i in 0..reached.len() {
-        if reach(alloc, graph, NodeIndex(i), &mut reached)? {
-            firsts.push(NodeIndex(i))?;
+    for node in nodes {
+        if mark(&mut reached, *node) {
+            firsts.push(*node)?;
+            reach(alloc, network, *node, &mut reached)?;
         }
     }
-    // None of these reaches a later one, and those that a later one reaches are no firsts of cycles.
-    let mut cycles = Vec::new(alloc);
-    for first in firsts.iter().rev() {
-        if reach(alloc, graph, *first, &mut reached_again)? {
-            cycles.push(*first)?;
-        }
-    }
-    cycles.reverse();
-    Ok(cycles)
+    Ok(firsts)
 }
 
-// Marks a node and all that it needs. Returns whether it was not marked before.
+// Marks all that a node needs, and what that needs.
 fn reach(
     alloc: Global,
-    graph: &Graph<String>,
-    from: NodeIndex,
+    network: &Network,
+    from: usize,
     reached: &mut [bool],
-) -> Result<bool, AllocError> {
-    if !mark(reached, from) {
-        return Ok(false);
-    }
+) -> Result<(), AllocError> {
     let mut left = vec![in alloc; from]?;
     // Each node is marked once, and so is left once.
     for _ in 0..reached.len() {
         let Some(node) = left.pop() else {
             break;
         };
-        for to in &graph.neighbors(node)? {
+        for (_, to) in network.sorted.range((node, 0)..=(node, usize::MAX)) {
             if mark(reached, *to) {
                 left.push(*to)?;
             }
         }
     }
-    Ok(true)
+    Ok(())
 }
 
 // Marks a node. Returns whether it was not marked before.
-fn mark(marks: &mut [bool], node: NodeIndex) -> bool {
-    match marks.get_mut(node.0) {
+fn mark(marks: &mut [bool], node: usize) -> bool {
+    match marks.get_mut(node) {
         Some(mark) if !*mark => {
             *mark = true;
             true
