@@ -111,11 +111,23 @@ fn tree_of<V: Value>(
 ) -> Result<StringItem, Failure> {
     let part = part_at(alloc, source, value, document.at)?;
     if document.is_strict {
-        if let Some(path) = part.refused_path(alloc)? {
-            return Err(refused(alloc, source, V::REFUSED, document.at, &path)?);
-        }
+        refuse(alloc, source, part, document.at)?;
     }
-    Ok(part.tree(alloc, root_label(source, document))?)
+    part.tree(alloc, root_label(source, document))
+        .map_err(Failure::from)
+}
+
+// Refuses what a strict call refuses below the keys `at`.
+fn refuse<V: Value>(
+    alloc: Global,
+    source: &Source,
+    part: &V,
+    at: Option<&str>,
+) -> Result<(), Failure> {
+    match part.refused_path(alloc)? {
+        Some(path) => Err(refused(alloc, source, V::REFUSED, at, &path)?),
+        None => Ok(()),
+    }
 }
 
 // Returns the part of a value at the keys `at`.
@@ -212,15 +224,22 @@ fn refused(
     at: Option<&str>,
     path: &[Step],
 ) -> Result<Failure, AllocError> {
-    let mut wrong = format!(in alloc; "{what} is at {}", at.unwrap_or(""))?;
-    let mut between = if at.is_some() { "." } else { "" };
+    let keys = keys(alloc, at.is_none(), path)?;
+    let at = at.unwrap_or("");
+    let wrong = format!(in alloc; "{what} is at {at}{keys}")?;
+    source.wrong(alloc, wrong.as_str())
+}
+
+// Returns the keys of a path behind others, or from the top.
+fn keys(alloc: Global, is_top: bool, path: &[Step]) -> Result<String, AllocError> {
+    let mut keys = String::new(alloc);
+    let mut between = if is_top { "" } else { "." };
     for step in path {
-        let part = format!(in alloc; "{between}{step}")?;
-        wrong.push_str(escaped(alloc, part.as_str())?.as_str())?;
+        write!(keys, "{between}{step}")?;
         between = ".";
     }
     if between.is_empty() {
-        wrong.push_str("the top")?;
+        keys.push_str("the top")?;
     }
-    source.wrong(alloc, wrong.as_str())
+    escaped(alloc, keys.as_str())
 }

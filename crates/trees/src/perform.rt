@@ -4,7 +4,7 @@ use crate::command::{Command, Convert, Deps, Diff, Drawing, Indented, Tree};
 use crate::compare::{self, Look};
 use crate::deps::{Dependencies, read_dependencies};
 use crate::failure::Failure;
-use crate::levels::{LEVELS, TOO_DEEP, has_more_below};
+use crate::levels::{LEVELS, TOO_DEEP_GRAPH, has_more_below};
 use crate::pieces::Pieces;
 use crate::screen::{Screen, shown};
 use crate::source::Source;
@@ -77,7 +77,9 @@ fn draw_source<W: Sink>(
     found: &Surroundings,
 ) -> Result<(), Failure> {
     let tree = tree_of(alloc, source, tree)?;
-    draw(alloc, Drawn::Tree(&tree), drawing, out, found)
+    let drawn = draw(alloc, Drawn::Tree(&tree), drawing, out, found);
+    drop(tree);
+    drawn
 }
 
 // Returns the tree of an input.
@@ -135,7 +137,9 @@ fn draw<W: Sink>(
     found: &Surroundings,
 ) -> Result<(), Failure> {
     let config = config(alloc, drawing, found)?;
-    write_drawing(alloc, drawn, drawing.screen.is_terminal, out, &config)
+    let written = write_drawing(alloc, drawn, drawing.screen.is_terminal, out, &config);
+    drop(config);
+    written
 }
 
 // Writes a drawing.
@@ -165,9 +169,9 @@ fn write_tree<W: Sink>(
 ) -> Result<(), Failure> {
     if is_terminal {
         let tree = escaped_item(alloc, tree)?;
-        return Ok(write_tree_with(alloc, &tree, out, config)?);
+        return write_tree_with(alloc, &tree, out, config).map_err(Failure::from);
     }
-    Ok(write_tree_with(alloc, tree, out, config)?)
+    write_tree_with(alloc, tree, out, config).map_err(Failure::from)
 }
 
 // Returns the configuration of the settings, with what is said of a drawing.
@@ -207,13 +211,10 @@ fn draw_deps<W: Sink>(
     found: &Surroundings,
 ) -> Result<(), Failure> {
     let dependencies = read_dependencies(alloc, source, deps, drawing.screen.is_terminal)?;
-    draw(
-        alloc,
-        Drawn::Graph(source, &dependencies, deps.walks),
-        drawing,
-        out,
-        found,
-    )
+    let graph = Drawn::Graph(source, &dependencies, deps.walks);
+    let drawn = draw(alloc, graph, drawing, out, found);
+    drop(dependencies);
+    drawn
 }
 
 // Writes the drawing of a graph: what is below a node once, or wherever the node stands.
@@ -227,13 +228,14 @@ fn write_graph<W: Sink>(
 ) -> Result<(), Failure> {
     let Dependencies { graph, root } = dependencies;
     if config.depth > LEVELS && has_more_below(alloc, graph, *root, walks)? {
-        let wrong = format!(in alloc; "{TOO_DEEP}; give --depth 5000, or less")?;
-        return Err(source.wrong(alloc, wrong.as_str())?);
+        return Err(source.wrong(alloc, TOO_DEEP_GRAPH)?);
     }
-    if walks {
-        return Ok(write_graph_with(alloc, graph, *root, out, config)?);
-    }
-    Ok(write_graph_once_with(alloc, graph, *root, REPEATED_MARK, out, config)?)
+    let written = if walks {
+        write_graph_with(alloc, graph, *root, out, config)
+    } else {
+        write_graph_once_with(alloc, graph, *root, REPEATED_MARK, out, config)
+    };
+    written.map_err(Failure::from)
 }
 
 // Returns the tree of a drawing, made with the pieces that are named, or with those of the settings.
@@ -244,7 +246,9 @@ fn read_drawing(
     found: &Surroundings,
 ) -> Result<StringItem, Failure> {
     let config = config(alloc, Drawing::read_with(pieces), found)?;
-    drawings::read(alloc, source, &config)
+    let tree = drawings::read(alloc, source, &config);
+    drop(config);
+    tree
 }
 
 // Writes a drawing as indented text.
@@ -287,7 +291,7 @@ fn check<W: Sink>(
         }
     }
     if screen.is_terminal {
-        return say(out, shown(alloc, said.as_str())?.as_str(), is_refusal);
+        said = shown(alloc, said.as_str())?;
     }
     say(out, said.as_str(), is_refusal)
 }
@@ -302,9 +306,7 @@ fn push_check(
 ) -> Result<bool, Failure> {
     match read_drawing(alloc, source, pieces, found) {
         Ok(tree) => {
-            let n = drawings::count(alloc, &tree)?;
-            let items = if n == 1 { "item" } else { "items" };
-            writeln!(said, "{}: a drawing of {n} {items}", source.name)?;
+            push_count(alloc, said, source, &tree)?;
             Ok(true)
         }
         Err(Failure::Input(wrong)) => {
@@ -313,6 +315,18 @@ fn push_check(
         }
         Err(other) => Err(other),
     }
+}
+
+// Adds that an input is the drawing of a tree.
+fn push_count(
+    alloc: Global,
+    said: &mut String,
+    source: &Source,
+    tree: &StringItem,
+) -> Result<(), AllocError> {
+    let n = drawings::count(alloc, tree)?;
+    let items = if n == 1 { "item" } else { "items" };
+    writeln!(said, "{}: a drawing of {n} {items}", source.name)
 }
 
 // Draws a drawing with other pieces.
@@ -398,7 +412,9 @@ fn write_both<W: Sink>(
         is_escaped: is_terminal,
     };
     let both = compare::both(alloc, left, right, look)?;
-    write_tree_with(alloc, &both, out, config)?;
+    let written = write_tree_with(alloc, &both, out, config);
+    drop(both);
+    written?;
     Err(Failure::Said)
 }
 
