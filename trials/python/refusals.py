@@ -118,8 +118,8 @@ CALLS = [
     ("draw_document_with", (*text(TOML), *text("t"), c.TOML, *PLAIN), [Room], 42),
     ("draw_document_with", (*text(JSON), *text("j"), c.JSON, *COLORED), [Room], 50),
     ("draw_walks", (*GRAPH, *PLAIN), [Room], 87),
-    ("draw_once", (*GRAPH, *text(" (*)"), *PLAIN), [Room], 40),
-    ("draw_once", (*GRAPH, *text(" again"), *COLORED), [Room], 51),
+    ("draw_once", (*GRAPH, *text(" (*)"), *PLAIN), [Room], 34),
+    ("draw_once", (*GRAPH, *text(" again"), *COLORED), [Room], 45),
     ("paint", (*text("a\nb"), ctypes.pointer(STYLE), *text(NAMES)), [Room], 2),
     ("paint", (*text("a\nb"), ctypes.pointer(NAMED), *text(NAMES)), [Room], 4),
 ]
