@@ -7,6 +7,9 @@ cd "$top" || exit 1
 scratch=$(mktemp -d "${TMPDIR:-/tmp}/ptree.XXXXXXXXXX")
 trap 'rm -rf "$scratch"' EXIT
 trap 'exit 130' INT TERM HUP
+# The folder of what stands in for a program or a library. No check writes there.
+stubs=$scratch/stubs
+mkdir "$stubs"
 passed=0
 failed=0
 
@@ -193,11 +196,11 @@ expect_each() {
 # its input, and one that prints one drawing. Argument: what the program says if memory runs out.
 make_stubs() {
     chmod a+rx "$scratch"
-    printf '#!/bin/sh\n' >"$scratch/nothing"
-    printf '#!/bin/sh\necho "%s" >&2\nexit 1\n' "$1" >"$scratch/no_memory"
-    printf '#!/bin/sh\necho "$@"\n[ ! -f /dev/stdin ] || [ -n "${FAULT-}" ] || cat\n' >"$scratch/echo"
-    printf '#!/bin/sh\nprintf "always\\n└─ this\\n"\n' >"$scratch/drawing"
-    chmod +x "$scratch/nothing" "$scratch/no_memory" "$scratch/echo" "$scratch/drawing"
+    printf '#!/bin/sh\n' >"$stubs/nothing"
+    printf '#!/bin/sh\necho "%s" >&2\nexit 1\n' "$1" >"$stubs/no_memory"
+    printf '#!/bin/sh\necho "$@"\n[ ! -f /dev/stdin ] || [ -n "${FAULT-}" ] || cat\n' >"$stubs/echo"
+    printf '#!/bin/sh\nprintf "always\\n└─ this\\n"\n' >"$stubs/drawing"
+    chmod +x "$stubs/nothing" "$stubs/no_memory" "$stubs/echo" "$stubs/drawing"
 }
 
 # Runs a group of checks, and again with each of these stubs in the program's place, which must fail each check. Arguments: the group, the
@@ -208,7 +211,7 @@ check_with_stubs() {
     $group
     count=$((passed + failed - count))
     for stub; do
-        STUB=$scratch/$stub CHECKS=$group "$top/bin/parts/${0##*/}" >"$scratch/said" 2>&1
+        STUB=$stubs/$stub CHECKS=$group "$top/bin/parts/${0##*/}" >"$scratch/said" 2>&1
         if [ "$(tail -n 1 "$scratch/said")" = "0 passed, $count failed" ]; then
             report ok "the stub of ${stub//_/ } fails each of these $count checks"
         else

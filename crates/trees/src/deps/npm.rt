@@ -7,7 +7,6 @@ use crate::source::Source;
 use serde_json::{Map, Value};
 use std::alloc::{AllocError, Global};
 use std::collections::BTreeMap;
-use std::iter;
 
 // The packages by their paths.
 type Packages = Map<String, Value>;
@@ -168,13 +167,16 @@ fn target<'a>(path: &'a str, package: &'a Value) -> &'a str {
 
 // Returns the folders of a path. Those of the project are below one more.
 fn folders<'a>(alloc: Global, path: &'a str) -> Result<Vec<&'a str>, AllocError> {
-    let top = if path == ".." || path.starts_with("../") {
-        ""
-    } else {
-        "."
-    };
-    let parts = iter::once(top).chain(path.split('/'));
-    parts.filter(|part| !part.is_empty()).collect(alloc)
+    let mut folders = Vec::new(alloc);
+    if path != ".." && !path.starts_with("../") {
+        folders.push(".")?;
+    }
+    for folder in path.split('/') {
+        if !folder.is_empty() {
+            folders.push(folder)?;
+        }
+    }
+    Ok(folders)
 }
 
 // Adds what packages need, in the order of the names: the one in the nearest `node_modules` of the
