@@ -55,7 +55,7 @@ no_more a b (x ∷ c) (inr (g, is)) e h =
 -- ## Items
 
 -- passing pieces hold no line feed, if the pieces are readable
-no_feed_passing : (p : Pieces) → IsReadable p → (flags : List Bool) → HasNoLineFeed (passing_all p flags)
+pub no_feed_passing : (p : Pieces) → IsReadable p → (flags : List Bool) → HasNoLineFeed (passing_all p flags)
 no_feed_passing p h [] = All-nil (λ c. c ≢ 10)
 no_feed_passing p h (b ∷ flags) = All-append (λ c. c ≢ 10) (passing_piece p b) (passing_all p flags) (h.no_line_feed b).1 (no_feed_passing p h flags)
 

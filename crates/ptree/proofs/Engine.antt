@@ -1,10 +1,8 @@
 -- The steps of the engine, over plain variables.
-use Rattle.std.proofs.Common.{◌<◌, ◌≡◌, ℕ, zero, suc, ◌-◌, ◌≤◌, min, Bool, true, false, eqb, List, [], ◌∷◌, ◌++◌, Option, None, Result, Ok, Err, ◌+◌, length, sym, ◌∙◌, ap, subst, refl, append_assoc, map, take, drop, arith}
+use Rattle.std.proofs.Common.{◌<◌, ◌≡◌, ℕ, zero, suc, ◌-◌, ◌≤◌, min, Bool, true, false, eqb, List, [], ◌∷◌, ◌++◌, Option, None, Result, Err, ◌+◌, length, sym, ◌∙◌, ap, subst, refl, append_assoc, map, take, drop, arith}
 use Rattle.std.proofs.Math.Seq.{take-append_seam, drop-append_seam}
 use Rattle.std.proofs.lemmas.Bool.Decides.{nat_tests}
 use Rattle.std.proofs.lemmas.List.{length-take, take-append-le, take_all}
-use Rattle.std.specs.Prelude.{Some, is_err}
-use Rattle.std.proofs.lemmas.Bool.{false≢true}
 use Rattle.std.specs.Io.KnownBytes.{Appends}
 use Rattle.std.specs.List.{concat}
 use Rattle.ptree.specs.declared.style.DrawError.{DrawError}
@@ -16,7 +14,7 @@ use Rattle.ptree.specs.Outline.{line}
 use Rattle.ptree.specs.Pieces.{turning_piece, passing_piece}
 use Rattle.ptree.specs.Shape.{Shape, kids}
 use Rattle.ptree.specs.Style.{start_codes, end_codes, painted_text}
-use Rattle.ptree.specs.Writing.{AppendsPart, AppendsEntries, IsWritten, AreWritten, result_faults, HasErrorCause}
+use Rattle.ptree.specs.Writing.{AppendsPart, AppendsEntries, AreWritten, result_faults, HasErrorCause}
 use Rattle.ptree.proofs.Written.{appends_nothing, appends_entries, entries_then, entries_done, entries_more, entry_then}
 
 -- nothing appended is a prefix
@@ -157,11 +155,6 @@ spread_is n width old own held after further e len low is =
     let part : take width held ≡ take width old = ap (take width) e ∙ take-append-le width old own low in
     is ∙ (ap (λ z. z ++ with_inserted (take width held ++ further) (drop n held)) outer
     ∙ (ap (λ z. old ++ with_inserted (z ++ further) (drop n held)) part ∙ ap (λ z. old ++ with_inserted (take width old ++ further) z) end))
-
--- the bytes that a successful call put into the buffer
-pub gathered : {A E : Type 0} (xs ys own : List ℕ) (r : Result A E) (b : Bool) → b ≡ is_err r → b ≡ false → IsWritten (Some xs) (Some ys) r own → ys ≡ xs ++ own
-gathered xs ys own (Ok v) b e f w = w
-gathered xs ys own (Err x) b e f w = absurd (false≢true (sym f ∙ e))
 
 -- the gathered bytes are an entry: own bytes after what the buffer held, continued, and a line feed
 pub entry_gathered : (look : Look) (width start : ℕ) (old held spread line outer : List ℕ) (last : Option Bool) (x : Shape)

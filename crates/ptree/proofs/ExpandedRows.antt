@@ -2,7 +2,7 @@
 -- root is.
 use Rattle.std.specs.Prelude.{slice_get, option_and_then, ◌↔◌, ◌≢◌, IsTrue, if◌then◌else◌, nat_lt}
 use Rattle.std.proofs.Common.{◌≡◌, ℕ, zero, suc, ◌<◌, ◌⊎◌, inl, inr, Bool, List, [], ◌∷◌, map, Option, Some, None, length, refl, sym, ap, subst, ◌∙◌, arith}
-use Rattle.std.proofs.lemmas.Bool.{lt-ltb, le-ltb, cases_lt}
+use Rattle.std.proofs.lemmas.Bool.Decides.{nat_tests}
 use Rattle.ptree.specs.Address.{Address, at}
 use Rattle.ptree.proofs.Occurrences.{row_of_occurrences}
 use Rattle.ptree.specs.Occurrence.{OccurrenceTree, occurrence, row, occurrence_kids, StandsAt, IsExpandedBefore, IsExpanded}
@@ -72,12 +72,21 @@ pub shown_from : (t : OccurrenceTree) (w : ℕ) → ((t.node ≡ w) × (occurren
 shown_from t w (inl (n, k)) = ([], t, refl, n, k)
 shown_from t w (inr (j, c, e, (b, q, r, n, k))) = (j ∷ b, q, stands_cons t c q j b e r, n, k)
 
+-- a node that the first occurrence expands, or one of the i after it, is among the first of all
+later_to : (P : ℕ → Type 0) (c : OccurrenceTree) (cs : List OccurrenceTree) (i w : ℕ) → (P w ⊎ IsExpanded c w) ⊎ IsExpandedIn cs i w → P w ⊎ IsExpandedIn (c ∷ cs) (suc i) w
+later_to P c cs i w (inl (inl y)) = inl y
+later_to P c cs i w (inl (inr y)) = inr (0, c, omega arith, refl, y)
+later_to P c cs i w (inr (j, z, l, f, y)) = inr (suc j, z, omega (arith, l), f, y)
+
+-- and the other way round
+later_from : (P : ℕ → Type 0) (c : OccurrenceTree) (cs : List OccurrenceTree) (i w : ℕ) → P w ⊎ IsExpandedIn (c ∷ cs) (suc i) w → (P w ⊎ IsExpanded c w) ⊎ IsExpandedIn cs i w
+later_from P c cs i w (inl y) = inl (inl y)
+later_from P c cs i w (inr (zero, z, l, f, y)) = let same : c ≡ z = cc in inl (inr (subst (λ (q : OccurrenceTree). IsExpanded q w) (sym same) y))
+later_from P c cs i w (inr (suc j, z, l, f, y)) = inr (j, z, omega (arith, l), f, y)
+
 -- both sides one level deeper
 pub deeper : (n d : ℕ) → nat_lt (suc n) (suc d) ≡ nat_lt n d
-deeper n d = elim (cases_lt n d) [
-  | inl h ↦ lt-ltb (suc n) (suc d) (omega arith) ∙ sym (lt-ltb n d h)
-  | inr h ↦ le-ltb (suc n) (suc d) (omega arith) ∙ sym (le-ltb n d h)
-]
+deeper n d = grind (arith, nat_tests)
 
 module _ (below : ℕ → List ℕ) where
   -- the nodes that may be below an occurrence at a level
@@ -177,16 +186,7 @@ module _ (below : ℕ → List ℕ) where
       (λ w. (λ y. inl y, λ y. elim y as (λ _. P w) [ inl z ↦ z | inr z ↦ absurd (omega (arith, z.2)) ])) o)
   row_cons P d c cs o r (suc i) x e =
       transfer (λ w. (P w ⊎ IsExpanded c w) ⊎ IsExpandedIn cs i w) (λ w. P w ⊎ IsExpandedIn (c ∷ cs) (suc i) w) d x
-      (λ w. (later_to w, later_from w)) (r i x e) where
-        later_to : (w : ℕ) → (P w ⊎ IsExpanded c w) ⊎ IsExpandedIn cs i w → P w ⊎ IsExpandedIn (c ∷ cs) (suc i) w
-        later_to w (inl (inl y)) = inl y
-        later_to w (inl (inr y)) = inr (0, c, omega arith, refl, y)
-        later_to w (inr (j, z, l, f, y)) = inr (suc j, z, omega (arith, l), f, y)
-
-        later_from : (w : ℕ) → P w ⊎ IsExpandedIn (c ∷ cs) (suc i) w → (P w ⊎ IsExpanded c w) ⊎ IsExpandedIn cs i w
-        later_from w (inl y) = inl (inl y)
-        later_from w (inr (zero, z, l, f, y)) = let same : c ≡ z = cc in inl (inr (subst (λ (q : OccurrenceTree). IsExpanded q w) (sym same) y))
-        later_from w (inr (suc j, z, l, f, y)) = inr (j, z, omega (arith, l), f, y)
+      (λ w. (later_to P c cs i w, later_from P c cs i w)) (r i x e)
 
   -- the first of a row
   pub row_head : (P : ℕ → Type 0) (d : ℕ) (c : OccurrenceTree) (cs : List OccurrenceTree) → RowFrom P d (c ∷ cs) → OnceFrom P d c
@@ -198,13 +198,4 @@ module _ (below : ℕ → List ℕ) where
   pub row_tail : (P : ℕ → Type 0) (d : ℕ) (c : OccurrenceTree) (cs : List OccurrenceTree) → RowFrom P d (c ∷ cs) → RowFrom (λ w. P w ⊎ IsExpanded c w) d cs
   row_tail P d c cs r i x e =
       transfer (λ w. P w ⊎ IsExpandedIn (c ∷ cs) (suc i) w) (λ w. (P w ⊎ IsExpanded c w) ⊎ IsExpandedIn cs i w) d x
-      (λ w. (later_from w, later_to w)) (r (suc i) x e) where
-        later_to : (w : ℕ) → (P w ⊎ IsExpanded c w) ⊎ IsExpandedIn cs i w → P w ⊎ IsExpandedIn (c ∷ cs) (suc i) w
-        later_to w (inl (inl y)) = inl y
-        later_to w (inl (inr y)) = inr (0, c, omega arith, refl, y)
-        later_to w (inr (j, z, l, f, y)) = inr (suc j, z, omega (arith, l), f, y)
-
-        later_from : (w : ℕ) → P w ⊎ IsExpandedIn (c ∷ cs) (suc i) w → (P w ⊎ IsExpanded c w) ⊎ IsExpandedIn cs i w
-        later_from w (inl y) = inl (inl y)
-        later_from w (inr (zero, z, l, f, y)) = let same : c ≡ z = cc in inl (inr (subst (λ (q : OccurrenceTree). IsExpanded q w) (sym same) y))
-        later_from w (inr (suc j, z, l, f, y)) = inr (j, z, omega (arith, l), f, y)
+      (λ w. (later_from P c cs i w, later_to P c cs i w)) (r (suc i) x e)

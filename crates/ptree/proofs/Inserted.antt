@@ -1,5 +1,5 @@
 -- Texts inserted after line feeds.
-use Rattle.std.proofs.Common.{◌≡◌, ◌≢◌, ℕ, ◌<◌, ◌≤◌, ◌+◌, length, length-drop, drop, arith, get_or, ◌⊎◌, inl, inr, Bool, true, false, cond, eqb, List, [], ◌∷◌, ◌++◌, refl, sym, ap, ◌∙◌}
+use Rattle.std.proofs.Common.{◌≡◌, ◌≢◌, ℕ, ◌<◌, ◌≤◌, ◌+◌, length, length-append, length-drop, drop, arith, get_or, ◌⊎◌, inl, inr, Bool, true, false, cond, eqb, List, [], ◌∷◌, ◌++◌, refl, sym, ap, ◌∙◌}
 use Rattle.std.proofs.lemmas.Bool.{eq-eqb, ne_eqb, eqb-true, eqb-false, false≢true}
 use Rattle.std.proofs.lemmas.Grind.{flat_map-append}
 use Rattle.std.proofs.lemmas.List.{get_or_default, get_or-drop}
@@ -39,21 +39,17 @@ inserted_none inserted (b ∷ text) h =
 pub entry_of_one_line : (look : Look) (prefix passing own : List ℕ) → HasNoLineFeed own → entry_from look prefix passing own ≡ painted_text look.branch prefix ++ own ++ 10 ∷ []
 entry_of_one_line look prefix passing own h = ap (λ z. painted_text look.branch prefix ++ z ++ 10 ∷ []) (inserted_none _ own h)
 
--- a text that begins with a line feed holds one
-feed_head : (b : ℕ) (bs : List ℕ) → b ≡ 10 → has_line_feed (b ∷ bs) ≡ true
-feed_head b bs e = ap (λ c. cond c true (has_line_feed bs)) (eq-eqb b 10 e)
+-- a line feed at the start counts
+pub feed_here : (b : ℕ) (bs : List ℕ) → b ≡ 10 → has_line_feed (b ∷ bs) ≡ true
+feed_here b bs e = ap (λ c. cond c true (has_line_feed bs)) (eq-eqb b 10 e)
 
 -- a byte other than a line feed does not count
 pub feed_tail : (b : ℕ) (bs : List ℕ) → b ≢ 10 → has_line_feed (b ∷ bs) ≡ has_line_feed bs
 feed_tail b bs n = ap (λ c. cond c true (has_line_feed bs)) (ne_eqb b 10 n)
 
--- a line feed at the start counts
-pub feed_here : (b : ℕ) (bs : List ℕ) → b ≡ 10 → has_line_feed (b ∷ bs) ≡ true
-feed_here b bs e = feed_head b bs e
-
 -- a line feed further on counts
 pub feed_behind : (b : ℕ) (bs : List ℕ) → has_line_feed bs ≡ true → has_line_feed (b ∷ bs) ≡ true
-feed_behind b bs h = elim (is_feed b) [ inl e ↦ feed_head b bs e | inr n ↦ feed_tail b bs n ∙ h ]
+feed_behind b bs h = elim (is_feed b) [ inl e ↦ feed_here b bs e | inr n ↦ feed_tail b bs n ∙ h ]
 
 -- a text without a line feed fails the test
 pub no_feed : (bs : List ℕ) → HasNoLineFeed bs → has_line_feed bs ≡ false
@@ -64,7 +60,7 @@ no_feed (b ∷ bs) h = feed_tail b bs (All-head (λ c. c ≢ 10) b bs h) ∙ no_
 pub no_feed_when : (bs : List ℕ) → has_line_feed bs ≡ false → HasNoLineFeed bs
 no_feed_when [] h = All-nil (λ b. b ≢ 10)
 no_feed_when (b ∷ bs) h = elim (is_feed b) [
-  | inl e ↦ absurd (false≢true (sym h ∙ feed_head b bs e))
+  | inl e ↦ absurd (false≢true (sym h ∙ feed_here b bs e))
   | inr n ↦ All-cons (λ c. c ≢ 10) b bs n (no_feed_when bs (sym (feed_tail b bs n) ∙ h))
 ]
 
@@ -91,3 +87,7 @@ no_line_feed_from_reads xs h k d l e = h k l (sym (get_or_default xs k d 0 l) �
 pub no_line_feed_behind : (xs : List ℕ) (start : ℕ) → ((k : ℕ) → start ≤ k → k < length xs → get_or xs k 0 ≢ 10) → HasNoLineFeed (drop start xs)
 no_line_feed_behind xs start h = no_line_feed_from_reads (drop start xs) (λ k low e.
     h (start + k) (omega arith) (omega (arith, length-drop start xs)) (sym (get_or-drop start xs k 0) ∙ e))
+
+-- a text that holds a line feed is not empty
+pub no_text : (a b : List ℕ) → [] ≡ a ++ 10 ∷ b → ⊥
+no_text a b e = let long = ap length e in omega (arith, simp length-append at long)

@@ -1,5 +1,5 @@
 -- The pieces of items, by the lines that may come after them.
-use Rattle.std.proofs.Common.{◌≡◌, ℕ, zero, suc, ◌<◌, ◌≤◌, inl, inr, Bool, true, false, not, cond, List, [], ◌∷◌, ◌++◌, refl, sym, ap, ◌∙◌, arith}
+use Rattle.std.proofs.Common.{◌≡◌, ℕ, zero, suc, ◌<◌, ◌≤◌, inl, inr, Bool, true, false, cond, List, [], ◌∷◌, ◌++◌, refl, sym, ap, ◌∙◌, arith}
 use Rattle.std.proofs.lemmas.Bool.{cases_lt, eq-eqb, ne_eqb}
 use Rattle.ptree.specs.Flags.{has_later, pieces_by, shown_by, spelled_by, HaveLastFlags}
 use Rattle.ptree.specs.Outline.{Line, line, Steps}
@@ -58,8 +58,3 @@ closings_steps f (suc n) previous l = at (f (suc n)) (closings_steps f n (suc n)
   at : (b : Bool) → Steps (suc n) (closings f n) → Steps previous (closings f n) → Steps previous (cond b (line (suc n) [] ∷ closings f n) (closings f n))
   at true below rest = (omega arith, omega arith, below)
   at false below rest = rest
-
--- twice not
-not_not : (b : Bool) → not (not b) ≡ b
-not_not true = refl
-not_not false = refl

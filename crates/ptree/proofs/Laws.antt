@@ -12,22 +12,13 @@ use Rattle.ptree.specs.Pieces.{turning_piece, passing_piece}
 use Rattle.ptree.specs.Shape.{Shape, child, kids, cut_shape}
 use Rattle.ptree.proofs.Addresses.{one_list, walk, walk_is_list}
 use Rattle.ptree.proofs.Join.{join, drawn_is_drawing, entry_under, passing_child}
+use Rattle.ptree.proofs.TreeLemmas.{map_same, map_twice}
 
 -- ## Cut
 
 -- functions with equal values are equal
 same_functions : {A B : Type 0} (f g : A → B) → ((x : A) → f x ≡ g x) → f ≡ g
 same_functions f g h = λ i x. h x i
-
--- functions with equal values map a list to the same
-same_map : {A B : Type 0} (f g : A → B) → ((x : A) → f x ≡ g x) → (xs : List A) → map f xs ≡ map g xs
-same_map f g h [] = refl
-same_map f g h (x ∷ xs) = ap (λ y. y ∷ map f xs) (h x) ∙ ap (λ ys. g x ∷ ys) (same_map f g h xs)
-
--- two maps are one
-map_twice : {A B C : Type 0} (f : A → B) (g : B → C) (xs : List A) → map g (map f xs) ≡ map (λ x. g (f x)) xs
-map_twice f g [] = refl
-map_twice f g (x ∷ xs) = ap (λ ys. g (f x) ∷ ys) (map_twice f g xs)
 
 -- a comparison of successors
 less_suc : (m d : ℕ) → nat_lt (suc m) (suc d) ≡ nat_lt m d
@@ -47,8 +38,8 @@ child_of_cut d t i =
 pub kids_of_cut : (d : ℕ) (t : Shape) → kids (cut_shape (suc d) t) ≡ map (cut_shape d) (kids t)
 kids_of_cut d t =
     ap (λ b. map (child (cut_shape (suc d) t)) (range_with_len 0 (cond b (t.count []) 0))) (none_above d)
-    ∙ same_map (child (cut_shape (suc d) t)) (λ i. cut_shape d (child t i)) (child_of_cut d t) (range_with_len 0 (t.count []))
-    ∙ sym (map_twice (child t) (cut_shape d) (range_with_len 0 (t.count [])))
+    ∙ map_same (child (cut_shape (suc d) t)) (λ i. cut_shape d (child t i)) (child_of_cut d t) (range_with_len 0 (t.count []))
+    ∙ map_twice (child t) (cut_shape d) (range_with_len 0 (t.count []))
 
 -- a map keeps whether a list is empty
 is_empty-map : {X Y : Type 0} (f : X → Y) (xs : List X) → is_empty (map f xs) ≡ is_empty xs

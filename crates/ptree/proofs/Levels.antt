@@ -1,5 +1,6 @@
 -- A tree's drawing is that of its outline.
 use Rattle.std.proofs.Common.{◌≡◌, ℕ, zero, suc, ◌<◌, ◌≤◌, Bool, true, false, not, cond, eqb, List, [], ◌∷◌, ◌++◌, refl, sym, ap, ◌∙◌, append_assoc, arith}
+use Rattle.std.proofs.Math.Bool.{not-not}
 use Rattle.std.proofs.lemmas.Bool.{lt-ltb, le-ltb, eq-eqb, ne_eqb}
 use Rattle.std.proofs.lemmas.List.{append-nil}
 use Rattle.ptree.specs.Drawing.{Look}
@@ -50,11 +51,6 @@ last_flags_same a b (suc n) h =
     let here = h (suc n) (omega arith) in
     ap (λ z. z ++ not (has_later a (suc n)) ∷ []) before ∙ ap (λ z. last_flags b n ++ not z ∷ []) here
 
--- twice not
-not_not : (b : Bool) → not (not b) ≡ b
-not_not true = refl
-not_not false = refl
-
 -- a text without a further line shows no passing pieces
 pub entry_shown : (k : Look) (prefix passing text : List ℕ) → text_entry k prefix (cond (has_line_feed text) passing []) text ≡ text_entry k prefix passing text
 entry_shown k prefix passing text = at (has_line_feed text) refl where
@@ -74,12 +70,12 @@ forest_by_levels k above n (item t c r) o e h =
     let regrouped : tail ≡ outline_at (suc (suc n)) c ++ later = append_assoc (outline_at (suc (suc n)) c) (outline_at (suc n) r) o in
     let here : has_later later (suc n) ≡ not (is_bare r) = has_later_row n r o (h (suc n) (omega arith)) in
     let last : not (has_later tail (suc n)) ≡ is_bare r =
-    ap (λ z. not (has_later z (suc n))) regrouped ∙ (ap not (has_later_skip (suc n) c later (suc n) (omega arith) ∙ here) ∙ not_not (is_bare r)) in
+    ap (λ z. not (has_later z (suc n))) regrouped ∙ (ap not (has_later_skip (suc n) c later (suc n) (omega arith) ∙ here) ∙ not-not (is_bare r)) in
     let up_to : (x : List Line) → ((m : ℕ) → m ≤ n → has_later x m ≡ has_later o m) → last_flags x n ≡ above = λ x g. last_flags_same x o n g ∙ sym e in
     let over_tail : last_flags tail n ≡ above = up_to tail (λ m l. ap (λ z. has_later z m) regrouped ∙ (has_later_skip (suc n) c later m (omega arith) ∙ has_later_skip n r o m l)) in
     let over_later : last_flags later n ≡ above = up_to later (λ m l. has_later_skip n r o m l) in
     let below = forest_by_levels k (above ++ is_bare r ∷ []) (suc n) c later
-    (ap (λ z. z ++ is_bare r ∷ []) (sym over_later) ∙ ap (λ z. last_flags later n ++ z ∷ []) (sym (ap not here ∙ not_not (is_bare r))))
+    (ap (λ z. z ++ is_bare r ∷ []) (sym over_later) ∙ ap (λ z. last_flags later n ++ z ∷ []) (sym (ap not here ∙ not-not (is_bare r))))
     (has_later_above n r o h) in
     let after = forest_by_levels k above n r o e h in
     let prefix : pieces_by k.pieces tail (suc n) ≡ passing_all k.pieces above ++ turning_piece k.pieces (is_bare r) =

@@ -5,10 +5,17 @@ use Rattle.std.proofs.lemmas.List.Elements.{All-head}
 use Rattle.ptree.specs.Address.{at}
 use Rattle.ptree.specs.Drawing.{Look, with_inserted, continued_prefix}
 use Rattle.ptree.specs.Pieces.{Pieces, turning_piece, passing_piece, passing_all}
+use Rattle.ptree.specs.Reached.{own_prefix}
 use Rattle.ptree.specs.Readable.{ArePrefixFree, IsReadable, IsReadableWith}
 use Rattle.ptree.specs.Spelled.{SpelledItem, ArePiecesAt, ArePassing, IsSpelled, IsNotContinued, text_entry, spelled_text}
 use Rattle.ptree.specs.Style.{start_codes, end_codes, painted_text}
 use Rattle.ptree.proofs.Prefixes.{apart_never, same_prefix, same_kind}
+
+-- what is before an item's own text, part by part
+pub own_prefix_split : (k : Look) (pieces x : List ℕ) → own_prefix k pieces ++ x ≡ start_codes k.branch ++ (pieces ++ (end_codes k.branch ++ (start_codes k.leaf ++ x)))
+own_prefix_split k pieces x = at (start_codes k.branch) (end_codes k.branch) (start_codes k.leaf) where
+  at : (a b c : List ℕ) → ((a ++ pieces ++ b) ++ c) ++ x ≡ a ++ (pieces ++ (b ++ (c ++ x)))
+  at a b c = simp append_assoc
 
 -- n passing pieces at the start of a text are unique
 pub passings_once : (p : Pieces) → IsReadable p → (above above' : List Bool) (x y : List ℕ) → length above ≡ length above' → passing_all p above ++ x ≡ passing_all p above' ++ y

@@ -33,10 +33,6 @@ room_before n left start room lo hi fits long within e =
     let step = ap length (decimal_step left lo hi) ∙ length-append (decimal (left / 10)) ((48 + left % 10) ∷ []) in
     omega (arith, digits_length n left start room long within e, step, decimal_nonempty (left / 10) (omega arith), length-decimal-le 20 n (omega arith) (omega arith) fits)
 
--- a number below 10 has one digit
-pub length_digit : (n : ℕ) → n < 10 → length (decimal n) ≡ 1
-length_digit n h = ap length (decimal_digit n h)
-
 -- a number of 64 bits in decimal is UTF-8
 pub IsUtf8-decimal : (n : ℕ) → n < 2 ^ 64 → IsUtf8 (decimal n)
 IsUtf8-decimal n h = IsUtf8-from_ascii (decimal n) (IsAscii-decimal n h)

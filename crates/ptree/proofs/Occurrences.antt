@@ -1,11 +1,10 @@
 -- Rows of occurrences, and what is written for a repeated one.
-use Rattle.std.specs.Prelude.{flat_map}
 use Rattle.std.proofs.Common.{◌≡◌, ℕ, List, [], ◌∷◌, ◌++◌, Option, Result, ap, refl, sym, subst, ◌∙◌}
-use Rattle.std.proofs.lemmas.List.{append-nil}
 use Rattle.std.specs.Io.KnownBytes.{Appends}
 use Rattle.ptree.specs.Occurrence.{Occurrences, none, item, OccurrenceTree, occurrences, row}
-use Rattle.ptree.specs.Style.{StyleValue, plain_value, style_codes, reset_after, painted_text}
+use Rattle.ptree.specs.Style.{StyleValue, plain_value, style_codes, painted_text}
 use Rattle.ptree.specs.Writing.{AppendsPart, IsWritten}
+use Rattle.ptree.proofs.Styles.{plain_codes, painted_plain}
 use Rattle.ptree.proofs.Written.{appends_then, part_then, part_more, written_then}
 
 -- the occurrences of a row that is made of occurrences
@@ -18,30 +17,21 @@ pub row_of_occurrences : (r : Occurrences) → row (occurrences r) ≡ r
 row_of_occurrences none = refl
 row_of_occurrences (item v m c r) = ap (λ z. item v m c z) (row_of_occurrences r)
 
--- the plain style paints a text as itself
-plain_text : (text : List ℕ) → painted_text plain_value text ≡ text
-unfolding style_codes
-plain_text text = append-nil text
-
--- and so does any style without codes
-painted_without : (style : StyleValue) (text : List ℕ) → style_codes style ≡ [] → painted_text style text ≡ text
-painted_without style text e = ap (λ (codes : List (List ℕ)). flat_map (λ code. code) codes ++ text ++ reset_after codes) e ∙ append-nil text
-
 -- a prefix of the label was written, in a style without codes
 pub plain_label_part : (style : StyleValue) (text mark : List ℕ) → style_codes style ≡ [] → (a b : Option (List ℕ)) → AppendsPart a b (painted_text style text) → AppendsPart a b (painted_text style (text ++ mark))
 plain_label_part style text mark e a b h =
-    subst (λ (z : List ℕ). AppendsPart a b z) (sym (painted_without style (text ++ mark) e)) (part_more a b text mark (subst (λ (z : List ℕ). AppendsPart a b z) (painted_without style text e) h))
+    subst (λ (z : List ℕ). AppendsPart a b z) (sym (painted_plain style (text ++ mark) e)) (part_more a b text mark (subst (λ (z : List ℕ). AppendsPart a b z) (painted_plain style text e) h))
 
 -- the label was, and then the mark or a prefix of it
 pub plain_written : {A E : Type 0} (style : StyleValue) (text mark : List ℕ) → style_codes style ≡ [] → (a b c : Option (List ℕ)) (r : Result A E) (y : List ℕ) → y ≡ mark
     → Appends a b (painted_text style text) → IsWritten b c r y → IsWritten a c r (painted_text style (text ++ mark))
 plain_written style text mark e a b c r y q h k =
-    subst (λ (z : List ℕ). IsWritten a c r z) (sym (painted_without style (text ++ mark) e))
-    (written_then a b c r text mark (subst (λ (z : List ℕ). Appends a b z) (painted_without style text e) h) (subst (λ (z : List ℕ). IsWritten b c r z) q k))
+    subst (λ (z : List ℕ). IsWritten a c r z) (sym (painted_plain style (text ++ mark) e))
+    (written_then a b c r text mark (subst (λ (z : List ℕ). Appends a b z) (painted_plain style text e) h) (subst (λ (z : List ℕ). IsWritten b c r z) q k))
 
--- and so does a style that is the plain one
-painted_plain : (plain : StyleValue) (text : List ℕ) → plain ≡ plain_value → painted_text plain text ≡ text
-painted_plain plain text e = ap (λ s. painted_text s text) e ∙ plain_text text
+-- a style that is the plain one paints a text as itself
+plain_text : (plain : StyleValue) (text : List ℕ) → plain ≡ plain_value → painted_text plain text ≡ text
+plain_text plain text e = painted_plain plain text (ap style_codes e ∙ plain_codes)
 
 module _ (start text mark end : List ℕ) where
   -- the label and the mark, painted as one
@@ -56,14 +46,14 @@ module _ (start text mark end : List ℕ) where
   pub label_part : (a b c : Option (List ℕ)) (x : List ℕ) (plain : StyleValue) → plain ≡ plain_value → x ≡ start → Appends a b x → AppendsPart b c (painted_text plain text) → AppendsPart a c whole
   label_part a b c x plain u e h k =
       let f = subst (λ (z : List ℕ). Appends a b z) e h in
-      let l = subst (λ (z : List ℕ). AppendsPart b c z) (painted_plain plain text u) k in
+      let l = subst (λ (z : List ℕ). AppendsPart b c z) (plain_text plain text u) k in
       part_more a c (start ++ (text ++ mark)) end (part_then a b c start (text ++ mark) f (part_more b c text mark l))
 
   -- the codes, the label and a prefix of the mark were
   pub mark_part : (a b c d : Option (List ℕ)) (x y : List ℕ) (plain : StyleValue) → plain ≡ plain_value → x ≡ start → y ≡ mark → Appends a b x → Appends b c (painted_text plain text) → AppendsPart c d y → AppendsPart a d whole
   mark_part a b c d x y plain u e q h k l =
       let f = subst (λ (z : List ℕ). Appends a b z) e h in
-      let t = subst (λ (z : List ℕ). Appends b c z) (painted_plain plain text u) k in
+      let t = subst (λ (z : List ℕ). Appends b c z) (plain_text plain text u) k in
       let m = subst (λ (z : List ℕ). AppendsPart c d z) q l in
       part_more a d (start ++ (text ++ mark)) end (part_then a b d start (text ++ mark) f (part_then b c d text mark t m))
 
@@ -72,7 +62,7 @@ module _ (start text mark end : List ℕ) where
       → Appends a b x → Appends b c (painted_text plain text) → Appends c d y → IsWritten d e r z → IsWritten a e r whole
   all_repeated a b c d e r x y z plain u p q s h k l n =
       let f = subst (λ (w : List ℕ). Appends a b w) p h in
-      let t = subst (λ (w : List ℕ). Appends b c w) (painted_plain plain text u) k in
+      let t = subst (λ (w : List ℕ). Appends b c w) (plain_text plain text u) k in
       let m = subst (λ (w : List ℕ). Appends c d w) q l in
       let w = subst (λ (w : List ℕ). IsWritten d e r w) s n in
       written_then a d e r (start ++ (text ++ mark)) end (appends_then a b d start (text ++ mark) f (appends_then b c d text mark t m)) w

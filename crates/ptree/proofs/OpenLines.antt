@@ -1,33 +1,28 @@
 -- Which lines continue the open items.
 use Rattle.std.proofs.Common.{◌≡◌, ◌≢◌, ℕ, zero, suc, ◌<◌, ◌≤◌, inl, inr, Bool, not, List, [], ◌∷◌, ◌++◌, length, take, get_or, refl, sym, ap, ◌∙◌, subst, append_assoc, add-one, arith}
-use Rattle.std.proofs.lemmas.List.Elements.{All-nil, All-append}
+use Rattle.std.proofs.lemmas.List.Elements.{All-append}
 use Rattle.std.proofs.lemmas.Bool.{cases_lt, eq-eqb, ne_eqb}
 use Rattle.std.proofs.lemmas.List.{append_cancel_left, length_push, get_or-take, length-take-le}
 use Rattle.ptree.specs.declared.read.lines.Flags.{Flags}
 use Rattle.ptree.specs.Drawing.{Look, continued_prefix}
 use Rattle.ptree.specs.Flags.{has_later, last_flags, pieces_by, passing_by}
 use Rattle.ptree.specs.Outline.{Line, line}
-use Rattle.ptree.specs.Pieces.{Pieces, turning_piece, passing_piece, passing_all}
+use Rattle.ptree.specs.Pieces.{Pieces, turning_piece}
 use Rattle.ptree.specs.Reached.{allows, any_flags, Allows, own_prefix, NoPiece, IsCutTo, AreSome, ArePath, IsFound, CanClose, CutsPassing, CutsPieces, IsFurtherLine, IsOwnLine, BeginsWrong}
-use Rattle.ptree.specs.Readable.{IsReadable, IsReadableWith}
+use Rattle.ptree.specs.Readable.{IsReadableWith}
 use Rattle.ptree.specs.Spelled.{ArePiecesAt, ArePassing}
 use Rattle.ptree.specs.Style.{start_codes, end_codes}
 use Rattle.ptree.specs.Texts.{HasNoLineFeed}
+use Rattle.ptree.proofs.Cuts.{no_feed_passing}
 use Rattle.ptree.proofs.LastFlags.{length-last_flags}
 use Rattle.ptree.proofs.Levels.{has_later_deeper, has_later_here}
-use Rattle.ptree.proofs.Markers.{passings_once, marker_is}
+use Rattle.ptree.proofs.Markers.{passings_once, marker_is, own_prefix_split}
 use Rattle.ptree.proofs.Prefixes.{apart_never, same_prefix, same_kind}
 use Rattle.ptree.proofs.Styles.{no_line_feed_start, no_line_feed_end}
 use Rattle.ptree.proofs.OpenItems.{some_flag, allows_any, passing_deeper}
 use Rattle.ptree.proofs.FoundPieces.{found_at}
 
 -- ## Lines that cannot continue a drawing
-
--- the parts of an own line
-pub own_prefix_split : (k : Look) (pieces x : List ℕ) → own_prefix k pieces ++ x ≡ start_codes k.branch ++ (pieces ++ (end_codes k.branch ++ (start_codes k.leaf ++ x)))
-own_prefix_split k pieces x = at (start_codes k.branch) (end_codes k.branch) (start_codes k.leaf) where
-  at : (a b c : List ℕ) → ((a ++ pieces ++ b) ++ c) ++ x ≡ a ++ (pieces ++ (b ++ (c ++ x)))
-  at a b c = simp append_assoc
 
 -- a text without the branch's codes begins with neither kind of line
 pub no_start : (k : Look) (depth : ℕ) (fs : List Flags) (x : List ℕ) → ((z : List ℕ) → x ≢ start_codes k.branch ++ z) → BeginsWrong k depth fs x
@@ -212,11 +207,6 @@ further_there k fs new x text shown rest own more n h is all rest_is one =
 
 -- ## Line feeds
 
--- passing pieces hold no line feed
-pub feedless_passing : (p : Pieces) → IsReadable p → (flags : List Bool) → HasNoLineFeed (passing_all p flags)
-feedless_passing p h [] = All-nil (λ c. c ≢ 10)
-feedless_passing p h (b ∷ flags) = All-append (λ c. c ≢ 10) (passing_piece p b) (passing_all p flags) (h.no_line_feed b).1 (feedless_passing p h flags)
-
 -- two texts without line feeds, as one
 both_feedless : (a b : List ℕ) → HasNoLineFeed a → HasNoLineFeed b → HasNoLineFeed (a ++ b)
 both_feedless a b h g = All-append (λ c. c ≢ 10) a b h g
@@ -226,7 +216,7 @@ pub own_feedless : (k : Look) → IsReadableWith k.pieces k.marker → (fs new :
     → IsCutTo (turning_piece k.pieces) any_flags rest flags turned → turned ≡ end_codes k.branch ++ closed → closed ≡ start_codes k.leaf ++ start → HasNoLineFeed start → HasNoLineFeed x
 own_feedless k readable fs new x text shown rest turned closed start n flags is h cut t c s =
     let (above, len, shown_is) = h.are_passing in
-    let pieces : HasNoLineFeed shown = subst HasNoLineFeed (sym shown_is) (feedless_passing k.pieces readable.pieces above) in
+    let pieces : HasNoLineFeed shown = subst HasNoLineFeed (sym shown_is) (no_feed_passing k.pieces readable.pieces above) in
     let closed_less : HasNoLineFeed closed = subst HasNoLineFeed (sym c) (both_feedless (start_codes k.leaf) start (no_line_feed_start k.leaf) s) in
     let turned_less : HasNoLineFeed turned = subst HasNoLineFeed (sym t) (both_feedless (end_codes k.branch) closed (no_line_feed_end k.branch) closed_less) in
     let rest_less : HasNoLineFeed rest = subst HasNoLineFeed (sym cut.text_is) (both_feedless (turning_piece k.pieces cut.last) turned (readable.pieces.no_line_feed cut.last).0 turned_less) in
@@ -237,7 +227,7 @@ pub further_feedless : (k : Look) → IsReadableWith k.pieces k.marker → (fs n
     → rest ≡ k.marker ++ closed → closed ≡ end_codes k.branch ++ start → HasNoLineFeed start → HasNoLineFeed x
 further_feedless k readable fs new x text shown rest closed start n is h m c s =
     let (above, len, shown_is) = h.are_passing in
-    let pieces : HasNoLineFeed shown = subst HasNoLineFeed (sym shown_is) (feedless_passing k.pieces readable.pieces above) in
+    let pieces : HasNoLineFeed shown = subst HasNoLineFeed (sym shown_is) (no_feed_passing k.pieces readable.pieces above) in
     let closed_less : HasNoLineFeed closed = subst HasNoLineFeed (sym c) (both_feedless (end_codes k.branch) start (no_line_feed_end k.branch) s) in
     let rest_less : HasNoLineFeed rest = subst HasNoLineFeed (sym m) (both_feedless k.marker closed readable.no_line_feed closed_less) in
     subst HasNoLineFeed (sym (is ∙ ap (λ z. start_codes k.branch ++ z) h.text_is)) (both_feedless (start_codes k.branch) (shown ++ rest) (no_line_feed_start k.branch) (both_feedless shown rest pieces rest_less))

@@ -9,7 +9,7 @@ use Rattle.ptree.specs.Tree.{Forest, none, item, Tree, tree, trees, tree_kids, t
 use Rattle.ptree.specs.declared.item.StringItem.{StringItem}
 use Rattle.ptree.proofs.Addresses.{one_list, branches, walk, walk_is_list}
 use Rattle.ptree.proofs.Outlines.{same_tree}
-use Rattle.ptree.proofs.TreeLemmas.{map_twice}
+use Rattle.ptree.proofs.TreeLemmas.{map_same, map_twice}
 
 -- the text of a tree, if there is one
 abbrev text_of : Option Tree → List ℕ
@@ -18,11 +18,6 @@ text_of o = unwrap_or (option_map (λ (y : Tree). y.text) o) []
 -- the line at an address in a tree at level n
 abbrev level_line : ℕ → Tree → Address → Line
 level_line n t a = line (n + length a) (text_of (at tree_kids t a))
-
--- functions with equal values map a list to the same
-map_same : {A B : Type 0} (f g : A → B) → ((x : A) → f x ≡ g x) → (xs : List A) → map f xs ≡ map g xs
-map_same f g h [] = refl
-map_same f g h (x ∷ xs) = ap (λ y. y ∷ map f xs) (h x) ∙ ap (λ ys. g x ∷ ys) (map_same f g h xs)
 
 -- the line of an address below a child is that in the child, one level deeper
 child_line : (n k : ℕ) (t c : Tree) (a : Address) → slice_get (tree_kids t) k ≡ Some c → level_line n t (k ∷ a) ≡ level_line (suc n) c a

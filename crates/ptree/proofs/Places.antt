@@ -4,7 +4,7 @@ use Rattle.std.proofs.Common.{◌≡◌, ℕ, zero, suc, ◌+◌, ◌-◌, ◌<�
 use Rattle.std.proofs.lemmas.Bool.{cases_lt}
 use Rattle.std.proofs.lemmas.List.{append-nil, length-drop, drop_all, drop_at}
 use Rattle.ptree.specs.declared.graph.places.Place.{Place}
-use Rattle.ptree.specs.Growing.{place_of, place_at, leaf_size, ArePlaces, AppendsPlaces, IsFirst, IsNextPlace}
+use Rattle.ptree.specs.Growing.{place_of, place_at, leaf_size, ArePlaces, AppendsPlaces, IsNextPlace}
 use Rattle.ptree.specs.Occurrence.{Occurrences, none, item, OccurrenceTree, occurrence, occurrence_kids, row, row_size, occurrence_count, its_place, row_places, tree_places, is_repeated_size, size_below, trees_by, trees_in, first_tree}
 use Rattle.ptree.proofs.Occurrences.{occurrences_of_row}
 
@@ -166,11 +166,6 @@ tree_at_place [] (suc i) = refl
 tree_at_place (p ∷ ps) zero = refl
 tree_at_place (p ∷ ps) (suc i) = tree_at_place ps i
 
--- a size, less the place itself
-pub below_is : (n : ℕ) → n - 1 ≡ size_below n
-below_is zero = omega arith
-below_is (suc n) = omega arith
-
 -- after some places, and then some more
 drop_further : (i b : ℕ) (ps : List Place) → drop b (drop i ps) ≡ drop (i + b) ps
 drop_further zero b ps = let e : b ≡ 0 + b = omega arith in ap (λ n. drop n ps) e
@@ -207,20 +202,3 @@ next_trees ps i left b left' next after h (p, some, below, split) e f k =
 -- what is below a place
 pub kids_at_place : (ps : List Place) (i : ℕ) → occurrence_kids (first_tree (drop i ps)) ≡ trees_in (size_below (place_at ps i).size) (drop (suc i) ps)
 kids_at_place ps i = ap occurrence_kids (tree_at_place ps i) ∙ occurrences_of_row (trees_in (size_below (place_at ps i).size) (drop (suc i) ps))
-
--- ## Rows
-
--- the tree of the first place that is left, and those after it
-pub row_next : (ps after others : List Place) (left left' b : ℕ) (p : Place) → IsFirst ps left p after → b ≡ size_below p.size → left' ≡ (left - 1) - b → others ≡ drop b after
-    → trees_in left ps ≡ first_tree (p ∷ after) ∷ trees_in left' others
-row_next ps after others left left' b p (some, is) below fewer behind =
-    let m = left - 1 in
-    let one : left ≡ suc m = omega arith in
-    let less : m - size_below p.size ≡ left' = omega arith in
-    ap (trees_in left) is ∙ (ap (λ n. trees_in n (p ∷ after)) one ∙ (trees_first m p after
-    ∙ (ap (λ n. first_tree (p ∷ after) ∷ trees_in n (drop (size_below p.size) after)) less
-    ∙ ap (λ l. first_tree (p ∷ after) ∷ trees_in left' l) (ap (λ n. drop n after) (sym below) ∙ sym behind))))
-
--- what is below the first of some places
-pub kids_of_first : (p : Place) (after : List Place) → occurrence_kids (first_tree (p ∷ after)) ≡ trees_in (size_below p.size) after
-kids_of_first p after = occurrences_of_row (trees_in (size_below p.size) after)

@@ -1,5 +1,5 @@
 -- Where whole lines end: before a wrong line, or with the text.
-use Rattle.std.proofs.Common.{◌≡◌, ◌≢◌, ℕ, zero, suc, ◌<◌, ◌≤◌, inl, inr, Bool, true, false, not, cond, List, [], ◌∷◌, ◌++◌, length, length-append, refl, sym, ap, ◌∙◌, subst, append_assoc, get_or, arith}
+use Rattle.std.proofs.Common.{◌≡◌, ◌≢◌, ℕ, zero, suc, ◌<◌, ◌≤◌, inl, inr, Bool, true, false, not, cond, List, [], ◌∷◌, ◌++◌, refl, sym, ap, ◌∙◌, subst, append_assoc, get_or, arith}
 use Rattle.std.proofs.lemmas.List.{append-nil}
 use Rattle.std.proofs.lemmas.List.Elements.{All-head, All-tail, All-append}
 use Rattle.ptree.specs.declared.read.lines.Flags.{Flags}
@@ -15,6 +15,7 @@ use Rattle.ptree.specs.Style.{start_codes, end_codes, painted_text}
 use Rattle.ptree.specs.Texts.{HasNoLineFeed}
 use Rattle.ptree.specs.Tree.{Tree}
 use Rattle.ptree.proofs.Cuts.{after_prefix, no_feed_painted, no_feed_continued, no_feed_pieces}
+use Rattle.ptree.proofs.Inserted.{no_text}
 use Rattle.ptree.proofs.LaterLines.{closings, closings_later, closings_steps}
 use Rattle.ptree.proofs.Onward.{line_split, valid_below, valid_more, form_outline, outline_form, outlined}
 use Rattle.ptree.proofs.Styles.{no_line_feed_start}
@@ -104,10 +105,6 @@ reached_end k depth prefix lines level own text fs t h closed allowed is =
     outline_form k depth prefix t (subst (IsOutlineWithin depth) (sym is) (h.valid text))
     (sym (append-nil prefix) ∙ (h.from (lines ++ line level text ∷ []) [] ([], text, refl, allowed, inl (closed, refl)) ∙ ap (lines_text k) (sym is)))
 
--- the empty text holds no line feed
-nothing_long : (a b : List ℕ) → [] ≡ a ++ 10 ∷ b → ⊥
-nothing_long a b e = let long = ap length e in omega (arith, simp length-append at long)
-
 -- whole lines are no drawing if the last text is not closed or an open item cannot be last
 pub reached_none : (k : Look) (depth : ℕ) (prefix : List ℕ) (lines : List Line) (level : ℕ) (own : List ℕ) (fs : List Flags) → Reached k depth prefix lines level own fs
     → ((text : List ℕ) → own ≡ text ++ end_codes k.leaf → Allows fs [] → ⊥) → (t : Tree) → IsDrawnForm k depth prefix t → ⊥
@@ -117,16 +114,16 @@ reached_none k depth prefix lines level own fs h none t form =
     which below text allowed follows
   where
     which : (below : List Line) (text : List ℕ) → Allows fs below → Follows k level own text below [] → ⊥
-    which below text allowed (inr s) = nothing_long _ (lines_text k below) s.2
+    which below text allowed (inr s) = no_text _ (lines_text k below) s.2
     which [] text allowed (inl s) = none text s.0 allowed
     which (l ∷ o') text allowed (inl s) =
-        nothing_long _ (lines_text k o') (s.1 ∙ (line_split k l o' ∙ sym (append_assoc (own_prefix k (pieces_by k.pieces o' l.level)) _ (10 ∷ lines_text k o'))))
+        no_text _ (lines_text k o') (s.1 ∙ (line_split k l o' ∙ sym (append_assoc (own_prefix k (pieces_by k.pieces o' l.level)) _ (10 ∷ lines_text k o'))))
 
 -- a text without a line feed does not end in a line
 pub feed_not : (a b x : List ℕ) → HasNoLineFeed x → x ≡ a ++ 10 ∷ b → ⊥
-feed_not [] b [] h e = nothing_long [] b e
+feed_not [] b [] h e = no_text [] b e
 feed_not [] b (c ∷ x) h e = All-head (λ c. c ≢ 10) c x h (let heads : c ≡ 10 = cc in heads)
-feed_not (d ∷ a) b [] h e = nothing_long (d ∷ a) b e
+feed_not (d ∷ a) b [] h e = no_text (d ∷ a) b e
 feed_not (d ∷ a) b (c ∷ x) h e = feed_not a b x (All-tail (λ c. c ≢ 10) c x h) (let tails : x ≡ a ++ 10 ∷ b = cc in tails)
 
 -- whole lines and a part of another one are no drawing

@@ -1,6 +1,7 @@
 -- A graph expanded once has an occurrence for each edge from a node that is expanded, and one more.
 use Rattle.std.specs.Prelude.{slice_set, ◌↔◌, IsTrue, if◌then◌else◌, filter, reverse, count_by, not, ◌==◌}
 use Rattle.std.proofs.Common.{◌≡◌, ◌≢◌, ℕ, zero, suc, ◌+◌, ◌<◌, ◌≤◌, inl, inr, Bool, true, false, cond, List, [], ◌∷◌, length, refl, sym, ap, subst, ◌∙◌, arith, eqb-true, eq-eqb}
+use Rattle.std.proofs.Math.Numerals.{one-add}
 use Rattle.std.proofs.lemmas.Bool.{false≢true, cases_lt}
 use Rattle.std.proofs.lemmas.List.{length-map}
 use Rattle.std.proofs.lemmas.List.Sums.{length-filter}
@@ -124,10 +125,7 @@ module _ (edges : List (ℕ × ℕ)) (n : ℕ) (covers : (v : ℕ) → n ≤ v �
 -- what passes a test, and what fails it
 count_all : (p : ℕ × ℕ → Bool) (es : List (ℕ × ℕ)) → tally p es + tally (λ e. not (p e)) es ≡ length es
 count_all p [] = refl
-count_all p (e ∷ es) = add_split _ _ _ _ _ _ (one (p e)) (count_all p es) ∙ one_more (length es) where
-  one_more : (n : ℕ) → 1 + n ≡ suc n
-  one_more n = omega arith
-
+count_all p (e ∷ es) = add_split _ _ _ _ _ _ (one (p e)) (count_all p es) ∙ one-add (length es) where
   one : (b : Bool) → cond b 1 0 + cond (not b) 1 0 ≡ 1
   one true = refl
   one false = refl
@@ -135,9 +133,7 @@ count_all p (e ∷ es) = add_split _ _ _ _ _ _ (one (p e)) (count_all p es) ∙ 
 -- where each passes
 count_none : (p : ℕ × ℕ → Bool) → ((e : ℕ × ℕ) → p e ≡ true) → (es : List (ℕ × ℕ)) → tally p es ≡ length es
 count_none p h [] = refl
-count_none p h (e ∷ es) = ap {B = ℕ} (λ b. cond b 1 0 + tally p es) (h e) ∙ (ap (λ n. 1 + n) (count_none p h es) ∙ one_more (length es)) where
-  one_more : (n : ℕ) → 1 + n ≡ suc n
-  one_more n = omega arith
+count_none p h (e ∷ es) = ap {B = ℕ} (λ b. cond b 1 0 + tally p es) (h e) ∙ (ap (λ n. 1 + n) (count_none p h es) ∙ one-add (length es))
 
 module _ (edges : List (ℕ × ℕ)) (seen : List Bool) (covers : (v : ℕ) → length seen ≤ v → neighbors_of edges v ≡ []) (clear : AreClear seen) (start depth : ℕ) where
   -- the size of the one tree

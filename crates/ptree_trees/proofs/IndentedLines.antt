@@ -1,10 +1,11 @@
 -- The lines of an indented form, one by one.
 use Rattle.std.proofs.Common.{◌≡◌, ◌≢◌, ℕ, false, List, [], ◌∷◌, ◌++◌}
-use Rattle.std.proofs.Common.{length, length-append, refl, sym, ap, ◌∙◌, append_assoc, arith}
+use Rattle.std.proofs.Common.{refl, sym, ap, ◌∙◌, append_assoc}
 use Rattle.std.proofs.lemmas.List.{append-nil, append_cancel_left}
 use Rattle.std.proofs.lemmas.List.Elements.{All-append}
 use Rattle.ptree.specs.Outline.{Line, line}
 use Rattle.ptree.specs.Texts.{HasNoLineFeed}
+use Rattle.ptree.proofs.Inserted.{no_text}
 use Rattle.ptree_trees.specs.Indented.{begins_blank, IsUnit, indent, indented_line, indented_lines, AreLineTexts}
 use Rattle.ptree_trees.specs.declared.indented.Form.{Form}
 use Rattle.ptree_trees.proofs.IndentedTexts.{line_once, no_feed_indent, indent_once}
@@ -33,10 +34,6 @@ line_parts form l x =
 -- a line without its line feed holds none, if what stands after its indent doesn't
 pub no_feed_join : (form : Form) → IsUnit form.unit.now → (l : Line) → HasNoLineFeed (own form l.text) → HasNoLineFeed (whole form l)
 no_feed_join form u l h = All-append (λ c. c ≢ 10) (indent form.unit.now l.level) (own form l.text) (no_feed_indent form.unit.now u l.level) h
-
--- a text that holds a line feed is not empty
-pub no_text : (a x : List ℕ) → [] ≡ a ++ 10 ∷ x → ⊥
-no_text a x e = let long = ap length e in omega (arith, simp length-append at long)
 
 -- one line more that can stand after an indent
 pub texts_push : (form : Form) (o : List Line) (l : Line) → AreLineTexts form o → HasNoLineFeed (own form l.text) → begins_blank (own form l.text) ≡ false

@@ -9,6 +9,7 @@ use Rattle.ptree.specs.Texts.{HasNoLineFeed}
 use Rattle.ptree.specs.Tree.{Tree, tree, none}
 use Rattle.ptree.specs.TreeBuilder.{Building}
 use Rattle.ptree.proofs.FirstLines.{count_none, count_line, first_next}
+use Rattle.ptree.proofs.Inserted.{no_text}
 use Rattle.ptree.proofs.LineTrees.{tree_of_lines}
 use Rattle.ptree.proofs.OutlineAddresses.{outline_of_tree}
 use Rattle.ptree.proofs.SpelledForms.{tree_steps}
@@ -18,7 +19,7 @@ use Rattle.ptree_trees.specs.Indented.{IsIndentedForm, HasContinuation, IsFirstW
 use Rattle.ptree_trees.specs.IndentedReading.{IsNext, IsAdded}
 use Rattle.ptree_trees.specs.declared.indented.Form.{Form}
 use Rattle.ptree_trees.proofs.IndentedTexts.{line_once, no_line, no_feed_end, SameIndent, indent_once}
-use Rattle.ptree_trees.proofs.IndentedLines.{line_parts, lines_front, lines_push, no_feed_join, no_text, own, texts_push, whole}
+use Rattle.ptree_trees.proofs.IndentedLines.{line_parts, lines_front, lines_push, no_feed_join, own, texts_push, whole}
 
 -- ## Stages
 

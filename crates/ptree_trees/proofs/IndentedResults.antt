@@ -7,6 +7,7 @@ use Rattle.ptree.specs.Outline.{Line, outline}
 use Rattle.ptree.specs.Tree.{Tree, tree_of}
 use Rattle.ptree.specs.declared.item.StringItem.{StringItem}
 use Rattle.ptree.proofs.FirstLines.{first_rest}
+use Rattle.ptree.proofs.Inserted.{no_text}
 use Rattle.ptree.proofs.Outlines.{same_tree}
 use Rattle.ptree_trees.specs.Indented.{IsUnit, indented_lines}
 use Rattle.ptree_trees.specs.Indented.{IsIndentedForm, IsFirstWrongLine, EndsWrong}
@@ -14,7 +15,7 @@ use Rattle.ptree_trees.specs.IndentedReading.{IsReading}
 use Rattle.ptree_trees.specs.declared.indented.Form.{Form}
 use Rattle.ptree_trees.specs.declared.indented.IndentError.{IndentError}
 use Rattle.ptree_trees.specs.declared.indented.IndentError.TheVariants as error
-use Rattle.ptree_trees.proofs.IndentedLines.{line_parts, lines_front, no_text, whole}
+use Rattle.ptree_trees.proofs.IndentedLines.{line_parts, lines_front, whole}
 
 -- trees with one indented form are equal
 pub same_form : (form : Form) → IsUnit form.unit.now → (text : List ℕ) (t s : Tree) → IsIndentedForm form text t → IsIndentedForm form text s → t ≡ s

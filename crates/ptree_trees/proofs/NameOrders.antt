@@ -7,6 +7,7 @@ use Rattle.std.specs.Prelude.{◌||◌, ◌&&◌, not, option_map, ⊤}
 use Rattle.std.specs.Str.{bytes_eq}
 use Rattle.std.specs.declared.cmp.Ordering.TheVariants.{Less}
 use Rattle.std.proofs.Common.{◌≡◌, ℕ, suc, ◌+◌, ◌<◌, ◌≤◌, Bool, true, false, cond, Option, Some, None, List, [], ◌∷◌, ◌++◌, refl, sym, ap, ◌∙◌, subst, append-nil, append_assoc, arith}
+use Rattle.std.proofs.Math.Bool.{or-true, or-false}
 use Rattle.std.proofs.lemmas.Bool.{false≢true}
 use Rattle.std.proofs.lemmas.List.Elements.{All-from_recursion, recursion_from_All}
 use Rattle.std.proofs.lemmas.List.Sorted.{All-permutation, sum_by-IsPermutation}
@@ -138,22 +139,14 @@ once_first ms n ns gs new h = h n ∙ (ap (λ b. new_one (b || has_name ns n) (h
 -- and the other groups are those of the other names
 once_new : (ms : List (List ℕ)) (n : List ℕ) (ns : List (List ℕ)) (g : PathGroup) (gs : List PathGroup) → g.name ≡ n → count_named n gs ≡ 0 → OnceNew ms (n ∷ ns) (g ∷ gs) → OnceNew (ms ++ n ∷ []) ns gs
 once_new ms n ns g gs same none h m = at (bytes_eq n m) refl (sym (count_more m g gs) ∙ h m) ∙ ap (new_one (has_name ns m)) (sym (has_push ms n m)) where
-  last : (a : Bool) → (a || true) ≡ true
-  last true = refl
-  last false = refl
-
-  plain : (a : Bool) → a ≡ (a || false)
-  plain true = refl
-  plain false = refl
-
   at : (b : Bool) → bytes_eq n m ≡ b → cond (bytes_eq g.name m) 1 0 + count_named m gs ≡ new_one (bytes_eq n m || has_name ns m) (has_name ms m) → count_named m gs ≡ new_one (has_name ns m) (has_name ms m || bytes_eq n m)
   at true e c =
-      let found : (has_name ms m || bytes_eq n m) ≡ true = ap (λ b. has_name ms m || b) e ∙ last (has_name ms m) in
+      let found : (has_name ms m || bytes_eq n m) ≡ true = ap (λ b. has_name ms m || b) e ∙ or-true (has_name ms m) in
       subst (λ z. count_named z gs ≡ 0) ((bytes_eq-Decides n m).0 e) none ∙ sym (none_old (has_name ns m) (has_name ms m || bytes_eq n m) found)
   at false e c =
       let apart : bytes_eq g.name m ≡ false = ap (λ z. bytes_eq z m) same ∙ e in
       let rest : count_named m gs ≡ cond (bytes_eq g.name m) 1 0 + count_named m gs = rw apart (omega arith) in
-      rest ∙ (c ∙ (ap (λ b. new_one (b || has_name ns m) (has_name ms m)) e ∙ ap (new_one (has_name ns m)) (plain (has_name ms m) ∙ ap (λ b. has_name ms m || b) (sym e))))
+      rest ∙ (c ∙ (ap (λ b. new_one (b || has_name ns m) (has_name ms m)) e ∙ ap (new_one (has_name ns m)) (sym (or-false (has_name ms m)) ∙ ap (λ b. has_name ms m || b) (sym e))))
 
 -- a group that is placed, and not behind that of the first name, is that one
 first_is : (k : ℕ) (n : List ℕ) (ns : List (List ℕ)) (g : PathGroup) (gs : List PathGroup) → count_named n (g ∷ gs) ≡ 1 → AllByRecursion (IsPlaced k (n ∷ ns)) (g ∷ gs) → Rising (g ∷ gs)

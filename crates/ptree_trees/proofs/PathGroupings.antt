@@ -8,6 +8,7 @@ use Rattle.std.specs.Prelude.{is_some, ◌||◌}
 use Rattle.std.specs.Str.{bytes_eq}
 use Rattle.std.specs.declared.cmp.Ordering.TheVariants.{Less, Equal, Greater}
 use Rattle.std.proofs.Common.{◌≡◌, ℕ, Bool, true, false, cond, Ordering, Some, List, [], ◌∷◌, ◌++◌, map, refl, sym, ap, ◌∙◌, subst, append-nil, append_assoc}
+use Rattle.std.proofs.Math.Bool.{or-true}
 use Rattle.std.proofs.lemmas.Bool.{false≢true, false_from_ne_true, or_from}
 use Rattle.std.proofs.lemmas.Cmp.{nat_list_cmp_total}
 use Rattle.std.proofs.lemmas.List.{map-append}
@@ -218,12 +219,8 @@ pub grouping_next : (cs : List Cut) (gs : List PathGroup) (g : PathGroup) (c : C
     → IsGrouping (cs ++ c ∷ []) ((gs ++ g ∷ []) ++ group_from c ∷ [])
 grouping_next cs gs g c h up other = grouping_more cs (gs ++ g ∷ []) c h (all_push (λ k. slice_cmp nat_cmp k.name c.name ≡ Less) gs g (still_less gs g.name c.name (last_above gs g h.ascending) less) less)
   where
-    there : (a : Bool) → (a || true) ≡ true
-    there true = refl
-    there false = refl
-
     known : has_name (cut_names cs) g.name ≡ true
-    known = sym (h.has g.name) ∙ has_group gs g g.name ∙ ap (λ b. has_name (group_names gs) g.name || b) (same g.name) ∙ there (has_name (group_names gs) g.name)
+    known = sym (h.has g.name) ∙ has_group gs g g.name ∙ ap (λ b. has_name (group_names gs) g.name || b) (same g.name) ∙ or-true (has_name (group_names gs) g.name)
 
     less : slice_cmp nat_cmp g.name c.name ≡ Less
     less = less_if g.name c.name (not_above cs c.name g.name up known) other

@@ -1,5 +1,6 @@
 -- Trees of paths.
 use Rattle.std.proofs.Common.{◌≡◌, ◌≢◌, ℕ, ◌+◌, ◌<◌, ◌≤◌, Bool, true, false, cond, eqb, None, List, [], ◌∷◌, ◌++◌, length, refl, sym, ap, ◌∙◌, subst, arith}
+use Rattle.std.proofs.Math.Bool.{or-false}
 use Rattle.std.proofs.lemmas.Bool.{false≢true}
 use Rattle.std.proofs.lemmas.Slice.Eq.{bytes_eq-Decides}
 use Rattle.std.specs.Option.{option_to_list}
@@ -125,10 +126,7 @@ has_push (k ∷ ms) m n = at (bytes_eq k n) (has_push ms m n) where
 
 -- what is among names and others is among both
 has_with : (ms ns : List (List ℕ)) (n : List ℕ) → has_name (with_names ms ns) n ≡ (has_name ms n || has_name ns n)
-has_with ms [] n = at (has_name ms n) where
-  at : (b : Bool) → b ≡ (b || false)
-  at true = refl
-  at false = refl
+has_with ms [] n = sym (or-false (has_name ms n))
 has_with ms (k ∷ ns) n = has_with (with_name ms k) ns n ∙ (ap (λ b. b || has_name ns n) (one (has_name ms k) refl) ∙ joined (has_name ms n) (bytes_eq k n) (has_name ns n)) where
   joined : (a b c : Bool) → ((a || b) || c) ≡ (a || (b || c))
   joined true b c = refl

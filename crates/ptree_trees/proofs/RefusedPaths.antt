@@ -90,10 +90,6 @@ pub record AreFirstBut {D : Type 0} (at_step : StepValue → D → Option D) (Is
   pub go : (path : Option Path) → IsFirstIn at_step IsOfKind left path → IsFirstIn at_step IsOfKind all path
 
 module _ {D : Type 0} (at_step : StepValue → D → Option D) (IsOfKind : D → Type 0) (all : List (StepValue × D)) where
-  -- before the first row, all are left
-  pub no_row_passed : AreFirstBut at_step IsOfKind all all
-  no_row_passed = record { go = λ path h. h }
-
   -- one row more leads to none
   pub one_row_passed : (r : StepValue × D) (rs left : List (StepValue × D)) → left ≡ r ∷ rs → AreFirstBut at_step IsOfKind all left
       → IsFirstOf (LeadsTo at_step IsOfKind r.1) None → AreFirstBut at_step IsOfKind all rs

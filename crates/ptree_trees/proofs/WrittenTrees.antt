@@ -11,10 +11,6 @@ use Rattle.ptree_trees.specs.WrittenDocument.{IsTextTree, IsTreeUnder, IsEntryTe
 pub record HasTreesBut {A : Type 0} (R : A → List Tree → Type 0) (all left : A) (made : List Tree) : Type 0 where
   pub go : (rest : List Tree) → R left rest → R all (made ++ rest)
 
--- before the first, all is left
-pub no_trees : {A : Type 0} (R : A → List Tree → Type 0) (all : A) → HasTreesBut R all all []
-no_trees R all = record { go = λ rest h. h }
-
 -- the tree of the first of what is left comes after the others
 one_tree : {A : Type 0} (R : A → List Tree → Type 0) (all left next : A) (made : List StringItem) (more : List StringItem) (s : StringItem)
     → HasTreesBut R all left (map tree_of made) → ((rest : List Tree) → R next rest → R left (tree_of s ∷ rest)) → more ≡ made ++ s ∷ [] → HasTreesBut R all next (map tree_of more)

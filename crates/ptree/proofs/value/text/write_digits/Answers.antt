@@ -1,5 +1,6 @@
 use Rattle.std.proofs.Common.{◌≡◌, ◌≤◌, ◌+◌, ◌-◌, ◌/◌, ◌%◌, ◌++◌, drop, set, decimal, arith, length-set, ap, ◌∙◌}
-use Rattle.ptree.proofs.NumberTexts.{one_digit_more, first_digit, digits_length, room_before, length_digit}
+use Rattle.ptree.proofs.Decimals.{length-byte_digit}
+use Rattle.ptree.proofs.NumberTexts.{one_digit_more, first_digit, digits_length, room_before}
 use Rattle.ptree.proofs.value.text.write_digits.Goals as goal
 
 pub overflow_sub-start-in-loop-left : goal.overflow_sub-start-in-loop-left
@@ -28,4 +29,4 @@ returns-clause-digits c =
 pub returns-clause-start : goal.returns-clause-start
 returns-clause-start c =
     let l = c.loop-left in
-    omega (arith, digits_length c.args.n l.left l.start l.room l.invariant.room l.invariant.start l.invariant.digits, length_digit l.left c.loop-left-test.false)
+    omega (arith, digits_length c.args.n l.left l.start l.room l.invariant.room l.invariant.start l.invariant.digits, length-byte_digit l.left c.loop-left-test.false)
