@@ -1,24 +1,24 @@
--- What the values that the loader holds and lends mean.
+-- What parsed documents mean, and what the loader lends.
 use Rattle.std.specs.Prelude.{option_map}
 use Rattle.serde_json.specs.View as j
 use Rattle.toml.specs.View as t
 use Rattle.ptree.specs.Characters.{Characters}
 use Rattle.ptree.specs.File.{FileNode, json, toml}
 use Rattle.ptree.specs.Sources.{Given, variables_of}
-use Rattle.ptree.specs.declared.print_config.file.Document.{Document}
-use Rattle.ptree.specs.declared.print_config.file.Document.TheVariants as document
-use Rattle.ptree.specs.declared.print_config.file.FileNode as lent
-use Rattle.ptree.specs.declared.print_config.file.FileNode.TheVariants as node
+use Rattle.ptree.specs.declared.parsed.Parsed.{Parsed}
+use Rattle.ptree.specs.declared.parsed.Parsed.TheVariants as document
+use Rattle.ptree.specs.declared.parsed.ParsedPart.{ParsedPart}
+use Rattle.ptree.specs.declared.parsed.ParsedPart.TheVariants as node
 use Rattle.ptree.specs.declared.print_config.given.Given as lent_given
 use Rattle.ptree.specs.declared.print_config.lent.LentChars.{LentChars}
 
--- the document that the loader holds
-abbrev pub document_of : Document → FileNode
+-- the value at the top of a parsed document
+abbrev pub document_of : Parsed → FileNode
 document_of (document.Json v) = json (j.view v)
 document_of (document.Toml v) = toml (t.view v)
 
--- a value that it lends
-abbrev pub node_of : lent.FileNode → FileNode
+-- a value in its place in one
+abbrev pub node_of : ParsedPart → FileNode
 node_of (node.Json v) = json (j.view v.now)
 node_of (node.Toml v) = toml (t.view v.now)
 

@@ -27,6 +27,7 @@ mod faults;
 pub mod graph;
 pub mod item;
 pub mod output;
+mod parsed;
 pub mod presets;
 pub mod print_config;
 pub mod read;

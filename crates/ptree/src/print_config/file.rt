@@ -9,71 +9,45 @@ ghost use Rattle.ptree.specs.declared.print_config.loader.Fault.TheVariants.{Syn
 ghost use Rattle.serde_json.specs.View.{items_view as json_items};
 ghost use Rattle.toml.specs.View.{items_view as toml_items};
 
+use crate::parsed::{Parsed, ParsedPart, read_json, read_toml};
 use crate::print_config::open::with_last_value;
 use crate::print_config::parse::{Spelling, parse_when};
 use crate::print_config::{FileSource, StyleWhen};
 use crate::style::Color;
 use std::alloc::{AllocError, Global};
 
-// The document of a file.
-#[derive(Drop)]
-pub(crate) enum Document {
-    Json(serde_json::Value),
-    Toml(toml::Value),
-}
-
-impl Document {
-    // Reads the document of a file, if it has one.
-    pub(crate) fn read(alloc: Global, file: &FileSource) -> Result<Option<Document>, AllocError>
-        ensures { IfOk result (λ read. option_map document_of read ≡ file_document file.now) }
-    {
-        match file {
-            FileSource::Absent | FileSource::Unreadable => Ok(None),
-            FileSource::Toml(text) => parse_toml(alloc, text.as_str()),
-            FileSource::Json(text) => parse_json(alloc, text.as_str()),
-        }
-    }
-
-    // Returns the value at the top.
-    pub(crate) fn top(&self) -> FileNode<'_>
-        ensures { node_of result ≡ document_of self.now }
-    {
-        match self {
-            Document::Json(value) => FileNode::Json(value),
-            Document::Toml(value) => FileNode::Toml(value),
-        }
+// Reads the document of a file, if it has one.
+pub(crate) fn read_document(alloc: Global, file: &FileSource) -> Result<Option<Parsed>, AllocError>
+    ensures { IfOk result (λ read. option_map document_of read ≡ file_document file.now) }
+{
+    match file {
+        FileSource::Absent | FileSource::Unreadable => Ok(None),
+        FileSource::Toml(text) => parse_toml(alloc, text.as_str()),
+        FileSource::Json(text) => parse_json(alloc, text.as_str()),
     }
 }
 
 // Reads a text as TOML.
-fn parse_toml(alloc: Global, text: &str) -> Result<Option<Document>, AllocError>
+fn parse_toml(alloc: Global, text: &str) -> Result<Option<Parsed>, AllocError>
     ensures { IfOk result (λ read. option_map document_of read ≡ toml_document text.now) }
 {
-    match toml::table_from_str(alloc, text) {
-        Ok(table) => Ok(Some(Document::Toml(toml::Value::Table(table)))),
-        Err(e) => if e.is_memory() {
-            Err(AllocError)
-        } else {
-            Ok(None)
-        },
+    match read_toml(alloc, text)? {
+        Ok(table) => Ok(Some(Parsed::Toml(toml::Value::Table(table)))),
+        Err(_) => Ok(None),
     }
 }
 
-// Reads a text as JSON.
-fn parse_json(alloc: Global, text: &str) -> Result<Option<Document>, AllocError>
+// Reads a text as JSON, whose top must be an object.
+fn parse_json(alloc: Global, text: &str) -> Result<Option<Parsed>, AllocError>
     ensures { IfOk result (λ read. option_map document_of read ≡ json_document text.now) }
 {
-    match serde_json::Value::from_str(alloc, text) {
+    match read_json(alloc, text)? {
         Ok(value) => if value.is_object() {
-            Ok(Some(Document::Json(value)))
+            Ok(Some(Parsed::Json(value)))
         } else {
             Ok(None)
         },
-        Err(e) => if e.is_memory() {
-            Err(AllocError)
-        } else {
-            Ok(None)
-        },
+        Err(_) => Ok(None),
     }
 }
 
@@ -117,12 +91,9 @@ fn toml_line(alloc: Global, text: &str) -> Result<Option<usize>, AllocError>
 fn toml_place(alloc: Global, text: &str) -> Result<Option<usize>, AllocError>
     ensures { IfOk result (λ place. is_some place ≡ is_none (toml_document text.now)) }
 {
-    match toml::table_from_str(alloc, text) {
+    match read_toml(alloc, text)? {
         Ok(_) => Ok(None),
-        Err(e) => match e.span() {
-            Some(span) => Ok(Some(span.start)),
-            None => Err(AllocError),
-        },
+        Err(place) => Ok(Some(place)),
     }
 }
 
@@ -145,15 +116,13 @@ fn first_place(alloc: Global, text: &str, found: usize) -> Result<usize, AllocEr
 fn json_line(alloc: Global, text: &str) -> Result<Option<usize>, AllocError>
     ensures { IfOk result (λ line. is_some line ≡ is_none (json_document text.now)) }
 {
-    match serde_json::Value::from_str(alloc, text) {
+    match read_json(alloc, text)? {
         Ok(value) => if value.is_object() {
             Ok(None)
         } else {
             Ok(Some(top_line(text)))
         },
-        Err(e) => if e.is_memory() {
-            Err(AllocError)
-        } else if e.is_eof() {
+        Err(e) => if e.is_eof() {
             Ok(Some(e.line()))
         } else {
             Ok(Some(wrong_line(alloc, text, e.line())?))
@@ -222,13 +191,9 @@ fn filled_line(text: &str, line: usize) -> usize
 
 // Whether a text is a JSON document, or only ends too early.
 fn begins_json(alloc: Global, text: &str) -> Result<bool, AllocError> {
-    match serde_json::Value::from_str(alloc, text) {
+    match read_json(alloc, text)? {
         Ok(_) => Ok(true),
-        Err(e) => if e.is_memory() {
-            Err(AllocError)
-        } else {
-            Ok(e.is_eof())
-        },
+        Err(e) => Ok(e.is_eof()),
     }
 }
 
@@ -272,25 +237,18 @@ impl Rgb {
     }
 }
 
-// A value in a document.
-#[derive(Clone, Copy)]
-pub(crate) enum FileNode<'a> {
-    Json(&'a serde_json::Value),
-    Toml(&'a toml::Value),
-}
-
-impl<'a> FileNode<'a> {
+impl<'a> ParsedPart<'a> {
     // Returns the value at a key, if this is a table that has the key.
-    pub(crate) fn get(self, key: &str) -> Option<FileNode<'a>>
+    pub(crate) fn get(self, key: &str) -> Option<ParsedPart<'a>>
         ensures { option_map node_of result ≡ get key.now (node_of self.entry) }
     {
         match self {
-            FileNode::Json(value) => match value.get(key) {
-                Some(found) => Some(FileNode::Json(found)),
+            ParsedPart::Json(value) => match value.get(key) {
+                Some(found) => Some(ParsedPart::Json(found)),
                 None => None,
             },
-            FileNode::Toml(value) => match value.get(key) {
-                Some(found) => Some(FileNode::Toml(found)),
+            ParsedPart::Toml(value) => match value.get(key) {
+                Some(found) => Some(ParsedPart::Toml(found)),
                 None => None,
             },
         }
@@ -301,8 +259,8 @@ impl<'a> FileNode<'a> {
         ensures { result ≡ is_table (node_of self.entry) }
     {
         match self {
-            FileNode::Json(value) => value.is_object(),
-            FileNode::Toml(value) => value.is_table(),
+            ParsedPart::Json(value) => value.is_object(),
+            ParsedPart::Toml(value) => value.is_table(),
         }
     }
 
@@ -311,8 +269,8 @@ impl<'a> FileNode<'a> {
         ensures { result ≡ is_null (node_of self.entry) }
     {
         match self {
-            FileNode::Json(value) => value.is_null(),
-            FileNode::Toml(_) => false,
+            ParsedPart::Json(value) => value.is_null(),
+            ParsedPart::Toml(_) => false,
         }
     }
 
@@ -321,8 +279,8 @@ impl<'a> FileNode<'a> {
         ensures { option_copied result ≡ as_text (node_of self.entry) }
     {
         match self {
-            FileNode::Json(value) => value.as_str(),
-            FileNode::Toml(value) => value.as_str(),
+            ParsedPart::Json(value) => value.as_str(),
+            ParsedPart::Toml(value) => value.as_str(),
         }
     }
 
@@ -331,8 +289,8 @@ impl<'a> FileNode<'a> {
         ensures { result ≡ as_flag (node_of self.entry) }
     {
         match self {
-            FileNode::Json(value) => value.as_bool(),
-            FileNode::Toml(value) => value.as_bool(),
+            ParsedPart::Json(value) => value.as_bool(),
+            ParsedPart::Toml(value) => value.as_bool(),
         }
     }
 
@@ -351,8 +309,8 @@ impl<'a> FileNode<'a> {
         ensures { result ≡ as_whole (node_of self.entry) }
     {
         match self {
-            FileNode::Json(value) => value.as_u64(),
-            FileNode::Toml(value) => match value.as_integer() {
+            ParsedPart::Json(value) => value.as_u64(),
+            ParsedPart::Toml(value) => match value.as_integer() {
                 Some(n) => if n >= 0 { Some(n as u64) } else { None },
                 None => None,
             },
@@ -384,11 +342,11 @@ impl<'a> FileNode<'a> {
         ensures { result ≡ as_rgb (node_of self.entry) }
     {
         match self {
-            FileNode::Json(value) => match value.as_array() {
+            ParsedPart::Json(value) => match value.as_array() {
                 Some(items) => json_rgb(items.as_slice()),
                 None => None,
             },
-            FileNode::Toml(value) => match value.as_array() {
+            ParsedPart::Toml(value) => match value.as_array() {
                 Some(items) => toml_rgb(items.as_slice()),
                 None => None,
             },
@@ -433,9 +391,9 @@ fn json_rgb(items: &[serde_json::Value]) -> Option<Rgb>
 {
     if let [r, g, b] = items {
         Rgb::of(
-            FileNode::Json(r).as_byte(),
-            FileNode::Json(g).as_byte(),
-            FileNode::Json(b).as_byte(),
+            ParsedPart::Json(r).as_byte(),
+            ParsedPart::Json(g).as_byte(),
+            ParsedPart::Json(b).as_byte(),
         )
     } else {
         None
@@ -448,9 +406,9 @@ fn toml_rgb(items: &[toml::Value]) -> Option<Rgb>
 {
     if let [r, g, b] = items {
         Rgb::of(
-            FileNode::Toml(r).as_byte(),
-            FileNode::Toml(g).as_byte(),
-            FileNode::Toml(b).as_byte(),
+            ParsedPart::Toml(r).as_byte(),
+            ParsedPart::Toml(g).as_byte(),
+            ParsedPart::Toml(b).as_byte(),
         )
     } else {
         None

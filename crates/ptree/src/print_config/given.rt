@@ -11,8 +11,8 @@ ghost use Rattle.ptree.specs.Sources.{variables_of, last_value, file_document, g
 ghost use Rattle.ptree.specs.Style.{style_of};
 ghost use Rattle.ptree.specs.declared.print_config.fields.Field.{Field};
 
+use crate::parsed::{Parsed, ParsedPart};
 use crate::print_config::fields::{Field, Part, STYLE_FIELDS, StyleField};
-use crate::print_config::file::{Document, FileNode};
 use crate::print_config::lent::{LentChars, set_node};
 use crate::print_config::parse::{
     Spelling, parse_color, parse_flag, parse_number, parse_set, parse_when,
@@ -28,12 +28,12 @@ use std::alloc::{AllocError, Global};
 #[derive(Clone, Copy)]
 pub(crate) struct Given<'a> {
     variables: &'a [(String, String)],
-    document: Option<FileNode<'a>>,
+    document: Option<ParsedPart<'a>>,
 }
 
 impl<'a> Given<'a> {
     // Returns what the sources give, with the document of their file.
-    pub(crate) fn of(sources: &'a Sources, read: &'a Option<Document>) -> Given<'a>
+    pub(crate) fn of(sources: &'a Sources, read: &'a Option<Parsed>) -> Given<'a>
         requires { option_map document_of read.now ≡ file_document sources.now.file }
         ensures { given_of result ≡ given_by sources.now }
     {
@@ -56,7 +56,7 @@ impl<'a> Given<'a> {
 
     // Returns the top of the document, or its table of this key.
     #[tactic(auto, unfolding(crate::specs::Sources::table_at))]
-    pub(crate) fn table_at(&self, key: Option<&str>) -> Option<FileNode<'a>>
+    pub(crate) fn table_at(&self, key: Option<&str>) -> Option<ParsedPart<'a>>
         ensures { option_map node_of result
             ≡ table_at (given_of self.now) (option_copied key.entry) }
     {
@@ -68,7 +68,7 @@ impl<'a> Given<'a> {
 
     // Returns the value at a field's key.
     #[tactic(auto, unfolding(crate::specs::Sources::node))]
-    pub(crate) fn node(&self, field: Field) -> Option<FileNode<'a>>
+    pub(crate) fn node(&self, field: Field) -> Option<ParsedPart<'a>>
         ensures { option_map node_of result ≡ node (given_of self.now) field }
     {
         self.table_at(field.table())?.get(field.key())

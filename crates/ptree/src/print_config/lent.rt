@@ -4,7 +4,7 @@ ghost use Rattle.ptree.specs.Characters.{static_characters_of};
 ghost use Rattle.ptree.specs.File.{set_node, characters_in, text_at};
 ghost use Rattle.ptree.specs.Lent.{node_of, lent_characters_of};
 
-use crate::print_config::file::FileNode;
+use crate::parsed::ParsedPart;
 use crate::print_config::parse::{Spelling, parse_set};
 use crate::print_config::{StaticIndentChars, UTF_CHARS};
 
@@ -34,7 +34,7 @@ impl<'a> LentChars<'a> {
 }
 
 // Returns the set that a text names, or the characters in a table.
-pub(crate) fn set_node<'a>(value: FileNode<'a>) -> Option<LentChars<'a>>
+pub(crate) fn set_node<'a>(value: ParsedPart<'a>) -> Option<LentChars<'a>>
     ensures { option_map lent_characters_of result ≡ set_node (node_of value.entry) }
 {
     if let Some(text) = value.as_text() {
@@ -50,7 +50,7 @@ pub(crate) fn set_node<'a>(value: FileNode<'a>) -> Option<LentChars<'a>>
 }
 
 // Returns the characters in a table, with those of the regular set for missing ones.
-fn characters_in<'a>(table: FileNode<'a>) -> LentChars<'a>
+fn characters_in<'a>(table: ParsedPart<'a>) -> LentChars<'a>
     ensures { lent_characters_of result ≡ characters_in (node_of table.entry) }
 {
     let regular = &UTF_CHARS;
@@ -64,7 +64,7 @@ fn characters_in<'a>(table: FileNode<'a>) -> LentChars<'a>
 }
 
 // Returns the text at a key, or else `other`.
-fn text_at<'a>(key: &str, table: FileNode<'a>, other: &'static str) -> &'a str
+fn text_at<'a>(key: &str, table: ParsedPart<'a>, other: &'static str) -> &'a str
     ensures { result.now ≡ text_at key.now (node_of table.entry) other.now }
 {
     match table.get(key) {

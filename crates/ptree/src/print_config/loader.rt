@@ -7,8 +7,9 @@ ghost use Rattle.ptree.specs.Lent.{document_of, node_of, given_of};
 ghost use Rattle.ptree.specs.Loading.{text_fits, node_fits, variable_fault, key_fault, field_fault, table_fault, file_fault, first_of, fault_in, first_fault, loaded_config};
 ghost use Rattle.ptree.specs.Sources.{file_document};
 
+use crate::parsed::{Parsed, ParsedPart};
 use crate::print_config::fields::{FIELDS, Field, Kind, Part};
-use crate::print_config::file::{Document, FileNode};
+use crate::print_config::file::read_document;
 use crate::print_config::given::Given;
 use crate::print_config::lent::set_node;
 use crate::print_config::parse::{Spelling, parse_flag, parse_number, parse_set, parse_when};
@@ -50,18 +51,17 @@ impl fmt::Display for Fault {
                     field.kind()
                 )
             }
-            Fault::Key(field) => match field.table() {
-                Some(table) => {
-                    write!(
-                        f,
-                        "the file's key {table}.{} isn't {}",
-                        field.key(),
-                        field.kind()
-                    )
-                }
-                None => write!(f, "the file's key {} isn't {}", field.key(), field.kind()),
-            },
+            Fault::Key(field) => write_key(f, *field),
         }
+    }
+}
+
+// Writes that the value at a field's key is none that it accepts.
+fn write_key<W: fmt::Write>(f: &mut fmt::Formatter<W>, field: Field) -> fmt::Result {
+    let (key, kind) = (field.key(), field.kind());
+    match field.table() {
+        Some(table) => write!(f, "the file's key {table}.{key} isn't {kind}"),
+        None => write!(f, "the file's key {key} isn't {kind}"),
     }
 }
 
@@ -78,7 +78,7 @@ impl Error for Fault {}
 pub fn load(alloc: Global, sources: &Sources) -> Result<Option<PrintConfig>, AllocError>
     ensures { IfOk result (λ config. option_map config_of config ≡ loaded_config sources.now) }
 {
-    let document = Document::read(alloc, &sources.file)?;
+    let document = read_document(alloc, &sources.file)?;
     let loaded = load_with(alloc, sources, &document);
     drop(document);
     loaded
@@ -88,7 +88,7 @@ pub fn load(alloc: Global, sources: &Sources) -> Result<Option<PrintConfig>, All
 fn load_with(
     alloc: Global,
     sources: &Sources,
-    read: &Option<Document>,
+    read: &Option<Parsed>,
 ) -> Result<Option<PrintConfig>, AllocError>
     requires { option_map document_of read.now ≡ file_document sources.now.file }
     ensures { IfOk result (λ config. option_map config_of config ≡ loaded_config sources.now) }
@@ -111,7 +111,7 @@ fn load_with(
 pub fn first_fault(alloc: Global, sources: &Sources) -> Result<Option<Fault>, AllocError>
     ensures { IfOk result (λ fault. fault ≡ first_fault sources.now) }
 {
-    let document = Document::read(alloc, &sources.file)?;
+    let document = read_document(alloc, &sources.file)?;
     let given = Given::of(sources, &document);
     let fault = first_fault_in(&sources.file, &document, &given);
     drop(document);
@@ -131,7 +131,7 @@ pub fn faults(alloc: Global, sources: &Sources) -> Result<Vec<Fault>, AllocError
     ensures all { IfOk result (λ found. found.items ≡ all_faults sources.now) }
     ensures first { IfOk result (λ found. slice_get found.items 0 ≡ first_fault sources.now) }
 {
-    let document = Document::read(alloc, &sources.file)?;
+    let document = read_document(alloc, &sources.file)?;
     let given = Given::of(sources, &document);
     let found = faults_in(alloc, &sources.file, &document, &given);
     drop(document);
@@ -143,7 +143,7 @@ pub fn faults(alloc: Global, sources: &Sources) -> Result<Vec<Fault>, AllocError
 fn faults_in(
     alloc: Global,
     file: &FileSource,
-    read: &Option<Document>,
+    read: &Option<Parsed>,
     given: &Given<'_>,
 ) -> Result<Vec<Fault>, AllocError>
     requires { option_map document_of read.now ≡ file_document file.now }
@@ -170,7 +170,7 @@ fn push_fault(found: &mut Vec<Fault>, fault: Option<Fault>) -> Result<(), AllocE
 
 // Returns the first fault in a file, its document and the variables.
 #[tactic(auto, unfolding(crate::specs::Loading::fault_in))]
-fn first_fault_in(file: &FileSource, read: &Option<Document>, given: &Given<'_>) -> Option<Fault>
+fn first_fault_in(file: &FileSource, read: &Option<Parsed>, given: &Given<'_>) -> Option<Fault>
     requires { option_map document_of read.now ≡ file_document file.now }
     ensures first { result ≡ fault_in (file_fault file.now) (given_of given.now) }
     ensures each { HasEach all_fields }
@@ -188,7 +188,7 @@ fn first_fault_in(file: &FileSource, read: &Option<Document>, given: &Given<'_>)
 }
 
 // Returns the fault of a file that has no document.
-fn file_fault(file: &FileSource, read: &Option<Document>) -> Option<Fault>
+fn file_fault(file: &FileSource, read: &Option<Parsed>) -> Option<Fault>
     requires { option_map document_of read.now ≡ file_document file.now }
     ensures { result ≡ file_fault file.now }
 {
@@ -285,7 +285,7 @@ fn text_fits(kind: Kind, value: &str) -> bool
 }
 
 // Whether fields of a kind accept this value of a file.
-fn node_fits(kind: Kind, value: FileNode<'_>) -> bool
+fn node_fits(kind: Kind, value: ParsedPart<'_>) -> bool
     ensures { result ≡ node_fits kind (node_of value.entry) }
 {
     match kind {

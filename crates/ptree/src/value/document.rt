@@ -11,8 +11,8 @@ use super::ConvertError;
 use super::from_json::has_float;
 use super::from_toml::fault_of;
 use super::node::DocumentNode;
-use super::part::Parsed;
 use crate::output::print_tree_with;
+use crate::parsed::{Parsed, read_json, read_toml};
 use crate::print_config::{OutputKind, PrintConfig, Sources};
 use crate::style::{DrawError, Sink};
 use std::alloc::{AllocError, AllocFailed, Global};
@@ -176,8 +176,9 @@ pub fn draw_document_with<W: Sink>(
         (λ _. IsErrAnd result (IsRefusal (document format text.now)) × (out.new ≡ out.old)) }
     // Any other document is drawn.
     ensures bytes { IfOk (document format text.now)
-        (λ v. IsDrawn (config_look config.now OutputKind.Stdout terminal) (pair_shape (label.now, v))
-        config.now.depth (W.contents out.old) (W.contents out.new) result) }
+        (λ v. IsDrawn (config_look config.now OutputKind.Stdout terminal)
+        (pair_shape (label.now, v)) config.now.depth (W.contents out.old)
+        (W.contents out.new) result) }
     // In each table of a document that was drawn completely, the keys ascend, and none occurs
     // twice.
     ensures keys { (v : Data) → document format text.now ≡ Ok v → IsOk result → KeysAscend v }
@@ -214,14 +215,13 @@ fn parse_json_document(alloc: Global, text: &str) -> Result<Parsed, DocError>
     ensures keys { IfOk result (λ p. KeysAscend (parsed_of p)) }
     ensures refused { IfErr result (IsRefusal (document DocFormat.Json text.now)) }
 {
-    match serde_json::Value::from_str(alloc, text) {
+    match read_json(alloc, text)? {
         Ok(v) => {
             if has_float(&v) {
                 return Err(DocError::Float);
             }
             Ok(Parsed::Json(v))
         }
-        Err(e) if e.is_memory() => Err(DocError::Draw(DrawError::Memory)),
         Err(_) => Err(DocError::Syntax),
     }
 }
@@ -231,7 +231,7 @@ fn parse_toml_document(alloc: Global, text: &str) -> Result<Parsed, DocError>
     ensures keys { IfOk result (λ p. KeysAscend (parsed_of p)) }
     ensures refused { IfErr result (IsRefusal (document DocFormat.Toml text.now)) }
 {
-    match toml::table_from_str(alloc, text) {
+    match read_toml(alloc, text)? {
         Ok(table) => {
             let v = toml::Value::Table(table);
             if let Some(fault) = fault_of(&v) {
@@ -239,7 +239,6 @@ fn parse_toml_document(alloc: Global, text: &str) -> Result<Parsed, DocError>
             }
             Ok(Parsed::Toml(v))
         }
-        Err(e) if e.is_memory() => Err(DocError::Draw(DrawError::Memory)),
         Err(_) => Err(DocError::Syntax),
     }
 }

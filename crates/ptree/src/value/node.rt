@@ -9,10 +9,10 @@ ghost use Rattle.ptree.specs.Style.{style_of, painted_text};
 ghost use Rattle.ptree.specs.Writing.{IsWritten, HasCause, HasErrorCause, TakesNoMemory};
 ghost use Rattle.ptree.specs.declared.style.DrawError.TheVariants.{Memory};
 
-use super::part::{Parsed, ParsedPart};
 use super::text::ROOM;
 use crate::codes::Codes;
 use crate::item::{Children, Shaped, TreeItem};
+use crate::parsed::{Parsed, ParsedPart};
 use crate::style::{DrawError, Sink, Stop, Style, put_or_stop};
 use serde_json::Map;
 use std::alloc::{AllocError, Global};
@@ -33,10 +33,7 @@ impl<'a> DocumentNode<'a> {
     pub(crate) fn root(label: &'a str, parsed: &'a Parsed) -> DocumentNode<'a>
         ensures { node_pair_of result ≡ (label.now, parsed_of parsed.now) }
     {
-        match parsed {
-            Parsed::Json(v) => DocumentNode::Labelled(label, ParsedPart::Json(v)),
-            Parsed::Toml(v) => DocumentNode::Labelled(label, ParsedPart::Toml(v)),
-        }
+        DocumentNode::Labelled(label, parsed.top())
     }
 }
 

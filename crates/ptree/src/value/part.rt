@@ -1,4 +1,4 @@
-//! Parsed documents, and the values in them.
+//! The text of a value in a parsed document, and whether it is a list.
 ghost use Rattle.serde_json.specs.View.{view as json_view};
 ghost use Rattle.std.specs.Prelude.{◌≡◌};
 ghost use Rattle.toml.specs.View.{view as toml_view};
@@ -7,26 +7,7 @@ ghost use Rattle.ptree.specs.Data.{is_list, value_text};
 ghost use Rattle.ptree.specs.Parts.{part_of};
 
 use super::text::{ROOM, signed, unsigned};
-
-/// A document as its parser returned it.
-#[derive(Drop)]
-pub(crate) enum Parsed {
-    /// A JSON document.
-    Json(serde_json::Value),
-
-    /// A TOML document, which is a table.
-    Toml(toml::Value),
-}
-
-/// A value in its place in a parsed document.
-#[derive(Clone, Copy)]
-pub(crate) enum ParsedPart<'a> {
-    /// A value of a JSON document.
-    Json(&'a serde_json::Value),
-
-    /// A value of a TOML document.
-    Toml(&'a toml::Value),
-}
+use crate::parsed::ParsedPart;
 
 impl ParsedPart<'_> {
     /// Returns the value's text: one that it holds, or one that is made in `room`.

@@ -5,7 +5,7 @@ use Rattle.ptree.specs.Convert.{toml_data, toml_entries}
 use Rattle.ptree.specs.Data.{string, entry_pair}
 use Rattle.ptree.specs.Parts.{node_pair_of}
 use Rattle.ptree.specs.declared.value.node.DocumentNode.TheVariants.{Entry}
-use Rattle.ptree.specs.declared.value.part.ParsedPart.TheVariants.{Toml}
+use Rattle.ptree.specs.declared.parsed.ParsedPart.TheVariants.{Toml}
 use Rattle.ptree.proofs.Converted.{member_pair, made_more, entry_pairs_made}
 use Rattle.ptree.proofs.value.node.toml_members.Goals as goal
 
