@@ -16,7 +16,7 @@ pub record Grown : Type 0 where
 abbrev pub grown : OccurrenceTree → List Bool → Grown
 grown p seen = record { occurrence = p; seen = seen }
 
--- whether a node's neighbours are placed by then
+-- whether a node is expanded by then
 abbrev pub is_seen : List Bool → ℕ → Bool
 is_seen seen v = unwrap_or (slice_get seen v) false
 
@@ -64,7 +64,7 @@ kids_seen below levels seen v = row_seen (grow below levels) (enter (below v) se
 abbrev pub place_of : ℕ → ℕ → Place
 place_of v size = record { node = record { 0 = v }; size = size }
 
--- the size of a place with nothing below it
+-- the size of an occurrence with nothing below it
 abbrev pub leaf_size : Bool → ℕ
 leaf_size true = 0
 leaf_size false = 1
@@ -82,7 +82,7 @@ AppendsPlaces old new ts = (ps : List Place) × (new ≡ old ++ ps) × ArePlaces
 abbrev pub place_at : List Place → ℕ → Place
 place_at ps i = unwrap_or (slice_get ps i) (place_of (2 ^ 64 - 1) 1)
 
--- the shape of what is at a place, without what is below it
+-- the shape of an occurrence, without what is below it
 abbrev pub leaf_shape : {N : Type 0} → (N → List ℕ) → Option N → List ℕ → Bool → Shape
 leaf_shape text weight mark r = over_shape (weight_own text mark r weight) []
 

@@ -112,12 +112,12 @@ row_places (item v r c rest) = its_place v r c ∷ (row_places c ++ row_places r
 abbrev pub tree_places : OccurrenceTree → List Place
 tree_places t = its_place t.node t.repeated t.children ∷ row_places t.children
 
--- a place of size 0 is repeated
+-- an occurrence of size 0 is repeated
 abbrev pub is_repeated_size : ℕ → Bool
 is_repeated_size zero = true
 is_repeated_size (suc n) = false
 
--- how many places are below one of this size
+-- how many occurrences are below one of this size
 abbrev pub size_below : ℕ → ℕ
 size_below zero = 0
 size_below (suc n) = n

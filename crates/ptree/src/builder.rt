@@ -190,8 +190,8 @@ impl TreeBuilder {
 
     /// Returns the tree so far. You can add more items afterwards, and build again.
     ///
-    /// Time grows with the items and the bytes of their texts, which are copied. Above the result it
-    /// takes what [`read_tree`](crate::read::read_tree) takes, but for the text at hand.
+    /// Time grows with the items and the bytes of their texts, which are copied. Above the result
+    /// it takes what [`read_tree`](crate::read::read_tree) takes, but for the text at hand.
     ///
     /// # Errors
     ///

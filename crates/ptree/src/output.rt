@@ -41,8 +41,8 @@ where
     W: Sink,
     ensures bytes { IsDrawn (config_look config.now output_kind terminal) (T.shape item.now)
         config.now.depth (W.contents f.old) (W.contents f.new) result }
-    ensures whole { LeavesWholeEntries (config_look config.now output_kind terminal) (T.shape item.now)
-        config.now.depth (W.contents f.old) (W.contents f.new) result }
+    ensures whole { LeavesWholeEntries (config_look config.now output_kind terminal)
+        (T.shape item.now) config.now.depth (W.contents f.old) (W.contents f.new) result }
     ensures cause { HasCause (W.faults f.old) (W.faults f.new) result }
 {
     let look = Look::of_config(alloc, config, output_kind, terminal)?;
@@ -68,8 +68,8 @@ where
         IsDrawn (look_by effective output_kind terminal) (T.shape item.now) effective.depth
         (W.contents f.old) (W.contents f.new) result }
     ensures whole { let effective = effective_config sources.now in
-        LeavesWholeEntries (look_by effective output_kind terminal) (T.shape item.now) effective.depth
-        (W.contents f.old) (W.contents f.new) result }
+        LeavesWholeEntries (look_by effective output_kind terminal) (T.shape item.now)
+        effective.depth (W.contents f.old) (W.contents f.new) result }
     ensures cause { HasCause (W.faults f.old) (W.faults f.new) result }
 {
     let config = PrintConfig::from_env(alloc, sources)?;
@@ -102,8 +102,8 @@ where
         (W.contents out.old) (W.contents out.new) result }
     // If memory ran out, whole entries were appended.
     ensures whole { let effective = effective_config sources.now in
-        LeavesWholeEntries (look_by effective OutputKind.Stdout terminal) (T.shape item.now) effective.depth
-        (W.contents out.old) (W.contents out.new) result }
+        LeavesWholeEntries (look_by effective OutputKind.Stdout terminal) (T.shape item.now)
+        effective.depth (W.contents out.old) (W.contents out.new) result }
     ensures cause { HasCause (W.faults out.old) (W.faults out.new) result }
 {
     draw_by_sources(alloc, item, out, OutputKind::Stdout, terminal, sources)
@@ -191,8 +191,8 @@ where
         (W.contents f.old) (W.contents f.new) result }
     // If memory ran out, whole entries were appended.
     ensures whole { let effective = effective_config sources.now in
-        LeavesWholeEntries (look_by effective OutputKind.Unknown false) (T.shape item.now) effective.depth
-        (W.contents f.old) (W.contents f.new) result }
+        LeavesWholeEntries (look_by effective OutputKind.Unknown false) (T.shape item.now)
+        effective.depth (W.contents f.old) (W.contents f.new) result }
     ensures cause { HasCause (W.faults f.old) (W.faults f.new) result }
 {
     draw_by_sources(alloc, item, f, OutputKind::Unknown, false, sources)

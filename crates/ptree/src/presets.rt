@@ -85,8 +85,8 @@ impl PieceSettings {
 impl Preset {
     // Returns the settings of the program's pieces.
     fn pieces(self) -> PieceSettings
-        ensures { drawn_with (static_characters_of result.characters.now) result.indent result.padding
-            ≡ preset_of self }
+        ensures { drawn_with (static_characters_of result.characters.now) result.indent
+            result.padding ≡ preset_of self }
     {
         match self {
             Preset::Tree => PieceSettings::new(&TREE_CHARS, 0, 0),

@@ -215,16 +215,16 @@ pub fn print_graph<N: Label, W: Sink>(
         effective.depth (W.contents out.old) (W.contents out.new) result }
     ensures whole { let effective = effective_config sources.now in
         LeavesWholeEntries (look_by effective OutputKind.Stdout terminal)
-        (node_shape N.text graph.now start.0) effective.depth (W.contents out.old) (W.contents out.new)
-        result }
+        (node_shape N.text graph.now start.0) effective.depth (W.contents out.old)
+        (W.contents out.new) result }
     ensures cause { HasCause (W.faults out.old) (W.faults out.new) result }
     // The drawings of a node are those of the tree of the walks from it.
     ensures walks { let effective = effective_config sources.now in
         let look = look_by effective OutputKind.Stdout terminal in
         start.0 < length (weights_of graph.now) → (text : List ℕ)
         → IsDrawing look (node_shape N.text graph.now start.0) effective.depth text
-        ↔ IsDrawing look (shape_of_tree (walks N.text graph.now start.0 effective.depth)) effective.depth
-        text }
+        ↔ IsDrawing look (shape_of_tree (walks N.text graph.now start.0 effective.depth))
+        effective.depth text }
 {
     print_tree(
         alloc,

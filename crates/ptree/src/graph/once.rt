@@ -30,7 +30,7 @@ pub struct Expanded<'a, N> {
     /// The text after the label of a repeated occurrence.
     pub mark: &'a str,
 
-    /// The places.
+    /// The occurrences.
     pub occurrence: &'a Occurrence,
 }
 
@@ -53,8 +53,8 @@ pub struct OccurrenceItem<'a, N> {
     /// The graph that is expanded.
     pub expanded: &'a Expanded<'a, N>,
 
-    /// The number of the occurrence's place. One that is no place's means an item that writes
-    /// nothing and has no children.
+    /// The number of the occurrence. One that no occurrence has means an item that writes nothing
+    /// and has no children.
     pub index: usize,
 }
 
@@ -82,10 +82,11 @@ impl<N> OccurrenceItem<'_, N> {
         self.expanded.graph.degree(self.place().node)
     }
 
-    // The place, or one of a number that no node has.
+    // The occurrence, or one of a number that no node has.
     #[inline(always)]
     fn place(&self) -> Place
-        ensures { result ≡ place_at self.now.expanded.now.occurrence.now.places.items self.now.index }
+        ensures { result
+            ≡ place_at self.now.expanded.now.occurrence.now.places.items self.now.index }
     {
         match self.expanded.occurrence.places.get(self.index) {
             Some(place) => *place,
@@ -136,7 +137,7 @@ impl<'a, N: Label> TreeItem for OccurrenceItem<'a, N> {
     }
 }
 
-// How many places are below the one at an index, if it is one of those that are left.
+// How many occurrences are below the one at an index, if it is one of those that are left.
 #[inline(always)]
 fn next_below(places: &[Place], index: usize, left: usize) -> Option<usize>
     ensures some { IfSome result (λ below. IsNextPlace places.now index left below) }
@@ -248,8 +249,8 @@ fn write_with_codes<N: Label, W: Sink>(
 /// A repeated occurrence has the mark after its label. `cargo tree` has [`REPEATED_MARK`]; an empty
 /// mark writes nothing.
 ///
-/// Time grows with what is drawn. Memory holds one entry and a flag for each node up to the last one
-/// that is expanded, and the stack grows with the levels of the drawing.
+/// Time grows with what is drawn. Memory holds one entry and a flag for each node up to the last
+/// one that is expanded, and the stack grows with the levels of the drawing.
 ///
 /// # Errors
 ///

@@ -1,4 +1,4 @@
-//! The places of a graph in which each node is expanded once.
+//! The occurrences of nodes in a graph in which each node is expanded once.
 ghost use Rattle.std.specs.Prelude.{◌≡◌, ◌≢◌, ◌∷◌, [], ◌≤◌, ◌<◌, ◌^◌, ℕ, true, false, length, slice_set, IfOk, OnOk};
 ghost use Rattle.ptree.specs.Graph.{weights_of, edges_of, neighbors_of};
 ghost use Rattle.ptree.specs.GraphLinks.{newest_from};
@@ -8,19 +8,19 @@ ghost use Rattle.ptree.specs.Occurrence.{IsExpandedOnce, LeavesUnrepeated, Expan
 use super::{Graph, NodeIndex};
 use std::alloc::AllocError;
 
-/// One of the places at which a node is, where a graph is drawn with each node expanded once.
+/// An occurrence of a node, where a graph is drawn with each node expanded once.
 #[derive(Debug, Clone, Copy)]
 pub struct Place {
     /// The node.
     pub node: NodeIndex,
 
-    /// How many places there are here and below. 0 says that the node is repeated: its neighbours
-    /// are below an earlier place of it, and nothing is below this one.
+    /// How many occurrences this one and those below it are. 0 says that it is repeated: the node's
+    /// neighbours are below an earlier occurrence of it, and nothing is below this one.
     pub size: usize,
 }
 
 impl Place {
-    // A place with nothing below it.
+    // An occurrence with nothing below it.
     #[inline(always)]
     pub(super) fn leaf(node: NodeIndex, repeated: bool) -> Place
         ensures { result ≡ place_of node.0 (leaf_size repeated) }
@@ -31,7 +31,7 @@ impl Place {
         }
     }
 
-    /// Whether the node's neighbours are below an earlier place of it.
+    /// Whether the node's neighbours are below an earlier occurrence of it.
     #[inline(always)]
     pub fn is_repeated(&self) -> bool
         ensures { result ≡ is_repeated_size self.now.size }
@@ -39,7 +39,7 @@ impl Place {
         self.size == 0
     }
 
-    /// How many places are below this one.
+    /// How many occurrences are below this one.
     #[inline(always)]
     pub fn below(&self) -> usize
         ensures { result ≡ size_below self.now.size }
@@ -48,14 +48,14 @@ impl Place {
     }
 }
 
-/// A graph as a tree in which each node is expanded once: all its places, in the order of drawing.
+/// A graph as a tree in which each node is expanded once: its occurrences, in the order of drawing.
 ///
-/// The first place is the root. Below a place are the places right after it, as many as
+/// The first occurrence is the root. Below an occurrence are those right after it, as many as
 /// [`Place::below`] says: those of the node's neighbours, newest edge first, each followed by what
-/// is below it. Nothing is below a place at the depth.
+/// is below it. Nothing is below an occurrence at the depth.
 #[derive(Debug, Drop)]
 pub struct Occurrence {
-    /// The places.
+    /// The occurrences.
     pub places: Vec<Place>,
 }
 
@@ -79,7 +79,7 @@ impl<N> Graph<N> {
         ensures tree { IfOk result (λ o.
             IsExpandedOnce (neighbors_of (edges_of self.now)) start.0 depth (occurrence_tree o)) }
         ensures one_tree { HasOneTree (neighbors_of (edges_of self.now)) start.0 depth }
-        // Each place is an occurrence's, in order, and has the number of occurrences here and below.
+        // They are the tree's occurrences in order, each with the number of itself and those below.
         ensures places { IfOk result (λ o. o.places.items ≡ tree_places (occurrence_tree o)) }
         ensures count { IfOk result (λ o.
             length o.places.items ≡ occurrence_count (occurrence_tree o)) }
@@ -97,7 +97,7 @@ impl<N> Graph<N> {
         Ok(Occurrence { places })
     }
 
-    // Appends the places of a node and of what is below it, down to so many levels, where the nodes
+    // Appends an occurrence of a node and those below it, down to so many levels, where the nodes
     // that are seen are expanded already.
     #[cycle(push)]
     #[inline(always)]
@@ -131,7 +131,7 @@ impl<N> Graph<N> {
     }
 
     // Does what `push_places` does, for a node that is expanded here: the newest edge from it is
-    // given. It is a function of its own, so that a place with nothing below it costs no call.
+    // given. It is a function of its own, so that one with nothing below it costs no call.
     #[cycle(push)]
     #[inline(never)]
     fn push_expanded(

@@ -1,5 +1,5 @@
-//! Draws a graph with each node expanded once, along its edges, as the engine draws items. Nothing is
-//! made for a place.
+//! Draws a graph with each node expanded once, along its edges, as the engine draws items. Nothing
+//! is made for an occurrence.
 ghost use Rattle.std.specs.Prelude.{◌≡◌, ℕ, true, false, Some, None, slice_get, length, take, map, ◌≤◌, ◌<◌, ◌≢◌, ◌++◌, [], OnOk, OnErr, Err, List, eqb};
 ghost use Rattle.std.specs.List.{concat};
 ghost use Rattle.ptree.specs.Drawing.{config_look};
@@ -34,8 +34,8 @@ pub(super) struct Marked<'a, N> {
     pub(super) mark: &'a str,
 }
 
-// What is drawn at a place, without what is below it. Whether it is the start is a part of the type,
-// so that what draws a place has one caller, the loop over a row, and is inlined there.
+// What is drawn of an occurrence, without what is below it. Whether it is the start is a part of
+// the type, so that what draws one has one caller, the loop over a row, and is inlined there.
 #[derive(Drop)]
 struct Leaf<'a, N, const IS_START: bool> {
     weight: Option<&'a N>,
@@ -76,8 +76,8 @@ fn is_oldest(edge: &Edge) -> bool
     edge.next == 0
 }
 
-// Draws a node at one of its places, and what is below it there, where the nodes that are seen are
-// expanded already. It takes and leaves the buffer as the engine does with an item.
+// Draws an occurrence of a node and what is below it, where the nodes that are seen are expanded
+// already. It takes and leaves the buffer as the engine does with an item.
 #[cycle(draw_row)]
 #[inline(always)]
 fn draw_node<N: Label, W: Sink>(
@@ -375,8 +375,8 @@ fn draw_with<N: Label, W: Sink>(
     }
 }
 
-// Draws a graph with each node expanded once to output of a kind, down to the configuration's depth.
-// `terminal` says whether standard output is a terminal.
+// Draws a graph with each node expanded once to output of a kind, down to the configuration's
+// depth. `terminal` says whether standard output is a terminal.
 pub(super) fn draw_marked<N: Label, W: Sink>(
     alloc: Global,
     marked: &Marked<'_, N>,

@@ -11,8 +11,8 @@ use crate::style::Sink;
 use std::alloc::{AllocError, Global};
 use std::io;
 
-/// The bytes of an entry, gathered so that one put writes them: the first `used` bytes of `room`. As
-/// a sink it fails if it cannot grow.
+/// The bytes of an entry, gathered so that one put writes them: the first `used` bytes of `room`.
+/// As a sink it fails if it cannot grow.
 #[derive(Drop)]
 pub(crate) struct LineBuffer {
     room: Vec<u8>,
@@ -73,8 +73,8 @@ impl LineBuffer {
         Ok(())
     }
 
-    // Makes room for so many bytes more, and an eighth beyond them. All the room is filled, so it does
-    // not double. It is a function of its own, since it is seldom called.
+    // Makes room for so many bytes more, and an eighth beyond them. All the room is filled, so it
+    // does not double. It is a function of its own, since it is seldom called.
     #[cold]
     #[inline(never)]
     fn grow(&mut self, more: usize) -> Result<(), AllocError>

@@ -112,8 +112,8 @@ fn set_value(open: &mut Vec<Open>, value: usize) {
     }
 }
 
-// Returns a text up to the last key whose value is not over at its end, with 0 as the value, and all
-// that is open closed; or an empty text if there is no such key.
+// Returns a text up to the last key whose value is not over at its end, with 0 as the value, and
+// all that is open closed; or an empty text if there is no such key.
 pub(super) fn with_last_value(alloc: Global, text: &str) -> Result<String, AllocError> {
     let open = open_at_end(alloc, text)?;
     let mut closed = String::new(alloc);
