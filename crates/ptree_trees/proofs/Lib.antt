@@ -22,6 +22,7 @@ pub mod PathTrees
 pub mod RefusedPaths
 pub mod RefusedRows
 pub mod RefusedSteps
+pub mod RefusedLoops
 pub mod SharedStarts
 pub mod SortedCuts
 pub mod StartLoops

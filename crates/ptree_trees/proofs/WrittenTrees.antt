@@ -5,7 +5,7 @@ use Rattle.serde_json.specs.Data as j
 use Rattle.toml.specs.Data as t
 use Rattle.ptree.specs.Tree.{Tree, tree_of, tree_kids}
 use Rattle.ptree.specs.declared.item.StringItem.{StringItem}
-use Rattle.ptree_trees.specs.WrittenDocument.{IsTextTree, IsTreeUnder, IsEntryText, is_json_list, is_toml_list, IsJsonText, IsJsonMemberText, AreJsonKids, AreJsonElements, AreJsonMembers, IsTomlText, IsTomlMemberText, AreTomlKids, AreTomlElements, AreTomlMembers}
+use Rattle.ptree_trees.specs.WrittenDocument.{IsTextTree, IsTreeUnder, IsEntryText, is_json_list, is_toml_list, IsJsonText, IsJsonMemberText, IsTomlText, IsTomlMemberText}
 
 -- with trees of what is left, the trees are those of all
 pub record HasTreesBut {A : Type 0} (R : A → List Tree → Type 0) (all left : A) (made : List Tree) : Type 0 where
@@ -24,37 +24,14 @@ one_tree R all left next made more s h first e =
 pub all_trees : {A : Type 0} (R : A → List Tree → Type 0) (all left : A) (made : List Tree) → HasTreesBut R all left made → R left [] → R all made
 all_trees R all left made h none = subst (R all) (append-nil made) (h.go [] none)
 
--- an element more
-pub json_element_made : (all left next : j.Items) (d : j.Data) (made more : List StringItem) (s : StringItem) (text : List ℕ) (kids : List Tree)
-    → HasTreesBut AreJsonElements all left (map tree_of made) → left ≡ j.item d next → IsJsonText d text → AreJsonKids d kids
-    → (tree_of s).text ≡ text → tree_kids (tree_of s) ≡ kids → more ≡ made ++ s ∷ [] → HasTreesBut AreJsonElements all next (map tree_of more)
-json_element_made all left next d made more s text kids h e is below own under a =
-    one_tree AreJsonElements all left next made more s h
-    (λ rest g. subst (λ z. AreJsonElements z (tree_of s ∷ rest)) (sym e) ((subst (IsJsonText d) (sym own) is, subst (AreJsonKids d) (sym under) below), g)) a
-
--- a member more
-pub json_member_made : (all left next : j.Members) (k : List ℕ) (d : j.Data) (made more : List StringItem) (s : StringItem) (text : List ℕ) (kids : List Tree)
-    → HasTreesBut AreJsonMembers all left (map tree_of made) → left ≡ j.member k d next → IsJsonMemberText k d text → AreJsonKids d kids
-    → (tree_of s).text ≡ text → tree_kids (tree_of s) ≡ kids → more ≡ made ++ s ∷ [] → HasTreesBut AreJsonMembers all next (map tree_of more)
-json_member_made all left next k d made more s text kids h e is below own under a =
-    one_tree AreJsonMembers all left next made more s h
-    (λ rest g. subst (λ z. AreJsonMembers z (tree_of s ∷ rest)) (sym e) ((subst (IsJsonMemberText k d) (sym own) is, subst (AreJsonKids d) (sym under) below), g)) a
-
--- an element more
-pub toml_element_made : (all left next : t.Items) (d : t.Data) (made more : List StringItem) (s : StringItem) (text : List ℕ) (kids : List Tree)
-    → HasTreesBut AreTomlElements all left (map tree_of made) → left ≡ t.item d next → IsTomlText d text → AreTomlKids d kids
-    → (tree_of s).text ≡ text → tree_kids (tree_of s) ≡ kids → more ≡ made ++ s ∷ [] → HasTreesBut AreTomlElements all next (map tree_of more)
-toml_element_made all left next d made more s text kids h e is below own under a =
-    one_tree AreTomlElements all left next made more s h
-    (λ rest g. subst (λ z. AreTomlElements z (tree_of s ∷ rest)) (sym e) ((subst (IsTomlText d) (sym own) is, subst (AreTomlKids d) (sym under) below), g)) a
-
--- a member more
-pub toml_member_made : (all left next : t.Members) (k : List ℕ) (d : t.Data) (made more : List StringItem) (s : StringItem) (text : List ℕ) (kids : List Tree)
-    → HasTreesBut AreTomlMembers all left (map tree_of made) → left ≡ t.member k d next → IsTomlMemberText k d text → AreTomlKids d kids
-    → (tree_of s).text ≡ text → tree_kids (tree_of s) ≡ kids → more ≡ made ++ s ∷ [] → HasTreesBut AreTomlMembers all next (map tree_of more)
-toml_member_made all left next k d made more s text kids h e is below own under a =
-    one_tree AreTomlMembers all left next made more s h
-    (λ rest g. subst (λ z. AreTomlMembers z (tree_of s ∷ rest)) (sym e) ((subst (IsTomlMemberText k d) (sym own) is, subst (AreTomlKids d) (sym under) below), g)) a
+-- the tree of an element or a member more
+pub tree_made : {A : Type 0} (R : A → List Tree → Type 0) (IsText : List ℕ → Type 0) (AreKids : List Tree → Type 0) (all left first next : A) (made more : List StringItem) (s : StringItem) (text : List ℕ) (kids : List Tree)
+    → ((tree : Tree) (rest : List Tree) → (IsText tree.text × AreKids (tree_kids tree)) × R next rest → R first (tree ∷ rest))
+    → HasTreesBut R all left (map tree_of made) → left ≡ first → IsText text → AreKids kids
+    → (tree_of s).text ≡ text → tree_kids (tree_of s) ≡ kids → more ≡ made ++ s ∷ [] → HasTreesBut R all next (map tree_of more)
+tree_made R IsText AreKids all left first next made more s text kids step h e is below own under a =
+    one_tree R all left next made more s h
+    (λ rest g. subst (λ z. R z (tree_of s ∷ rest)) (sym e) (step (tree_of s) rest ((subst IsText (sym own) is, subst AreKids (sym under) below), g))) a
 
 -- the tree of a value that is no list
 pub simple_tree : (b : Bool) (label text : List ℕ) (IsText : List ℕ → Type 0) (AreBelow : List Tree → Type 0) (t : Tree) → b ≡ false → IsText text → IsTextTree label text t

@@ -8,6 +8,7 @@ mod of_json;
 mod of_toml;
 mod refused;
 
+use crate::parsed::{read_json, read_toml};
 pub use of_json::json_tree;
 pub use of_toml::toml_tree;
 use ptree::item::StringItem;
@@ -46,13 +47,9 @@ fn json_document_tree(
     ensures { IfOk result (λ s.
         IsDocumentTree DocFormat.Json text.now label.now (option_map tree_of s)) }
 {
-    match serde_json::Value::from_str(alloc, text) {
-        Ok(value) => Ok(Some(json_tree(alloc, label, &value)?)),
-        Err(e) => if e.is_memory() {
-            Err(AllocError)
-        } else {
-            Ok(None)
-        },
+    match read_json(alloc, text)? {
+        Some(value) => Ok(Some(json_tree(alloc, label, &value)?)),
+        None => Ok(None),
     }
 }
 
@@ -65,13 +62,9 @@ fn toml_document_tree(
     ensures { IfOk result (λ s.
         IsDocumentTree DocFormat.Toml text.now label.now (option_map tree_of s)) }
 {
-    match toml::table_from_str(alloc, text) {
-        Ok(table) => Ok(Some(toml_tree(alloc, label, &toml::Value::Table(table))?)),
-        Err(e) => if e.is_memory() {
-            Err(AllocError)
-        } else {
-            Ok(None)
-        },
+    match read_toml(alloc, text)? {
+        Some(table) => Ok(Some(toml_tree(alloc, label, &toml::Value::Table(table))?)),
+        None => Ok(None),
     }
 }
 

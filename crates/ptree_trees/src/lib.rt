@@ -9,6 +9,7 @@ pub mod documents;
 mod errors;
 pub mod escape;
 pub mod indented;
+mod parsed;
 pub mod paths;
 pub mod settings;
 pub mod styled;

@@ -20,9 +20,9 @@ use std::alloc::{AllocError, Global};
 /// The texts of the items below one item differ, and stand in the order in which the paths give
 /// them first. A name may be empty.
 ///
-/// It takes time for each byte of the paths, and at each level for a sort of the paths by their next
-/// names. Above the result it takes memory for the number of paths times the greatest number of
-/// names in one of them, and it calls itself once for each name of a path.
+/// It takes time for each byte of the paths, and at each level for a sort of the paths by their
+/// next names. Above the result it takes memory for the number of paths times the greatest number
+/// of names in one of them, and it calls itself once for each name of a path.
 ///
 /// # Errors
 ///

@@ -7,6 +7,7 @@ ghost use Rattle.ptree_trees.specs.RefusedWalk.{path_found};
 mod of_json;
 mod of_toml;
 
+use crate::parsed::{read_json, read_toml};
 pub use of_json::json_refused_path;
 pub use of_toml::toml_refused_path;
 use ptree::value::DocFormat;
@@ -61,13 +62,9 @@ fn refused_json_path(alloc: Global, text: &str) -> Result<Option<Vec<Step>>, All
     ensures { IfOk result (λ path.
         IsRefusedPath DocFormat.Json text.now (option_map path_of path)) }
 {
-    match serde_json::Value::from_str(alloc, text) {
-        Ok(value) => json_refused_path(alloc, &value),
-        Err(e) => if e.is_memory() {
-            Err(AllocError)
-        } else {
-            Ok(None)
-        },
+    match read_json(alloc, text)? {
+        Some(value) => json_refused_path(alloc, &value),
+        None => Ok(None),
     }
 }
 
@@ -76,13 +73,9 @@ fn refused_toml_path(alloc: Global, text: &str) -> Result<Option<Vec<Step>>, All
     ensures { IfOk result (λ path.
         IsRefusedPath DocFormat.Toml text.now (option_map path_of path)) }
 {
-    match toml::table_from_str(alloc, text) {
-        Ok(table) => Ok(toml_refused_path(alloc, &toml::Value::Table(table))?),
-        Err(e) => if e.is_memory() {
-            Err(AllocError)
-        } else {
-            Ok(None)
-        },
+    match read_toml(alloc, text)? {
+        Some(table) => toml_refused_path(alloc, &toml::Value::Table(table)),
+        None => Ok(None),
     }
 }
 

@@ -9,8 +9,9 @@ use crate::paths::group::Group;
 use crate::paths::key::KeyedCut;
 use std::alloc::{AllocError, Global};
 
-// Returns the groups of what follows a text in paths that begin with it, in the order of their names,
-// or in that of their first paths. It keeps what it needs out of the stack of the levels above.
+// Returns the groups of what follows a text in paths that begin with it, in the order of their
+// names, or in that of their first paths. It keeps what it needs out of the stack of the levels
+// above.
 #[inline(never)]
 pub fn groups<'a>(
     alloc: Global,
@@ -22,7 +23,8 @@ pub fn groups<'a>(
     requires separator { separator < 128 }
     requires start { AllStart separator start.now paths.now }
     ensures { IfOk result (λ gs.
-        AreGroups is_sorted separator (map group_of gs.items) (names_behind separator start.now paths.now)) }
+        AreGroups is_sorted separator (map group_of gs.items)
+        (names_behind separator start.now paths.now)) }
 {
     let mut groups = groups_by_name(alloc, paths, start, separator)?;
     if is_sorted {
@@ -42,7 +44,8 @@ fn groups_by_name<'a>(
     requires separator { separator < 128 }
     requires start { AllStart separator start.now paths.now }
     ensures { IfOk result (λ gs.
-        IsPathGroups separator (map group_of gs.items) (names_behind separator start.now paths.now)) }
+        IsPathGroups separator (map group_of gs.items)
+        (names_behind separator start.now paths.now)) }
 {
     let cuts = cut_paths(alloc, paths, start, separator)?;
     let mut sorted = keyed(alloc, cuts.as_slice())?;

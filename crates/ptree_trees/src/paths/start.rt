@@ -5,8 +5,9 @@ ghost use Rattle.ptree_trees.specs.SharedStart.{AllStart};
 
 use crate::paths::cut::CutPath;
 
-// Returns a text with which all paths begin, within their first names, so that the keys of these need
-// not hold it: the longest one of whole characters, or none if the first name is whole in its key.
+// Returns a text with which all paths begin, within their first names, so that the keys of these
+// need not hold it: the longest one of whole characters, or none if the first name is whole in its
+// key.
 #[inline(never)]
 pub fn shared_start<'a>(paths: &[&'a str], separator: char) -> &'a str
     requires { separator < 128 }
@@ -32,8 +33,8 @@ pub fn shared_start<'a>(paths: &[&'a str], separator: char) -> &'a str
 fn shared<'a>(a: &'a str, b: &str) -> &'a str
     ensures first { a.now ≡ result.now ++ drop (length result.now) a.now }
     ensures second { b.now ≡ result.now ++ drop (length result.now) b.now }
-    ensures longest { (i : ℕ) → length result.now < i → i ≤ length a.now → take i a.now ≡ take i b.now
-        → ¬ (IsCharBoundary a.now i) }
+    ensures longest { (i : ℕ) → length result.now < i → i ≤ length a.now
+        → take i a.now ≡ take i b.now → ¬ (IsCharBoundary a.now i) }
 {
     let (start, _) = a.split_at(a.floor_char_boundary(same_bytes(a.as_bytes(), b.as_bytes())));
     start

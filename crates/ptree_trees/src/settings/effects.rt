@@ -124,8 +124,8 @@ fn push_unknown_keys(
     entries: &[Entry],
 ) -> Result<(), AllocError>
     ensures { OnOk result (map warning_of found.new.items ≡ map warning_of found.old.items
-        ++ flat_map (λ e. unknown_key_warnings (option_map string_bytes e.table) (string_bytes e.key))
-        entries.now) }
+        ++ flat_map (λ e.
+        unknown_key_warnings (option_map string_bytes e.table) (string_bytes e.key)) entries.now) }
 {
     for entry in entries {
         push_if_unknown(alloc, found, entry)?;

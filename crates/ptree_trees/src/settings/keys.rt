@@ -10,6 +10,7 @@ ghost use Rattle.ptree_trees.specs.KeyLists.{AddsKeys};
 
 use super::names::{field_at, is_known};
 use super::shown::{written_json, written_toml};
+use crate::parsed::{read_json, read_toml};
 use ptree::print_config::{Field, FileSource};
 use serde_json::Map;
 use std::alloc::{AllocError, Global};
@@ -100,13 +101,9 @@ fn toml_entries(alloc: Global, text: &str) -> Result<Vec<Entry>, AllocError>
     ensures { IfOk result (λ found.
         AreMatched IsEntry (file_keys (toml_document text.now)) found.items) }
 {
-    match toml::table_from_str(alloc, text) {
-        Ok(top) => toml_file_entries(alloc, &top),
-        Err(e) => if e.is_memory() {
-            Err(AllocError)
-        } else {
-            Ok(Vec::new(alloc))
-        },
+    match read_toml(alloc, text)? {
+        Some(top) => toml_file_entries(alloc, &top),
+        None => Ok(Vec::new(alloc)),
     }
 }
 
@@ -181,13 +178,9 @@ fn json_entries(alloc: Global, text: &str) -> Result<Vec<Entry>, AllocError>
     ensures { IfOk result (λ found.
         AreMatched IsEntry (file_keys (json_document text.now)) found.items) }
 {
-    match serde_json::Value::from_str(alloc, text) {
-        Ok(value) => json_value_entries(alloc, &value),
-        Err(e) => if e.is_memory() {
-            Err(AllocError)
-        } else {
-            Ok(Vec::new(alloc))
-        },
+    match read_json(alloc, text)? {
+        Some(value) => json_value_entries(alloc, &value),
+        None => Ok(Vec::new(alloc)),
     }
 }
 

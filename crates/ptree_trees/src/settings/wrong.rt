@@ -8,6 +8,7 @@ ghost use Rattle.ptree_trees.specs.Settings.{IsWrongValue, IsShown, value_at};
 
 use super::keys::copy;
 use super::shown::{written_json, written_toml};
+use crate::parsed::{read_json, read_toml};
 use ptree::print_config::{Fault, FileSource, Sources, Spelling, last_value};
 use std::alloc::{AllocError, Global};
 
@@ -64,13 +65,9 @@ fn toml_text_at(
     ensures { IfOk result
         (IsShown (value_at (option_copied table.entry) key.now (toml_document text.now))) }
 {
-    match toml::table_from_str(alloc, text) {
-        Ok(top) => toml_value_at(alloc, &toml::Value::Table(top), table, key),
-        Err(e) => if e.is_memory() {
-            Err(AllocError)
-        } else {
-            Ok(None)
-        },
+    match read_toml(alloc, text)? {
+        Some(top) => toml_value_at(alloc, &toml::Value::Table(top), table, key),
+        None => Ok(None),
     }
 }
 
@@ -107,13 +104,9 @@ fn json_text_at(
     ensures { IfOk result
         (IsShown (value_at (option_copied table.entry) key.now (json_document text.now))) }
 {
-    match serde_json::Value::from_str(alloc, text) {
-        Ok(top) => json_value_at(alloc, &top, table, key),
-        Err(e) => if e.is_memory() {
-            Err(AllocError)
-        } else {
-            Ok(None)
-        },
+    match read_json(alloc, text)? {
+        Some(top) => json_value_at(alloc, &top, table, key),
+        None => Ok(None),
     }
 }
 

@@ -66,7 +66,8 @@ fn element_path(alloc: Global, items: &Vec<toml::Value>) -> Result<Option<Vec<St
 #[cycle(walk)]
 fn member_path(alloc: Global, members: &Table) -> Result<Option<Vec<Step>>, AllocError>
     ensures { IfOk result (λ found.
-        IsFirstFloatOrDate (table (members_view members.now.entries)) (option_map path_found found)) }
+        IsFirstFloatOrDate (table (members_view members.now.entries))
+        (option_map path_found found)) }
 {
     for (key, member) in members.iter() {
         if let Some(mut found) = fault_path(alloc, member)? {

@@ -1,17 +1,11 @@
-use Rattle.std.proofs.Common.{rules, ◌≡◌, ◌∙◌, ◌+◌, [], ◌∷◌, ◌++◌, arith, refl, ap, sym, subst, map, reverse, drop, Some, None, option_map, IfOk, string_bytes}
-use Rattle.std.proofs.lemmas.List.{at_drop_more, drop_all}
-use Rattle.std.proofs.lemmas.Map.Keys.{sorted_head, sorted_tail}
-use Rattle.std.specs.List.Sorted.{IsStrictlySortedBy}
-use Rattle.std.specs.Map.{keys_of}
-use Rattle.std.specs.String.{string_cmp}
+use Rattle.std.proofs.Common.{rules, ◌≡◌, refl, ap, subst, map, reverse, Some, None, option_map, IfOk, string_bytes}
 use Rattle.toml.specs.Data as t
 use Rattle.toml.specs.View.{view, items_view, members_view}
 use Rattle.toml.specs.declared.value.Value.{the_lemmas}
-use Rattle.ptree_trees.specs.declared.documents.refused.Step.TheVariants.{Key, Position}
-use Rattle.ptree_trees.specs.RefusedPath.{at_key, at_position, step_of, toml_at_step, IsFloatOrDate, IsFirstFloatOrDate}
-use Rattle.ptree_trees.specs.RefusedWalk.{path_found, element_rows, member_rows}
-use Rattle.ptree_trees.proofs.RefusedPaths.{none_in_leaf, first_of_kind, one_row_passed, next_row_found, all_rows_passed, found_below}
-use Rattle.ptree_trees.proofs.RefusedRows.{elements_after, members_after}
+use Rattle.ptree_trees.specs.RefusedPath.{step_of, toml_at_step, IsFloatOrDate, IsFirstFloatOrDate}
+use Rattle.ptree_trees.specs.RefusedWalk.{path_found}
+use Rattle.ptree_trees.proofs.RefusedLoops.{element_passed, element_found, elements_passed, member_passed, member_found, members_passed}
+use Rattle.ptree_trees.proofs.RefusedPaths.{none_in_leaf, first_of_kind}
 use Rattle.ptree_trees.proofs.RefusedSteps.{first_in_toml_list, first_in_toml_members}
 use Rattle.ptree_trees.proofs.documents.refused.of_toml.+walk.Goals as goal
 
@@ -52,63 +46,38 @@ fault_path-returns-in-Table n c =
 
 pub element_path-returns-in-Some : goal.element_path-returns-in-Some
 element_path-returns-in-Some n c =
-    let l = c.loop-i in
     let xs = c.deref-item-items.result.now in
-    let x = c.item-item.result in
-    let later = element_rows (l.i + 1) (map view (drop (l.i + 1) xs)) in
-    let rows = at_drop_more (λ z. element_rows l.i (map view z)) xs l.i x c.loop-i-test.true ∙ ap (λ v. (at_position l.i, view v) ∷ later) (sym c.item-item.is) in
-    let first = subst (λ o. IsFirstFloatOrDate (view x) (option_map path_found o)) c.in-Some.is c.in_ok-found.ensures in
-    let items : c.push.new.self.items ≡ c.in-Some.found.items ++ Position l.i ∷ [] = search rules in
-    let path = found_below c.in-Some.found c.push.new.self (Position l.i) items in
-    let after = elements_after l.i (l.i + 1) (map view (drop (l.i + 1) xs)) (omega arith) in
-    let all = next_row_found toml_at_step IsFloatOrDate _ (at_position l.i, view x) later _ _ _ rows l.invariant after first path in
+    let first = subst (λ o. IsFirstFloatOrDate (view c.item-item.result) (option_map path_found o)) c.in-Some.is c.in_ok-found.ensures in
+    let all = element_found toml_at_step IsFloatOrDate view xs c.loop-i.i c.item-item.result c.in-Some.found c.push.new.self c.loop-i-test.true c.item-item.is c.loop-i.invariant first (search rules) in
     let whole = Some (path_found c.push.new.self) in
     subst (λ vs. IsFirstFloatOrDate (t.array (items_view vs)) whole) c.deref-item-items.ensures.value (first_in_toml_list xs whole all)
 
 pub element_path-loop-i-preserved : goal.element_path-loop-i-preserved
 element_path-loop-i-preserved n c =
-    let l = c.loop-i in
-    let xs = c.deref-item-items.result.now in
-    let x = c.item-item.result in
-    let later = element_rows (l.i + 1) (map view (drop (l.i + 1) xs)) in
-    let rows = at_drop_more (λ z. element_rows l.i (map view z)) xs l.i x c.loop-i-test.true ∙ ap (λ v. (at_position l.i, view v) ∷ later) (sym c.item-item.is) in
-    let none = subst (λ o. IsFirstFloatOrDate (view x) (option_map path_found o)) c.in_default.is c.in_ok-found.ensures in
-    one_row_passed toml_at_step IsFloatOrDate _ (at_position l.i, view x) later _ rows l.invariant none
+    let none = subst (λ o. IsFirstFloatOrDate (view c.item-item.result) (option_map path_found o)) c.in_default.is c.in_ok-found.ensures in
+    element_passed toml_at_step IsFloatOrDate view c.deref-item-items.result.now c.loop-i.i c.item-item.result c.loop-i-test.true c.item-item.is c.loop-i.invariant none
 
 pub element_path-returns : goal.element_path-returns
 element_path-returns n c =
-    let l = c.loop-i in
     let xs = c.deref-item-items.result.now in
-    let none = ap (λ z. element_rows l.i (map view z)) (drop_all l.i xs c.loop-i-test.false) in
-    let all = all_rows_passed toml_at_step IsFloatOrDate _ _ none l.invariant in
+    let all = elements_passed toml_at_step IsFloatOrDate view xs c.loop-i.i c.loop-i-test.false c.loop-i.invariant in
     subst (λ vs. IsFirstFloatOrDate (t.array (items_view vs)) None) c.deref-item-items.ensures.value (first_in_toml_list xs None all)
 
 pub member_path-returns-in-Some-2 : goal.member_path-returns-in-Some-2
 member_path-returns-in-Some-2 n c =
     let ms = c.args.members.now.entries in
-    let left = c.next.new.self in
-    let k = c.in-Some.key.now in
-    let d = view c.in-Some.member.now in
-    let sorted = subst (λ z. IsStrictlySortedBy string_cmp (keys_of z)) c.in-Some.ensures.steps c.loop-key.invariant.2 in
-    let first = subst (λ o. IsFirstFloatOrDate d (option_map path_found o)) c.in-Some-2.is c.in_ok-found.ensures in
-    let same : string_bytes c.in_ok-key.key ≡ string_bytes k = search rules in
-    let items : c.push.new.self.items ≡ c.in-Some-2.found.items ++ Key c.in_ok-key.key ∷ [] = search rules in
-    let path = found_below c.in-Some-2.found c.push.new.self (Key c.in_ok-key.key) items ∙ ap (λ b. at_key b ∷ path_found c.in-Some-2.found) same in
-    let after = members_after view k left (sorted_head string_cmp k (keys_of left) sorted) in
-    let all = next_row_found toml_at_step IsFloatOrDate _ (at_key (string_bytes k), d) (member_rows view left) _ _ _ (ap (member_rows view) c.in-Some.ensures.steps) c.loop-key.invariant.3 after first path in
+    let v = c.in-Some.member.now in
+    let first = subst (λ o. IsFirstFloatOrDate (view v) (option_map path_found o)) c.in-Some-2.is c.in_ok-found.ensures in
+    let all = member_found toml_at_step IsFloatOrDate view ms c.loop-key.key-iterator c.next.new.self c.in-Some.key.now c.in_ok-key.key v c.in-Some-2.found c.push.new.self c.in-Some.ensures.steps c.loop-key.invariant.2 first (search rules) (search rules) in
     first_in_toml_members ms (Some (path_found c.push.new.self)) c.iter-key-items.ensures.ordered all
 
 pub member_path-loop-key-preserved : goal.member_path-loop-key-preserved
 member_path-loop-key-preserved n c =
-    let left = c.next.new.self in
-    let k = c.in-Some.key.now in
-    let d = view c.in-Some.member.now in
-    let sorted = subst (λ z. IsStrictlySortedBy string_cmp (keys_of z)) c.in-Some.ensures.steps c.loop-key.invariant.2 in
-    let none = subst (λ o. IsFirstFloatOrDate d (option_map path_found o)) c.in_default.is c.in_ok-found.ensures in
-    let all = one_row_passed toml_at_step IsFloatOrDate _ (at_key (string_bytes k), d) (member_rows view left) _ (ap (member_rows view) c.in-Some.ensures.steps) c.loop-key.invariant.3 none in
-    (tt, tt, sorted_tail string_cmp k (keys_of left) sorted, all)
+    let v = c.in-Some.member.now in
+    let none = subst (λ o. IsFirstFloatOrDate (view v) (option_map path_found o)) c.in_default.is c.in_ok-found.ensures in
+    (tt, tt, member_passed toml_at_step IsFloatOrDate view c.args.members.now.entries c.loop-key.key-iterator c.next.new.self c.in-Some.key.now v c.in-Some.ensures.steps c.loop-key.invariant.2 none)
 
 pub member_path-returns : goal.member_path-returns
 member_path-returns n c =
-    let all = all_rows_passed toml_at_step IsFloatOrDate _ _ (ap (member_rows view) c.in-None.ensures.steps.0) c.loop-key.invariant.3 in
+    let all = members_passed toml_at_step IsFloatOrDate view c.args.members.now.entries c.loop-key.key-iterator c.in-None.ensures.steps.0 c.loop-key.invariant.2 in
     first_in_toml_members c.args.members.now.entries None c.iter-key-items.ensures.ordered all
