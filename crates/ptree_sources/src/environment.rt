@@ -11,7 +11,8 @@ fn push_variable(
     alloc: Global,
     entry: &[u8],
 ) -> Result<(), AllocError>
-    ensures { OnOk result (map variable_of found.new.items ≡ map variable_of found.old.items ++ variable_in entry.now) }
+    ensures { OnOk result (map variable_of found.new.items
+        ≡ map variable_of found.old.items ++ variable_in entry.now) }
 {
     let Ok(text) = str::from_utf8(entry) else {
         return Ok(());
