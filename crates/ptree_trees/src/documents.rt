@@ -33,38 +33,14 @@ pub fn document_tree(
     ensures { IfOk result (λ s. IsDocumentTree format text.now label.now (option_map tree_of s)) }
 {
     match format {
-        DocFormat::Json => json_document_tree(alloc, text, label),
-        DocFormat::Toml => toml_document_tree(alloc, text, label),
-    }
-}
-
-// Returns the tree of a JSON document.
-fn json_document_tree(
-    alloc: Global,
-    text: &str,
-    label: &str,
-) -> Result<Option<StringItem>, AllocError>
-    ensures { IfOk result (λ s.
-        IsDocumentTree DocFormat.Json text.now label.now (option_map tree_of s)) }
-{
-    match read_json(alloc, text)? {
-        Some(value) => Ok(Some(json_tree(alloc, label, &value)?)),
-        None => Ok(None),
-    }
-}
-
-// Returns the tree of a TOML document.
-fn toml_document_tree(
-    alloc: Global,
-    text: &str,
-    label: &str,
-) -> Result<Option<StringItem>, AllocError>
-    ensures { IfOk result (λ s.
-        IsDocumentTree DocFormat.Toml text.now label.now (option_map tree_of s)) }
-{
-    match read_toml(alloc, text)? {
-        Some(table) => Ok(Some(toml_tree(alloc, label, &toml::Value::Table(table))?)),
-        None => Ok(None),
+        DocFormat::Json => match read_json(alloc, text)? {
+            Some(value) => Ok(Some(json_tree(alloc, label, &value)?)),
+            None => Ok(None),
+        },
+        DocFormat::Toml => match read_toml(alloc, text)? {
+            Some(table) => Ok(Some(toml_tree(alloc, label, &toml::Value::Table(table))?)),
+            None => Ok(None),
+        },
     }
 }
 

@@ -1,6 +1,5 @@
 //! What `ptree::value` refuses a document for, and where it stands.
 ghost use Rattle.std.specs.Prelude.{◌≡◌, option_map, IfOk};
-ghost use Rattle.ptree.specs.declared.value.document.DocFormat.{DocFormat};
 ghost use Rattle.ptree_trees.specs.RefusedPath.{path_of, IsRefusedPath};
 ghost use Rattle.ptree_trees.specs.RefusedWalk.{path_found};
 
@@ -52,30 +51,14 @@ pub fn refused_path(
     ensures { IfOk result (λ path. IsRefusedPath format text.now (option_map path_of path)) }
 {
     match format {
-        DocFormat::Json => refused_json_path(alloc, text),
-        DocFormat::Toml => refused_toml_path(alloc, text),
-    }
-}
-
-// Returns the path to the first float in a JSON document.
-fn refused_json_path(alloc: Global, text: &str) -> Result<Option<Vec<Step>>, AllocError>
-    ensures { IfOk result (λ path.
-        IsRefusedPath DocFormat.Json text.now (option_map path_of path)) }
-{
-    match read_json(alloc, text)? {
-        Some(value) => json_refused_path(alloc, &value),
-        None => Ok(None),
-    }
-}
-
-// Returns the path to the first float, date or time in a TOML document.
-fn refused_toml_path(alloc: Global, text: &str) -> Result<Option<Vec<Step>>, AllocError>
-    ensures { IfOk result (λ path.
-        IsRefusedPath DocFormat.Toml text.now (option_map path_of path)) }
-{
-    match read_toml(alloc, text)? {
-        Some(table) => toml_refused_path(alloc, &toml::Value::Table(table)),
-        None => Ok(None),
+        DocFormat::Json => match read_json(alloc, text)? {
+            Some(value) => json_refused_path(alloc, &value),
+            None => Ok(None),
+        },
+        DocFormat::Toml => match read_toml(alloc, text)? {
+            Some(table) => toml_refused_path(alloc, &toml::Value::Table(table)),
+            None => Ok(None),
+        },
     }
 }
 
