@@ -4,7 +4,7 @@ ghost use Rattle.serde_json.specs.View.{view as json_view, members_view as json_
 ghost use Rattle.toml.specs.View.{view as toml_view, members_view as toml_members};
 ghost use Rattle.ptree.specs.File.{json, toml};
 ghost use Rattle.ptree.specs.Matched.{AreMatched};
-ghost use Rattle.ptree.specs.Sources.{file_document, json_document, toml_document};
+ghost use Rattle.ptree.specs.Sources.{file_document};
 ghost use Rattle.ptree_trees.specs.Settings.{IsEntry, field_at, has_fields, is_known, json_keys, json_keys_at, json_file_keys, toml_keys, toml_keys_at, toml_file_keys, file_keys, key_name};
 ghost use Rattle.ptree_trees.specs.KeyLists.{AddsKeys};
 
@@ -84,8 +84,14 @@ pub fn entries(alloc: Global, file: &FileSource) -> Result<Vec<Entry>, AllocErro
 {
     match file {
         FileSource::Absent | FileSource::Unreadable => Ok(Vec::new(alloc)),
-        FileSource::Toml(text) => toml_entries(alloc, text.as_str()),
-        FileSource::Json(text) => json_entries(alloc, text.as_str()),
+        FileSource::Toml(text) => match read_toml(alloc, text.as_str())? {
+            Some(top) => toml_file_entries(alloc, &top),
+            None => Ok(Vec::new(alloc)),
+        },
+        FileSource::Json(text) => match read_json(alloc, text.as_str())? {
+            Some(value) => json_value_entries(alloc, &value),
+            None => Ok(Vec::new(alloc)),
+        },
     }
 }
 
@@ -94,17 +100,6 @@ fn has_fields(key: &str) -> bool
     ensures { result ≡ has_fields key.now }
 {
     key == "characters" || key == "branch" || key == "leaf"
-}
-
-// Returns the keys of a TOML text.
-fn toml_entries(alloc: Global, text: &str) -> Result<Vec<Entry>, AllocError>
-    ensures { IfOk result (λ found.
-        AreMatched IsEntry (file_keys (toml_document text.now)) found.items) }
-{
-    match read_toml(alloc, text)? {
-        Some(top) => toml_file_entries(alloc, &top),
-        None => Ok(Vec::new(alloc)),
-    }
 }
 
 // Returns the keys of a document in TOML.
@@ -171,17 +166,6 @@ fn toml_entry(
 {
     let text = written_toml(alloc, value)?;
     new_entry(alloc, table, key, text, value.as_str())
-}
-
-// Returns the keys of a JSON text.
-fn json_entries(alloc: Global, text: &str) -> Result<Vec<Entry>, AllocError>
-    ensures { IfOk result (λ found.
-        AreMatched IsEntry (file_keys (json_document text.now)) found.items) }
-{
-    match read_json(alloc, text)? {
-        Some(value) => json_value_entries(alloc, &value),
-        None => Ok(Vec::new(alloc)),
-    }
 }
 
 // Returns the keys of a value of JSON.

@@ -3,7 +3,7 @@ ghost use Rattle.std.specs.Prelude.{◌≡◌, option_copied, option_map, option
 ghost use Rattle.serde_json.specs.View.{view as json_view};
 ghost use Rattle.toml.specs.View.{view as toml_view};
 ghost use Rattle.ptree.specs.File.{json, toml, get};
-ghost use Rattle.ptree.specs.Sources.{file_document, json_document, toml_document};
+ghost use Rattle.ptree.specs.Sources.{file_document};
 ghost use Rattle.ptree_trees.specs.Settings.{IsWrongValue, IsShown, value_at};
 
 use super::keys::copy;
@@ -50,24 +50,14 @@ fn value_at(
 {
     match file {
         FileSource::Absent | FileSource::Unreadable => Ok(None),
-        FileSource::Toml(text) => toml_text_at(alloc, text.as_str(), table, key),
-        FileSource::Json(text) => json_text_at(alloc, text.as_str(), table, key),
-    }
-}
-
-// Returns the value at a key of a TOML text, as `toml` writes it.
-fn toml_text_at(
-    alloc: Global,
-    text: &str,
-    table: Option<&str>,
-    key: &str,
-) -> Result<Option<String>, AllocError>
-    ensures { IfOk result
-        (IsShown (value_at (option_copied table.entry) key.now (toml_document text.now))) }
-{
-    match read_toml(alloc, text)? {
-        Some(top) => toml_value_at(alloc, &toml::Value::Table(top), table, key),
-        None => Ok(None),
+        FileSource::Toml(text) => match read_toml(alloc, text.as_str())? {
+            Some(top) => toml_value_at(alloc, &toml::Value::Table(top), table, key),
+            None => Ok(None),
+        },
+        FileSource::Json(text) => match read_json(alloc, text.as_str())? {
+            Some(top) => json_value_at(alloc, &top, table, key),
+            None => Ok(None),
+        },
     }
 }
 
@@ -90,22 +80,6 @@ fn toml_value_at(
     };
     match holder.get(key) {
         Some(value) => Ok(Some(written_toml(alloc, value)?)),
-        None => Ok(None),
-    }
-}
-
-// Returns the value at a key of a JSON text, as `serde_json` writes it.
-fn json_text_at(
-    alloc: Global,
-    text: &str,
-    table: Option<&str>,
-    key: &str,
-) -> Result<Option<String>, AllocError>
-    ensures { IfOk result
-        (IsShown (value_at (option_copied table.entry) key.now (json_document text.now))) }
-{
-    match read_json(alloc, text)? {
-        Some(top) => json_value_at(alloc, &top, table, key),
         None => Ok(None),
     }
 }
