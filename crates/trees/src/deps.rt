@@ -13,9 +13,9 @@ use ptree_trees::escape::escaped;
 use std::alloc::{AllocError, Global};
 use std::collections::BTreeSet;
 
-const PNPM: &str = "lock files of pnpm are not read";
+const PNPM: &str = "lock files of pnpm are not supported";
 
-const YARN: &str = "lock files of yarn are not read";
+const YARN: &str = "lock files of yarn are not supported";
 
 /// What is drawn: a graph, and the node at the root.
 #[derive(Drop)]

@@ -163,7 +163,7 @@ pub fn toml_value(alloc: Global, source: &Source) -> Result<toml::Value, Failure
             // (the line that the reader names, since its message is about that)
             let line = line_at(source.text.as_str(), e.span().map_or(0, |span| span.start));
             let why = e.message();
-            let wrong = format!(in alloc; "not TOML: {why}")?;
+            let wrong = format!(in alloc; "invalid TOML: {why}")?;
             Err(source.wrong_at(alloc, line, wrong.as_str())?)
         }
     }
@@ -181,9 +181,9 @@ pub fn json_value(alloc: Global, source: &Source) -> Result<serde_json::Value, F
         Err(e) => {
             let line = wrong_line(alloc, FileSource::Json(source.text.clone()?))?;
             let wrong = if e.is_eof() {
-                "the JSON ends too early"
+                "the JSON is incomplete"
             } else {
-                "not JSON"
+                "invalid JSON"
             };
             Err(source.wrong_at(alloc, line, wrong)?)
         }
@@ -212,7 +212,7 @@ fn root_label<'a>(source: &'a Source, document: Document<'a>) -> &'a str {
 
 // Says that a document has no such key.
 fn missing(alloc: Global, source: &Source, at: &str, key: &str) -> Result<Failure, AllocError> {
-    let wrong = format!(in alloc; "nothing is at {at}: there is no {key}")?;
+    let wrong = format!(in alloc; "nothing at {at}: there is no {key}")?;
     source.wrong(alloc, wrong.as_str())
 }
 

@@ -65,7 +65,7 @@ fn wrong_line(
     let could = beginnings(alloc, before, config)?;
     if !could.is_empty() {
         let could = could.as_str().trim_end_matches('\n');
-        write!(said, "\nhere could stand, before a text:\n{could}")?;
+        write!(said, "\nexpected one of:\n{could}")?;
     }
     Ok(said)
 }
@@ -85,7 +85,7 @@ fn split_at_line(text: &str, line: usize) -> (&str, &str) {
 // Says why a text is incomplete.
 fn wrong_end(alloc: Global, text: &str) -> Result<String, Failure> {
     let why = if text.is_empty() {
-        "empty, and no drawing"
+        "not a drawing: empty"
     } else if text.ends_with('\n') {
         "the drawing is incomplete: an item is missing below the last line"
     } else {

@@ -7,7 +7,7 @@ use std::io::ErrorKind;
 /// Why a call did not do what it was asked.
 #[derive(Drop)]
 pub enum Failure {
-    /// The words are wrong. The text says what is, and what would be right.
+    /// A usage error. The text says what is wrong, and what would be right.
     Usage(String),
 
     /// The text says what is wrong with an input, with its name and the line.

@@ -11,7 +11,7 @@ pub const LEVELS: u32 = 5000;
 pub const TOO_DEEP: &str = "more than 5,000 levels";
 
 /// What is said of a graph that has more.
-pub const TOO_DEEP_GRAPH: &str = "more than 5,000 levels; give --depth 5000, or less";
+pub const TOO_DEEP_GRAPH: &str = "more than 5,000 levels; use --depth 5000 or less";
 
 /// Whether a path has more names than there are levels.
 pub fn has_more_names(path: &str) -> bool {

@@ -77,11 +77,11 @@ fn root_of<'a>(alloc: Global, source: &Source, paths: Paths<'a>) -> Result<&'a s
 fn wrong_path(path: &str, label: Option<&str>, is_absolute: Option<bool>) -> Option<&'static str> {
     let begins = path.starts_with('/');
     if path.contains('\0') {
-        Some("a zero byte; -0 takes paths that end in one")
+        Some("the path has a zero byte; use -0 if paths end in one")
     } else if has_more_names(names_of(path)) {
         Some(TOO_DEEP)
     } else if label.is_none() && !path.is_empty() && is_absolute.unwrap_or(begins) != begins {
-        Some("only some paths begin with /; --label gives a root for all")
+        Some("only some paths begin with /; use --label to give all one root")
     } else {
         None
     }
@@ -145,7 +145,7 @@ fn wrong_indent(
     match wrong {
         IndentError::Line(line) => {
             let line = line_of(source.text.as_str(), line.saturating_sub(above));
-            source.wrong_at(alloc, line, "the line's indent fits no level")
+            source.wrong_at(alloc, line, "the indent matches no level")
         }
         IndentError::End => source.wrong(alloc, "empty"),
         IndentError::Memory => Ok(Failure::Memory),
@@ -230,7 +230,7 @@ fn check_texts(
     bullet: Option<&str>,
 ) -> Result<(), Failure> {
     if bullet.is_none() && !known_bullet(tree.text.as_str()).is_empty() {
-        let wrong = "the root's text begins with a bullet; give --bullet, which may be empty";
+        let wrong = "the root's text begins with a bullet; use --bullet, '' for none";
         return Err(source.wrong_at(alloc, 1, wrong)?);
     }
     let items = tree.items(alloc)?;
@@ -250,7 +250,7 @@ fn wrong_text(text: &str, bullet: &str) -> Option<&'static str> {
     } else if text.ends_with('\r') {
         Some("a text that ends in a carriage return cannot be indented")
     } else if bullet.is_empty() && (text.is_empty() || !is_line_text(text)) {
-        Some("a text that is empty, or begins with a blank, needs a --bullet")
+        Some("a text that is empty, or begins with a space or tab, needs a --bullet")
     } else {
         None
     }

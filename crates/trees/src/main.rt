@@ -1,4 +1,4 @@
-//! Draws, keeps and compares trees from the command line.
+//! Draws trees, and checks, converts and compares drawings, from the command line.
 #![tactic(auto)]
 
 mod command;

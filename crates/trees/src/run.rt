@@ -121,7 +121,7 @@ where
     }
 }
 
-// Says on standard error which fault leaves the default settings, unless the command shows all. A
+// Says on standard error why the configuration is ignored, unless the command shows all errors. A
 // fault there changes nothing.
 fn tell_fault<R: AllocGlobal + Eprint>(
     rt: &R,
@@ -132,7 +132,9 @@ fn tell_fault<R: AllocGlobal + Eprint>(
         return Ok(());
     }
     if let Some(fault) = first_fault(rt.alloc(), &found.sources)? {
-        let _ = eprintln!(rt; "trees: {fault}; the default settings are used, see trees config");
+        let _ = eprintln!(rt;
+            "trees: {fault}; configuration ignored, using defaults; see trees config"
+        );
     }
     Ok(())
 }

@@ -38,7 +38,7 @@ pub fn describe(alloc: Global, found: &Surroundings) -> Result<Report, AllocErro
     }
     let has_faults = !faults.is_empty();
     if has_faults {
-        text.push_str("no source counts, since there are faults; the defaults hold\n")?;
+        text.push_str("configuration ignored because of these errors; using defaults\n")?;
     }
     push_settings(alloc, &mut text, found, has_faults)?;
     Ok(Report { text, has_faults })
@@ -51,19 +51,19 @@ fn push_fault(
     found: &Surroundings,
     fault: Fault,
 ) -> Result<(), AllocError> {
-    text.push_str("fault: ")?;
+    text.push_str("error: ")?;
     if let Some(line) = fault_line(alloc, &found.sources.file, fault)? {
         write!(text, "line {line}: ")?;
     }
     writeln!(text, "{fault}")?;
     if let Some(value) = wrong_value(alloc, &found.sources, fault)? {
-        writeln!(text, "  it is: {}", escaped(alloc, value.as_str())?)?;
+        writeln!(text, "  value: {}", escaped(alloc, value.as_str())?)?;
     }
     match fault {
         Fault::Variable(field) | Fault::Key(field) => {
-            writeln!(text, "  it may be: {}", allowed(field))
+            writeln!(text, "  expected: {}", allowed(field))
         }
-        Fault::Table(_) => text.push_str("  it may be: a table of colours and flags\n"),
+        Fault::Table(_) => text.push_str("  expected: a table of colours and flags\n"),
         Fault::Unreadable | Fault::Syntax => Ok(()),
     }
 }

@@ -15,35 +15,35 @@ use std::fmt;
 /// Something in the sources of a configuration that has no effect.
 #[derive(Debug, Drop)]
 pub enum Warning {
-    /// A variable of this name begins as the fields' do, and names no field.
+    /// A variable that begins with `PTREE_`, but is no field's.
     Variable(String),
 
-    /// A key of the file names no field.
+    /// A key of the file that is no field's.
     Key(String),
 
-    /// The variable of this field has a value that is no known colour.
+    /// The variable of this field has this value, which is not a known colour.
     VariableColor(Field, String),
 
-    /// The key of this field has a text that is no known colour.
+    /// The file's key of this field has this text, which is not a known colour.
     KeyColor(Field, String),
 }
 
 impl fmt::Display for Warning {
     fn fmt<W: fmt::Write>(&self, f: &mut fmt::Formatter<W>) -> fmt::Result {
         match self {
-            Warning::Variable(name) => write!(f, "the variable {name} names no field"),
-            Warning::Key(key) => write!(f, "the file's key {key} names no field"),
+            Warning::Variable(name) => write!(f, "unknown variable {name}"),
+            Warning::Key(key) => write!(f, "unknown key in the file: {key}"),
             Warning::VariableColor(field, name) => {
                 write!(
                     f,
-                    "the variable {} names no known colour: {name}",
+                    "the variable {} has an unknown colour: {name}",
                     field.variable()
                 )
             }
             Warning::KeyColor(field, name) => {
                 write!(
                     f,
-                    "the file's key {}.{} names no known colour: {name}",
+                    "the file's key {}.{} has an unknown colour: {name}",
                     field.table().unwrap_or(""),
                     field.key()
                 )
@@ -52,9 +52,8 @@ impl fmt::Display for Warning {
     }
 }
 
-/// Returns what has no effect in the sources, in this order: variables that begin with `PTREE_` and
-/// name no field, but for `PTREE_CONFIG`; keys that name no field; names of colours that are not
-/// known, of variables and then of keys.
+/// Returns what has no effect in the sources, in this order: unknown variables that begin with
+/// `PTREE_`, except for `PTREE_CONFIG`; unknown keys; unknown colours of variables, and then of keys.
 ///
 /// It takes the time of [`load`](ptree::print_config::load), and allocates the result.
 ///

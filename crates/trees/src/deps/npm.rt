@@ -23,7 +23,7 @@ const LISTS: [&str; 4] = [
     "peerDependencies",
 ];
 
-const OLD: &str = "a file of lockfileVersion 1 is not read; npm 7 and later write newer ones";
+const OLD: &str = "lockfileVersion 1 is not supported; npm 7 and later write newer ones";
 
 /// Adds the dependencies of a `package-lock.json`.
 ///
@@ -60,7 +60,7 @@ fn push_nodes(
 ) -> Result<(), Failure> {
     for (path, package) in packages.iter() {
         if package.as_object().is_none() {
-            return Err(wrong(alloc, source, &[path.as_str(), " is no package"]));
+            return Err(wrong(alloc, source, &[path.as_str(), " is not a package"]));
         }
         if !is_link(package) {
             network
@@ -142,7 +142,7 @@ fn steps<'a>(
         let path = path.as_str();
         let meant = target(path, package);
         let Ok(node) = paths.binary_search_by(|p| p.as_str().cmp(meant)) else {
-            let parts = [path, " links to ", meant, ", which is not there"];
+            let parts = [path, " links to ", meant, ", which is missing"];
             return Err(wrong(alloc, source, &parts));
         };
         if let Some((folder, name)) = place(path) {
@@ -285,7 +285,7 @@ impl<'s, 'a> Walk<'s, 'a> {
                 Some(_) if list == "devDependencies" && place(path).is_some() => {}
                 Some(Value::Object(needs)) => self.push_list(node, needs)?,
                 Some(_) => {
-                    let parts = [list, " of ", path, " is no object"];
+                    let parts = ["invalid ", list, " of ", path];
                     return Err(wrong(alloc, source, &parts));
                 }
                 None => {}
@@ -343,7 +343,7 @@ fn patterns<'a>(
     workspaces: &'a Value,
 ) -> Result<&'a [Value], Failure> {
     let Some(patterns) = workspaces.get("packages").unwrap_or(workspaces).as_array() else {
-        return Err(wrong(alloc, source, &["workspaces is no list"]));
+        return Err(wrong(alloc, source, &["workspaces is not a list"]));
     };
     for pattern in patterns {
         match pattern.as_str() {
@@ -358,7 +358,7 @@ fn patterns<'a>(
 fn not_plain(alloc: Global, source: &Source, pattern: &Value) -> Result<Failure, AllocError> {
     let pattern = format!(in alloc; "{pattern}")?;
     let parts = [
-        "workspaces are read as a/b, a/* and a/**, not ",
+        "workspaces can be a/b, a/* or a/**, not ",
         pattern.as_str(),
     ];
     Ok(wrong(alloc, source, &parts))

@@ -100,7 +100,7 @@ fn packages<'a>(
     packages.sort_unstable();
     for (one, next) in packages.iter().zip(packages.iter().skip(1)) {
         if is_same(one, Some(next)) && one.2 == next.2 {
-            return Err(wrong(alloc, input, &[one.0, " ", one.1, " stands twice"]));
+            return Err(wrong(alloc, input, &[one.0, " ", one.1, " occurs twice"]));
         }
     }
     Ok(packages)
@@ -263,12 +263,12 @@ impl<'p> Needing<'p> {
         network: &mut Network,
     ) -> Result<(), Failure> {
         let Some(needs) = needs.as_array() else {
-            let parts = [self.name, " has dependencies that are no list"];
+            let parts = [self.name, " has dependencies that are not a list"];
             return Err(wrong(alloc, self.input, &parts));
         };
         for need in needs {
             let Some(need) = Need::read(need) else {
-                let parts = [self.name, " has a dependency that is no text"];
+                let parts = [self.name, " has a dependency that is not a text"];
                 return Err(wrong(alloc, self.input, &parts));
             };
             match need.find(self.packages) {
@@ -300,8 +300,8 @@ impl<'p> Needing<'p> {
     // Says that it needs what is not there, or what is there several times.
     fn faulty(&self, alloc: Global, need: &str, why: Fault) -> Failure {
         let why = match why {
-            Fault::Missing => ", which is not there",
-            Fault::Several => ", of which several are there",
+            Fault::Missing => ", which is missing",
+            Fault::Several => ", of which there are several",
         };
         wrong(alloc, self.input, &[self.name, " needs ", need, why])
     }

@@ -50,11 +50,19 @@ fn words<'a>(alloc: Global, source: &'a Source) -> Result<Vec<&'a str>, Failure>
             continue;
         }
         let Some((first, second)) = line.split_once(char::is_whitespace) else {
-            return Err(source.wrong_at(alloc, i.saturating_add(1), "not two words")?);
+            return Err(source.wrong_at(
+                alloc,
+                i.saturating_add(1),
+                "expected two words, found one",
+            )?);
         };
         let second = second.trim_start();
         if second.contains(char::is_whitespace) {
-            return Err(source.wrong_at(alloc, i.saturating_add(1), "more than two words")?);
+            return Err(source.wrong_at(
+                alloc,
+                i.saturating_add(1),
+                "expected two words, found more",
+            )?);
         }
         words.push(first)?;
         words.push(second)?;

@@ -104,10 +104,10 @@ fn unknown(alloc: Global, source: &Source, network: &Network, name: &str) -> Fai
     }
     match nearest.word {
         Some(near) => {
-            let parts = ["nothing is named ", name, "; did you mean ", near, "?"];
+            let parts = ["no package is named ", name, "; did you mean ", near, "?"];
             wrong(alloc, source, &parts)
         }
-        None => wrong(alloc, source, &["nothing is named ", name]),
+        None => wrong(alloc, source, &["no package is named ", name]),
     }
 }
 
@@ -119,7 +119,7 @@ fn ambiguous(
     name: &str,
     found: &[NodeIndex],
 ) -> Result<Failure, AllocError> {
-    let mut words = format!(in alloc; "several are named {name}")?;
+    let mut words = format!(in alloc; "several packages are named {name}")?;
     let mut between = ": ";
     for node in found {
         push_node(&mut words, network, node.0, between)?;
