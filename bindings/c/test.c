@@ -239,21 +239,21 @@ static const char *const refusal_texts[] = {
     "out of memory",
     "a text is not UTF-8",
     "no item can have that level there",
-    "there is no preset of that number",
-    "the pieces are not readable",
+    "unknown preset",
+    "drawings with these pieces cannot be read back",
     "that line cannot continue the drawing",
     "the text is incomplete",
-    "the document is invalid in its format",
-    "the document holds a float",
-    "the document holds a date or a time",
+    "the document is invalid",
+    "the document has a float",
+    "the document has a date or a time",
     "the text of an item ends before it begins, or beyond the texts",
-    "there is no format of that number",
-    "a text of the configuration is not UTF-8, or lies beyond its texts",
-    "there is no colour of that kind",
-    "the file or a variable is at fault",
-    "an end of an edge is no node",
-    "there is no value of `styled` with that number",
-    "no such number",
+    "unknown format",
+    "a text of the configuration is not UTF-8, or ends beyond its texts",
+    "unknown kind of colour",
+    "invalid configuration file or variable",
+    "an end of an edge is not a node",
+    "unknown value of `styled`",
+    "unknown error code",
 };
 
 static void knows_presets_and_refusals(void) {
@@ -265,7 +265,7 @@ static void knows_presets_and_refusals(void) {
         size_t length = strlen(want);
         expect(ptree_refusal_text(number, out, 80) == length && memcmp(out, want, length) == 0, want);
     }
-    expect(ptree_refusal_text(99, out, 0) == 14, "the text of no refusal");
+    expect(ptree_refusal_text(99, out, 0) == 18, "the text of an unknown error code");
 }
 
 /* The start of the line of an only child under each preset, which tells the presets apart where their programs do. */

@@ -56,7 +56,7 @@ def sources(file, number, variables):
 
 
 def load(given):
-    """The configuration of sources. A ConfigError says that one is at fault."""
+    """The configuration of sources. A ConfigError says that one is invalid."""
     return _config._filled(lambda *room: c.library.ptree_load(*given, *room))
 
 

@@ -14,9 +14,9 @@ notes
 |-- shopping
 `-- call home
 
-A drawing is a text with a line feed behind each line. What draws and reads is a library whose answers are proved; docs/PYTHON.md of its
-repository says what holds. Every call may raise MemoryError, and UnicodeEncodeError for a text with half a surrogate pair. A call that
-raises has changed nothing, unless it says so.
+Each line of a drawing ends in a line feed. A library whose results are proved does the drawing and reading; docs/PYTHON.md in its
+repository says what is guaranteed. Every call may raise MemoryError, and UnicodeEncodeError for a text with half a surrogate pair. A call
+that raises has changed nothing, unless its description says otherwise.
 """
 from __future__ import annotations
 
@@ -50,9 +50,9 @@ _utf8 = str.encode
 
 
 class Tree:
-    """A `label`, which is any text, with line feeds too, and `children`, a list of the trees below it. `str(tree)` is its drawing.
+    """A tree: its `label`, any text, also with line feeds, and its `children`, a list of trees. `str(tree)` is its drawing.
 
-    A tree may be as deep as memory holds.
+    Only memory limits how deep a tree is.
     """
 
     __slots__ = ("label", "children")
@@ -62,22 +62,22 @@ class Tree:
     def __init__(self, label: str, children: Iterable[Tree | str] = ()):
         """Makes a tree. A child that is a text becomes a tree without children.
 
-        Raises TypeError if the label is no text, or the children are one text.
+        Raises TypeError if `label` is not a str, or `children` is a str.
         """
         if not isinstance(label, str):
-            raise TypeError(f"a label is a text, and not {label!r}")
+            raise TypeError(f"a label must be a str, not {label!r}")
         if isinstance(children, str):
-            raise TypeError("the children are a list of trees or texts, and not one text")
+            raise TypeError("the children must be trees or texts, not one str")
         self.label = label
         self.children = [child if isinstance(child, Tree) else Tree(child) for child in children]
 
     def add(self, child: Tree | str) -> Tree:
-        """Adds a child behind the others, and returns it."""
+        """Adds a child after the others, and returns it."""
         self.children.append(child if isinstance(child, Tree) else Tree(child))
         return self.children[-1]
 
     def walk(self) -> Iterator[tuple[int, Tree]]:
-        """Returns this tree and all trees below it in the order of drawing, each with its level. This one has level 0."""
+        """Returns this tree, at level 0, and all trees below it, in the order of drawing, each with its level."""
         return ((level, tree) for level, tree, _ in _walk(self, _children, None))
 
     def __eq__(self, other: object) -> bool:
@@ -126,12 +126,12 @@ def draw(
 ) -> str:  # fmt: skip
     """Returns the drawing of a tree.
 
-    `config` is a Config or the name of a preset, and `changes` are other values of its fields. For nodes of another type give `label`,
-    unless `str` is right, and `children`; these are not asked for at the greatest level that is drawn. A tree that leads back to itself
+    `config` is a Config or the name of a preset, and `changes` replace some of its fields. For nodes of another type give `children`, and
+    `label` unless `str` is right. The children of nodes at the greatest level that is drawn are not asked for. A tree that contains itself
     needs a depth.
 
-    Raises ConfigError if there is no such preset, ValueError for a number out of range, TypeError for a label that is no text or a field
-    that is none.
+    Raises ConfigError for an unknown preset, ValueError for a number out of range, TypeError for a label that is not a str or an unknown
+    field.
 
     >>> print(draw(3, label=str, children=range), end="")
     3
@@ -166,13 +166,13 @@ def draw_parts(
     root: Node, config: Config | str | None = None, *, label: Callable[[Node], str] = _label,
     children: Callable[[Node], Iterable[Node]] = _children, items: int = 500, **changes: Any,
 ) -> Iterator[str]:  # fmt: skip
-    """Returns the drawing in parts, each of so many items at most; joined they are what `draw` returns.
+    """Returns the drawing in parts, each of at most `items` items; joined, they are what `draw` returns.
 
     Nodes are asked for while it draws, one ahead at each level, and only those above an item are kept. So a tree of any size is drawn with
-    little memory. Arguments and errors are those of `draw`; `items` is at least 1. The parts before an error stand.
+    little memory. Arguments and errors are those of `draw`; `items` must be at least 1. The parts before an error remain valid.
     """
     if items < 1:
-        raise ValueError(f"a part has at least one item, and not {items}")
+        raise ValueError(f"items must be at least 1, not {items}")
     config = config_of(config, changes)
     return _parts(_walk(root, children, config.depth), label, items, _fields(config))
 
@@ -217,8 +217,8 @@ def print_tree(
     """Writes the drawing of a tree to a file, or to standard output.
 
     It is styled if `styled` of the configuration is `always`, or `tty`, the default, and the file is standard output and a terminal.
-    Nodes are asked for while it writes. Arguments and errors are those of `draw`; an error of the file is raised as it is. Whole entries
-    that were written before an error stand.
+    Nodes are asked for while it writes. Arguments and errors are those of `draw`; an error of the file is raised unchanged. What was written
+    before an error is whole entries, unless the file failed.
     """
     out = sys.stdout if file is None else file
     config = config_of(config, changes)
@@ -229,12 +229,12 @@ def print_tree(
 
 
 def read(text: str, config: Config | str | None = None, **changes: Any) -> Tree:
-    """Returns the tree whose drawing a text is, of no more levels than the configuration's depth. `draw` draws it as the same text.
+    """Returns the tree that `draw` draws as this text, with no level beyond the configuration's depth.
 
-    `config` and `changes` are those of `draw`; of them the pieces, the marker and the depth are used.
+    `config` and `changes` are those of `draw`; only the pieces, the marker and the depth are used.
 
-    Raises ReadError if the text is no drawing: its `line` is the first that cannot continue one, counted from 1, or None if the text ends
-    too early. Raises ConfigError if the pieces and the marker cannot be told apart in every drawing.
+    Raises ReadError if the text is not a drawing: `line` is the first line that cannot continue the drawing, counted from 1, or None if the
+    text is incomplete. Raises ConfigError if drawings under this configuration cannot be read back.
     """
     given, found, config = text.encode(), c.Found(), config_of(config, changes)
     most = given.count(b"\n")
@@ -259,13 +259,13 @@ def _reading_stack(text: bytes) -> int:
 
 
 def draw_json(document: Any, label: str = "", config: Config | str | None = None, **changes: Any) -> str:
-    """Returns the drawing of a JSON document under a label. A text is taken as the document's text, and any other value as its value.
+    """Returns the drawing of a JSON document under a label. A str is the document's text; any other value is converted by `json.dumps`.
 
     Keys are in ascending order. Under an empty label the root has the text of the document, if that is neither a list nor an object.
     `config` and `changes` are those of `draw`.
 
-    Raises DocumentError if it is no document, has more than 127 lists and objects in one another, or holds a float, as `-0` is and a
-    number outside of -2**63 to 2**64 - 1. Raises what `json.dumps` does of a value.
+    Raises DocumentError if the document is invalid, nests lists and objects deeper than 127, or has a float; `-0` and a number outside of
+    -2**63 to 2**64 - 1 are floats. Raises what `json.dumps` raises for a value.
     """
     return _document(document if isinstance(document, str) else json.dumps(document), label, c.JSON, config_of(config, changes))
 
@@ -273,8 +273,8 @@ def draw_json(document: Any, label: str = "", config: Config | str | None = None
 def draw_toml(document: str, label: str = "", config: Config | str | None = None, **changes: Any) -> str:
     """Returns the drawing of a TOML document under a label, with keys in ascending order. `config` and `changes` are those of `draw`.
 
-    Raises DocumentError if it is no document, has more than 80 arrays and inline tables in one another or parts in a key, or holds a float,
-    a date or a time.
+    Raises DocumentError if the document is invalid, nests arrays and inline tables deeper than 80, has a key of more than 80 parts, or has a
+    float, a date or a time.
     """
     return _document(document, label, c.TOML, config_of(config, changes))
 
@@ -289,11 +289,10 @@ def draw_graph(
     edges: Mapping[Key, Iterable[Key]], start: Key, config: Config | str | None = None, *, once: bool = True, mark: str = " (*)",
     label: Callable[[Key], str] = str, **changes: Any,
 ) -> str:  # fmt: skip
-    """Returns the drawing of a graph from a node. `edges` has the nodes below each node, in order; a node that it lacks has none.
+    """Returns the drawing of a graph from a node. `edges` maps a node to the nodes below it, in order; a missing node has none.
 
-    A node is expanded where it comes first, and `mark` is put behind its label where it comes again. If `once` is false, all walks are
-    drawn: these can be far more than there are nodes, and have no end in a cycle, so give a depth. `config` and `changes` are those of
-    `draw`.
+    A node is expanded where it comes first, and has `mark` after its label elsewhere. If `once` is false, all walks are drawn: there can be
+    far more walks than nodes, and walks round a cycle never end, so give a depth. `config` and `changes` are those of `draw`.
 
     Raises graphlib.CycleError, a ValueError, for walks round a cycle without a depth; otherwise as `draw` does.
 

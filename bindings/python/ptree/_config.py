@@ -36,9 +36,9 @@ Color = Union[None, str, int, tuple[int, int, int], NamedColor]
 
 
 def _number(what: str, value: int, bits: int) -> int:
-    """A number that has room in so many bits. (ctypes would cut a greater one.)"""
+    """A number that fits into so many bits. (ctypes would cut a greater one.)"""
     if not 0 <= operator.index(value) < 1 << bits:
-        raise ValueError(f"{what} is a whole number from 0 to {(1 << bits) - 1}, and not {value}")
+        raise ValueError(f"{what} must be a whole number from 0 to {(1 << bits) - 1}, not {value}")
     return operator.index(value)
 
 
@@ -63,7 +63,7 @@ class Style:
     - a number of the terminal's table, from 0 to 255,
     - red, green and blue, each from 0 to 255.
 
-    Raises ValueError for a number that is out of range, or other than three of them.
+    Raises ValueError for a number out of range, or if there are not three of them.
     """
 
     foreground: Color = None
@@ -104,10 +104,10 @@ class Characters:
     def named(name: str) -> Characters:
         """Returns a set by its name: `utf`, `ascii` or `ascii-tick`, `ascii-plus`, `utf-bold`, `utf-dashed`, or `utf-double`.
 
-        Raises ConfigError if there is no set of that name.
+        Raises ConfigError for an unknown name.
         """
         if name not in _SETS:
-            raise ConfigError(f"there is no set of characters {name!r}, but {', '.join(_SETS)}")
+            raise ConfigError(f"unknown set of characters {name!r}, not one of {', '.join(_SETS)}")
         return Config.load(json.dumps({"characters": name}), "json").characters
 
 
@@ -122,9 +122,9 @@ class Config:
     - `characters`: the characters of branches. The name of a set is replaced by the set.
     - `branch`: the style of branches.
     - `leaf`: the style of labels.
-    - `continued`: the marker before each further line of a label. Under an empty one no drawing can be read.
+    - `continued`: the marker before each further line of a label. With an empty one no drawing can be read.
 
-    Raises ValueError for a number that is out of range, and for an unknown value of `styled`; ConfigError for an unknown set.
+    Raises ValueError for a number out of range or an unknown value of `styled`, ConfigError for an unknown set.
     """
 
     depth: int | None = None
@@ -142,7 +142,7 @@ class Config:
         _number("the indent", self.indent, 64)
         _number("the padding", self.padding, 64)
         if self.styled not in _STYLED:
-            raise ValueError(f"`styled` is one of {', '.join(_STYLED)}, and not {self.styled!r}")
+            raise ValueError(f"`styled` must be one of {', '.join(_STYLED)}, not {self.styled!r}")
         if isinstance(self.characters, str):
             object.__setattr__(self, "characters", Characters.named(self.characters))
 
@@ -151,22 +151,22 @@ class Config:
     def preset(name: str) -> Config:
         """Returns the configuration with which a program draws, by its name in PRESETS.
 
-        Raises ConfigError if there is no preset of that name.
+        Raises ConfigError for an unknown name.
         """
         if name not in PRESETS:
-            raise ConfigError(f"there is no preset {name!r}, but {', '.join(PRESETS)}")
+            raise ConfigError(f"unknown preset {name!r}, not one of {', '.join(PRESETS)}")
         return _filled(lambda *room: c.library.ptree_config(PRESETS.index(name), *room))
 
     @staticmethod
     def load(file: str | None = None, format: Literal["toml", "json"] = "toml", variables: Mapping[str, str] | None = None) -> Config:
         """Returns the configuration of a file's text and of variables, such as `{"PTREE_INDENT": "4"}`.
 
-        Variables count before keys of the file; unknown variables and keys are ignored.
+        Variables override keys of the file; unknown variables and keys are ignored.
 
-        Raises ConfigError with the texts of all faults if a value of either is wrong, or the file's syntax; `line` says where that is.
+        Raises ConfigError with all errors if a value or the file's syntax is wrong; `line` is that of the wrong syntax, or None.
         """
         if format not in ("toml", "json"):
-            raise ValueError(f"a format is toml or json, and not {format!r}")
+            raise ValueError(f"the format must be toml or json, not {format!r}")
         number = c.NO_FILE if file is None else c.TOML if format == "toml" else c.JSON
         sources, stack = _sources(file or "", number, (variables or {}).items())
 
@@ -178,9 +178,9 @@ class Config:
     @staticmethod
     def from_env(variables: Mapping[str, str] | None = None) -> Config:
         """Returns the configuration of the environment's variables, or of others, and of the file that they name or that is in the user's
-        folder of configurations. If there is any fault in them, it is the complete default.
+        folder of configurations. If any of these is invalid, it is the complete default.
 
-        Raises MemoryError alone.
+        Raises only MemoryError.
         """
         given = _texts(os.environb.items()) if variables is None else _texts(variables.items())
         try:
@@ -222,7 +222,7 @@ def _file_of(variables: Mapping[str, str]) -> str | None:
         # (a FIFO would wait, and a device may have no end)
         if stat.S_ISREG(found.st_mode) or (stat.S_ISCHR(found.st_mode) and found.st_rdev == os.stat(os.devnull).st_rdev):
             return path
-        raise OSError(f"{path} is no file")
+        raise OSError(f"{path} is not a file")
     if named is not None:
         raise FileNotFoundError(named)
     return None
@@ -315,5 +315,5 @@ def config_of(config: Config | str | None, changes: dict[str, Any]) -> Config:
     """A configuration, or a preset's by its name, with other values of some fields."""
     found = Config() if config is None else Config.preset(config) if isinstance(config, str) else config
     if not isinstance(found, Config):
-        raise TypeError(f"a configuration is a Config or the name of a preset, and not {config!r}")
+        raise TypeError(f"a configuration must be a Config or the name of a preset, not {config!r}")
     return dataclasses.replace(found, **changes) if changes else found

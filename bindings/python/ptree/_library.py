@@ -1,4 +1,4 @@
-"""The calls of the library for C, by ctypes, and the errors that its refusals are. A call lets other threads run while it works."""
+"""The calls of the library for C, by ctypes, and the errors for its error codes. A call lets other threads run while it works."""
 from __future__ import annotations
 
 import ctypes
@@ -79,7 +79,7 @@ def _load(path: str) -> ctypes.CDLL:
             call.argtypes, call.restype = parameters, c_uint32
         found.ptree_refusal_text.argtypes, found.ptree_refusal_text.restype = [c_uint32, *_ROOM], c_size_t
     except (OSError, AttributeError) as error:
-        raise ImportError(f"no shared library of ptree 0.5, name it in PTREE_LIBRARY: {error}") from error
+        raise ImportError(f"cannot load the shared library of ptree 0.5, set PTREE_LIBRARY to its path: {error}") from error
     return found
 
 
@@ -87,25 +87,24 @@ library = _load(_path())
 
 
 class PtreeError(ValueError):
-    """Why the library refuses a call: `number` is the refusal's in ptree.h, and `line` the line where the input is wrong, counted from 1, or
-    None."""
+    """An error of the library: `number` is its code in ptree.h, and `line` the line of the input that is wrong, counted from 1, or None."""
 
     number: int = 0
     line: int | None = None
 
 
 class ReadError(PtreeError):
-    """The text is no drawing under the configuration. `line` is the first line that cannot continue a drawing, counted from 1, or None if
-    the text ends too early."""
+    """The text is not a drawing under the configuration. `line` is the first line that cannot continue the drawing, counted from 1, or None
+    if the text is incomplete."""
 
 
 class DocumentError(PtreeError):
-    """The document is not of its format, or holds a float or, in TOML, a date or a time."""
+    """The document is invalid, or has a float or, in TOML, a date or a time."""
 
 
 class ConfigError(PtreeError):
-    """There is no such preset or set of characters, a source of the configuration is at fault, or no drawing can be read under it. `line` is
-    the line of a file where its syntax is wrong, counted from 1, or None."""
+    """An unknown preset or set of characters, an invalid configuration file or variable, or a configuration whose drawings cannot be read
+    back. `line` is the line of a file where its syntax is wrong, counted from 1, or None."""
 
 
 _ERRORS: dict[int, type[PtreeError]] = {
@@ -116,7 +115,7 @@ _ERRORS: dict[int, type[PtreeError]] = {
 
 
 def refuse(number: int, place: int = 0, said: str = "") -> NoReturn:
-    """Raises the error of a refusal. `said` is a text in the place of the refusal's."""
+    """Raises the error for an error code. `said` is a text in place of the code's."""
     text = said or refusal_text(number)
     if number == MEMORY:
         raise MemoryError(text)
@@ -135,7 +134,7 @@ def room(size: int) -> tuple[bytearray, Any]:
 
 
 def refusal_text(number: int) -> str:
-    """The text of a refusal's number."""
+    """The text of an error code."""
     made, at = room(200)
     return made[: min(200, library.ptree_refusal_text(number, at, 200))].decode()
 
@@ -177,7 +176,7 @@ def deep(stack: int, call: Callable[[], Result]) -> Result:
         try:
             thread.start()
         except RuntimeError as error:
-            raise MemoryError("there is no stack for a tree that may be so deep") from error
+            raise MemoryError("out of memory for the stack that a tree so deep may need") from error
         finally:
             threading.stack_size(before)
     thread.join()

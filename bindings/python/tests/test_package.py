@@ -85,13 +85,13 @@ class Package(unittest.TestCase):
         for name in ptree.PRESETS:
             self.assertEqual(read(draw(tree, name), name), tree)
         self.assertEqual(draw(tree, "ps --forest"), "r\n \\_ a\n |  : b\n |   \\_ c\n \\_ d\n")
-        with self.assertRaisesRegex(ptree.ConfigError, "no preset 'ls'"):
+        with self.assertRaisesRegex(ptree.ConfigError, "^unknown preset 'ls', not one of default, tree, "):
             draw(tree, "ls")
 
     def test_sets_of_characters(self):
         self.assertEqual(draw(Tree("r", ["a", "b"]), characters="utf-double"), "r\n╠═ a\n╚═ b\n")
         self.assertEqual(Characters.named("ascii"), Characters("|", "|", "`", "-", " "))
-        with self.assertRaisesRegex(ptree.ConfigError, "no set of characters 'UTF'"):
+        with self.assertRaisesRegex(ptree.ConfigError, "^unknown set of characters 'UTF', not one of utf, ascii, "):
             Config(characters="UTF")
 
     def test_trees(self):

@@ -15,7 +15,7 @@ use fields::{config_of, fields_for, part_of, style_fields};
 use std::io::{self, Error, ErrorKind};
 pub(crate) use steps::Steps;
 
-// The numbers of refusals that are told apart here.
+// The error codes that are told apart here.
 const DONE: u32 = 0;
 const MEMORY: u32 = 1;
 const PIECES: u32 = 5;
@@ -208,7 +208,7 @@ pub(crate) fn preset(number: u32) -> io::Result<PrintConfig> {
     })
 }
 
-/// The configuration of a file and of variables. There is none if there is a fault in them.
+/// The configuration of a file and of variables, or none if any of them is invalid.
 pub(crate) fn load(
     file: &FileSource,
     variables: &[(String, String)],
@@ -237,7 +237,7 @@ pub(crate) fn load(
     }
 }
 
-/// The texts of all faults in a file and in variables.
+/// All errors in a file and in variables.
 pub(crate) fn faults(file: &FileSource, variables: &[(String, String)]) -> io::Result<Vec<String>> {
     let (format, text) = file_of(file);
     let (fields, texts) = variables_for(variables);
@@ -331,7 +331,7 @@ fn room<T: Clone + Default>(count: usize) -> io::Result<Vec<T>> {
     Ok(room)
 }
 
-// The error of a refusal.
+// The error for an error code.
 fn error_of(refusal: u32, place: usize) -> Error {
     match refusal {
         MEMORY => Error::from(ErrorKind::OutOfMemory),
@@ -342,7 +342,7 @@ fn error_of(refusal: u32, place: usize) -> Error {
     }
 }
 
-// The text of a refusal.
+// The text of an error code.
 fn refusal_text(refusal: u32) -> String {
     let mut out = [0; 100];
     let length = unsafe { ptree_refusal_text(refusal, out.as_mut_ptr(), out.len()) };

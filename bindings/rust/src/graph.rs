@@ -7,7 +7,7 @@ use std::borrow::Cow;
 use std::fmt::Display;
 use std::io::{self, Write};
 
-/// The mark with which `cargo tree` shows that a node was expanded before.
+/// The mark that `cargo tree` puts after a node that was expanded before.
 pub const REPEATED_MARK: &str = " (*)";
 
 /// A node of a graph, by its place among those that were added.
@@ -15,7 +15,7 @@ pub const REPEATED_MARK: &str = " (*)";
 pub struct NodeIndex(usize);
 
 impl NodeIndex {
-    /// Returns the node that was added as this one, counted from 0.
+    /// Returns the node that was added after `index` others.
     pub fn new(index: usize) -> NodeIndex {
         NodeIndex(index)
     }
@@ -62,11 +62,11 @@ impl<N> Graph<N> {
     ///
     /// # Panics
     ///
-    /// An end is no node of this graph.
+    /// If an end is not a node of this graph.
     pub fn add_edge(&mut self, a: NodeIndex, b: NodeIndex) {
         assert!(
             a.0.max(b.0) < self.weights.len(),
-            "an end of an edge is no node"
+            "an end of an edge is not a node"
         );
         self.leaving[a.0].push(self.edges.len());
         self.edges.push((a, b));
@@ -76,7 +76,7 @@ impl<N> Graph<N> {
     ///
     /// # Panics
     ///
-    /// An end is no node of this graph.
+    /// If an end is not a node of this graph.
     pub fn extend_with_edges(&mut self, edges: &[(NodeIndex, NodeIndex)]) {
         for &(a, b) in edges {
             self.add_edge(a, b);
@@ -94,7 +94,7 @@ impl<N> Graph<N> {
         leaving.iter().rev().map(|&place| self.edges[place].1)
     }
 
-    /// Turns all edges round. What is drawn below a node then is what leads to it.
+    /// Reverses all edges, so that what leads to a node is drawn below it.
     pub fn reverse(&mut self) {
         let edges = std::mem::take(&mut self.edges);
         self.leaving.iter_mut().for_each(Vec::clear);
@@ -131,7 +131,7 @@ pub fn print_graph<N: Clone + Display>(graph: &Graph<N>, start: NodeIndex) -> io
     io::stdout().lock().write_all(&drawing)
 }
 
-/// Draws all walks from a node to a writer. In a graph with a cycle only the configured depth ends the drawing.
+/// Draws all walks from a node to a writer. If the graph has a cycle, only the configured depth ends the drawing.
 pub fn write_graph_with<N, W>(
     graph: &Graph<N>,
     start: NodeIndex,
@@ -151,8 +151,8 @@ where
     )?)
 }
 
-/// Draws a graph from a node to a writer, with each node's neighbours below its first place only, and `mark` after its label at the
-/// later ones, such as [`REPEATED_MARK`]. So a cycle ends.
+/// Draws a graph from a node to a writer. Each node is expanded only where it comes first, and has `mark` after its label elsewhere,
+/// such as [`REPEATED_MARK`]. So a cycle ends.
 pub fn write_graph_once_with<N, W>(
     graph: &Graph<N>,
     start: NodeIndex,

@@ -9,7 +9,7 @@ pub trait TreeItem: Clone {
     type Child: TreeItem;
 
     /// Writes the item's own contents, without its children. `style` is the style of leaves: items that respect it paint what
-    /// they write. What is written must be UTF-8 in all.
+    /// they write. All that it writes, taken together, must be UTF-8.
     fn write_self<W: io::Write>(&self, f: &mut W, style: &Style) -> io::Result<()>;
 
     /// Returns the item's children, in order. It is not called at the greatest level that is drawn.

@@ -1,7 +1,7 @@
 //! Draws trees as text, and reads the drawings back exactly.
 //!
-//! The names and types are those of the crate `ptree` 0.5.2. What draws and reads is a static library that is proved; this
-//! crate gathers items, passes them on and writes what comes back. `docs/BINDINGS.md` of the repository says what holds.
+//! The names and types are those of the crate `ptree` 0.5.2. A proved static library does the drawing and reading; this crate
+//! passes items to it, and writes the results. `docs/BINDINGS.md` in the repository says what is guaranteed.
 //!
 //! ```
 //! use ptree::{write_tree_with, PrintConfig, TreeBuilder};
@@ -15,7 +15,7 @@
 #![warn(missing_docs)]
 
 #[cfg(feature = "petgraph")]
-compile_error!("there is no feature `petgraph` here: leave it out, and copy the nodes and edges of your graph into a `ptree::graph::Graph`");
+compile_error!("the feature `petgraph` is not supported: remove it, and copy the nodes and edges of your graph into a `ptree::graph::Graph`");
 
 mod border;
 pub mod builder;

@@ -22,7 +22,7 @@ pub fn write_tree<T: TreeItem, W: Write>(item: &T, f: W) -> io::Result<()> {
 
 /// Draws an item and all below it, down to the configured depth, to a writer.
 ///
-/// Items are asked for in the order of drawing, and written in blocks. An error of an item comes after the items before it are written.
+/// Items are asked for in the order of drawing, and written in blocks. If an item returns an error, the items before it have been written.
 /// Memory holds one block, or the text and the entry of an item that is longer, and what the items on the way to the current one need.
 /// The stack grows with the levels.
 pub fn write_tree_with<T: TreeItem, W: Write>(

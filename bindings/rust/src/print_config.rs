@@ -80,7 +80,7 @@ pub enum OutputKind {
 
 impl PrintConfig {
     /// Returns the configuration of the environment's variables and of the file that they name or that is in the user's folder of
-    /// configurations, or the complete default if there is a fault in them.
+    /// configurations, or the complete default if any of them is invalid.
     pub fn from_env() -> PrintConfig {
         let (file, variables) = sources_of_env();
         border::load(&file, &variables)
@@ -89,12 +89,12 @@ impl PrintConfig {
             .unwrap_or_default()
     }
 
-    /// Returns the texts of all faults in what [`PrintConfig::from_env`] reads, such as `the variable PTREE_STYLED isn't never, always or
+    /// Returns all errors in what [`PrintConfig::from_env`] reads, such as `the variable PTREE_STYLED isn't never, always or
     /// tty`. If there is one, `from_env` returns the default.
     ///
     /// # Errors
     ///
-    /// Memory ran out.
+    /// Out of memory.
     pub fn faults_of_env() -> io::Result<Vec<String>> {
         let (file, variables) = sources_of_env();
         border::faults(&file, &variables)
@@ -104,7 +104,7 @@ impl PrintConfig {
     ///
     /// # Errors
     ///
-    /// Memory ran out.
+    /// Out of memory.
     pub fn from_preset(preset: Preset) -> io::Result<PrintConfig> {
         border::preset(preset as u32)
     }
@@ -134,7 +134,7 @@ pub(crate) enum FileSource {
     /// There is no file.
     Absent,
 
-    /// There is a file, but it could not be read as UTF-8.
+    /// There is a file, but it could not be read, or is not UTF-8.
     Unreadable,
 
     /// The text of a file.

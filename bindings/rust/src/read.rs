@@ -5,7 +5,7 @@ use crate::print_config::PrintConfig;
 use std::error::Error;
 use std::{fmt, io};
 
-/// Why a text was not read.
+/// Why a text is not a drawing.
 #[derive(Clone, Copy, Debug, PartialEq, Eq)]
 pub enum ReadError {
     /// This line, counted from 1, cannot continue the drawing.
@@ -26,12 +26,12 @@ impl fmt::Display for ReadError {
 
 impl Error for ReadError {}
 
-/// Returns the tree whose drawing a text is, as [`crate::write_tree_with`] draws it under the configuration without styles.
+/// Returns the tree that [`crate::write_tree_with`] draws as this text, under the configuration without styles.
 ///
 /// # Errors
 ///
-/// Of kind `InvalidData` if the text is no drawing; the error within is a [`ReadError`]. Of kind `InvalidInput` if the pieces of
-/// the configuration cannot be read. Of kind `OutOfMemory`.
+/// `InvalidData` if the text is not a drawing; the inner error is a [`ReadError`]. `InvalidInput` if drawings with the pieces of
+/// the configuration cannot be read back. `OutOfMemory`.
 pub fn read_tree(text: &str, config: &PrintConfig) -> io::Result<StringItem> {
     let outline = border::read(text, config)?;
     // Each item waits here for its children.

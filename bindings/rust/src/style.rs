@@ -42,7 +42,7 @@ impl Style {
     ///
     /// # Panics
     ///
-    /// Memory ran out.
+    /// Out of memory.
     pub fn paint(&self, input: impl Display) -> impl Display {
         let text = input.to_string();
         if *self == Style::default() {

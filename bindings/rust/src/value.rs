@@ -17,7 +17,7 @@ pub enum DocFormat {
 ///
 /// # Errors
 ///
-/// Of kind `InvalidData` if the text is no document of the format, or holds a float or a date. Nothing was written then.
+/// `InvalidData` if the document is invalid, or has a float, a date or a time; then nothing was written.
 pub fn write_document_with<W: Write>(
     format: DocFormat,
     text: &str,

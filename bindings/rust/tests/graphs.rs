@@ -162,7 +162,7 @@ fn a_node_that_is_none_is_an_empty_line() {
 }
 
 #[test]
-#[should_panic(expected = "an end of an edge is no node")]
+#[should_panic(expected = "an end of an edge is not a node")]
 fn an_edge_to_no_node_panics() {
     graph_of(&["a"], &[(0, 1)]);
 }

@@ -213,7 +213,10 @@ fn the_first_wrong_line_is_reported() {
     };
     let error = read_tree("r\n", &ticks).expect_err("pieces");
     assert_eq!(error.kind(), ErrorKind::InvalidInput);
-    assert_eq!(error.to_string(), "the pieces are not readable");
+    assert_eq!(
+        error.to_string(),
+        "drawings with these pieces cannot be read back"
+    );
 }
 
 #[test]

@@ -1,11 +1,11 @@
-//! Why a call did nothing, as an enum and as the number that C gets.
+//! The errors of calls, and their codes for C.
 ghost use Rattle.std.specs.Prelude.{◌≡◌, ◌<◌};
 ghost use Rattle.ptree_c.specs.Refusals.{refusal_number, refusal_place};
 
 use crate::room::fill;
 use std::alloc::{AllocError, AllocFailed};
 
-/// Why a call did nothing.
+/// An error of a call.
 #[derive(Clone, Copy)]
 pub enum Refusal {
     /// Memory ran out.
@@ -17,10 +17,10 @@ pub enum Refusal {
     /// The item at this place, counted from 0, has a level that no item can have there.
     Level(usize),
 
-    /// There is no preset of that number.
+    /// Unknown preset.
     Preset,
 
-    /// The pieces of the configuration are not readable.
+    /// Drawings with the pieces of the configuration cannot be read back.
     Pieces,
 
     /// This line, counted from 1, cannot continue the drawing.
@@ -29,35 +29,35 @@ pub enum Refusal {
     /// The text is incomplete.
     Incomplete,
 
-    /// The document is invalid in its format.
+    /// The document is invalid.
     Syntax,
 
-    /// The document holds a float.
+    /// The document has a float.
     Float,
 
-    /// The document holds a date or a time.
+    /// The document has a date or a time.
     Date,
 
     /// The text of the item at this place, counted from 0, ends before it begins, or beyond the
     /// texts.
     End(usize),
 
-    /// There is no format of that number.
+    /// Unknown format.
     Format,
 
     /// A text of the configuration is not UTF-8, ends before it begins, or lies beyond its texts.
     Part,
 
-    /// There is no colour of that kind.
+    /// Unknown kind of colour.
     Color,
 
-    /// A source is at fault: the file's syntax in this line, counted from 1, or for 0 a value.
+    /// Invalid configuration: the file's syntax in this line, counted from 1, or for 0 a value.
     Fault(usize),
 
-    /// An end of the edge at this place, counted from 0, is no node.
+    /// An end of the edge at this place, counted from 0, is not a node.
     Edge(usize),
 
-    /// No output is styled by that number.
+    /// Unknown value of `styled`.
     Styled,
 }
 
@@ -82,7 +82,7 @@ impl<T: Drop> From<AllocFailed<T>> for Refusal {
 }
 
 impl Refusal {
-    /// The number that C gets. No refusal has the number 0, which says that the call was done.
+    /// The error code for C. It is never 0, which says that the call succeeded.
     pub fn number(self) -> u32
         ensures number { result ≡ refusal_number self }
         ensures not_done { 0 < result }
@@ -108,7 +108,7 @@ impl Refusal {
         }
     }
 
-    /// The place of what was refused: an item's, or a line's; otherwise 0.
+    /// The place of what is wrong: an item's, or a line's; otherwise 0.
     pub fn place(self) -> usize
         ensures { result ≡ refusal_place self }
     {
@@ -124,32 +124,32 @@ impl Refusal {
     }
 }
 
-// The text of a refusal's number.
+// Returns the text of an error code.
 fn text_of_number(number: u32) -> &'static str {
     match number {
         0 => "done",
         1 => "out of memory",
         2 => "a text is not UTF-8",
         3 => "no item can have that level there",
-        4 => "there is no preset of that number",
-        5 => "the pieces are not readable",
+        4 => "unknown preset",
+        5 => "drawings with these pieces cannot be read back",
         6 => "that line cannot continue the drawing",
         7 => "the text is incomplete",
-        8 => "the document is invalid in its format",
-        9 => "the document holds a float",
-        10 => "the document holds a date or a time",
+        8 => "the document is invalid",
+        9 => "the document has a float",
+        10 => "the document has a date or a time",
         11 => "the text of an item ends before it begins, or beyond the texts",
-        12 => "there is no format of that number",
-        13 => "a text of the configuration is not UTF-8, or lies beyond its texts",
-        14 => "there is no colour of that kind",
-        15 => "the file or a variable is at fault",
-        16 => "an end of an edge is no node",
-        17 => "there is no value of `styled` with that number",
-        _ => "no such number",
+        12 => "unknown format",
+        13 => "a text of the configuration is not UTF-8, or ends beyond its texts",
+        14 => "unknown kind of colour",
+        15 => "invalid configuration file or variable",
+        16 => "an end of an edge is not a node",
+        17 => "unknown value of `styled`",
+        _ => "unknown error code",
     }
 }
 
-/// Puts the text of a refusal's number into `out`, as far as there is room, and returns its length.
+/// Writes the text of an error code to `out`, as far as there is room, and returns its length.
 #[unsafe(no_mangle)]
 pub extern "C" fn ptree_refusal_text(number: u32, out: &mut [u8]) -> usize {
     let text = text_of_number(number);
