@@ -483,9 +483,9 @@ static void finds_faults(void) {
     const char right[] = "PTREE_DEPTH7PTREE_STYLED7";
     has_faults("{}", PTREE_JSON, "PTREE_DEPTH7PTREE_INDENT8", 0, "", "no fault");
     has_faults("{\"depth\": -1, \"leaf\": 1}", PTREE_JSON, "PTREE_DEPTHxPTREE_STYLED7", 4,
-        "the file's key leaf is no table\nthe variable PTREE_DEPTH isn't a whole number up to 4294967295\n"
+        "the file's key leaf is not a table\nthe variable PTREE_DEPTH isn't a whole number up to 4294967295\n"
         "the file's key depth isn't a whole number up to 4294967295\nthe variable PTREE_STYLED isn't never, always or tty\n", "each fault");
-    has_faults("depth = ", PTREE_TOML, right, 2, "the file is no document of its format\nthe variable PTREE_STYLED isn't never, always or tty\n",
+    has_faults("depth = ", PTREE_TOML, right, 2, "the file has a syntax error\nthe variable PTREE_STYLED isn't never, always or tty\n",
         "a fault of syntax");
     has_faults("\xff", PTREE_UNREADABLE, right, 2, "the file couldn't be read\nthe variable PTREE_STYLED isn't never, always or tty\n",
         "an unreadable file");

@@ -403,12 +403,12 @@ def load(format, text, variables):
                 raise Refused
         except Refused:
             file = {}
-            faults.append("the file is no document of its format")
+            faults.append("the file has a syntax error")
     tables = {}
     for part in ("branch", "leaf"):
         tables[part] = file.get(part, {})
         if not isinstance(tables[part], dict):
-            faults.append(f"the file's key {part} is no table")
+            faults.append(f"the file's key {part} is not a table")
             tables[part] = {}
     tables["characters"] = file["characters"] if isinstance(file.get("characters"), dict) else {}
     given = {lowered(name): value for name, value in variables}  # (the last one of a name counts)

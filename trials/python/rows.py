@@ -532,8 +532,8 @@ class Trees(Row):
 # The beginning of the text of a fault, what follows its name, and its form.
 FAULTS = (
     ("the file couldn't be read", "", "reading"),
-    ("the file is no document of its format", "", "syntax"),
-    ("the file's key ", " is no table", "table "),
+    ("the file has a syntax error", "", "syntax"),
+    ("the file's key ", " is not a table", "table "),
     ("the file's key ", " isn't ", "key "),
     ("the variable ", " isn't ", "variable "),
 )

@@ -169,7 +169,7 @@ class Package(unittest.TestCase):
         texts = "the variable PTREE_STYLED isn't never, always or tty; the file's key leaf.bold isn't true or false"
         with self.assertRaisesRegex(ptree.ConfigError, f"^{texts}$"):
             Config.load("leaf.bold = 1", variables={"PTREE_STYLED": "maybe"})
-        with self.assertRaisesRegex(ptree.ConfigError, "^the file is no document of its format, in line 2$"):
+        with self.assertRaisesRegex(ptree.ConfigError, "^the file has a syntax error, in line 2$"):
             Config.load("indent = 4\n= 5\n")
 
     def test_surroundings(self):

@@ -113,7 +113,7 @@ fn configurations_are_loaded() {
     assert_eq!(faults(), [depth]);
     env::set_var("PTREE_CONFIG", folder.join("given.toml"));
     fs::write(folder.join("given.toml"), "indent = \n").expect("a file");
-    assert_eq!(faults(), ["the file is no document of its format", depth]);
+    assert_eq!(faults(), ["the file has a syntax error", depth]);
     fs::write(folder.join("given.toml"), b"\xff").expect("a file");
     assert_eq!(faults(), ["the file couldn't be read", depth]);
     env::remove_var("PTREE_CONFIG");

@@ -97,7 +97,7 @@ fn of_documents(rt: HostRuntime) -> Result<(), Fail> {
     expect_error(alloc, ConvertError::Float, kind, float)?;
     expect_error(alloc, ConvertError::Date, kind, date)?;
     for (error, wanted) in [
-        (DocError::Syntax, "no document of its format"),
+        (DocError::Syntax, "invalid document"),
         (DocError::Float, float),
         (DocError::Date, date),
     ] {

@@ -173,7 +173,7 @@ fn a_syntax_error_has_a_line(rt: HostRuntime) -> Result<(), Fail> {
     let text = format!(in alloc; "line {line}: {fault}")?;
     expect_text(
         text.as_str(),
-        "line 3: the file is no document of its format",
+        "line 3: the file has a syntax error",
     )
 }
 

@@ -41,8 +41,8 @@ impl fmt::Display for Fault {
     fn fmt<W: fmt::Write>(&self, f: &mut fmt::Formatter<W>) -> fmt::Result {
         match self {
             Fault::Unreadable => f.write_str("the file couldn't be read"),
-            Fault::Syntax => f.write_str("the file is no document of its format"),
-            Fault::Table(part) => write!(f, "the file's key {} is no table", part.key()),
+            Fault::Syntax => f.write_str("the file has a syntax error"),
+            Fault::Table(part) => write!(f, "the file's key {} is not a table", part.key()),
             Fault::Variable(field) => {
                 write!(
                     f,

@@ -92,7 +92,7 @@ impl<T: Drop> From<AllocFailed<T>> for DocError {
 impl fmt::Display for DocError {
     fn fmt<W: fmt::Write>(&self, f: &mut fmt::Formatter<W>) -> fmt::Result {
         match self {
-            DocError::Syntax => f.write_str("no document of its format"),
+            DocError::Syntax => f.write_str("invalid document"),
             DocError::Float => fmt::Display::fmt(&ConvertError::Float, f),
             DocError::Date => fmt::Display::fmt(&ConvertError::Date, f),
             DocError::Draw(e) => fmt::Display::fmt(e, f),
