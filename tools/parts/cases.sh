@@ -18,7 +18,7 @@ add_case() {
 # Tries the program of a folder on all cases.
 try_cases() {
     local crate
-    crate=$(bin/parts/apart.py make "$scratch/house" "$1") || return
+    crate=$(tools/parts/apart.py make "$scratch/house" "$1") || return
     (cd "$crate" && "${RT:-rt}" try --seconds "${SECONDS_EACH:-300}" --cases "$cases") >"$scratch/out" 2>"$scratch/err"
 }
 
@@ -62,7 +62,7 @@ count_with_stub() {
     (
         passed=0 failed=0
         # shellcheck disable=SC2030
-        export RT=$top/bin/parts/rt_stub STUB=$stub
+        export RT=$top/tools/parts/rt_stub STUB=$stub
         try_cases "$folder"
         "$@" >"$scratch/stub_said"
         echo "$passed passed, $failed failed"

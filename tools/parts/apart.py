@@ -1,8 +1,8 @@
 #!/usr/bin/env python3
 """Makes a program in Rattle that is no part of the gate, in a repository of its own beside copies of the crates that it uses.
 
-  bin/parts/apart.py make HOUSE FOLDER             makes the crate, or brings it up to date, and prints its folder
-  bin/parts/apart.py build HOUSE FOLDER [WORD..]   also proves and builds it, runs it with the words, and prints the program's path
+  tools/parts/apart.py make HOUSE FOLDER             makes the crate, or brings it up to date, and prints its folder
+  tools/parts/apart.py build HOUSE FOLDER [WORD..]   also proves and builds it, runs it with the words, and prints the program's path
 
 HOUSE is the folder of that repository. FOLDER/crate is the program's line of crates.txt. FOLDER/src has its sources, under Rust's ending
 `.rs`: `rt ci` refuses files of Rattle outside of the crates that it proves.

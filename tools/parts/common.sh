@@ -94,8 +94,8 @@ leave_surroundings() {
 
 # Compiles the library that refuses the Nth allocation of a program that loads it.
 make_refusing() {
-    if ! cc -O1 -shared -fPIC -o "$scratch/refuse.so" bin/refuse.c -ldl; then
-        report no 'bin/refuse.c does not compile'
+    if ! cc -O1 -shared -fPIC -o "$scratch/refuse.so" tools/refuse.c -ldl; then
+        report no 'tools/refuse.c does not compile'
         finish
         exit 1
     fi
@@ -103,7 +103,7 @@ make_refusing() {
 
 # Makes the shared libraries of the library for C, whose crate is built, for scripts in Python.
 use_library() {
-    if ! bin/parts/shared_library "$scratch/library" refusing; then
+    if ! tools/parts/shared_library "$scratch/library" refusing; then
         report no 'the shared library is not made'
         finish
         exit 1
@@ -121,14 +121,14 @@ make_stub_libraries() {
     done
 }
 
-# Checks that a call met at least the number of refusals in bin/refusals.txt. Arguments: the call, the number that it met.
+# Checks that a call met at least the number of refusals in tools/refusals.txt. Arguments: the call, the number that it met.
 expect_refusals() {
     local wanted
-    wanted=$(sed -n "s/^\([0-9][0-9]*\) $1\$/\1/p" bin/refusals.txt)
+    wanted=$(sed -n "s/^\([0-9][0-9]*\) $1\$/\1/p" tools/refusals.txt)
     if [ -n "$wanted" ] && [ "$2" -ge "$wanted" ]; then
         report ok "each refusal of memory in: $1 ($2 refusals)"
     else
-        report no "$2 refusals of memory in: $1, and not ${wanted:-any}; if that is right, change bin/refusals.txt"
+        report no "$2 refusals of memory in: $1, and not ${wanted:-any}; if that is right, change tools/refusals.txt"
     fi
 }
 
@@ -211,7 +211,7 @@ check_with_stubs() {
     $group
     count=$((passed + failed - count))
     for stub; do
-        STUB=$stubs/$stub CHECKS=$group "$top/bin/parts/${0##*/}" >"$scratch/said" 2>&1
+        STUB=$stubs/$stub CHECKS=$group "$top/tools/parts/${0##*/}" >"$scratch/said" 2>&1
         if [ "$(tail -n 1 "$scratch/said")" = "0 passed, $count failed" ]; then
             report ok "the stub of ${stub//_/ } fails each of these $count checks"
         else

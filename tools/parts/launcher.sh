@@ -7,11 +7,11 @@ make_launched() {
     there=$scratch/launched
     rm -rf "$there"
     chmod a+rx "$scratch"
-    mkdir -p "$there"/{bin/parts,path,few,tmp,crates/ptree/{src,specs,proofs},crates/{ptree_cli,trees}/src}
+    mkdir -p "$there"/{bin,tools,path,few,tmp,crates/ptree/{src,specs,proofs},crates/{ptree_cli,trees}/src}
     cp bin/build bin/install "$there/bin"
     cp "${STUB:-bin/ptree_cli}" "$there/bin/ptree_cli"
     cp "${STUB:-bin/trees}" "$there/bin/trees"
-    cp bin/parts/launch "$there/bin/parts"
+    cp tools/launch "$there/tools"
     sed -i 's/^BETWEEN = 30$/BETWEEN = 1/' "$there/bin/build"
     printf 'ptree: toml\nptree_cli: ptree\ntrees: ptree\nother: ptree\n' >"$there/crates.txt"
     echo one >"$there/crates/ptree/src/lib.rt"
