@@ -1,4 +1,6 @@
 //! Compares two trees.
+ghost use Rattle.std.specs.Prelude.{◌≡◌, ◌↔◌, IfOk, None};
+ghost use Rattle.ptree.specs.Tree.{tree_of};
 
 use ptree::item::StringItem;
 use ptree::style::{Color, Style};
@@ -17,7 +19,9 @@ pub fn first(
     alloc: Global,
     left: &StringItem,
     right: &StringItem,
-) -> Result<Option<String>, AllocError> {
+) -> Result<Option<String>, AllocError>
+    ensures { IfOk result (λ o. (o ≡ None) ↔ (tree_of left.now ≡ tree_of right.now)) }
+{
     let Some(found) = first_difference(alloc, left, right)? else {
         return Ok(None);
     };

@@ -1,5 +1,10 @@
 //! Reads drawings, and says where a text is none.
+ghost use Rattle.std.specs.Prelude.{◌≡◌, ℕ, List, IfOk, IfErr, string_bytes};
+ghost use Rattle.ptree.specs.Config.{config_of};
+ghost use Rattle.ptree.specs.Drawing.{written_look, IsDrawing};
 ghost use Rattle.ptree.specs.Readable.{HasReadablePieces};
+ghost use Rattle.ptree.specs.Tree.{Tree, tree_of, shape_of_tree};
+ghost use Rattle.trees.specs.Reading.{HoldsDrawing, FailsToRead};
 
 use crate::expected::{beginnings, is_too_deep};
 use crate::failure::Failure;
@@ -19,7 +24,17 @@ use std::alloc::{AllocError, Global};
 ///
 /// `Input` if the text could not be read, or with the first wrong line if it is no drawing, and with
 /// the name of other pieces under which it is one. `Memory` if memory ran out.
-pub fn read(alloc: Global, source: &Source, config: &PrintConfig) -> Result<StringItem, Failure> {
+pub fn read(alloc: Global, source: &Source, config: &PrintConfig) -> Result<StringItem, Failure>
+    ensures some { IfOk result (λ t. HoldsDrawing (config_of config.now) source.now (tree_of t)) }
+    ensures only { IfOk result (λ t. (u : Tree) → HoldsDrawing (config_of config.now) source.now u
+        → tree_of t ≡ u) }
+    // What is drawn of the tree that was read is the text.
+    ensures redrawn { IfOk result (λ t. (drawing : List ℕ)
+        → IsDrawing (written_look config.now) (shape_of_tree (tree_of t)) config.now.depth drawing
+        → drawing ≡ string_bytes source.now.text) }
+    // `Input` says that there is no such tree, `Usage` that the pieces are not readable.
+    ensures failed { IfErr result (FailsToRead (config_of config.now) source.now) }
+{
     if let Some(fault) = &source.fault {
         return Err(Failure::Input(fault.clone()?));
     }
@@ -48,12 +63,12 @@ fn wrong_line(
     text: &str,
     line: usize,
     config: &PrintConfig,
-) -> Result<String, Failure>
+) -> Result<String, AllocError>
     requires { HasReadablePieces config.now }
 {
     let (before, wrong) = split_at_line(text, line);
     if is_too_deep(alloc, wrong, config)? {
-        return Ok(String::from_str(alloc, TOO_DEEP)?);
+        return String::from_str(alloc, TOO_DEEP);
     }
     let mut said = format!(in alloc;
         "cannot continue the drawing:\n  {}",
@@ -83,7 +98,7 @@ fn split_at_line(text: &str, line: usize) -> (&str, &str) {
 }
 
 // Says why a text is incomplete.
-fn wrong_end(alloc: Global, text: &str) -> Result<String, Failure> {
+fn wrong_end(alloc: Global, text: &str) -> Result<String, AllocError> {
     let why = if text.is_empty() {
         "not a drawing: empty"
     } else if text.ends_with('\n') {
@@ -97,7 +112,7 @@ fn wrong_end(alloc: Global, text: &str) -> Result<String, Failure> {
 }
 
 // Adds the name of pieces with which the text is a drawing, if there are some.
-fn push_other(alloc: Global, said: &mut String, text: &str) -> Result<bool, Failure> {
+fn push_other(alloc: Global, said: &mut String, text: &str) -> Result<bool, AllocError> {
     let Some(name) = pieces::reading(alloc, text)? else {
         return Ok(false);
     };

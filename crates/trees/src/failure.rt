@@ -1,4 +1,5 @@
 //! Why a call did not do what it was asked, and its exit status.
+ghost use Rattle.std.specs.Prelude.{◌≡◌};
 
 use ptree::style::DrawError;
 use std::alloc::{AllocError, AllocFailed};
@@ -36,12 +37,20 @@ impl Failure {
 }
 
 impl From<AllocError> for Failure {
+    ghost use Rattle.trees.specs.declared.failure.Failure.TheVariants.{Memory};
+
+    ghost from_gives = { λ _ e. e ≡ Memory };
+
     fn from(_e: AllocError) -> Failure {
         Failure::Memory
     }
 }
 
 impl<T: Drop> From<AllocFailed<T>> for Failure {
+    ghost use Rattle.trees.specs.declared.failure.Failure.TheVariants.{Memory};
+
+    ghost from_gives = { λ _ e. e ≡ Memory };
+
     fn from(_e: AllocFailed<T>) -> Failure {
         Failure::Memory
     }

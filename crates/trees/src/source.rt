@@ -1,4 +1,6 @@
 //! The inputs of a call.
+ghost use Rattle.std.specs.Prelude.{IfOk};
+ghost use Rattle.trees.specs.Reading.{IsInput};
 
 use crate::failure::Failure;
 use std::alloc::{AllocError, Global};
@@ -60,7 +62,9 @@ impl Source {
     /// # Errors
     ///
     /// Memory ran out.
-    pub fn wrong_at(&self, alloc: Global, line: usize, wrong: &str) -> Result<Failure, AllocError> {
+    pub fn wrong_at(&self, alloc: Global, line: usize, wrong: &str) -> Result<Failure, AllocError>
+        ensures { IfOk result IsInput }
+    {
         let name = &self.name;
         Ok(Failure::Input(format!(in alloc; "{name}:{line}: {wrong}")?))
     }
@@ -70,7 +74,9 @@ impl Source {
     /// # Errors
     ///
     /// Memory ran out.
-    pub fn wrong(&self, alloc: Global, wrong: &str) -> Result<Failure, AllocError> {
+    pub fn wrong(&self, alloc: Global, wrong: &str) -> Result<Failure, AllocError>
+        ensures { IfOk result IsInput }
+    {
         let name = &self.name;
         Ok(Failure::Input(format!(in alloc; "{name}: {wrong}")?))
     }

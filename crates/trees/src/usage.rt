@@ -1,4 +1,6 @@
 //! What is wrong with the words of a call.
+ghost use Rattle.std.specs.Prelude.{IfOk};
+ghost use Rattle.trees.specs.Reading.{IsUsage};
 
 use crate::failure::Failure;
 use crate::names::{COMMANDS, CommandName, OPTIONS, Opt};
@@ -118,7 +120,9 @@ impl<'a> Usage<'a> {
     /// # Errors
     ///
     /// Memory ran out.
-    pub fn failure(self, alloc: Global) -> Result<Failure, AllocError> {
+    pub fn failure(self, alloc: Global) -> Result<Failure, AllocError>
+        ensures { IfOk result IsUsage }
+    {
         let mut text = format!(in alloc; "{self}")?;
         match self {
             Usage::Command(word) | Usage::Option(_, word) | Usage::Pieces(word) => {

@@ -1,0 +1,2 @@
+-- which texts are drawings, and what reading one returns
+pub mod Reading

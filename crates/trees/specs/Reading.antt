@@ -1,0 +1,46 @@
+-- Which texts are drawings, and how a reading fails.
+use Rattle.std.specs.Prelude.{◌≡◌, false, None, string_bytes, ⊤}
+use Rattle.ptree.specs.declared.print_config.OutputKind.TheVariants.{Unknown}
+use Rattle.ptree.specs.Config.{ConfigValue}
+use Rattle.ptree.specs.Drawing.{look_by}
+use Rattle.ptree.specs.DrawnForm.{IsDrawnForm}
+use Rattle.ptree.specs.Pieces.{pieces_from}
+use Rattle.ptree.specs.Readable.{IsReadableWith}
+use Rattle.ptree.specs.Tree.{Tree}
+use Rattle.trees.specs.declared.failure.Failure.{Failure}
+use Rattle.trees.specs.declared.failure.Failure.TheVariants.{Usage, Input, Said, Output, Memory}
+use Rattle.trees.specs.declared.source.Source.{Source}
+
+-- the pieces and the marker of a configuration are readable
+abbrev pub IsReadableValue : ConfigValue → Type 0
+IsReadableValue config = IsReadableWith (pieces_from config.characters config.indent config.padding) config.continued
+
+-- the source could be read, and its text is the drawing of t, whose levels are within the depth
+pub record HoldsDrawing (config : ConfigValue) (source : Source) (t : Tree) : Type 0 where
+  pub read : source.fault ≡ None
+  pub form : IsDrawnForm (look_by config Unknown false) config.depth (string_bytes source.text) t
+
+-- the failure says that something is wrong with an input
+abbrev pub IsInput : Failure → Type 0
+IsInput (Input wrong) = ⊤
+IsInput (Usage wrong) = ⊥
+IsInput Said = ⊥
+IsInput (Output kind) = ⊥
+IsInput Memory = ⊥
+
+-- the failure says that the words are wrong, or that memory ran out
+abbrev pub IsUsage : Failure → Type 0
+IsUsage (Usage wrong) = ⊤
+IsUsage (Input wrong) = ⊥
+IsUsage Said = ⊥
+IsUsage (Output kind) = ⊥
+IsUsage Memory = ⊤
+
+-- what each failure of a reading says: the source holds the drawing of no tree, or the pieces are
+-- not readable, or memory ran out
+abbrev pub FailsToRead : ConfigValue → Source → Failure → Type 0
+FailsToRead config source (Input wrong) = (t : Tree) → HoldsDrawing config source t → ⊥
+FailsToRead config source (Usage wrong) = IsReadableValue config → ⊥
+FailsToRead config source Said = ⊥
+FailsToRead config source (Output kind) = ⊥
+FailsToRead config source Memory = ⊤
