@@ -171,10 +171,7 @@ fn a_syntax_error_has_a_line(rt: HostRuntime) -> Result<(), Fail> {
     let fault = first_fault(alloc, &sources)?.ok_or("no fault")?;
     let line = syntax_line(alloc, &sources.file)?.ok_or("no line")?;
     let text = format!(in alloc; "line {line}: {fault}")?;
-    expect_text(
-        text.as_str(),
-        "line 3: the file has a syntax error",
-    )
+    expect_text(text.as_str(), "line 3: the file has a syntax error")
 }
 
 // Makes a folder without folders in it.

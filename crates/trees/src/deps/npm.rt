@@ -357,10 +357,7 @@ fn patterns<'a>(
 // Says that a pattern is not read.
 fn not_plain(alloc: Global, source: &Source, pattern: &Value) -> Result<Failure, AllocError> {
     let pattern = format!(in alloc; "{pattern}")?;
-    let parts = [
-        "workspaces can be a/b, a/* or a/**, not ",
-        pattern.as_str(),
-    ];
+    let parts = ["workspaces can be a/b, a/* or a/**, not ", pattern.as_str()];
     Ok(wrong(alloc, source, &parts))
 }
 
