@@ -39,7 +39,7 @@ def graph_given(nodes, edges, start):
 
 def graph(nodes, edges, start, config, mark=None):
     """The drawing of a graph: all walks, or with a mark each node expanded once."""
-    given, fields = graph_given(nodes, edges, start), ptree._fields(config)
+    given, fields = graph_given(nodes, edges, start), ptree.fields_of(config)
     if mark is None:
         return ptree._text("draw_walks", *given, *fields, guess=1000)
     return ptree._text("draw_once", *given, mark.encode(), len(mark.encode()), *fields, guess=1000)
@@ -47,7 +47,7 @@ def graph(nodes, edges, start, config, mark=None):
 
 def entry(config, level, is_last, path):
     """The entry of an empty text, without its line feed; `path` says of each level which item above it is a last child."""
-    return ptree._steps(struct.pack(c.STEP, 0, 0, level, is_last), b"", bytearray(path), ptree._fields(config))[:-1]
+    return ptree._steps(struct.pack(c.STEP, 0, 0, level, is_last), b"", bytearray(path), ptree.fields_of(config))[:-1]
 
 
 def sources(file, number, variables):

@@ -94,7 +94,7 @@ class Fields(Room):
         return (ctypes.cast(self.bytes, ctypes.POINTER(c.Config)),)
 
 
-PLAIN, COLORED = ptree._fields(ptree.Config(depth=5)), ptree._fields(COLORS)
+PLAIN, COLORED = ptree.fields_of(ptree.Config(depth=5)), ptree.fields_of(COLORS)
 GRAPH = calls.graph_given(NODES, EDGES, 0)
 NAMES = bytearray()
 STYLE = _config._style_in(NAMES, ptree.Style("red", bold=True))

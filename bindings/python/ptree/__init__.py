@@ -34,7 +34,7 @@ from collections.abc import Callable, Hashable, Iterable, Iterator, Mapping
 from typing import Any, TextIO, TypeVar
 
 from . import _library as c
-from ._config import PRESETS, Characters, Config, NamedColor, Style, _fields, _style_in, config_of, document_stack
+from ._config import PRESETS, Characters, Config, NamedColor, Style, _style_in, config_of, document_stack, fields_of
 from ._library import ConfigError, DocumentError, PtreeError, ReadError
 
 __all__ = [
@@ -82,6 +82,8 @@ class Tree:
 
     def __eq__(self, other: object) -> bool:
         """Whether two trees have the same labels at the same places."""
+        if self is other:
+            return True
         if not isinstance(other, Tree):
             return NotImplemented
         pairs = itertools.zip_longest(self.walk(), other.walk(), fillvalue=(-1, self))
@@ -151,7 +153,7 @@ def draw(
         texts.append(text)
         end += len(text)
         items.append(pack(end, level))
-    return _text("draw_with", b"".join(items), len(items), b"".join(texts), end, *_fields(config), guess=2 * end + 40 * len(items))
+    return _text("draw_with", b"".join(items), len(items), b"".join(texts), end, *fields_of(config), guess=2 * end + 40 * len(items))
 
 
 def _text(call: str, *given: Any, guess: int = 0) -> str:
@@ -174,7 +176,7 @@ def draw_parts(
     if items < 1:
         raise ValueError(f"items must be at least 1, not {items}")
     config = config_of(config, changes)
-    return _parts(_walk(root, children, config.depth), label, items, _fields(config))
+    return _parts(_walk(root, children, config.depth), label, items, fields_of(config))
 
 
 def _parts(nodes: Iterator[tuple[int, Node, bool]], label: Callable[[Node], str], items: int, fields: tuple[Any, bytes, int]) -> Iterator[str]:
@@ -239,7 +241,7 @@ def read(text: str, config: Config | str | None = None, **changes: Any) -> Tree:
     given, found, config = text.encode(), c.Found(), config_of(config, changes)
     most = given.count(b"\n")
     (items, items_at), (texts, texts_at) = c.room(struct.calcsize(c.ITEM) * most), c.room(len(given))
-    call = (given, len(given), *_fields(config), items_at, most, texts_at, len(given), found)
+    call = (given, len(given), *fields_of(config), items_at, most, texts_at, len(given), found)
     number = c.deep(_reading_stack(given), lambda: int(c.library.ptree_read_with(*call)))
     if number != c.DONE:
         c.refuse(number, found.place)
@@ -265,9 +267,21 @@ def draw_json(document: Any, label: str = "", config: Config | str | None = None
     `config` and `changes` are those of `draw`.
 
     Raises DocumentError if the document is invalid, nests lists and objects deeper than 127, or has a float; `-0` and a number outside of
-    -2**63 to 2**64 - 1 are floats. Raises what `json.dumps` raises for a value.
+    -2**63 to 2**64 - 1 are floats. Raises what `json.dumps` raises for a value, and ValueError if two keys become one text, as 1 and "1" do.
     """
-    return _document(document if isinstance(document, str) else json.dumps(document), label, c.JSON, config_of(config, changes))
+    return _document(document if isinstance(document, str) else _json_text(document), label, c.JSON, config_of(config, changes))
+
+
+def _json_text(document: Any) -> str:
+    """The text of a document, in which each key occurs once."""
+
+    def check(pairs: list[tuple[str, Any]]) -> None:
+        if len(dict(pairs)) < len(pairs):
+            raise ValueError(f"two keys become one text: {', '.join(key for key, _ in pairs)}")
+
+    text = json.dumps(document)
+    json.loads(text, object_pairs_hook=check)
+    return text
 
 
 def draw_toml(document: str, label: str = "", config: Config | str | None = None, **changes: Any) -> str:
@@ -281,7 +295,7 @@ def draw_toml(document: str, label: str = "", config: Config | str | None = None
 
 def _document(document: str, label: str, number: int, config: Config) -> str:
     text, name = document.encode(), label.encode()
-    call = functools.partial(_text, "draw_document_with", text, len(text), name, len(name), number, *_fields(config), guess=4 * len(text) + 100)
+    call = functools.partial(_text, "draw_document_with", text, len(text), name, len(name), number, *fields_of(config), guess=4 * len(text) + 100)
     return c.deep(document_stack(text), call)
 
 
@@ -326,7 +340,7 @@ def draw_graph(
     pairs = [number for node, targets in below.items() for to in reversed(targets) for number in (numbers[node], numbers[to])]
     given = (_sizes(ends), len(ends), b"".join(texts), ends[-1], _sizes(pairs), len(pairs) // 2, 0)
     marks = (mark.encode(), len(mark.encode())) if once else ()
-    call = functools.partial(_text, "draw_once" if once else "draw_walks", *given, *marks, *_fields(config), guess=1000)
+    call = functools.partial(_text, "draw_once" if once else "draw_walks", *given, *marks, *fields_of(config), guess=1000)
     return c.deep(512 * levels, call)
 
 

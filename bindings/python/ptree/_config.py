@@ -282,7 +282,7 @@ def _style_of(names: bytearray, style: Any) -> Style:
 
 
 @functools.lru_cache(maxsize=100)
-def _fields(config: Config) -> tuple[Any, bytes, int]:
+def fields_of(config: Config) -> tuple[Any, bytes, int]:
     """A configuration as the library takes it: its fields, its texts and their length."""
     names = bytearray()
     fields = c.Config(

@@ -102,6 +102,9 @@ class Package(unittest.TestCase):
         self.assertNotEqual(tree, Tree("r", ["a"]))
         self.assertNotEqual(Tree("r", [Tree("a", ["b"])]), Tree("r", ["a", "b"]))
         self.assertNotEqual(tree, "r")
+        ring = Tree("r")
+        ring.add(ring)
+        self.assertEqual(ring, ring)
         for label, children in (("r", "ab"), (1, ()), ("r", [1])):
             with self.assertRaises(TypeError):
                 Tree(label, children)
@@ -315,6 +318,8 @@ class Package(unittest.TestCase):
         for call, given in ((ptree.draw_json, "[1.5]"), (ptree.draw_json, "["), (ptree.draw_json, [2**64]), (draw_toml, "a = 1979-05-27")):
             with self.assertRaises(ptree.DocumentError):
                 call(given)
+        with self.assertRaises(ValueError):
+            ptree.draw_json({"a": {1: 2, "1": 3}})
 
     def test_texts_with_zero_bytes_and_no_texts(self):
         tree = Tree("", ["\0", "a\0b", Tree("", [""])])

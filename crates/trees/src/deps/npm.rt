@@ -43,7 +43,7 @@ fn read(
     network: &mut Network,
 ) -> Result<(), Failure> {
     let Some(Value::Object(packages)) = lock.get("packages") else {
-        let is_old = lock.get("dependencies").is_some();
+        let is_old = lock.get("dependencies").is_some() && lock.get("lockfileVersion").is_some();
         return Err(wrong(alloc, source, &[if is_old { OLD } else { "no packages" }]));
     };
     push_nodes(alloc, source, packages, network)?;

@@ -9,9 +9,12 @@ use std::alloc::{AllocError, Global};
 ///
 /// # Errors
 ///
-/// `Input` with the line that has another number of words, and `Memory`.
+/// `Input` with the line that has another number of words, or if there is none, and `Memory`.
 pub fn pairs(alloc: Global, source: &Source, network: &mut Network) -> Result<(), Failure> {
     let words = words(alloc, source)?;
+    if words.is_empty() {
+        return Err(source.wrong(alloc, "empty")?);
+    }
     let mut names = words.clone()?;
     names.sort_unstable();
     names.dedup();
