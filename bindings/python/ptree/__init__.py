@@ -276,8 +276,11 @@ def _json_text(document: Any) -> str:
     """The text of a document, in which each key occurs once."""
 
     def check(pairs: list[tuple[str, Any]]) -> None:
-        if len(dict(pairs)) < len(pairs):
-            raise ValueError(f"two keys become one text: {', '.join(key for key, _ in pairs)}")
+        keys: set[str] = set()
+        for key, _ in pairs:
+            if key in keys:
+                raise ValueError(f"two keys become the text {key!r}")
+            keys.add(key)
 
     text = json.dumps(document)
     json.loads(text, object_pairs_hook=check)
