@@ -1,12 +1,12 @@
 -- Which texts are drawings, and how a reading fails.
-use Rattle.std.specs.Prelude.{◌≡◌, false, None, string_bytes, ⊤}
+use Rattle.std.specs.Prelude.{◌≡◌, ℕ, false, List, None, string_bytes, ⊤}
 use Rattle.ptree.specs.declared.print_config.OutputKind.TheVariants.{Unknown}
 use Rattle.ptree.specs.Config.{ConfigValue}
-use Rattle.ptree.specs.Drawing.{look_by}
+use Rattle.ptree.specs.Drawing.{look_by, IsDrawing}
 use Rattle.ptree.specs.DrawnForm.{IsDrawnForm}
 use Rattle.ptree.specs.Pieces.{pieces_from}
 use Rattle.ptree.specs.Readable.{IsReadableWith}
-use Rattle.ptree.specs.Tree.{Tree}
+use Rattle.ptree.specs.Tree.{Tree, shape_of_tree}
 use Rattle.trees.specs.declared.failure.Failure.{Failure}
 use Rattle.trees.specs.declared.failure.Failure.TheVariants.{Usage, Input, Said, Output, Memory}
 use Rattle.trees.specs.declared.source.Source.{Source}
@@ -19,6 +19,18 @@ IsReadableValue config = IsReadableWith (pieces_from config.characters config.in
 pub record HoldsDrawing (config : ConfigValue) (source : Source) (t : Tree) : Type 0 where
   pub read : source.fault ≡ None
   pub form : IsDrawnForm (look_by config Unknown false) config.depth (string_bytes source.text) t
+
+-- the source holds the drawing of no other tree than t
+abbrev pub HoldsNoOther : ConfigValue → Source → Tree → Type 0
+HoldsNoOther config source t = (u : Tree) → HoldsDrawing config source u → t ≡ u
+
+-- each drawing of t is the source's text
+abbrev pub IsRedrawn : ConfigValue → Source → Tree → Type 0
+IsRedrawn config source t = (drawing : List ℕ) → IsDrawing (look_by config Unknown false) (shape_of_tree t) config.depth drawing → drawing ≡ string_bytes source.text
+
+-- the source holds a drawing
+abbrev pub HoldsSome : ConfigValue → Source → Type 0
+HoldsSome config source = (t : Tree) × HoldsDrawing config source t
 
 -- the failure says that something is wrong with an input
 abbrev pub IsInput : Failure → Type 0

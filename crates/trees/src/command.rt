@@ -1,4 +1,7 @@
 //! The commands, with their inputs and the values of their options.
+ghost use Rattle.std.specs.Prelude.{◌≡◌};
+ghost use Rattle.ptree.specs.declared.print_config.Sources.{Sources};
+ghost use Rattle.trees.specs.Asked.{drawing_value, reading_value};
 
 use crate::levels::LEVELS;
 use crate::pieces::Pieces;
@@ -58,7 +61,9 @@ pub struct Drawing {
 
 impl Drawing {
     /// Returns how a drawing with these pieces is read: with all its levels, without colours.
-    pub fn read_with(pieces: Option<Pieces>) -> Drawing {
+    pub fn read_with(pieces: Option<Pieces>) -> Drawing
+        ensures { (sources : Sources) → drawing_value sources result ≡ reading_value sources pieces }
+    {
         Drawing {
             pieces,
             depth: Some(LEVELS),

@@ -1,10 +1,9 @@
 //! Reads drawings, and says where a text is none.
-ghost use Rattle.std.specs.Prelude.{◌≡◌, ℕ, List, IfOk, IfErr, string_bytes};
+ghost use Rattle.std.specs.Prelude.{IfOk, IfErr};
 ghost use Rattle.ptree.specs.Config.{config_of};
-ghost use Rattle.ptree.specs.Drawing.{written_look, IsDrawing};
 ghost use Rattle.ptree.specs.Readable.{HasReadablePieces};
-ghost use Rattle.ptree.specs.Tree.{Tree, tree_of, shape_of_tree};
-ghost use Rattle.trees.specs.Reading.{HoldsDrawing, FailsToRead};
+ghost use Rattle.ptree.specs.Tree.{tree_of};
+ghost use Rattle.trees.specs.Reading.{HoldsDrawing, HoldsNoOther, IsRedrawn, FailsToRead};
 
 use crate::expected::{beginnings, is_too_deep};
 use crate::failure::Failure;
@@ -26,12 +25,9 @@ use std::alloc::{AllocError, Global};
 /// the name of other pieces under which it is one. `Memory` if memory ran out.
 pub fn read(alloc: Global, source: &Source, config: &PrintConfig) -> Result<StringItem, Failure>
     ensures some { IfOk result (λ t. HoldsDrawing (config_of config.now) source.now (tree_of t)) }
-    ensures only { IfOk result (λ t. (u : Tree) → HoldsDrawing (config_of config.now) source.now u
-        → tree_of t ≡ u) }
+    ensures only { IfOk result (λ t. HoldsNoOther (config_of config.now) source.now (tree_of t)) }
     // What is drawn of the tree that was read is the text.
-    ensures redrawn { IfOk result (λ t. (drawing : List ℕ)
-        → IsDrawing (written_look config.now) (shape_of_tree (tree_of t)) config.now.depth drawing
-        → drawing ≡ string_bytes source.now.text) }
+    ensures redrawn { IfOk result (λ t. IsRedrawn (config_of config.now) source.now (tree_of t)) }
     // `Input` says that there is no such tree, `Usage` that the pieces are not readable.
     ensures failed { IfErr result (FailsToRead (config_of config.now) source.now) }
 {

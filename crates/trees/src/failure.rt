@@ -1,5 +1,5 @@
 //! Why a call did not do what it was asked, and its exit status.
-ghost use Rattle.std.specs.Prelude.{◌≡◌};
+ghost use Rattle.std.specs.Prelude.{◌≡◌, ◌≢◌};
 
 use ptree::style::DrawError;
 use std::alloc::{AllocError, AllocFailed};
@@ -57,6 +57,10 @@ impl<T: Drop> From<AllocFailed<T>> for Failure {
 }
 
 impl From<DrawError> for Failure {
+    ghost use Rattle.trees.specs.declared.failure.Failure.TheVariants.{Said};
+
+    ghost from_gives = { λ _ e. e ≢ Said };
+
     fn from(e: DrawError) -> Failure {
         match e {
             DrawError::Write(e) => Failure::Output(e.kind()),

@@ -1,4 +1,13 @@
 //! Does what a command asks for.
+ghost use Rattle.std.specs.Prelude.{◌≡◌, ◌≢◌, ◌↔◌, ℕ, false, List, All, IsTrue, IfOk, IfErr, IsErr, string_bytes};
+ghost use Rattle.ptree.specs.declared.print_config.OutputKind.TheVariants.{Unknown};
+ghost use Rattle.ptree.specs.Config.{config_of};
+ghost use Rattle.ptree.specs.Drawing.{look_by};
+ghost use Rattle.ptree.specs.DrawnForm.{IsDrawnForm};
+ghost use Rattle.ptree.specs.Tree.{tree_of};
+ghost use Rattle.trees.specs.Asked.{drawing_value, reading_value, with_drawing};
+ghost use Rattle.trees.specs.Telling.{TellsWhether, TellsOfCommand, IsSingle};
+ghost use Rattle.trees.specs.Reading.{HoldsDrawing, HoldsNoOther, HoldsSome, IsRedrawn, FailsToRead};
 
 use crate::command::{Command, Convert, Deps, Diff, Drawing, Indented, Tree};
 use crate::compare::{self, Look};
@@ -30,7 +39,9 @@ pub fn perform<W: Sink>(
     command: Command<'_>,
     out: &mut W,
     found: &Surroundings,
-) -> Result<(), Failure> {
+) -> Result<(), Failure>
+    ensures { TellsOfCommand found.now.sources command.entry result }
+{
     match command {
         Command::Draw(source, tree, drawing) => draw_source(
             alloc, source, tree, drawing, out, found,
@@ -59,7 +70,9 @@ enum Drawn<'a> {
 }
 
 // Writes a text, which may be a refusal.
-fn say<W: Sink>(out: &mut W, text: &str, is_refusal: bool) -> Result<(), Failure> {
+fn say<W: Sink>(out: &mut W, text: &str, is_refusal: bool) -> Result<(), Failure>
+    ensures { TellsWhether result (is_refusal ≡ false) }
+{
     put_all(out, text.as_bytes())?;
     if is_refusal {
         return Err(Failure::Said);
@@ -135,7 +148,9 @@ fn draw<W: Sink>(
     drawing: Drawing,
     out: &mut W,
     found: &Surroundings,
-) -> Result<(), Failure> {
+) -> Result<(), Failure>
+    ensures { IfOk result (λ _. IsSingle drawn.entry) }
+{
     let config = config(alloc, drawing, found)?;
     let written = write_drawing(alloc, drawn, drawing.screen.is_terminal, out, &config);
     drop(config);
@@ -149,7 +164,9 @@ fn write_drawing<W: Sink>(
     is_terminal: bool,
     out: &mut W,
     config: &PrintConfig,
-) -> Result<(), Failure> {
+) -> Result<(), Failure>
+    ensures { IfOk result (λ _. IsSingle drawn.entry) }
+{
     match drawn {
         Drawn::Tree(tree) => write_tree(alloc, tree, is_terminal, out, config),
         Drawn::Graph(source, graph, walks) => {
@@ -175,25 +192,19 @@ fn write_tree<W: Sink>(
 }
 
 // Returns the configuration of the settings, with what is said of a drawing.
-fn config(
-    alloc: Global,
-    drawing: Drawing,
-    found: &Surroundings,
-) -> Result<PrintConfig, AllocError> {
+fn config(alloc: Global, drawing: Drawing, found: &Surroundings) -> Result<PrintConfig, AllocError>
+    ensures { IfOk result (λ config. config_of config ≡ drawing_value found.now.sources drawing) }
+{
     let mut config = PrintConfig::from_env(alloc, &found.sources)?;
     set_drawing(alloc, &mut config, drawing)?;
     Ok(config)
 }
 
 // Sets what is said of a drawing.
-fn set_drawing(
-    alloc: Global,
-    config: &mut PrintConfig,
-    drawing: Drawing,
-) -> Result<(), AllocError> {
-    if let Some(depth) = drawing.depth {
-        config.depth = depth;
-    }
+fn set_drawing(alloc: Global, config: &mut PrintConfig, drawing: Drawing) -> Result<(), AllocError>
+    ensures { IfOk result (λ _. config_of config.new ≡ with_drawing drawing (config_of config.old)) }
+{
+    config.depth = drawing.depth.unwrap_or(config.depth);
     config.styled = drawing.screen.when(drawing.styled.unwrap_or(config.styled));
     match drawing.pieces {
         Some(pieces) => pieces.set(alloc, config),
@@ -244,7 +255,15 @@ fn read_drawing(
     source: &Source,
     pieces: Option<Pieces>,
     found: &Surroundings,
-) -> Result<StringItem, Failure> {
+) -> Result<StringItem, Failure>
+    ensures some { IfOk result (λ t.
+        HoldsDrawing (reading_value found.now.sources pieces) source.now (tree_of t)) }
+    ensures only { IfOk result (λ t.
+        HoldsNoOther (reading_value found.now.sources pieces) source.now (tree_of t)) }
+    ensures redrawn { IfOk result (λ t.
+        IsRedrawn (reading_value found.now.sources pieces) source.now (tree_of t)) }
+    ensures failed { IfErr result (FailsToRead (reading_value found.now.sources pieces) source.now) }
+{
     let config = config(alloc, Drawing::read_with(pieces), found)?;
     let tree = drawings::read(alloc, source, &config);
     drop(config);
@@ -282,18 +301,37 @@ fn check<W: Sink>(
     screen: Screen,
     out: &mut W,
     found: &Surroundings,
-) -> Result<(), Failure> {
+) -> Result<(), Failure>
+    ensures { TellsWhether result
+        (All (HoldsSome (reading_value found.now.sources pieces)) sources.now) }
+{
     let mut said = String::new(alloc);
-    let mut is_refusal = false;
-    for source in sources {
-        if !push_check(alloc, &mut said, source, pieces, found)? {
-            is_refusal = true;
-        }
-    }
+    let are_drawings = push_checks(alloc, &mut said, sources, pieces, found)?;
     if screen.is_terminal {
         said = shown(alloc, said.as_str())?;
     }
-    say(out, said.as_str(), is_refusal)
+    say(out, said.as_str(), !are_drawings)
+}
+
+// Adds of each input whether it is a drawing, and returns whether all are.
+fn push_checks(
+    alloc: Global,
+    said: &mut String,
+    sources: &[Source],
+    pieces: Option<Pieces>,
+    found: &Surroundings,
+) -> Result<bool, Failure>
+    ensures all { IfOk result (λ b.
+        IsTrue b ↔ All (HoldsSome (reading_value found.now.sources pieces)) sources.now) }
+    ensures unsaid { IfErr result (λ e. e ≢ Failure.Said) }
+{
+    let mut are_drawings = true;
+    for source in sources {
+        if !push_check(alloc, said, source, pieces, found)? {
+            are_drawings = false;
+        }
+    }
+    Ok(are_drawings)
 }
 
 // Adds whether an input is a drawing, and returns it.
@@ -303,7 +341,11 @@ fn push_check(
     source: &Source,
     pieces: Option<Pieces>,
     found: &Surroundings,
-) -> Result<bool, Failure> {
+) -> Result<bool, Failure>
+    ensures drawing { IfOk result (λ b.
+        IsTrue b ↔ HoldsSome (reading_value found.now.sources pieces) source.now) }
+    ensures unsaid { IfErr result (λ e. e ≢ Failure.Said) }
+{
     match read_drawing(alloc, source, pieces, found) {
         Ok(tree) => {
             push_count(alloc, said, source, &tree)?;
@@ -364,7 +406,9 @@ fn compare_drawings<W: Sink>(
     diff: Diff,
     out: &mut W,
     found: &Surroundings,
-) -> Result<(), Failure> {
+) -> Result<(), Failure>
+    ensures { TellsWhether result (string_bytes left.now.text ≡ string_bytes right.now.text) }
+{
     let left = read_drawing(alloc, left, diff.drawing.pieces, found)?;
     compare_with(alloc, &left, right, diff, out, found)
 }
@@ -377,7 +421,12 @@ fn compare_with<W: Sink>(
     diff: Diff,
     out: &mut W,
     found: &Surroundings,
-) -> Result<(), Failure> {
+) -> Result<(), Failure>
+    // The texts with this tree's drawing are all the same.
+    ensures { let config = reading_value found.now.sources diff.drawing.pieces in (text : List ℕ)
+        → IsDrawnForm (look_by config Unknown false) config.depth text (tree_of left.now)
+        → TellsWhether result (text ≡ string_bytes right.now.text) }
+{
     let right = read_drawing(alloc, right, diff.drawing.pieces, found)?;
     show_difference(alloc, left, &right, diff, out, found)
 }
@@ -390,7 +439,9 @@ fn show_difference<W: Sink>(
     diff: Diff,
     out: &mut W,
     found: &Surroundings,
-) -> Result<(), Failure> {
+) -> Result<(), Failure>
+    ensures { TellsWhether result (tree_of left.now ≡ tree_of right.now) }
+{
     match compare::first(alloc, left, right)? {
         None => Ok(()),
         Some(said) if !diff.shows_all => say(out, said.as_str(), true),
@@ -406,7 +457,9 @@ fn write_both<W: Sink>(
     is_terminal: bool,
     out: &mut W,
     config: &PrintConfig,
-) -> Result<(), Failure> {
+) -> Result<(), Failure>
+    ensures { IsErr result }
+{
     let look = Look {
         is_colored: config.styled == StyleWhen::Always,
         is_escaped: is_terminal,

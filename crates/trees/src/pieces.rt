@@ -1,4 +1,9 @@
 //! The pieces that drawings are made with, by name.
+ghost use Rattle.std.specs.Prelude.{◌≡◌, IfOk};
+ghost use Rattle.ptree.specs.Characters.{static_characters_of};
+ghost use Rattle.ptree.specs.Config.{config_of};
+ghost use Rattle.ptree.specs.Preset.{drawn_with};
+ghost use Rattle.trees.specs.Asked.{pieces_value, with_own};
 
 use crate::levels::LEVELS;
 use ptree::presets::Preset;
@@ -74,7 +79,9 @@ impl Pieces {
     /// # Errors
     ///
     /// Memory ran out.
-    pub fn set(self, alloc: Global, config: &mut PrintConfig) -> Result<(), AllocError> {
+    pub fn set(self, alloc: Global, config: &mut PrintConfig) -> Result<(), AllocError>
+        ensures { IfOk result (λ _. config_of config.new ≡ with_own (pieces_value self) (config_of config.old)) }
+    {
         let mut own = self.config(alloc)?;
         mem::swap(&mut config.characters, &mut own.characters);
         config.indent = own.indent;
@@ -83,7 +90,9 @@ impl Pieces {
     }
 
     // Returns the default configuration with these pieces.
-    fn config(self, alloc: Global) -> Result<PrintConfig, AllocError> {
+    fn config(self, alloc: Global) -> Result<PrintConfig, AllocError>
+        ensures { IfOk result (λ config. config_of config ≡ pieces_value self) }
+    {
         match self {
             Pieces::Utf => with_characters(alloc, UTF_CHARS),
             Pieces::UtfBold => with_characters(alloc, UTF_CHARS_BOLD),
@@ -97,10 +106,9 @@ impl Pieces {
 }
 
 // Returns the default configuration with other characters.
-fn with_characters(
-    alloc: Global,
-    characters: StaticIndentChars,
-) -> Result<PrintConfig, AllocError> {
+fn with_characters(alloc: Global, characters: StaticIndentChars) -> Result<PrintConfig, AllocError>
+    ensures { IfOk result (λ config. config_of config ≡ drawn_with (static_characters_of characters) 3 1) }
+{
     let characters = IndentChars::from_static(alloc, characters)?;
     let mut config = PrintConfig::default(alloc)?;
     config.characters = characters;

@@ -1,4 +1,6 @@
 //! What standard output is.
+ghost use Rattle.std.specs.Prelude.{◌≡◌};
+ghost use Rattle.trees.specs.Asked.{styled_on};
 
 use ptree::print_config::StyleWhen;
 use ptree_trees::escape::escaped;
@@ -16,7 +18,9 @@ pub struct Screen {
 
 impl Screen {
     /// Returns when drawings are coloured, where `Tty` leaves it to the screen.
-    pub fn when(self, styled: StyleWhen) -> StyleWhen {
+    pub fn when(self, styled: StyleWhen) -> StyleWhen
+        ensures { result ≡ styled_on self styled }
+    {
         match styled {
             StyleWhen::Tty if self.styled => StyleWhen::Always,
             StyleWhen::Tty => StyleWhen::Never,

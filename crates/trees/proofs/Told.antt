@@ -1,0 +1,57 @@
+-- What the end of a call tells.
+use Rattle.std.proofs.Common.{◌≡◌, ◌<◌, ◌+◌, ◌∙◌, true, false, not, ℕ, List, All, take, length, get_or, Bool, Result, Ok, Err, ◌↔◌, IsTrue, string_bytes, arith, subst, sym, refl}
+use Rattle.std.proofs.lemmas.Bool.{false≢true}
+use Rattle.std.proofs.lemmas.List.{take-take, get_or-take, length-take-le}
+use Rattle.std.proofs.lemmas.List.Elements.{All-more, All-take, All-get_or}
+use Rattle.ptree.specs.declared.print_config.OutputKind.TheVariants.{Unknown}
+use Rattle.ptree.specs.Config.{ConfigValue}
+use Rattle.ptree.specs.Drawing.{look_by, IsDrawing}
+use Rattle.ptree.specs.DrawnForm.{IsDrawnForm}
+use Rattle.ptree.specs.Tree.{Tree, shape_of_tree}
+use Rattle.trees.specs.declared.failure.Failure.{Failure}
+use Rattle.trees.specs.declared.failure.Failure.TheVariants.{Usage, Input, Said, Output, Memory}
+use Rattle.trees.specs.declared.source.Source.{Source}
+use Rattle.trees.specs.Telling.{TellsWhether}
+use Rattle.trees.specs.Reading.{HoldsDrawing, HoldsNoOther, IsRedrawn}
+
+-- what tells whether a fact holds tells it of each that is the same
+pub tells_same : {A : Type 0} (r : Result A Failure) (P Q : Type 0) → (P → Q) → (Q → P) → TellsWhether r P → TellsWhether r Q
+tells_same (Ok x) P Q to from h = to h
+tells_same (Err Said) P Q to from h = λ q. h (from q)
+tells_same (Err (Usage wrong)) P Q to from h = h
+tells_same (Err (Input wrong)) P Q to from h = h
+tells_same (Err (Output kind)) P Q to from h = h
+tells_same (Err Memory) P Q to from h = h
+
+-- what tells that a flag is not set tells what the flag does
+pub tells_of_not : {A : Type 0} (r : Result A Failure) (b : Bool) (P : Type 0) → (IsTrue b ↔ P) → TellsWhether r (not b ≡ false) → TellsWhether r P
+tells_of_not r true P same h = tells_same r (not true ≡ false) P (λ _. same.0 refl) (λ _. refl) h
+tells_of_not r false P same h = tells_same r (not false ≡ false) P (λ e. absurd (false≢true (sym e))) (λ p. absurd (false≢true (same.1 p))) h
+
+-- two texts with drawings are the same exactly if their trees are
+pub same_texts : (config : ConfigValue) (right : Source) (t u : Tree) (text : List ℕ)
+    → IsDrawnForm (look_by config Unknown false) config.depth text t
+    → HoldsDrawing config right u → HoldsNoOther config right u → IsRedrawn config right u
+    → (t ≡ u) ↔ (text ≡ string_bytes right.text)
+same_texts config right t u text form holds only redrawn = (
+  (λ same. redrawn text (subst (λ (w : Tree). IsDrawing (look_by config Unknown false) (shape_of_tree w) config.depth text) same form.drawn)),
+  (λ same. sym (only t (record {
+    read = holds.read;
+    form = subst (λ (x : List ℕ). IsDrawnForm (look_by config Unknown false) config.depth x t) same form;
+  }))),
+)
+
+-- of the next element the fact holds
+pub still_all : {X : Type 0} (P : X → Type 0) (xs : List X) (i : ℕ) (x : X) (b : Bool) → i < length xs → x ≡ get_or xs i x → P x
+    → (IsTrue b ↔ All P (take i xs)) → IsTrue b ↔ All P (take (i + 1) xs)
+still_all P xs i x b l is holds before = (
+  (λ yes. All-more P xs i x l (before.0 yes) (subst P is holds)),
+  (λ all. before.1 (subst (All P) (take-take i (i + 1) xs (omega arith)) (All-take P i (take (i + 1) xs) all))),
+)
+
+-- of the next element it does not
+pub not_all : {X : Type 0} (P : X → Type 0) (xs : List X) (i : ℕ) (x : X) → i < length xs → x ≡ get_or xs i x → (P x → ⊥)
+    → IsTrue false ↔ All P (take (i + 1) xs)
+not_all P xs i x l is fails =
+    let long : length (take (i + 1) xs) ≡ i + 1 = length-take-le (i + 1) xs (omega (arith, l)) in
+    ((λ no. cc), (λ all. absurd (fails (subst P (get_or-take (i + 1) xs i x (omega arith) ∙ sym is) (All-get_or P (take (i + 1) xs) i x (omega (arith, long)) all)))))

@@ -1,0 +1,17 @@
+use Rattle.std.proofs.Common.{◌≡◌, ◌∙◌, IfOk, subst}
+use Rattle.ptree.specs.Config.{ConfigValue, config_of}
+use Rattle.ptree.specs.Tree.{tree_of}
+use Rattle.trees.specs.Asked.{reading_value}
+use Rattle.trees.specs.Reading.{HoldsNoOther, IsRedrawn}
+use Rattle.trees.proofs.perform.read_drawing.Goals as goal
+
+-- the configuration is that of drawings that are read
+pub returns-clause-only : goal.returns-clause-only
+returns-clause-only c =
+    let same : config_of c.in_ok-config.config ≡ reading_value c.args.found.now.sources c.args.pieces = c.in_ok-config.ensures ∙ c.read_with.ensures c.args.found.now.sources in
+    subst (λ (v : ConfigValue). IfOk c.read-tree.result (λ t. HoldsNoOther v c.args.source.now (tree_of t))) same c.read-tree.ensures.only
+
+pub returns-clause-redrawn : goal.returns-clause-redrawn
+returns-clause-redrawn c =
+    let same : config_of c.in_ok-config.config ≡ reading_value c.args.found.now.sources c.args.pieces = c.in_ok-config.ensures ∙ c.read_with.ensures c.args.found.now.sources in
+    subst (λ (v : ConfigValue). IfOk c.read-tree.result (λ t. IsRedrawn v c.args.source.now (tree_of t))) same c.read-tree.ensures.redrawn

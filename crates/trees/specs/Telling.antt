@@ -1,0 +1,37 @@
+-- What a call tells by its end: success says that something holds, and a refusal that it doesn't.
+use Rattle.std.specs.Prelude.{◌≡◌, All, Result, Ok, Err, string_bytes, ⊤}
+use Rattle.ptree.specs.declared.print_config.Sources.{Sources}
+use Rattle.trees.specs.declared.command.Command.{Command}
+use Rattle.trees.specs.declared.command.Command.TheVariants.{Draw, Deps, Indented, Check, Convert, Diff, Config}
+use Rattle.trees.specs.declared.failure.Failure.{Failure}
+use Rattle.trees.specs.declared.failure.Failure.TheVariants.{Usage, Input, Said, Output, Memory}
+use Rattle.trees.specs.declared.perform.Drawn.{Drawn}
+use Rattle.trees.specs.declared.perform.Drawn.TheVariants.{Tree, Graph, Both}
+use Rattle.trees.specs.Asked.{reading_value}
+use Rattle.trees.specs.Reading.{HoldsSome}
+
+-- the call succeeds only if P holds, and refuses only if it doesn't
+abbrev pub TellsWhether : {A : Type 0} → Result A Failure → Type 0 → Type 0
+TellsWhether (Ok x) P = P
+TellsWhether (Err Said) P = P → ⊥
+TellsWhether (Err (Usage wrong)) P = ⊤
+TellsWhether (Err (Input wrong)) P = ⊤
+TellsWhether (Err (Output kind)) P = ⊤
+TellsWhether (Err Memory) P = ⊤
+
+-- one tree or one graph is drawn, not two trees in one
+abbrev pub IsSingle : Drawn → Type 0
+IsSingle (Tree item) = ⊤
+IsSingle (Graph source graph walks) = ⊤
+IsSingle (Both left right) = ⊥
+
+-- what the end of a command says: `check`, that each input is a drawing; `diff`, that both texts are
+-- equal, byte for byte
+abbrev pub TellsOfCommand : {A : Type 0} → Sources → Command → Result A Failure → Type 0
+TellsOfCommand sources (Check inputs pieces screen) result = TellsWhether result (All (HoldsSome (reading_value sources pieces)) inputs.now)
+TellsOfCommand sources (Diff left right diff) result = TellsWhether result (string_bytes left.now.text ≡ string_bytes right.now.text)
+TellsOfCommand sources (Draw source tree drawing) result = ⊤
+TellsOfCommand sources (Deps source deps drawing) result = ⊤
+TellsOfCommand sources (Indented source indented) result = ⊤
+TellsOfCommand sources (Convert source convert) result = ⊤
+TellsOfCommand sources Config result = ⊤
