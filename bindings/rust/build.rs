@@ -10,7 +10,10 @@ fn main() {
     };
     let library = Path::new(&folder).join("libptree.a");
     if fs::metadata(&library).is_err() {
-        panic!("there is no {}: set PTREE_LIB_DIR to the whole path of PREFIX/lib", library.display());
+        panic!(
+            "there is no {}: set PTREE_LIB_DIR to the whole path of PREFIX/lib",
+            library.display()
+        );
     }
     println!("cargo:rerun-if-changed={}", library.display());
     println!("cargo:rustc-link-search=native={folder}");
@@ -23,6 +26,9 @@ fn folder_of_package() -> Option<String> {
         .args(["--variable=libdir", "ptree"])
         .output()
         .ok()?;
-    let folder = String::from_utf8(output.stdout).ok()?.trim().replace("\\ ", " ");
+    let folder = String::from_utf8(output.stdout)
+        .ok()?
+        .trim()
+        .replace("\\ ", " ");
     (output.status.success() && !folder.is_empty()).then_some(folder)
 }
