@@ -30,6 +30,16 @@ def is_readable(config):
     raise AssertionError("an empty text is read")
 
 
+def draw(tree, config):
+    """The drawing of a tree whose items the library gets all. (The package leaves out those below the depth.)"""
+    texts, items, end = [], [], 0
+    for level, node in tree.walk():
+        texts.append(node.label.encode())
+        end += len(texts[-1])
+        items.append(struct.pack(c.ITEM, end, level))
+    return ptree._text("draw_with", b"".join(items), len(items), b"".join(texts), end, *ptree.fields_of(config), guess=1000)
+
+
 def graph_given(nodes, edges, start):
     """A graph as calls take it: its edges are in the order in which they are added."""
     texts = [node.encode() for node in nodes]

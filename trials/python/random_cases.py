@@ -186,6 +186,7 @@ def try_tree(dice, counts):
     shown = calls.changed(config, styled=styled)
     wanted = reference.draw(dealt, Look(given, is_terminal))
     expect(ptree.draw(made(dealt), shown), wanted, "a drawing", tree=dealt, config=given, is_terminal=is_terminal)
+    expect(calls.draw(made(dealt), shown), wanted, "a drawing of all items", tree=dealt, config=given, is_terminal=is_terminal)
     parts = ptree.draw_parts(made(dealt), shown, items=dice.randint(1, 5))
     expect("".join(parts), wanted, "a drawing in parts", tree=dealt, config=given)
     counts["drawings"] += 1

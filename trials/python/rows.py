@@ -294,7 +294,7 @@ class Row:
             nodes.append(node.label)
         edges.reverse()  # (the newest edge is drawn first)
         found = []
-        for draw in (lambda: ptree.draw(self.tree, config), lambda: calls.graph(nodes, edges, 0, config)):
+        for draw in (lambda: calls.draw(self.tree, config), lambda: calls.graph(nodes, edges, 0, config)):
             try:
                 found.append(lines_form(draw()))
             except MemoryError:
