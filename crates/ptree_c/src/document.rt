@@ -88,6 +88,7 @@ fn drawing_by_preset(
         IsDocumentDrawing (config_at preset depth) format label.now text.now drawing.items) }
     ensures refused { IfErr result (λ e. IsPresetRefusal preset e
         ⊎ IsDocumentRefusal format label.now text.now e) }
+    ensures unknown { 10 < preset → IsErrOf result Refusal.Preset }
 {
     let config = config(alloc, preset, depth)?;
     let drawing = drawing_of_document(alloc, text, label, format, &config);
@@ -136,6 +137,7 @@ pub extern "C" fn ptree_draw_document(
     ensures kept { 0 < result → out.new ≡ out.old }
     ensures refused { 0 < result → (e : Refusal) × IsRefused result found.new e
         × (IsPresetRefusal preset e ⊎ IsDocumentRefusal format label.now text.now e) }
+    ensures unknown { 10 < preset → result ≡ 4 }
 {
     match drawing_by_preset(alloc, text, label, format, preset, depth) {
         Ok(drawing) => put_bytes(&drawing, 0, out, found),

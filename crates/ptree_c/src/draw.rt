@@ -29,6 +29,7 @@ fn draw_by_preset(
         × IsFilled out.old drawing out.new size) }
     ensures kept { OnErr result (out.new ≡ out.old) }
     ensures refused { IfErr result (λ e. IsPresetRefusal preset e ⊎ IsItemsRefusal e) }
+    ensures unknown { 10 < preset → IsErrOf result Refusal.Preset }
 {
     let config = config(alloc, preset, depth)?;
     let drawn = draw_outline(alloc, items, texts, &config, out);
@@ -77,6 +78,7 @@ pub extern "C" fn ptree_draw(
     ensures kept { 0 < result → out.new ≡ out.old }
     ensures refused { 0 < result → (e : Refusal) × IsRefused result found.new e
         × (IsPresetRefusal preset e ⊎ IsItemsRefusal e) }
+    ensures unknown { 10 < preset → result ≡ 4 }
 {
     match draw_by_preset(alloc, items, texts, preset, depth, out) {
         Ok(size) => report(size, items.len(), found),

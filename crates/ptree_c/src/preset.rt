@@ -1,5 +1,5 @@
 //! The configurations that C names by a number.
-ghost use Rattle.std.specs.Prelude.{◌≡◌, ◌<◌, ℕ, List, IfOk, IfErr, OnOk, length};
+ghost use Rattle.std.specs.Prelude.{◌≡◌, ◌<◌, ℕ, List, IfOk, IfErr, IsErrOf, OnOk, length};
 ghost use Rattle.ptree.specs.Config.{config_of};
 ghost use Rattle.ptree_c.specs.Fields.{config_value};
 ghost use Rattle.ptree_c.specs.Presets.{config_at, numbered_config, IsPresetRefusal, IsReadablePreset, IsReadableRefusal};
@@ -33,6 +33,7 @@ pub const PRESETS: [Preset; 10] = [
 pub(crate) fn config(alloc: Global, preset: u32, depth: u32) -> Result<PrintConfig, Refusal>
     ensures value { IfOk result (λ config. config_of config ≡ config_at preset depth) }
     ensures refused { IfErr result (IsPresetRefusal preset) }
+    ensures unknown { 10 < preset → IsErrOf result Refusal.Preset }
 {
     let mut config = numbered(alloc, preset)?;
     config.depth = depth;
@@ -43,6 +44,7 @@ pub(crate) fn config(alloc: Global, preset: u32, depth: u32) -> Result<PrintConf
 fn numbered(alloc: Global, preset: u32) -> Result<PrintConfig, Refusal>
     ensures value { IfOk result (λ config. config_of config ≡ numbered_config preset) }
     ensures refused { IfErr result (IsPresetRefusal preset) }
+    ensures unknown { 10 < preset → IsErrOf result Refusal.Preset }
 {
     if preset == 0 {
         return Ok(PrintConfig::default(alloc)?);
@@ -57,6 +59,7 @@ fn numbered(alloc: Global, preset: u32) -> Result<PrintConfig, Refusal>
 fn readable(alloc: Global, preset: u32) -> Result<(), Refusal>
     ensures readable { OnOk result (IsReadablePreset preset) }
     ensures refused { IfErr result (IsReadableRefusal preset) }
+    ensures unknown { 10 < preset → IsErrOf result Refusal.Preset }
 {
     let config = numbered(alloc, preset)?;
     let is_readable = pieces_readable(alloc, &config);
@@ -73,6 +76,7 @@ fn fields_of_preset(alloc: Global, preset: u32) -> Result<Written, Refusal>
     ensures fields { IfOk result (λ written.
         config_value written.names.items written.fields ≡ numbered_config preset) }
     ensures refused { IfErr result (IsPresetRefusal preset) }
+    ensures unknown { 10 < preset → IsErrOf result Refusal.Preset }
 {
     let config = numbered(alloc, preset)?;
     let written = fields_of_config(alloc, &config);
@@ -112,6 +116,7 @@ pub extern "C" fn ptree_config(
     ensures kept { 0 < result → (config.new ≡ config.old) × (names.new ≡ names.old) }
     ensures refused { 0 < result → (e : Refusal) × IsRefused result found.new e
         × IsPresetRefusal preset e }
+    ensures unknown { 10 < preset → result ≡ 4 }
 {
     match fields_of_preset(alloc, preset) {
         Ok(written) => put_fields(&written, config, names, found),
@@ -126,6 +131,7 @@ pub extern "C" fn ptree_is_readable(alloc: Global, preset: u32) -> u32
     ensures readable { result ≡ 0 → IsReadablePreset preset }
     ensures refused { 0 < result → (e : Refusal) × (result ≡ refusal_number e)
         × IsReadableRefusal preset e }
+    ensures unknown { 10 < preset → result ≡ 4 }
 {
     match readable(alloc, preset) {
         Ok(()) => 0,

@@ -60,6 +60,7 @@ fn items_by_preset(alloc: Global, text: &[u8], preset: u32, depth: u32) -> Resul
         AreItemsOf (look_at preset depth) depth text.now flat.items.items flat.texts.items) }
     ensures refused { IfErr result (λ e. IsPresetRefusal preset e
         ⊎ IsReadRefusal (look_at preset depth) depth text.now e) }
+    ensures unknown { 10 < preset → IsErrOf result Refusal.Preset }
 {
     let config = config(alloc, preset, depth)?;
     let items = items_of_text(alloc, text, &config);
@@ -120,6 +121,7 @@ pub extern "C" fn ptree_read(
     ensures kept { 0 < result → (items.new ≡ items.old) × (texts.new ≡ texts.old) }
     ensures refused { 0 < result → (e : Refusal) × IsRefused result found.new e
         × (IsPresetRefusal preset e ⊎ IsReadRefusal (look_at preset depth) depth text.now e) }
+    ensures unknown { 10 < preset → result ≡ 4 }
 {
     match items_by_preset(alloc, text, preset, depth) {
         Ok(flat) => put_items(&flat, items, texts, found),
