@@ -1,5 +1,5 @@
 //! Draws graphs.
-ghost use Rattle.std.specs.Prelude.{◌≡◌, ◌<◌, ◌++◌, [], ◌∷◌, ℕ, List, IfOk, OnOk, length, map, string_bytes, String};
+ghost use Rattle.std.specs.Prelude.{◌≡◌, ◌<◌, ◌++◌, [], ◌∷◌, ℕ, List, IfOk, IsErrOf, OnOk, length, map, string_bytes, String};
 ghost use Rattle.std.specs.declared.alloc.Global.{Global};
 ghost use Rattle.ptree.specs.Drawing.{written_look};
 ghost use Rattle.ptree.specs.declared.graph.Graph.{Graph};
@@ -120,46 +120,6 @@ fn drawing_of_once(
     }
 }
 
-// The drawing of all walks as fields say.
-fn walks_by_fields(
-    alloc: Global,
-    graph: &Graph<String>,
-    start: usize,
-    fields: &ConfigFields,
-    names: &[u8],
-) -> Result<Vec<u8>, Refusal>
-    ensures { IfOk result (λ drawing.
-        IsWalksDrawing (look_of names.now fields.now) (depth_of names.now fields.now) graph.now start
-        drawing.items) }
-{
-    let config = config_of_fields(alloc, names, fields)?;
-    let drawing = drawing_of_walks(alloc, graph, start, &config);
-    drop(config);
-    Ok(drawing?)
-}
-
-// The drawing with each node expanded once as fields say.
-fn once_by_fields(
-    alloc: Global,
-    graph: &Graph<String>,
-    start: usize,
-    mark: &[u8],
-    fields: &ConfigFields,
-    names: &[u8],
-) -> Result<Vec<u8>, Refusal>
-    ensures { IfOk result (λ drawing.
-        IsOnceDrawing (look_of names.now fields.now) (depth_of names.now fields.now) graph.now start mark.now
-        drawing.items) }
-{
-    let Ok(mark) = str::from_utf8(mark) else {
-        return Err(Refusal::Part);
-    };
-    let config = config_of_fields(alloc, names, fields)?;
-    let drawing = drawing_of_once(alloc, graph, start, mark, &config);
-    drop(config);
-    Ok(drawing?)
-}
-
 // The drawing of all walks of the graph that C gives.
 fn walks_given(
     alloc: Global,
@@ -167,15 +127,14 @@ fn walks_given(
     texts: &[u8],
     edges: &[Edge],
     start: usize,
-    fields: &ConfigFields,
-    names: &[u8],
+    config: &PrintConfig,
 ) -> Result<Vec<u8>, Refusal>
     ensures { IfOk result (λ drawing. (g : Graph (String Global))
-        × IsWalksDrawing (look_of names.now fields.now) (depth_of names.now fields.now) g start
-        drawing.items × IsGraphOf ends.now texts.now edges.now g) }
+        × IsWalksDrawing (written_look config.now) config.now.depth g start drawing.items
+        × IsGraphOf ends.now texts.now edges.now g) }
 {
     let graph = graph_of(alloc, ends, texts, edges)?;
-    walks_by_fields(alloc, &graph, start, fields, names)
+    Ok(drawing_of_walks(alloc, &graph, start, config)?)
 }
 
 // The drawing of the graph that C gives, with each node expanded once.
@@ -186,15 +145,60 @@ fn once_given(
     edges: &[Edge],
     start: usize,
     mark: &[u8],
+    config: &PrintConfig,
+) -> Result<Vec<u8>, Refusal>
+    ensures { IfOk result (λ drawing. (g : Graph (String Global))
+        × IsOnceDrawing (written_look config.now) config.now.depth g start mark.now drawing.items
+        × IsGraphOf ends.now texts.now edges.now g) }
+{
+    let Ok(mark) = str::from_utf8(mark) else {
+        return Err(Refusal::Part);
+    };
+    let graph = graph_of(alloc, ends, texts, edges)?;
+    Ok(drawing_of_once(alloc, &graph, start, mark, config)?)
+}
+
+// The drawing of all walks of the graph that C gives, as fields say.
+fn walks_by_fields(
+    alloc: Global,
+    ends: &[usize],
+    texts: &[u8],
+    edges: &[Edge],
+    start: usize,
     fields: &ConfigFields,
     names: &[u8],
 ) -> Result<Vec<u8>, Refusal>
-    ensures { IfOk result (λ drawing. (g : Graph (String Global))
+    ensures drawn { IfOk result (λ drawing. (g : Graph (String Global))
+        × IsWalksDrawing (look_of names.now fields.now) (depth_of names.now fields.now) g start
+        drawing.items × IsGraphOf ends.now texts.now edges.now g) }
+    ensures styled { 2 < fields.now.styled → IsErrOf result Refusal.Styled }
+{
+    let config = config_of_fields(alloc, names, fields)?;
+    let drawing = walks_given(alloc, ends, texts, edges, start, &config);
+    drop(config);
+    drawing
+}
+
+// The drawing of the graph that C gives, with each node expanded once, as fields say.
+fn once_by_fields(
+    alloc: Global,
+    ends: &[usize],
+    texts: &[u8],
+    edges: &[Edge],
+    start: usize,
+    mark: &[u8],
+    fields: &ConfigFields,
+    names: &[u8],
+) -> Result<Vec<u8>, Refusal>
+    ensures drawn { IfOk result (λ drawing. (g : Graph (String Global))
         × IsOnceDrawing (look_of names.now fields.now) (depth_of names.now fields.now) g start
         mark.now drawing.items × IsGraphOf ends.now texts.now edges.now g) }
+    ensures styled { 2 < fields.now.styled → IsErrOf result Refusal.Styled }
 {
-    let graph = graph_of(alloc, ends, texts, edges)?;
-    once_by_fields(alloc, &graph, start, mark, fields, names)
+    let config = config_of_fields(alloc, names, fields)?;
+    let drawing = once_given(alloc, ends, texts, edges, start, mark, &config);
+    drop(config);
+    drawing
 }
 
 /// Draws all walks of a graph from the node at `start` into `out`, as much as there is room for, as
@@ -219,8 +223,9 @@ pub extern "C" fn ptree_draw_walks(
         × (out.new ≡ filled out.old drawing) × (found.new ≡ found_sizes (length drawing) 0) }
     ensures kept { 0 < result → out.new ≡ out.old }
     ensures refused { 0 < result → (e : Refusal) × IsRefused result found.new e }
+    ensures styled { 2 < config.now.styled → result ≡ 17 }
 {
-    match walks_given(alloc, ends, texts, edges, start, config, names) {
+    match walks_by_fields(alloc, ends, texts, edges, start, config, names) {
         Ok(drawing) => put_bytes(&drawing, 0, out, found),
         Err(refusal) => refuse(refusal, found),
     }
@@ -247,8 +252,9 @@ pub extern "C" fn ptree_draw_once(
         × (out.new ≡ filled out.old drawing) × (found.new ≡ found_sizes (length drawing) 0) }
     ensures kept { 0 < result → out.new ≡ out.old }
     ensures refused { 0 < result → (e : Refusal) × IsRefused result found.new e }
+    ensures styled { 2 < config.now.styled → result ≡ 17 }
 {
-    match once_given(alloc, ends, texts, edges, start, mark, config, names) {
+    match once_by_fields(alloc, ends, texts, edges, start, mark, config, names) {
         Ok(drawing) => put_bytes(&drawing, 0, out, found),
         Err(refusal) => refuse(refusal, found),
     }
