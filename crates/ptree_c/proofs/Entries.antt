@@ -1,5 +1,5 @@
 -- Entries, as a pen makes them.
-use Rattle.std.proofs.Common.{◌≡◌, ℕ, ◌+◌, ◌-◌, ◌<◌, ◌≤◌, Bool, Option, List, [], ◌∷◌, ◌++◌, length, take, drop, get_or, refl, sym, ap, ◌∙◌, append_assoc, arith}
+use Rattle.std.proofs.Common.{◌≡◌, ℕ, ◌+◌, ◌-◌, ◌<◌, ◌≤◌, Bool, Option, List, [], ◌∷◌, ◌++◌, length, take, drop, get_or, sym, ap, ◌∙◌, append_assoc, arith}
 use Rattle.ptree.specs.Drawing.{Look, with_inserted}
 use Rattle.ptree.specs.Looks.{own_piece, below_piece, own_text}
 use Rattle.ptree.specs.Pieces.{passing_all}
@@ -49,10 +49,6 @@ entry_gathered look above own text front is =
 pub four_long : (a b c d : List ℕ) → length (((a ++ b) ++ c) ++ d) ≡ ((length a + length b) + length c) + length d
 four_long a b c d = length-append ((a ++ b) ++ c) d ∙ ap (λ n. n + length d) (length-append (a ++ b) c ∙ ap (λ n. n + length c) (length-append a b))
 
--- four texts behind another one, in turn
-pub four_behind : (before a b c d : List ℕ) → (((before ++ a) ++ b) ++ c) ++ d ≡ before ++ (((a ++ b) ++ c) ++ d)
-four_behind before a b c d = simp append_assoc refl
-
 -- a byte more, with what is inserted after it
 pub inserted_more : (inserted text : List ℕ) (i : ℕ) → i < length text
     → with_inserted inserted (take (i + 1) text) ≡ with_inserted inserted (take i text) ++ with_inserted inserted (get_or text i 0 ∷ [])
@@ -77,10 +73,6 @@ step_behind look texts path front text s own level is above flag part =
     ap (λ o. entry_behind look front o text) flag
     ∙ (ap (entry_behind look front (own_flag s.level s.is_last)) part
     ∙ entry_gathered look (path_flags path (s.level - 1)) (own_flag s.level s.is_last) (part_text texts s.text) front (is ∙ ap (λ n. start_codes look.branch ++ passing_all look.pieces (path_flags path n)) above))
-
--- the length of three texts
-pub three_long : (a b c : List ℕ) (n m x y z : ℕ) → m ≡ x + y → n ≡ m + z → x ≡ length a → y ≡ length b → z ≡ length c → n ≡ length (a ++ (b ++ c))
-three_long a b c n m x y z first all is_a is_b is_c = omega (arith, first, all, is_a, is_b, is_c, length-append a (b ++ c), length-append b c)
 
 -- the length of four texts
 pub four_sum : (a b c d : List ℕ) (n m k x y z w : ℕ) → m ≡ x + y → k ≡ m + z → n ≡ k + w → x ≡ length a → y ≡ length b → z ≡ length d → w ≡ length c → n ≡ length (((a ++ b) ++ c) ++ d)
