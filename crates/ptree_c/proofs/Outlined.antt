@@ -206,6 +206,10 @@ outline_same look texts p q items flags deepest depth are last fit_p fit_q =
     ∙ (ap (λ t. concat (drawn_entries look depth (shape_of_tree t))) same
     ∙ sym (one_drawing look (shape_of_tree b.0) depth (steps_text look texts q (steps_from depth 0 items flags)) b.2))
 
+-- an item that is in no list
+abbrev pub no_item : Item
+no_item = record { end = 0; level = 0 }
+
 -- the items that are left are the next one before those behind it
 pub next_left : (look : Look) (texts path new : List ℕ) (depth from n : ℕ) (items : List Item) (flags : List ℕ) (d : Item) → n < length items → length flags ≡ length items
     → new ≡ kept_path depth path (step_of from (get_or items n d) (get_or flags n 0))

@@ -336,43 +336,47 @@ fn write_style(names: &mut Vec<u8>, style: &Style) -> Result<StyleFields, AllocE
     })
 }
 
+// The number of a colour's kind.
+fn kind_of(color: Option<&Color>) -> u32 {
+    match color {
+        None => 0,
+        Some(Color::Black) => 1,
+        Some(Color::Red) => 2,
+        Some(Color::Green) => 3,
+        Some(Color::Yellow) => 4,
+        Some(Color::Blue) => 5,
+        Some(Color::Purple) => 6,
+        Some(Color::Cyan) => 7,
+        Some(Color::White) => 8,
+        Some(Color::Fixed(_)) => 9,
+        Some(Color::RGB(_, _, _)) => 10,
+        Some(Color::Named(_)) => 11,
+    }
+}
+
+// The bytes of a colour, which are 0 where it has none.
+fn bytes_of(color: Option<&Color>) -> (u8, u8, u8) {
+    match color {
+        Some(Color::Fixed(number)) => (*number, 0, 0),
+        Some(Color::RGB(red, green, blue)) => (*red, *green, *blue),
+        _ => (0, 0, 0),
+    }
+}
+
 // The fields of a colour.
 fn write_color(names: &mut Vec<u8>, color: Option<&Color>) -> Result<ColorFields, AllocError> {
-    let mut fields = ColorFields {
-        kind: 0,
-        red: 0,
-        green: 0,
-        blue: 0,
-        name: Part { start: 0, end: 0 },
+    let (red, green, blue) = bytes_of(color);
+    let name = match color {
+        Some(Color::Named(name)) => write_part(names, name.as_str())?,
+        _ => Part { start: 0, end: 0 },
     };
-    let Some(color) = color else {
-        return Ok(fields);
-    };
-    match color {
-        Color::Black => fields.kind = 1,
-        Color::Red => fields.kind = 2,
-        Color::Green => fields.kind = 3,
-        Color::Yellow => fields.kind = 4,
-        Color::Blue => fields.kind = 5,
-        Color::Purple => fields.kind = 6,
-        Color::Cyan => fields.kind = 7,
-        Color::White => fields.kind = 8,
-        Color::Fixed(number) => {
-            fields.kind = 9;
-            fields.red = *number;
-        }
-        Color::RGB(red, green, blue) => {
-            fields.kind = 10;
-            fields.red = *red;
-            fields.green = *green;
-            fields.blue = *blue;
-        }
-        Color::Named(name) => {
-            fields.kind = 11;
-            fields.name = write_part(names, name.as_str())?;
-        }
-    }
-    Ok(fields)
+    Ok(ColorFields {
+        kind: kind_of(color),
+        red,
+        green,
+        blue,
+        name,
+    })
 }
 
 // Appends a text, and returns where it is.

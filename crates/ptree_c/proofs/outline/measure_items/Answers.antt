@@ -1,38 +1,21 @@
-use Rattle.std.proofs.Common.{◌≡◌, ◌≤◌, ◌+◌, ◌++◌, ℕ, List, [], length, drop, get_or, sym, ◌∙◌, subst}
-use Rattle.ptree_c.specs.Outlines.{step_of, kept_before, steps_from}
+use Rattle.std.proofs.Common.{◌≤◌, length, get_or, sym, ◌∙◌, subst}
 use Rattle.ptree_c.specs.Pens.{brush_look}
-use Rattle.ptree_c.specs.Steps.{steps_text}
-use Rattle.ptree_c.specs.declared.items.Item.{Item}
-use Rattle.ptree_c.specs.declared.steps.Step.{Step}
-use Rattle.ptree_c.proofs.Outlined.{low_at, next_left, size_more}
+use Rattle.ptree_c.proofs.Outlined.{no_item, low_at, next_left, size_more}
 use Rattle.ptree_c.proofs.outline.measure_items.Goals as goal
 
 pub measure_item-requires-clause-low : goal.measure_item-requires-clause-low
 measure_item-requires-clause-low c =
-    λ h. subst (λ n. (get_or c.args.items.now c.loop-place.place (record { end = 0; level = 0 })).level ≤ n) (sym c.loop-place.invariant.long)
-    (low_at c.args.depth (length c.args.path.now) c.args.items.now c.loop-place.place (record { end = 0; level = 0 }) c.requires.low c.loop-place-test.true h)
+    λ h. subst (λ n. (get_or c.args.items.now c.loop-place.place no_item).level ≤ n) (sym c.loop-place.invariant.long)
+    (low_at c.args.depth (length c.args.path.now) c.args.items.now c.loop-place.place no_item c.requires.low c.loop-place-test.true h)
 
 pub loop-place-preserved : goal.loop-place-preserved
 loop-place-preserved c =
-    let look = brush_look c.args.brush.now in
-    let texts = c.args.texts.now.bytes.now in
-    let items = c.args.items.now in
-    let flags = c.args.flags.now in
-    let depth = c.args.depth in
-    let n = c.loop-place.place in
-    let from = c.loop-place.from in
-    let path = c.loop-place.path in
-    let none : Item = record { end = 0; level = 0 } in
-    let i : Item = get_or items n none in
-    let s : Step = step_of from i (get_or flags n 0) in
-    let whole : List ℕ = steps_text look texts path (steps_from depth from (drop n items) (drop n flags)) in
-    let part : List ℕ = steps_text look texts path (kept_before depth s []) in
-    let rest : List ℕ → List ℕ = λ p. steps_text look texts p (steps_from depth i.end (drop (n + 1) items) (drop (n + 1) flags)) in
-    let new = c.measure_item.new.path in
     let ok = c.in_ok-size.ensures in
-    let next : whole ≡ part ++ rest new = next_left look texts path new depth from n items flags none c.loop-place-test.true c.requires.flags ok.path in
+    let next =
+    next_left (brush_look c.args.brush.now) c.args.texts.now.bytes.now c.loop-place.path c.measure_item.new.path c.args.depth c.loop-place.from c.loop-place.place c.args.items.now c.args.flags.now
+    no_item c.loop-place-test.true c.requires.flags ok.path in
     record {
-      size = size_more whole part (rest new) c.loop-place.size c.in_ok-size.size _ next c.loop-place.invariant.size ok.size;
+      size = size_more _ _ _ c.loop-place.size c.in_ok-size.size _ next c.loop-place.invariant.size ok.size;
       held = ok.held;
       room = ok.room;
       long = c.measure_item.auto.path ∙ c.loop-place.invariant.long;
