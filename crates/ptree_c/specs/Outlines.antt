@@ -1,8 +1,11 @@
 -- The items of an outline as steps: which of them are last children, and which are drawn down to a depth.
-use Rattle.std.specs.Prelude.{◌≡◌, ◌<◌, ◌≤◌, ℕ, suc, Bool, false, not, nat_lt, nat_eq, if◌then◌else◌, List, [], ◌∷◌, get_or}
+use Rattle.std.specs.Prelude.{◌≡◌, ◌<◌, ◌≤◌, ◌⊎◌, ℕ, suc, Bool, false, not, nat_lt, nat_eq, if◌then◌else◌, List, [], ◌∷◌, get_or}
 use Rattle.ptree_c.specs.Fields.{is_set}
+use Rattle.ptree_c.specs.Refusals.{IsTextBetween, IsTextFault}
 use Rattle.ptree_c.specs.Steps.{path_with}
 use Rattle.ptree_c.specs.declared.items.Item.{Item}
+use Rattle.ptree_c.specs.declared.refusal.Refusal.{Refusal}
+use Rattle.ptree_c.specs.declared.refusal.Refusal.TheVariants.{Memory, Level}
 use Rattle.ptree_c.specs.declared.steps.Step.{Step}
 
 -- an item at level n above these items has a later sibling among them: the first that is not deeper than n is at level n
@@ -30,6 +33,40 @@ StepsDown deepest previous (i ∷ items) = (0 < i.level) × (i.level ≤ suc pre
 abbrev pub AreItems : ℕ → List Item → Type 0
 AreItems deepest [] = ⊥
 AreItems deepest (i ∷ items) = (i.level ≡ 0) × StepsDown deepest 0 items
+
+-- an item has a text and a level that it can have after another one
+abbrev pub IsRightAfter : List ℕ → Item → Item → Type 0
+IsRightAfter texts before i = IsTextBetween texts before.end i.end × (0 < i.level) × (i.level ≤ suc before.level)
+
+-- why the item at a place is none that can be there
+abbrev pub IsWrongAfter : List ℕ → Item → ℕ → Item → Refusal → Type 0
+IsWrongAfter texts before place i e = IsTextFault texts before.end i.end place e ⊎ ((e ≡ Level place) × ((i.level ≡ 0) ⊎ (suc before.level < i.level)))
+
+-- each item is right after the one before it
+abbrev pub AreRightAfter : List ℕ → Item → List Item → Type 0
+AreRightAfter texts before [] = Unit {0}
+AreRightAfter texts before (i ∷ items) = IsRightAfter texts before i × AreRightAfter texts i items
+
+-- why the first of the items that is wrong is so, where the first of all has this place
+abbrev pub IsFirstWrongAfter : List ℕ → Item → ℕ → List Item → Refusal → Type 0
+IsFirstWrongAfter texts before place [] e = ⊥
+IsFirstWrongAfter texts before place (i ∷ items) e = IsWrongAfter texts before place i e ⊎ (IsRightAfter texts before i × IsFirstWrongAfter texts i (suc place) items e)
+
+-- the items and their texts are those of an outline: a root, and items that are right after one another
+abbrev pub AreRight : List ℕ → List Item → Type 0
+AreRight texts [] = ⊥
+AreRight texts (i ∷ items) = (i.level ≡ 0) × IsTextBetween texts 0 i.end × AreRightAfter texts i items
+
+-- why the first item that is wrong is so; no items lack a root
+abbrev pub IsFirstWrong : List ℕ → List Item → Refusal → Type 0
+IsFirstWrong texts [] e = e ≡ Level 0
+IsFirstWrong texts (i ∷ items) e =
+    ((e ≡ Level 0) × (0 < i.level)) ⊎ ((i.level ≡ 0) × IsTextFault texts 0 i.end 0 e)
+    ⊎ ((i.level ≡ 0) × IsTextBetween texts 0 i.end × IsFirstWrongAfter texts i 1 items e)
+
+-- why items are not drawn: memory ran out, or one is wrong
+abbrev pub IsItemsRefusal : List ℕ → List Item → Refusal → Type 0
+IsItemsRefusal texts items e = (e ≡ Memory) ⊎ IsFirstWrong texts items e
 
 -- an item whose text begins at place from
 abbrev pub step_of : ℕ → Item → ℕ → Step

@@ -1,5 +1,5 @@
 -- The numbers of refusals, and why calls refuse.
-use Rattle.std.specs.Prelude.{◌≡◌, ◌<◌, ◌⊎◌, ℕ}
+use Rattle.std.specs.Prelude.{◌≡◌, ◌<◌, ◌≤◌, ◌-◌, ◌⊎◌, ℕ, List, length, take, drop, IsUtf8}
 use Rattle.ptree_c.specs.declared.fields.ConfigFields.{ConfigFields}
 use Rattle.ptree_c.specs.declared.refusal.Refusal.{Refusal}
 use Rattle.ptree_c.specs.declared.refusal.Refusal.TheVariants.{Memory, Utf8, Level, Preset, Pieces, Line, Incomplete, Syntax, Float, Date, End, Format, Part, Color, Fault, Edge, Styled}
@@ -57,6 +57,12 @@ IsNamesRefusal e = (e ≡ Memory) ⊎ (e ≡ Part) ⊎ (e ≡ Color)
 abbrev pub IsFieldsRefusal : ConfigFields → Refusal → Type 0
 IsFieldsRefusal c e = IsNamesRefusal e ⊎ ((e ≡ Styled) × (2 < c.styled))
 
--- memory ran out, or the text or the level of an item is wrong
-abbrev pub IsItemsRefusal : Refusal → Type 0
-IsItemsRefusal e = (e ≡ Memory) ⊎ ((n : ℕ) × ((e ≡ Utf8 n) ⊎ (e ≡ Level n) ⊎ (e ≡ End n)))
+-- the text between two places of texts is there, and UTF-8
+abbrev pub IsTextBetween : List ℕ → ℕ → ℕ → Type 0
+IsTextBetween texts from end = (from ≤ end) × (end ≤ length texts) × IsUtf8 (take (end - from) (drop from texts))
+
+-- why it is not, where it is that of the item at a place: it ends before it begins, or beyond the texts, or it is not UTF-8
+abbrev pub IsTextFault : List ℕ → ℕ → ℕ → ℕ → Refusal → Type 0
+IsTextFault texts from end place e =
+    ((e ≡ End place) × ((end < from) ⊎ (length texts < end)))
+    ⊎ ((e ≡ Utf8 place) × (from ≤ end) × (end ≤ length texts) × (IsUtf8 (take (end - from) (drop from texts)) → ⊥))

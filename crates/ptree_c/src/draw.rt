@@ -1,9 +1,10 @@
 //! Draws items.
-ghost use Rattle.std.specs.Prelude.{◌≡◌, ◌⊎◌, ◌<◌, ℕ, List, IfOk, IfErr, IsErrOf, OnErr, length};
+ghost use Rattle.std.specs.Prelude.{◌≡◌, ◌⊎◌, ◌<◌, ℕ, List, IfOk, IfErr, IsErrOf, OnOk, OnErr, length};
 ghost use Rattle.ptree_c.specs.Calls.{IsItemsDrawing};
 ghost use Rattle.ptree_c.specs.Fields.{depth_of, look_of};
+ghost use Rattle.ptree_c.specs.Outlines.{AreRight, IsItemsRefusal};
 ghost use Rattle.ptree_c.specs.Presets.{look_at, IsPresetRefusal};
-ghost use Rattle.ptree_c.specs.Refusals.{IsRefused, IsFieldsRefusal, IsItemsRefusal};
+ghost use Rattle.ptree_c.specs.Refusals.{IsRefused, IsFieldsRefusal};
 ghost use Rattle.ptree_c.specs.Rooms.{filled, found_sizes, IsFilled};
 
 use crate::answer::{refuse, report};
@@ -28,7 +29,9 @@ fn draw_by_preset(
         × IsItemsDrawing (look_at preset depth) depth items.now texts.now drawing
         × IsFilled out.old drawing out.new size) }
     ensures kept { OnErr result (out.new ≡ out.old) }
-    ensures refused { IfErr result (λ e. IsPresetRefusal preset e ⊎ IsItemsRefusal e) }
+    ensures right { OnOk result (AreRight texts.now items.now) }
+    ensures refused { IfErr result (λ e. IsPresetRefusal preset e
+        ⊎ IsItemsRefusal texts.now items.now e) }
     ensures unknown { 10 < preset → IsErrOf result Refusal.Preset }
 {
     let config = config(alloc, preset, depth)?;
@@ -50,7 +53,9 @@ fn draw_by_fields(
         × IsItemsDrawing (look_of names.now fields.now) (depth_of names.now fields.now) items.now
         texts.now drawing × IsFilled out.old drawing out.new size) }
     ensures kept { OnErr result (out.new ≡ out.old) }
-    ensures refused { IfErr result (λ e. IsFieldsRefusal fields.now e ⊎ IsItemsRefusal e) }
+    ensures right { OnOk result (AreRight texts.now items.now) }
+    ensures refused { IfErr result (λ e. IsFieldsRefusal fields.now e
+        ⊎ IsItemsRefusal texts.now items.now e) }
     ensures styled { 2 < fields.now.styled → IsErrOf result Refusal.Styled }
 {
     let config = config_of_fields(alloc, names, fields)?;
@@ -76,8 +81,9 @@ pub extern "C" fn ptree_draw(
         × (out.new ≡ filled out.old drawing)
         × (found.new ≡ found_sizes (length drawing) (length items.now)) }
     ensures kept { 0 < result → out.new ≡ out.old }
+    ensures right { result ≡ 0 → AreRight texts.now items.now }
     ensures refused { 0 < result → (e : Refusal) × IsRefused result found.new e
-        × (IsPresetRefusal preset e ⊎ IsItemsRefusal e) }
+        × (IsPresetRefusal preset e ⊎ IsItemsRefusal texts.now items.now e) }
     ensures unknown { 10 < preset → result ≡ 4 }
 {
     match draw_by_preset(alloc, items, texts, preset, depth, out) {
@@ -103,8 +109,9 @@ pub extern "C" fn ptree_draw_with(
         texts.now drawing × (out.new ≡ filled out.old drawing)
         × (found.new ≡ found_sizes (length drawing) (length items.now)) }
     ensures kept { 0 < result → out.new ≡ out.old }
+    ensures right { result ≡ 0 → AreRight texts.now items.now }
     ensures refused { 0 < result → (e : Refusal) × IsRefused result found.new e
-        × (IsFieldsRefusal config.now e ⊎ IsItemsRefusal e) }
+        × (IsFieldsRefusal config.now e ⊎ IsItemsRefusal texts.now items.now e) }
     ensures styled { 2 < config.now.styled → result ≡ 17 }
 {
     match draw_by_fields(alloc, items, texts, config, names, out) {

@@ -3,9 +3,8 @@ ghost use Rattle.std.specs.Prelude.{◌≡◌, ◌≤◌, ◌+◌, ◌∷◌, �
 ghost use Rattle.ptree.specs.Drawing.{written_look};
 ghost use Rattle.ptree_c.specs.Calls.{IsItemsDrawing};
 ghost use Rattle.ptree_c.specs.Fields.{is_set};
-ghost use Rattle.ptree_c.specs.Outlines.{has_later_item, AreLater, AreLastFlags, AreItems, AreLow, kept_before, kept_path, steps_from};
+ghost use Rattle.ptree_c.specs.Outlines.{has_later_item, AreLater, AreLastFlags, AreItems, AreLow, AreRight, IsFirstWrong, IsItemsRefusal, IsRightAfter, IsWrongAfter, kept_before, kept_path, steps_from};
 ghost use Rattle.ptree_c.specs.Pens.{HoldsPath, HasRoom, brush_look};
-ghost use Rattle.ptree_c.specs.Refusals.{IsItemsRefusal};
 ghost use Rattle.ptree_c.specs.Rooms.{filled, IsFilled, IsSize};
 ghost use Rattle.ptree_c.specs.Steps.{steps_text};
 ghost use Rattle.ptree_c.specs.declared.items.Item.{Item};
@@ -20,31 +19,36 @@ use crate::texts::Texts;
 use ptree::PrintConfig;
 use std::alloc::{AllocError, Global};
 
+// Checks an item at a place, and its text, by the item before it.
+fn check_after(before: &Item, item: &Item, texts: &Texts<'_>, place: usize) -> Result<(), Refusal>
+    ensures right { OnOk result (IsRightAfter texts.now.bytes.now before.now item.now) }
+    ensures refused { IfErr result
+        (IsWrongAfter texts.now.bytes.now before.now place item.now) }
+{
+    texts.check(before.end, item.end, place)?;
+    if item.level == 0 || item.level - 1 > before.level {
+        return Err(Refusal::Level(place));
+    }
+    Ok(())
+}
+
 // Checks items and their texts, and returns the deepest level.
 fn deepest_of_items(items: &[Item], texts: &Texts<'_>) -> Result<u32, Refusal>
     ensures deepest { IfOk result (λ deepest. AreItems deepest items.now) }
-    ensures refused { IfErr result IsItemsRefusal }
+    ensures right { OnOk result (AreRight texts.now.bytes.now items.now) }
+    ensures refused { IfErr result (IsFirstWrong texts.now.bytes.now items.now) }
 {
-    let Some((root, below)) = items.split_first() else {
-        return Err(Refusal::Level(0));
+    let (mut before, mut rest) = match items.split_first() {
+        Some((root, below)) if root.level == 0 => (root, below),
+        _ => return Err(Refusal::Level(0)),
     };
-    if root.level != 0 {
-        return Err(Refusal::Level(0));
-    }
-    texts.check(0, root.end, 0)?;
-    let mut from = root.end;
-    let mut level = 0;
+    texts.check(0, before.end, 0)?;
     let mut deepest = 0;
-    let mut rest = below;
     while let Some((item, tail)) = rest.split_first() {
         let place = items.len().saturating_sub(rest.len());
-        texts.check(from, item.end, place)?;
-        if item.level == 0 || item.level - 1 > level {
-            return Err(Refusal::Level(place));
-        }
-        from = item.end;
-        level = item.level;
-        deepest = deepest.max(level);
+        check_after(before, item, texts, place)?;
+        deepest = deepest.max(item.level);
+        before = item;
         rest = tail;
     }
     Ok(deepest)
@@ -268,7 +272,8 @@ pub(crate) fn draw_outline(
         × IsItemsDrawing (written_look config.now) config.now.depth items.now texts.now drawing
         × IsFilled out.old drawing out.new size) }
     ensures kept { OnErr result (out.new ≡ out.old) }
-    ensures refused { IfErr result IsItemsRefusal }
+    ensures right { OnOk result (AreRight texts.now items.now) }
+    ensures refused { IfErr result (IsItemsRefusal texts.now items.now) }
 {
     let known = Texts::new(texts);
     let deepest = deepest_of_items(items, &known)?;

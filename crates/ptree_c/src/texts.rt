@@ -1,8 +1,8 @@
 //! The texts of items.
-ghost use Rattle.std.specs.Prelude.{◌≡◌, false, IfErr};
+ghost use Rattle.std.specs.Prelude.{◌≡◌, ◌≤◌, ◌-◌, ◌↔◌, true, false, IsTrue, IsUtf8, IsCharBoundary, length, take, drop, IfErr, OnOk};
 ghost use Rattle.ptree.specs.Texts.{HasNoLineFeed};
 ghost use Rattle.ptree_c.specs.Fields.{part_text};
-ghost use Rattle.ptree_c.specs.Refusals.{IsItemsRefusal};
+ghost use Rattle.ptree_c.specs.Refusals.{IsTextBetween, IsTextFault};
 
 use crate::fields::Part;
 use crate::refusal::Refusal;
@@ -14,6 +14,7 @@ pub(crate) struct Texts<'a> {
     bytes: &'a [u8],
     is_utf8: bool,
     has_line_feed: bool,
+    ghost utf8: { is_utf8 ≡ true → ∥ IsUtf8 bytes.now ∥₁ },
     ghost feeds: { has_line_feed ≡ false → HasNoLineFeed bytes.now },
 }
 
@@ -31,7 +32,8 @@ impl<'a> Texts<'a> {
 
     /// Checks the text of the item at a place.
     pub(crate) fn check(&self, start: usize, end: usize, place: usize) -> Result<(), Refusal>
-        ensures { IfErr result IsItemsRefusal }
+        ensures text { OnOk result (IsTextBetween self.now.bytes.now start end) }
+        ensures refused { IfErr result (IsTextFault self.now.bytes.now start end place) }
     {
         let Some(text) = self.bytes.get(start..end) else {
             return Err(Refusal::End(place));
@@ -64,7 +66,12 @@ impl<'a> Texts<'a> {
 
     // Whether a part is UTF-8. If all texts are, it is if characters begin at both ends.
     #[inline(always)]
-    fn is_text(&self, start: usize, end: usize, text: &[u8]) -> bool {
+    fn is_text(&self, start: usize, end: usize, text: &[u8]) -> bool
+        requires order { start ≤ end }
+        requires within { end ≤ length self.now.bytes.now }
+        requires text { text.now ≡ take (end - start) (drop start self.now.bytes.now) }
+        ensures { IsTrue result ↔ IsUtf8 text.now }
+    {
         if self.is_utf8 && self.starts_character(start) && self.starts_character(end) {
             return true;
         }
@@ -73,9 +80,12 @@ impl<'a> Texts<'a> {
 
     // Whether a character of UTF-8 texts begins at a place, or they end there.
     #[inline(always)]
-    fn starts_character(&self, place: usize) -> bool {
+    fn starts_character(&self, place: usize) -> bool
+        requires { place ≤ length self.now.bytes.now }
+        ensures { result ≡ true → IsCharBoundary self.now.bytes.now place }
+    {
         match self.bytes.get(place) {
-            Some(byte) => *byte & 0xc0 != 0x80,
+            Some(byte) => *byte < 0x80 || *byte >= 0xc0,
             None => true,
         }
     }
