@@ -30,6 +30,14 @@ finish() {
     [ "$failed" = 0 ]
 }
 
+# Prints what is said last of files of rows that all pass. The counts are those of the files' lines, so that no row is lost to what reads it.
+counts_of() {
+    local file
+    for file; do
+        echo "$(basename "$file"): $(grep -c '^row ' "$file") rows, $(grep -c '^= ' "$file") answers, 0 failed"
+    done
+}
+
 # Proves and builds a crate if its sources have changed.
 need_crate() {
     if ! bin/build "$1"; then
