@@ -1,7 +1,8 @@
 //! Callers that compare trees.
-ghost use Rattle.std.specs.Prelude.{◌≡◌, ◌≢◌, ◌↔◌, IsTrue, IfOk, IfSome, None};
-ghost use Rattle.ptree.specs.Address.{at};
+ghost use Rattle.std.specs.Prelude.{◌≡◌, ◌≢◌, ◌↔◌, IsTrue, IfOk, IfSome, Some, None};
+ghost use Rattle.ptree.specs.Address.{Address, at};
 ghost use Rattle.ptree.specs.Tree.{tree_kids, tree_of};
+ghost use Rattle.ptree_trees.specs.Difference.{DifferAt};
 
 use ptree::item::StringItem;
 use ptree_trees::difference::first_difference;
@@ -47,4 +48,21 @@ pub fn first_lost(
         return Ok(Some(found.address));
     }
     Ok(None)
+}
+
+/// Returns what a tree has where two changed copies of it differ first, if it has an item there.
+pub fn original<'a>(
+    alloc: Global,
+    tree: &'a StringItem,
+    left: &StringItem,
+    right: &StringItem,
+) -> Result<Option<&'a StringItem>, AllocError>
+    ensures { IfOk result (λ o. IfSome o (λ s. (a : Address)
+        × DifferAt (tree_of left.now) (tree_of right.now) a
+        × (at tree_kids (tree_of tree.now) a ≡ Some (tree_of s.now)))) }
+{
+    let Some(found) = first_difference(alloc, left, right)? else {
+        return Ok(None);
+    };
+    Ok(tree.at_address(&found.address))
 }

@@ -1,13 +1,12 @@
 -- Where trees differ first.
 use Rattle.std.specs.Prelude.{◌≢◌, slice_get, option_map, option_and_then}
-use Rattle.std.proofs.Common.{◌≡◌, ◌∙◌, ℕ, zero, suc, ◌<◌, ◌≤◌, ◌+◌, length, get_or, true, string_bytes, inl, inr, List, [], ◌∷◌, Option, Some, None, ap, sym, refl, subst, arith, below_more}
-use Rattle.std.proofs.lemmas.Option.{slice_get-map, slice_get_read, slice_get_past}
+use Rattle.std.proofs.Common.{◌≡◌, ◌∙◌, ℕ, zero, suc, ◌<◌, ◌+◌, true, string_bytes, inl, inr, List, [], ◌∷◌, Option, Some, None, ap, sym, refl, subst, arith, below_more}
 use Rattle.std.proofs.lemmas.Slice.Eq.{bytes_eq-Decides}
 use Rattle.std.specs.Str.{bytes_eq}
 use Rattle.ptree.specs.declared.item.StringItem.{StringItem, out-StringItem}
 use Rattle.ptree.specs.Address.{Address, at, Before}
 use Rattle.ptree.specs.Tree.{Forest, none, item, Tree, tree, trees, forest, tree_kids, tree_of}
-use Rattle.ptree.proofs.TreeLemmas.{kids_of_item, tree_of_item}
+use Rattle.ptree.proofs.TreeLemmas.{tree_of_item}
 use Rattle.ptree_trees.specs.Difference.{text_at_address}
 use Rattle.ptree_trees.specs.Found.{IsFirst}
 
@@ -15,20 +14,6 @@ use Rattle.ptree_trees.specs.Found.{IsFirst}
 pub record AreSameTo (t u : Tree) (n : ℕ) : Type 0 where
   pub text : t.text ≡ u.text
   pub kids : (i : ℕ) → i < n → slice_get (tree_kids t) i ≡ slice_get (tree_kids u) i
-
--- a child of an item's tree is the tree of the item's child
-pub child_of_item : (s : StringItem) (i : ℕ) (o : Option StringItem) → slice_get (out-StringItem s).children.items i ≡ o → slice_get (tree_kids (tree_of s)) i ≡ option_map tree_of o
-child_of_item s i o e =
-    ap (λ ts. slice_get ts i) (kids_of_item s) ∙ slice_get-map tree_of (out-StringItem s).children.items i ∙ ap (option_map tree_of) e
-
--- an item's child is there
-pub child_there : (s : StringItem) (xs : List StringItem) (i : ℕ) (x : StringItem) → xs ≡ (out-StringItem s).children.items → i < length xs → x ≡ get_or xs i x
-    → slice_get (tree_kids (tree_of s)) i ≡ Some (tree_of x)
-child_there s xs i x e l is = child_of_item s i (Some x) (subst (λ (ys : List StringItem). slice_get ys i ≡ Some x) e (slice_get_read xs (length xs) i x refl l is))
-
--- an item has no child past its children
-pub child_not_there : (s : StringItem) (xs : List StringItem) (i : ℕ) → xs ≡ (out-StringItem s).children.items → length xs ≤ i → slice_get (tree_kids (tree_of s)) i ≡ None
-child_not_there s xs i e l = child_of_item s i None (subst (λ (ys : List StringItem). slice_get ys i ≡ None) e (slice_get_past xs i l))
 
 -- the trees of items with the same text have the same text
 pub same_texts : (a b : StringItem) → bytes_eq (string_bytes (out-StringItem a).text) (string_bytes (out-StringItem b).text) ≡ true → (tree_of a).text ≡ (tree_of b).text

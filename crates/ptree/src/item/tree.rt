@@ -1,8 +1,9 @@
 //! Makes, lists and compares trees of texts.
-ghost use Rattle.std.specs.Prelude.{◌≡◌, ◌↔◌, ◌++◌, ◌∷◌, map, suc, IfOk, IsTrue, OnOk};
+ghost use Rattle.std.specs.Prelude.{◌≡◌, ◌↔◌, ◌++◌, ◌∷◌, map, option_map, suc, IfOk, IsTrue, OnOk};
+ghost use Rattle.ptree.specs.Address.{at};
 ghost use Rattle.ptree.specs.Equality.{same_tree};
 ghost use Rattle.ptree.specs.Outline.{subtrees, subtrees_at};
-ghost use Rattle.ptree.specs.Tree.{tree, none, forest, tree_of};
+ghost use Rattle.ptree.specs.Tree.{tree, none, forest, tree_kids, tree_of};
 
 use crate::item::StringItem;
 use std::alloc::{AllocError, Global};
@@ -51,6 +52,21 @@ impl StringItem {
         let mut items = Vec::new(alloc);
         push_items(self, 0, &mut items)?;
         Ok(items)
+    }
+
+    /// Returns the item at an address: the positions of children, counted from 0, that lead there
+    /// from this item. The empty address is the item's own.
+    ///
+    /// It takes time for each position, and does not allocate.
+    pub fn at_address(&self, address: &[usize]) -> Option<&StringItem>
+        ensures { option_map (λ s. tree_of s.now) result
+            ≡ at tree_kids (tree_of self.now) address.now }
+    {
+        let mut item = self;
+        for position in address {
+            item = item.children.get(*position)?;
+        }
+        Some(item)
     }
 }
 
