@@ -43,6 +43,7 @@ __all__ = [
 ]  # fmt: skip
 for _public in (Config, Style, Characters, NamedColor, PtreeError, ReadError, DocumentError, ConfigError):
     _public.__module__ = __name__
+__version__ = "0.5.2"
 Node = TypeVar("Node")
 Key = TypeVar("Key", bound=Hashable)
 _children = operator.attrgetter("children")

@@ -62,6 +62,10 @@ class Package(unittest.TestCase):
             names = test.globs
         self.assertEqual(ran.summarize().failed, 0)
 
+    def test_the_version_is_the_project_s(self):
+        with open(os.path.join(HERE, "../pyproject.toml"), encoding="utf-8") as project:
+            self.assertIn(f'\nversion = "{ptree.__version__}"\n', project.read())
+
     def test_the_defaults_are_the_library_s(self):
         self.assertEqual(Config.preset("default"), Config())
         self.assertEqual(Config.load(), Config())
