@@ -239,7 +239,7 @@ def read(text: str, config: Config | str | None = None, **changes: Any) -> Tree:
     Raises ReadError if the text is not a drawing: `line` is the first line that cannot continue the drawing, counted from 1, or None if the
     text is incomplete. Raises ConfigError if drawings under this configuration cannot be read back.
     """
-    given, found, config = text.encode(), c.Found(), config_of(config, changes)
+    given, found, config = _utf8(text), c.Found(), config_of(config, changes)
     most = given.count(b"\n")
     (items, items_at), (texts, texts_at) = c.room(struct.calcsize(c.ITEM) * most), c.room(len(given))
     call = (given, len(given), *fields_of(config), items_at, most, texts_at, len(given), found)
@@ -298,7 +298,7 @@ def draw_toml(document: str, label: str = "", config: Config | str | None = None
 
 
 def _document(document: str, label: str, number: int, config: Config) -> str:
-    text, name = document.encode(), label.encode()
+    text, name = _utf8(document), _utf8(label)
     call = functools.partial(_text, "draw_document_with", text, len(text), name, len(name), number, *fields_of(config), guess=4 * len(text) + 100)
     return c.deep(document_stack(text), call)
 
@@ -343,7 +343,7 @@ def draw_graph(
     # (the library draws a node's newest edge first)
     pairs = [number for node, targets in below.items() for to in reversed(targets) for number in (numbers[node], numbers[to])]
     given = (_sizes(ends), len(ends), b"".join(texts), ends[-1], _sizes(pairs), len(pairs) // 2, 0)
-    marks = (mark.encode(), len(mark.encode())) if once else ()
+    marks = (_utf8(mark), len(_utf8(mark))) if once else ()
     call = functools.partial(_text, "draw_once" if once else "draw_walks", *given, *marks, *fields_of(config), guess=1000)
     return c.deep(512 * levels, call)
 
@@ -372,6 +372,6 @@ def paint(text: str, style: Style) -> str:
     >>> paint("leaf", Style("green", bold=True))
     '\\x1b[1m\\x1b[32mleaf\\x1b[0m'
     """
-    names, given = bytearray(), text.encode()
+    names, given = bytearray(), _utf8(text)
     fields = _style_in(names, style)
     return _text("paint", given, len(given), ctypes.byref(fields), bytes(names), len(names), guess=len(given) + 100)

@@ -232,7 +232,7 @@ def _sources(file: str, number: int, variables: Iterable[tuple[str, str]]) -> tu
     """The sources of a configuration as the library takes them, and the stack that they may need."""
     texts = bytearray()
     places = b"".join(bytes(c.Variable(_part(texts, name), _part(texts, value))) for name, value in variables)
-    source, given = file.encode(), bytes(texts)
+    source, given = str.encode(file), bytes(texts)
     return (source, len(source), number, places, len(places) // ctypes.sizeof(c.Variable), given, len(given)), document_stack(source)
 
 
@@ -245,7 +245,7 @@ def document_stack(text: bytes) -> int:
 def _part(texts: bytearray, text: str) -> Any:
     """Appends a text to texts, and returns its place."""
     start = len(texts)
-    texts += text.encode()
+    texts += str.encode(text)
     return c.Part(start, len(texts))
 
 

@@ -119,6 +119,17 @@ class Package(unittest.TestCase):
             with self.assertRaises(TypeError):
                 draw(*given, **named)
 
+    def test_texts_that_are_none(self):
+        config = Config(continued=None)
+        calls = (
+            lambda: read(None), lambda: read(b"r\n"), lambda: draw(Tree("r"), config), lambda: paint(1, Style()), lambda: draw_toml(None),
+            lambda: ptree.draw_json("[]", None), lambda: draw_graph({}, 1, mark=None), lambda: Config.load(b"depth = 1"),
+            lambda: Config.load(variables={"PTREE_DEPTH": 1}),
+        )  # fmt: skip
+        for call in calls:
+            with self.assertRaises(TypeError):
+                call()
+
     def test_a_wrong_line(self):
         self.assertEqual(read("r\n├─ a\n│  : b\n└─ c\n"), Tree("r", ["a\nb", "c"]))
         for text, line in (("r\nx\n", 2), ("r\n├─ a\n", None), ("r", None), ("", None), ("r\n└─ a\n└─ b\n", 3)):
