@@ -34,7 +34,7 @@ from collections.abc import Callable, Hashable, Iterable, Iterator, Mapping
 from typing import Any, TextIO, TypeVar
 
 from . import _library as c
-from ._config import PRESETS, Characters, Config, NamedColor, Style, _style_in, config_of, document_stack, fields_of
+from ._config import PRESETS, Characters, Config, NamedColor, Style, _style_in, config_of, document_stack, fields_of, syntax_line
 from ._library import ConfigError, DocumentError, PtreeError, ReadError
 
 __all__ = [
@@ -299,8 +299,15 @@ def draw_toml(document: str, label: str = "", config: Config | str | None = None
 
 def _document(document: str, label: str, number: int, config: Config) -> str:
     text, name = _utf8(document), _utf8(label)
-    call = functools.partial(_text, "draw_document_with", text, len(text), name, len(name), number, *fields_of(config), guess=4 * len(text) + 100)
-    return c.deep(document_stack(text), call)
+
+    def draw() -> str:
+        given = (text, len(text), name, len(name), number, *fields_of(config))
+        refused, drawing, _ = c.written("draw_document_with", *given, guess=4 * len(text) + 100)
+        if refused != c.DONE:
+            c.refuse(refused, syntax_line(text, number) if refused == c.SYNTAX else 0)
+        return drawing
+
+    return c.deep(document_stack(text), draw)
 
 
 def draw_graph(

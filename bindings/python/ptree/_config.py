@@ -236,6 +236,13 @@ def _sources(file: str, number: int, variables: Iterable[tuple[str, str]]) -> tu
     return (source, len(source), number, places, len(places) // ctypes.sizeof(c.Variable), given, len(given)), document_stack(source)
 
 
+def syntax_line(text: bytes, number: int) -> int:
+    """The line where a text of a format's number has a syntax error, or 0: that which loading it as a configuration is refused for."""
+    found = c.Found()
+    c.library.ptree_load(text, len(text), number, b"", 0, b"", 0, c.Config(), c.room(0)[1], 0, found)
+    return int(found.place)
+
+
 def document_stack(text: bytes) -> int:
     """How much stack a document may need: 1 KB for each level. A level has a bracket, a brace or a dot of its own, and there are no more
     than some 80 parts of a key at each of 80 levels."""

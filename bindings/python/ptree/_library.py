@@ -99,7 +99,8 @@ class ReadError(PtreeError):
 
 
 class DocumentError(PtreeError):
-    """The document is invalid, or has a float or, in TOML, a date or a time."""
+    """The document is invalid, or has a float or, in TOML, a date or a time. `line` is the line where its syntax is wrong, counted from 1, or
+    None."""
 
 
 class ConfigError(PtreeError):
@@ -119,7 +120,7 @@ def refuse(number: int, place: int = 0, said: str = "") -> NoReturn:
     text = said or refusal_text(number)
     if number == MEMORY:
         raise MemoryError(text)
-    line = place if number in (LINE, FAULT) and place else None
+    line = place if number in (LINE, SYNTAX, FAULT) and place else None
     if line:
         text = f"line {line} cannot continue the drawing" if number == LINE else f"{text}, in line {line}"
     error = _ERRORS.get(number, PtreeError)(text)

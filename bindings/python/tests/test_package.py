@@ -330,9 +330,12 @@ class Package(unittest.TestCase):
         self.assertEqual(ptree.draw_json({"b": [1, None], "a": "x"}, "d"), "d\n├─ a = x\n└─ b\n   ├─ 1\n   └─ \n")
         self.assertEqual(ptree.draw_json('{"a": 1}', "d"), "d\n└─ a = 1\n")
         self.assertEqual(draw_toml("a = 1\n", "d"), "d\n└─ a = 1\n")
-        for call, given in ((ptree.draw_json, "[1.5]"), (ptree.draw_json, "["), (ptree.draw_json, [2**64]), (draw_toml, "a = 1979-05-27")):
-            with self.assertRaises(ptree.DocumentError):
-                call(given)
+        for given, line in (("[1.5]", None), ([2**64], None), ("[1,\n2\n3]", 3), ("[\n", 2), ("[" * 128, 1)):
+            self.expect_line(ptree.DocumentError, line, ptree.draw_json, given)
+        for given, line in (("a = 1979-05-27", None), ("a = 1\nb\n", 2), ("a = 1\na = 2\n", 2), ("\ufeff\n\ufeff", 2)):
+            self.expect_line(ptree.DocumentError, line, draw_toml, given)
+        with self.assertRaisesRegex(ptree.DocumentError, "^the document is invalid, in line 2$"):
+            ptree.draw_json("\n")
         with self.assertRaises(ValueError):
             ptree.draw_json({"a": {1: 2, "1": 3}})
 
