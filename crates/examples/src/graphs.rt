@@ -30,12 +30,7 @@ pub struct Package {
 impl Label for Package {
     ghost text = { λ p. string_bytes p.name };
 
-    fn write_label<W: Sink>(
-        &self,
-        _alloc: Global,
-        f: &mut W,
-        style: &Style,
-    ) -> Result<(), DrawError> {
+    fn write_label<W: Sink>(&self, _: Global, f: &mut W, style: &Style) -> Result<(), DrawError> {
         style.write_painted(f, self.name.as_str())
     }
 }

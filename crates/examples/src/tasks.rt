@@ -26,17 +26,12 @@ impl TreeItem for Task {
     type Child = Task;
 
     /// Writes the text in the task's own style, whatever the style of leaves is.
-    fn write_self<W: Sink>(
-        &self,
-        _alloc: Global,
-        f: &mut W,
-        _style: &Style,
-    ) -> Result<(), DrawError> {
+    fn write_self<W: Sink>(&self, _: Global, f: &mut W, _: &Style) -> Result<(), DrawError> {
         self.style.write_painted(f, self.text.as_str())
     }
 
     /// Lends the tasks below.
-    fn children(&self, _alloc: Global) -> Result<Children<'_, Task>, AllocError>
+    fn children(&self, _: Global) -> Result<Children<'_, Task>, AllocError>
         ensures { IfOk result (λ c. map task_shape (children_of c) ≡ kids (task_shape self.now)) }
     {
         Ok(Children::Lent(self.tasks.as_slice()))
