@@ -22,54 +22,50 @@ pub fn beginnings(alloc: Global, before: &str, config: &PrintConfig) -> Result<S
     requires { HasReadablePieces config.now }
 {
     let indent = Indent::from_config(alloc, config)?;
+    let fronts = fronts(alloc, last_line(before), &indent)?;
     let mut found = String::new(alloc);
-    let mut front = String::new(alloc);
-    let mut rest = last_line(before);
-    for level in 1..=LEVELS {
+    for front in &fronts {
         push_items(alloc, &mut found, before, front.as_str(), &indent, config)?;
-        if let Some((piece, left)) = passing(&indent, rest) {
-            front.push_str(piece)?;
-            rest = left;
-        } else {
-            if level < LEVELS {
-                push_below(
-                    alloc,
-                    &mut found,
-                    before,
-                    front.as_str(),
-                    rest,
-                    &indent,
-                    config,
-                )?;
-            }
-            break;
-        }
     }
     Ok(found)
 }
 
-// Adds what could follow below the item whose line goes on so behind the passing pieces. If the
+// Returns the passing pieces behind which an item could follow this line, from the root on.
+fn fronts(alloc: Global, line: &str, indent: &Indent) -> Result<Vec<String>, AllocError> {
+    let mut fronts = Vec::new(alloc);
+    let mut front = String::new(alloc);
+    let mut rest = line;
+    for level in 1..=LEVELS {
+        fronts.push(front.clone()?)?;
+        if let Some((piece, left)) = passing(indent, rest) {
+            front.push_str(piece)?;
+            rest = left;
+        } else {
+            if level < LEVELS {
+                push_below(alloc, &mut fronts, front.as_str(), rest, indent)?;
+            }
+            break;
+        }
+    }
+    Ok(fronts)
+}
+
+// Adds the passing pieces of what is below the item whose line goes on so behind others. If the
 // pieces of items are equal, it may be a last child or not.
 fn push_below(
     alloc: Global,
-    found: &mut String,
-    before: &str,
+    fronts: &mut Vec<String>,
     front: &str,
     rest: &str,
     indent: &Indent,
-    config: &PrintConfig,
-) -> Result<(), AllocError>
-    requires { HasReadablePieces config.now }
-{
+) -> Result<(), AllocError> {
     let (child, last) = (&indent.child_prefix, &indent.last_child_prefix);
     let is_child = rest.starts_with(indent.regular_prefix.as_str());
     if is_child {
-        let front = format!(in alloc; "{front}{child}")?;
-        push_items(alloc, found, before, front.as_str(), indent, config)?;
+        fronts.push(format!(in alloc; "{front}{child}")?)?;
     }
     if rest.starts_with(indent.last_regular_prefix.as_str()) && !(is_child && child == last) {
-        let front = format!(in alloc; "{front}{last}")?;
-        push_items(alloc, found, before, front.as_str(), indent, config)?;
+        fronts.push(format!(in alloc; "{front}{last}")?)?;
     }
     Ok(())
 }

@@ -216,10 +216,16 @@ pub fn indented(
         unit: indented.unit,
         bullet: indented.bullet.unwrap_or(""),
     };
-    if indented.is_terminal {
-        return escaped_form(alloc, source, tree, &form);
+    let text = if indented.is_terminal {
+        escaped_form(alloc, tree, &form)
+    } else {
+        indented_text(alloc, tree, &form)
+    };
+    match text {
+        Ok(text) => Ok(text),
+        Err(WriteError::Text) => Err(source.wrong(alloc, "a text cannot be indented")?),
+        Err(WriteError::Memory) => Err(Failure::Memory),
     }
-    form_text(alloc, source, tree, &form)
 }
 
 // Checks that `outline` makes the same texts again. Each stands on the line of its number.
@@ -257,33 +263,14 @@ fn wrong_text(text: &str, bullet: &str) -> Option<&'static str> {
 }
 
 // Returns the indented form of a tree with its texts, and the bullet, escaped.
-fn escaped_form(
-    alloc: Global,
-    source: &Source,
-    tree: &StringItem,
-    form: &Form<'_>,
-) -> Result<String, Failure> {
+fn escaped_form(alloc: Global, tree: &StringItem, form: &Form<'_>) -> Result<String, WriteError> {
     let bullet = escaped(alloc, form.bullet)?;
     let tree = escaped_item(alloc, tree)?;
     let form = Form {
         unit: form.unit,
         bullet: bullet.as_str(),
     };
-    form_text(alloc, source, &tree, &form)
-}
-
-// Returns the indented form of a tree.
-fn form_text(
-    alloc: Global,
-    source: &Source,
-    tree: &StringItem,
-    form: &Form<'_>,
-) -> Result<String, Failure> {
-    match indented_text(alloc, tree, form) {
-        Ok(text) => Ok(text),
-        Err(WriteError::Text) => Err(source.wrong(alloc, "a text cannot be indented")?),
-        Err(WriteError::Memory) => Err(Failure::Memory),
-    }
+    indented_text(alloc, &tree, &form)
 }
 
 // Returns the indent of the first line that has one, or else a tab. An indent is a tab, or all
