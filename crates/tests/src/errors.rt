@@ -48,6 +48,18 @@ where
     expect_error(alloc, error, ErrorKind::OutOfMemory, "out of memory")
 }
 
+// Expects that a writer's error of a kind, in an error of ours, is returned as it is, and what the
+// latter says of it.
+fn expect_write<E>(alloc: Global, error: E, kind: ErrorKind, wanted: &str) -> Result<(), Fail>
+where
+    E: Display + Drop,
+    io::Error: From<E>,
+{
+    let text = format!(in alloc; "cannot write: {wanted}")?;
+    expect_message(alloc, &error, text.as_str())?;
+    expect_told(alloc, io::Error::from(error), kind, wanted)
+}
+
 #[test]
 fn of_memory(rt: HostRuntime) -> Result<(), Fail> {
     let alloc = rt.alloc();
@@ -111,22 +123,12 @@ fn of_documents(rt: HostRuntime) -> Result<(), Fail> {
 #[test]
 fn of_writers(rt: HostRuntime) -> Result<(), Fail> {
     let alloc = rt.alloc();
-    let pipe = DrawError::Write(io::Error::from(ErrorKind::BrokenPipe));
-    expect_message(alloc, &pipe, "cannot write: broken pipe")?;
-    expect_told(
-        alloc,
-        io::Error::from(pipe),
-        ErrorKind::BrokenPipe,
-        "broken pipe",
-    )?;
-    let full = DocError::Draw(DrawError::Write(io::Error::from(ErrorKind::StorageFull)));
-    expect_message(alloc, &full, "cannot write: no storage space")?;
-    expect_told(
-        alloc,
-        io::Error::from(full),
-        ErrorKind::StorageFull,
-        "no storage space",
-    )?;
+    let kind = ErrorKind::BrokenPipe;
+    let pipe = DrawError::Write(io::Error::from(kind));
+    expect_write(alloc, pipe, kind, "broken pipe")?;
+    let kind = ErrorKind::StorageFull;
+    let full = DocError::Draw(DrawError::Write(io::Error::from(kind)));
+    expect_write(alloc, full, kind, "no storage space")?;
     let zero = "cannot write: the writer took no bytes";
     expect_message(alloc, &DrawError::Zero, zero)?;
     expect_message(alloc, &DocError::Draw(DrawError::Zero), zero)?;

@@ -63,12 +63,7 @@ impl Shaped for Raw {
 impl TreeItem for Raw {
     type Child = Raw;
 
-    fn write_self<W: Sink>(
-        &self,
-        _alloc: Global,
-        f: &mut W,
-        _style: &Style,
-    ) -> Result<(), DrawError> {
+    fn write_self<W: Sink>(&self, _: Global, f: &mut W, _: &Style) -> Result<(), DrawError> {
         put_all(f, b"\xff")
     }
 

@@ -1,6 +1,6 @@
 //! Tests values that no document has, and the kinds of values that conversions keep.
 
-use crate::expect::expect_drawn;
+use crate::expect::{expect_drawn, expect_text};
 use ptree::value::Value;
 use std::alloc::{AllocError, Global};
 use std::test::Fail;
@@ -38,10 +38,15 @@ fn texts_of_small_values(rt: HostRuntime) -> Result<(), Fail> {
     Ok(())
 }
 
+// Makes an option of a value.
+fn some(alloc: Global, value: Value) -> Result<Value, AllocError> {
+    Ok(Value::Option(Some(Box::new(alloc, value)?)))
+}
+
 // Makes an option of a wrapped number.
 fn wrapped(alloc: Global, number: i32) -> Result<Value, AllocError> {
-    let inner = Value::Newtype(Box::new(alloc, Value::I32(number))?);
-    Ok(Value::Option(Some(Box::new(alloc, inner)?)))
+    let number = Box::new(alloc, Value::I32(number))?;
+    some(alloc, Value::Newtype(number))
 }
 
 #[test]
@@ -60,8 +65,7 @@ fn texts_of_values_that_hold_memory(rt: HostRuntime) -> Result<(), Fail> {
 
 // Makes an option of a list.
 fn hidden(alloc: Global) -> Result<Value, AllocError> {
-    let list = Value::Seq(vec![in alloc; Value::Bool(true)]?);
-    Ok(Value::Option(Some(Box::new(alloc, list)?)))
+    some(alloc, Value::Seq(vec![in alloc; Value::Bool(true)]?))
 }
 
 #[test]
@@ -98,48 +102,18 @@ fn draws_a_map_of_keys_of_any_kind(rt: HostRuntime) -> Result<(), Fail> {
     expect_drawn(alloc, &map_of_lists(alloc)?, drawing)
 }
 
-// Whether a value is a map of no value under `a`, and of a natural and a negative number under `b`.
-fn has_kinds_of_json(value: &Value) -> bool {
-    let Value::Map(entries) = value else {
-        return false;
-    };
-    let [
-        (Value::String(a), Value::Unit),
-        (Value::String(b), Value::Seq(items)),
-    ] = entries.as_slice()
-    else {
-        return false;
-    };
-    a.as_str() == "a"
-        && b.as_str() == "b"
-        && matches!(items.as_slice(), [Value::U64(1), Value::I64(-2)])
+// Expects that a value holds these values, as they are written in Rust.
+fn expect_kinds(alloc: Global, value: &Value, wanted: &str) -> Result<(), Fail> {
+    let found = format!(in alloc; "{value:?}")?;
+    expect_text(found.as_str(), wanted)
 }
 
 #[test]
 fn from_json_keeps_kinds(rt: HostRuntime) -> Result<(), Fail> {
     let alloc = rt.alloc();
     let parsed = serde_json::Value::from_str(alloc, "{\"b\":[1,-2],\"a\":null}")?;
-    let value = Value::from_json(alloc, &parsed)?;
-    assert!(rt; has_kinds_of_json(&value));
-    Ok(())
-}
-
-// Whether a value is a map of a text under `a`, and of a number and `true` under `b`.
-fn has_kinds_of_toml(value: &Value) -> bool {
-    let Value::Map(entries) = value else {
-        return false;
-    };
-    let [
-        (Value::String(a), Value::String(x)),
-        (Value::String(b), Value::Seq(items)),
-    ] = entries.as_slice()
-    else {
-        return false;
-    };
-    a.as_str() == "a"
-        && x.as_str() == "x"
-        && b.as_str() == "b"
-        && matches!(items.as_slice(), [Value::I64(1), Value::Bool(true)])
+    let kinds = r#"Map([(String("a"), Unit), (String("b"), Seq([U64(1), I64(-2)]))])"#;
+    expect_kinds(alloc, &Value::from_json(alloc, &parsed)?, kinds)
 }
 
 #[test]
@@ -147,6 +121,6 @@ fn from_toml_keeps_kinds(rt: HostRuntime) -> Result<(), Fail> {
     let alloc = rt.alloc();
     let table = toml::table_from_str(alloc, "b = [1, true]\na = \"x\"")?;
     let value = Value::from_toml(alloc, &toml::Value::Table(table))?;
-    assert!(rt; has_kinds_of_toml(&value));
-    Ok(())
+    let kinds = r#"Map([(String("a"), String("x")), (String("b"), Seq([I64(1), Bool(true)]))])"#;
+    expect_kinds(alloc, &value, kinds)
 }
