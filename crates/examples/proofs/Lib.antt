@@ -1,2 +1,1 @@
 pub mod OwnNames
-pub mod PartLemmas

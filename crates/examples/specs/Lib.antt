@@ -1,4 +1,3 @@
 pub mod Escapes
 pub mod OwnTypes
-pub mod Parts
 pub mod Tasks

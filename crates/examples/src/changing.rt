@@ -3,7 +3,7 @@ ghost use Rattle.std.specs.Prelude.{◌≡◌, [], ◌∷◌, option_map, Some, 
 ghost use Rattle.std.specs.Str.{bytes_eq};
 ghost use Rattle.ptree.specs.Tree.{tree_of};
 ghost use Rattle.ptree_trees.specs.Change.{kept_tree, tree_at_names};
-ghost use Rattle.examples.specs.Parts.{has_part};
+ghost use Rattle.ptree_trees.specs.Parts.{has_part};
 
 use ptree::item::StringItem;
 use ptree_trees::change;

@@ -16,6 +16,7 @@ pub mod Keys
 pub mod KnownColors
 pub mod NameKeys
 pub mod NameOrders
+pub mod PartTexts
 pub mod PathGroupings
 pub mod PathLoops
 pub mod PathTrees

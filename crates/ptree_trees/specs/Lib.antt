@@ -8,6 +8,7 @@ pub mod Found
 pub mod Indented
 pub mod IndentedReading
 pub mod KeyLists
+pub mod Parts
 pub mod PathGroups
 pub mod Paths
 pub mod RefusedPath

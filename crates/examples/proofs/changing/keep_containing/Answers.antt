@@ -1,8 +1,8 @@
 use Rattle.std.proofs.Common.{◌≡◌, ℕ, List, subst, rules}
 use Rattle.std.proofs.lemmas.Result.{IfOk-weaker}
 use Rattle.std.proofs.lemmas.Str.Pattern.{contains_text}
-use Rattle.examples.specs.Parts.{has_part}
-use Rattle.examples.proofs.PartLemmas.{part_test}
+use Rattle.ptree_trees.specs.Parts.{has_part}
+use Rattle.ptree_trees.proofs.PartTexts.{part_test}
 use Rattle.examples.proofs.changing.keep_containing.Goals as goal
 
 pub returns : goal.returns

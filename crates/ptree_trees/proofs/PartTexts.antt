@@ -4,7 +4,7 @@ use Rattle.std.specs.Prelude.{◌↔◌}
 use Rattle.std.specs.Str.Iter.{HasSubslice}
 use Rattle.std.proofs.Common.{◌≡◌, ◌∙◌, ℕ, Bool, true, false, List, [], ◌∷◌, ◌++◌, ◌||◌, ap, sym, refl, eqb-true, eq-eqb}
 use Rattle.std.proofs.lemmas.Bool.{and_parts, and_from}
-use Rattle.examples.specs.Parts.{begins_with, has_part}
+use Rattle.ptree_trees.specs.Parts.{begins_with, has_part}
 
 -- a text that begins with a part is the part and a rest
 begins : (part text : List ℕ) → begins_with part text ≡ true → (rest : List ℕ) × (text ≡ part ++ rest)
