@@ -1,2 +1,4 @@
+pub mod Conversions
 pub mod Readings
 pub mod Told
+pub mod Writings

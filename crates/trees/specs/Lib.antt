@@ -4,3 +4,7 @@ pub mod Reading
 pub mod Asked
 -- what the end of a call tells
 pub mod Telling
+-- what is left of trees that are changed
+pub mod Changing
+-- what calls write
+pub mod Writing

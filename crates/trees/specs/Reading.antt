@@ -48,11 +48,24 @@ IsUsage Said = ⊥
 IsUsage (Output kind) = ⊥
 IsUsage Memory = ⊤
 
+-- the failure says that the output failed, or that memory ran out
+abbrev pub IsWriting : Failure → Type 0
+IsWriting (Output kind) = ⊤
+IsWriting Memory = ⊤
+IsWriting (Usage wrong) = ⊥
+IsWriting (Input wrong) = ⊥
+IsWriting Said = ⊥
+
+-- What each failure says of a call that makes a tree of which Is holds: there is none, or P if the
+-- words are wrong, or memory ran out.
+abbrev pub FailsToMake : Type 0 → (Tree → Type 0) → Failure → Type 0
+FailsToMake P Is (Input wrong) = (t : Tree) → Is t → ⊥
+FailsToMake P Is (Usage wrong) = P
+FailsToMake P Is Said = ⊥
+FailsToMake P Is (Output kind) = ⊥
+FailsToMake P Is Memory = ⊤
+
 -- what each failure of a reading says: the source holds the drawing of no tree, or the pieces are
 -- not readable, or memory ran out
 abbrev pub FailsToRead : ConfigValue → Source → Failure → Type 0
-FailsToRead config source (Input wrong) = (t : Tree) → HoldsDrawing config source t → ⊥
-FailsToRead config source (Usage wrong) = IsReadableValue config → ⊥
-FailsToRead config source Said = ⊥
-FailsToRead config source (Output kind) = ⊥
-FailsToRead config source Memory = ⊤
+FailsToRead config source = FailsToMake (IsReadableValue config → ⊥) (HoldsDrawing config source)

@@ -5,8 +5,6 @@ use Rattle.trees.specs.declared.command.Command.{Command}
 use Rattle.trees.specs.declared.command.Command.TheVariants.{Draw, Deps, Indented, Check, Convert, Diff, Config}
 use Rattle.trees.specs.declared.failure.Failure.{Failure}
 use Rattle.trees.specs.declared.failure.Failure.TheVariants.{Usage, Input, Said, Output, Memory}
-use Rattle.trees.specs.declared.perform.Drawn.{Drawn}
-use Rattle.trees.specs.declared.perform.Drawn.TheVariants.{Tree, Graph, Both}
 use Rattle.trees.specs.Asked.{reading_value}
 use Rattle.trees.specs.Reading.{HoldsSome}
 
@@ -18,12 +16,6 @@ TellsWhether (Err (Usage wrong)) P = ⊤
 TellsWhether (Err (Input wrong)) P = ⊤
 TellsWhether (Err (Output kind)) P = ⊤
 TellsWhether (Err Memory) P = ⊤
-
--- one tree or one graph is drawn, not two trees in one
-abbrev pub IsSingle : Drawn → Type 0
-IsSingle (Tree item) = ⊤
-IsSingle (Graph source graph walks) = ⊤
-IsSingle (Both left right) = ⊥
 
 -- what the end of a command says: `check`, that each input is a drawing; `diff`, that both texts are
 -- equal, byte for byte

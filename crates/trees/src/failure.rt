@@ -1,5 +1,5 @@
 //! Why a call did not do what it was asked, and its exit status.
-ghost use Rattle.std.specs.Prelude.{◌≡◌, ◌≢◌};
+ghost use Rattle.std.specs.Prelude.{◌≡◌};
 
 use ptree::style::DrawError;
 use std::alloc::{AllocError, AllocFailed};
@@ -57,9 +57,9 @@ impl<T: Drop> From<AllocFailed<T>> for Failure {
 }
 
 impl From<DrawError> for Failure {
-    ghost use Rattle.trees.specs.declared.failure.Failure.TheVariants.{Said};
+    ghost use Rattle.trees.specs.Reading.{IsWriting};
 
-    ghost from_gives = { λ _ e. e ≢ Said };
+    ghost from_gives = { λ _ e. IsWriting e };
 
     fn from(e: DrawError) -> Failure {
         match e {

@@ -1,13 +1,17 @@
 //! Does what a command asks for.
-ghost use Rattle.std.specs.Prelude.{◌≡◌, ◌≢◌, ◌↔◌, ℕ, false, List, All, IsTrue, IfOk, IfErr, IsErr, string_bytes};
+ghost use Rattle.std.specs.Prelude.{◌≡◌, ◌≢◌, ◌↔◌, ℕ, false, List, All, IsTrue, IfOk, IfErr, IsErr, option_map, string_bytes};
 ghost use Rattle.ptree.specs.declared.print_config.OutputKind.TheVariants.{Unknown};
 ghost use Rattle.ptree.specs.Config.{config_of};
 ghost use Rattle.ptree.specs.Drawing.{look_by};
 ghost use Rattle.ptree.specs.DrawnForm.{IsDrawnForm};
 ghost use Rattle.ptree.specs.Tree.{tree_of};
+ghost use Rattle.ptree_trees.specs.Change.{kept_tree};
+ghost use Rattle.ptree_trees.specs.Parts.{has_part};
 ghost use Rattle.trees.specs.Asked.{drawing_value, reading_value, with_drawing};
-ghost use Rattle.trees.specs.Telling.{TellsWhether, TellsOfCommand, IsSingle};
-ghost use Rattle.trees.specs.Reading.{HoldsDrawing, HoldsNoOther, HoldsSome, IsRedrawn, FailsToRead};
+ghost use Rattle.trees.specs.Changing.{IsPart, IsKept, IsConverted, FailsToConvert};
+ghost use Rattle.trees.specs.Reading.{HoldsDrawing, HoldsNoOther, HoldsSome, IsRedrawn, FailsToRead, FailsToMake};
+ghost use Rattle.trees.specs.Telling.{TellsWhether, TellsOfCommand};
+ghost use Rattle.trees.specs.Writing.{Writes, IsTreeDrawing, WritesDrawn, Converts, ConvertsBack, WritesOfCommand};
 
 use crate::command::{Command, Convert, Deps, Diff, Drawing, Indented, Tree};
 use crate::compare::{self, Look};
@@ -40,7 +44,9 @@ pub fn perform<W: Sink>(
     out: &mut W,
     found: &Surroundings,
 ) -> Result<(), Failure>
-    ensures { TellsOfCommand found.now.sources command.entry result }
+    ensures told { TellsOfCommand found.now.sources command.entry result }
+    ensures written { WritesOfCommand found.now.sources command.entry
+        (W.contents out.old) (W.contents out.new) result }
 {
     match command {
         Command::Draw(source, tree, drawing) => draw_source(
@@ -118,7 +124,10 @@ fn kept_part(
     source: &Source,
     tree: StringItem,
     keep: Option<&str>,
-) -> Result<StringItem, Failure> {
+) -> Result<StringItem, Failure>
+    ensures kept { IfOk result (λ t. IsKept keep.entry (tree_of tree) (tree_of t)) }
+    ensures failed { IfErr result (FailsToMake ⊥ (IsKept keep.entry (tree_of tree))) }
+{
     match keep {
         Some(part) => part_of(alloc, source, &tree, part),
         None => Ok(tree),
@@ -131,14 +140,29 @@ fn part_of(
     source: &Source,
     tree: &StringItem,
     part: &str,
-) -> Result<StringItem, Failure> {
-    match kept(alloc, tree, |text: &str| text.contains(part))? {
+) -> Result<StringItem, Failure>
+    ensures part { IfOk result (λ t. IsPart part.now (tree_of tree.now) (tree_of t)) }
+    ensures failed { IfErr result (FailsToMake ⊥ (IsPart part.now (tree_of tree.now))) }
+{
+    match containing(alloc, tree, part)? {
         Some(tree) => Ok(tree),
         None => {
             let wrong = format!(in alloc; "nothing contains {part}")?;
             Err(source.wrong(alloc, wrong.as_str())?)
         }
     }
+}
+
+// Returns what contains a text in a tree, if anything does.
+fn containing(
+    alloc: Global,
+    tree: &StringItem,
+    part: &str,
+) -> Result<Option<StringItem>, AllocError>
+    ensures { IfOk result (λ kept.
+        option_map tree_of kept ≡ kept_tree (has_part part.now) (tree_of tree.now)) }
+{
+    kept(alloc, tree, |text: &str| text.contains(part))
 }
 
 // Draws trees or a graph.
@@ -149,7 +173,8 @@ fn draw<W: Sink>(
     out: &mut W,
     found: &Surroundings,
 ) -> Result<(), Failure>
-    ensures { IfOk result (λ _. IsSingle drawn.entry) }
+    ensures { WritesDrawn (drawing_value found.now.sources drawing) drawing.screen.is_terminal
+        drawn.entry (W.contents out.old) (W.contents out.new) result }
 {
     let config = config(alloc, drawing, found)?;
     let written = write_drawing(alloc, drawn, drawing.screen.is_terminal, out, &config);
@@ -165,7 +190,8 @@ fn write_drawing<W: Sink>(
     out: &mut W,
     config: &PrintConfig,
 ) -> Result<(), Failure>
-    ensures { IfOk result (λ _. IsSingle drawn.entry) }
+    ensures { WritesDrawn (config_of config.now) is_terminal
+        drawn.entry (W.contents out.old) (W.contents out.new) result }
 {
     match drawn {
         Drawn::Tree(tree) => write_tree(alloc, tree, is_terminal, out, config),
@@ -183,12 +209,30 @@ fn write_tree<W: Sink>(
     is_terminal: bool,
     out: &mut W,
     config: &PrintConfig,
-) -> Result<(), Failure> {
+) -> Result<(), Failure>
+    ensures { Writes (W.contents out.old) (W.contents out.new) result
+        (IsTreeDrawing (config_of config.now) is_terminal (tree_of tree.now))
+        (λ e. e ≡ Failure.Memory) }
+{
     if is_terminal {
         let tree = escaped_item(alloc, tree)?;
-        return write_tree_with(alloc, &tree, out, config).map_err(Failure::from);
+        return write_as_is(alloc, &tree, out, config);
     }
-    write_tree_with(alloc, tree, out, config).map_err(Failure::from)
+    write_as_is(alloc, tree, out, config)
+}
+
+// Writes the drawing of a tree.
+fn write_as_is<W: Sink>(
+    alloc: Global,
+    tree: &StringItem,
+    out: &mut W,
+    config: &PrintConfig,
+) -> Result<(), Failure>
+    ensures { Writes (W.contents out.old) (W.contents out.new) result
+        (IsTreeDrawing (config_of config.now) false (tree_of tree.now))
+        (λ e. e ≡ Failure.Memory) }
+{
+    Ok(write_tree_with(alloc, tree, out, config)?)
 }
 
 // Returns the configuration of the settings, with what is said of a drawing.
@@ -378,7 +422,13 @@ fn draw_converted<W: Sink>(
     convert: Convert<'_>,
     out: &mut W,
     found: &Surroundings,
-) -> Result<(), Failure> {
+) -> Result<(), Failure>
+    ensures written { Converts found.now.sources source.now convert.entry
+        (W.contents out.old) (W.contents out.new) result }
+    // What was converted from other pieces to these is the same text again.
+    ensures back { ConvertsBack found.now.sources source.now convert.entry
+        (W.contents out.old) (W.contents out.new) result }
+{
     let tree = converted(alloc, source, convert, found)?;
     draw(alloc, Drawn::Tree(&tree), convert.drawing, out, found)
 }
@@ -389,7 +439,11 @@ fn converted(
     source: &Source,
     convert: Convert<'_>,
     found: &Surroundings,
-) -> Result<StringItem, Failure> {
+) -> Result<StringItem, Failure>
+    ensures converted { IfOk result (λ t.
+        IsConverted found.now.sources source.now convert.entry (tree_of t)) }
+    ensures failed { IfErr result (FailsToConvert found.now.sources source.now convert.entry) }
+{
     let tree = read_drawing(alloc, source, convert.pieces, found)?;
     let tree = kept_part(alloc, source, tree, convert.keep)?;
     if convert.is_sorted {

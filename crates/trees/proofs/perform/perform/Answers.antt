@@ -1,6 +1,12 @@
 use Rattle.std.proofs.Common.{subst, sym}
 use Rattle.trees.specs.Telling.{TellsOfCommand}
+use Rattle.trees.specs.Writing.{WritesOfCommand}
 use Rattle.trees.proofs.perform.perform.Goals as goal
 
-pub returns-in-Check : goal.returns-in-Check
-returns-in-Check g c = subst (λ command. TellsOfCommand c.args.found.now.sources command c.check.result) (sym c.in-Check.is) c.check.ensures
+pub returns-in-Check-clause-told : goal.returns-in-Check-clause-told
+returns-in-Check-clause-told g c = subst (λ command. TellsOfCommand c.args.found.now.sources command c.check.result) (sym c.in-Check.is) c.check.ensures
+
+pub returns-in-Convert-clause-written : goal.returns-in-Convert-clause-written
+returns-in-Convert-clause-written g c =
+    subst (λ command. WritesOfCommand c.args.found.now.sources command (g.W.Sink.contents c.args.out.now) (g.W.Sink.contents c.draw_converted.new.out) c.draw_converted.result)
+    (sym c.in-Convert.is) (c.draw_converted.ensures.written, c.draw_converted.ensures.back)

@@ -1,4 +1,4 @@
-use Rattle.std.proofs.Common.{◌↔◌, ◌+◌, ◌∙◌, Bool, List, All, IsTrue, take, take_all, subst, sym}
+use Rattle.std.proofs.Common.{◌↔◌, ◌∙◌, List, All, IsTrue, rules, take_all, subst, sym}
 use Rattle.std.proofs.lemmas.Bool.{false≢true}
 use Rattle.trees.specs.declared.source.Source.{Source}
 use Rattle.trees.specs.Asked.{reading_value}
@@ -13,12 +13,13 @@ loop-source-preserved c =
     let sources = c.args.sources.now in
     let i = c.loop-source.source-index in
     let drawing = c.in_ok-push_check.ensures.drawing in
-    let now : Bool → Type 0 = λ b. IsTrue b ↔ All holds (take (i + 1) sources) in
     elim c.if-not-branch.branch [
-      | then-not-branch w ↦ subst now (sym w.are_drawings-is)
-          (not_all holds sources i c.source-item.result c.loop-source-test.true c.source-item.is (λ h. false≢true (sym w.if-not-branch.true ∙ drawing.1 h)))
-      | else-not-branch w ↦ subst now (sym w.are_drawings-is)
-          (still_all holds sources i c.source-item.result c.loop-source.are_drawings c.loop-source-test.true c.source-item.is (drawing.0 w.if-not-branch.false) c.loop-source.invariant)
+      | then-not-branch w ↦
+          let no = not_all holds sources i c.source-item.result c.loop-source-test.true c.source-item.is (λ h. false≢true (sym w.if-not-branch.true ∙ drawing.1 h)) in
+          rw w.are_drawings-is (search (rules, no))
+      | else-not-branch w ↦
+          let all = still_all holds sources i c.source-item.result c.loop-source.are_drawings c.loop-source-test.true c.source-item.is (drawing.0 w.if-not-branch.false) c.loop-source.invariant in
+          rw w.are_drawings-is (search (rules, all))
     ]
 
 pub returns-clause-all : goal.returns-clause-all

@@ -1,0 +1,86 @@
+-- What calls write.
+use Rattle.std.specs.Io.KnownBytes.{Appends}
+use Rattle.std.specs.Prelude.{◌≡◌, ◌≤◌, ◌⊎◌, ⊤, ℕ, Bool, false, if◌then◌else◌, List, [], Option, None, Result, Ok, Err, IsErr, OnOk, string_bytes}
+use Rattle.ptree.specs.declared.print_config.OutputKind.TheVariants.{Unknown}
+use Rattle.ptree.specs.declared.print_config.Sources.{Sources}
+use Rattle.ptree.specs.declared.print_config.StyleWhen.TheVariants.{Never}
+use Rattle.ptree.specs.Config.{ConfigValue}
+use Rattle.ptree.specs.Drawing.{look_by, IsDrawing}
+use Rattle.ptree.specs.Tree.{Tree, tree_of, shape_of_tree}
+use Rattle.ptree.specs.Writing.{AppendsPart}
+use Rattle.ptree_trees.specs.Escape.{escaped_text, mapped_tree}
+use Rattle.trees.specs.declared.command.Command.{Command}
+use Rattle.trees.specs.declared.command.Command.TheVariants as command
+use Rattle.trees.specs.declared.command.Convert.{Convert}
+use Rattle.trees.specs.declared.command.Drawing.{Drawing}
+use Rattle.trees.specs.declared.failure.Failure.{Failure}
+use Rattle.trees.specs.declared.failure.Failure.TheVariants.{Memory}
+use Rattle.trees.specs.declared.perform.Drawn.{Drawn}
+use Rattle.trees.specs.declared.perform.Drawn.TheVariants as drawn
+use Rattle.trees.specs.declared.source.Source.{Source}
+use Rattle.trees.specs.Asked.{drawing_value, reading_value}
+use Rattle.trees.specs.Changing.{IsConverted, FailsToConvert}
+use Rattle.trees.specs.Reading.{IsWriting, IsReadableValue}
+
+-- A call that succeeds has appended bytes of which Is holds. One that fails has appended nothing, and
+-- Fails holds of the failure; or it failed in writing, and has appended a prefix of such bytes.
+abbrev pub Writes : {A : Type 0} → Option (List ℕ) → Option (List ℕ) → Result A Failure → (List ℕ → Type 0) → (Failure → Type 0) → Type 0
+Writes old new (Ok x) Is Fails = (bytes : List ℕ) × Is bytes × Appends old new bytes
+Writes old new (Err e) Is Fails = (Fails e × Appends old new []) ⊎ (IsWriting e × (bytes : List ℕ) × Is bytes × AppendsPart old new bytes)
+
+-- ## Drawings
+
+-- a tree as it is written: for a terminal with its texts escaped
+abbrev pub shown_tree : Bool → Tree → Tree
+shown_tree is_terminal t = if is_terminal then mapped_tree escaped_text t else t
+
+-- the bytes are the drawing of a tree under a configuration
+abbrev pub IsTreeDrawing : ConfigValue → Bool → Tree → List ℕ → Type 0
+IsTreeDrawing config is_terminal t bytes = IsDrawing (look_by config Unknown false) (shape_of_tree (shown_tree is_terminal t)) config.depth bytes
+
+-- the drawing of one tree is written; two trees in one never succeed
+abbrev pub WritesDrawn : {A : Type 0} → ConfigValue → Bool → Drawn → Option (List ℕ) → Option (List ℕ) → Result A Failure → Type 0
+WritesDrawn config is_terminal (drawn.Tree item) old new result = Writes old new result (IsTreeDrawing config is_terminal (tree_of item.now)) (λ e. e ≡ Memory)
+WritesDrawn config is_terminal (drawn.Graph source graph walks) old new result = ⊤
+WritesDrawn config is_terminal (drawn.Both left right) old new result = IsErr result
+
+-- the bytes are the drawing, as it is asked for, of a tree of which Is holds
+abbrev pub IsDrawingOf : Sources → Drawing → (Tree → Type 0) → List ℕ → Type 0
+IsDrawingOf sources drawing Is bytes = (t : Tree) × Is t × IsTreeDrawing (drawing_value sources drawing) drawing.screen.is_terminal t bytes
+
+-- ## Commands
+
+-- the bytes are what `convert` writes of a source
+abbrev pub IsConversion : Sources → Source → Convert → List ℕ → Type 0
+IsConversion sources source convert = IsDrawingOf sources convert.drawing (IsConverted sources source convert)
+
+-- the conversion is written
+abbrev pub Converts : {A : Type 0} → Sources → Source → Convert → Option (List ℕ) → Option (List ℕ) → Result A Failure → Type 0
+Converts sources source convert old new result = Writes old new result (IsConversion sources source convert) (FailsToConvert sources source convert)
+
+-- a conversion changes the pieces alone: all is kept and in its order, with all levels that are read,
+-- without colours and escapes
+pub record ChangesPieces (sources : Sources) (convert : Convert) : Type 0 where
+  pub whole : convert.keep ≡ None
+  pub unsorted : convert.is_sorted ≡ false
+  pub unescaped : convert.drawing.screen.is_terminal ≡ false
+  pub plain : (drawing_value sources convert.drawing).styled ≡ Never
+  pub deep : 5000 ≤ (drawing_value sources convert.drawing).depth
+
+-- what one conversion made of a first source, the one with the pieces exchanged makes that source's
+-- text again
+abbrev pub ConvertsBack : {A : Type 0} → Sources → Source → Convert → Option (List ℕ) → Option (List ℕ) → Result A Failure → Type 0
+ConvertsBack sources source back old new result =
+    (first : Source) (there : Convert) → ChangesPieces sources there → ChangesPieces sources back
+    → back.pieces ≡ there.drawing.pieces → back.drawing.pieces ≡ there.pieces → IsReadableValue (reading_value sources back.pieces)
+    → IsConversion sources first there (string_bytes source.text) → OnOk result (Appends old new (string_bytes first.text))
+
+-- what a command writes: `convert`, the conversion, which can be turned back
+abbrev pub WritesOfCommand : {A : Type 0} → Sources → Command → Option (List ℕ) → Option (List ℕ) → Result A Failure → Type 0
+WritesOfCommand sources (command.Convert source convert) old new result = Converts sources source.now convert old new result × ConvertsBack sources source.now convert old new result
+WritesOfCommand sources (command.Draw source tree drawing) old new result = ⊤
+WritesOfCommand sources (command.Deps source deps drawing) old new result = ⊤
+WritesOfCommand sources (command.Indented source indented) old new result = ⊤
+WritesOfCommand sources (command.Check inputs pieces screen) old new result = ⊤
+WritesOfCommand sources (command.Diff left right diff) old new result = ⊤
+WritesOfCommand sources command.Config old new result = ⊤
