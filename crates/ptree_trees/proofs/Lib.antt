@@ -5,6 +5,7 @@ pub mod Differences
 pub mod EscapedTrees
 pub mod Escapes
 pub mod FaultPlaces
+pub mod FloatTexts
 pub mod GroupResults
 pub mod GroupSteps
 pub mod IndentedLines

@@ -1,5 +1,6 @@
 -- Documents as trees, with floats and dates as their crates write them.
-use Rattle.std.specs.Prelude.{◌≡◌, ℕ, Bool, true, false, if◌then◌else◌, List, [], ◌∷◌, ◌++◌, Option, Some, None, codes, decimal}
+use Rattle.std.specs.Prelude.{◌≡◌, ℕ, Bool, true, false, if◌then◌else◌, List, [], ◌∷◌, ◌++◌, Option, Some, None, codes, decimal, nat_lt}
+use Rattle.std.specs.List.{list_all}
 use Rattle.std.specs.Fmt.{signed_decimal}
 use Rattle.serde_json.specs.Data as j
 use Rattle.serde_json.specs.Read.{read}
@@ -70,12 +71,16 @@ abbrev mutual
 abbrev pub IsJsonTree : List ℕ → j.Data → Tree → Type 0
 IsJsonTree label d t = IsTreeUnder (is_json_list d) label (IsJsonText d) (AreJsonKids d) t
 
+-- a text holds no blank, and no byte below one
+abbrev pub HasNoBlank : List ℕ → Type 0
+HasNoBlank text = list_all (nat_lt 32) text ≡ true
+
 -- a text is that of a TOML value: lists have none, and that of a float or a date is as TOML writes
--- it
+-- it, of a float without a blank
 abbrev pub IsTomlText : t.Data → List ℕ → Type 0
 IsTomlText (t.string s) text = text ≡ s
 IsTomlText (t.integer z) text = text ≡ signed_decimal z
-IsTomlText (t.float x) text = IsValueText false (t.float x) text
+IsTomlText (t.float x) text = IsValueText false (t.float x) text × HasNoBlank text
 IsTomlText (t.boolean b) text = text ≡ (if b then codes "true" else codes "false")
 IsTomlText (t.datetime d) text = IsValueText false (t.datetime d) text
 IsTomlText _ text = text ≡ []
