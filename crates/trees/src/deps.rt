@@ -111,7 +111,7 @@ fn drawn(
 
 // Reads the dependencies of an input in one of the forms.
 fn read_network(alloc: Global, source: &Source, network: &mut Network) -> Result<(), Failure> {
-    let text = source.text.as_str();
+    let text = source.unmarked();
     if let Some(wrong) = form_not_read(source) {
         Err(source.wrong(alloc, wrong)?)
     } else if text.trim_start().starts_with('{') {
@@ -130,7 +130,7 @@ fn form_not_read(source: &Source) -> Option<&'static str> {
         "yarn.lock" => return Some(YARN),
         _ => {}
     }
-    for line in source.text.as_str().lines() {
+    for line in source.unmarked().lines() {
         if line.starts_with("lockfileVersion:") {
             return Some(PNPM);
         }

@@ -16,8 +16,9 @@ use std::alloc::{AllocError, Global};
 /// Returns the tree of paths: one on each line, or each before a zero byte.
 ///
 /// What is before the first name other than `.` doesn't count, nor do slashes at the end, nor paths
-/// without such a name. The root's text is the label, or else `/` if the paths begin with it, or else
-/// `.`. The names in a folder stand in the order in which they come first, or sorted by their bytes.
+/// without such a name, nor a byte order mark before the text. The root's text is the label, or else
+/// `/` if the paths begin with it, or else `.`. The names in a folder stand in the order in which
+/// they come first, or sorted by their bytes.
 ///
 /// # Errors
 ///
@@ -28,7 +29,7 @@ pub fn paths(alloc: Global, source: &Source, paths: Paths<'_>) -> Result<StringI
     let root = root_of(alloc, source, paths)?;
     let end = end_of(paths);
     let mut given = Vec::new(alloc);
-    for path in source.text.as_str().split_inclusive(end) {
+    for path in source.unmarked().split_inclusive(end) {
         let names = names_of(without_end(path, end));
         if !names.is_empty() {
             given.push(names)?;
@@ -56,7 +57,7 @@ fn names_of(path: &str) -> &str {
 fn root_of<'a>(alloc: Global, source: &Source, paths: Paths<'a>) -> Result<&'a str, Failure> {
     let end = end_of(paths);
     let mut is_absolute = None;
-    for (i, path) in source.text.as_str().split_inclusive(end).enumerate() {
+    for (i, path) in source.unmarked().split_inclusive(end).enumerate() {
         let path = without_end(path, end);
         if let Some(wrong) = wrong_path(path, paths.label, is_absolute) {
             return Err(source.wrong_at(alloc, i.saturating_add(1), wrong)?);
@@ -115,7 +116,7 @@ pub fn outline(
     source: &Source,
     outline: Outline<'_>,
 ) -> Result<StringItem, Failure> {
-    let given = source.text.as_str();
+    let given = source.unmarked();
     let form = Form {
         unit: outline.unit.unwrap_or(first_indent(given)),
         bullet: outline.bullet.unwrap_or(first_bullet(given)),
@@ -144,7 +145,7 @@ fn wrong_indent(
 ) -> Result<Failure, AllocError> {
     match wrong {
         IndentError::Line(line) => {
-            let line = line_of(source.text.as_str(), line.saturating_sub(above));
+            let line = line_of(source.unmarked(), line.saturating_sub(above));
             source.wrong_at(alloc, line, "the indent matches no level")
         }
         IndentError::End => source.wrong(alloc, "empty"),

@@ -57,6 +57,12 @@ impl Source {
         }
     }
 
+    /// Returns the text without a byte order mark before it.
+    pub fn unmarked(&self) -> &str {
+        let text = self.text.as_str();
+        text.strip_prefix('\u{feff}').unwrap_or(text)
+    }
+
     /// Says what is wrong at a line of the text.
     ///
     /// # Errors

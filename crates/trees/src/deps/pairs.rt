@@ -47,7 +47,7 @@ fn push_pairs(
 // Returns the words of lines of two words.
 fn words<'a>(alloc: Global, source: &'a Source) -> Result<Vec<&'a str>, Failure> {
     let mut words = Vec::new(alloc);
-    for (i, line) in source.text.as_str().lines().enumerate() {
+    for (i, line) in source.unmarked().lines().enumerate() {
         let line = line.trim();
         if line.is_empty() {
             continue;
