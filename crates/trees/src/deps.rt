@@ -17,6 +17,8 @@ const PNPM: &str = "lock files of pnpm are not supported";
 
 const YARN: &str = "lock files of yarn are not supported";
 
+const MANIFEST: &str = "not a lock file; use the one beside it";
+
 /// What is drawn: a graph, and the node at the root.
 #[derive(Drop)]
 pub struct Dependencies {
@@ -123,11 +125,12 @@ fn read_network(alloc: Global, source: &Source, network: &mut Network) -> Result
     }
 }
 
-// Says of a lock file that looks like pairs of words that it is not read.
+// Says of a file that is no lock file, or looks like pairs of words, that it is not read.
 fn form_not_read(source: &Source) -> Option<&'static str> {
     match source.label() {
         "pnpm-lock.yaml" => return Some(PNPM),
         "yarn.lock" => return Some(YARN),
+        "Cargo.toml" | "package.json" | "pyproject.toml" => return Some(MANIFEST),
         _ => {}
     }
     for line in source.unmarked().lines() {
