@@ -391,16 +391,16 @@ fn is_workspace(path: &str, package: &Value, patterns: &[Value]) -> bool {
     false
 }
 
-// Whether a path is one of those that a pattern means.
+// Whether a path is one of those that a pattern means. No star means a name that begins with a dot.
 fn lies_in(path: &str, pattern: &str) -> bool {
     let mut names = path.split('/');
     for part in pattern.split('/') {
+        if part == "**" {
+            return names.all(|name| !name.starts_with('.'));
+        }
         let Some(name) = names.next() else {
             return false;
         };
-        if part == "**" {
-            return true;
-        }
         if part != name && (part != "*" || name.starts_with('.')) {
             return false;
         }
