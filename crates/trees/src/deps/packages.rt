@@ -42,13 +42,17 @@ fn tables<'a>(alloc: Global, input: &Source, lock: &'a mut Value) -> Result<&'a 
         Some(lock) => lock.remove("root"),
         None => None,
     };
+    let has_hash = match lock.get("metadata") {
+        Some(metadata) => metadata.get("content-hash").is_some(),
+        None => false,
+    };
     let Some(Value::Array(tables)) = lock.get_mut("package") else {
         return Err(wrong(alloc, input, &["no packages"]));
     };
     if let Some(root) = root {
         tables.insert(0, root)?;
     }
-    if tables.iter().any(has_table_of_needs) {
+    if has_hash || tables.iter().any(has_table_of_needs) {
         normalize(alloc, tables)?;
     }
     Ok(tables.as_slice())
