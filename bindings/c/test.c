@@ -739,8 +739,30 @@ static uint32_t call_with_many(const char *call, size_t count) {
     return refusal | (found.items != count);
 }
 
+/* Loads a configuration from so many variables of no field, or finds the one fault of a file beside them. */
+static uint32_t load_many(const char *call, size_t count) {
+    struct ptree_variable *variables = malloc(count * sizeof *variables);
+    struct ptree_config config;
+    struct ptree_found found = {0};
+    uint8_t out[64];
+    uint32_t refusal;
+    for (size_t i = 0; i < count; i++) variables[i] = (struct ptree_variable){{0, 11}, {11, 12}};
+    if (strcmp(call, "load") == 0) {
+        refusal = ptree_load(TEXT("{}"), PTREE_JSON, variables, count, TEXT("PTREE_OTHER1"), &config, out, 64, &found);
+    } else {
+        refusal = ptree_faults(TEXT("{\"depth\": -1}"), PTREE_JSON, variables, count, TEXT("PTREE_OTHER1"), out, 64, &found);
+        refusal |= found.items != 1;
+    }
+    free(variables);
+    return refusal | (found.bytes == 0);
+}
+
 int main(int count, char **words) {
-    if (count > 2) return (int)call_with_many(words[1], strtoul(words[2], NULL, 10));
+    if (count > 2) {
+        size_t size = strtoul(words[2], NULL, 10);
+        int loads_many = strcmp(words[1], "load") == 0 || strcmp(words[1], "faults") == 0;
+        return (int)(loads_many ? load_many(words[1], size) : call_with_many(words[1], size));
+    }
     if (count > 1) return (int)call_once(words[1]);
     draws_into_each_size();
     draws_to_a_depth();

@@ -190,7 +190,7 @@ instructions() {
 }
 
 # Checks how many instructions each further unit of a call takes, so that neither a cost passes that grows as the square of the size nor
-# one that is a third higher than before. Arguments: the call, the instructions of a size and of twice the size, the size, the most.
+# one that is an eighth higher than before. Arguments: the call, the instructions of a size and of twice the size, the size, the most.
 expect_each() {
     local each=$((($3 - $2) / $4))
     if [ $each -gt 0 ] && [ $each -le "$5" ]; then
