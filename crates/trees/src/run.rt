@@ -10,7 +10,7 @@ use crate::words::Words;
 use ptree::print_config::first_fault;
 use ptree::style::{Sink, put_all};
 use ptree_sources::surroundings::{Surroundings, gather};
-use std::alloc::AllocError;
+use std::alloc::{AllocError, Global};
 use std::env::Env;
 use std::io::{Eprint, Read};
 use std::rt::Files;
@@ -63,8 +63,21 @@ where
     if words.has(Opt::Help) {
         return Ok(put_all(out, words.name.help().as_bytes())?);
     }
+    check_words(rt.alloc(), words, screen)?;
     let sources = read_sources(rt, words, input)?;
     run_over(rt, words, sources.as_slice(), out, screen)
+}
+
+// Says what is wrong with the words of a command, before an input is read, which may wait.
+fn check_words(alloc: Global, words: &Words<'_>, screen: Screen) -> Result<(), Failure> {
+    let mut unread = Vec::new(alloc);
+    for _ in words.inputs() {
+        unread.push(Source::unread(alloc, String::new(alloc)))?;
+    }
+    match words.command(&unread, screen) {
+        Ok(_) => Ok(()),
+        Err(wrong) => Err(wrong.failure(alloc)?),
+    }
 }
 
 // Reads the inputs that words name.
@@ -73,12 +86,8 @@ fn read_sources<R: Files + AllocGlobal, I: Read>(
     words: &Words<'_>,
     input: &mut I,
 ) -> Result<Vec<Source>, Failure> {
-    let paths = match words.inputs() {
-        Ok(paths) => paths,
-        Err(wrong) => return Err(wrong.failure(rt.alloc())?),
-    };
     let mut sources = Vec::new(rt.alloc());
-    for path in paths {
+    for path in words.inputs() {
         sources.push(read_source(rt, words.name, path, input)?)?;
     }
     Ok(sources)

@@ -111,15 +111,8 @@ impl<'a> Words<'a> {
     }
 
     /// Returns the paths of the inputs, of which `-` is standard input.
-    ///
-    /// # Errors
-    ///
-    /// If the command reads no file, but one is given.
-    pub fn inputs(&self) -> Result<&[&'a str], Usage<'a>> {
-        if self.name == CommandName::Config && !self.files.is_empty() {
-            return Err(Usage::ConfigFile);
-        }
-        Ok(self.files.as_slice())
+    pub fn inputs(&self) -> &[&'a str] {
+        self.files.as_slice()
     }
 
     /// Returns the command, over these inputs and for this screen.
@@ -143,7 +136,8 @@ impl<'a> Words<'a> {
             (CommandName::Convert, [source]) => self.convert(source, screen),
             (CommandName::Diff, [left, right]) => self.diff(left, right, screen),
             (CommandName::Diff, _) => Err(Usage::TwoFiles),
-            (CommandName::Config, _) => Ok(Command::Config),
+            (CommandName::Config, []) => Ok(Command::Config),
+            (CommandName::Config, _) => Err(Usage::ConfigFile),
             _ => Err(Usage::OneFile),
         }
     }
