@@ -39,12 +39,12 @@ fn nodes(
 ) -> Result<Vec<NodeIndex>, AllocError> {
     let mut found = Vec::new(alloc);
     for (i, label) in network.labels.iter().enumerate() {
-        let path = match network.paths.get(i) {
-            Some(path) => path.as_str(),
-            None => "",
+        let has_path = match network.paths.get(i) {
+            Some(path) => path.as_str() == name,
+            None => false,
         };
         let is_meant = if is_whole {
-            label.as_str() == name || path == name
+            label.as_str() == name || has_path
         } else {
             is_named(label.as_str(), name)
         };
