@@ -65,6 +65,7 @@ class Package(unittest.TestCase):
     def test_the_version_is_the_project_s(self):
         with open(os.path.join(HERE, "../pyproject.toml"), encoding="utf-8") as project:
             self.assertIn(f'\nversion = "{ptree.__version__}"\n', project.read())
+        self.assertEqual(draw(Tree(ptree.__version__)), f"{ptree.__version__}\n")
 
     def test_the_defaults_are_the_library_s(self):
         self.assertEqual(Config.preset("default"), Config())
@@ -129,6 +130,7 @@ class Package(unittest.TestCase):
         for call in calls:
             with self.assertRaises(TypeError):
                 call()
+        self.assertEqual(read("r\n"), Tree("r"))
 
     def test_a_wrong_line(self):
         self.assertEqual(read("r\n├─ a\n│  : b\n└─ c\n"), Tree("r", ["a\nb", "c"]))
