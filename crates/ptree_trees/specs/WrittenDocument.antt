@@ -26,14 +26,18 @@ IsTreeUnder false label IsText AreBelow t = (text : List ℕ) × IsText text × 
 abbrev pub IsEntryText : List ℕ → (List ℕ → Type 0) → List ℕ → Type 0
 IsEntryText key IsText text = (value : List ℕ) × IsText value × (text ≡ key ++ (codes " = " ++ value))
 
--- a text is that of a JSON value: null and lists have none, and that of a float is one that reads
--- back as the float
+-- a text holds no blank, and no byte below one
+abbrev pub HasNoBlank : List ℕ → Type 0
+HasNoBlank text = list_all (nat_lt 32) text ≡ true
+
+-- a text is that of a JSON value: null and lists have none, and that of a float reads back as the
+-- float, and has no blank
 abbrev pub IsJsonText : j.Data → List ℕ → Type 0
 IsJsonText j.null text = text ≡ []
 IsJsonText (j.boolean b) text = text ≡ (if b then codes "true" else codes "false")
 IsJsonText (j.number (j.unsigned n)) text = text ≡ decimal n
 IsJsonText (j.number (j.negative z)) text = text ≡ signed_decimal z
-IsJsonText (j.number (j.float x)) text = read text ≡ Some (j.number (j.float x))
+IsJsonText (j.number (j.float x)) text = (read text ≡ Some (j.number (j.float x))) × HasNoBlank text
 IsJsonText (j.string s) text = text ≡ s
 IsJsonText _ text = text ≡ []
 
@@ -70,10 +74,6 @@ abbrev mutual
 -- the tree of a value under a label
 abbrev pub IsJsonTree : List ℕ → j.Data → Tree → Type 0
 IsJsonTree label d t = IsTreeUnder (is_json_list d) label (IsJsonText d) (AreJsonKids d) t
-
--- a text holds no blank, and no byte below one
-abbrev pub HasNoBlank : List ℕ → Type 0
-HasNoBlank text = list_all (nat_lt 32) text ≡ true
 
 -- a text is that of a TOML value: lists have none, and that of a float or a date is as TOML writes
 -- it, of a float without a blank

@@ -1,12 +1,13 @@
 //! JSON values as trees.
 ghost use Rattle.std.specs.Prelude.{◌≡◌, map, IfOk, string_bytes};
-ghost use Rattle.serde_json.specs.View.{view, items_view, members_view};
+ghost use Rattle.serde_json.specs.Data.{number as number_data};
+ghost use Rattle.serde_json.specs.View.{view, number_view, items_view, members_view};
 ghost use Rattle.ptree.specs.Tree.{tree_of};
 ghost use Rattle.ptree_trees.specs.WrittenDocument.{IsJsonText, IsJsonMemberText, IsJsonTree, is_json_list, AreJsonKids, AreJsonElements, AreJsonMembers};
 
 use super::{item_of, text_item};
 use ptree::item::StringItem;
-use serde_json::Map;
+use serde_json::{Map, Number};
 use std::alloc::{AllocError, Global};
 
 /// Returns the tree of a JSON value under a label, with floats as `serde_json` writes them.
@@ -52,10 +53,22 @@ fn json_text(alloc: Global, value: &serde_json::Value) -> Result<String, AllocEr
     match value {
         serde_json::Value::Null => Ok(String::new(alloc)),
         serde_json::Value::Bool(_) => value.to_string(alloc),
-        serde_json::Value::Number(_) => value.to_string(alloc),
+        serde_json::Value::Number(number) => number_text(alloc, number),
         serde_json::Value::String(text) => text.clone(),
         serde_json::Value::Array(_) => Ok(String::new(alloc)),
         serde_json::Value::Object(_) => Ok(String::new(alloc)),
+    }
+}
+
+// Returns the text of a number. It is written by the call whose contract says of which characters,
+// and which fails only if memory runs out.
+fn number_text(alloc: Global, number: &Number) -> Result<String, AllocError>
+    ensures { IfOk result (λ s. IsJsonText (number_data (number_view number.now))
+        (string_bytes s)) }
+{
+    match serde_json::to_string(alloc, number) {
+        Ok(text) => Ok(text),
+        Err(_) => Err(AllocError),
     }
 }
 
