@@ -1,8 +1,8 @@
-//! The code of `docs/GUIDE.md` that is not in the crate `examples`, and what the types there
-//! draw.
+//! The code of `docs/GUIDE.md` that is not in the crate `examples`, what the types there draw, and
+//! calls of a builder that are chained.
 ghost use Rattle.std.specs.Prelude.{◌≡◌, ◌<◌, OnOk};
 
-use crate::expect::{expect_drawn, expect_graph, expect_once, expect_text};
+use crate::expect::{expect_drawn, expect_once, expect_text};
 use examples::own_types::{Folder, Halved};
 use examples::tasks::release;
 use ptree::TreeBuilder;
@@ -93,31 +93,6 @@ fn a_tree_is_made_without_a_builder(rt: HostRuntime) -> Result<(), Fail> {
         list.push_str(format!(in alloc; "{level} {}, ", item.text)?.as_str())?;
     }
     expect_text(list.as_str(), "0 shopping, 1 bread, 1 milk, ")
-}
-
-// What each package needs.
-fn packages(alloc: Global) -> Result<Graph<&'static str>, Fail> {
-    let mut packages = Graph::new(alloc);
-    let petgraph = packages.add_node("petgraph")?;
-    let fixedbitset = packages.add_node("fixedbitset")?;
-    let quickcheck = packages.add_node("quickcheck")?;
-    let rand = packages.add_node("rand")?;
-    let libc = packages.add_node("libc")?;
-    packages.extend_with_edges(&[
-        (petgraph, fixedbitset),
-        (petgraph, quickcheck),
-        (quickcheck, rand),
-        (rand, libc),
-        (quickcheck, libc),
-    ])?;
-    Ok(packages)
-}
-
-#[test]
-fn packages_are_a_graph(rt: HostRuntime) -> Result<(), Fail> {
-    let alloc = rt.alloc();
-    let text = "petgraph\n├─ quickcheck\n│  ├─ libc\n│  └─ rand\n│     └─ libc\n└─ fixedbitset\n";
-    expect_graph(alloc, &packages(alloc)?, text)
 }
 
 // Draws the modules from `app` and what needs `parser`, and expects both drawings.
