@@ -1,9 +1,9 @@
 -- What the private functions that gather codes refer to.
 use Rattle.std.specs.Prelude.{◌≡◌, ⊤, ℕ, ◌+◌, ◌<◌, true, List, length, slice_index, take, flat_map}
 use Rattle.std.specs.Char.{is_ascii_hexdigit}
-use Rattle.ptree.specs.declared.codes.Codes.{Codes}
-use Rattle.ptree.specs.declared.colors.Tone.{Tone}
-use Rattle.ptree.specs.declared.colors.Tone.TheVariants.{Eight, Indexed, Direct}
+use Rattle.ptree.specs.declared.style.codes.Codes.{Codes}
+use Rattle.ptree.specs.declared.style.tone.Tone.{Tone}
+use Rattle.ptree.specs.declared.style.tone.Tone.TheVariants.{Eight, Indexed, Direct}
 
 -- a colour of the eight is one of them
 abbrev pub IsOfEight : Tone → Type 0

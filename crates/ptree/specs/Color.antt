@@ -7,10 +7,10 @@ use Rattle.std.specs.Char.{digit_value, is_ascii_hexdigit}
 use Rattle.std.specs.List.{list_all}
 use Rattle.std.specs.Option.{option_or}
 use Rattle.std.specs.Str.{str_eq_ignore_ascii_case}
-use Rattle.ptree.specs.declared.colors.Side.{Side}
-use Rattle.ptree.specs.declared.colors.Side.TheVariants.{Foreground, Background}
-use Rattle.ptree.specs.declared.colors.Tone.{Tone}
-use Rattle.ptree.specs.declared.colors.Tone.TheVariants.{Eight, Indexed, Direct}
+use Rattle.ptree.specs.declared.style.tone.Side.{Side}
+use Rattle.ptree.specs.declared.style.tone.Side.TheVariants.{Foreground, Background}
+use Rattle.ptree.specs.declared.style.tone.Tone.{Tone}
+use Rattle.ptree.specs.declared.style.tone.Tone.TheVariants.{Eight, Indexed, Direct}
 use Rattle.ptree.specs.declared.style.color.Color.{Color}
 use Rattle.ptree.specs.declared.style.color.Color.TheVariants.{Black, Red, Green, Yellow, Blue, Purple, Cyan, White, Fixed, RGB, Named}
 

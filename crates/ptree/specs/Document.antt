@@ -3,7 +3,7 @@ use Rattle.std.specs.Prelude.{◌≡◌, ◌⊎◌, ℕ, ◌+◌, List, Option, 
 use Rattle.serde_json.specs.Read.{read}
 use Rattle.toml.specs.Data.{table}
 use Rattle.toml.specs.Parse.{parse_document}
-use Rattle.ptree.specs.declared.style.DrawError.TheVariants.{Memory}
+use Rattle.ptree.specs.declared.sink.DrawError.TheVariants.{Memory}
 use Rattle.ptree.specs.declared.value.convert.ConvertError.TheVariants as convert
 use Rattle.ptree.specs.declared.value.convert.ConvertError.{ConvertError}
 use Rattle.ptree.specs.declared.value.document.DocError.{DocError}

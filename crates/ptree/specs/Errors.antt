@@ -12,8 +12,8 @@ use Rattle.ptree.specs.declared.print_config.characters.CharsError.{CharsError}
 use Rattle.ptree.specs.declared.print_config.characters.CharsError.TheVariants as chars
 use Rattle.ptree.specs.declared.read.ReadError.{ReadError}
 use Rattle.ptree.specs.declared.read.ReadError.TheVariants as read
-use Rattle.ptree.specs.declared.style.DrawError.{DrawError}
-use Rattle.ptree.specs.declared.style.DrawError.TheVariants.{Write, Zero, Memory}
+use Rattle.ptree.specs.declared.sink.DrawError.{DrawError}
+use Rattle.ptree.specs.declared.sink.DrawError.TheVariants.{Write, Zero, Memory}
 use Rattle.ptree.specs.declared.value.convert.ConvertError.{ConvertError}
 use Rattle.ptree.specs.declared.value.convert.ConvertError.TheVariants as convert
 use Rattle.ptree.specs.declared.value.document.DocError.{DocError}

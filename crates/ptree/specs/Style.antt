@@ -3,8 +3,8 @@
 use Rattle.std.specs.Prelude.{◌≡◌, ℕ, Bool, false, List, [], ◌∷◌, ◌++◌, Option, None, map, filter, flat_map, option_map, option_and_then, option_to_list, decimal}
 use Rattle.std.specs.List.{join_with_byte}
 use Rattle.ptree.specs.declared.style.Style.{Style}
-use Rattle.ptree.specs.declared.colors.Side.{Side}
-use Rattle.ptree.specs.declared.colors.Side.TheVariants.{Foreground, Background}
+use Rattle.ptree.specs.declared.style.tone.Side.{Side}
+use Rattle.ptree.specs.declared.style.tone.Side.TheVariants.{Foreground, Background}
 use Rattle.ptree.specs.Color.{ColorValue, color_of, color_parameters}
 
 -- a style, names of colours by their bytes

@@ -10,7 +10,8 @@ mod made;
 mod root;
 mod tree;
 
-use crate::style::{DrawError, Sink, Style};
+use crate::sink::{DrawError, Sink};
+use crate::style::Style;
 pub use lent::LentItem;
 pub use made::{MadeItem, Text};
 pub use root::Root;
@@ -19,7 +20,7 @@ use std::alloc::{AllocError, Global};
 /// Denotes a labelled tree, possibly infinite.
 ///
 /// If the children are of the type itself, the tree is `unfolded_shape` of `specs/Shape.antt`, and
-/// the lemma `kids_of_unfold` of `proofs/Unfold.antt` shows what [`TreeItem::children`] must
+/// the lemma `kids_of_unfold` of `proofs/Trees/Shapes.antt` shows what [`TreeItem::children`] must
 /// ensure. If they are of another type, the tree is `over_shape`, and the lemma is `kids_of_over`.
 /// All four are there for callers.
 pub trait Shaped {

@@ -2,7 +2,7 @@
 //!
 //! You can draw any [`TreeItem`]: a tree of texts ([`item::StringItem`], which [`TreeBuilder`]
 //! builds), a node of a [`graph::Graph`], a [`value::Value`], or a type of your own.
-//! [`write_tree_with`] draws it to any [`style::Sink`] as a [`PrintConfig`] says.
+//! [`write_tree_with`] draws it to any [`sink::Sink`] as a [`PrintConfig`] says.
 //! [`read::read_tree`] returns the tree of a drawing. [`read::read_tree_or_line`] also says where a
 //! text stops being a drawing.
 //!
@@ -18,12 +18,8 @@
 //! failure. The other says that `Write` and `Zero` are returned exactly when the sink failed.
 #![tactic(auto)]
 
-pub mod buffered;
 pub mod builder;
-mod codes;
-mod colors;
 pub mod errors;
-mod faults;
 pub mod graph;
 pub mod item;
 pub mod output;
@@ -31,6 +27,7 @@ mod parsed;
 pub mod presets;
 pub mod print_config;
 pub mod read;
+pub mod sink;
 pub mod style;
 pub mod value;
 
@@ -38,4 +35,5 @@ pub use builder::TreeBuilder;
 pub use item::TreeItem;
 pub use output::{print_tree, print_tree_with, write_tree, write_tree_with};
 pub use print_config::{IndentChars, PrintConfig};
+pub use sink::buffered;
 pub use style::{Color, Style};

@@ -19,7 +19,7 @@ mod spread;
 
 use crate::item::{StringItem, TreeItem};
 use crate::print_config::{OutputKind, PrintConfig, Sources};
-use crate::style::{Counted, DrawError, Sink};
+use crate::sink::{Counted, DrawError, Sink};
 use engine::draw;
 pub use indent::Indent;
 use look::Look;

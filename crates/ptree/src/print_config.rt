@@ -185,7 +185,7 @@ impl PrintConfig {
     /// # Errors
     ///
     /// Memory ran out. The default is not used then.
-    #[tactic(auto, using(crate::proofs::Configurations::nothing_said))]
+    #[tactic(auto, using(crate::proofs::Config::NothingSet::nothing_said))]
     pub fn from_env(alloc: Global, sources: &Sources) -> Result<PrintConfig, AllocError>
         ensures value { IfOk result (λ config. config_of config ≡ effective_config sources.now) }
         // Without a file, and without a variable of any field, the sources mean the default.

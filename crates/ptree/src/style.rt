@@ -1,21 +1,19 @@
-//! Styles and colours, the byte streams `Sink` and `Feed`, and the loop that writes.
+//! Styles and colours.
 ghost use Rattle.std.specs.Prelude.{◌≡◌, ◌≢◌, ◌↔◌, [], IfOk, OnOk, OnErr, IsTrue, string_bytes};
 ghost use Rattle.ptree.specs.declared.style.Style.{Style};
 ghost use Rattle.ptree.specs.Style.{style_of, IsPlain, plain_style, style_codes, painted_text, start_codes, end_codes};
 ghost use Rattle.ptree.specs.Writing.{IsWritten, HasCause, HasErrorCause, TakesNoMemory};
-ghost use Rattle.ptree.specs.declared.style.DrawError.TheVariants.{Memory};
+ghost use Rattle.ptree.specs.declared.sink.DrawError.TheVariants.{Memory};
 
+pub(crate) mod codes;
 mod color;
-mod sink;
+mod tone;
 
-use crate::codes::Codes;
+use crate::sink::{Stop, put_or_stop};
+pub use crate::sink::{Counted, DrawError, Feed, Sink, put_all};
+use codes::{Codes, put_codes};
 pub use color::Color;
-use sink::put_codes;
-pub use sink::{Counted, Feed, Sink, put_all};
-pub(crate) use sink::{Stop, put_or_stop};
-use std::alloc::{AllocError, AllocFailed, Global};
-use std::error::Error;
-use std::{fmt, io};
+use std::alloc::{AllocError, Global};
 
 /// How a text is painted on a terminal.
 ///
@@ -247,66 +245,3 @@ impl Style {
         String::from_str(alloc, codes.reset())
     }
 }
-
-/// Why a call that writes to a [`Sink`] failed.
-///
-/// `Write` and `Zero` are returned exactly when the sink failed during the call. A prefix of the
-/// intended output was written.
-#[derive(Debug, Drop)]
-pub enum DrawError {
-    /// The sink returned an error. An interruption is an error too, and is not retried.
-    Write(io::Error),
-
-    /// The sink accepted none of the bytes that it was given.
-    Zero,
-
-    /// Memory ran out.
-    Memory,
-}
-
-impl From<AllocError> for DrawError {
-    ghost use Rattle.ptree.specs.declared.style.DrawError.TheVariants.{Memory};
-
-    ghost from_gives = { λ _ e. e ≡ Memory };
-
-    fn from(_e: AllocError) -> DrawError {
-        DrawError::Memory
-    }
-}
-
-impl<T: Drop> From<AllocFailed<T>> for DrawError {
-    ghost use Rattle.ptree.specs.declared.style.DrawError.TheVariants.{Memory};
-
-    ghost from_gives = { λ _ e. e ≡ Memory };
-
-    fn from(_e: AllocFailed<T>) -> DrawError {
-        DrawError::Memory
-    }
-}
-
-impl From<DrawError> for io::Error {
-    ghost use Rattle.ptree.specs.Errors.{IsIoError};
-
-    ghost from_gives = { IsIoError };
-
-    /// Returns the writer's own error, or one of the kind `WriteZero` or `OutOfMemory`.
-    fn from(e: DrawError) -> io::Error {
-        match e {
-            DrawError::Write(e) => e,
-            DrawError::Zero => io::Error::from(io::ErrorKind::WriteZero),
-            DrawError::Memory => io::Error::from(io::ErrorKind::OutOfMemory),
-        }
-    }
-}
-
-impl fmt::Display for DrawError {
-    fn fmt<W: fmt::Write>(&self, f: &mut fmt::Formatter<W>) -> fmt::Result {
-        f.write_str(match self {
-            DrawError::Write(e) => return write!(f, "cannot write: {e}"),
-            DrawError::Zero => "cannot write: the writer took no bytes",
-            DrawError::Memory => "out of memory",
-        })
-    }
-}
-
-impl Error for DrawError {}

@@ -3,7 +3,7 @@ use Rattle.std.proofs.Common.{◌≡◌, Bool, false, [], ap, ◌∙◌}
 use Rattle.std.specs.Prelude.{flat_map}
 use Rattle.ptree.specs.Drawing.{effective_style}
 use Rattle.ptree.specs.Style.{StyleValue, reset_after, start_codes, end_codes}
-use Rattle.ptree.proofs.Styles.{plain_codes}
+use Rattle.ptree.proofs.Styles.PaintedTexts.{plain_codes}
 
 -- output that is not styled has no codes before a text
 pub unstyled_start : (styled : Bool) (s : StyleValue) → styled ≡ false → start_codes (effective_style styled s) ≡ []

@@ -4,8 +4,8 @@ use Rattle.ptree.specs.Drawing.{Look, with_inserted}
 use Rattle.ptree.specs.Looks.{own_piece, below_piece, own_text}
 use Rattle.ptree.specs.Pieces.{passing_all}
 use Rattle.ptree.specs.Style.{start_codes, end_codes, painted_text}
-use Rattle.ptree.proofs.Inserted.{inserted-append, inserted_none}
-use Rattle.ptree.proofs.Styles.{no_line_feed_start, no_line_feed_end}
+use Rattle.ptree.proofs.Drawing.Inserted.{inserted-append, inserted_none}
+use Rattle.ptree.proofs.Styles.PaintedTexts.{no_line_feed_start, no_line_feed_end}
 use Rattle.ptree_c.specs.Pens.{entry_behind}
 use Rattle.ptree_c.specs.Fields.{part_text}
 use Rattle.ptree_c.specs.Steps.{path_flags, own_flag, entry_below, step_entry}

@@ -8,9 +8,9 @@ use Rattle.ptree.specs.Flags.{has_later, last_flags, pieces_by, passing_by, show
 use Rattle.ptree.specs.Outline.{Line, outline_at, Steps}
 use Rattle.ptree.specs.Pieces.{turning_piece, passing_piece, passing_all}
 use Rattle.ptree.specs.Spelled.{has_line_feed, text_entry}
-use Rattle.ptree.proofs.Levels.{lines_drawing, has_later_deeper, last_flags_same, entry_shown, tree_by_levels}
-use Rattle.ptree.proofs.SpelledForms.{Low, tree_steps, low_height}
-use Rattle.ptree.proofs.TreeDrawing.{drawing_of_tree}
+use Rattle.ptree.proofs.Reading.Levels.{lines_drawing, has_later_deeper, last_flags_same, entry_shown, tree_by_levels}
+use Rattle.ptree.proofs.Reading.SpelledForms.{Low, tree_steps, low_height}
+use Rattle.ptree.proofs.Drawing.TreeDrawing.{drawing_of_tree}
 use Rattle.ptree_c.specs.Fields.{is_set, part_text}
 use Rattle.ptree_c.specs.Steps.{path_flags, own_flag, entry_below, step_entry, path_with, path_after, steps_text, IsStepOf, AreStepsOf, DrawsTrees, DrawsParts}
 use Rattle.ptree_c.specs.declared.steps.Step.{Step}

@@ -7,16 +7,16 @@ use Rattle.std.proofs.lemmas.Grind.{common_steps}
 use Rattle.std.proofs.lemmas.List.{append-nil, get_or_past, length-append}
 use Rattle.std.specs.List.{concat}
 use Rattle.ptree.specs.Entries.{drawn_entries}
-use Rattle.ptree.proofs.Laws.{one_drawing}
-use Rattle.ptree.proofs.Outlines.{same_tree}
+use Rattle.ptree.proofs.Drawing.Laws.{one_drawing}
+use Rattle.ptree.proofs.Trees.Outlines.{same_tree}
 use Rattle.ptree.specs.Drawing.{Look, IsDrawing}
 use Rattle.ptree.specs.Flags.{has_later}
 use Rattle.ptree.specs.Outline.{Line, line, outline, outline_at, Steps}
 use Rattle.ptree.specs.Tree.{none, item, Forest, Tree, tree, height, cut_forest, cut_tree, shape_of_tree}
-use Rattle.ptree.proofs.CutTrees.{drawing_of_cut_tree}
-use Rattle.ptree.proofs.LineTrees.{tree_of_lines}
-use Rattle.ptree.proofs.OutlineAddresses.{outline_of_tree}
-use Rattle.ptree.proofs.SpelledForms.{Low, height_low}
+use Rattle.ptree.proofs.Drawing.CutTrees.{drawing_of_cut_tree}
+use Rattle.ptree.proofs.Trees.LineTrees.{tree_of_lines}
+use Rattle.ptree.proofs.Trees.OutlineAddresses.{outline_of_tree}
+use Rattle.ptree.proofs.Reading.SpelledForms.{Low, height_low}
 use Rattle.ptree_c.specs.Calls.{IsItemsDrawing}
 use Rattle.ptree_c.specs.Fields.{is_set}
 use Rattle.ptree_c.specs.Items.{lines_from}

@@ -2,10 +2,10 @@
 use Rattle.std.proofs.Common.{◌≡◌, ◌+◌, ◌≤◌, ℕ, Option, Some, None, Result, Ok, Err, List, [], refl, sym, ap, subst, ◌∙◌, arith}
 use Rattle.std.specs.Io.KnownBytes.{Keeps}
 use Rattle.std.specs.Prelude.{OnOk}
-use Rattle.ptree.specs.declared.buffered.Buffered.{Buffered}
+use Rattle.ptree.specs.declared.sink.buffered.Buffered.{Buffered}
 use Rattle.ptree.specs.declared.print_config.Sources.{Sources}
-use Rattle.ptree.specs.declared.style.DrawError.{DrawError}
-use Rattle.ptree.specs.declared.style.DrawError.TheVariants.{Write, Zero, Memory}
+use Rattle.ptree.specs.declared.sink.DrawError.{DrawError}
+use Rattle.ptree.specs.declared.sink.DrawError.TheVariants.{Write, Zero, Memory}
 use Rattle.ptree.specs.Buffered.{inner_sink, held_bytes, given_bytes, reported_faults}
 use Rattle.ptree.specs.Writing.{HasCause, TakesNoMemory}
 use Rattle.ptree_cli.specs.Arrived.{HasGrown}

@@ -1,7 +1,7 @@
 -- What the program's own types mean.
 use Rattle.std.specs.Prelude.{map, string_bytes, Result, Ok, Err}
-use Rattle.ptree.specs.declared.style.DrawError.{DrawError}
-use Rattle.ptree.specs.declared.style.DrawError.TheVariants.{Write, Zero, Memory}
+use Rattle.ptree.specs.declared.sink.DrawError.{DrawError}
+use Rattle.ptree.specs.declared.sink.DrawError.TheVariants.{Write, Zero, Memory}
 use Rattle.ptree.specs.declared.value.document.DocError.{DocError}
 use Rattle.ptree.specs.declared.value.document.DocError.TheVariants.{Draw}
 use Rattle.ptree_cli.specs.declared.ending.Ending.{Ending}

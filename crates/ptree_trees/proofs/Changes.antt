@@ -7,7 +7,7 @@ use Rattle.ptree.specs.Tree.{Forest, none, item, Tree, tree, tree_of, trees, for
 use Rattle.ptree.specs.declared.item.StringItem.{StringItem, out-StringItem}
 use Rattle.ptree.specs.declared.item.StringItem.TheOpen.{StringItem-F}
 use Rattle.ptree.specs.declared.item.StringItem.TheViews.{roll-StringItem}
-use Rattle.ptree.proofs.TreeLemmas.{tree_of_item, tree_of_roll}
+use Rattle.ptree.proofs.Trees.ItemTrees.{tree_of_item, tree_of_roll}
 use Rattle.ptree_trees.specs.Change.{any_passes, kept_forest, kept_tree}
 use Rattle.ptree_trees.proofs.Differences.{forest_of_trees}
 

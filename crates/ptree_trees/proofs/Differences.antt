@@ -6,7 +6,7 @@ use Rattle.std.specs.Str.{bytes_eq}
 use Rattle.ptree.specs.declared.item.StringItem.{StringItem, out-StringItem}
 use Rattle.ptree.specs.Address.{Address, at, Before}
 use Rattle.ptree.specs.Tree.{Forest, none, item, Tree, tree, trees, forest, tree_kids, tree_of}
-use Rattle.ptree.proofs.TreeLemmas.{tree_of_item}
+use Rattle.ptree.proofs.Trees.ItemTrees.{tree_of_item}
 use Rattle.ptree_trees.specs.Difference.{text_at_address}
 use Rattle.ptree_trees.specs.Found.{IsFirst}
 

@@ -5,7 +5,7 @@ use Rattle.ptree.specs.Tree.{Tree, tree, item, tree_of, forest}
 use Rattle.ptree.specs.declared.item.StringItem.{StringItem, out-StringItem}
 use Rattle.ptree.specs.declared.item.StringItem.TheOpen.{StringItem-F}
 use Rattle.ptree.specs.declared.item.StringItem.TheViews.{roll-StringItem}
-use Rattle.ptree.proofs.TreeLemmas.{tree_of_item, tree_of_roll}
+use Rattle.ptree.proofs.Trees.ItemTrees.{tree_of_item, tree_of_roll}
 use Rattle.ptree_trees.specs.Escape.{mapped_forest, mapped_tree}
 
 module _ (f : List ℕ → List ℕ) where

@@ -5,7 +5,7 @@ use Rattle.std.proofs.lemmas.List.{append-nil, append_cancel_left}
 use Rattle.std.proofs.lemmas.List.Elements.{All-append}
 use Rattle.ptree.specs.Outline.{Line, line}
 use Rattle.ptree.specs.Texts.{HasNoLineFeed}
-use Rattle.ptree.proofs.Inserted.{no_text}
+use Rattle.ptree.proofs.Drawing.Inserted.{no_text}
 use Rattle.ptree_trees.specs.Indented.{begins_blank, IsUnit, indent, indented_line, indented_lines, AreLineTexts}
 use Rattle.ptree_trees.specs.declared.indented.Form.{Form}
 use Rattle.ptree_trees.proofs.IndentedTexts.{line_once, no_feed_indent, indent_once}

@@ -8,12 +8,12 @@ use Rattle.ptree.specs.Outline.{Line, line, outline, outline_at, IsOutline, Step
 use Rattle.ptree.specs.Texts.{HasNoLineFeed}
 use Rattle.ptree.specs.Tree.{Tree, tree, none}
 use Rattle.ptree.specs.TreeBuilder.{Building}
-use Rattle.ptree.proofs.FirstLines.{count_none, count_line, first_next}
-use Rattle.ptree.proofs.Inserted.{no_text}
-use Rattle.ptree.proofs.LineTrees.{tree_of_lines}
-use Rattle.ptree.proofs.OutlineAddresses.{outline_of_tree}
-use Rattle.ptree.proofs.SpelledForms.{tree_steps}
-use Rattle.ptree.proofs.Steps.{Steps-push, last_level-push}
+use Rattle.ptree.proofs.Reading.FirstLines.{count_none, count_line, first_next}
+use Rattle.ptree.proofs.Drawing.Inserted.{no_text}
+use Rattle.ptree.proofs.Trees.LineTrees.{tree_of_lines}
+use Rattle.ptree.proofs.Trees.OutlineAddresses.{outline_of_tree}
+use Rattle.ptree.proofs.Reading.SpelledForms.{tree_steps}
+use Rattle.ptree.proofs.Trees.Steps.{Steps-push, last_level-push}
 use Rattle.ptree_trees.specs.Indented.{begins_blank, IsUnit, IsLineText, indent, indented_line, indented_lines, AreLineTexts}
 use Rattle.ptree_trees.specs.Indented.{IsIndentedForm, HasContinuation, IsFirstWrongLine, EndsWrong}
 use Rattle.ptree_trees.specs.IndentedReading.{IsNext, IsAdded}

@@ -6,9 +6,9 @@ use Rattle.std.specs.Prelude.{IfOk, IsErrOf, IsOkUnless}
 use Rattle.ptree.specs.Outline.{Line, outline}
 use Rattle.ptree.specs.Tree.{Tree, tree_of}
 use Rattle.ptree.specs.declared.item.StringItem.{StringItem}
-use Rattle.ptree.proofs.FirstLines.{first_rest}
-use Rattle.ptree.proofs.Inserted.{no_text}
-use Rattle.ptree.proofs.Outlines.{same_tree}
+use Rattle.ptree.proofs.Reading.FirstLines.{first_rest}
+use Rattle.ptree.proofs.Drawing.Inserted.{no_text}
+use Rattle.ptree.proofs.Trees.Outlines.{same_tree}
 use Rattle.ptree_trees.specs.Indented.{IsUnit, indented_lines}
 use Rattle.ptree_trees.specs.Indented.{IsIndentedForm, IsFirstWrongLine, EndsWrong}
 use Rattle.ptree_trees.specs.IndentedReading.{IsReading}

@@ -9,7 +9,7 @@ use Rattle.std.specs.Borrow.{Bor}
 use Rattle.std.specs.Prelude.{MatchOption}
 use Rattle.std.proofs.lemmas.Str.Pattern.{IsSplitOnceResult, split_parts}
 use Rattle.ptree.specs.Texts.{HasNoLineFeed}
-use Rattle.ptree.proofs.Inserted.{no_line_feed_from_reads}
+use Rattle.ptree.proofs.Drawing.Inserted.{no_line_feed_from_reads}
 use Rattle.ptree_trees.specs.Indented.{is_blank, begins_blank, IsUnit, indent}
 
 -- texts without a line feed, each before a line feed, are equal if the whole is

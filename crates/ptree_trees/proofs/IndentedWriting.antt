@@ -4,7 +4,7 @@ use Rattle.std.proofs.lemmas.List.{append-nil, drop_all}
 use Rattle.std.proofs.lemmas.List.Elements.{All-nil}
 use Rattle.std.specs.Prelude.{◌↔◌}
 use Rattle.ptree.specs.Outline.{Line}
-use Rattle.ptree.proofs.OutlineItems.{left_more}
+use Rattle.ptree.proofs.Trees.OutlineItems.{left_more}
 use Rattle.ptree_trees.specs.declared.indented.Form.{Form}
 use Rattle.ptree_trees.specs.Indented.{IsLineText, AreLineTexts, indent, indented_line, indented_lines}
 use Rattle.ptree_trees.proofs.IndentedTexts.{no_line, no_feed_front, indent_right}

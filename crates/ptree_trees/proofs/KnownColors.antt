@@ -3,8 +3,8 @@ use Rattle.std.proofs.Common.{◌≡◌, ◌∙◌, ◌<◌, ℕ, true, false, L
 use Rattle.std.specs.Prelude.{is_some, flat_map, option_to_list}
 use Rattle.ptree.specs.Color.{named_tone, tone_parameters}
 use Rattle.ptree.specs.Style.{style_of, plain_style, painted_text, style_codes, code, reset_after}
-use Rattle.ptree.specs.declared.colors.Side.TheVariants.{Foreground}
-use Rattle.ptree.specs.declared.colors.Tone.{Tone}
+use Rattle.ptree.specs.declared.style.tone.Side.TheVariants.{Foreground}
+use Rattle.ptree.specs.declared.style.tone.Tone.{Tone}
 use Rattle.ptree.specs.declared.style.Style.{Style}
 use Rattle.ptree.specs.declared.style.color.Color.TheVariants.{Named}
 use Rattle.ptree_trees.specs.Warnings.{is_known_name}

@@ -7,7 +7,7 @@ use Rattle.std.proofs.Math.Bool.{or-true}
 use Rattle.std.proofs.lemmas.List.{map-append, map_more, take_all}
 use Rattle.std.proofs.lemmas.Slice.Eq.{bytes_eq-Decides}
 use Rattle.std.specs.Borrow.{Bor}
-use Rattle.ptree.proofs.TreeLemmas.{map_twice}
+use Rattle.ptree.proofs.Trees.ItemTrees.{map_twice}
 use Rattle.ptree.specs.Tree.{Tree, tree, forest, tree_of}
 use Rattle.ptree.specs.declared.item.StringItem.{StringItem}
 use Rattle.ptree_trees.specs.declared.paths.group.Group.{Group}

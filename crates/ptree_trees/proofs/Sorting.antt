@@ -18,7 +18,7 @@ use Rattle.ptree.specs.Tree.{Forest, Tree, tree_of, tree_kids, forest}
 use Rattle.ptree.specs.declared.item.StringItem.{StringItem, out-StringItem}
 use Rattle.ptree.specs.declared.item.StringItem.TheOpen.{StringItem-F}
 use Rattle.ptree.specs.declared.item.StringItem.TheViews.{roll-StringItem}
-use Rattle.ptree.proofs.TreeLemmas.{tree_of_item, tree_of_roll, trees_of_forest}
+use Rattle.ptree.proofs.Trees.ItemTrees.{tree_of_item, tree_of_roll, trees_of_forest}
 use Rattle.ptree_trees.specs.Sort.{is_text_less, IsSortOf, AreSorted, IsSortedTree}
 
 -- the order of texts is one

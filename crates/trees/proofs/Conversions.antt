@@ -10,8 +10,8 @@ use Rattle.ptree.specs.Drawing.{Look, look_by, IsDrawing}
 use Rattle.ptree.specs.DrawnForm.{IsDrawnForm}
 use Rattle.ptree.specs.Loading.{effective_config}
 use Rattle.ptree.specs.Tree.{Tree, shape_of_tree, height}
-use Rattle.ptree.proofs.SpelledForms.{same_drawn_form}
-use Rattle.ptree.proofs.TreeDrawing.{tree_drawing, drawing_of_tree}
+use Rattle.ptree.proofs.Reading.SpelledForms.{same_drawn_form}
+use Rattle.ptree.proofs.Drawing.TreeDrawing.{tree_drawing, drawing_of_tree}
 use Rattle.trees.specs.declared.command.Convert.{Convert}
 use Rattle.trees.specs.declared.command.Drawing.{Drawing}
 use Rattle.trees.specs.declared.failure.Failure.{Failure}

@@ -14,7 +14,8 @@ use super::{Graph, NodeIndex};
 use crate::item::{Children, Shaped, TreeItem};
 use crate::output::{print_tree, write_tree_with};
 use crate::print_config::{OutputKind, PrintConfig, Sources};
-use crate::style::{DrawError, Sink, Style};
+use crate::sink::{DrawError, Sink};
+use crate::style::Style;
 use std::alloc::{AllocError, Global};
 
 /// What a node's weight is drawn as.

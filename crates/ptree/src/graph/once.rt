@@ -12,10 +12,11 @@ ghost use Rattle.ptree.specs.declared.print_config.OutputKind.{OutputKind};
 use super::places::{Occurrence, Place};
 use super::row::{Marked, draw_marked};
 use super::{Graph, Label, NodeIndex};
-use crate::codes::Codes;
 use crate::item::{Children, Shaped, TreeItem};
 use crate::print_config::{OutputKind, PrintConfig, Sources};
-use crate::style::{DrawError, Sink, Style, put_all};
+use crate::sink::{DrawError, Sink, put_all};
+use crate::style::Style;
+use crate::style::codes::Codes;
 use std::alloc::{AllocError, Global};
 
 /// The mark that `cargo tree` puts after the label of a repeated package.

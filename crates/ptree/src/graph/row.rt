@@ -13,7 +13,7 @@ ghost use Rattle.ptree.specs.Pen.{brush_look, buffer_of, HoldsPassing, HoldsOwnT
 ghost use Rattle.ptree.specs.Pieces.{passing_piece};
 ghost use Rattle.ptree.specs.Style.{start_codes};
 ghost use Rattle.ptree.specs.Writing.{AppendsFirst, IsWritten, AreWritten, HasCause, HasErrorCause, IsDrawn, LeavesWholeEntries};
-ghost use Rattle.ptree.specs.declared.style.DrawError.TheVariants.{Memory};
+ghost use Rattle.ptree.specs.declared.sink.DrawError.TheVariants.{Memory};
 
 use super::once::write_weight;
 use super::places::{is_flagged, set_flag};
@@ -24,7 +24,8 @@ use crate::output::engine::draw_entry;
 use crate::output::look::Look;
 use crate::output::pen::Pen;
 use crate::print_config::{OutputKind, PrintConfig};
-use crate::style::{DrawError, Sink, Stop, Style};
+use crate::sink::{DrawError, Sink, Stop};
+use crate::style::Style;
 use std::alloc::{AllocError, Global};
 
 // A graph that is drawn, and the text that marks what is repeated.

@@ -4,7 +4,8 @@ ghost use Rattle.ptree.specs.Children.{children_of};
 ghost use Rattle.ptree.specs.Item.{bytes_of, text_shape};
 
 use crate::item::{Children, Shaped, TreeItem};
-use crate::style::{DrawError, Sink, Style};
+use crate::sink::{DrawError, Sink};
+use crate::style::Style;
 use std::alloc::{AllocError, Global};
 
 /// The text of an item: one that it holds, or one that was made for the call.

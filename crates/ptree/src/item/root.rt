@@ -7,7 +7,8 @@ ghost use Rattle.ptree.specs.Style.{style_of};
 ghost use Rattle.ptree.specs.Writing.{IsWritten, HasCause, TakesNoMemory};
 
 use crate::item::{Children, Shaped, TreeItem};
-use crate::style::{DrawError, Sink, Style};
+use crate::sink::{DrawError, Sink};
+use crate::style::Style;
 use std::alloc::{AllocError, Global};
 
 /// A text over items of any type.

@@ -8,13 +8,13 @@ ghost use Rattle.ptree.specs.Pieces.{passing_piece};
 ghost use Rattle.ptree.specs.Shape.{kids};
 ghost use Rattle.ptree.specs.Style.{start_codes};
 ghost use Rattle.ptree.specs.Writing.{AppendsFirst, IsWritten, AreWritten, HasCause, HasErrorCause};
-ghost use Rattle.ptree.specs.declared.style.DrawError.TheVariants.{Memory};
+ghost use Rattle.ptree.specs.declared.sink.DrawError.TheVariants.{Memory};
 
 use crate::item::TreeItem;
 use crate::output::brush::Brush;
 use crate::output::look::Look;
 use crate::output::pen::Pen;
-use crate::style::{DrawError, Sink, Stop, put_or_stop};
+use crate::sink::{DrawError, Sink, Stop, put_or_stop};
 use std::alloc::Global;
 
 // Writes the buffer, which a sink mostly takes at once. It is a function of its own, so that what a

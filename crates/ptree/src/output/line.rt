@@ -3,11 +3,11 @@ ghost use Rattle.std.specs.Prelude.{◌≡◌, length, take, drop, ◌+◌, ◌�
 ghost use Rattle.ptree.specs.Drawing.{with_inserted};
 ghost use Rattle.ptree.specs.Texts.{line_feed};
 
-use crate::faults::FaultCount;
 use crate::output::brush::Brush;
 use crate::output::place::place;
 use crate::output::spread::{may_hold_line_feed, spread};
-use crate::style::Sink;
+use crate::sink::Sink;
+use crate::sink::faults::FaultCount;
 use std::alloc::{AllocError, Global};
 use std::io;
 

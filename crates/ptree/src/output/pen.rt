@@ -5,11 +5,12 @@ ghost use Rattle.ptree.specs.Looks.{own_text};
 ghost use Rattle.ptree.specs.Pen.{brush_look};
 ghost use Rattle.ptree.specs.Pieces.{passing_piece};
 ghost use Rattle.ptree.specs.Style.{style_of, start_codes};
-ghost use Rattle.ptree.specs.declared.style.DrawError.TheVariants.{Memory};
+ghost use Rattle.ptree.specs.declared.sink.DrawError.TheVariants.{Memory};
 
 use crate::output::brush::Brush;
 use crate::output::line::LineBuffer;
-use crate::style::{DrawError, Style};
+use crate::sink::DrawError;
+use crate::style::Style;
 use std::alloc::{AllocError, Global};
 
 /// The buffer of a drawing, whether it ends in a regular turning piece, and why the drawing

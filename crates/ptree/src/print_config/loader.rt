@@ -126,7 +126,7 @@ pub fn first_fault(alloc: Global, sources: &Sources) -> Result<Option<Fault>, Al
 /// # Errors
 ///
 /// Memory ran out.
-#[tactic(auto, using(crate::proofs::FaultLists::front_of_faults))]
+#[tactic(auto, using(crate::proofs::Config::FaultLists::front_of_faults))]
 pub fn faults(alloc: Global, sources: &Sources) -> Result<Vec<Fault>, AllocError>
     ensures all { IfOk result (λ found. found.items ≡ all_faults sources.now) }
     ensures first { IfOk result (λ found. slice_get found.items 0 ≡ first_fault sources.now) }

@@ -9,7 +9,7 @@ use std::alloc::AllocError;
 ///
 /// The codes of the eight colours are those of ECMA-48. The codes of [`Color::Fixed`] and
 /// [`Color::RGB`] are xterm's. `==` compares names by their bytes. Neither `==` nor painting to a
-/// [`Sink`](crate::style::Sink) allocates.
+/// [`Sink`](crate::sink::Sink) allocates.
 #[derive(Debug, Drop)]
 pub enum Color {
     /// Colour 0 (foreground code 30, background code 40). It is the default.

@@ -14,7 +14,7 @@ use super::node::DocumentNode;
 use crate::output::print_tree_with;
 use crate::parsed::{Parsed, read_json, read_toml};
 use crate::print_config::{OutputKind, PrintConfig, Sources};
-use crate::style::{DrawError, Sink};
+use crate::sink::{DrawError, Sink};
 use std::alloc::{AllocError, AllocFailed, Global};
 use std::error::Error;
 use std::fmt;
@@ -68,7 +68,7 @@ impl From<DrawError> for DocError {
 }
 
 impl From<AllocError> for DocError {
-    ghost use Rattle.ptree.specs.declared.style.DrawError.TheVariants.{Memory};
+    ghost use Rattle.ptree.specs.declared.sink.DrawError.TheVariants.{Memory};
     ghost use Rattle.ptree.specs.declared.value.document.DocError.TheVariants.{Draw};
 
     ghost from_gives = { λ _ told. told ≡ Draw Memory };
@@ -79,7 +79,7 @@ impl From<AllocError> for DocError {
 }
 
 impl<T: Drop> From<AllocFailed<T>> for DocError {
-    ghost use Rattle.ptree.specs.declared.style.DrawError.TheVariants.{Memory};
+    ghost use Rattle.ptree.specs.declared.sink.DrawError.TheVariants.{Memory};
     ghost use Rattle.ptree.specs.declared.value.document.DocError.TheVariants.{Draw};
 
     ghost from_gives = { λ _ told. told ≡ Draw Memory };

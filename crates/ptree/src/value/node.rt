@@ -7,13 +7,14 @@ ghost use Rattle.ptree.specs.Data.{item_pairs, entry_pairs, value_pairs, pair_te
 ghost use Rattle.ptree.specs.Parts.{part_of, node_pair_of, parsed_of};
 ghost use Rattle.ptree.specs.Style.{style_of, painted_text};
 ghost use Rattle.ptree.specs.Writing.{IsWritten, HasCause, HasErrorCause, TakesNoMemory};
-ghost use Rattle.ptree.specs.declared.style.DrawError.TheVariants.{Memory};
+ghost use Rattle.ptree.specs.declared.sink.DrawError.TheVariants.{Memory};
 
 use super::text::ROOM;
-use crate::codes::Codes;
 use crate::item::{Children, Shaped, TreeItem};
 use crate::parsed::{Parsed, ParsedPart};
-use crate::style::{DrawError, Sink, Stop, Style, put_or_stop};
+use crate::sink::{DrawError, Sink, Stop, put_or_stop};
+use crate::style::Style;
+use crate::style::codes::Codes;
 use serde_json::Map;
 use std::alloc::{AllocError, Global};
 use toml::Table;

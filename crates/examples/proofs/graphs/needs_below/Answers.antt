@@ -5,7 +5,7 @@ use Rattle.ptree.specs.declared.graph.once.OccurrenceItem.{OccurrenceItem}
 use Rattle.ptree.specs.Children.{children_of}
 use Rattle.ptree.specs.Occurrence.{OccurrenceTree, occurrence_at, occurrence_kids, occurrence_own, occurrence_shape}
 use Rattle.ptree.specs.Shape.{Shape}
-use Rattle.ptree.proofs.Unfold.{kids_of_unfold}
+use Rattle.ptree.proofs.Trees.Shapes.{kids_of_unfold}
 use Rattle.examples.specs.declared.graphs.Package.{Package}
 use Rattle.examples.proofs.graphs.needs_below.Goals as goal
 

@@ -1,6 +1,6 @@
 use Rattle.std.proofs.Common.{◌≡◌, ◌∙◌, ℕ, false, List, [], ◌++◌, Some, Ok, ap, sym, subst, Vec, Global}
 use Rattle.ptree.specs.declared.print_config.OutputKind.TheVariants.{Unknown}
-use Rattle.ptree.specs.declared.style.DrawError.{DrawError}
+use Rattle.ptree.specs.declared.sink.DrawError.{DrawError}
 use Rattle.ptree.specs.Counted.{inner_of}
 use Rattle.ptree.specs.Drawing.{Look, IsDrawing, look_by}
 use Rattle.ptree.specs.Loading.{effective_config}

@@ -2,7 +2,7 @@ use Rattle.std.proofs.lemmas.Bool.{false≢true}
 use Rattle.std.proofs.lemmas.Str.{IsUtf8-string_bytes}
 use Rattle.std.specs.Prelude.{string_bytes}
 use Rattle.ptree.specs.Drawing.{written_look}
-use Rattle.ptree.proofs.Utf8Texts.{texts_of_texts}
+use Rattle.ptree.proofs.Drawing.Utf8Texts.{texts_of_texts}
 use Rattle.examples.specs.declared.own_types.Folder.{out-Folder}
 use Rattle.examples.proofs.own_types.text_of_folder.Goals as goal
 

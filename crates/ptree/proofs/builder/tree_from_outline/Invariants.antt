@@ -3,7 +3,7 @@ use denote.Shadow.{shadow}
 use denote.Text.{Utf8}
 use Rattle.ptree.specs.Outline.{line}
 use Rattle.ptree.specs.PartialTree.{IsPartial, partial_lines, text_line}
-use Rattle.ptree.proofs.PartialSteps.{IsBuilding}
+use Rattle.ptree.proofs.Trees.PartialSteps.{IsBuilding}
 use Rattle.ptree.proofs.builder.tree_from_outline.Given as goal
 
 abbrev pub invariant-loop-line : goal.invariant-loop-line

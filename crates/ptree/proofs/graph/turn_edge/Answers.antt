@@ -1,8 +1,8 @@
 use Rattle.std.proofs.Common.{rules, arith}
 use Rattle.std.proofs.lemmas.Grind.{elements}
 use Rattle.std.proofs.lemmas.Option.{slice_get-get_or}
-use Rattle.ptree.proofs.Links.{edge}
-use Rattle.ptree.proofs.Turned.{linked_turned, ends_turned, turned_weights}
+use Rattle.ptree.proofs.Graphs.Links.{edge}
+use Rattle.ptree.proofs.Graphs.Turned.{linked_turned, ends_turned, turned_weights}
 use Rattle.ptree.proofs.graph.turn_edge.Goals as goal
 
 pub returns-clause-linked : goal.returns-clause-linked

@@ -2,7 +2,7 @@ use Rattle.std.proofs.Common.{◌≡◌, ◌∙◌, arith, refl, subst, List, Al
 use Rattle.std.proofs.Math.Seq.{map-set_same}
 use Rattle.std.proofs.lemmas.List.{take_all}
 use Rattle.ptree.specs.declared.graph.Node.{Node}
-use Rattle.ptree.proofs.Turned.{unlink_more}
+use Rattle.ptree.proofs.Graphs.Turned.{unlink_more}
 use Rattle.ptree.proofs.graph.unlink.Goals as goal
 
 pub loop-node-preserved : goal.loop-node-preserved

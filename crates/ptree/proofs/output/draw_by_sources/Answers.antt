@@ -1,7 +1,7 @@
 use Rattle.std.proofs.Common.{sym}
 use Rattle.ptree.specs.Drawing.{look_by}
 use Rattle.ptree.specs.Loading.{effective_config}
-use Rattle.ptree.proofs.Drawn.{drawn_nothing, whole_nothing}
+use Rattle.ptree.proofs.Drawing.Drawn.{drawn_nothing, whole_nothing}
 use Rattle.ptree.proofs.output.draw_by_sources.Goals as goal
 
 pub returns-clause-bytes : goal.returns-clause-bytes

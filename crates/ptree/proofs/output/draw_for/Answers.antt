@@ -4,8 +4,8 @@ use Rattle.ptree.specs.Drawing.{Look, config_look}
 use Rattle.ptree.specs.Entries.{drawn_entries}
 use Rattle.ptree.specs.Looks.{look_of}
 use Rattle.ptree.specs.Writing.{IsDrawn, LeavesWholeEntries}
-use Rattle.ptree.proofs.Drawn.{drawn_nothing, whole_entries, whole_nothing}
-use Rattle.ptree.proofs.Join.{drawn_is_drawing}
+use Rattle.ptree.proofs.Drawing.Drawn.{drawn_nothing, whole_entries, whole_nothing}
+use Rattle.ptree.proofs.Drawing.Join.{drawn_is_drawing}
 use Rattle.ptree.proofs.output.draw_for.Goals as goal
 
 pub returns-in_err-look-clause-bytes : goal.returns-in_err-look-clause-bytes

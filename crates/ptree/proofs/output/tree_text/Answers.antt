@@ -2,8 +2,8 @@ use Rattle.std.proofs.Common.{◌∙◌, sym, subst}
 use Rattle.std.proofs.lemmas.Bool.{false≢true}
 use Rattle.std.specs.Str.{IsUtf8}
 use Rattle.ptree.specs.Drawing.{written_look}
-use Rattle.ptree.proofs.Laws.{one_drawing}
-use Rattle.ptree.proofs.Utf8Texts.{IsUtf8-drawing}
+use Rattle.ptree.proofs.Drawing.Laws.{one_drawing}
+use Rattle.ptree.proofs.Drawing.Utf8Texts.{IsUtf8-drawing}
 use Rattle.ptree.proofs.output.tree_text.Goals as goal
 
 pub returns-clause-none : goal.returns-clause-none

@@ -1,10 +1,10 @@
 use Rattle.std.proofs.Common.{false}
 use Rattle.ptree.specs.Drawing.{config_look, prefix_text, passing_text, own_at}
 use Rattle.ptree.specs.declared.print_config.OutputKind.TheVariants.{Unknown}
-use Rattle.ptree.proofs.CutTrees.{drawing_of_cut_tree}
-use Rattle.ptree.proofs.Inserted.{entry_of_one_line}
-use Rattle.ptree.proofs.Laws.{the_list, drawing_of_cut}
-use Rattle.ptree.proofs.Subtrees.{subtrees}
+use Rattle.ptree.proofs.Drawing.CutTrees.{drawing_of_cut_tree}
+use Rattle.ptree.proofs.Drawing.Inserted.{entry_of_one_line}
+use Rattle.ptree.proofs.Drawing.Laws.{the_list, drawing_of_cut}
+use Rattle.ptree.proofs.Drawing.Subtrees.{subtrees}
 use Rattle.ptree.proofs.output.write_tree_with.Goals as goal
 
 pub returns-clause-one_list : goal.returns-clause-one_list

@@ -2,7 +2,7 @@ use Rattle.std.proofs.Common.{rules, ◌≡◌, ◌∙◌, ap, sym, Some, arith}
 use Rattle.ptree.specs.Data.{something}
 use Rattle.ptree.specs.Value.{data_of}
 use Rattle.ptree.specs.declared.value.Value.{Option, the_lemmas}
-use Rattle.ptree.proofs.Values.{data_of-Some}
+use Rattle.ptree.proofs.Values.ValuePairs.{data_of-Some}
 use Rattle.std.proofs.lemmas.Grind.{common_steps}
 use Rattle.ptree.proofs.value.+clone.Goals as goal
 

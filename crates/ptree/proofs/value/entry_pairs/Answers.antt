@@ -2,7 +2,7 @@ use Rattle.std.proofs.Common.{◌∙◌, sym, ap, map, arith}
 use Rattle.std.proofs.lemmas.List.{take_all}
 use Rattle.ptree.specs.Data.{entry_pair}
 use Rattle.ptree.specs.Value.{data_of}
-use Rattle.ptree.proofs.Values.{entry_pairs-of}
+use Rattle.ptree.proofs.Values.ValuePairs.{entry_pairs-of}
 use Rattle.std.proofs.lemmas.Grind.{common_steps}
 use Rattle.ptree.proofs.value.entry_pairs.Goals as goal
 

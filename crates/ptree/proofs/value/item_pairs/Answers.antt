@@ -1,7 +1,7 @@
 use Rattle.std.proofs.Common.{◌∙◌, [], sym, ap, map, arith}
 use Rattle.std.proofs.lemmas.List.{take_all}
 use Rattle.ptree.specs.Value.{data_of}
-use Rattle.ptree.proofs.Values.{item_pairs-of}
+use Rattle.ptree.proofs.Values.ValuePairs.{item_pairs-of}
 use Rattle.std.proofs.lemmas.Grind.{common_steps}
 use Rattle.ptree.proofs.value.item_pairs.Goals as goal
 

@@ -1,6 +1,6 @@
 use Rattle.std.proofs.Common.{◌≡◌, ◌∙◌, ℕ, List, [], ◌++◌, Some, Ok, ap, sym, subst, Vec, Global}
 use Rattle.std.specs.Prelude.{string_bytes}
-use Rattle.ptree.specs.declared.style.DrawError.{DrawError}
+use Rattle.ptree.specs.declared.sink.DrawError.{DrawError}
 use Rattle.ptree.specs.Counted.{inner_of}
 use Rattle.ptree.specs.Drawing.{Look, IsDrawing, written_look}
 use Rattle.ptree.specs.Occurrence.{occurrence_shape}

@@ -1,7 +1,7 @@
 use Rattle.std.proofs.Common.{◌≡◌, ◌∙◌, map, ap}
 use Rattle.ptree.specs.Outline.{outline}
 use Rattle.ptree.specs.Tree.{tree_of}
-use Rattle.ptree.proofs.OutlineItems.{item_tree, item_line, lines_of_items}
+use Rattle.ptree.proofs.Trees.OutlineItems.{item_tree, item_line, lines_of_items}
 use Rattle.ptree_c.proofs.Flat.{items_whole, texts_whole}
 use Rattle.ptree_c.proofs.items.items_of_tree.Goals as goal
 

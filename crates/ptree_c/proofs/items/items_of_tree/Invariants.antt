@@ -1,6 +1,6 @@
 use Rattle.std.proofs.Common.{◌≡◌, ◌++◌, length, map, drop}
 use Rattle.ptree_c.specs.Items.{items_from, joined_texts}
-use Rattle.ptree.proofs.OutlineItems.{item_line}
+use Rattle.ptree.proofs.Trees.OutlineItems.{item_line}
 use Rattle.ptree_c.proofs.items.items_of_tree.Given as goal
 
 -- the items and the texts so far, and those of the entries that are left, are all

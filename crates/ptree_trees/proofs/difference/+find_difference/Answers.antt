@@ -6,7 +6,7 @@ use Rattle.std.proofs.lemmas.List.{reverse-append}
 use Rattle.ptree.specs.Address.{Address}
 use Rattle.ptree.specs.Tree.{tree_of}
 use Rattle.ptree_trees.specs.Found.{IsFound, IsFirst}
-use Rattle.ptree.proofs.TreeLemmas.{child_there, child_not_there}
+use Rattle.ptree.proofs.Trees.ItemTrees.{child_there, child_not_there}
 use Rattle.ptree_trees.proofs.Differences.{same_texts, differ_at_child, differ_below, same_to_none, same_to_next, same_to_end}
 use Rattle.ptree_trees.proofs.difference.+find_difference.Goals as goal
 

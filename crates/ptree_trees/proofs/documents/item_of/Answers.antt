@@ -1,6 +1,6 @@
 use Rattle.std.proofs.Common.{◌∙◌, ap, map}
 use Rattle.ptree.specs.Tree.{Tree, tree_of, tree_kids}
-use Rattle.ptree.proofs.TreeLemmas.{tree_of_roll, trees_of_forest}
+use Rattle.ptree.proofs.Trees.ItemTrees.{tree_of_roll, trees_of_forest}
 use Rattle.ptree_trees.proofs.documents.item_of.Goals as goal
 
 pub returns-clause-text : goal.returns-clause-text

@@ -3,7 +3,7 @@ use Rattle.std.proofs.lemmas.Bool.{false≢true}
 use Rattle.ptree.specs.Outline.{line, outline}
 use Rattle.ptree.specs.Tree.{tree_of}
 use Rattle.ptree_trees.specs.Indented.{IsLineText, AreLineTexts, indented_line}
-use Rattle.ptree.proofs.OutlineItems.{item_tree, item_line, item_text, lines_of_items}
+use Rattle.ptree.proofs.Trees.OutlineItems.{item_tree, item_line, item_text, lines_of_items}
 use Rattle.ptree_trees.proofs.IndentedWriting.{write_more, texts_more, texts_not, write_all}
 use Rattle.ptree_trees.proofs.indented.indented_text.Goals as goal
 

@@ -1,7 +1,7 @@
 use Rattle.std.proofs.Common.{◌≡◌, ◌++◌, map, drop, string_bytes}
 use Rattle.std.specs.Prelude.{◌↔◌}
 use Rattle.ptree_trees.specs.Indented.{AreLineTexts, indented_lines}
-use Rattle.ptree.proofs.OutlineItems.{item_line}
+use Rattle.ptree.proofs.Trees.OutlineItems.{item_line}
 use Rattle.ptree_trees.proofs.indented.indented_text.Given as goal
 
 -- the lines so far and those that are left are all, and so are their texts

@@ -2,7 +2,7 @@
 use Rattle.std.proofs.Common.{◌∙◌, ap, map}
 use Rattle.examples.specs.declared.tasks.Task.{out-Task}
 use Rattle.examples.specs.Tasks.{task_own, task_shape}
-use Rattle.ptree.proofs.Unfold.{kids_of_unfold}
+use Rattle.ptree.proofs.Trees.Shapes.{kids_of_unfold}
 use Rattle.examples.proofs.tasks.TaskTreeItem.children.Goals as goal
 
 pub returns : goal.returns

@@ -1,5 +1,5 @@
 -- The builder is lent to add_line, and then handed back or given up.
-use Rattle.ptree.proofs.BuilderWalks.{lit<, ◌≡◌, ℕ, ◌+◌, ◌<◌, Bool, Ok, Err, IfOk, OnOk, OnErr, if◌then◌else◌, string_bytes, List, [], ◌∷◌, ◌++◌, refl, sym, ap, ◌∙◌, subst, MutBor, proved_at, leaves, ok_of, after, head, arm_body, Lft, Share, ftrue, flft, fres, full_share, SProp, ent, id⊢, emp, fact, fact_i, Running, tables, bool, unit, yes, no, lends_again, comes_back, LentAgain, bool_vals, bool_Tells, RattleType, MutRef, mut_vals, mut_Tells, plain, mut_ref_to, only, nothing, heard, calls_at, Clauses, lasts, triple_of, framed, Stays, stay_dropped, walk_of, Goes-dropped, Goes-spent_ref, Body, named, place, Val, WT, of_list, vbool, vstruct, vnil, Model, Wired, Env, Calls, Loops, Wp, WpFn, after_seq, at_return, Ura, alloc_all, pass_all, free_all, look_at, holding, get, get_in, get_tag, through, sets, sets_last, lands_as, env, Seq, Go, ⋆, lands, any_q, at_ret, Post, ‵, raw, ◌⊛◌, some, later, ◌$◌, ◌∵◌, !, qed, by, move, keep, drop, use0, use1, use2, use3, split, join, fsplit, fsplit3, fjoin, fpick, feq_l, pick, await, Logic, live, vrt, in_variant, whole, agg, enter, of_opd, addr, lit, stop, fld, no_more, and_then, first, switches_on, exec, returns, lft_new, lft_end, B, Text, Refused, Back, place_of, Fits, one_value, text_goes, handed_on, given_up, refusal_of}
+use Rattle.ptree.proofs.Trees.BuilderWalks.{lit<, ◌≡◌, ℕ, ◌+◌, ◌<◌, Bool, Ok, Err, IfOk, OnOk, OnErr, if◌then◌else◌, string_bytes, List, [], ◌∷◌, ◌++◌, refl, sym, ap, ◌∙◌, subst, MutBor, proved_at, leaves, ok_of, after, head, arm_body, Lft, Share, ftrue, flft, fres, full_share, SProp, ent, id⊢, emp, fact, fact_i, Running, tables, bool, unit, yes, no, lends_again, comes_back, LentAgain, bool_vals, bool_Tells, RattleType, MutRef, mut_vals, mut_Tells, plain, mut_ref_to, only, nothing, heard, calls_at, Clauses, lasts, triple_of, framed, Stays, stay_dropped, walk_of, Goes-dropped, Goes-spent_ref, Body, named, place, Val, WT, of_list, vbool, vstruct, vnil, Model, Wired, Env, Calls, Loops, Wp, WpFn, after_seq, at_return, Ura, alloc_all, pass_all, free_all, look_at, holding, get, get_in, get_tag, through, sets, sets_last, lands_as, env, Seq, Go, ⋆, lands, any_q, at_ret, Post, ‵, raw, ◌⊛◌, some, later, ◌$◌, ◌∵◌, !, qed, by, move, keep, drop, use0, use1, use2, use3, split, join, fsplit, fsplit3, fjoin, fpick, feq_l, pick, await, Logic, live, vrt, in_variant, whole, agg, enter, of_opd, addr, lit, stop, fld, no_more, and_then, first, switches_on, exec, returns, lft_new, lft_end, B, Text, Refused, Back, place_of, Fits, one_value, text_goes, handed_on, given_up, refusal_of}
 use Rattle.std.specs.contracts.result.Result as result
 use Rattle.ptree.specs.HandedBack.{HandsBack}
 use Rattle.ptree.specs.Outline.{line}

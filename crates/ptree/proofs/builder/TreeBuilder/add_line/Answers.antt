@@ -2,7 +2,7 @@ use Rattle.std.proofs.Common.{arith, map, string_bytes, ◌+◌}
 use Rattle.std.proofs.lemmas.List.{map-append}
 use Rattle.ptree.specs.Outline.{line}
 use Rattle.ptree.specs.PartialTree.{text_line}
-use Rattle.ptree.proofs.Steps.{Steps-push, last_level-push}
+use Rattle.ptree.proofs.Trees.Steps.{Steps-push, last_level-push}
 use Rattle.std.proofs.lemmas.Grind.{common_steps}
 use Rattle.ptree.proofs.builder.TreeBuilder.add_line.Goals as goal
 

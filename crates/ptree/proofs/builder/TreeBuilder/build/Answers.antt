@@ -1,5 +1,5 @@
 use Rattle.std.proofs.Common.{ap}
-use Rattle.ptree.proofs.OutlineAddresses.{made_outline, only_made}
+use Rattle.ptree.proofs.Trees.OutlineAddresses.{made_outline, only_made}
 use Rattle.ptree.proofs.builder.TreeBuilder.build.Goals as goal
 
 pub returns-clause-outline : goal.returns-clause-outline

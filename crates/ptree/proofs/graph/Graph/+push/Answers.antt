@@ -5,11 +5,11 @@ use Rattle.std.proofs.lemmas.List.{length-map}
 use Rattle.ptree.specs.Graph.{weights_of, edges_of, neighbors_of}
 use Rattle.ptree.specs.GraphLinks.{ends_of}
 use Rattle.ptree.specs.Growing.{is_seen, enter, grow, row_occurrences, row_seen, all_flags, place_of, leaf_size, AppendsPlaces}
-use Rattle.ptree.proofs.EdgeLists.{newest_starts, newest_within, newest_has}
-use Rattle.ptree.proofs.Growth.{stopped, without, grown_all, grown_more, leaf_made, row_made, seen_made, entered}
-use Rattle.ptree.proofs.Links.{linked-step}
-use Rattle.ptree.proofs.NodeFlags.{seen_all}
-use Rattle.ptree.proofs.Places.{appends_none, appends_more, appends_over}
+use Rattle.ptree.proofs.Graphs.EdgeLists.{newest_starts, newest_within, newest_has}
+use Rattle.ptree.proofs.Graphs.Growth.{stopped, without, grown_all, grown_more, leaf_made, row_made, seen_made, entered}
+use Rattle.ptree.proofs.Graphs.Links.{linked-step}
+use Rattle.ptree.proofs.Graphs.NodeFlags.{seen_all}
+use Rattle.ptree.proofs.Graphs.Places.{appends_none, appends_more, appends_over}
 use Rattle.ptree.proofs.graph.Graph.+push.Goals as goal
 use Rattle.ptree.proofs.graph.Graph.+push.Goals.{push_places-then-repeated-via-then-repeated, push_places-then-repeated-via-else-repeated+then-levels-eq0}
 

@@ -1,7 +1,7 @@
 use Rattle.std.proofs.Common.{◌≡◌, ◌+◌, ap, ◌∙◌, is_ok, if◌then◌else◌, vec_len, arith}
 use Rattle.std.proofs.Math.Seq.{map-set_same}
 use Rattle.ptree.specs.declared.graph.Node.{Node}
-use Rattle.ptree.proofs.Links.{linked-edge_by}
+use Rattle.ptree.proofs.Graphs.Links.{linked-edge_by}
 use Rattle.ptree.proofs.graph.Graph.add_edge.Goals as goal
 
 pub invariant_of-self : goal.invariant_of-self

@@ -1,5 +1,5 @@
 use Rattle.std.proofs.Common.{is_ok, arith}
-use Rattle.ptree.proofs.Links.{linked-node_if}
+use Rattle.ptree.proofs.Graphs.Links.{linked-node_if}
 use Rattle.std.proofs.lemmas.Grind.{common_steps}
 use Rattle.ptree.proofs.graph.Graph.add_node.Goals as goal
 

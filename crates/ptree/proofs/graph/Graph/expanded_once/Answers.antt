@@ -3,9 +3,9 @@ use Rattle.ptree.specs.declared.graph.places.Place.{Place}
 use Rattle.ptree.specs.Graph.{weights_of, edges_of, neighbors_of}
 use Rattle.ptree.specs.Growing.{grow, all_flags, AppendsPlaces}
 use Rattle.ptree.specs.Occurrence.{OccurrenceTree, first_tree, occurrence_count, tree_places}
-use Rattle.ptree.proofs.Firsts.{expands_first, leaves_unrepeated}
-use Rattle.ptree.proofs.Growth.{no_flags, made_is_drawn, graph_has_one, made_has_size}
-use Rattle.ptree.proofs.Places.{tree_of_places, places_of_tree, number_of_places}
+use Rattle.ptree.proofs.Graphs.Firsts.{expands_first, leaves_unrepeated}
+use Rattle.ptree.proofs.Graphs.Growth.{no_flags, made_is_drawn, graph_has_one, made_has_size}
+use Rattle.ptree.proofs.Graphs.Places.{tree_of_places, places_of_tree, number_of_places}
 use Rattle.ptree.proofs.graph.Graph.expanded_once.Goals as goal
 
 pub returns-in_err-push_places-clause-one_tree : goal.returns-in_err-push_places-clause-one_tree

@@ -3,8 +3,8 @@ use Rattle.std.proofs.lemmas.List.{map-id}
 use Rattle.std.proofs.lemmas.Result.{IfOk-weaker}
 use Rattle.ptree.specs.declared.graph.NodeIndex.{NodeIndex}
 use Rattle.ptree.specs.Graph.{edges_of, neighbors_of}
-use Rattle.ptree.proofs.Links.{neighbors_below}
-use Rattle.ptree.proofs.Matched.{matched_map}
+use Rattle.ptree.proofs.Graphs.Links.{neighbors_below}
+use Rattle.ptree.proofs.Graphs.Matched.{matched_map}
 use Rattle.ptree.proofs.graph.Graph.neighbors.Goals as goal
 
 pub returns-clause-targets : goal.returns-clause-targets

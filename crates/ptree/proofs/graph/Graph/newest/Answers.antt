@@ -1,6 +1,6 @@
 use Rattle.std.proofs.Common.{sym, arith}
 use Rattle.std.proofs.lemmas.Grind.{common_steps, elements}
-use Rattle.ptree.proofs.Links.{newest_of_none}
+use Rattle.ptree.proofs.Graphs.Links.{newest_of_none}
 use Rattle.ptree.proofs.graph.Graph.newest.Goals as goal
 
 pub returns-in-None-clause-newest : goal.returns-in-None-clause-newest

@@ -5,7 +5,7 @@ use Rattle.std.proofs.lemmas.List.{length-map}
 use Rattle.ptree.specs.declared.graph.Node.{Node}
 use Rattle.ptree.specs.Graph.{weights_of, edges_of}
 use Rattle.ptree.specs.GraphLinks.{EndsBelow, IsLinked, ends_of, turned_at, turned_first}
-use Rattle.ptree.proofs.Turned.{first_more, turned_back, turned_start, turned_whole, written_back}
+use Rattle.ptree.proofs.Graphs.Turned.{first_more, turned_back, turned_start, turned_whole, written_back}
 use Rattle.ptree.proofs.graph.Graph.reversed.Goals as goal
 
 pub loop-i-init : goal.loop-i-init

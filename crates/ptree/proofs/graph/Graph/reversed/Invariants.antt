@@ -1,5 +1,5 @@
 use Rattle.ptree.specs.Graph.{weights_of, edges_of}
-use Rattle.ptree.proofs.Turned.{AreTurned}
+use Rattle.ptree.proofs.Graphs.Turned.{AreTurned}
 use Rattle.ptree.proofs.graph.Graph.reversed.Given as goal
 
 -- the edges so far are reversed and linked

@@ -3,9 +3,9 @@ use Rattle.std.proofs.lemmas.List.{length-map, append-nil}
 use Rattle.ptree.specs.Graph.{edges_of, neighbors_of}
 use Rattle.ptree.specs.GraphLinks.{ends_of}
 use Rattle.ptree.specs.Matched.{AreMatched}
-use Rattle.ptree.proofs.EdgeLists.{newest_starts, newest_within}
-use Rattle.ptree.proofs.Links.{linked-step}
-use Rattle.ptree.proofs.Matched.{matched_push}
+use Rattle.ptree.proofs.Graphs.EdgeLists.{newest_starts, newest_within}
+use Rattle.ptree.proofs.Graphs.Links.{linked-step}
+use Rattle.ptree.proofs.Graphs.Matched.{matched_push}
 use Rattle.ptree.proofs.graph.Graph.targets.Goals as goal
 
 pub loop-number-init : goal.loop-number-init

@@ -1,7 +1,7 @@
 use Rattle.ptree.specs.declared.print_config.OutputKind.TheVariants.{Stdout}
 use Rattle.ptree.specs.Drawing.{look_by}
 use Rattle.ptree.specs.Loading.{effective_config}
-use Rattle.ptree.proofs.Walks.{drawing_of_walks}
+use Rattle.ptree.proofs.Graphs.Walks.{drawing_of_walks}
 use Rattle.ptree.proofs.graph.drawing.print_graph.Goals as goal
 
 pub returns-clause-walks : goal.returns-clause-walks

@@ -1,7 +1,7 @@
 use Rattle.std.proofs.Common.{false}
 use Rattle.ptree.specs.declared.print_config.OutputKind.TheVariants.{Unknown}
 use Rattle.ptree.specs.Drawing.{config_look}
-use Rattle.ptree.proofs.Walks.{drawing_of_walks}
+use Rattle.ptree.proofs.Graphs.Walks.{drawing_of_walks}
 use Rattle.ptree.proofs.graph.drawing.write_graph_with.Goals as goal
 
 pub returns-clause-walks : goal.returns-clause-walks

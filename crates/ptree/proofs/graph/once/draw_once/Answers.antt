@@ -2,7 +2,7 @@ use Rattle.std.proofs.Common.{sym, subst}
 use Rattle.ptree.specs.Drawing.{config_look}
 use Rattle.ptree.specs.Occurrence.{OccurrenceTree, occurrence_shape}
 use Rattle.ptree.specs.Writing.{IsDrawn, LeavesWholeEntries}
-use Rattle.ptree.proofs.Growth.{is_grown}
+use Rattle.ptree.proofs.Graphs.Growth.{is_grown}
 use Rattle.ptree.proofs.graph.once.draw_once.Goals as goal
 
 pub returns-clause-bytes : goal.returns-clause-bytes

@@ -3,9 +3,9 @@ use Rattle.ptree.specs.declared.print_config.OutputKind.TheVariants.{Stdout}
 use Rattle.ptree.specs.Drawing.{look_by}
 use Rattle.ptree.specs.Loading.{effective_config}
 use Rattle.ptree.specs.Occurrence.{occurrence_shape}
-use Rattle.ptree.proofs.Agreement.{drawing_where_none_repeated}
-use Rattle.ptree.proofs.Drawn.{drawn_nothing, whole_nothing}
-use Rattle.ptree.proofs.Growth.{graph_has_one}
+use Rattle.ptree.proofs.Graphs.Agreement.{drawing_where_none_repeated}
+use Rattle.ptree.proofs.Drawing.Drawn.{drawn_nothing, whole_nothing}
+use Rattle.ptree.proofs.Graphs.Growth.{graph_has_one}
 use Rattle.ptree.proofs.graph.once.print_graph_once.Goals as goal
 
 pub returns-clause-bytes : goal.returns-clause-bytes

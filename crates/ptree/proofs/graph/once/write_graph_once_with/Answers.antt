@@ -1,6 +1,6 @@
 use Rattle.ptree.specs.Drawing.{written_look}
-use Rattle.ptree.proofs.Agreement.{drawing_where_none_repeated}
-use Rattle.ptree.proofs.Growth.{graph_has_one}
+use Rattle.ptree.proofs.Graphs.Agreement.{drawing_where_none_repeated}
+use Rattle.ptree.proofs.Graphs.Growth.{graph_has_one}
 use Rattle.ptree.proofs.graph.once.write_graph_once_with.Goals as goal
 
 pub returns-clause-one_tree : goal.returns-clause-one_tree

@@ -1,5 +1,5 @@
 use Rattle.ptree.specs.Style.{style_of}
-use Rattle.ptree.proofs.Occurrences.{plain_label_part, plain_written}
+use Rattle.ptree.proofs.Graphs.Occurrences.{plain_label_part, plain_written}
 use Rattle.ptree.proofs.graph.once.write_repeated.Goals as goal
 
 pub returns-in-Err-clause-bytes : goal.returns-in-Err-clause-bytes

@@ -1,7 +1,7 @@
 use Rattle.std.proofs.Common.{◌∙◌, refl}
 use Rattle.ptree.specs.Style.{style_of, plain_value, start_codes, end_codes}
-use Rattle.ptree.proofs.Occurrences.{start_part, label_part, mark_part, all_repeated}
-use Rattle.ptree.proofs.Written.{written_err}
+use Rattle.ptree.proofs.Graphs.Occurrences.{start_part, label_part, mark_part, all_repeated}
+use Rattle.ptree.proofs.Sinks.Written.{written_err}
 use Rattle.ptree.proofs.graph.once.write_with_codes.Goals as goal
 
 pub returns-in_err-put_all-clause-bytes : goal.returns-in_err-put_all-clause-bytes

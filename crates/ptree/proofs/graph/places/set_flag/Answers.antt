@@ -1,5 +1,5 @@
 use Rattle.std.proofs.Common.{Vec, Global, Bool, ◌∙◌, ap, arith, rules}
-use Rattle.ptree.proofs.NodeFlags.{flag_set, flag_added}
+use Rattle.ptree.proofs.Graphs.NodeFlags.{flag_set, flag_added}
 use Rattle.ptree.proofs.graph.places.set_flag.Goals as goal
 use Rattle.ptree.proofs.graph.places.set_flag.Goals.{then-node-len+in_ok-resize, else-node-len}
 

@@ -11,13 +11,13 @@ use Rattle.ptree.specs.Entries.{kid_entries, entries_below}
 use Rattle.ptree.specs.Occurrence.{OccurrenceTree, occurrence_shape}
 use Rattle.ptree.specs.Pieces.{passing_piece}
 use Rattle.ptree.specs.Shape.{Shape}
-use Rattle.ptree.proofs.AlongEdges.{last_tells, length_row, kids_below, seen_below, no_kids, kids_are, own_part, own_whole, leaf_written, all_begun, seen_ok}
-use Rattle.ptree.proofs.EdgeLists.{newest_starts, newest_within, newest_has}
-use Rattle.ptree.proofs.Engine.{item_written, all_below, begun_none, begun_part, begun_then, begun_err, not_last, still_turned, long_enough, take_again, quiet}
-use Rattle.ptree.proofs.Growth.{stopped, without, entered, seen_made}
-use Rattle.ptree.proofs.Links.{node_at, target_at, linked-step}
-use Rattle.ptree.proofs.NodeFlags.{seen_all}
-use Rattle.ptree.proofs.Written.{entries_none, entries_err, entry_part}
+use Rattle.ptree.proofs.Graphs.AlongEdges.{last_tells, length_row, kids_below, seen_below, no_kids, kids_are, own_part, own_whole, leaf_written, all_begun, seen_ok}
+use Rattle.ptree.proofs.Graphs.EdgeLists.{newest_starts, newest_within, newest_has}
+use Rattle.ptree.proofs.Drawing.Engine.{item_written, all_below, begun_none, begun_part, begun_then, begun_err, not_last, still_turned, long_enough, take_again, quiet}
+use Rattle.ptree.proofs.Graphs.Growth.{stopped, without, entered, seen_made}
+use Rattle.ptree.proofs.Graphs.Links.{node_at, target_at, linked-step}
+use Rattle.ptree.proofs.Graphs.NodeFlags.{seen_all}
+use Rattle.ptree.proofs.Sinks.Written.{entries_none, entries_err, entry_part}
 use Rattle.ptree.proofs.graph.row.+draw_row.Goals as goal
 use Rattle.ptree.proofs.graph.row.+draw_row.Goals.{draw_node-then-repeated-via-then-repeated, draw_node-then-repeated-via-else-repeated+then-levels_left-eq0}
 

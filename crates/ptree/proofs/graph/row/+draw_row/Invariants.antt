@@ -7,8 +7,8 @@ use Rattle.ptree.specs.Looks.{look_of, own_text}
 use Rattle.ptree.specs.Entries.{entries_below}
 use Rattle.ptree.specs.Occurrence.{occurrence_shape}
 use Rattle.ptree.specs.Style.{start_codes}
-use Rattle.ptree.specs.declared.style.DrawError.TheVariants.{Memory}
-use Rattle.ptree.proofs.Engine.{AreBegun}
+use Rattle.ptree.specs.declared.sink.DrawError.TheVariants.{Memory}
+use Rattle.ptree.proofs.Drawing.Engine.{AreBegun}
 use Rattle.ptree.proofs.graph.row.+draw_row.Given as goal
 
 -- a node takes a step more than what is below it, and that one more than its row

@@ -7,9 +7,9 @@ use Rattle.ptree.specs.Growing.{flags_of, grow}
 use Rattle.ptree.specs.Looks.{look_of}
 use Rattle.ptree.specs.Occurrence.{occurrence_shape}
 use Rattle.ptree.specs.Writing.{AppendsFirst, IsWritten}
-use Rattle.ptree.specs.declared.style.DrawError.TheVariants.{Memory}
-use Rattle.ptree.proofs.Engine.{nothing_yet}
-use Rattle.ptree.proofs.Written.{written_err}
+use Rattle.ptree.specs.declared.sink.DrawError.TheVariants.{Memory}
+use Rattle.ptree.proofs.Drawing.Engine.{nothing_yet}
+use Rattle.ptree.proofs.Sinks.Written.{written_err}
 use Rattle.ptree.proofs.graph.row.draw.Goals as goal
 
 pub returns-in_err-brush-clause-bytes : goal.returns-in_err-brush-clause-bytes

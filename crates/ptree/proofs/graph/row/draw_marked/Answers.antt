@@ -7,8 +7,8 @@ use Rattle.ptree.specs.Graph.{edges_of, neighbors_of}
 use Rattle.ptree.specs.Growing.{flags_of, grow}
 use Rattle.ptree.specs.Occurrence.{occurrence_shape}
 use Rattle.ptree.specs.Writing.{IsDrawn, LeavesWholeEntries}
-use Rattle.ptree.proofs.Drawn.{drawn_nothing, whole_entries, whole_nothing}
-use Rattle.ptree.proofs.Join.{drawn_is_drawing}
+use Rattle.ptree.proofs.Drawing.Drawn.{drawn_nothing, whole_entries, whole_nothing}
+use Rattle.ptree.proofs.Drawing.Join.{drawn_is_drawing}
 use Rattle.ptree.proofs.graph.row.draw_marked.Goals as goal
 
 pub returns-in_err-look-clause-bytes : goal.returns-in_err-look-clause-bytes

@@ -10,13 +10,13 @@ use Rattle.ptree.specs.Looks.{look_of}
 use Rattle.ptree.specs.Occurrence.{OccurrenceTree, occurrence_shape}
 use Rattle.ptree.specs.Shape.{Shape}
 use Rattle.ptree.specs.Style.{start_codes}
-use Rattle.ptree.proofs.AlongEdges.{kids_below, no_kids, kids_are, own_part, own_whole, leaf_root}
-use Rattle.ptree.proofs.EdgeLists.{newest_starts}
-use Rattle.ptree.proofs.Engine.{cut_back, start_kept, root_turned}
-use Rattle.ptree.proofs.Growth.{without}
-use Rattle.ptree.proofs.Join.{root_written, root_alone}
-use Rattle.ptree.proofs.NodeFlags.{seen_all}
-use Rattle.ptree.proofs.Written.{entries_none, entries_err, entry_part}
+use Rattle.ptree.proofs.Graphs.AlongEdges.{kids_below, no_kids, kids_are, own_part, own_whole, leaf_root}
+use Rattle.ptree.proofs.Graphs.EdgeLists.{newest_starts}
+use Rattle.ptree.proofs.Drawing.Engine.{cut_back, start_kept, root_turned}
+use Rattle.ptree.proofs.Graphs.Growth.{without}
+use Rattle.ptree.proofs.Drawing.Join.{root_written, root_alone}
+use Rattle.ptree.proofs.Graphs.NodeFlags.{seen_all}
+use Rattle.ptree.proofs.Sinks.Written.{entries_none, entries_err, entry_part}
 use Rattle.ptree.proofs.graph.row.draw_root.Goals as goal
 
 pub returns-in_err-append-clause-bytes : goal.returns-in_err-append-clause-bytes

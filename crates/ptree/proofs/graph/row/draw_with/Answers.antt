@@ -1,8 +1,8 @@
 use Rattle.std.proofs.Common.{◌≡◌, Result, Err, refl}
-use Rattle.ptree.specs.declared.style.DrawError.{DrawError}
-use Rattle.ptree.specs.declared.style.DrawError.TheVariants.{Memory}
-use Rattle.ptree.proofs.Engine.{nothing_yet}
-use Rattle.ptree.proofs.Written.{written_err}
+use Rattle.ptree.specs.declared.sink.DrawError.{DrawError}
+use Rattle.ptree.specs.declared.sink.DrawError.TheVariants.{Memory}
+use Rattle.ptree.proofs.Drawing.Engine.{nothing_yet}
+use Rattle.ptree.proofs.Sinks.Written.{written_err}
 use Rattle.ptree.proofs.graph.row.draw_with.Goals as goal
 
 pub returns-in_err-pen-clause-bytes : goal.returns-in_err-pen-clause-bytes

@@ -1,7 +1,7 @@
 use Rattle.std.specs.Prelude.{option_map}
 use Rattle.std.proofs.Common.{◌∙◌, Some, None, get_or, ap, sym, arith}
 use Rattle.ptree.specs.Tree.{tree_of}
-use Rattle.ptree.proofs.TreeLemmas.{child_there, child_not_there, at_next_position}
+use Rattle.ptree.proofs.Trees.ItemTrees.{child_there, child_not_there, at_next_position}
 use Rattle.ptree.proofs.item.StringItem.at_address.Goals as goal
 
 pub returns-in_err-item : goal.returns-in_err-item

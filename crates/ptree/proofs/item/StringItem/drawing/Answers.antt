@@ -1,6 +1,6 @@
 use Rattle.std.proofs.lemmas.Bool.{false≢true}
 use Rattle.ptree.specs.Drawing.{written_look}
-use Rattle.ptree.proofs.Utf8Texts.{texts_of_item}
+use Rattle.ptree.proofs.Drawing.Utf8Texts.{texts_of_item}
 use Rattle.ptree.proofs.item.StringItem.drawing.Goals as goal
 
 pub unreachable-requires : goal.unreachable-requires

@@ -1,7 +1,7 @@
 use Rattle.std.proofs.Common.{◌∙◌, ap, map, sym}
 use Rattle.ptree.specs.Tree.{tree_of, tree_own, tree_kids, shape_of_tree}
-use Rattle.ptree.proofs.TreeLemmas.{kids_of_item, map_twice}
-use Rattle.ptree.proofs.Unfold.{kids_of_unfold}
+use Rattle.ptree.proofs.Trees.ItemTrees.{kids_of_item, map_twice}
+use Rattle.ptree.proofs.Trees.Shapes.{kids_of_unfold}
 use Rattle.ptree.proofs.item.StringItemTreeItem.children.Goals as goal
 
 pub returns-clause-shapes : goal.returns-clause-shapes

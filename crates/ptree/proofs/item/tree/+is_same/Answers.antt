@@ -4,8 +4,8 @@ use Rattle.std.specs.Str.{bytes_eq}
 use Rattle.ptree.specs.Equality.{same_forest}
 use Rattle.ptree.specs.Tree.{none, tree_of, forest}
 use Rattle.ptree.specs.declared.item.StringItem.{StringItem, out-StringItem}
-use Rattle.ptree.proofs.TreeLemmas.{tree_of_item}
-use Rattle.ptree.proofs.SameTrees.{none_test}
+use Rattle.ptree.proofs.Trees.ItemTrees.{tree_of_item}
+use Rattle.ptree.proofs.Trees.SameTrees.{none_test}
 use Rattle.std.proofs.lemmas.Grind.{common_steps}
 use Rattle.ptree.proofs.item.tree.+is_same.Goals as goal
 

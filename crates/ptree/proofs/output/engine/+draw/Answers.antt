@@ -6,8 +6,8 @@ use Rattle.ptree.specs.Looks.{look_of, own_text}
 use Rattle.ptree.specs.Entries.{kid_entries, entries_below}
 use Rattle.ptree.specs.Pieces.{passing_piece}
 use Rattle.ptree.specs.Shape.{kids}
-use Rattle.ptree.proofs.Engine.{item_written, none_below, all_below, begun_none, begun_part, begun_then, begun_err, not_last, still_turned, long_enough, take_again, quiet}
-use Rattle.ptree.proofs.Written.{entries_none, entries_err, entry_part}
+use Rattle.ptree.proofs.Drawing.Engine.{item_written, none_below, all_below, begun_none, begun_part, begun_then, begun_err, not_last, still_turned, long_enough, take_again, quiet}
+use Rattle.ptree.proofs.Sinks.Written.{entries_none, entries_err, entry_part}
 use Rattle.std.proofs.lemmas.Grind.{common_steps}
 use Rattle.ptree.proofs.output.engine.+draw.Goals as goal
 

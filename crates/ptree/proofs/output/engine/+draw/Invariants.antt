@@ -3,8 +3,8 @@ use Rattle.ptree.specs.Line.{line_bytes}
 use Rattle.ptree.specs.Looks.{look_of, own_text}
 use Rattle.ptree.specs.Entries.{entries_below}
 use Rattle.ptree.specs.Style.{start_codes}
-use Rattle.ptree.specs.declared.style.DrawError.TheVariants.{Memory}
-use Rattle.ptree.proofs.Engine.{AreBegun}
+use Rattle.ptree.specs.declared.sink.DrawError.TheVariants.{Memory}
+use Rattle.ptree.proofs.Drawing.Engine.{AreBegun}
 use Rattle.ptree.proofs.output.engine.+draw.Given as goal
 
 -- an item takes a step more than what is below it, and that one more than its list

@@ -1,12 +1,12 @@
 use Rattle.std.proofs.Common.{◌≡◌, Err, subst}
 use Rattle.std.specs.List.{concat}
 use Rattle.ptree.specs.declared.output.look.Look.{Look as HeldLook}
-use Rattle.ptree.specs.declared.style.DrawError.TheVariants.{Memory}
+use Rattle.ptree.specs.declared.sink.DrawError.TheVariants.{Memory}
 use Rattle.ptree.specs.Entries.{drawn_entries}
 use Rattle.ptree.specs.Looks.{look_of}
 use Rattle.ptree.specs.Writing.{AppendsFirst, IsWritten}
-use Rattle.ptree.proofs.Engine.{nothing_yet}
-use Rattle.ptree.proofs.Written.{written_err}
+use Rattle.ptree.proofs.Drawing.Engine.{nothing_yet}
+use Rattle.ptree.proofs.Sinks.Written.{written_err}
 use Rattle.ptree.proofs.output.engine.draw.Goals as goal
 
 pub returns-in_err-brush-clause-bytes : goal.returns-in_err-brush-clause-bytes

@@ -3,8 +3,8 @@ use Rattle.std.specs.Io.KnownBytes.{Appends}
 use Rattle.ptree.specs.Line.{line_bytes}
 use Rattle.ptree.specs.Looks.{look_of}
 use Rattle.ptree.specs.Writing.{AppendsPart}
-use Rattle.ptree.proofs.Engine.{entry_gathered, nothing_yet}
-use Rattle.ptree.proofs.Written.{written_err}
+use Rattle.ptree.proofs.Drawing.Engine.{entry_gathered, nothing_yet}
+use Rattle.ptree.proofs.Sinks.Written.{written_err}
 use Rattle.std.proofs.lemmas.Grind.{common_steps}
 use Rattle.ptree.proofs.output.engine.draw_entry.Goals as goal
 

@@ -4,9 +4,9 @@ use Rattle.ptree.specs.Entries.{entries_below, drawn_entries}
 use Rattle.ptree.specs.Line.{line_bytes}
 use Rattle.ptree.specs.Looks.{look_of}
 use Rattle.ptree.specs.Style.{start_codes}
-use Rattle.ptree.proofs.Engine.{cut_back, start_kept, root_turned}
-use Rattle.ptree.proofs.Written.{entries_none, entries_err, entry_part, entry_then}
-use Rattle.ptree.proofs.Join.{root_written, root_alone}
+use Rattle.ptree.proofs.Drawing.Engine.{cut_back, start_kept, root_turned}
+use Rattle.ptree.proofs.Sinks.Written.{entries_none, entries_err, entry_part, entry_then}
+use Rattle.ptree.proofs.Drawing.Join.{root_written, root_alone}
 use Rattle.std.proofs.lemmas.Grind.{common_steps}
 use Rattle.ptree.proofs.output.engine.draw_root.Goals as goal
 

@@ -1,5 +1,5 @@
-use Rattle.ptree.proofs.Engine.{nothing_yet}
-use Rattle.ptree.proofs.Written.{written_err}
+use Rattle.ptree.proofs.Drawing.Engine.{nothing_yet}
+use Rattle.ptree.proofs.Sinks.Written.{written_err}
 use Rattle.ptree.proofs.output.engine.draw_with.Goals as goal
 
 pub returns-in_err-pen-clause-bytes : goal.returns-in_err-pen-clause-bytes

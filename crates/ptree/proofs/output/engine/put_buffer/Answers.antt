@@ -1,4 +1,4 @@
-use Rattle.ptree.proofs.Written.{written_rest}
+use Rattle.ptree.proofs.Sinks.Written.{written_rest}
 use Rattle.ptree.proofs.output.engine.put_buffer.Goals as goal
 
 pub returns-in-Ok-2-clause-bytes : goal.returns-in-Ok-2-clause-bytes

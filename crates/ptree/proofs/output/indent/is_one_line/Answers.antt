@@ -1,6 +1,6 @@
 use Rattle.std.proofs.Common.{lit<}
 use Rattle.std.proofs.lemmas.Str.Pattern.{contains_char}
-use Rattle.ptree.proofs.ReadablePieces.{no_line_feed_test}
+use Rattle.ptree.proofs.Pieces.PieceTests.{no_line_feed_test}
 use Rattle.ptree.proofs.output.indent.is_one_line.Goals as goal
 
 pub returns : goal.returns

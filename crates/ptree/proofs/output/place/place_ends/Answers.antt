@@ -1,6 +1,6 @@
 use Rattle.std.proofs.Common.{◌-◌, length, arith}
 use Rattle.std.proofs.lemmas.List.{take_rest}
-use Rattle.ptree.proofs.Overlaid.{ends_overlaid}
+use Rattle.ptree.proofs.Drawing.Overlaid.{ends_overlaid}
 use Rattle.ptree.proofs.output.place.place_ends.Goals as goal
 
 pub returns-clause-text : goal.returns-clause-text

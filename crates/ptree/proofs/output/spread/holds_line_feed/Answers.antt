@@ -1,6 +1,6 @@
 use Rattle.std.proofs.Common.{inl, inr, arith}
 use Rattle.std.proofs.lemmas.Bool.{cases_lt}
-use Rattle.ptree.proofs.Inserted.{no_line_feed_behind}
+use Rattle.ptree.proofs.Drawing.Inserted.{no_line_feed_behind}
 use Rattle.ptree.proofs.output.spread.holds_line_feed.Goals as goal
 
 pub returns : goal.returns

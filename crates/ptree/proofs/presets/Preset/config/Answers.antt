@@ -2,7 +2,7 @@ use Rattle.std.proofs.Common.{◌∙◌, ap, sym, subst}
 use Rattle.ptree.specs.Characters.{characters_of}
 use Rattle.ptree.specs.Config.{ConfigValue}
 use Rattle.ptree.specs.Preset.{drawn_with}
-use Rattle.ptree.proofs.Programs.{IsReadableValue, preset_readable}
+use Rattle.ptree.proofs.Pieces.Presets.{IsReadableValue, preset_readable}
 use Rattle.ptree.proofs.presets.Preset.config.Goals as goal
 
 pub returns-clause-value : goal.returns-clause-value

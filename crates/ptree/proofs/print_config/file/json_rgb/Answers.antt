@@ -1,5 +1,5 @@
 use Rattle.std.proofs.Common.{arith}
-use Rattle.ptree.proofs.ThreeBytes.{no_json_rgb}
+use Rattle.ptree.proofs.Config.ThreeBytes.{no_json_rgb}
 use Rattle.ptree.proofs.print_config.file.json_rgb.Goals as goal
 
 pub returns-in_default : goal.returns-in_default

@@ -3,7 +3,7 @@ use Rattle.std.specs.Iterator.Adapters.{rev_source}
 use Rattle.std.specs.Slice.Iter.{iter_rest}
 use Rattle.ptree.specs.Characters.{is_spelled}
 use Rattle.ptree.specs.Sources.{variables_of, last_value}
-use Rattle.ptree.proofs.LastVariables.{last_value-here, last_value-before, last_value-none}
+use Rattle.ptree.proofs.Config.LastVariables.{last_value-here, last_value-before, last_value-none}
 use Rattle.ptree.proofs.print_config.given.last_value.Goals as goal
 
 pub loop-variable-init : goal.loop-variable-init

@@ -1,4 +1,4 @@
-use Rattle.ptree.proofs.FieldLists.{each_field}
+use Rattle.ptree.proofs.Config.FieldLists.{each_field}
 use Rattle.ptree.proofs.print_config.loader.first_fault_in.Goals as goal
 
 pub returns-in-Some-clause-each : goal.returns-in-Some-clause-each

@@ -1,6 +1,6 @@
 use Rattle.std.proofs.Common.{◌≡◌, ◌<◌, length, true, rules, arith}
 use Rattle.std.specs.Str.{all_ascii_digits}
-use Rattle.ptree.proofs.Digits.{too_wide}
+use Rattle.ptree.proofs.Config.Digits.{too_wide}
 use Rattle.ptree.proofs.print_config.parse.parse_number.Goals as goal
 
 pub returns-in-Err : goal.returns-in-Err

@@ -2,7 +2,7 @@ use Rattle.std.proofs.Common.{eqb, arith}
 use Rattle.std.proofs.lemmas.Simd.{bitmask_splat, length-chunk}
 use lib.Lanes.{chunk}
 use mir.Syntax.{w8}
-use Rattle.ptree.proofs.Feeds.{feedless_none, feedless_some}
+use Rattle.ptree.proofs.Reading.LineFeedSearch.{feedless_none, feedless_some}
 use Rattle.ptree.proofs.read.feeds.feedless_of_sixteen.Goals as goal
 
 pub returns-then-found-eq0-clause-before : goal.returns-then-found-eq0-clause-before

@@ -1,6 +1,6 @@
 use Rattle.std.proofs.Common.{◌≡◌, length, arith}
 use Rattle.std.proofs.lemmas.Bool.{eqb-true, eq-eqb}
-use Rattle.ptree.proofs.PrefixWords.{begins_none, begins_one, begins_first}
+use Rattle.ptree.proofs.Reading.PrefixWords.{begins_none, begins_one, begins_first}
 use Rattle.ptree.proofs.read.prefix.begins.Goals as goal
 
 pub returns-then-width-eq0 : goal.returns-then-width-eq0

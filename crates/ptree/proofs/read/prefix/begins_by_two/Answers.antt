@@ -1,7 +1,7 @@
 use Rattle.std.proofs.Common.{◌-◌, length, sym, ap, ◌∙◌, w16, arith}
 use Rattle.std.specs.Int.{from_le_bytes, to_le_bytes}
 use Rattle.std.proofs.lemmas.Bool.{eqb-true, eq-eqb}
-use Rattle.ptree.proofs.PrefixWords.{begins_from_words, begins_word}
+use Rattle.ptree.proofs.Reading.PrefixWords.{begins_from_words, begins_word}
 use Rattle.ptree.proofs.read.prefix.begins_by_two.Goals as goal
 
 pub returns-then-two_at : goal.returns-then-two_at

@@ -7,8 +7,8 @@ use Rattle.ptree.specs.ReadItems.{read_text_of}
 use Rattle.ptree.specs.Outline.{line}
 use Rattle.ptree.specs.Pieces.{pieces_of}
 use Rattle.ptree.specs.Reached.{IsOwnLine, IsFurtherLine, ArePath}
-use Rattle.ptree.proofs.PartialSteps.{none_partial, none_lines}
-use Rattle.ptree.proofs.Scanning.{ScanSo, scan_start, scan_further, scan_own, scan_wrong, scan_open, scan_short, scan_before, root_before, root_short, root_wrong, scan_ends_wrong, scan_end, scan_moved, shorter}
+use Rattle.ptree.proofs.Trees.PartialSteps.{none_partial, none_lines}
+use Rattle.ptree.proofs.Reading.Scanning.{ScanSo, scan_start, scan_further, scan_own, scan_wrong, scan_open, scan_short, scan_before, root_before, root_short, root_wrong, scan_ends_wrong, scan_end, scan_moved, shorter}
 use Rattle.ptree.proofs.read.scan.read_lines.Goals as goal
 use Rattle.ptree.proofs.read.scan.read_lines.Goals.{in-Own+in-Some-drop_leaf_end+in_ok-into_string-in-Own+in_ok-add-in-Own, in-Further+in_ok-shown-in-Further}
 

@@ -1,6 +1,6 @@
 use Rattle.std.proofs.Common.{◌≡◌, ◌∙◌, rules, string_bytes}
 use Rattle.ptree.specs.Style.{style_of, painted_text}
-use Rattle.ptree.proofs.Styles.{no_codes, painted_plain}
+use Rattle.ptree.proofs.Styles.PaintedTexts.{no_codes, painted_plain}
 use Rattle.ptree.proofs.style.Style.paint.Goals as goal
 
 pub returns-clause-unset : goal.returns-clause-unset

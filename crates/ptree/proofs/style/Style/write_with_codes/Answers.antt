@@ -1,6 +1,6 @@
 use Rattle.std.proofs.Common.{◌∙◌, arith}
-use Rattle.ptree.proofs.Painting.{codes_part, text_part, all_written}
-use Rattle.ptree.proofs.Written.{written_err}
+use Rattle.ptree.proofs.Styles.Painting.{codes_part, text_part, all_written}
+use Rattle.ptree.proofs.Sinks.Written.{written_err}
 use Rattle.std.proofs.lemmas.Grind.{common_steps}
 use Rattle.ptree.proofs.style.Style.write_with_codes.Goals as goal
 

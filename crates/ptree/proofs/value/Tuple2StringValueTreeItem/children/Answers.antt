@@ -1,5 +1,5 @@
 use Rattle.ptree.specs.Value.{pair_of}
-use Rattle.ptree.proofs.Values.{kids_of_pair}
+use Rattle.ptree.proofs.Values.ValuePairs.{kids_of_pair}
 use Rattle.ptree.proofs.value.Tuple2StringValueTreeItem.children.Goals as goal
 
 pub returns-clause-shapes : goal.returns-clause-shapes

@@ -1,4 +1,4 @@
-use Rattle.ptree.proofs.Values.{data_of-Map}
+use Rattle.ptree.proofs.Values.ValuePairs.{data_of-Map}
 use Rattle.ptree.proofs.value.Value.pairs.Goals as goal
 
 pub returns-in-Map : goal.returns-in-Map

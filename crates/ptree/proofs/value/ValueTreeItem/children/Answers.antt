@@ -1,6 +1,6 @@
 use Rattle.std.proofs.Common.{[]}
 use Rattle.ptree.specs.Value.{data_of, pair_of}
-use Rattle.ptree.proofs.Values.{kids_of_pair}
+use Rattle.ptree.proofs.Values.ValuePairs.{kids_of_pair}
 use Rattle.ptree.proofs.value.ValueTreeItem.children.Goals as goal
 
 pub returns-clause-shapes : goal.returns-clause-shapes

@@ -3,7 +3,7 @@ use Rattle.ptree.specs.declared.print_config.OutputKind.TheVariants.{Stdout}
 use Rattle.ptree.specs.Document.{document}
 use Rattle.ptree.specs.Drawing.{look_by}
 use Rattle.ptree.specs.Loading.{effective_config}
-use Rattle.ptree.proofs.Documents.{nothing_drawn, no_entries}
+use Rattle.ptree.proofs.Values.Documents.{nothing_drawn, no_entries}
 use Rattle.ptree.proofs.value.document.draw_document.Goals as goal
 
 pub returns-clause-bytes : goal.returns-clause-bytes

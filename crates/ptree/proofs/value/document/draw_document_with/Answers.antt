@@ -1,7 +1,7 @@
 use Rattle.ptree.specs.Document.{document}
 use Rattle.ptree.specs.Drawing.{config_look}
 use Rattle.ptree.specs.declared.print_config.OutputKind.TheVariants.{Stdout}
-use Rattle.ptree.proofs.Documents.{nothing_drawn, no_entries, drawn_err, whole_err}
+use Rattle.ptree.proofs.Values.Documents.{nothing_drawn, no_entries, drawn_err, whole_err}
 use Rattle.std.proofs.Common.{arith}
 use Rattle.std.proofs.lemmas.Grind.{common_steps}
 use Rattle.ptree.proofs.value.document.draw_document_with.Goals as goal

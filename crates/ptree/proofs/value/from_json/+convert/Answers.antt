@@ -7,7 +7,7 @@ use Rattle.serde_json.specs.Written.{members_have_float}
 use Rattle.ptree.specs.Convert.{json_data, json_items, json_entries}
 use Rattle.ptree.specs.Data.{string}
 use Rattle.ptree.specs.Value.{data_of, entry_of, items_from, entries_from}
-use Rattle.ptree.proofs.Converted.{member_data, made_more, items_made, entries_made}
+use Rattle.ptree.proofs.Values.Converted.{member_data, made_more, items_made, entries_made}
 use Rattle.ptree.proofs.value.from_json.+convert.Goals as goal
 
 pub convert_values-returns : goal.convert_values-returns

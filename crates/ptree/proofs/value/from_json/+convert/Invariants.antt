@@ -3,7 +3,7 @@ use Rattle.serde_json.specs.View.{view, items_view, members_view}
 use Rattle.serde_json.specs.Written.{items_have_float, members_have_float}
 use Rattle.ptree.specs.Convert.{json_data}
 use Rattle.ptree.specs.Value.{data_of, entry_of}
-use Rattle.ptree.proofs.Converted.{member_data, AreMade}
+use Rattle.ptree.proofs.Values.Converted.{member_data, AreMade}
 use Rattle.ptree.proofs.value.from_json.+convert.Given as goal
 
 abbrev pub invariant-convert_values-loop-item : goal.invariant-convert_values-loop-item

@@ -2,7 +2,7 @@ use Rattle.std.proofs.Common.{sym, refl, subst}
 use Rattle.serde_json.specs.View.{view, members_view}
 use Rattle.ptree.specs.Convert.{json_data, json_entries}
 use Rattle.ptree.specs.Data.{ValuesAscend}
-use Rattle.ptree.proofs.Converted.{entries_ascend}
+use Rattle.ptree.proofs.Values.Converted.{entries_ascend}
 use Rattle.ptree.proofs.value.from_json.+walk.Goals as goal
 
 pub members_have_float-returns-clause-keys : goal.members_have_float-returns-clause-keys

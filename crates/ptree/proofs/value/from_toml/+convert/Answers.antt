@@ -8,7 +8,7 @@ use Rattle.toml.specs.View.{view, items_view, members_view}
 use Rattle.ptree.specs.Convert.{toml_item_fault, toml_member_fault, toml_data, toml_items, toml_entries}
 use Rattle.ptree.specs.Data.{string}
 use Rattle.ptree.specs.Value.{data_of, entry_of, items_from, entries_from}
-use Rattle.ptree.proofs.Converted.{member_data, made_more, items_made, entries_made}
+use Rattle.ptree.proofs.Values.Converted.{member_data, made_more, items_made, entries_made}
 use Rattle.ptree.specs.declared.value.Value.{the_lemmas}
 use Rattle.ptree.proofs.value.from_toml.+convert.Goals as goal
 

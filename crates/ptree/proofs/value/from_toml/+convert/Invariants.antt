@@ -2,7 +2,7 @@ use Rattle.std.proofs.Common.{◌≡◌, None, map, take, drop}
 use Rattle.toml.specs.View.{view, items_view, members_view}
 use Rattle.ptree.specs.Convert.{toml_item_fault, toml_member_fault, toml_data}
 use Rattle.ptree.specs.Value.{data_of, entry_of}
-use Rattle.ptree.proofs.Converted.{member_data, AreMade}
+use Rattle.ptree.proofs.Values.Converted.{member_data, AreMade}
 use Rattle.ptree.proofs.value.from_toml.+convert.Given as goal
 
 abbrev pub invariant-convert_values-loop-item : goal.invariant-convert_values-loop-item

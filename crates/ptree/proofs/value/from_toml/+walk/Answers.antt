@@ -2,7 +2,7 @@ use Rattle.std.proofs.Common.{sym, refl, subst}
 use Rattle.toml.specs.View.{view, members_view}
 use Rattle.ptree.specs.Convert.{toml_data, toml_entries}
 use Rattle.ptree.specs.Data.{ValuesAscend}
-use Rattle.ptree.proofs.Converted.{entries_ascend}
+use Rattle.ptree.proofs.Values.Converted.{entries_ascend}
 use Rattle.ptree.proofs.value.from_toml.+walk.Goals as goal
 
 pub fault_of_members-returns-clause-keys : goal.fault_of_members-returns-clause-keys

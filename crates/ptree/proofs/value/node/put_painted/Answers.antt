@@ -1,6 +1,6 @@
 use Rattle.std.proofs.Common.{◌∙◌, refl}
-use Rattle.ptree.proofs.Painting.{codes_part, text_part, all_written}
-use Rattle.ptree.proofs.Written.{written_err}
+use Rattle.ptree.proofs.Styles.Painting.{codes_part, text_part, all_written}
+use Rattle.ptree.proofs.Sinks.Written.{written_err}
 use Rattle.ptree.proofs.value.node.put_painted.Goals as goal
 
 pub returns-in_err-put_or_stop-clause-bytes : goal.returns-in_err-put_or_stop-clause-bytes

@@ -2,7 +2,7 @@ use Rattle.std.proofs.Common.{◌∙◌, [], sym, ap, refl, map}
 use Rattle.std.proofs.lemmas.List.{take_all}
 use Rattle.toml.specs.View.{view, items_view}
 use Rattle.ptree.specs.Convert.{toml_data, toml_items}
-use Rattle.ptree.proofs.Converted.{item_pairs_made}
+use Rattle.ptree.proofs.Values.Converted.{item_pairs_made}
 use Rattle.ptree.proofs.value.node.toml_items.Goals as goal
 
 pub returns : goal.returns

@@ -2,7 +2,7 @@ use Rattle.std.proofs.Common.{map}
 use Rattle.toml.specs.View.{view}
 use Rattle.ptree.specs.Convert.{toml_data}
 use Rattle.ptree.specs.Parts.{node_pair_of}
-use Rattle.ptree.proofs.Converted.{member_pair, AreMade}
+use Rattle.ptree.proofs.Values.Converted.{member_pair, AreMade}
 use Rattle.ptree.proofs.value.node.toml_members.Given as goal
 
 abbrev pub invariant-loop-key : goal.invariant-loop-key

@@ -1,5 +1,5 @@
 use Rattle.std.proofs.Common.{IsUtf8, sym, subst, to_z-of_z}
-use Rattle.ptree.proofs.NumberTexts.{IsUtf8-signed}
+use Rattle.ptree.proofs.Values.NumberTexts.{IsUtf8-signed}
 use Rattle.ptree.proofs.value.text.signed.Goals as goal
 
 pub end_of-requires-clause-utf8 : goal.end_of-requires-clause-utf8

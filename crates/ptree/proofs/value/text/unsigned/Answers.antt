@@ -1,5 +1,5 @@
 use Rattle.std.proofs.Common.{IsUtf8, sym, subst, arith}
-use Rattle.ptree.proofs.NumberTexts.{IsUtf8-decimal}
+use Rattle.ptree.proofs.Values.NumberTexts.{IsUtf8-decimal}
 use Rattle.ptree.proofs.value.text.unsigned.Goals as goal
 
 pub end_of-requires-clause-utf8 : goal.end_of-requires-clause-utf8

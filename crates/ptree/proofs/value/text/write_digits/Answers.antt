@@ -1,6 +1,6 @@
 use Rattle.std.proofs.Common.{◌≡◌, ◌≤◌, ◌+◌, ◌-◌, ◌/◌, ◌%◌, ◌++◌, drop, set, decimal, arith, length-set, ap, ◌∙◌}
-use Rattle.ptree.proofs.Decimals.{length-byte_digit}
-use Rattle.ptree.proofs.NumberTexts.{one_digit_more, first_digit, digits_length, room_before}
+use Rattle.ptree.proofs.Styles.Decimals.{length-byte_digit}
+use Rattle.ptree.proofs.Values.NumberTexts.{one_digit_more, first_digit, digits_length, room_before}
 use Rattle.ptree.proofs.value.text.write_digits.Goals as goal
 
 pub overflow_sub-start-in-loop-left : goal.overflow_sub-start-in-loop-left

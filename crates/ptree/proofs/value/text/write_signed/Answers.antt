@@ -1,7 +1,7 @@
 use Rattle.std.proofs.Common.{◌≡◌, ◌+◌, ◌-◌, arith, to_z-of_z}
 use Rattle.std.proofs.lemmas.Fmt.{length-decimal-le}
 use Rattle.std.proofs.lemmas.List.{drop-set}
-use Rattle.ptree.proofs.NumberTexts.{minus_first}
+use Rattle.ptree.proofs.Values.NumberTexts.{minus_first}
 use Rattle.ptree.proofs.value.text.write_signed.Goals as goal
 
 pub overflow_sub-room : goal.overflow_sub-room

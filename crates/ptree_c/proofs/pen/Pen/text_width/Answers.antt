@@ -1,5 +1,5 @@
 use Rattle.std.proofs.Common.{length, sym, ap}
-use Rattle.ptree.proofs.Inserted.{inserted_none}
+use Rattle.ptree.proofs.Drawing.Inserted.{inserted_none}
 use Rattle.ptree_c.specs.Pens.{inserted_below, brush_look}
 use Rattle.ptree_c.proofs.pen.Pen.text_width.Goals as goal
 

@@ -2,7 +2,7 @@ use Rattle.std.proofs.Common.{rules}
 use Rattle.std.proofs.lemmas.List.Sorted.{answers_always}
 use Rattle.std.proofs.lemmas.Result.{on_ok_weaker}
 use Rattle.ptree.specs.Tree.{tree_of}
-use Rattle.ptree.proofs.TreeLemmas.{tree_of_item}
+use Rattle.ptree.proofs.Trees.ItemTrees.{tree_of_item}
 use Rattle.ptree_trees.proofs.Sorting.{texts_rank, sorts_trees}
 use Rattle.ptree_trees.specs.Sort.{is_text_less}
 use Rattle.ptree_trees.proofs.change.sort.sort_by_text.Goals as goal

@@ -1,7 +1,7 @@
 use Rattle.std.proofs.Common.{◌≡◌, ◌<◌, length, true, rules, arith, ap}
 use Rattle.std.specs.Prelude.{is_some}
 use Rattle.std.specs.Str.{all_ascii_digits}
-use Rattle.ptree.proofs.Digits.{too_wide}
+use Rattle.ptree.proofs.Config.Digits.{too_wide}
 use Rattle.ptree_trees.proofs.settings.effects.is_byte.Goals as goal
 
 pub returns-in-Err : goal.returns-in-Err

@@ -2,9 +2,9 @@ use Rattle.std.proofs.Common.{◌++◌, ◌∷◌, [], ◌≡◌, ◌<◌, lengt
 use Rattle.ptree.specs.Outline.{line}
 use Rattle.ptree.specs.PartialTree.{Ascend, HasOneRoot, lines_from}
 use Rattle.ptree.specs.Tree.{tree, forest, tree_of}
-use Rattle.ptree.proofs.PartialTrees.{ascend_more, ascend_push, root_stays, root_pushed, root_lines_push, root_lines_open, outline_under}
-use Rattle.ptree.proofs.PartialSteps.{leaf_lines}
-use Rattle.ptree.proofs.TreeLemmas.{tree_of_roll}
+use Rattle.ptree.proofs.Trees.PartialTrees.{ascend_more, ascend_push, root_stays, root_pushed, root_lines_push, root_lines_open, outline_under}
+use Rattle.ptree.proofs.Trees.PartialSteps.{leaf_lines}
+use Rattle.ptree.proofs.Trees.ItemTrees.{tree_of_roll}
 use Rattle.ptree.proofs.builder.partial.PartialTree.add.Goals as goal
 
 pub returns-then-next-len-clause-partial : goal.returns-then-next-len-clause-partial

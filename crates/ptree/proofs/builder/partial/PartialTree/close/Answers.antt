@@ -1,8 +1,8 @@
 use Rattle.std.proofs.Common.{◌<◌, length, ◌∙◌, subst, arith}
 use Rattle.ptree.specs.PartialTree.{Ascend, HasOneRoot}
-use Rattle.ptree.proofs.PartialTrees.{ascend_pop, root_above}
-use Rattle.ptree.proofs.PartialSteps.{parents_count, closed_over}
-use Rattle.ptree.proofs.TreeLemmas.{tree_of_roll}
+use Rattle.ptree.proofs.Trees.PartialTrees.{ascend_pop, root_above}
+use Rattle.ptree.proofs.Trees.PartialSteps.{parents_count, closed_over}
+use Rattle.ptree.proofs.Trees.ItemTrees.{tree_of_roll}
 use Rattle.ptree.proofs.builder.partial.PartialTree.close.Goals as goal
 
 pub split_off-requires : goal.split_off-requires

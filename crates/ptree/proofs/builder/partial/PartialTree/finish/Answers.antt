@@ -1,9 +1,9 @@
 use Rattle.std.proofs.Common.{◌+◌, ◌≡◌, length, length-append, vec_len, eqb-true, subst, refl, sym, ◌∙◌, ap, arith}
 use Rattle.std.proofs.lemmas.List.{nil_from_length}
 use Rattle.ptree.specs.PartialTree.{Ascend}
-use Rattle.ptree.proofs.PartialTrees.{ascend_pop}
-use Rattle.ptree.proofs.PartialSteps.{finishing_more, root_finished}
-use Rattle.ptree.proofs.TreeLemmas.{tree_of_roll}
+use Rattle.ptree.proofs.Trees.PartialTrees.{ascend_pop}
+use Rattle.ptree.proofs.Trees.PartialSteps.{finishing_more, root_finished}
+use Rattle.ptree.proofs.Trees.ItemTrees.{tree_of_roll}
 use Rattle.ptree.proofs.builder.partial.PartialTree.finish.Goals as goal
 
 pub split_off-requires : goal.split_off-requires

@@ -1,7 +1,7 @@
 use Rattle.std.proofs.Common.{◌++◌, ◌∷◌, [], length, string_bytes}
 use Rattle.ptree.specs.Outline.{line}
 use Rattle.ptree.specs.PartialTree.{partial_lines}
-use Rattle.ptree.proofs.PartialSteps.{IsFinishing}
+use Rattle.ptree.proofs.Trees.PartialSteps.{IsFinishing}
 use Rattle.ptree.proofs.builder.partial.PartialTree.finish.Given as goal
 
 abbrev pub invariant-loop-parent : goal.invariant-loop-parent

@@ -1,8 +1,8 @@
 use Rattle.std.proofs.Common.{ℕ, ◌≡◌, ◌∙◌, rules}
 use Rattle.std.proofs.lemmas.List.{map-id}
 use Rattle.ptree.specs.Graph.{edges_of, neighbors_of, node_own, node_shape}
-use Rattle.ptree.proofs.Matched.{matched_map, matched_all}
-use Rattle.ptree.proofs.Unfold.{kids_of_unfold}
+use Rattle.ptree.proofs.Graphs.Matched.{matched_map, matched_all}
+use Rattle.ptree.proofs.Trees.Shapes.{kids_of_unfold}
 use Rattle.ptree.proofs.graph.drawing.GraphNodeTreeItem.children.Goals as goal
 
 pub returns-clause-shapes : goal.returns-clause-shapes

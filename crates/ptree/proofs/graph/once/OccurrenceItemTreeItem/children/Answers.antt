@@ -5,9 +5,9 @@ use Rattle.ptree.specs.Occurrence.{OccurrenceTree, occurrence_at, occurrence_own
 use Rattle.ptree.specs.Shape.{Shape}
 use Rattle.ptree.specs.declared.graph.once.OccurrenceItem.{OccurrenceItem}
 use Rattle.ptree.specs.declared.graph.places.Place.{Place}
-use Rattle.ptree.proofs.EdgeLists.{given_more}
-use Rattle.ptree.proofs.Places.{first_index, next_trees, kids_at_place}
-use Rattle.ptree.proofs.Unfold.{kids_of_unfold}
+use Rattle.ptree.proofs.Graphs.EdgeLists.{given_more}
+use Rattle.ptree.proofs.Graphs.Places.{first_index, next_trees, kids_at_place}
+use Rattle.ptree.proofs.Trees.Shapes.{kids_of_unfold}
 use Rattle.ptree.proofs.graph.once.OccurrenceItemTreeItem.children.Goals as goal
 
 pub loop-below-init : goal.loop-below-init

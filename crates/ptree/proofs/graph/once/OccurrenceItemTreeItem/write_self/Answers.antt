@@ -6,7 +6,7 @@ use Rattle.ptree.specs.Occurrence.{OccurrenceTree, is_repeated_size, occurrence_
 use Rattle.ptree.specs.Style.{style_of}
 use Rattle.ptree.specs.Writing.{IsWritten}
 use Rattle.ptree.specs.declared.graph.places.Place.{Place}
-use Rattle.ptree.proofs.Places.{tree_at_place}
+use Rattle.ptree.proofs.Graphs.Places.{tree_at_place}
 use Rattle.ptree.proofs.graph.once.OccurrenceItemTreeItem.write_self.Goals as goal
 
 pub returns-clause-bytes : goal.returns-clause-bytes

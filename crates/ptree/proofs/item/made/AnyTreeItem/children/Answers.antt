@@ -3,8 +3,8 @@ use Rattle.std.proofs.lemmas.Result.{IfOk-weaker}
 use Rattle.ptree.specs.Children.{children_of}
 use Rattle.ptree.specs.Item.{text_own, text_shape}
 use Rattle.ptree.specs.Shape.{kids}
-use Rattle.ptree.proofs.TreeLemmas.{map_twice}
-use Rattle.ptree.proofs.Unfold.{kids_of_unfold}
+use Rattle.ptree.proofs.Trees.ItemTrees.{map_twice}
+use Rattle.ptree.proofs.Trees.Shapes.{kids_of_unfold}
 use Rattle.ptree.proofs.item.made.AnyTreeItem.children.Goals as goal
 
 pub returns : goal.returns

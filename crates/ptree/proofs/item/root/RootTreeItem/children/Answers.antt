@@ -1,6 +1,6 @@
 use Rattle.std.proofs.Common.{map}
 use Rattle.ptree.specs.Style.{painted_text}
-use Rattle.ptree.proofs.Unfold.{kids_of_over}
+use Rattle.ptree.proofs.Trees.Shapes.{kids_of_over}
 use Rattle.ptree.proofs.item.root.RootTreeItem.children.Goals as goal
 
 pub returns-clause-shapes : goal.returns-clause-shapes

@@ -1,6 +1,6 @@
 use Rattle.std.proofs.Common.{true, false}
 use Rattle.ptree.specs.Pieces.{pieces_of}
-use Rattle.ptree.proofs.ReadablePieces.{kinds_apart_each}
+use Rattle.ptree.proofs.Pieces.PieceTests.{kinds_apart_each}
 use Rattle.ptree.proofs.output.indent.Indent.has_kinds_apart.Goals as goal
 
 pub returns-then-is_apart_from : goal.returns-then-is_apart_from

@@ -1,6 +1,6 @@
 use Rattle.std.proofs.Common.{true, false}
 use Rattle.ptree.specs.Pieces.{pieces_of}
-use Rattle.ptree.proofs.ReadablePieces.{one_line_each}
+use Rattle.ptree.proofs.Pieces.PieceTests.{one_line_each}
 use Rattle.ptree.proofs.output.indent.Indent.is_one_line.Goals as goal
 
 pub returns-then-are_one_line : goal.returns-then-are_one_line

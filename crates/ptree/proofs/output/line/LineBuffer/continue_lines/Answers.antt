@@ -2,7 +2,7 @@ use Rattle.std.proofs.Common.{◌++◌, take, sym, ap, ◌∙◌}
 use Rattle.std.proofs.lemmas.List.{take-append-drop}
 use Rattle.ptree.specs.Line.{line_bytes}
 use Rattle.ptree.specs.Looks.{look_of, further_text}
-use Rattle.ptree.proofs.Inserted.{inserted_none}
+use Rattle.ptree.proofs.Drawing.Inserted.{inserted_none}
 use Rattle.ptree.proofs.output.line.LineBuffer.continue_lines.Goals as goal
 
 pub returns-else-may_hold_line_feed : goal.returns-else-may_hold_line_feed

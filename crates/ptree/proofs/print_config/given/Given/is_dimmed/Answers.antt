@@ -1,4 +1,4 @@
-use Rattle.ptree.proofs.FieldLists.{each_style_field}
+use Rattle.ptree.proofs.Config.FieldLists.{each_style_field}
 use Rattle.ptree.proofs.print_config.given.Given.is_dimmed.Goals as goal
 
 pub returns-then-is_none-clause-each : goal.returns-then-is_none-clause-each

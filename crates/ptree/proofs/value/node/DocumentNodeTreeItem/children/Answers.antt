@@ -1,7 +1,7 @@
 use Rattle.std.proofs.Common.{◌≡◌, ◌∙◌, ap, map, sym}
 use Rattle.ptree.specs.Data.{string, value_pairs}
 use Rattle.ptree.specs.Parts.{part_of, node_pair_of}
-use Rattle.ptree.proofs.Values.{entry_pair-below, kids_of_pair}
+use Rattle.ptree.proofs.Values.ValuePairs.{entry_pair-below, kids_of_pair}
 use Rattle.ptree.proofs.value.node.DocumentNodeTreeItem.children.Goals as goal
 use Rattle.ptree.proofs.value.node.DocumentNodeTreeItem.children.Goals.{in-Labelled+in_ok-nodes-in-Labelled, in-Entry+in_ok-nodes-in-Entry}
 

@@ -1,0 +1,13 @@
+-- drawings: addresses, entries, the engine, and laws
+pub mod Addresses
+pub mod Join
+pub mod TreeDrawing
+pub mod Inserted
+pub mod Overlaid
+pub mod Engine
+pub mod Drawn
+pub mod CutTrees
+pub mod Subtrees
+pub mod Laws
+pub mod Utf8Texts
+pub mod Examples

@@ -1,0 +1,128 @@
+-- A graph that is drawn along its edges, with each node expanded once.
+use Rattle.std.specs.Prelude.{if◌then◌else◌, ◌≢◌, OnOk, slice_get}
+use Rattle.std.specs.Io.KnownBytes.{Appends}
+use Rattle.std.proofs.lemmas.Bool.Decides.{nat_tests}
+use Rattle.std.specs.List.{concat}
+use Rattle.std.proofs.Common.{◌≡◌, ℕ, zero, suc, ◌-◌, Bool, true, false, Option, Result, Ok, Err, List, [], ◌∷◌, ◌++◌, length, map, take, ap, refl, sym, subst, ◌∙◌, eqb, get_or, arith}
+use Rattle.std.proofs.lemmas.List.{append-nil}
+use Rattle.std.proofs.lemmas.Option.{slice_get-get_or}
+use Rattle.ptree.specs.declared.graph.Graph.{Graph}
+use Rattle.ptree.specs.Drawing.{Look}
+use Rattle.ptree.specs.Entries.{shape_entry, kid_entries, entries_below, item_entries, drawn_entries}
+use Rattle.ptree.specs.Graph.{weights_of, edges_of, neighbors_of}
+use Rattle.ptree.specs.GraphLinks.{newest_from}
+use Rattle.ptree.specs.Growing.{Grown, grown, is_seen, row_occurrences, grow, kids_grown, kids_seen, leaf_shape, flags_of}
+use Rattle.ptree.specs.Looks.{own_entry}
+use Rattle.ptree.specs.Occurrence.{OccurrenceTree, none, occurrence, row, occurrence_kids, occurrence_own, occurrence_shape}
+use Rattle.ptree.specs.Pieces.{turning_piece, passing_piece}
+use Rattle.ptree.specs.Shape.{Shape, kids}
+use Rattle.ptree.specs.Writing.{AppendsPart}
+use Rattle.ptree.proofs.Graphs.EdgeLists.{newest_within, newest_splits}
+use Rattle.ptree.proofs.Drawing.Engine.{AreBegun}
+use Rattle.ptree.proofs.Graphs.Growth.{grow_next}
+use Rattle.ptree.proofs.Graphs.NodeFlags.{seen_all}
+use Rattle.ptree.proofs.Graphs.Occurrences.{occurrences_of_row}
+use Rattle.ptree.proofs.Trees.Shapes.{kids_of_unfold}
+
+-- whether the edge after which no more come is reached
+pub last_tells : (edges : List (ℕ × ℕ)) (v m : ℕ) → m ≡ newest_from (take m edges) v → eqb m 0 ≡ eqb (length (neighbors_of (take m edges) v)) 0
+last_tells edges v zero h = refl
+last_tells edges v (suc i) h =
+    let e = get_or edges i (0, 0) in
+    let split = newest_splits edges v i e (slice_get-get_or edges i (0, 0) (omega (arith, newest_within edges v (suc i) h))) h in
+    let one : eqb (suc i) 0 ≡ false = grind (arith, nat_tests) in
+    let other : eqb (length (e.1 ∷ neighbors_of (take i edges) v)) 0 ≡ false = grind (arith, nat_tests) in
+    one ∙ sym (ap (λ us. eqb (length us) 0) split.1 ∙ other)
+
+-- there are as many occurrences as nodes
+pub length_row : (f : List Bool → ℕ → Grown) (seen : List Bool) (us : List ℕ) → length (row_occurrences f seen us) ≡ length us
+length_row f seen [] = refl
+length_row f seen (u ∷ us) = ap suc (length_row f (f seen u).seen us)
+
+module _ (below : ℕ → List ℕ) where
+  -- an occurrence is one of its node
+  grown_node : (levels : ℕ) (seen : List Bool) (v : ℕ) → (grow below levels seen v).occurrence.node ≡ v
+  grown_node zero seen v = refl
+  grown_node (suc levels) seen v = elim (is_seen seen v) as (λ b. (if b then grown (occurrence v true none) seen else grown (occurrence v false (row (kids_grown below levels seen v))) (kids_seen below levels seen v)).occurrence.node ≡ v) [ true ↦ refl | false ↦ refl ]
+
+  -- and repeated where that is seen
+  grown_mark : (levels : ℕ) (seen : List Bool) (v : ℕ) → (grow below levels seen v).occurrence.repeated ≡ is_seen seen v
+  grown_mark zero seen v = refl
+  grown_mark (suc levels) seen v = elim (is_seen seen v) as (λ b. (if b then grown (occurrence v true none) seen else grown (occurrence v false (row (kids_grown below levels seen v))) (kids_seen below levels seen v)).occurrence.repeated ≡ b) [ true ↦ refl | false ↦ refl ]
+
+  -- what is below one that is expanded here
+  pub kids_below : (levels : ℕ) (seen : List Bool) (v : ℕ) → levels ≢ 0 → is_seen seen v ≡ false → occurrence_kids (grow below levels seen v).occurrence ≡ kids_grown below (levels - 1) seen v
+  kids_below levels seen v h s = ap (λ (g : Grown). occurrence_kids g.occurrence) (grow_next below levels seen v h s) ∙ occurrences_of_row (kids_grown below (levels - 1) seen v)
+
+  -- which nodes are seen after it
+  pub seen_below : (levels : ℕ) (seen : List Bool) (v : ℕ) → levels ≢ 0 → is_seen seen v ≡ false → (grow below levels seen v).seen ≡ kids_seen below (levels - 1) seen v
+  seen_below levels seen v h s = ap (λ (g : Grown). g.seen) (grow_next below levels seen v h s)
+
+-- nothing is below an occurrence that is one with nothing below it
+pub no_kids : (g : Grown) (v : ℕ) (m : Bool) (seen : List Bool) → g ≡ grown (occurrence v m none) seen → occurrence_kids g.occurrence ≡ []
+no_kids g v m seen e = ap (λ (z : Grown). occurrence_kids z.occurrence) e
+
+module _ {N : Type 0} (text : N → List ℕ) (g : Graph N) (mark : List ℕ) where
+  -- the shape of an occurrence
+  abbrev pub shape_of : OccurrenceTree → Shape
+  shape_of = occurrence_shape text g mark
+
+  -- what is below a shape
+  pub kids_are : (t : OccurrenceTree) (ts : List OccurrenceTree) → occurrence_kids t ≡ ts → map shape_of ts ≡ kids (shape_of t)
+  kids_are t ts e = ap (map shape_of) (sym e) ∙ kids_of_unfold (occurrence_own text g mark) occurrence_kids t
+
+  -- what is at a place has the own entry of any occurrence of its node with its mark
+  own_alike : (look : Look) (outer : List ℕ) (last : Option Bool) (weight : Option N) (repeated : Bool) (t : OccurrenceTree) → weight ≡ slice_get (weights_of g) t.node → repeated ≡ t.repeated
+      → own_entry look outer last (leaf_shape text weight mark repeated) ≡ own_entry look outer last (shape_of t)
+  own_alike look outer last weight repeated t e m =
+      ap (λ w. own_entry look outer last (leaf_shape text w mark repeated)) e
+      ∙ ap (λ b. own_entry look outer last (leaf_shape text (slice_get (weights_of g) t.node) mark b)) m
+
+  -- so also where a graph is drawn
+  own_grown : (look : Look) (outer : List ℕ) (last : Option Bool) (levels : ℕ) (items : List Bool) (v : ℕ) (weight : Option N) (repeated : Bool) → weight ≡ slice_get (weights_of g) v → repeated ≡ is_seen items v
+      → own_entry look outer last (leaf_shape text weight mark repeated) ≡ own_entry look outer last (shape_of (grow (neighbors_of (edges_of g)) levels (flags_of g items) v).occurrence)
+  own_grown look outer last levels items v weight repeated e flag =
+      let below = neighbors_of (edges_of g) in
+      let seen = flags_of g items in
+      own_alike look outer last weight repeated (grow below levels seen v).occurrence (e ∙ ap (slice_get (weights_of g)) (sym (grown_node below levels seen v)))
+      (flag ∙ (sym (seen_all (length (weights_of g)) items v) ∙ sym (grown_mark below levels seen v)))
+
+  -- of which a part is written
+  pub own_part : (a b : Option (List ℕ)) (look : Look) (outer : List ℕ) (last : Option Bool) (levels : ℕ) (items : List Bool) (v : ℕ) (weight : Option N) (repeated : Bool)
+      → AppendsPart a b (own_entry look outer last (leaf_shape text weight mark repeated)) → weight ≡ slice_get (weights_of g) v → repeated ≡ is_seen items v
+      → AppendsPart a b (own_entry look outer last (shape_of (grow (neighbors_of (edges_of g)) levels (flags_of g items) v).occurrence))
+  own_part a b look outer last levels items v weight repeated h e flag = subst (λ (z : List ℕ). AppendsPart a b z) (own_grown look outer last levels items v weight repeated e flag) h
+
+  -- or all of it
+  pub own_whole : (a b : Option (List ℕ)) (look : Look) (outer : List ℕ) (last : Option Bool) (levels : ℕ) (items : List Bool) (v : ℕ) (weight : Option N) (repeated : Bool)
+      → Appends a b (own_entry look outer last (leaf_shape text weight mark repeated)) → weight ≡ slice_get (weights_of g) v → repeated ≡ is_seen items v
+      → Appends a b (own_entry look outer last (shape_of (grow (neighbors_of (edges_of g)) levels (flags_of g items) v).occurrence))
+  own_whole a b look outer last levels items v weight repeated h e flag = subst (λ (z : List ℕ). Appends a b z) (own_grown look outer last levels items v weight repeated e flag) h
+
+-- nothing is below a shape without children
+none_under : (look : Look) (left : ℕ) (outer : List ℕ) (x : Shape) → kids x ≡ [] → entries_below look left outer x ≡ []
+none_under look zero outer x h = refl
+none_under look (suc left) outer x h = ap (kid_entries look (entries_below look left) outer) h
+
+-- an entry alone
+alone_written : (a b : Option (List ℕ)) (e : List ℕ) (es : List (List ℕ)) → es ≡ [] → Appends a b e → Appends a b (concat (e ∷ es))
+alone_written a b e es h w = subst (λ (z : List (List ℕ)). Appends a b (concat (e ∷ z))) (sym h) (subst (λ (y : List ℕ). Appends a b y) (sym (append-nil e)) w)
+
+-- an item without children is written with its own entry
+pub leaf_written : (look : Look) (left : ℕ) (outer : List ℕ) (last : Bool) (x : Shape) (a b : Option (List ℕ)) → kids x ≡ []
+    → Appends a b (shape_entry look (outer ++ turning_piece look.pieces last) (outer ++ passing_piece look.pieces last) x) → Appends a b (concat (item_entries look left outer last x))
+leaf_written look left outer last x a b h w = alone_written a b _ (entries_below look left (outer ++ passing_piece look.pieces last) x) (none_under look left (outer ++ passing_piece look.pieces last) x h) w
+
+-- and so is a root
+pub leaf_root : (look : Look) (depth : ℕ) (x : Shape) (a b : Option (List ℕ)) → kids x ≡ [] → Appends a b (shape_entry look [] [] x) → Appends a b (concat (drawn_entries look depth x))
+leaf_root look depth x a b h w = alone_written a b _ (entries_below look depth [] x) (none_under look depth [] x h) w
+
+-- all children were drawn
+pub all_begun : (look : Look) (below : List ℕ → Shape → List (List ℕ)) (outer : List ℕ) (all rest : List Shape) (a b : Option (List ℕ)) → rest ≡ [] → AreBegun look below outer all rest a b → Appends a b (concat (kid_entries look below outer all))
+all_begun look below outer all rest a b ended h =
+    subst (λ (es : List (List ℕ)). Appends a b (concat es)) (sym (append-nil h.0) ∙ (ap (λ ks. h.0 ++ kid_entries look below outer ks) (sym ended) ∙ h.1)) h.2
+
+-- the flags after a call that was all right, by another name
+pub seen_ok : {A E : Type 0} (x y z : List Bool) (r : Result A E) → y ≡ z → OnOk r (x ≡ y) → OnOk r (x ≡ z)
+seen_ok x y z (Ok v) e h = h ∙ e
+seen_ok x y z (Err v) e h = h

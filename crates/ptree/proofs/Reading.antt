@@ -1,0 +1,22 @@
+-- reading: which pieces a line shows, which items, and which tree
+pub mod Markers
+pub mod OwnBytes
+pub mod ItemsOnce
+pub mod Levels
+pub mod LastFlags
+pub mod Paths
+pub mod SpelledForms
+pub mod LaterLines
+pub mod LineEnds
+pub mod Continuations
+pub mod FirstLines
+pub mod NextLines
+pub mod ReachedLines
+pub mod ReachedEnds
+pub mod OpenItems
+pub mod FoundPieces
+pub mod SkippedPieces
+pub mod OpenLines
+pub mod Scanning
+pub mod LineFeedSearch
+pub mod PrefixWords

@@ -1,0 +1,75 @@
+-- Prefixes of drawings that end in a line feed.
+use Rattle.std.proofs.Common.{◌≡◌, ◌≢◌, ℕ, zero, suc, ◌⊎◌, inl, inr, Bool, not, List, [], ◌∷◌, ◌++◌, length, length-append, refl, sym, ap, ◌∙◌, subst, arith}
+use Rattle.std.proofs.lemmas.List.Elements.{All-nil, All-head, All-tail, All-append}
+use Rattle.ptree.specs.Drawing.{Look, continued_prefix}
+use Rattle.ptree.specs.Flags.{has_later, last_flags, pieces_by}
+use Rattle.ptree.specs.Outline.{Line}
+use Rattle.ptree.specs.Pieces.{Pieces, turning_piece, passing_piece, passing_all}
+use Rattle.ptree.specs.Readable.{IsReadable, IsReadableWith}
+use Rattle.ptree.specs.Style.{StyleValue, start_codes, end_codes, painted_text}
+use Rattle.ptree.specs.Texts.{HasNoLineFeed}
+use Rattle.ptree.proofs.Styles.PaintedTexts.{no_line_feed_start, no_line_feed_end}
+
+-- ## Lists
+
+-- the first line feed of a text comes after a prefix without one
+pub after_prefix : (a x g e : List ℕ) → HasNoLineFeed a → a ++ x ≡ g ++ 10 ∷ e → (h : List ℕ) × (g ≡ a ++ h) × (x ≡ h ++ 10 ∷ e)
+after_prefix [] x g e h is = (g, refl, is)
+after_prefix (b ∷ a) x [] e h is = absurd (All-head (λ c. c ≢ 10) b a h (let heads : b ≡ 10 = cc in heads))
+after_prefix (b ∷ a) x (c ∷ g) e h is =
+    let heads : b ≡ c = cc in
+    let tails : a ++ x ≡ g ++ 10 ∷ e = cc in
+    let rest = after_prefix a x g e (All-tail (λ c. c ≢ 10) b a h) tails in
+    (rest.0, ap (λ z. z ∷ g) (sym heads) ∙ ap (λ z. b ∷ z) rest.1, rest.2)
+
+-- a text ends in a line feed
+abbrev pub Ends : List ℕ → Type 0
+Ends x = (g : List ℕ) × (x ≡ g ++ 10 ∷ [])
+
+-- the empty text holds no byte
+nothing_there : (g e : List ℕ) (b : ℕ) → [] ≡ g ++ b ∷ e → ⊥
+nothing_there g e b is = let long = ap length is in omega (arith, simp length-append at long)
+
+-- a nonempty end of such a text ends in a line feed
+pub ends_tail : (g b : List ℕ) (c : ℕ) (f : List ℕ) → g ++ 10 ∷ [] ≡ b ++ c ∷ f → Ends (c ∷ f)
+ends_tail g [] c f e = (g, sym e)
+ends_tail [] (v ∷ b) c f e = let tails : [] ≡ b ++ c ∷ f = cc in absurd (nothing_there b f c tails)
+ends_tail (w ∷ g) (v ∷ b) c f e = let tails : g ++ 10 ∷ [] ≡ b ++ c ∷ f = cc in ends_tail g b c f tails
+
+-- a text is empty or ends in a line feed
+abbrev pub Whole : List ℕ → Type 0
+Whole x = (x ≡ []) ⊎ Ends x
+
+-- only whole lines come before a line
+no_more : (a b c : List ℕ) → Whole a → a ≡ b ++ c → HasNoLineFeed c → c ≡ []
+no_more a b [] w e h = refl
+no_more a b (x ∷ c) (inl none) e h = absurd (nothing_there b c x (sym none ∙ e))
+no_more a b (x ∷ c) (inr (g, is)) e h =
+    let (g', ends) = ends_tail g b x c (sym is ∙ e) in
+    absurd (holds g' (subst HasNoLineFeed ends h))
+  where
+    holds : (g : List ℕ) → HasNoLineFeed (g ++ 10 ∷ []) → ⊥
+    holds [] h = All-head (λ c. c ≢ 10) 10 [] h refl
+    holds (y ∷ g) h = holds g (All-tail (λ c. c ≢ 10) y (g ++ 10 ∷ []) h)
+
+-- ## Items
+
+-- passing pieces hold no line feed, if the pieces are readable
+pub no_feed_passing : (p : Pieces) → IsReadable p → (flags : List Bool) → HasNoLineFeed (passing_all p flags)
+no_feed_passing p h [] = All-nil (λ c. c ≢ 10)
+no_feed_passing p h (b ∷ flags) = All-append (λ c. c ≢ 10) (passing_piece p b) (passing_all p flags) (h.no_line_feed b).1 (no_feed_passing p h flags)
+
+-- the pieces of a line hold no line feed
+pub no_feed_pieces : (p : Pieces) → IsReadable p → (o : List Line) (n : ℕ) → HasNoLineFeed (pieces_by p o n)
+no_feed_pieces p h o zero = All-nil (λ c. c ≢ 10)
+no_feed_pieces p h o (suc n) =
+    All-append (λ c. c ≢ 10) (passing_all p (last_flags o n)) (turning_piece p (not (has_later o (suc n)))) (no_feed_passing p h (last_flags o n)) (h.no_line_feed (not (has_later o (suc n)))).0
+
+-- a painted text without a line feed holds none
+pub no_feed_painted : (s : StyleValue) (text : List ℕ) → HasNoLineFeed text → HasNoLineFeed (painted_text s text)
+no_feed_painted s text h =
+    All-append (λ c. c ≢ 10) (start_codes s ++ text) (end_codes s) (All-append (λ c. c ≢ 10) (start_codes s) text (no_line_feed_start s) h) (no_line_feed_end s)
+
+-- the prefix of a further line holds no line feed
+pub no_feed_continued : (k : Look) → IsReadableWith k.pieces k.marker → (flags : List Bool) → HasNoLineFeed (continued_prefix k (passing_all k.pieces flags))
+no_feed_continued k h flags = no_feed_painted k.branch (passing_all k.pieces flags ++ k.marker) (All-append (λ c. c ≢ 10) (passing_all k.pieces flags) k.marker (no_feed_passing k.pieces h.pieces flags) h.no_line_feed)

@@ -1,0 +1,43 @@
+-- Searches for line feeds by vectors.
+use Rattle.std.proofs.Common.{◌≡◌, ◌≢◌, ℕ, ◌+◌, ◌≤◌, ◌<◌, Bool, cond, not, eqb, List, length, length-take, get_or, take, drop, ◌∷◌, ◌++◌, map, sym, ap, ◌∙◌, arith}
+use Rattle.std.specs.List.{prefix_len}
+use Rattle.std.proofs.lemmas.Bool.{eqb-true, eqb-false, eq-eqb, ne_eqb}
+use Rattle.std.proofs.lemmas.List.{get_or-take, drop_more, take-append-drop}
+use Rattle.std.proofs.lemmas.Simd.{first_set_mask_l, run_in_chunk_le, run_in_chunk_fails, run_in_chunk_stops, length-chunk}
+use Rattle.ptree.specs.Texts.{HasNoLineFeed}
+use Rattle.ptree.proofs.Drawing.Inserted.{no_line_feed_from_reads}
+use lib.Count.{count_trailing_zeros}
+use lib.Lanes.{chunk, mask_l}
+
+-- how many of the sixteen bytes at a place precede the first line feed
+pub record IsFeedless (bytes : List ℕ) (place n : ℕ) : Type 0 where
+  pub most : n ≤ 16
+  pub before : (k : ℕ) → place ≤ k → k < place + n → get_or bytes k 0 ≢ 10
+  pub at : n < 16 → get_or bytes (place + n) 0 ≡ 10
+
+-- the lowest bit of the mask of a load is at its first line feed
+feedless_of_mask : (bytes : List ℕ) (place m n : ℕ) → place + 16 ≤ length bytes → m ≡ mask_l (map (λ x. eqb x 10) (chunk place 16 bytes)) → n ≡ cond (eqb m 0) 16 (count_trailing_zeros 64 m) → IsFeedless bytes place n
+feedless_of_mask bytes place m n room is count =
+    let p : ℕ → Bool = λ x. eqb x 10 in
+    let counted : n ≡ prefix_len (λ x. not (p x)) (chunk place 16 bytes) =
+    count ∙ (ap (λ z. cond (eqb z 0) 16 (count_trailing_zeros 64 z)) is ∙ first_set_mask_l p (chunk place 16 bytes) 16 (length-chunk place 16 bytes room) (omega arith)) in
+    record {
+      most = run_in_chunk_le p bytes place 16 n 0 room counted;
+      before = λ k low high. eqb-false _ 10 (run_in_chunk_fails p bytes place 16 n 0 room counted k low high);
+      at = λ less. eqb-true _ 10 (run_in_chunk_stops p bytes place 16 n 0 room counted less);
+    }
+
+-- an empty mask: there is none
+pub feedless_none : (bytes : List ℕ) (place m : ℕ) → place + 16 ≤ length bytes → m ≡ mask_l (map (λ x. eqb x 10) (chunk place 16 bytes)) → m ≡ 0 → IsFeedless bytes place 16
+feedless_none bytes place m room is none = feedless_of_mask bytes place m 16 room is (sym (ap (λ z. cond z 16 (count_trailing_zeros 64 m)) (eq-eqb m 0 none)))
+
+-- a mask with a bit
+pub feedless_some : (bytes : List ℕ) (place m : ℕ) → place + 16 ≤ length bytes → m ≡ mask_l (map (λ x. eqb x 10) (chunk place 16 bytes)) → m ≢ 0 → IsFeedless bytes place (count_trailing_zeros 64 m)
+feedless_some bytes place m room is some = feedless_of_mask bytes place m (count_trailing_zeros 64 m) room is (sym (ap (λ z. cond z 16 (count_trailing_zeros 64 m)) (ne_eqb m 0 some)))
+
+-- the bytes before the first line feed, and those after it
+pub line_at_feed : (text : List ℕ) (end : ℕ) → end < length text → ((k : ℕ) → k < end → get_or text k 0 ≢ 10) → get_or text end 0 ≡ 10 → HasNoLineFeed (take end text) × (text ≡ take end text ++ 10 ∷ drop (end + 1) text)
+line_at_feed text end within before feed = (
+  no_line_feed_from_reads (take end text) (λ k less e. let low : k < end = omega (arith, length-take end text, less) in before k low (sym (get_or-take end text k 0 low) ∙ e)),
+  sym (take-append-drop end text) ∙ (ap (λ z. take end text ++ z) (drop_more text end 0 within) ∙ ap (λ z. take end text ++ z ∷ drop (end + 1) text) feed),
+)

@@ -1,0 +1,233 @@
+-- Which lines continue the open items.
+use Rattle.std.proofs.Common.{◌≡◌, ◌≢◌, ℕ, zero, suc, ◌<◌, ◌≤◌, inl, inr, Bool, not, List, [], ◌∷◌, ◌++◌, length, take, get_or, refl, sym, ap, ◌∙◌, subst, append_assoc, add-one, arith}
+use Rattle.std.proofs.lemmas.List.Elements.{All-append}
+use Rattle.std.proofs.lemmas.Bool.{cases_lt, eq-eqb, ne_eqb}
+use Rattle.std.proofs.lemmas.List.{append_cancel_left, length_push, get_or-take, length-take-le}
+use Rattle.ptree.specs.declared.read.lines.Flags.{Flags}
+use Rattle.ptree.specs.Drawing.{Look, continued_prefix}
+use Rattle.ptree.specs.Flags.{has_later, last_flags, pieces_by, passing_by}
+use Rattle.ptree.specs.Outline.{Line, line}
+use Rattle.ptree.specs.Pieces.{Pieces, turning_piece}
+use Rattle.ptree.specs.Reached.{allows, any_flags, Allows, own_prefix, NoPiece, IsCutTo, AreSome, ArePath, IsFound, CanClose, CutsPassing, CutsPieces, IsFurtherLine, IsOwnLine, BeginsWrong}
+use Rattle.ptree.specs.Readable.{IsReadableWith}
+use Rattle.ptree.specs.Spelled.{ArePiecesAt, ArePassing}
+use Rattle.ptree.specs.Style.{start_codes, end_codes}
+use Rattle.ptree.specs.Texts.{HasNoLineFeed}
+use Rattle.ptree.proofs.Reading.LineEnds.{no_feed_passing}
+use Rattle.ptree.proofs.Reading.LastFlags.{length-last_flags}
+use Rattle.ptree.proofs.Reading.Levels.{has_later_deeper, has_later_here}
+use Rattle.ptree.proofs.Reading.Markers.{passings_once, marker_is, own_prefix_split}
+use Rattle.ptree.proofs.Pieces.Prefixes.{apart_never, same_prefix, same_kind}
+use Rattle.ptree.proofs.Styles.PaintedTexts.{no_line_feed_start, no_line_feed_end}
+use Rattle.ptree.proofs.Reading.OpenItems.{some_flag, allows_any, passing_deeper}
+use Rattle.ptree.proofs.Reading.FoundPieces.{found_at}
+
+-- ## Lines that cannot continue a drawing
+
+-- a text without the branch's codes begins with neither kind of line
+pub no_start : (k : Look) (depth : ℕ) (fs : List Flags) (x : List ℕ) → ((z : List ℕ) → x ≢ start_codes k.branch ++ z) → BeginsWrong k depth fs x
+no_start k depth fs x h = record {
+  no_further = λ o z a e. h _ (e ∙ marker_is k (passing_by k.pieces o (length fs)) z);
+  no_own = λ n o z low high deep a e. h _ (e ∙ own_prefix_split k (pieces_by k.pieces o n) z);
+}
+
+-- what must still be shown wrong, given the pieces that were found
+pub begins_wrong : (k : Look) → IsReadableWith k.pieces k.marker → (depth : ℕ) (fs new : List Flags) (x text shown rest : List ℕ) (n : ℕ) → x ≡ start_codes k.branch ++ text → IsFound k.pieces fs new text shown rest n
+    → ((z : List ℕ) → n ≡ length fs → rest ≢ k.marker ++ (end_codes k.branch ++ z))
+    → ((b : Bool) (o : List Line) (z : List ℕ) → suc n ≤ depth → Allows new (line (suc n) [] ∷ o) → rest ≢ turning_piece k.pieces b ++ (end_codes k.branch ++ (start_codes k.leaf ++ z)))
+    → BeginsWrong k depth fs x
+begins_wrong k readable depth fs new x text shown rest n is h no_marker no_turn = record { no_further = further; no_own = own } where
+  p : Pieces
+  p = k.pieces
+
+  further : (o : List Line) (z : List ℕ) → Allows fs o → x ≢ continued_prefix k (passing_by p o (length fs)) ++ z
+  further o z a e =
+      let whole : text ≡ passing_by p o (length fs) ++ (k.marker ++ (end_codes k.branch ++ z)) =
+      append_cancel_left (start_codes k.branch) _ _ (sym is ∙ (e ∙ marker_is k (passing_by p o (length fs)) z)) in
+      let there = found_at p readable.pieces fs new text shown rest n h (length fs) o k.marker (end_codes k.branch ++ z) (omega arith) a (λ b. (readable.apart b).1) whole in
+      no_marker z there.0 there.2
+
+  own : (m : ℕ) (o : List Line) (z : List ℕ) → 0 < m → m ≤ suc (length fs) → m ≤ depth → Allows fs (line m [] ∷ o) → x ≢ own_prefix k (pieces_by p o m) ++ z
+  own zero o z low high deep a e = absurd (omega arith)
+  own (suc m) o z low high deep a e =
+      let b : Bool = not (has_later o (suc m)) in
+      let tail : List ℕ = end_codes k.branch ++ (start_codes k.leaf ++ z) in
+      let start : text ≡ (passing_by p o m ++ turning_piece p b) ++ tail = append_cancel_left (start_codes k.branch) _ _ (sym is ∙ (e ∙ own_prefix_split k (pieces_by p o (suc m)) z)) in
+      let whole : text ≡ passing_by p (line (suc m) [] ∷ o) m ++ (turning_piece p b ++ tail) =
+      start ∙ (append_assoc (passing_by p o m) (turning_piece p b) tail ∙ ap (λ y. y ++ (turning_piece p b ++ tail)) (sym (passing_deeper p m o))) in
+      let there = found_at p readable.pieces fs new text shown rest n h m (line (suc m) [] ∷ o) (turning_piece p b) tail (omega (arith, high)) a (λ d. readable.pieces.turning_passing b d) whole in
+      let same = there.0 in
+      let kept : Allows new (line (suc m) [] ∷ o) = (h.cut (line (suc m) [] ∷ o)).1 (a, ap (λ y. passing_by p (line (suc m) [] ∷ o) y) same ∙ there.1) in
+      no_turn b o z (omega (arith, deep, same)) (subst (λ y. Allows new (line (suc y) [] ∷ o)) (sym same) kept) there.2
+
+-- a line with a turning piece there is wrong
+pub turned_wrong : (k : Look) → IsReadableWith k.pieces k.marker → (depth : ℕ) (fs new : List Flags) (x text shown rest turned : List ℕ) (n : ℕ) (flags : Flags) → x ≡ start_codes k.branch ++ text → IsFound k.pieces fs new text shown rest n
+    → IsCutTo (turning_piece k.pieces) any_flags rest flags turned
+    → ((o : List Line) (z : List ℕ) → suc n ≤ depth → Allows new (line (suc n) [] ∷ o) → turned ≢ end_codes k.branch ++ (start_codes k.leaf ++ z)) → BeginsWrong k depth fs x
+turned_wrong k readable depth fs new x text shown rest turned n flags is h cut never =
+    begins_wrong k readable depth fs new x text shown rest n is h
+    (λ z level e. apart_never k.marker (turning_piece k.pieces cut.last) (end_codes k.branch ++ z) turned (readable.apart cut.last).0 (sym e ∙ cut.text_is))
+    (λ b o z deep a e. never o z deep a (same_prefix (turning_piece k.pieces cut.last) (turning_piece k.pieces b) turned (end_codes k.branch ++ (start_codes k.leaf ++ z))
+    (same_kind k.pieces.regular k.pieces.last_regular readable.pieces.turnings cut.last b) (sym cut.text_is ∙ e)).1)
+
+-- a line without a turning piece there is wrong
+pub unturned_wrong : (k : Look) → IsReadableWith k.pieces k.marker → (depth : ℕ) (fs new : List Flags) (x text shown rest : List ℕ) (n : ℕ) → x ≡ start_codes k.branch ++ text → IsFound k.pieces fs new text shown rest n
+    → NoPiece (turning_piece k.pieces) any_flags rest → ((z : List ℕ) → n ≡ length fs → rest ≢ k.marker ++ (end_codes k.branch ++ z)) → BeginsWrong k depth fs x
+unturned_wrong k readable depth fs new x text shown rest n is h none never =
+    begins_wrong k readable depth fs new x text shown rest n is h never (λ b o z deep a e. none b (end_codes k.branch ++ (start_codes k.leaf ++ z)) (allows_any b) e)
+
+-- ## Lines that continue drawings
+
+-- an element of the first list
+get_left : (xs ys : List Flags) (m : ℕ) → m < length xs → get_or (xs ++ ys) m any_flags ≡ get_or xs m any_flags
+get_left [] ys m l = absurd (omega arith)
+get_left (x ∷ xs) ys zero l = refl
+get_left (x ∷ xs) ys (suc m) l = get_left xs ys m (omega arith)
+
+-- the last element
+get_last : (xs : List Flags) (x : Flags) → get_or (xs ++ x ∷ []) (length xs) any_flags ≡ x
+get_last [] x = refl
+get_last (y ∷ xs) x = get_last xs x
+
+-- the parts of an item's own line
+pub record OwnParts (k : Look) (x text rest turned own more : List ℕ) (flags : Flags) : Type 0 where
+  pub is : x ≡ start_codes k.branch ++ text
+  pub cut : IsCutTo (turning_piece k.pieces) any_flags rest flags turned
+  pub turned_is : turned ≡ end_codes k.branch ++ (start_codes k.leaf ++ (own ++ 10 ∷ more))
+  pub one : HasNoLineFeed own
+
+-- the parts of an item's own line, as they were taken off one after the other
+pub own_parts : (k : Look) (x text rest turned closed start own more : List ℕ) (flags : Flags) → x ≡ start_codes k.branch ++ text → IsCutTo (turning_piece k.pieces) any_flags rest flags turned
+    → turned ≡ end_codes k.branch ++ closed → closed ≡ start_codes k.leaf ++ start → HasNoLineFeed own × (start ≡ own ++ 10 ∷ more) → OwnParts k x text rest turned own more flags
+own_parts k x text rest turned closed start own more flags is cut t c line = record {
+  is = is;
+  cut = cut;
+  turned_is = t ∙ ap (λ z. end_codes k.branch ++ z) (c ∙ ap (λ z. start_codes k.leaf ++ z) line.1);
+  one = line.0;
+}
+
+-- an item's own line, from its parts
+pub own_there : (k : Look) → IsReadableWith k.pieces k.marker → (depth : ℕ) (fs new fs' : List Flags) (x text shown rest turned own more : List ℕ) (n : ℕ) (flags : Flags) → IsFound k.pieces fs new text shown rest n
+    → OwnParts k x text rest turned own more flags → n < depth → CanClose n new → fs' ≡ take n new ++ flags ∷ [] → IsOwnLine k depth fs x own more fs' × ArePath k.pieces fs' n shown
+own_there k readable depth fs new fs' x text shown rest turned own more n flags h parts deep can fs_is =
+    let p : Pieces = k.pieces in
+    let cut = parts.cut in
+    let (above, len, shown_is) = h.are_passing in
+    let turn : List ℕ = turning_piece p cut.last in
+    let pieces : List ℕ = shown ++ turn in
+    let enough = h.enough in
+    let count = h.count in
+    let short : length (take n new) ≡ n = length-take-le n new (omega (arith, enough, count)) in
+    let size : length fs' ≡ suc n = ap length fs_is ∙ (length_push (take n new) flags ∙ (add-one (length (take n new)) ∙ ap suc short)) in
+    let left : (m : ℕ) → m < n → get_or fs' m any_flags ≡ get_or new m any_flags = λ m l.
+    ap (λ z. get_or z m any_flags) fs_is ∙ (get_left (take n new) (flags ∷ []) m (omega (arith, l, short)) ∙ get_or-take n new m any_flags l) in
+    let last : get_or fs' n any_flags ≡ flags = ap (λ z. get_or z n any_flags) fs_is ∙ (ap (λ z. get_or (take n new ++ flags ∷ []) z any_flags) (sym short) ∙ get_last (take n new) flags) in
+    let same_parts : (o : List Line) → pieces_by p o (suc n) ≡ pieces → (passing_by p o n ≡ shown) × (turning_piece p (not (has_later o (suc n))) ≡ turn) = λ o e.
+    let same = passings_once p readable.pieces (last_flags o n) above (turning_piece p (not (has_later o (suc n)))) turn (length-last_flags o n ∙ sym len) (e ∙ ap (λ z. z ++ turn) shown_is) in
+    (same.0 ∙ sym shown_is, same.1) in
+    let to : (o : List Line) → Allows fs' o → Allows new (line (suc n) [] ∷ o) = λ o a m l. elim (cases_lt m n) [
+      | inl less ↦
+          let later = has_later_deeper (line (suc n) []) o (suc m) (omega arith) in
+          ap (λ z. allows (get_or new m any_flags) (not z)) later ∙ (ap (λ z. allows z (not (has_later o (suc m)))) (sym (left m less)) ∙ a m (omega (arith, size, less)))
+      | inr more ↦ elim (cases_lt n m) [
+        | inl past ↦ ap (λ z. allows (get_or new m any_flags) (not z)) (has_later_here (line (suc n) []) o (suc m) (omega arith) ∙ ne_eqb (suc m) (suc n) (omega arith)) ∙ can.below m past l
+        | inr most ↦
+            let level : m ≡ n = omega arith in
+            ap (λ z. allows (get_or new m any_flags) (not z)) (has_later_here (line (suc n) []) o (suc m) (omega arith) ∙ eq-eqb (suc m) (suc n) (omega arith))
+            ∙ (ap (λ z. (get_or new z any_flags).regular) level ∙ can.beside (omega (arith, l, level)))
+      ]
+    ] in
+    let cuts : CutsPieces p fs (suc n) pieces fs' = λ o. (
+      λ a.
+          let both = (h.cut (line (suc n) [] ∷ o)).0 (to o a) in
+          let kept = (cut.kept (not (has_later o (suc n)))).0 (ap (λ z. allows z (not (has_later o (suc n)))) (sym last) ∙ a n (omega (arith, size))) in
+          (both.0, ap (λ z. z ++ turning_piece p (not (has_later o (suc n)))) (sym (passing_deeper p n o) ∙ both.1) ∙ ap (λ z. shown ++ z) kept.1),
+      λ both.
+          let same = same_parts o both.1 in
+          let kept : Allows new (line (suc n) [] ∷ o) = (h.cut (line (suc n) [] ∷ o)).1 (both.0, passing_deeper p n o ∙ same.0) in
+          λ m l. elim (cases_lt m n) [
+            | inl less ↦
+                let later = has_later_deeper (line (suc n) []) o (suc m) (omega arith) in
+                ap (λ z. allows z (not (has_later o (suc m)))) (left m less) ∙ (ap (λ z. allows (get_or new m any_flags) (not z)) (sym later) ∙ kept m (omega (arith, less, enough, count)))
+            | inr more ↦
+                let level : m ≡ n = omega (arith, l, size) in
+                ap (λ z. allows (get_or fs' z any_flags) (not (has_later o (suc z)))) level ∙ (ap (λ z. allows z (not (has_later o (suc n)))) last
+                ∙ (cut.kept (not (has_later o (suc n)))).1 (allows_any (not (has_later o (suc n))), same.1))
+          ],
+    ) in
+    let some : AreSome fs' = λ m l. elim (cases_lt m n) [
+      | inl less ↦ ap (λ z. allows z z.last) (left m less) ∙ h.some m (omega (arith, less, enough, count))
+      | inr more ↦
+          let level : m ≡ n = omega (arith, l, size) in
+          ap (λ z. allows (get_or fs' z any_flags) (get_or fs' z any_flags).last) level ∙ (ap (λ z. allows z z.last) last ∙ some_flag flags cut.last ((cut.kept cut.last).1 (allows_any cut.last, refl)))
+    ] in (
+      record {
+        pieces = pieces;
+        one = parts.one;
+        low = omega (arith, size);
+        high = omega (arith, size, enough);
+        deep = omega (arith, size, deep);
+        are_pieces = subst (λ z. ArePiecesAt p z pieces) (sym size) (above, cut.last, len, ap (λ z. z ++ turn) shown_is);
+        text_is = parts.is ∙ (ap (λ z. start_codes k.branch ++ z) (h.text_is ∙ (ap (λ z. shown ++ z) (cut.text_is ∙ ap (λ z. turn ++ z) parts.turned_is) ∙ sym (append_assoc shown turn _)))
+            ∙ sym (own_prefix_split k pieces (own ++ 10 ∷ more)));
+        cuts = subst (λ z. CutsPieces p fs z pieces fs') (sym size) cuts;
+      },
+      record {
+        enough = omega (arith, size);
+        near = omega (arith, size);
+        some = some;
+        same = λ m l r t. h.same m l (ap (λ (f : Flags). f.regular) (sym (left m l)) ∙ r) (ap (λ (f : Flags). f.last) (sym (left m l)) ∙ t);
+        shown_is = λ o a. (same_parts o ((cuts o).0 a).1).0;
+      },
+    )
+
+-- a further line, from its parts
+pub further_there : (k : Look) (fs new : List Flags) (x text shown rest own more : List ℕ) (n : ℕ) → IsFound k.pieces fs new text shown rest n → x ≡ start_codes k.branch ++ text
+    → length new ≤ n → rest ≡ k.marker ++ (end_codes k.branch ++ (own ++ 10 ∷ more)) → HasNoLineFeed own → IsFurtherLine k fs x own more new × ArePath k.pieces new n shown
+further_there k fs new x text shown rest own more n h is all rest_is one =
+    let enough = h.enough in
+    let count = h.count in
+    let level : n ≡ length fs = omega (arith, enough, count, all) in (
+      record {
+        passing = shown;
+        one = one;
+        are_passing = subst (λ z. ArePassing k.pieces z shown) level h.are_passing;
+        text_is = is ∙ (ap (λ z. start_codes k.branch ++ z) (h.text_is ∙ ap (λ z. shown ++ z) rest_is) ∙ sym (marker_is k shown (own ++ 10 ∷ more)));
+        cuts = subst (λ z. CutsPassing k.pieces fs z shown new) level h.cut;
+        count = count;
+      },
+      record {
+        enough = omega (arith, level, count);
+        near = omega (arith, level, count);
+        some = h.some;
+        same = h.same;
+        shown_is = λ o a. ((h.cut o).0 a).1;
+      },
+    )
+
+-- ## Line feeds
+
+-- two texts without line feeds, as one
+both_feedless : (a b : List ℕ) → HasNoLineFeed a → HasNoLineFeed b → HasNoLineFeed (a ++ b)
+both_feedless a b h g = All-append (λ c. c ≢ 10) a b h g
+
+-- if no line feed follows an item's own prefix, the text has none
+pub own_feedless : (k : Look) → IsReadableWith k.pieces k.marker → (fs new : List Flags) (x text shown rest turned closed start : List ℕ) (n : ℕ) (flags : Flags) → x ≡ start_codes k.branch ++ text → IsFound k.pieces fs new text shown rest n
+    → IsCutTo (turning_piece k.pieces) any_flags rest flags turned → turned ≡ end_codes k.branch ++ closed → closed ≡ start_codes k.leaf ++ start → HasNoLineFeed start → HasNoLineFeed x
+own_feedless k readable fs new x text shown rest turned closed start n flags is h cut t c s =
+    let (above, len, shown_is) = h.are_passing in
+    let pieces : HasNoLineFeed shown = subst HasNoLineFeed (sym shown_is) (no_feed_passing k.pieces readable.pieces above) in
+    let closed_less : HasNoLineFeed closed = subst HasNoLineFeed (sym c) (both_feedless (start_codes k.leaf) start (no_line_feed_start k.leaf) s) in
+    let turned_less : HasNoLineFeed turned = subst HasNoLineFeed (sym t) (both_feedless (end_codes k.branch) closed (no_line_feed_end k.branch) closed_less) in
+    let rest_less : HasNoLineFeed rest = subst HasNoLineFeed (sym cut.text_is) (both_feedless (turning_piece k.pieces cut.last) turned (readable.pieces.no_line_feed cut.last).0 turned_less) in
+    subst HasNoLineFeed (sym (is ∙ ap (λ z. start_codes k.branch ++ z) h.text_is)) (both_feedless (start_codes k.branch) (shown ++ rest) (no_line_feed_start k.branch) (both_feedless shown rest pieces rest_less))
+
+-- if no line feed follows a further line's prefix, the text has none
+pub further_feedless : (k : Look) → IsReadableWith k.pieces k.marker → (fs new : List Flags) (x text shown rest closed start : List ℕ) (n : ℕ) → x ≡ start_codes k.branch ++ text → IsFound k.pieces fs new text shown rest n
+    → rest ≡ k.marker ++ closed → closed ≡ end_codes k.branch ++ start → HasNoLineFeed start → HasNoLineFeed x
+further_feedless k readable fs new x text shown rest closed start n is h m c s =
+    let (above, len, shown_is) = h.are_passing in
+    let pieces : HasNoLineFeed shown = subst HasNoLineFeed (sym shown_is) (no_feed_passing k.pieces readable.pieces above) in
+    let closed_less : HasNoLineFeed closed = subst HasNoLineFeed (sym c) (both_feedless (end_codes k.branch) start (no_line_feed_end k.branch) s) in
+    let rest_less : HasNoLineFeed rest = subst HasNoLineFeed (sym m) (both_feedless k.marker closed readable.no_line_feed closed_less) in
+    subst HasNoLineFeed (sym (is ∙ ap (λ z. start_codes k.branch ++ z) h.text_is)) (both_feedless (start_codes k.branch) (shown ++ rest) (no_line_feed_start k.branch) (both_feedless shown rest pieces rest_less))

@@ -1,0 +1,225 @@
+-- Reading a text line by line.
+use Rattle.std.proofs.Common.{◌≡◌, ◌≢◌, ℕ, zero, suc, ◌+◌, ◌-◌, ◌<◌, ◌≤◌, ◌⊎◌, inl, inr, List, [], ◌∷◌, ◌++◌, length, length-append, refl, sym, ap, ◌∙◌, subst, append_assoc, add-one, arith}
+use Rattle.std.proofs.lemmas.List.{append-nil}
+use Rattle.std.proofs.lemmas.List.Elements.{All-nil, All-append}
+use Rattle.ptree.specs.declared.read.lines.Flags.{Flags}
+use Rattle.ptree.specs.Continuation.{HasContinuation, IsFirstWrongLine, EndsWrong, first_lines, line_count}
+use Rattle.ptree.specs.Drawing.{Look, with_inserted, continued_prefix}
+use Rattle.ptree.specs.DrawnForm.{IsDrawnForm}
+use Rattle.ptree.specs.Flags.{pieces_by, passing_by}
+use Rattle.ptree.specs.Outline.{Line, line, outline}
+use Rattle.ptree.specs.Pieces.{turning_piece, passing_all}
+use Rattle.ptree.specs.Reached.{Allows, IsOutlineWithin, lines_text, own_prefix, Reached, ArePath, IsFurtherLine, IsOwnLine, NoLine}
+use Rattle.ptree.specs.Readable.{IsReadableWith}
+use Rattle.ptree.specs.Spelled.{ArePiecesAt, ArePassing}
+use Rattle.ptree.specs.Style.{start_codes, end_codes, painted_text}
+use Rattle.ptree.specs.Texts.{HasNoLineFeed}
+use Rattle.ptree.specs.Tree.{Tree}
+use Rattle.ptree.proofs.Reading.Continuations.{goes_on_nothing}
+use Rattle.ptree.proofs.Reading.LineEnds.{after_prefix, no_feed_passing, no_feed_painted, no_feed_continued}
+use Rattle.ptree.proofs.Reading.FirstLines.{first_rest, first_next, first_more, count_none, count_line}
+use Rattle.ptree.proofs.Reading.OpenItems.{open_lines}
+use Rattle.ptree.proofs.Reading.NextLines.{line_split, form_outline}
+use Rattle.ptree.proofs.Reading.ReachedLines.{root_reached, further_reached, own_reached, own_never}
+use Rattle.ptree.proofs.Reading.ReachedEnds.{wrong_line, reached_goes_on, reached_end, reached_none, reached_short, feed_not}
+use Rattle.ptree.proofs.Reading.SpelledForms.{passing_at}
+use Rattle.ptree.proofs.Styles.PaintedTexts.{no_line_feed_start, no_line_feed_end}
+
+-- the first n lines of x were read, and rest is left
+pub record ScanSo (k : Look) (depth : ℕ) (x rest : List ℕ) (n : ℕ) (done : List Line) (level : ℕ) (own : List ℕ) (fs : List Flags) : Type 0 where
+  pub text_is : x ≡ first_lines n x ++ rest
+  pub count : line_count x ≡ n + line_count rest
+  pub room : n + length rest ≤ length x
+  pub reached : Reached k depth (first_lines n x) done level own fs
+
+-- what is before an item's own text holds no line feed
+feedless_own : (k : Look) → IsReadableWith k.pieces k.marker → (n : ℕ) (pieces : List ℕ) → ArePiecesAt k.pieces n pieces → HasNoLineFeed (own_prefix k pieces)
+feedless_own k readable zero pieces at = absurd at
+feedless_own k readable (suc n) pieces (above, last, len, is) =
+    All-append (λ c. c ≢ 10) (painted_text k.branch pieces) (start_codes k.leaf)
+    (no_feed_painted k.branch pieces (subst HasNoLineFeed (sym is) (All-append (λ c. c ≢ 10) (passing_all k.pieces above) (turning_piece k.pieces last) (no_feed_passing k.pieces readable.pieces above) (readable.pieces.no_line_feed last).0)))
+    (no_line_feed_start k.leaf)
+
+-- nor does what is before the root's
+feedless_root : (k : Look) → HasNoLineFeed (own_prefix k [])
+feedless_root k = All-append (λ c. c ≢ 10) (painted_text k.branch []) (start_codes k.leaf) (no_feed_painted k.branch [] (All-nil (λ c. c ≢ 10))) (no_line_feed_start k.leaf)
+
+-- two texts before a line feed, regrouped
+one_feed : (a b more : List ℕ) → a ++ (b ++ 10 ∷ more) ≡ (a ++ b) ++ 10 ∷ more
+one_feed a b more = sym (append_assoc a b (10 ∷ more))
+
+-- a line feed after a prefix and two texts, regrouped
+prefix_feed : (f a b : List ℕ) → (f ++ (a ++ b)) ++ 10 ∷ [] ≡ f ++ (a ++ b ++ 10 ∷ [])
+prefix_feed f a b = append_assoc f (a ++ b) (10 ∷ [])
+
+-- one line more was read
+scan_next : (k : Look) (depth : ℕ) (x rest new more : List ℕ) (n : ℕ) (done : List Line) (level : ℕ) (own : List ℕ) (fs : List Flags) → x ≡ first_lines n x ++ rest → line_count x ≡ n + line_count rest → n + length rest ≤ length x
+    → HasNoLineFeed new → rest ≡ new ++ 10 ∷ more → Reached k depth (first_lines n x ++ new ++ 10 ∷ []) done level own fs → ScanSo k depth x more (n + 1) done level own fs
+scan_next k depth x rest new more n done level own fs is count room one e h =
+    let counted = ap line_count e ∙ count_line new more one in
+    let size = ap length e ∙ length-append new (10 ∷ more) in
+    record {
+      text_is = first_more n x rest new more is e one;
+      count = omega (arith, count, counted);
+      room = omega (arith, room, size);
+      reached = subst (λ z. Reached k depth z done level own fs) (sym (first_next n x rest new more is e one) ∙ ap (λ m. first_lines m x) (sym (add-one n))) h;
+    }
+
+-- the root's first line was read
+pub scan_start : (k : Look) (depth : ℕ) (x own more : List ℕ) → HasNoLineFeed own → x ≡ own_prefix k [] ++ (own ++ 10 ∷ more) → ScanSo k depth x more 1 [] 0 own []
+scan_start k depth x own more one e =
+    scan_next k depth x x (own_prefix k [] ++ own) more 0 [] 0 own [] refl (let z : line_count x ≡ 0 + line_count x = omega arith in z) (omega arith)
+    (All-append (λ c. c ≢ 10) (own_prefix k []) own (feedless_root k) one) (e ∙ one_feed (own_prefix k []) own more) (root_reached k depth own one)
+
+-- a further line was read
+pub scan_further : (k : Look) → IsReadableWith k.pieces k.marker → (depth : ℕ) (x rest own new more : List ℕ) (n m : ℕ) (done : List Line) (level : ℕ) (fs fs' : List Flags) (shown : List ℕ) → ScanSo k depth x rest n done level own fs
+    → IsFurtherLine k fs rest new more fs' → ArePath k.pieces fs' m shown → ScanSo k depth x more (n + 1) done level (own ++ 10 ∷ new) fs'
+scan_further k readable depth x rest own new more n m done level fs fs' shown h f path =
+    let passing = f.passing in
+    let (above, len, is) = f.are_passing in
+    let cp : List ℕ = continued_prefix k passing in
+    let level_is : length fs ≡ level = h.reached.count in
+    let feedless : HasNoLineFeed cp = subst (λ z. HasNoLineFeed (continued_prefix k z)) (sym is) (no_feed_continued k readable above) in
+    let reached = further_reached k readable depth (first_lines n x) done level own new passing fs fs' h.reached f.one (subst (λ z. ArePassing k.pieces z passing) level_is f.are_passing)
+    (λ o. let both = f.cuts o in (λ a. let c = both.0 a in (c.0, ap (passing_by k.pieces o) (sym level_is) ∙ c.1), λ c. both.1 (c.0, ap (passing_by k.pieces o) level_is ∙ c.1))) (open_lines fs' path.some) (f.count ∙ level_is) in
+    scan_next k depth x rest (cp ++ new) more n done level (own ++ 10 ∷ new) fs' h.text_is h.count h.room (All-append (λ c. c ≢ 10) cp new feedless f.one) (f.text_is ∙ one_feed cp new more)
+    (subst (λ z. Reached k depth z done level (own ++ 10 ∷ new) fs') (sym (prefix_feed (first_lines n x) cp new)) reached)
+
+-- an item's own line was read
+pub scan_own : (k : Look) → IsReadableWith k.pieces k.marker → (depth : ℕ) (x rest own text new more : List ℕ) (n m : ℕ) (done : List Line) (level : ℕ) (fs fs' : List Flags) (shown : List ℕ) → ScanSo k depth x rest n done level own fs
+    → IsOwnLine k depth fs rest new more fs' → ArePath k.pieces fs' m shown → own ≡ text ++ end_codes k.leaf → ScanSo k depth x more (n + 1) (done ++ line level text ∷ []) (length fs') new fs'
+scan_own k readable depth x rest own text new more n m done level fs fs' shown h f path closed =
+    let pieces = f.pieces in
+    let level_is = h.reached.count in
+    let high = f.high in
+    let prefix : List ℕ = own_prefix k pieces in
+    let feedless : HasNoLineFeed prefix = feedless_own k readable (length fs') pieces f.are_pieces in
+    let reached = own_reached k readable depth (first_lines n x) done level own text pieces new (length fs') fs fs' h.reached closed f.one f.low (omega (arith, high, level_is)) f.deep f.are_pieces f.cuts (open_lines fs' path.some) refl in
+    scan_next k depth x rest (prefix ++ new) more n (done ++ line level text ∷ []) (length fs') new fs' h.text_is h.count h.room (All-append (λ c. c ≢ 10) prefix new feedless f.one) (f.text_is ∙ one_feed prefix new more)
+    (subst (λ z. Reached k depth z (done ++ line level text ∷ []) (length fs') new fs') (sym (prefix_feed (first_lines n x) prefix new)) reached)
+
+-- ## Wrong lines
+
+-- no drawing continues the first n lines with the next one
+abbrev pub NoneWith : Look → ℕ → List ℕ → List ℕ → ℕ → Type 0
+NoneWith k depth x rest n = (new more : List ℕ) → HasNoLineFeed new → rest ≡ new ++ 10 ∷ more → HasContinuation k depth (first_lines n x ++ new ++ 10 ∷ []) → ⊥
+
+-- a line that is neither an own line nor a further one cannot continue the drawing
+pub scan_wrong : (k : Look) → IsReadableWith k.pieces k.marker → (depth : ℕ) (x rest own : List ℕ) (n : ℕ) (done : List Line) (level : ℕ) (fs : List Flags) → ScanSo k depth x rest n done level own fs → NoLine k depth fs rest → NoneWith k depth x rest n
+scan_wrong k readable depth x rest own n done level fs h (inl none) new more one e goes = feed_not new more rest none e
+scan_wrong k readable depth x rest own n done level fs h (inr wrong) new more one e goes =
+    let level_is = h.reached.count in
+    wrong_line k readable depth (first_lines n x) done level own fs rest new more h.reached e
+    (λ o z a f. wrong.no_further o z a (f ∙ ap (λ y. continued_prefix k (passing_by k.pieces o y) ++ z) (sym level_is)))
+    (λ text m o z closed low high deep a f. wrong.no_own m o z low (omega (arith, high, level_is)) deep a f) goes
+
+-- an item's own line cannot continue a text that is not closed
+pub scan_open : (k : Look) → IsReadableWith k.pieces k.marker → (depth : ℕ) (x rest own next behind : List ℕ) (n : ℕ) (done : List Line) (level : ℕ) (fs fs' : List Flags) → ScanSo k depth x rest n done level own fs
+    → IsOwnLine k depth fs rest next behind fs' → ((text : List ℕ) → own ≢ text ++ end_codes k.leaf) → NoneWith k depth x rest n
+scan_open k readable depth x rest own next behind n done level fs fs' h f never new more one e goes =
+    wrong_line k readable depth (first_lines n x) done level own fs rest new more h.reached e
+    (λ o z a g. own_never k readable level (length fs') f.pieces (passing_by k.pieces o level) (next ++ 10 ∷ behind) z f.are_pieces (passing_at k.pieces o level) (sym f.text_is ∙ g))
+    (λ text m o z closed low high deep a g. never text closed) goes
+
+-- a text that ends within a line is no drawing
+pub scan_short : (k : Look) (depth : ℕ) (x rest own : List ℕ) (n : ℕ) (done : List Line) (level : ℕ) (fs : List Flags) → ScanSo k depth x rest n done level own fs → (rest ≡ [] → ⊥) → HasNoLineFeed rest → (t : Tree) → IsDrawnForm k depth x t → ⊥
+scan_short k depth x rest own n done level fs h some one t form =
+    reached_short k depth (first_lines n x) done level own fs rest h.reached one some t (subst (λ z. IsDrawnForm k depth z t) h.text_is form)
+
+-- some drawing continues the lines that were read
+pub scan_before : (k : Look) (depth : ℕ) (x rest own : List ℕ) (n : ℕ) (done : List Line) (level : ℕ) (fs : List Flags) → ScanSo k depth x rest n done level own fs → HasContinuation k depth (first_lines n x)
+scan_before k depth x rest own n done level fs h = reached_goes_on k depth (first_lines n x) done level own fs h.reached
+
+-- ## Without a root
+
+-- some drawing continues the empty text
+pub root_before : (k : Look) → IsReadableWith k.pieces k.marker → (depth : ℕ) (x : List ℕ) → HasContinuation k depth (first_lines 0 x)
+root_before k readable depth x = goes_on_nothing k readable depth
+
+-- a text without a line feed is no drawing
+pub root_short : (k : Look) (depth : ℕ) (x : List ℕ) → HasNoLineFeed x → (t : Tree) → IsDrawnForm k depth x t → ⊥
+root_short k depth x one t form =
+    let (e, valid) = form_outline k depth x t form in
+    at (outline t) valid e
+  where
+    at : (o : List Line) → IsOutlineWithin depth o → x ≡ lines_text k o → ⊥
+    at [] valid e = absurd valid
+    at (l ∷ o) valid e = feed_not _ (lines_text k o) x one (e ∙ (line_split k l o ∙ sym (append_assoc (own_prefix k (pieces_by k.pieces o l.level)) _ (10 ∷ lines_text k o))))
+
+-- a first line without the root's prefix begins no drawing
+pub root_wrong : (k : Look) (depth : ℕ) (x : List ℕ) → HasNoLineFeed x ⊎ ((z : List ℕ) → x ≢ own_prefix k [] ++ z) → NoneWith k depth x x 0
+root_wrong k depth x (inl none) new more one e goes = feed_not new more x none e
+root_wrong k depth x (inr never) new more one e (t, after, form) =
+    let (same, valid) = form_outline k depth _ t form in
+    at (outline t) valid (sym (append_assoc new (10 ∷ []) after) ∙ same)
+  where
+    at : (o : List Line) → IsOutlineWithin depth o → new ++ 10 ∷ after ≡ lines_text k o → ⊥
+    at [] valid f = absurd valid
+    at (l ∷ o) valid f =
+        let cut = after_prefix (own_prefix k []) _ new after (feedless_root k) (sym (f ∙ (line_split k l o ∙ ap (λ m. own_prefix k (pieces_by k.pieces o m) ++ (with_inserted (continued_prefix k (passing_by k.pieces o l.level)) (l.text ++ end_codes k.leaf) ++ 10 ∷ lines_text k o)) valid.0))) in
+        never (cut.0 ++ 10 ∷ more) (e ∙ (ap (λ z. z ++ 10 ∷ more) cut.1 ∙ append_assoc (own_prefix k []) cut.0 (10 ∷ more)))
+
+-- ## The end
+
+-- the next line is the first wrong one
+pub stop_line : (k : Look) (depth : ℕ) (x rest new more : List ℕ) (n : ℕ) → x ≡ first_lines n x ++ rest → line_count x ≡ n + line_count rest → HasContinuation k depth (first_lines n x) → NoneWith k depth x rest n
+    → HasNoLineFeed new → rest ≡ new ++ 10 ∷ more → IsFirstWrongLine k depth x (n + 1)
+stop_line k depth x rest new more n is count before none one e =
+    let counted = ap line_count e ∙ count_line new more one in
+    let less : n + 1 - 1 ≡ n = omega arith in
+    record {
+      low = omega arith;
+      high = omega (arith, count, counted);
+      before = subst (λ m. HasContinuation k depth (first_lines m x)) (sym less) before;
+      wrong = λ goes. none new more one e (subst (HasContinuation k depth) (ap (λ m. first_lines m x) (add-one n) ∙ first_next n x rest new more is e one) goes);
+    }
+
+-- the text ends too early
+pub stop_end : (k : Look) (depth : ℕ) (x rest : List ℕ) (n : ℕ) → line_count x ≡ n + line_count rest → HasContinuation k depth (first_lines n x) → (HasNoLineFeed rest → (t : Tree) → IsDrawnForm k depth x t → ⊥) → HasNoLineFeed rest → EndsWrong k depth x
+stop_end k depth x rest n count before short one =
+    let none = count_none rest one in
+    let all : n ≡ line_count x = omega (arith, count, none) in
+    record { lines = subst (λ m. HasContinuation k depth (first_lines m x)) all before; wrong = short one }
+
+-- if nothing is left, the text is its first lines
+whole_text : (k : Look) (depth : ℕ) (x rest own : List ℕ) (n : ℕ) (done : List Line) (level : ℕ) (fs : List Flags) → ScanSo k depth x rest n done level own fs → rest ≡ [] → x ≡ first_lines n x
+whole_text k depth x rest own n done level fs h e = h.text_is ∙ (ap (λ z. first_lines n x ++ z) e ∙ append-nil (first_lines n x))
+
+-- a text that ends after a line that cannot be the last one ends too early
+pub scan_ends_wrong : (k : Look) (depth : ℕ) (x rest own : List ℕ) (n : ℕ) (done : List Line) (level : ℕ) (fs : List Flags) → ScanSo k depth x rest n done level own fs → rest ≡ []
+    → ((text : List ℕ) → own ≡ text ++ end_codes k.leaf → Allows fs [] → ⊥) → EndsWrong k depth x
+scan_ends_wrong k depth x rest own n done level fs h e never =
+    stop_end k depth x rest n h.count (scan_before k depth x rest own n done level fs h)
+    (λ one t form. reached_none k depth (first_lines n x) done level own fs h.reached never t (subst (λ z. IsDrawnForm k depth z t) (whole_text k depth x rest own n done level fs h e) form))
+    (subst HasNoLineFeed (sym e) (All-nil (λ c. c ≢ 10)))
+
+-- a text that ends after a line that can be the last one is a drawing
+pub scan_end : (k : Look) (depth : ℕ) (x rest own text : List ℕ) (n : ℕ) (done : List Line) (level : ℕ) (fs : List Flags) → ScanSo k depth x rest n done level own fs → rest ≡ [] → own ≡ text ++ end_codes k.leaf → Allows fs []
+    → IsOutlineWithin depth (done ++ line level text ∷ []) × ((t : Tree) → outline t ≡ done ++ line level text ∷ [] → IsDrawnForm k depth x t)
+scan_end k depth x rest own text n done level fs h e closed allowed = (
+  h.reached.valid text,
+  λ t is. subst (λ z. IsDrawnForm k depth z t) (sym (whole_text k depth x rest own n done level fs h e)) (reached_end k depth (first_lines n x) done level own text fs t h.reached closed allowed is),
+)
+
+-- a text with a wrong line is no drawing
+pub wrong_none : (k : Look) (depth : ℕ) (x : List ℕ) (n : ℕ) → IsFirstWrongLine k depth x n → (t : Tree) → IsDrawnForm k depth x t → ⊥
+wrong_none k depth x n h t form =
+    let (rest, is) = first_rest n x in
+    h.wrong (t, rest, subst (λ z. IsDrawnForm k depth z t) is form)
+
+-- if the rest after a root's prefix has no line feed, the text has none
+pub feedless_start : (k : Look) (x text closed start : List ℕ) → x ≡ start_codes k.branch ++ text → text ≡ end_codes k.branch ++ closed → closed ≡ start_codes k.leaf ++ start → HasNoLineFeed start → HasNoLineFeed x
+feedless_start k x text closed start e f g h =
+    let third : HasNoLineFeed closed = subst HasNoLineFeed (sym g) (All-append (λ c. c ≢ 10) (start_codes k.leaf) start (no_line_feed_start k.leaf) h) in
+    let second : HasNoLineFeed text = subst HasNoLineFeed (sym f) (All-append (λ c. c ≢ 10) (end_codes k.branch) closed (no_line_feed_end k.branch) third) in
+    subst HasNoLineFeed (sym e) (All-append (λ c. c ≢ 10) (start_codes k.branch) text (no_line_feed_start k.branch) second)
+
+-- what was read, under equal names
+pub scan_moved : (k : Look) (depth : ℕ) (x rest : List ℕ) (n : ℕ) (done done' : List Line) (level level' : ℕ) (own own' : List ℕ) (fs : List Flags) → ScanSo k depth x rest n done level own fs → done' ≡ done → level' ≡ level → own' ≡ own
+    → ScanSo k depth x rest n done' level' own' fs
+scan_moved k depth x rest n done done' level level' own own' fs h d l o =
+    subst (λ z. ScanSo k depth x rest n z level' own' fs) (sym d) (subst (λ z. ScanSo k depth x rest n done z own' fs) (sym l) (subst (λ z. ScanSo k depth x rest n done level z fs) (sym o) h))
+
+-- the rest after a line is shorter
+pub shorter : (a b more rest : List ℕ) → rest ≡ a ++ (b ++ 10 ∷ more) → length more < length rest
+shorter a b more rest e = let size = ap length e in omega (arith, simp length-append at size)
