@@ -5,7 +5,7 @@ use Rattle.std.proofs.lemmas.List.{append-nil, append_cancel_left}
 use Rattle.std.proofs.lemmas.List.Elements.{All-append}
 use Rattle.ptree.specs.Outline.{Line, line}
 use Rattle.ptree.specs.Texts.{HasNoLineFeed}
-use Rattle.ptree.proofs.Drawing.Inserted.{no_text}
+use Rattle.ptree.proofs.Drawing.Inserted.{feed_not_empty}
 use Rattle.ptree_trees.specs.Indented.{begins_blank, IsUnit, indent, indented_line, indented_lines, AreLineTexts}
 use Rattle.ptree_trees.specs.declared.indented.Form.{Form}
 use Rattle.ptree_trees.proofs.IndentedTexts.{line_once, no_feed_indent, indent_once}
@@ -61,7 +61,7 @@ same_line form l m level text =
 pub lines_front : (form : Form) → IsUnit form.unit.now → (o p : List Line) (y : List ℕ) → AreLineTexts form o → AreLineTexts form p
     → indented_lines form o ++ y ≡ indented_lines form p → HasOthers form o p y
 lines_front form u [] p y h k e = record { others = p; lines = refl; text = e; texts = k }
-lines_front form u (l ∷ o) [] y h k e = absurd (no_text (whole form l) (indented_lines form o ++ y) (sym e ∙ first_parts form l o y))
+lines_front form u (l ∷ o) [] y h k e = absurd (feed_not_empty (whole form l) (indented_lines form o ++ y) (sym e ∙ first_parts form l o y))
 lines_front form u (l ∷ o) (m ∷ p) y h k e =
     let same = line_once (whole form l) (whole form m) (indented_lines form o ++ y) (indented_lines form p)
     (no_feed_join form u l h.0.0) (no_feed_join form u m k.0.0) (sym (first_parts form l o y) ∙ (e ∙ line_parts form m (indented_lines form p))) in

@@ -9,7 +9,7 @@ use Rattle.ptree.specs.Texts.{HasNoLineFeed}
 use Rattle.ptree.specs.Tree.{Tree, tree, none}
 use Rattle.ptree.specs.TreeBuilder.{Building}
 use Rattle.ptree.proofs.Reading.FirstLines.{count_none, count_line, first_next}
-use Rattle.ptree.proofs.Drawing.Inserted.{no_text}
+use Rattle.ptree.proofs.Drawing.Inserted.{feed_not_empty}
 use Rattle.ptree.proofs.Trees.LineTrees.{tree_of_lines}
 use Rattle.ptree.proofs.Trees.OutlineAddresses.{outline_of_tree}
 use Rattle.ptree.proofs.Reading.SpelledForms.{tree_steps}
@@ -134,7 +134,7 @@ pub record IsFirstOf (form : Form) (x : List ℕ) (l : Line) (later q : List Lin
 -- what other lines begin with a line, the first of them is that line
 first_other : (form : Form) → IsUnit form.unit.now → (q : List Line) (x more : List ℕ) → HasNoLineFeed x → AreLineTexts form q → x ++ 10 ∷ more ≡ indented_lines form q
     → (l : Line) × (later : List Line) × IsFirstOf form x l later q
-first_other form u [] x more h k e = absurd (no_text x more (sym e))
+first_other form u [] x more h k e = absurd (feed_not_empty x more (sym e))
 first_other form u (l ∷ q) x more h k e =
     let same = line_once x (whole form l) more (indented_lines form q) h (no_feed_join form u l k.0.0) (e ∙ line_parts form l (indented_lines form q)) in
     (l, q, record { lines = refl; text_is = k.0.1; line_is = same.0 })

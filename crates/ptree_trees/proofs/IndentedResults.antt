@@ -7,7 +7,7 @@ use Rattle.ptree.specs.Outline.{Line, outline}
 use Rattle.ptree.specs.Tree.{Tree, tree_of}
 use Rattle.ptree.specs.declared.item.StringItem.{StringItem}
 use Rattle.ptree.proofs.Reading.FirstLines.{first_rest}
-use Rattle.ptree.proofs.Drawing.Inserted.{no_text}
+use Rattle.ptree.proofs.Drawing.Inserted.{feed_not_empty}
 use Rattle.ptree.proofs.Trees.Outlines.{same_tree}
 use Rattle.ptree_trees.specs.Indented.{IsUnit, indented_lines}
 use Rattle.ptree_trees.specs.Indented.{IsIndentedForm, IsFirstWrongLine, EndsWrong}
@@ -25,7 +25,7 @@ same_form form u text t s h k =
   where
     nothing : (q : List Line) → [] ≡ indented_lines form q → q ≡ []
     nothing [] e = refl
-    nothing (l ∷ q) e = absurd (no_text (whole form l) (indented_lines form q) (e ∙ line_parts form l (indented_lines form q)))
+    nothing (l ∷ q) e = absurd (feed_not_empty (whole form l) (indented_lines form q) (e ∙ line_parts form l (indented_lines form q)))
 
 -- the indented form of a tree has no wrong line
 no_wrong_line : (form : Form) (text : List ℕ) (n : ℕ) → IsFirstWrongLine form text n → (t : Tree) → IsIndentedForm form text t → ⊥

@@ -128,8 +128,8 @@ take_again n xs ys zs h e =
     ap (take n) e ∙ take-append-le n (take n xs) ys (omega (arith, same)) ∙ take_all n (take n xs) (omega (arith, same))
 
 -- out of memory reports no fault
-pub quiet : (a b : ℕ) (e : DrawError) → HasErrorCause a b e → e ≡ Memory → b ≡ a
-quiet a b e h k =
+pub memory_is_no_fault : (a b : ℕ) (e : DrawError) → HasErrorCause a b e → e ≡ Memory → b ≡ a
+memory_is_no_fault a b e h k =
     let none : a + 0 ≡ a = omega arith in h ∙ ap (λ (x : DrawError). a + result_faults {A = Unit {0}} (Err x)) k ∙ none
 
 -- a child with others after it is not the last

@@ -89,5 +89,5 @@ no_line_feed_behind xs start h = no_line_feed_from_reads (drop start xs) (λ k l
     h (start + k) (omega arith) (omega (arith, length-drop start xs)) (sym (get_or-drop start xs k 0) ∙ e))
 
 -- a text that holds a line feed is not empty
-pub no_text : (a b : List ℕ) → [] ≡ a ++ 10 ∷ b → ⊥
-no_text a b e = let long = ap length e in omega (arith, simp length-append at long)
+pub feed_not_empty : (a b : List ℕ) → [] ≡ a ++ 10 ∷ b → ⊥
+feed_not_empty a b e = let long = ap length e in omega (arith, simp length-append at long)

@@ -70,8 +70,8 @@ entries_of_cut look (suc d) (suc e) h outer t =
     ∙ ap (kid_entries look (entries_below look d) outer) (map-id (kids t))
 
 -- exactly one list is the address list
-pub the_list : (x : Shape) (d : ℕ) → HasOneList x d
-the_list x d = (walk kids d x, walk_is_list kids d x, λ other h. one_list kids x d other (walk kids d x) h (walk_is_list kids d x))
+pub exactly_one_list : (x : Shape) (d : ℕ) → HasOneList x d
+exactly_one_list x d = (walk kids d x, walk_is_list kids d x, λ other h. one_list kids x d other (walk kids d x) h (walk_is_list kids d x))
 
 -- only one text is the drawing
 pub one_drawing : (look : Look) (x : Shape) (d : ℕ) (text : List ℕ) → IsDrawing look x d text → text ≡ concat (drawn_entries look d x)

@@ -123,6 +123,6 @@ all_begun look below outer all rest a b ended h =
     subst (λ (es : List (List ℕ)). Appends a b (concat es)) (sym (append-nil h.0) ∙ (ap (λ ks. h.0 ++ kid_entries look below outer ks) (sym ended) ∙ h.1)) h.2
 
 -- the flags after a call that was all right, by another name
-pub seen_ok : {A E : Type 0} (x y z : List Bool) (r : Result A E) → y ≡ z → OnOk r (x ≡ y) → OnOk r (x ≡ z)
-seen_ok x y z (Ok v) e h = h ∙ e
-seen_ok x y z (Err v) e h = h
+pub flags_after_ok : {A E : Type 0} (x y z : List Bool) (r : Result A E) → y ≡ z → OnOk r (x ≡ y) → OnOk r (x ≡ z)
+flags_after_ok x y z (Ok v) e h = h ∙ e
+flags_after_ok x y z (Err v) e h = h

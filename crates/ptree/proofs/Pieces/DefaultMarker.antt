@@ -38,8 +38,8 @@ default_marker_line : HasNoLineFeed default_marker
 default_marker_line = All-cons (λ b. b ≢ 10) 58 (32 ∷ []) (omega arith) (All-cons (λ b. b ≢ 10) 32 [] (omega arith) (All-nil (λ b. b ≢ 10)))
 
 -- the default marker is apart from the pieces of each shipped set
-pub default_marker_told : (c : Characters) → IsShipped c → (indent padding : ℕ) → (last : Bool) → ArePrefixFree default_marker (turning_piece (pieces_from c indent padding) last) × ArePrefixFree default_marker (passing_piece (pieces_from c indent padding) last)
-default_marker_told c which i p = marker_told default_marker c (at which) i p where
+pub default_marker_apart : (c : Characters) → IsShipped c → (indent padding : ℕ) → (last : Bool) → ArePrefixFree default_marker (turning_piece (pieces_from c indent padding) last) × ArePrefixFree default_marker (passing_piece (pieces_from c indent padding) last)
+default_marker_apart c which i p = marker_told default_marker c (at which) i p where
   at : IsShipped c → MarkerTold default_marker c
   at (inl e) = subst (MarkerTold default_marker) (sym e) (record { regular = refl; child = refl; last_regular = refl; last_child = refl })
   at (inr (inl e)) = subst (MarkerTold default_marker) (sym e) (record { regular = refl; child = refl; last_regular = refl; last_child = refl })
@@ -50,7 +50,7 @@ default_marker_told c which i p = marker_told default_marker c (at which) i p wh
 
 -- readable pieces of a shipped set are readable with the default marker too
 pub default_marker_readable : (c : Characters) → IsShipped c → (indent padding : ℕ) → IsReadable (pieces_from c indent padding) → IsReadableWith (pieces_from c indent padding) default_marker
-default_marker_readable c which i p h = record { pieces = h; no_line_feed = default_marker_line; apart = default_marker_told c which i p }
+default_marker_readable c which i p h = record { pieces = h; no_line_feed = default_marker_line; apart = default_marker_apart c which i p }
 
 -- a test of pieces and the default marker is true exactly when the pieces are readable
 pub marker_test : (c : Characters) (indent padding : ℕ) (marker : List ℕ) (test : Bool) → marker ≡ default_marker → IsShipped c

@@ -9,7 +9,7 @@ use Rattle.ptree.specs.Characters.{Characters, ascii_tick, ascii_plus, utf, utf_
 use Rattle.ptree.specs.Pieces.{pieces_from}
 use Rattle.ptree.specs.Readable.{ArePrefixFree, IsReadable}
 use Rattle.ptree.specs.Texts.{HasNoLineFeed}
-use Rattle.ptree.proofs.Pieces.Starts.{one_line, no_line_feed_when, no_line_feed_repeat, starts, pieces_on, AreTold, told_readable}
+use Rattle.ptree.proofs.Pieces.Starts.{one_line, no_line_feed_when, no_line_feed_repeat, starts, pieces_on, AreTold, readable_from_starts}
 
 -- ## The shipped sets
 
@@ -28,7 +28,7 @@ set_readable : (c : Characters) → AreTold (starts c.down_and_right c.down c.tu
 set_readable c told right empty indent padding =
     let n = indent - (1 + padding) in
     subst IsReadable (sym (pieces_from-split c indent padding))
-    (told_readable (starts c.down_and_right c.down c.turn_right c.empty) told _ _ (tail n padding c.right c.empty right empty) (tail n padding c.empty c.empty empty empty))
+    (readable_from_starts (starts c.down_and_right c.down c.turn_right c.empty) told _ _ (tail n padding c.right c.empty right empty) (tail n padding c.empty c.empty empty empty))
 
 -- a shipped set other than the one with ticks is readable at every indent and padding
 pub shipped_readable : (c : Characters) → IsShippedWithoutTicks c → (indent padding : ℕ) → IsReadable (pieces_from c indent padding)
@@ -56,7 +56,7 @@ tick_apart n padding indent e =
     pieces_from-split ascii_tick indent padding
     ∙ ap (λ m. pieces_on (starts (124 ∷ []) (124 ∷ []) (96 ∷ []) (32 ∷ [])) (repeat m (45 ∷ []) ++ repeat padding (32 ∷ [])) (repeat m (32 ∷ []) ++ repeat padding (32 ∷ []))) e in
     subst IsReadable (sym with_one)
-    (told_readable (starts (124 ∷ 45 ∷ []) (124 ∷ 32 ∷ []) (96 ∷ 45 ∷ []) (32 ∷ 32 ∷ [])) told _ _ (tail n padding (45 ∷ []) (32 ∷ []) refl refl) (tail n padding (32 ∷ []) (32 ∷ []) refl refl))
+    (readable_from_starts (starts (124 ∷ 45 ∷ []) (124 ∷ 32 ∷ []) (96 ∷ 45 ∷ []) (32 ∷ 32 ∷ [])) told _ _ (tail n padding (45 ∷ []) (32 ∷ []) refl refl) (tail n padding (32 ∷ []) (32 ∷ []) refl refl))
 
 -- without a character between, the first piece of each kind is the same text
 tick_same : (indent padding : ℕ) → indent ≤ 1 + padding → (pieces_from ascii_tick indent padding).regular ≡ (pieces_from ascii_tick indent padding).child

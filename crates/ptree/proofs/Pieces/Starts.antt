@@ -73,29 +73,29 @@ pub record AreTold (f : Starts) : Type 0 where
   pub passings : differ f.child f.last_child ≡ true
 
 -- both parts of a conjunction are true
-pub both : (a b : Bool) → (a && b) ≡ true → (a ≡ true) × (b ≡ true)
-both true b h = (refl, h)
-both false b h = absurd (false≢true h)
+pub both_true : (a b : Bool) → (a && b) ≡ true → (a ≡ true) × (b ≡ true)
+both_true true b h = (refl, h)
+both_true false b h = absurd (false≢true h)
 
 -- pieces with such starts are readable
-pub told_readable : (f : Starts) → AreTold f → (x y : List ℕ) → HasNoLineFeed x → HasNoLineFeed y → IsReadable (pieces_on f x y)
-told_readable f h x y hx hy = record {
+pub readable_from_starts : (f : Starts) → AreTold f → (x y : List ℕ) → HasNoLineFeed x → HasNoLineFeed y → IsReadable (pieces_on f x y)
+readable_from_starts f h x y hx hy = record {
   no_line_feed = lines;
   turning_passing = kinds;
   turnings = turnings h.turnings;
   passings = inr (apart_when_differ f.child f.last_child y y h.passings);
 } where
   turning : (one_line f.regular ≡ true) × (one_line f.last_regular ≡ true)
-  turning = both (one_line f.regular) (one_line f.last_regular) h.turning_lines
+  turning = both_true (one_line f.regular) (one_line f.last_regular) h.turning_lines
 
   passing : (one_line f.child ≡ true) × (one_line f.last_child ≡ true)
-  passing = both (one_line f.child) (one_line f.last_child) h.passing_lines
+  passing = both_true (one_line f.child) (one_line f.last_child) h.passing_lines
 
   regular : (differ f.regular f.child ≡ true) × (differ f.regular f.last_child ≡ true)
-  regular = both (differ f.regular f.child) (differ f.regular f.last_child) h.regular
+  regular = both_true (differ f.regular f.child) (differ f.regular f.last_child) h.regular
 
   last_regular : (differ f.last_regular f.child ≡ true) × (differ f.last_regular f.last_child ≡ true)
-  last_regular = both (differ f.last_regular f.child) (differ f.last_regular f.last_child) h.last_regular
+  last_regular = both_true (differ f.last_regular f.child) (differ f.last_regular f.last_child) h.last_regular
 
   line : (a z : List ℕ) → one_line a ≡ true → HasNoLineFeed z → HasNoLineFeed (a ++ z)
   line a z e hz = All-append (λ b. b ≢ 10) a z (no_line_feed_when a e) hz

@@ -45,9 +45,9 @@ one_drawing_of_both k same f g r a b c one piece =
     moved x y z = ap (λ w. (w ++ y) ++ z ++ 10 ∷ []) (append-nil x) ∙ ap (λ w. w ++ 10 ∷ []) (append_assoc x y z)
 
 -- two different trees have the same drawing if those pieces are equal
-pub tick_twice : (k : Look) (depth : ℕ) → k.pieces.regular ≡ k.pieces.child → k.branch ≡ plain_value → k.leaf ≡ plain_value → 2 ≤ depth → HasNoLineFeed k.pieces.last_regular → (r a b c : List ℕ) → HasNoLineFeed b
+pub two_trees_one_drawing : (k : Look) (depth : ℕ) → k.pieces.regular ≡ k.pieces.child → k.branch ≡ plain_value → k.leaf ≡ plain_value → 2 ≤ depth → HasNoLineFeed k.pieces.last_regular → (r a b c : List ℕ) → HasNoLineFeed b
     → DrawAlike k depth (nested_tree r a b c) (flat_tree r a (k.pieces.last_regular ++ b) c)
-tick_twice k depth same e f deep piece r a b c line =
+two_trees_one_drawing k depth same e f deep piece r a b c line =
     let t : Tree = nested_tree r a b c in
     let u : Tree = flat_tree r a (k.pieces.last_regular ++ b) c in
     let one : tree_drawing k t ≡ tree_drawing k u =

@@ -11,7 +11,7 @@ use Rattle.ptree.specs.Readable.{IsReadableWith}
 use Rattle.ptree.specs.Spelled.{SpelledItem, lines_of_items, IsSpelled, text_entry, spelled_text}
 use Rattle.ptree.specs.Tree.{Tree, tree}
 use Rattle.ptree.proofs.Reading.LaterLines.{have_spelled}
-use Rattle.ptree.proofs.Reading.Markers.{items_never}
+use Rattle.ptree.proofs.Reading.Markers.{items_do_not_continue}
 use Rattle.ptree.proofs.Reading.SpelledForms.{Shows, Low, lines_by, are_spelled_by, within_by, shows_form}
 use Rattle.ptree.proofs.Trees.LineTrees.{tree_of_lines}
 
@@ -35,7 +35,7 @@ goes_on k readable depth root x body items o is text right steps low =
     let are : All (IsSpelled p) spelled = are_spelled_by p 0 all steps in
     let here : Shows k depth root spelled (x ++ rest) = record {
       body = spelled_text k spelled;
-      has_root = (ap (λ z. z ++ rest) is ∙ (append_assoc (text_entry k [] [] root) body rest ∙ ap (λ z. text_entry k [] [] root ++ z) whole), items_never k readable 0 spelled are);
+      has_root = (ap (λ z. z ++ rest) is ∙ (append_assoc (text_entry k [] [] root) body rest ∙ ap (λ z. text_entry k [] [] root ++ z) whole), items_do_not_continue k readable 0 spelled are);
       spells = record {
         are_spelled = are;
         steps = subst (λ z. Steps 0 z) (sym (lines_by p all)) steps;

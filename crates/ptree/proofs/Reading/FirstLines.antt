@@ -93,8 +93,8 @@ fewer_go_on k depth m n x l goes =
     goes_on_before k depth (first_lines m x) rest (subst (HasContinuation k depth) is goes)
 
 -- a drawing continues the first n lines exactly when n is less than the first wrong line
-pub wrong_parts : (k : Look) (depth : ℕ) (x : List ℕ) (n : ℕ) → IsFirstWrongLine k depth x n → (m : ℕ) → HasContinuation k depth (first_lines m x) ↔ (m < n)
-wrong_parts k depth x n h m = (
+pub goes_on_before_wrong : (k : Look) (depth : ℕ) (x : List ℕ) (n : ℕ) → IsFirstWrongLine k depth x n → (m : ℕ) → HasContinuation k depth (first_lines m x) ↔ (m < n)
+goes_on_before_wrong k depth x n h m = (
   λ goes. elim (cases_lt m n) [
     | inl less ↦ less
     | inr more ↦ absurd (h.wrong (fewer_go_on k depth n m x more goes))

@@ -11,7 +11,7 @@ use Rattle.ptree.specs.Reached.{allows, any_flags, Allows, NoPiece, IsCutTo, Are
 use Rattle.ptree.specs.Readable.{ArePrefixFree, IsReadable}
 use Rattle.ptree.proofs.Reading.LastFlags.{length-last_flags}
 use Rattle.ptree.proofs.Reading.Markers.{passings_once}
-use Rattle.ptree.proofs.Pieces.Prefixes.{apart_never}
+use Rattle.ptree.proofs.Pieces.Prefixes.{apart_not_both_starts}
 use Rattle.ptree.proofs.Reading.OpenItems.{open_lines, some_flag, passing_push, passing_split, cut_flags, passing_parts}
 
 -- ## What was found
@@ -38,7 +38,7 @@ found_at p readable fs new text shown rest n h m o s z high allowed apart e =
             let moved : passing_all p a ++ ((passing_piece p b ++ passing_all p c) ++ rest) ≡ passing_by p o m ++ (s ++ z) =
             sym (append_assoc (passing_all p a) (passing_piece p b ++ passing_all p c) rest) ∙ (ap (λ y. y ++ rest) (sym (passing_parts p a b c) ∙ ap (passing_all p) (sym parts)) ∙ whole) in
             let same = passings_once p readable a (last_flags o m) ((passing_piece p b ++ passing_all p c) ++ rest) (s ++ z) (size ∙ sym (length-last_flags o m)) moved in
-            absurd (apart_never s (passing_piece p b) z (passing_all p c ++ rest) (apart b) (sym same.1 ∙ append_assoc (passing_piece p b) (passing_all p c) rest))
+            absurd (apart_not_both_starts s (passing_piece p b) z (passing_all p c ++ rest) (apart b) (sym same.1 ∙ append_assoc (passing_piece p b) (passing_all p c) rest))
         | inr most ↦
             let level : n ≡ m = omega arith in
             let same = passings_once p readable above (last_flags o m) rest (s ++ z) (len ∙ (level ∙ sym (length-last_flags o m))) whole in

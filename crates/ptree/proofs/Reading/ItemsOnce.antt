@@ -10,7 +10,7 @@ use Rattle.ptree.specs.Spelled.{has_line_feed, SpelledItem, spelled_item, ArePas
 use Rattle.ptree.specs.Style.{start_codes, end_codes, painted_text}
 use Rattle.ptree.proofs.Pieces.Prefixes.{same_pieces}
 use Rattle.ptree.proofs.Drawing.Inserted.{is_feed, inserted_feed, inserted_other, feed_here, feed_tail, feed_behind, feed_painted}
-use Rattle.ptree.proofs.Reading.Markers.{behind, entry_is, marker_once, item_never, items_never}
+use Rattle.ptree.proofs.Reading.Markers.{behind, text_entry_parts, further_prefix_once, item_does_not_continue, items_do_not_continue}
 
 -- the own bytes of two items of one level at the start of one text are the same
 pub record SameOwn (u u' q q' x y : List ℕ) : Type 0 where
@@ -47,7 +47,7 @@ own_once k h n (c ∷ u) (d ∷ u') q q' rest rest' a b s t e = elim (is_feed c)
         let e' : (10 ∷ (continued_prefix k q ++ with_inserted (continued_prefix k q) u)) ++ 10 ∷ rest ≡ (10 ∷ (continued_prefix k q' ++ with_inserted (continued_prefix k q') u')) ++ 10 ∷ rest' =
         ap (λ z. z ++ 10 ∷ rest) (sym (inserted_feed (continued_prefix k q) c u g)) ∙ (e ∙ ap (λ z. z ++ 10 ∷ rest') (inserted_feed (continued_prefix k q') d u' f)) in
         let tails : (continued_prefix k q ++ with_inserted (continued_prefix k q) u) ++ 10 ∷ rest ≡ (continued_prefix k q' ++ with_inserted (continued_prefix k q') u') ++ 10 ∷ rest' = cc in
-        let markers = marker_once k h.pieces n q q' _ _ (a (feed_here c u g)) (b (feed_here d u' f)) (sym (append_assoc (continued_prefix k q) _ _) ∙ (tails ∙ append_assoc (continued_prefix k q') _ _)) in
+        let markers = further_prefix_once k h.pieces n q q' _ _ (a (feed_here c u g)) (b (feed_here d u' f)) (sym (append_assoc (continued_prefix k q) _ _) ∙ (tails ∙ append_assoc (continued_prefix k q') _ _)) in
         let others = own_once k h n u u' q q' rest rest' (λ i. a (feed_behind c u i)) (λ i. b (feed_behind d u' i)) s t markers.1 in
         let heads : c ≡ d = g ∙ sym f in
         record { own = ap (λ z. z ∷ u) heads ∙ ap (λ z. d ∷ z) others.own; passing = λ i. markers.0; rest = others.rest }
@@ -101,7 +101,7 @@ same_shown k n m q q' t u a b e h = at (has_line_feed t) refl where
 pub line_at_once : (k : Look) → IsReadableWith k.pieces k.marker → (r s : SpelledItem) (x rest rest' : List ℕ) → HasItem k r rest x → HasItem k s rest' x → (r ≡ s) × (rest ≡ rest')
 line_at_once k readable r s x rest rest' ((at, shown), is, stop) ((at', shown'), is', stop') =
     let whole : (start_codes k.branch) ++ (r.pieces ++ behind k r.passing r.text rest) ≡ (start_codes k.branch) ++ (s.pieces ++ behind k s.passing s.text rest') =
-    sym (entry_is k r.pieces r.passing r.text rest) ∙ (sym is ∙ (is' ∙ entry_is k s.pieces s.passing s.text rest')) in
+    sym (text_entry_parts k r.pieces r.passing r.text rest) ∙ (sym is ∙ (is' ∙ text_entry_parts k s.pieces s.passing s.text rest')) in
     let pieces = same_pieces k.pieces readable.pieces r.level s.level r.pieces s.pieces at at' _ _ (append_cancel_left (start_codes k.branch) _ _ whole) in
     let level = pieces.level in
     let texts = text_once k readable s.level r.text s.text r.passing s.passing rest rest'
@@ -116,7 +116,7 @@ none_passing k = ([], refl, refl)
 pub root_once : (k : Look) → IsReadableWith k.pieces k.marker → (a b x rest rest' : List ℕ) → HasRoot k a rest x → HasRoot k b rest' x → (a ≡ b) × (rest ≡ rest')
 root_once k readable a b x rest rest' (is, stop) (is', stop') =
     let same = text_once k readable 0 a b [] [] rest rest' (λ i. none_passing k) (λ i. none_passing k) stop stop'
-    (append_cancel_left (start_codes k.branch) _ _ (sym (entry_is k [] [] a rest) ∙ (sym is ∙ (is' ∙ entry_is k [] [] b rest')))) in
+    (append_cancel_left (start_codes k.branch) _ _ (sym (text_entry_parts k [] [] a rest) ∙ (sym is ∙ (is' ∙ text_entry_parts k [] [] b rest')))) in
     (same.own, same.rest)
 
 -- a text with an entry in it is not empty
@@ -141,7 +141,7 @@ stops_head : (k : Look) → IsReadableWith k.pieces k.marker → (l : SpelledIte
 stops_head k h l [] rest are s = s
 stops_head k h l (m ∷ lines) rest are s =
     subst (λ z. IsNotContinued k l.level z) (sym (append_assoc (text_entry k m.pieces m.passing m.text) (spelled_text k lines) rest))
-    (item_never k h l.level m.level m.pieces m.passing m.text (spelled_text k lines ++ rest) (All-head (IsSpelled k.pieces) m lines are).0)
+    (item_does_not_continue k h l.level m.level m.pieces m.passing m.text (spelled_text k lines ++ rest) (All-head (IsSpelled k.pieces) m lines are).0)
 
 -- if items are at the start of a text, and what follows does not continue the last one, then any
 -- items of that text begin with them
@@ -162,7 +162,7 @@ lines_once k readable (r ∷ lines) (l ∷ all) rest h g s e =
     let all_are = All-tail (IsSpelled k.pieces) l all g in
     let first = line_at_once k readable r l (spelled_text k (l ∷ all)) (spelled_text k lines ++ rest) (spelled_text k all)
     (All-head (IsSpelled k.pieces) r lines h, sym e ∙ append_assoc (text_entry k r.pieces r.passing r.text) (spelled_text k lines) rest, stops_head k readable r lines rest lines_are s)
-    (All-head (IsSpelled k.pieces) l all g, refl, items_never k readable l.level all all_are) in
+    (All-head (IsSpelled k.pieces) l all g, refl, items_do_not_continue k readable l.level all all_are) in
     let others = lines_once k readable lines all rest lines_are all_are (stops_tail k r lines rest s) first.1 in
     record {
       more = others.more;
@@ -174,5 +174,5 @@ lines_once k readable (r ∷ lines) (l ∷ all) rest h g s e =
 -- the end of a text continues nothing
 pub stops_at_end : (k : Look) → IsReadableWith k.pieces k.marker → (lines : List SpelledItem) → Stops k lines []
 stops_at_end k h [] = tt
-stops_at_end k h (l ∷ []) = items_never k h l.level [] (All-nil (IsSpelled k.pieces))
+stops_at_end k h (l ∷ []) = items_do_not_continue k h l.level [] (All-nil (IsSpelled k.pieces))
 stops_at_end k h (l ∷ m ∷ lines) = stops_at_end k h (m ∷ lines)

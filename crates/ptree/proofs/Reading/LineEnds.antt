@@ -13,13 +13,13 @@ use Rattle.ptree.proofs.Styles.PaintedTexts.{no_line_feed_start, no_line_feed_en
 -- ## Lists
 
 -- the first line feed of a text comes after a prefix without one
-pub after_prefix : (a x g e : List ℕ) → HasNoLineFeed a → a ++ x ≡ g ++ 10 ∷ e → (h : List ℕ) × (g ≡ a ++ h) × (x ≡ h ++ 10 ∷ e)
-after_prefix [] x g e h is = (g, refl, is)
-after_prefix (b ∷ a) x [] e h is = absurd (All-head (λ c. c ≢ 10) b a h (let heads : b ≡ 10 = cc in heads))
-after_prefix (b ∷ a) x (c ∷ g) e h is =
+pub first_feed_after_prefix : (a x g e : List ℕ) → HasNoLineFeed a → a ++ x ≡ g ++ 10 ∷ e → (h : List ℕ) × (g ≡ a ++ h) × (x ≡ h ++ 10 ∷ e)
+first_feed_after_prefix [] x g e h is = (g, refl, is)
+first_feed_after_prefix (b ∷ a) x [] e h is = absurd (All-head (λ c. c ≢ 10) b a h (let heads : b ≡ 10 = cc in heads))
+first_feed_after_prefix (b ∷ a) x (c ∷ g) e h is =
     let heads : b ≡ c = cc in
     let tails : a ++ x ≡ g ++ 10 ∷ e = cc in
-    let rest = after_prefix a x g e (All-tail (λ c. c ≢ 10) b a h) tails in
+    let rest = first_feed_after_prefix a x g e (All-tail (λ c. c ≢ 10) b a h) tails in
     (rest.0, ap (λ z. z ∷ g) (sym heads) ∙ ap (λ z. b ∷ z) rest.1, rest.2)
 
 -- a text ends in a line feed

@@ -21,10 +21,10 @@ use Rattle.ptree.proofs.Drawing.TreeDrawing.{drawing_of_tree}
 -- ## The first line of a text
 
 -- the first line of a text with insertions
-pub first_of : (further own more w d : List ℕ) → HasNoLineFeed own → own ++ 10 ∷ more ≡ with_inserted further w ++ 10 ∷ d
+pub first_line_of_inserted : (further own more w d : List ℕ) → HasNoLineFeed own → own ++ 10 ∷ more ≡ with_inserted further w ++ 10 ∷ d
     → ((own ≡ w) × (more ≡ d)) ⊎ ((v : List ℕ) × (w ≡ own ++ 10 ∷ v) × (more ≡ further ++ with_inserted further v ++ 10 ∷ d))
-first_of further [] more [] d h e = inl (refl, cc)
-first_of further [] more (c ∷ w) d h e = elim (is_feed c) [
+first_line_of_inserted further [] more [] d h e = inl (refl, cc)
+first_line_of_inserted further [] more (c ∷ w) d h e = elim (is_feed c) [
   | inl f ↦
       let e' : 10 ∷ more ≡ (10 ∷ (further ++ with_inserted further w)) ++ 10 ∷ d = e ∙ ap (λ z. z ++ 10 ∷ d) (inserted_feed further c w f) in
       inr (w, ap (λ z. z ∷ w) f, cc)
@@ -32,8 +32,8 @@ first_of further [] more (c ∷ w) d h e = elim (is_feed c) [
       let e' : 10 ∷ more ≡ (c ∷ with_inserted further w) ++ 10 ∷ d = e ∙ ap (λ z. z ++ 10 ∷ d) (inserted_other further c w n) in
       absurd (n (let heads : c ≡ 10 = cc in heads))
 ]
-first_of further (b ∷ own) more [] d h e = absurd (All-head (λ c. c ≢ 10) b own h (let heads : b ≡ 10 = cc in heads))
-first_of further (b ∷ own) more (c ∷ w) d h e = elim (is_feed c) [
+first_line_of_inserted further (b ∷ own) more [] d h e = absurd (All-head (λ c. c ≢ 10) b own h (let heads : b ≡ 10 = cc in heads))
+first_line_of_inserted further (b ∷ own) more (c ∷ w) d h e = elim (is_feed c) [
   | inl f ↦
       let e' : b ∷ (own ++ 10 ∷ more) ≡ (10 ∷ (further ++ with_inserted further w)) ++ 10 ∷ d = e ∙ ap (λ z. z ++ 10 ∷ d) (inserted_feed further c w f) in
       absurd (All-head (λ c. c ≢ 10) b own h (let heads : b ≡ 10 = cc in heads))
@@ -41,17 +41,17 @@ first_of further (b ∷ own) more (c ∷ w) d h e = elim (is_feed c) [
       let e' : b ∷ (own ++ 10 ∷ more) ≡ (c ∷ with_inserted further w) ++ 10 ∷ d = e ∙ ap (λ z. z ++ 10 ∷ d) (inserted_other further c w n) in
       let heads : b ≡ c = cc in
       let tails : own ++ 10 ∷ more ≡ with_inserted further w ++ 10 ∷ d = cc in
-      elim (first_of further own more w d (All-tail (λ c. c ≢ 10) b own h) tails) [
+      elim (first_line_of_inserted further own more w d (All-tail (λ c. c ≢ 10) b own h) tails) [
         | inl s ↦ inl (ap (λ z. z ∷ own) heads ∙ ap (λ z. c ∷ z) s.0, s.1)
         | inr s ↦ inr (s.0, ap (λ z. z ∷ w) (sym heads) ∙ ap (λ z. b ∷ z) s.1, s.2)
       ]
 ]
 
 -- a text with insertions, from its first line
-pub of_first : (further own more w d : List ℕ) → HasNoLineFeed own → ((own ≡ w) × (more ≡ d)) ⊎ ((v : List ℕ) × (w ≡ own ++ 10 ∷ v) × (more ≡ further ++ with_inserted further v ++ 10 ∷ d))
+pub inserted_from_first_line : (further own more w d : List ℕ) → HasNoLineFeed own → ((own ≡ w) × (more ≡ d)) ⊎ ((v : List ℕ) × (w ≡ own ++ 10 ∷ v) × (more ≡ further ++ with_inserted further v ++ 10 ∷ d))
     → own ++ 10 ∷ more ≡ with_inserted further w ++ 10 ∷ d
-of_first further own more w d h (inl s) = ap (λ z. own ++ 10 ∷ z) s.1 ∙ ap (λ z. z ++ 10 ∷ d) (sym (ap (with_inserted further) (sym s.0) ∙ inserted_none further own h))
-of_first further own more w d h (inr s) =
+inserted_from_first_line further own more w d h (inl s) = ap (λ z. own ++ 10 ∷ z) s.1 ∙ ap (λ z. z ++ 10 ∷ d) (sym (ap (with_inserted further) (sym s.0) ∙ inserted_none further own h))
+inserted_from_first_line further own more w d h (inr s) =
     let shown : with_inserted further w ≡ own ++ 10 ∷ (further ++ with_inserted further s.0) =
     ap (with_inserted further) s.1 ∙ (inserted-append further own (10 ∷ s.0) ∙ (ap (λ z. z ++ with_inserted further (10 ∷ s.0)) (inserted_none further own h)
     ∙ ap (λ z. own ++ z) (inserted_feed further 10 s.0 refl))) in
@@ -90,20 +90,20 @@ own_line_more k pieces own more = at (own_prefix k pieces) where
   at a = simp append_assoc
 
 -- an item's own line is a prefix of the drawing of the item and of the lines below it
-pub opens : (k : Look) (n : ℕ) (pieces own more text : List ℕ) (below : List Line) → HasNoLineFeed own → pieces ≡ pieces_by k.pieces below n
+pub own_line_is_prefix : (k : Look) (n : ℕ) (pieces own more text : List ℕ) (below : List Line) → HasNoLineFeed own → pieces ≡ pieces_by k.pieces below n
     → own_line k pieces own ++ more ≡ lines_text k (line n text ∷ below) → Follows k n own text below more
-opens k n pieces own more text below h is e =
+own_line_is_prefix k n pieces own more text below h is e =
     let further : List ℕ = continued_prefix k (passing_by k.pieces below n) in
     let whole : own_prefix k pieces ++ (own ++ 10 ∷ more) ≡ own_prefix k pieces ++ (with_inserted further (text ++ end_codes k.leaf) ++ 10 ∷ lines_text k below) =
     sym (own_line_more k pieces own more) ∙ (e ∙ (line_split k (line n text) below ∙ ap (λ z. own_prefix k z ++ (with_inserted further (text ++ end_codes k.leaf) ++ 10 ∷ lines_text k below)) (sym is))) in
-    first_of further own more (text ++ end_codes k.leaf) (lines_text k below) h (append_cancel_left (own_prefix k pieces) _ _ whole)
+    first_line_of_inserted further own more (text ++ end_codes k.leaf) (lines_text k below) h (append_cancel_left (own_prefix k pieces) _ _ whole)
 
 -- an item's own line and what follows it draw the item and the lines below it
-pub opened : (k : Look) (n : ℕ) (pieces own more text : List ℕ) (below : List Line) → HasNoLineFeed own → pieces ≡ pieces_by k.pieces below n
+pub own_line_then_rest : (k : Look) (n : ℕ) (pieces own more text : List ℕ) (below : List Line) → HasNoLineFeed own → pieces ≡ pieces_by k.pieces below n
     → Follows k n own text below more → own_line k pieces own ++ more ≡ lines_text k (line n text ∷ below)
-opened k n pieces own more text below h is f =
+own_line_then_rest k n pieces own more text below h is f =
     let further : List ℕ = continued_prefix k (passing_by k.pieces below n) in
-    own_line_more k pieces own more ∙ (ap (λ z. own_prefix k pieces ++ z) (of_first further own more (text ++ end_codes k.leaf) (lines_text k below) h f)
+    own_line_more k pieces own more ∙ (ap (λ z. own_prefix k pieces ++ z) (inserted_from_first_line further own more (text ++ end_codes k.leaf) (lines_text k below) h f)
     ∙ (ap (λ z. own_prefix k z ++ (with_inserted further (text ++ end_codes k.leaf) ++ 10 ∷ lines_text k below)) is ∙ sym (line_split k (line n text) below)))
 
 -- ## Outlines within a depth
@@ -173,8 +173,8 @@ outline_form k depth x t h e =
     record { drawn = (drawing_of_tree k depth t x within).1 (e ∙ (root_text k t ∙ sym (tree_by_levels k t))); within = within }
 
 -- an outline within the depth is that of a tree
-pub outlined : (depth : ℕ) (o : List Line) → IsOutlineWithin depth o → (t : Tree) × (outline t ≡ o)
-outlined depth [] h = absurd h
-outlined depth (l ∷ o) h =
+pub tree_of_outline : (depth : ℕ) (o : List Line) → IsOutlineWithin depth o → (t : Tree) × (outline t ≡ o)
+tree_of_outline depth [] h = absurd h
+tree_of_outline depth (l ∷ o) h =
     let (f, is) = tree_of_lines o h.1 in
     (tree l.text f, ap (λ z. line 0 l.text ∷ z) is ∙ ap (λ z. line z l.text ∷ o) (sym h.0))

@@ -16,8 +16,8 @@ use Rattle.ptree.specs.Texts.{HasNoLineFeed}
 use Rattle.ptree.proofs.Reading.LineEnds.{no_feed_passing}
 use Rattle.ptree.proofs.Reading.LastFlags.{length-last_flags}
 use Rattle.ptree.proofs.Reading.Levels.{has_later_deeper, has_later_here}
-use Rattle.ptree.proofs.Reading.Markers.{passings_once, marker_is, own_prefix_split}
-use Rattle.ptree.proofs.Pieces.Prefixes.{apart_never, same_prefix, same_kind}
+use Rattle.ptree.proofs.Reading.Markers.{passings_once, continued_prefix_parts, own_prefix_split}
+use Rattle.ptree.proofs.Pieces.Prefixes.{apart_not_both_starts, same_prefix, same_kind}
 use Rattle.ptree.proofs.Styles.PaintedTexts.{no_line_feed_start, no_line_feed_end}
 use Rattle.ptree.proofs.Reading.OpenItems.{some_flag, allows_any, passing_deeper}
 use Rattle.ptree.proofs.Reading.FoundPieces.{found_at}
@@ -25,9 +25,9 @@ use Rattle.ptree.proofs.Reading.FoundPieces.{found_at}
 -- ## Lines that cannot continue a drawing
 
 -- a text without the branch's codes begins with neither kind of line
-pub no_start : (k : Look) (depth : ℕ) (fs : List Flags) (x : List ℕ) → ((z : List ℕ) → x ≢ start_codes k.branch ++ z) → BeginsWrong k depth fs x
-no_start k depth fs x h = record {
-  no_further = λ o z a e. h _ (e ∙ marker_is k (passing_by k.pieces o (length fs)) z);
+pub wrong_without_codes : (k : Look) (depth : ℕ) (fs : List Flags) (x : List ℕ) → ((z : List ℕ) → x ≢ start_codes k.branch ++ z) → BeginsWrong k depth fs x
+wrong_without_codes k depth fs x h = record {
+  no_further = λ o z a e. h _ (e ∙ continued_prefix_parts k (passing_by k.pieces o (length fs)) z);
   no_own = λ n o z low high deep a e. h _ (e ∙ own_prefix_split k (pieces_by k.pieces o n) z);
 }
 
@@ -43,7 +43,7 @@ begins_wrong k readable depth fs new x text shown rest n is h no_marker no_turn 
   further : (o : List Line) (z : List ℕ) → Allows fs o → x ≢ continued_prefix k (passing_by p o (length fs)) ++ z
   further o z a e =
       let whole : text ≡ passing_by p o (length fs) ++ (k.marker ++ (end_codes k.branch ++ z)) =
-      append_cancel_left (start_codes k.branch) _ _ (sym is ∙ (e ∙ marker_is k (passing_by p o (length fs)) z)) in
+      append_cancel_left (start_codes k.branch) _ _ (sym is ∙ (e ∙ continued_prefix_parts k (passing_by p o (length fs)) z)) in
       let there = found_at p readable.pieces fs new text shown rest n h (length fs) o k.marker (end_codes k.branch ++ z) (omega arith) a (λ b. (readable.apart b).1) whole in
       no_marker z there.0 there.2
 
@@ -66,7 +66,7 @@ pub turned_wrong : (k : Look) → IsReadableWith k.pieces k.marker → (depth : 
     → ((o : List Line) (z : List ℕ) → suc n ≤ depth → Allows new (line (suc n) [] ∷ o) → turned ≢ end_codes k.branch ++ (start_codes k.leaf ++ z)) → BeginsWrong k depth fs x
 turned_wrong k readable depth fs new x text shown rest turned n flags is h cut never =
     begins_wrong k readable depth fs new x text shown rest n is h
-    (λ z level e. apart_never k.marker (turning_piece k.pieces cut.last) (end_codes k.branch ++ z) turned (readable.apart cut.last).0 (sym e ∙ cut.text_is))
+    (λ z level e. apart_not_both_starts k.marker (turning_piece k.pieces cut.last) (end_codes k.branch ++ z) turned (readable.apart cut.last).0 (sym e ∙ cut.text_is))
     (λ b o z deep a e. never o z deep a (same_prefix (turning_piece k.pieces cut.last) (turning_piece k.pieces b) turned (end_codes k.branch ++ (start_codes k.leaf ++ z))
     (same_kind k.pieces.regular k.pieces.last_regular readable.pieces.turnings cut.last b) (sym cut.text_is ∙ e)).1)
 
@@ -97,9 +97,9 @@ pub record OwnParts (k : Look) (x text rest turned own more : List ℕ) (flags :
   pub one : HasNoLineFeed own
 
 -- the parts of an item's own line, as they were taken off one after the other
-pub own_parts : (k : Look) (x text rest turned closed start own more : List ℕ) (flags : Flags) → x ≡ start_codes k.branch ++ text → IsCutTo (turning_piece k.pieces) any_flags rest flags turned
+pub own_line_parts : (k : Look) (x text rest turned closed start own more : List ℕ) (flags : Flags) → x ≡ start_codes k.branch ++ text → IsCutTo (turning_piece k.pieces) any_flags rest flags turned
     → turned ≡ end_codes k.branch ++ closed → closed ≡ start_codes k.leaf ++ start → HasNoLineFeed own × (start ≡ own ++ 10 ∷ more) → OwnParts k x text rest turned own more flags
-own_parts k x text rest turned closed start own more flags is cut t c line = record {
+own_line_parts k x text rest turned closed start own more flags is cut t c line = record {
   is = is;
   cut = cut;
   turned_is = t ∙ ap (λ z. end_codes k.branch ++ z) (c ∙ ap (λ z. start_codes k.leaf ++ z) line.1);
@@ -107,9 +107,9 @@ own_parts k x text rest turned closed start own more flags is cut t c line = rec
 }
 
 -- an item's own line, from its parts
-pub own_there : (k : Look) → IsReadableWith k.pieces k.marker → (depth : ℕ) (fs new fs' : List Flags) (x text shown rest turned own more : List ℕ) (n : ℕ) (flags : Flags) → IsFound k.pieces fs new text shown rest n
+pub own_line_from_parts : (k : Look) → IsReadableWith k.pieces k.marker → (depth : ℕ) (fs new fs' : List Flags) (x text shown rest turned own more : List ℕ) (n : ℕ) (flags : Flags) → IsFound k.pieces fs new text shown rest n
     → OwnParts k x text rest turned own more flags → n < depth → CanClose n new → fs' ≡ take n new ++ flags ∷ [] → IsOwnLine k depth fs x own more fs' × ArePath k.pieces fs' n shown
-own_there k readable depth fs new fs' x text shown rest turned own more n flags h parts deep can fs_is =
+own_line_from_parts k readable depth fs new fs' x text shown rest turned own more n flags h parts deep can fs_is =
     let p : Pieces = k.pieces in
     let cut = parts.cut in
     let (above, len, shown_is) = h.are_passing in
@@ -182,9 +182,9 @@ own_there k readable depth fs new fs' x text shown rest turned own more n flags 
     )
 
 -- a further line, from its parts
-pub further_there : (k : Look) (fs new : List Flags) (x text shown rest own more : List ℕ) (n : ℕ) → IsFound k.pieces fs new text shown rest n → x ≡ start_codes k.branch ++ text
+pub further_line_from_parts : (k : Look) (fs new : List Flags) (x text shown rest own more : List ℕ) (n : ℕ) → IsFound k.pieces fs new text shown rest n → x ≡ start_codes k.branch ++ text
     → length new ≤ n → rest ≡ k.marker ++ (end_codes k.branch ++ (own ++ 10 ∷ more)) → HasNoLineFeed own → IsFurtherLine k fs x own more new × ArePath k.pieces new n shown
-further_there k fs new x text shown rest own more n h is all rest_is one =
+further_line_from_parts k fs new x text shown rest own more n h is all rest_is one =
     let enough = h.enough in
     let count = h.count in
     let level : n ≡ length fs = omega (arith, enough, count, all) in (
@@ -192,7 +192,7 @@ further_there k fs new x text shown rest own more n h is all rest_is one =
         passing = shown;
         one = one;
         are_passing = subst (λ z. ArePassing k.pieces z shown) level h.are_passing;
-        text_is = is ∙ (ap (λ z. start_codes k.branch ++ z) (h.text_is ∙ ap (λ z. shown ++ z) rest_is) ∙ sym (marker_is k shown (own ++ 10 ∷ more)));
+        text_is = is ∙ (ap (λ z. start_codes k.branch ++ z) (h.text_is ∙ ap (λ z. shown ++ z) rest_is) ∙ sym (continued_prefix_parts k shown (own ++ 10 ∷ more)));
         cuts = subst (λ z. CutsPassing k.pieces fs z shown new) level h.cut;
         count = count;
       },

@@ -14,12 +14,12 @@ use Rattle.ptree.specs.Readable.{IsReadableWith}
 use Rattle.ptree.specs.Style.{start_codes, end_codes, painted_text}
 use Rattle.ptree.specs.Texts.{HasNoLineFeed}
 use Rattle.ptree.specs.Tree.{Tree}
-use Rattle.ptree.proofs.Reading.LineEnds.{after_prefix, no_feed_painted, no_feed_continued, no_feed_pieces}
-use Rattle.ptree.proofs.Drawing.Inserted.{no_text}
+use Rattle.ptree.proofs.Reading.LineEnds.{first_feed_after_prefix, no_feed_painted, no_feed_continued, no_feed_pieces}
+use Rattle.ptree.proofs.Drawing.Inserted.{feed_not_empty}
 use Rattle.ptree.proofs.Reading.LaterLines.{closings, closings_later, closings_steps}
-use Rattle.ptree.proofs.Reading.NextLines.{line_split, valid_below, valid_more, form_outline, outline_form, outlined}
+use Rattle.ptree.proofs.Reading.NextLines.{line_split, valid_below, valid_more, form_outline, outline_form, tree_of_outline}
 use Rattle.ptree.proofs.Styles.PaintedTexts.{no_line_feed_start}
-use Rattle.ptree.proofs.Reading.ReachedLines.{not_nothing}
+use Rattle.ptree.proofs.Reading.ReachedLines.{whole_lines_not_empty}
 
 -- ## A wrong line
 
@@ -45,15 +45,15 @@ wrong_line k readable depth prefix lines level own fs x new rest h is_line no_fu
     which : IsOutlineWithin depth (outline t) → (below : List Line) (text : List ℕ) → outline t ≡ lines ++ line level text ∷ below → Allows fs below → Follows k level own text below (new ++ 10 ∷ more) → ⊥
     which valid below text is allowed (inr s) =
         let further : List ℕ = continued_prefix k (passing_by p below level) in
-        let cut = after_prefix further (with_inserted further s.0 ++ 10 ∷ lines_text k below) new more (no_feed_continued k readable (last_flags below level)) (sym (s.2 ∙ append_assoc further (with_inserted further s.0) (10 ∷ lines_text k below))) in
+        let cut = first_feed_after_prefix further (with_inserted further s.0 ++ 10 ∷ lines_text k below) new more (no_feed_continued k readable (last_flags below level)) (sym (s.2 ∙ append_assoc further (with_inserted further s.0) (10 ∷ lines_text k below))) in
         no_further below (cut.0 ++ 10 ∷ rest) allowed (is_line ∙ (ap (λ z. z ++ 10 ∷ rest) cut.1 ∙ append_assoc further cut.0 (10 ∷ rest)))
-    which valid [] text is allowed (inl s) = not_nothing new more (append_assoc new (10 ∷ []) more ∙ s.1)
+    which valid [] text is allowed (inl s) = whole_lines_not_empty new more (append_assoc new (10 ∷ []) more ∙ s.1)
     which valid (l ∷ o') text is allowed (inl s) =
         let below = valid_below depth lines (line level text) (l ∷ o') (subst (IsOutlineWithin depth) is valid) in
         let there : List ℕ = pieces_by p o' l.level in
         let feed : HasNoLineFeed (own_prefix k there) =
         All-append (λ c. c ≢ 10) (painted_text k.branch there) (start_codes k.leaf) (no_feed_painted k.branch there (no_feed_pieces p readable.pieces o' l.level)) (no_line_feed_start k.leaf) in
-        let cut = after_prefix (own_prefix k there) _ new more feed (sym (s.1 ∙ line_split k l o')) in
+        let cut = first_feed_after_prefix (own_prefix k there) _ new more feed (sym (s.1 ∙ line_split k l o')) in
         no_own text l.level o' (cut.0 ++ 10 ∷ rest) s.0 below.0.0 below.0.1 below.1.0 allowed (is_line ∙ (ap (λ z. z ++ 10 ∷ rest) cut.1 ∙ append_assoc (own_prefix k there) cut.0 (10 ∷ rest)))
 
 -- ## Drawings that continue
@@ -89,7 +89,7 @@ reached_goes_on k depth prefix lines level own fs h =
     let more : List ℕ = further ++ with_inserted further (end_codes k.leaf) ++ 10 ∷ lines_text k below in
     let o : List Line = lines ++ here ∷ below in
     let valid : IsOutlineWithin depth o = valid_more depth lines here below (h.valid text) (closings_steps f level level (omega arith)) (closings_within f depth level (level_within depth lines here (h.valid text))) in
-    let (t, is) = outlined depth o valid in (
+    let (t, is) = tree_of_outline depth o valid in (
       t,
       more,
       outline_form k depth (prefix ++ more) t (subst (IsOutlineWithin depth) (sym is) valid)
@@ -114,17 +114,17 @@ reached_none k depth prefix lines level own fs h none t form =
     which below text allowed follows
   where
     which : (below : List Line) (text : List ℕ) → Allows fs below → Follows k level own text below [] → ⊥
-    which below text allowed (inr s) = no_text _ (lines_text k below) s.2
+    which below text allowed (inr s) = feed_not_empty _ (lines_text k below) s.2
     which [] text allowed (inl s) = none text s.0 allowed
     which (l ∷ o') text allowed (inl s) =
-        no_text _ (lines_text k o') (s.1 ∙ (line_split k l o' ∙ sym (append_assoc (own_prefix k (pieces_by k.pieces o' l.level)) _ (10 ∷ lines_text k o'))))
+        feed_not_empty _ (lines_text k o') (s.1 ∙ (line_split k l o' ∙ sym (append_assoc (own_prefix k (pieces_by k.pieces o' l.level)) _ (10 ∷ lines_text k o'))))
 
 -- a text without a line feed does not end in a line
-pub feed_not : (a b x : List ℕ) → HasNoLineFeed x → x ≡ a ++ 10 ∷ b → ⊥
-feed_not [] b [] h e = no_text [] b e
-feed_not [] b (c ∷ x) h e = All-head (λ c. c ≢ 10) c x h (let heads : c ≡ 10 = cc in heads)
-feed_not (d ∷ a) b [] h e = no_text (d ∷ a) b e
-feed_not (d ∷ a) b (c ∷ x) h e = feed_not a b x (All-tail (λ c. c ≢ 10) c x h) (let tails : x ≡ a ++ 10 ∷ b = cc in tails)
+pub feedless_ends_no_line : (a b x : List ℕ) → HasNoLineFeed x → x ≡ a ++ 10 ∷ b → ⊥
+feedless_ends_no_line [] b [] h e = feed_not_empty [] b e
+feedless_ends_no_line [] b (c ∷ x) h e = All-head (λ c. c ≢ 10) c x h (let heads : c ≡ 10 = cc in heads)
+feedless_ends_no_line (d ∷ a) b [] h e = feed_not_empty (d ∷ a) b e
+feedless_ends_no_line (d ∷ a) b (c ∷ x) h e = feedless_ends_no_line a b x (All-tail (λ c. c ≢ 10) c x h) (let tails : x ≡ a ++ 10 ∷ b = cc in tails)
 
 -- whole lines and a part of another one are no drawing
 pub reached_short : (k : Look) (depth : ℕ) (prefix : List ℕ) (lines : List Line) (level : ℕ) (own : List ℕ) (fs : List Flags) (x : List ℕ) → Reached k depth prefix lines level own fs
@@ -135,7 +135,7 @@ reached_short k depth prefix lines level own fs x h one some t form =
     which below text follows
   where
     which : (below : List Line) (text : List ℕ) → Follows k level own text below x → ⊥
-    which below text (inr s) = feed_not _ (lines_text k below) x one s.2
+    which below text (inr s) = feedless_ends_no_line _ (lines_text k below) x one s.2
     which [] text (inl s) = some s.1
     which (l ∷ o') text (inl s) =
-        feed_not _ (lines_text k o') x one (s.1 ∙ (line_split k l o' ∙ sym (append_assoc (own_prefix k (pieces_by k.pieces o' l.level)) _ (10 ∷ lines_text k o'))))
+        feedless_ends_no_line _ (lines_text k o') x one (s.1 ∙ (line_split k l o' ∙ sym (append_assoc (own_prefix k (pieces_by k.pieces o' l.level)) _ (10 ∷ lines_text k o'))))

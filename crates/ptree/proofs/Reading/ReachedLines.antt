@@ -11,8 +11,8 @@ use Rattle.ptree.specs.Readable.{IsReadableWith}
 use Rattle.ptree.specs.Spelled.{ArePiecesAt, ArePassing}
 use Rattle.ptree.specs.Style.{start_codes, end_codes}
 use Rattle.ptree.specs.Texts.{HasNoLineFeed}
-use Rattle.ptree.proofs.Reading.Markers.{marker_is, own_prefix_split, marker_once, marker_never, items_never}
-use Rattle.ptree.proofs.Reading.NextLines.{first_of, of_first, line_split, own_line, own_line_more, opens, opened, valid_below, valid_more, push_assoc}
+use Rattle.ptree.proofs.Reading.Markers.{continued_prefix_parts, own_prefix_split, further_prefix_once, turning_is_no_marker, items_do_not_continue}
+use Rattle.ptree.proofs.Reading.NextLines.{first_line_of_inserted, inserted_from_first_line, line_split, own_line, own_line_more, own_line_is_prefix, own_line_then_rest, valid_below, valid_more, push_assoc}
 use Rattle.ptree.proofs.Pieces.Prefixes.{same_pieces}
 use Rattle.ptree.proofs.Reading.SpelledForms.{are_spelled_by, pieces_at, passing_at}
 
@@ -25,13 +25,13 @@ root_reached k depth own h = record {
   is_open = ([], λ n low. absurd (omega (arith, low)));
   valid = λ text. (refl, tt, tt);
   to = to;
-  from = λ o more (below, text, is, allowed, follows). opened k 0 [] own more text below h refl follows ∙ ap (lines_text k) (sym is);
+  from = λ o more (below, text, is, allowed, follows). own_line_then_rest k 0 [] own more text below h refl follows ∙ ap (lines_text k) (sym is);
 } where
   to : (o : List Line) (more : List ℕ) → IsOutlineWithin depth o → own_line k [] own ++ more ≡ lines_text k o → IsLeft k [] 0 own [] o more
   to [] more valid e = absurd valid
   to (l ∷ below) more valid e =
       let here : l ≡ line 0 l.text = ap (λ z. line z l.text) valid.0 in
-      (below, l.text, ap (λ z. z ∷ below) here, λ n low. absurd (omega (arith, low)), opens k 0 [] own more l.text below h refl (e ∙ ap (λ z. lines_text k (z ∷ below)) here))
+      (below, l.text, ap (λ z. z ∷ below) here, λ n low. absurd (omega (arith, low)), own_line_is_prefix k 0 [] own more l.text below h refl (e ∙ ap (λ z. lines_text k (z ∷ below)) here))
 
 -- ## A further line
 
@@ -65,16 +65,16 @@ further_reached k readable depth prefix lines level own more_own passing fs fs' 
               → IsLeft k lines level (own ++ 10 ∷ more_own) fs' o more
           at below text is allowed (inl s) =
               let rest = valid_below depth lines (line level text) below (subst (IsOutlineWithin depth) is valid) in
-              absurd (items_never k readable level (spelled_by p below) (are_spelled_by p level below rest.0) passing (more_own ++ 10 ∷ more) are (sym s.1 ∙ further_more k passing more_own more))
+              absurd (items_do_not_continue k readable level (spelled_by p below) (are_spelled_by p level below rest.0) passing (more_own ++ 10 ∷ more) are (sym s.1 ∙ further_more k passing more_own more))
           at below text is allowed (inr s) =
               let further : List ℕ = continued_prefix k (passing_by p below level) in
-              let same = marker_once k readable.pieces level passing (passing_by p below level) (more_own ++ 10 ∷ more) (with_inserted further s.0 ++ 10 ∷ lines_text k below) are (passing_at p below level)
+              let same = further_prefix_once k readable.pieces level passing (passing_by p below level) (more_own ++ 10 ∷ more) (with_inserted further s.0 ++ 10 ∷ lines_text k below) are (passing_at p below level)
               (sym (further_more k passing more_own more) ∙ (s.2 ∙ append_assoc further (with_inserted further s.0) (10 ∷ lines_text k below))) in (
                 below,
                 text,
                 is,
                 (cuts below).1 (allowed, sym same.0),
-                elim (first_of further more_own more s.0 (lines_text k below) one same.1) [
+                elim (first_line_of_inserted further more_own more s.0 (lines_text k below) one same.1) [
                   | inl f ↦ inl (ap (λ z. own ++ 10 ∷ z) f.0 ∙ sym s.1, f.1)
                   | inr f ↦ inr (f.0, s.1 ∙ (ap (λ z. own ++ 10 ∷ z) f.1 ∙ longer f.0), f.2)
                 ],
@@ -87,7 +87,7 @@ further_reached k readable depth prefix lines level own more_own passing fs fs' 
           let left : (v : List ℕ) → ((more_own ≡ v) × (more ≡ lines_text k below)) ⊎ ((u : List ℕ) × (v ≡ more_own ++ 10 ∷ u) × (more ≡ further ++ with_inserted further u ++ 10 ∷ lines_text k below))
           → new ++ more ≡ further ++ with_inserted further v ++ 10 ∷ lines_text k below =
           λ v f. further_more k passing more_own more ∙ (ap (λ z. continued_prefix k z ++ (more_own ++ 10 ∷ more)) (sym passes)
-          ∙ (ap (λ z. further ++ z) (of_first further more_own more v (lines_text k below) one f) ∙ sym (append_assoc further (with_inserted further v) (10 ∷ lines_text k below)))) in
+          ∙ (ap (λ z. further ++ z) (inserted_from_first_line further more_own more v (lines_text k below) one f) ∙ sym (append_assoc further (with_inserted further v) (10 ∷ lines_text k below)))) in
           append_assoc prefix new more ∙ h.from o (new ++ more) (
             below,
             text,
@@ -102,19 +102,19 @@ further_reached k readable depth prefix lines level own more_own passing fs fs' 
 -- ## An item's own line
 
 -- an item's own line is not a further one
-pub own_never : (k : Look) → IsReadableWith k.pieces k.marker → (n m : ℕ) (pieces passing x y : List ℕ) → ArePiecesAt k.pieces m pieces → ArePassing k.pieces n passing → own_prefix k pieces ++ x ≡ continued_prefix k passing ++ y → ⊥
-own_never k h n zero pieces passing x y at are e = absurd at
-own_never k h n (suc m) pieces passing x y (above, last, len, is) (above', len', is') e =
+pub own_is_not_further : (k : Look) → IsReadableWith k.pieces k.marker → (n m : ℕ) (pieces passing x y : List ℕ) → ArePiecesAt k.pieces m pieces → ArePassing k.pieces n passing → own_prefix k pieces ++ x ≡ continued_prefix k passing ++ y → ⊥
+own_is_not_further k h n zero pieces passing x y at are e = absurd at
+own_is_not_further k h n (suc m) pieces passing x y (above, last, len, is) (above', len', is') e =
     let whole : start_codes k.branch ++ (pieces ++ (end_codes k.branch ++ (start_codes k.leaf ++ x))) ≡ start_codes k.branch ++ (passing ++ (k.marker ++ (end_codes k.branch ++ y))) =
-    sym (own_prefix_split k pieces x) ∙ (e ∙ marker_is k passing y) in
+    sym (own_prefix_split k pieces x) ∙ (e ∙ continued_prefix_parts k passing y) in
     let start : pieces ++ (end_codes k.branch ++ (start_codes k.leaf ++ x)) ≡ passing ++ (k.marker ++ (end_codes k.branch ++ y)) = append_cancel_left (start_codes k.branch) _ _ whole in
-    marker_never k.pieces k.marker h above above' last (end_codes k.branch ++ (start_codes k.leaf ++ x)) (end_codes k.branch ++ y)
+    turning_is_no_marker k.pieces k.marker h above above' last (end_codes k.branch ++ (start_codes k.leaf ++ x)) (end_codes k.branch ++ y)
     (ap (λ z. z ++ (end_codes k.branch ++ (start_codes k.leaf ++ x))) (sym is) ∙ (start ∙ (ap (λ z. z ++ (k.marker ++ (end_codes k.branch ++ y))) is'
     ∙ sym (append_assoc (passing_all k.pieces above') k.marker (end_codes k.branch ++ y)))))
 
 -- whole lines and more are not empty
-pub not_nothing : (a more : List ℕ) → (a ++ 10 ∷ []) ++ more ≡ [] → ⊥
-not_nothing a more e = let long = ap length e in omega (arith, simp length-append at long)
+pub whole_lines_not_empty : (a more : List ℕ) → (a ++ 10 ∷ []) ++ more ≡ [] → ⊥
+whole_lines_not_empty a more e = let long = ap length e in omega (arith, simp length-append at long)
 
 -- what is known after an item's own line
 pub own_reached : (k : Look) → IsReadableWith k.pieces k.marker → (depth : ℕ) (prefix : List ℕ) (lines : List Line) (level : ℕ) (own text pieces new_own : List ℕ) (n : ℕ) (fs fs' : List Flags)
@@ -141,9 +141,9 @@ own_reached k readable depth prefix lines level own text pieces new_own n fs fs'
               → IsLeft k (lines ++ line level text ∷ []) n new_own fs' o more
           which below text2 is allowed (inr s) =
               let further : List ℕ = continued_prefix k (passing_by p below level) in
-              absurd (own_never k readable level n pieces (passing_by p below level) (new_own ++ 10 ∷ more) (with_inserted further s.0 ++ 10 ∷ lines_text k below) at (passing_at p below level)
+              absurd (own_is_not_further k readable level n pieces (passing_by p below level) (new_own ++ 10 ∷ more) (with_inserted further s.0 ++ 10 ∷ lines_text k below) at (passing_at p below level)
               (sym (own_line_more k pieces new_own more) ∙ (s.2 ∙ append_assoc further (with_inserted further s.0) (10 ∷ lines_text k below))))
-          which [] text2 is allowed (inl s) = absurd (not_nothing (own_prefix k pieces ++ new_own) more s.1)
+          which [] text2 is allowed (inl s) = absurd (whole_lines_not_empty (own_prefix k pieces ++ new_own) more s.1)
           which (l ∷ o') text2 is allowed (inl s) =
               let texts : text2 ≡ text = append_cancel_right text2 text (end_codes k.leaf) (sym s.0 ∙ closed) in
               let rest = valid_below depth lines (line level text2) (l ∷ o') (subst (IsOutlineWithin depth) is valid) in
@@ -160,7 +160,7 @@ own_reached k readable depth prefix lines level own text pieces new_own n fs fs'
                 l.text,
                 is ∙ (ap (λ z. lines ++ line level z ∷ l ∷ o') texts ∙ (ap (λ z. lines ++ line level text ∷ z ∷ o') here ∙ sym (push_assoc lines (line level text) (line n l.text ∷ o')))),
                 (cuts o').1 (leaves, sym pieces_is),
-                opens k n pieces new_own more l.text o' one pieces_is (s.1 ∙ ap (λ z. lines_text k (z ∷ o')) here),
+                own_line_is_prefix k n pieces new_own more l.text o' one pieces_is (s.1 ∙ ap (λ z. lines_text k (z ∷ o')) here),
               )
 
       from : (o : List Line) (more : List ℕ) → IsLeft k (lines ++ line level text ∷ []) n new_own fs' o more → (prefix ++ new) ++ more ≡ lines_text k o
@@ -171,5 +171,5 @@ own_reached k readable depth prefix lines level own text pieces new_own n fs fs'
             text,
             is ∙ push_assoc lines (line level text) (line n text' ∷ below),
             kept,
-            inl (closed, opened k n pieces new_own more text' below one (sym pieces_is) follows),
+            inl (closed, own_line_then_rest k n pieces new_own more text' below one (sym pieces_is) follows),
           )

@@ -16,12 +16,12 @@ use Rattle.ptree.specs.Style.{start_codes, end_codes, painted_text}
 use Rattle.ptree.specs.Texts.{HasNoLineFeed}
 use Rattle.ptree.specs.Tree.{Tree}
 use Rattle.ptree.proofs.Reading.Continuations.{goes_on_nothing}
-use Rattle.ptree.proofs.Reading.LineEnds.{after_prefix, no_feed_passing, no_feed_painted, no_feed_continued}
+use Rattle.ptree.proofs.Reading.LineEnds.{first_feed_after_prefix, no_feed_passing, no_feed_painted, no_feed_continued}
 use Rattle.ptree.proofs.Reading.FirstLines.{first_rest, first_next, first_more, count_none, count_line}
 use Rattle.ptree.proofs.Reading.OpenItems.{open_lines}
 use Rattle.ptree.proofs.Reading.NextLines.{line_split, form_outline}
-use Rattle.ptree.proofs.Reading.ReachedLines.{root_reached, further_reached, own_reached, own_never}
-use Rattle.ptree.proofs.Reading.ReachedEnds.{wrong_line, reached_goes_on, reached_end, reached_none, reached_short, feed_not}
+use Rattle.ptree.proofs.Reading.ReachedLines.{root_reached, further_reached, own_reached, own_is_not_further}
+use Rattle.ptree.proofs.Reading.ReachedEnds.{wrong_line, reached_goes_on, reached_end, reached_none, reached_short, feedless_ends_no_line}
 use Rattle.ptree.proofs.Reading.SpelledForms.{passing_at}
 use Rattle.ptree.proofs.Styles.PaintedTexts.{no_line_feed_start, no_line_feed_end}
 
@@ -106,7 +106,7 @@ NoneWith k depth x rest n = (new more : List ℕ) → HasNoLineFeed new → rest
 
 -- a line that is neither an own line nor a further one cannot continue the drawing
 pub scan_wrong : (k : Look) → IsReadableWith k.pieces k.marker → (depth : ℕ) (x rest own : List ℕ) (n : ℕ) (done : List Line) (level : ℕ) (fs : List Flags) → ScanSo k depth x rest n done level own fs → NoLine k depth fs rest → NoneWith k depth x rest n
-scan_wrong k readable depth x rest own n done level fs h (inl none) new more one e goes = feed_not new more rest none e
+scan_wrong k readable depth x rest own n done level fs h (inl none) new more one e goes = feedless_ends_no_line new more rest none e
 scan_wrong k readable depth x rest own n done level fs h (inr wrong) new more one e goes =
     let level_is = h.reached.count in
     wrong_line k readable depth (first_lines n x) done level own fs rest new more h.reached e
@@ -118,7 +118,7 @@ pub scan_open : (k : Look) → IsReadableWith k.pieces k.marker → (depth : ℕ
     → IsOwnLine k depth fs rest next behind fs' → ((text : List ℕ) → own ≢ text ++ end_codes k.leaf) → NoneWith k depth x rest n
 scan_open k readable depth x rest own next behind n done level fs fs' h f never new more one e goes =
     wrong_line k readable depth (first_lines n x) done level own fs rest new more h.reached e
-    (λ o z a g. own_never k readable level (length fs') f.pieces (passing_by k.pieces o level) (next ++ 10 ∷ behind) z f.are_pieces (passing_at k.pieces o level) (sym f.text_is ∙ g))
+    (λ o z a g. own_is_not_further k readable level (length fs') f.pieces (passing_by k.pieces o level) (next ++ 10 ∷ behind) z f.are_pieces (passing_at k.pieces o level) (sym f.text_is ∙ g))
     (λ text m o z closed low high deep a g. never text closed) goes
 
 -- a text that ends within a line is no drawing
@@ -144,11 +144,11 @@ root_short k depth x one t form =
   where
     at : (o : List Line) → IsOutlineWithin depth o → x ≡ lines_text k o → ⊥
     at [] valid e = absurd valid
-    at (l ∷ o) valid e = feed_not _ (lines_text k o) x one (e ∙ (line_split k l o ∙ sym (append_assoc (own_prefix k (pieces_by k.pieces o l.level)) _ (10 ∷ lines_text k o))))
+    at (l ∷ o) valid e = feedless_ends_no_line _ (lines_text k o) x one (e ∙ (line_split k l o ∙ sym (append_assoc (own_prefix k (pieces_by k.pieces o l.level)) _ (10 ∷ lines_text k o))))
 
 -- a first line without the root's prefix begins no drawing
 pub root_wrong : (k : Look) (depth : ℕ) (x : List ℕ) → HasNoLineFeed x ⊎ ((z : List ℕ) → x ≢ own_prefix k [] ++ z) → NoneWith k depth x x 0
-root_wrong k depth x (inl none) new more one e goes = feed_not new more x none e
+root_wrong k depth x (inl none) new more one e goes = feedless_ends_no_line new more x none e
 root_wrong k depth x (inr never) new more one e (t, after, form) =
     let (same, valid) = form_outline k depth _ t form in
     at (outline t) valid (sym (append_assoc new (10 ∷ []) after) ∙ same)
@@ -156,7 +156,7 @@ root_wrong k depth x (inr never) new more one e (t, after, form) =
     at : (o : List Line) → IsOutlineWithin depth o → new ++ 10 ∷ after ≡ lines_text k o → ⊥
     at [] valid f = absurd valid
     at (l ∷ o) valid f =
-        let cut = after_prefix (own_prefix k []) _ new after (feedless_root k) (sym (f ∙ (line_split k l o ∙ ap (λ m. own_prefix k (pieces_by k.pieces o m) ++ (with_inserted (continued_prefix k (passing_by k.pieces o l.level)) (l.text ++ end_codes k.leaf) ++ 10 ∷ lines_text k o)) valid.0))) in
+        let cut = first_feed_after_prefix (own_prefix k []) _ new after (feedless_root k) (sym (f ∙ (line_split k l o ∙ ap (λ m. own_prefix k (pieces_by k.pieces o m) ++ (with_inserted (continued_prefix k (passing_by k.pieces o l.level)) (l.text ++ end_codes k.leaf) ++ 10 ∷ lines_text k o)) valid.0))) in
         never (cut.0 ++ 10 ∷ more) (e ∙ (ap (λ z. z ++ 10 ∷ more) cut.1 ∙ append_assoc (own_prefix k []) cut.0 (10 ∷ more)))
 
 -- ## The end
@@ -202,8 +202,8 @@ scan_end k depth x rest own text n done level fs h e closed allowed = (
 )
 
 -- a text with a wrong line is no drawing
-pub wrong_none : (k : Look) (depth : ℕ) (x : List ℕ) (n : ℕ) → IsFirstWrongLine k depth x n → (t : Tree) → IsDrawnForm k depth x t → ⊥
-wrong_none k depth x n h t form =
+pub wrong_line_no_drawing : (k : Look) (depth : ℕ) (x : List ℕ) (n : ℕ) → IsFirstWrongLine k depth x n → (t : Tree) → IsDrawnForm k depth x t → ⊥
+wrong_line_no_drawing k depth x n h t form =
     let (rest, is) = first_rest n x in
     h.wrong (t, rest, subst (λ z. IsDrawnForm k depth z t) is form)
 
@@ -221,5 +221,5 @@ scan_moved k depth x rest n done done' level level' own own' fs h d l o =
     subst (λ z. ScanSo k depth x rest n z level' own' fs) (sym d) (subst (λ z. ScanSo k depth x rest n done z own' fs) (sym l) (subst (λ z. ScanSo k depth x rest n done level z fs) (sym o) h))
 
 -- the rest after a line is shorter
-pub shorter : (a b more rest : List ℕ) → rest ≡ a ++ (b ++ 10 ∷ more) → length more < length rest
-shorter a b more rest e = let size = ap length e in omega (arith, simp length-append at size)
+pub rest_is_shorter : (a b more rest : List ℕ) → rest ≡ a ++ (b ++ 10 ∷ more) → length more < length rest
+rest_is_shorter a b more rest e = let size = ap length e in omega (arith, simp length-append at size)

@@ -28,9 +28,9 @@ pub record IsAlike (width : ℕ) (a b : List ℕ) : Type 0 where
   pub most : (m : ℕ) → m ≤ length a → m ≤ length b → take m a ≡ take m b → m ≤ width
 
 -- texts have the common prefix that their bytes have, compared up to the length of the shorter one
-pub alike : (a b x y : List ℕ) (width least : ℕ) → a ≡ x → b ≡ y → least ≤ length x → least ≤ length y → ((m : ℕ) → m ≤ length x → m ≤ length y → m ≤ least) → width ≤ least
+pub common_prefix_of_texts : (a b x y : List ℕ) (width least : ℕ) → a ≡ x → b ≡ y → least ≤ length x → least ≤ length y → ((m : ℕ) → m ≤ length x → m ≤ length y → m ≤ least) → width ≤ least
     → take width a ≡ take width b → ((m : ℕ) → m ≤ least → take m a ≡ take m b → m ≤ width) → IsAlike width x y
-alike a b x y width least left right left_least right_least greatest within same most = record {
+common_prefix_of_texts a b x y width least left right left_least right_least greatest within same most = record {
   left = omega (arith, within, left_least);
   right = omega (arith, within, right_least);
   same = ap (take width) (sym left) ∙ (same ∙ ap (take width) right);

@@ -16,7 +16,7 @@ use Rattle.ptree.proofs.Reading.LastFlags.{length-last_flags}
 use Rattle.ptree.proofs.Trees.Outlines.{same_tree}
 use Rattle.ptree.proofs.Reading.Levels.{tree_by_levels}
 use Rattle.ptree.proofs.Reading.ItemsOnce.{root_once, lines_once, entry_not_nil, stops_at_end}
-use Rattle.ptree.proofs.Reading.Markers.{items_never}
+use Rattle.ptree.proofs.Reading.Markers.{items_do_not_continue}
 use Rattle.ptree.proofs.Drawing.TreeDrawing.{drawing_of_tree}
 
 -- x is the text of a root, and then the text of items
@@ -119,7 +119,7 @@ form_shows look readable depth x t h =
     let are = are_spelled_by k.pieces 0 o steps in
     record {
       body = spelled_text k (spelled_by k.pieces o);
-      has_root = ((drawing_of_tree look depth t x h.within).0 h.drawn ∙ tree_by_levels k t, items_never k readable 0 (spelled_by k.pieces o) are);
+      has_root = ((drawing_of_tree look depth t x h.within).0 h.drawn ∙ tree_by_levels k t, items_do_not_continue k readable 0 (spelled_by k.pieces o) are);
       spells = record {
         are_spelled = are;
         steps = subst (λ z. Steps 0 z) (sym (lines_by k.pieces o)) steps;

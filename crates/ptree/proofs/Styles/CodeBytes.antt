@@ -67,7 +67,7 @@ codes_are [] = empty
 codes_are (ps ∷ pss) = both (code ps) _ (code_is ps) (codes_are pss)
 
 -- the codes before a painted text are such bytes
-pub start_is : (style : StyleValue) → AreCodeBytes (start_codes style)
-start_is style =
+pub start_codes_are_code_bytes : (style : StyleValue) → AreCodeBytes (start_codes style)
+start_codes_are_code_bytes style =
     let h = parameters_of style in
     subst (λ cs. AreCodeBytes (joined_codes cs)) (sym h.1) (codes_are h.0)

@@ -39,9 +39,9 @@ more_numbers now base xs i h e =
     ∙ flat_map_more (λ n. 59 ∷ decimal n) base (take i xs) (get_or xs i 0) ∙ ap (λ ns. base ++ flat_map (λ n. 59 ∷ decimal n) ns) (sym (take_more xs i 0 h))
 
 -- a code, piece by piece
-pub code_is : (old a b c d others : List ℕ) (first i : ℕ) → a ≡ old ++ 27 ∷ [] → b ≡ a ++ 91 ∷ [] → c ≡ b ++ decimal first
+pub code_parts : (old a b c d others : List ℕ) (first i : ℕ) → a ≡ old ++ 27 ∷ [] → b ≡ a ++ 91 ∷ [] → c ≡ b ++ decimal first
     → d ≡ c ++ flat_map (λ n. 59 ∷ decimal n) (take i others) → length others ≤ i → d ++ 109 ∷ [] ≡ old ++ code (first ∷ others)
-code_is old a b c d others first i e f g h l =
+code_parts old a b c d others first i e f g h l =
     ap (λ bs. bs ++ 109 ∷ []) (h ∙ ap (λ bs. c ++ flat_map (λ n. 59 ∷ decimal n) bs) (take_all i others l)
     ∙ ap (λ bs. bs ++ flat_map (λ n. 59 ∷ decimal n) others) (g ∙ ap (λ bs. bs ++ decimal first) (f ∙ ap (λ bs. bs ++ 91 ∷ []) e)))
     ∙ pieces old (decimal first) (flat_map (λ n. 59 ∷ decimal n) others) ∙ ap (λ bs. old ++ 27 ∷ 91 ∷ (bs ++ 109 ∷ [])) (sym (join-decimals first others))

@@ -10,7 +10,7 @@ use Rattle.ptree.specs.Color.{ColorValue}
 use Rattle.ptree.specs.declared.style.tone.Side.{Side}
 use Rattle.ptree.specs.declared.style.tone.Side.TheVariants.{Foreground, Background}
 use Rattle.ptree.specs.Style.{StyleValue, plain_value, code, flags, flag_codes, side_codes, SetsNone, IsPlain, style_codes, reset_after, start_codes, end_codes, painted_text}
-use Rattle.ptree.proofs.Styles.CodeBytes.{IsCodeByte, start_is}
+use Rattle.ptree.proofs.Styles.CodeBytes.{IsCodeByte, start_codes_are_code_bytes}
 
 -- the plain style has no code
 pub plain_codes : style_codes plain_value ≡ []
@@ -57,9 +57,9 @@ no_line_feed_end style = no_line_feed_reset (style_codes style)
 
 -- the codes before a painted text hold no line feed
 pub no_line_feed_start : (style : StyleValue) → HasNoLineFeed (start_codes style)
-no_line_feed_start style = All-weaker IsCodeByte (λ b. b ≢ 10) (λ b h. omega arith) (start_codes style) (start_is style)
+no_line_feed_start style = All-weaker IsCodeByte (λ b. b ≢ 10) (λ b h. omega arith) (start_codes style) (start_codes_are_code_bytes style)
 
 -- the codes before a painted text are UTF-8
 pub IsUtf8-start_codes : (style : StyleValue) → IsUtf8 (start_codes style)
 IsUtf8-start_codes style =
-    IsUtf8-from_ascii (start_codes style) (IsAscii-from_all (start_codes style) (All-weaker IsCodeByte (λ b. b < 128) (λ b h. h.0) (start_codes style) (start_is style)))
+    IsUtf8-from_ascii (start_codes style) (IsAscii-from_all (start_codes style) (All-weaker IsCodeByte (λ b. b < 128) (λ b h. h.0) (start_codes style) (start_codes_are_code_bytes style)))

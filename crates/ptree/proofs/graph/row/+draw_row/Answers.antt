@@ -11,9 +11,9 @@ use Rattle.ptree.specs.Entries.{kid_entries, entries_below}
 use Rattle.ptree.specs.Occurrence.{OccurrenceTree, occurrence_shape}
 use Rattle.ptree.specs.Pieces.{passing_piece}
 use Rattle.ptree.specs.Shape.{Shape}
-use Rattle.ptree.proofs.Graphs.AlongEdges.{last_tells, length_row, kids_below, seen_below, no_kids, kids_are, own_part, own_whole, leaf_written, all_begun, seen_ok}
+use Rattle.ptree.proofs.Graphs.AlongEdges.{last_tells, length_row, kids_below, seen_below, no_kids, kids_are, own_part, own_whole, leaf_written, all_begun, flags_after_ok}
 use Rattle.ptree.proofs.Graphs.EdgeLists.{newest_starts, newest_within, newest_has}
-use Rattle.ptree.proofs.Drawing.Engine.{item_written, all_below, begun_none, begun_part, begun_then, begun_err, not_last, still_turned, long_enough, take_again, quiet}
+use Rattle.ptree.proofs.Drawing.Engine.{item_written, all_below, begun_none, begun_part, begun_then, begun_err, not_last, still_turned, long_enough, take_again, memory_is_no_fault}
 use Rattle.ptree.proofs.Graphs.Growth.{stopped, without, entered, seen_made}
 use Rattle.ptree.proofs.Graphs.Links.{node_at, target_at, linked-step}
 use Rattle.ptree.proofs.Graphs.NodeFlags.{seen_all}
@@ -121,7 +121,7 @@ draw_row-loop-number-preserved g t c =
     let kept = take_again c.len-width.result (line_bytes c.loop-number.pen.line) _ _ (long_enough _ _ _ inv.kept wide) c.in_ok-turn.ensures.line in
     record {
       begun = λ outer e. begun_then shape look (entries_below look c.args.levels_left) outer _ _ _ _ c.is_oldest-is_last.result _ _ _ next ends (inv.begun outer e) (c.in_ok-draw_node.ensures.bytes outer (kept ∙ inv.kept ∙ e));
-      no_fault = quiet _ _ c.draw_node.new.pen.error c.in_ok-draw_node.ensures.cause c.in_ok-draw_node.ensures.error ∙ inv.no_fault;
+      no_fault = memory_is_no_fault _ _ c.draw_node.new.pen.error c.in_ok-draw_node.ensures.cause c.in_ok-draw_node.ensures.error ∙ inv.no_fault;
       error = c.in_ok-draw_node.ensures.error;
       kept = c.in_ok-draw_node.ensures.kept ∙ kept ∙ inv.kept;
       turned = λ held some. still_turned c.len-width.result (line_bytes c.loop-number.pen.line) _ _ (λ b. own_text look (Some b)) c.is_oldest-is_last.result c.in_ok-turn.ensures.line (not_last _ _ c.is_oldest-is_last.ensures some) kept (c.in_ok-draw_node.ensures.turned held);
@@ -175,7 +175,7 @@ draw_node-returns-clause-bytes g t c = λ outer e.
     (c.draw_below.ensures.bytes outer (ap (take c.args.width) c.in_ok-draw_entry.ensures.kept ∙ e)))
 
 pub draw_node-returns-clause-seen : goal.draw_node-returns-clause-seen
-draw_node-returns-clause-seen g t c = seen_ok _ _ _ c.draw_below.result (sym (seen_below (neighbors_of (edges_of c.args.marked.now.graph.now)) c.args.levels_left (flags_of c.args.marked.now.graph.now c.args.seen.now.items) c.args.node.0 c.if-levels_left-eq0.false
+draw_node-returns-clause-seen g t c = flags_after_ok _ _ _ c.draw_below.result (sym (seen_below (neighbors_of (edges_of c.args.marked.now.graph.now)) c.args.levels_left (flags_of c.args.marked.now.graph.now c.args.seen.now.items) c.args.node.0 c.if-levels_left-eq0.false
     (sym (c.is_flagged-repeated.ensures ∙ (ap (λ l. is_seen l c.args.node.0) c.deref.ensures.value ∙ sym (seen_all (length (weights_of c.args.marked.now.graph.now)) c.args.seen.now.items c.args.node.0))) ∙ c.if-repeated.false))) c.draw_below.ensures.seen
 
 pub draw_node-returns-then-repeated-clause-bytes : goal.draw_node-returns-then-repeated-clause-bytes

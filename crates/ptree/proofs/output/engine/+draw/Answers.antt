@@ -6,7 +6,7 @@ use Rattle.ptree.specs.Looks.{look_of, own_text}
 use Rattle.ptree.specs.Entries.{kid_entries, entries_below}
 use Rattle.ptree.specs.Pieces.{passing_piece}
 use Rattle.ptree.specs.Shape.{kids}
-use Rattle.ptree.proofs.Drawing.Engine.{item_written, none_below, all_below, begun_none, begun_part, begun_then, begun_err, not_last, still_turned, long_enough, take_again, quiet}
+use Rattle.ptree.proofs.Drawing.Engine.{item_written, none_below, all_below, begun_none, begun_part, begun_then, begun_err, not_last, still_turned, long_enough, take_again, memory_is_no_fault}
 use Rattle.ptree.proofs.Sinks.Written.{entries_none, entries_err, entry_part}
 use Rattle.std.proofs.lemmas.Grind.{common_steps}
 use Rattle.ptree.proofs.output.engine.+draw.Goals as goal
@@ -47,7 +47,7 @@ draw_children-loop-item-preserved g t c =
     let kept = take_again c.len-width.result (line_bytes c.loop-item.pen.line) _ _ (long_enough _ _ _ inv.kept wide) c.in_ok-turn.ensures.line in
     record {
       begun = λ outer e. begun_then g.C.Shaped.shape look (entries_below look c.args.levels_left) outer _ _ _ _ c.is_empty-is_last.result _ _ _ c.in-Some.ensures.cases.0 c.is_empty-is_last.ensures (inv.begun outer e) (c.in_ok-draw_item.ensures.bytes outer (kept ∙ inv.kept ∙ e));
-      no_fault = quiet _ _ c.draw_item.new.pen.error c.in_ok-draw_item.ensures.cause c.in_ok-draw_item.ensures.error ∙ inv.no_fault;
+      no_fault = memory_is_no_fault _ _ c.draw_item.new.pen.error c.in_ok-draw_item.ensures.cause c.in_ok-draw_item.ensures.error ∙ inv.no_fault;
       error = c.in_ok-draw_item.ensures.error;
       kept = c.in_ok-draw_item.ensures.kept ∙ kept ∙ inv.kept;
       turned = λ held some. still_turned c.len-width.result (line_bytes c.loop-item.pen.line) _ _ (λ last. own_text look (Some last)) c.is_empty-is_last.result c.in_ok-turn.ensures.line (not_last _ _ c.is_empty-is_last.ensures some) kept (c.in_ok-draw_item.ensures.turned held);

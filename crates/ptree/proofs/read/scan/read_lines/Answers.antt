@@ -8,7 +8,7 @@ use Rattle.ptree.specs.Outline.{line}
 use Rattle.ptree.specs.Pieces.{pieces_of}
 use Rattle.ptree.specs.Reached.{IsOwnLine, IsFurtherLine, ArePath}
 use Rattle.ptree.proofs.Trees.PartialSteps.{none_partial, none_lines}
-use Rattle.ptree.proofs.Reading.Scanning.{ScanSo, scan_start, scan_further, scan_own, scan_wrong, scan_open, scan_short, scan_before, root_before, root_short, root_wrong, scan_ends_wrong, scan_end, scan_moved, shorter}
+use Rattle.ptree.proofs.Reading.Scanning.{ScanSo, scan_start, scan_further, scan_own, scan_wrong, scan_open, scan_short, scan_before, root_before, root_short, root_wrong, scan_ends_wrong, scan_end, scan_moved, rest_is_shorter}
 use Rattle.ptree.proofs.read.scan.read_lines.Goals as goal
 use Rattle.ptree.proofs.read.scan.read_lines.Goals.{in-Own+in-Some-drop_leaf_end+in_ok-into_string-in-Own+in_ok-add-in-Own, in-Further+in_ok-shown-in-Further}
 
@@ -72,8 +72,8 @@ pub loop-rest-smaller : goal.loop-rest-smaller
 loop-rest-smaller c =
     let k = look_of c.args.frame.now.look.now in
     elim c.match-line.branch [
-      | in-Own+in-Some-drop_leaf_end+in_ok-into_string-in-Own+in_ok-add-in-Own w ↦ let l : IsOwnLine k c.args.frame.now.depth c.loop-rest.path.flags.items c.loop-rest.rest.now w.in-Own.own.now c.in-Some-2.more.now c.go_on.new.self.flags.items = rw w.in-Own.is at (rw c.in-Some-2.is at c.in_ok-line.ensures.line) in shorter _ w.in-Own.own.now c.in-Some-2.more.now c.loop-rest.rest.now l.text_is
-      | in-Further+in_ok-shown-in-Further w ↦ let l : IsFurtherLine k c.loop-rest.path.flags.items c.loop-rest.rest.now w.in-Further.own.now c.in-Some-2.more.now c.go_on.new.self.flags.items = rw w.in-Further.is at (rw c.in-Some-2.is at c.in_ok-line.ensures.line) in shorter _ w.in-Further.own.now c.in-Some-2.more.now c.loop-rest.rest.now l.text_is
+      | in-Own+in-Some-drop_leaf_end+in_ok-into_string-in-Own+in_ok-add-in-Own w ↦ let l : IsOwnLine k c.args.frame.now.depth c.loop-rest.path.flags.items c.loop-rest.rest.now w.in-Own.own.now c.in-Some-2.more.now c.go_on.new.self.flags.items = rw w.in-Own.is at (rw c.in-Some-2.is at c.in_ok-line.ensures.line) in rest_is_shorter _ w.in-Own.own.now c.in-Some-2.more.now c.loop-rest.rest.now l.text_is
+      | in-Further+in_ok-shown-in-Further w ↦ let l : IsFurtherLine k c.loop-rest.path.flags.items c.loop-rest.rest.now w.in-Further.own.now c.in-Some-2.more.now c.go_on.new.self.flags.items = rw w.in-Further.is at (rw c.in-Some-2.is at c.in_ok-line.ensures.line) in rest_is_shorter _ w.in-Further.own.now c.in-Some-2.more.now c.loop-rest.rest.now l.text_is
     ]
 
 pub loop-rest-preserved : goal.loop-rest-preserved

@@ -1,6 +1,6 @@
 use Rattle.std.proofs.Common.{◌++◌, get_or, decimal, ap, ◌∙◌, arith}
 use Rattle.std.proofs.Math.Facts.{Fits-lt-pow}
-use Rattle.ptree.proofs.Styles.Decimals.{length-byte-le, more_numbers, code_is}
+use Rattle.ptree.proofs.Styles.Decimals.{length-byte-le, more_numbers, code_parts}
 use Rattle.ptree.proofs.style.codes.Codes.push_code.Goals as goal
 
 pub loop-n-preserved : goal.loop-n-preserved
@@ -12,4 +12,4 @@ loop-n-preserved c = record {
 
 pub returns-clause-text : goal.returns-clause-text
 returns-clause-text c =
-    c.push-3.ensures.text ∙ code_is _ _ _ _ _ c.args.others.now c.args.first c.loop-n.n-index c.push.ensures.text c.push-2.ensures.text c.push_number.ensures.text c.loop-n.invariant.text c.loop-n-test.false
+    c.push-3.ensures.text ∙ code_parts _ _ _ _ _ c.args.others.now c.args.first c.loop-n.n-index c.push.ensures.text c.push-2.ensures.text c.push_number.ensures.text c.loop-n.invariant.text c.loop-n-test.false
