@@ -1,4 +1,4 @@
--- configurations and their sources
+-- Configurations and their sources.
 pub mod FieldLists
 pub mod FaultLists
 pub mod Digits

@@ -1,4 +1,4 @@
--- drawings: addresses, entries, the engine, and laws
+-- Drawings: addresses, entries, the engine, and laws.
 pub mod Addresses
 pub mod Join
 pub mod TreeDrawing

@@ -1,4 +1,4 @@
--- graphs
+-- Graphs, their walks, and graphs expanded once.
 pub mod EdgeLists
 pub mod Links
 pub mod Turned

@@ -1,4 +1,4 @@
--- readable pieces and markers
+-- Readable pieces and markers.
 pub mod Prefixes
 pub mod Starts
 pub mod ShippedSets

@@ -1,4 +1,4 @@
--- reading: which pieces a line shows, which items, and which tree
+-- Reading: which pieces a line shows, which items, and which tree.
 pub mod Markers
 pub mod OwnBytes
 pub mod ItemsOnce

@@ -1,4 +1,4 @@
--- codes, colours and painted texts
+-- Codes, colours and painted texts.
 pub mod Decimals
 pub mod ColorNames
 pub mod CodeBytes

@@ -1,4 +1,4 @@
--- trees, outlines and shapes
+-- Trees, outlines and shapes.
 pub mod ItemTrees
 pub mod SameTrees
 pub mod Outlines

@@ -1,4 +1,4 @@
--- values and documents
+-- Values and documents.
 pub mod NumberTexts
 pub mod ValuePairs
 pub mod Converted
