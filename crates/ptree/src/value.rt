@@ -15,10 +15,10 @@ mod node;
 mod part;
 mod text;
 
-pub use convert::ConvertError;
 use crate::item::{Children, Shaped, TreeItem};
 use crate::sink::{DrawError, Sink};
 use crate::style::Style;
+pub use convert::ConvertError;
 pub use document::{DocError, DocFormat, draw_document, draw_document_with};
 use std::alloc::{AllocError, Global};
 use text::ROOM;
