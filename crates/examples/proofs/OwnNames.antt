@@ -5,7 +5,7 @@ use Rattle.ptree.specs.declared.print_config.fields.Field.{Field}
 use Rattle.ptree.specs.declared.print_config.fields.Field.TheVariants.{Paint}
 use Rattle.ptree.specs.declared.print_config.fields.Part.TheVariants.{Branch, Leaf}
 use Rattle.ptree.specs.declared.print_config.fields.StyleField.TheVariants.{Foreground}
-use Rattle.ptree_trees.specs.Settings.{field_at, field_of_variable, has_variable}
+use Rattle.ptree_sources.specs.Settings.{field_at, field_of_variable, has_variable}
 
 -- each field is at its own key
 pub own_key : (field : Field) → field_at (table_key field) (field_key field) ≡ Some field

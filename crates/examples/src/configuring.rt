@@ -5,9 +5,9 @@ ghost use Rattle.std.specs.declared.io.ErrorKind.{ErrorKind};
 ghost use Rattle.ptree.specs.Sources.{file_document, given_by, variable};
 ghost use Rattle.ptree.specs.declared.print_config.fields.Field.{Field};
 ghost use Rattle.ptree.specs.declared.print_config.loader.Fault.{Fault};
-ghost use Rattle.ptree_trees.specs.FaultLine.{IsKeyLine};
-ghost use Rattle.ptree_trees.specs.Settings.{file_keys, is_known};
-ghost use Rattle.ptree_trees.specs.Warnings.{all_warnings};
+ghost use Rattle.ptree_sources.specs.FaultLine.{IsKeyLine};
+ghost use Rattle.ptree_sources.specs.Settings.{file_keys, is_known};
+ghost use Rattle.ptree_sources.specs.Warnings.{all_warnings};
 
 use ptree::print_config::{Fault, Field, FileSource, Sources};
 use ptree_trees::indented::IndentError;

@@ -1,2 +1,6 @@
 pub mod Entries
+pub mod FaultPlaces
 pub mod Inputs
+pub mod Keys
+pub mod KnownColors
+pub mod WarningLists

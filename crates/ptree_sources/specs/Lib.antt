@@ -1,5 +1,10 @@
 pub mod Candidates
 pub mod Environment
+pub mod FaultLine
 pub mod Input
+pub mod KeyLists
 pub mod Opened
 pub mod OwnTypes
+pub mod Settings
+pub mod Warnings
+pub mod WrittenValue

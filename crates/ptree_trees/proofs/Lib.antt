@@ -4,7 +4,6 @@ pub mod CutPaths
 pub mod Differences
 pub mod EscapedTrees
 pub mod Escapes
-pub mod FaultPlaces
 pub mod FloatTexts
 pub mod GroupResults
 pub mod GroupSteps
@@ -13,8 +12,6 @@ pub mod IndentedReading
 pub mod IndentedResults
 pub mod IndentedTexts
 pub mod IndentedWriting
-pub mod Keys
-pub mod KnownColors
 pub mod NameKeys
 pub mod NameOrders
 pub mod PartTexts
@@ -29,5 +26,4 @@ pub mod SharedStarts
 pub mod SortedCuts
 pub mod StartLoops
 pub mod Sorting
-pub mod WarningLists
 pub mod WrittenTrees

@@ -8,11 +8,11 @@ mod of_json;
 mod of_toml;
 mod refused;
 
-use crate::parsed::{read_json, read_toml};
 pub use of_json::json_tree;
 pub use of_toml::toml_tree;
 use ptree::item::StringItem;
 use ptree::value::DocFormat;
+use ptree_sources::parsed::{read_json, read_toml};
 pub use refused::{Step, json_refused_path, refused_path, toml_refused_path};
 use std::alloc::{AllocError, Global};
 

@@ -1,6 +1,5 @@
 //! For those who keep and compare trees: trees as indented text, trees of paths, the first
-//! difference of two trees, trees changed, texts escaped, documents with floats and dates, and what
-//! a configuration's sources say.
+//! difference of two trees, trees changed, texts escaped, and documents with floats and dates.
 #![tactic(auto)]
 
 pub mod change;
@@ -9,7 +8,7 @@ pub mod documents;
 mod errors;
 pub mod escape;
 pub mod indented;
-mod parsed;
 pub mod paths;
-pub mod settings;
 pub mod styled;
+
+pub use ptree_sources::settings;

@@ -5,9 +5,11 @@ use ptree::print_config::{
     FIELDS, Fault, Field, Part, PrintConfig, Spelling, StyleField, StyleWhen, faults, last_value,
 };
 use ptree::style::{Color, Style};
+use ptree_sources::settings::{
+    Entry, Warning, allowed, entries, fault_line, warnings, wrong_value,
+};
 use ptree_sources::surroundings::Surroundings;
 use ptree_trees::escape::escaped;
-use ptree_trees::settings::{Entry, Warning, allowed, entries, fault_line, warnings, wrong_value};
 use std::alloc::{AllocError, Global};
 
 /// What is said of the settings, and whether the sources have faults.

@@ -5,8 +5,8 @@ ghost use Rattle.ptree.specs.Tree.{tree_of};
 ghost use Rattle.ptree_trees.specs.WrittenDocument.{IsTomlText, IsTomlMemberText, IsTomlTree, is_toml_list, AreTomlKids, AreTomlElements, AreTomlMembers};
 
 use super::{item_of, text_item};
-use crate::settings::written_toml;
 use ptree::item::StringItem;
+use ptree_sources::parsed::written_toml;
 use std::alloc::{AllocError, Global};
 use toml::Table;
 

@@ -6,10 +6,10 @@ ghost use Rattle.ptree_trees.specs.RefusedWalk.{path_found};
 mod of_json;
 mod of_toml;
 
-use crate::parsed::{read_json, read_toml};
 pub use of_json::json_refused_path;
 pub use of_toml::toml_refused_path;
 use ptree::value::DocFormat;
+use ptree_sources::parsed::{read_json, read_toml};
 use std::alloc::{AllocError, Global};
 use std::fmt;
 

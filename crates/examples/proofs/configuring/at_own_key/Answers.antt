@@ -1,6 +1,6 @@
 use Rattle.std.proofs.Common.{◌∙◌, ap}
 use Rattle.ptree.specs.Fields.{table_key}
-use Rattle.ptree_trees.specs.Settings.{field_at}
+use Rattle.ptree_sources.specs.Settings.{field_at}
 use Rattle.examples.proofs.OwnNames.{own_key}
 use Rattle.examples.proofs.configuring.at_own_key.Goals as goal
 

@@ -1,5 +1,5 @@
 use Rattle.std.proofs.Common.{◌∙◌, ap}
-use Rattle.ptree_trees.specs.Settings.{field_of_variable}
+use Rattle.ptree_sources.specs.Settings.{field_of_variable}
 use Rattle.examples.proofs.OwnNames.{own_variable}
 use Rattle.examples.proofs.configuring.of_own_variable.Goals as goal
 
