@@ -67,7 +67,8 @@ pub fn drawing_of_copy(
     config: &PrintConfig,
 ) -> Result<Vec<u8>, AllocError>
     ensures { IfOk result (λ drawn.
-        IsDrawing (written_look config.now) (value_shape (data_of value.now)) config.now.depth drawn.items) }
+        IsDrawing (written_look config.now) (value_shape (data_of value.now)) config.now.depth
+        drawn.items) }
 {
     let copy = value.clone()?;
     tree_bytes(alloc, &copy, config)

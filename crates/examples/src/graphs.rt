@@ -75,8 +75,8 @@ pub fn needs_once(graph: &Graph<Package>, which: NodeIndex) -> Result<Occurrence
     graph.expanded_once(which, 9)
 }
 
-/// How many times a package is named where each one's needs are shown once: as often as the tree has
-/// occurrences.
+/// How many times a package is named where each one's needs are shown once: as often as the tree
+/// has occurrences.
 pub fn times_named(graph: &Graph<Package>, which: NodeIndex) -> Result<usize, AllocError>
     ensures { IfOk result (λ n. (t : OccurrenceTree)
         → IsExpandedOnce (neighbors_of (edges_of graph.now)) which.0 9 t → n ≡ occurrence_count t) }
@@ -88,8 +88,8 @@ pub fn times_named(graph: &Graph<Package>, which: NodeIndex) -> Result<usize, Al
 /// its needs below it, and the others have nothing.
 pub fn first_needs_once(graph: &Graph<Package>, which: NodeIndex) -> Result<Occurrence, AllocError>
     requires { neighbors_of (edges_of graph.now) which.0 ≢ [] }
-    ensures { IfOk result (λ o. (a : Address) (p : OccurrenceTree) → StandsAt (occurrence_tree o) a p
-        → p.node ≡ which.0 → length a < 9
+    ensures { IfOk result (λ o. (a : Address) (p : OccurrenceTree)
+        → StandsAt (occurrence_tree o) a p → p.node ≡ which.0 → length a < 9
         → (occurrence_kids p ≢ []) ↔ (IsMetBefore 9 (occurrence_tree o) a p.node → ⊥)) }
 {
     graph.expanded_once(which, 9)
@@ -214,7 +214,8 @@ pub fn print_needs_once<W: Sink>(
         let text = λ (p : Package). string_bytes p.name in (t : OccurrenceTree)
         → IsExpandedOnce (neighbors_of (edges_of graph.now)) which.0 effective.depth t
         → NoneRepeated t → (drawing : List ℕ)
-        → IsDrawing look (occurrence_shape text graph.now REPEATED_MARK.now t) effective.depth drawing
+        → IsDrawing look (occurrence_shape text graph.now REPEATED_MARK.now t) effective.depth
+        drawing
         ↔ IsDrawing look (node_shape text graph.now which.0) effective.depth drawing }
 {
     print_graph_once(alloc, graph, which, REPEATED_MARK, out, terminal, sources)

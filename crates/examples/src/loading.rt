@@ -53,7 +53,8 @@ pub fn has_bad_syntax(alloc: Global, file: &FileSource) -> Result<bool, AllocErr
 /// The value of the last variable of exactly this name, or else the given value.
 pub fn value_or<'a>(name: &str, variables: &'a [(String, String)], otherwise: &'a str) -> &'a str
     ensures { result.now
-        ≡ unwrap_or (last_value Spelling.Exact name.now (variables_of variables.now)) otherwise.now }
+        ≡ unwrap_or (last_value Spelling.Exact name.now (variables_of variables.now))
+        otherwise.now }
 {
     last_value(Spelling::Exact, name, variables).unwrap_or(otherwise)
 }
@@ -75,7 +76,8 @@ where
     T: TreeItem,
     T::Child: TreeItem<Child = T::Child> + Drop,
     ensures { IfOk result (λ v. let effective = effective_config sources.now in
-        IsDrawing (look_by effective OutputKind.Unknown false) (T.shape item.now) effective.depth v.items) }
+        IsDrawing (look_by effective OutputKind.Unknown false) (T.shape item.now) effective.depth
+        v.items) }
 {
     let mut out = Counted::new(Vec::new(alloc));
     write_tree(alloc, item, &mut out, sources)?;
@@ -108,8 +110,8 @@ where
     T::Child: TreeItem<Child = T::Child> + Drop,
     requires { config_of config.now ≡ config_of other.now }
     ensures { IfOk result (λ v.
-        IsDrawing (config_look other.now OutputKind.Unknown false) (T.shape item.now) other.now.depth
-        v.items) }
+        IsDrawing (config_look other.now OutputKind.Unknown false) (T.shape item.now)
+        other.now.depth v.items) }
 {
     tree_bytes(alloc, item, config)
 }

@@ -108,8 +108,8 @@ pub struct ConfigFields {
     /// The greatest level that is drawn.
     pub depth: u32,
 
-    /// When output is styled: 0 is never, 1 is always, and 2 is on a terminal, which no call of this
-    /// library draws to.
+    /// When output is styled: 0 is never, 1 is always, and 2 is on a terminal, which no call of
+    /// this library draws to.
     pub styled: u32,
 
     /// The width of a piece in characters, including the padding.
@@ -149,7 +149,8 @@ fn color_of_fields(
     texts: &[u8],
     fields: ColorFields,
 ) -> Result<Option<Color>, Refusal>
-    ensures color { IfOk result (λ color. option_map color_of color ≡ color_value texts.now fields) }
+    ensures color { IfOk result (λ color.
+        option_map color_of color ≡ color_value texts.now fields) }
     ensures refused { IfErr result IsNamesRefusal }
 {
     match fields.kind {

@@ -219,7 +219,8 @@ pub extern "C" fn ptree_draw_walks(
 ) -> u32
     ensures drawn { result ≡ 0 → (g : Graph (String Global)) × (drawing : List ℕ)
         × IsGraphOf ends.now texts.now edges.now g
-        × IsWalksDrawing (look_of names.now config.now) (depth_of names.now config.now) g start drawing
+        × IsWalksDrawing (look_of names.now config.now) (depth_of names.now config.now) g start
+        drawing
         × (out.new ≡ filled out.old drawing) × (found.new ≡ found_sizes (length drawing) 0) }
     ensures kept { 0 < result → out.new ≡ out.old }
     ensures refused { 0 < result → (e : Refusal) × IsRefused result found.new e }
@@ -248,7 +249,8 @@ pub extern "C" fn ptree_draw_once(
 ) -> u32
     ensures drawn { result ≡ 0 → (g : Graph (String Global)) × (drawing : List ℕ)
         × IsGraphOf ends.now texts.now edges.now g
-        × IsOnceDrawing (look_of names.now config.now) (depth_of names.now config.now) g start mark.now drawing
+        × IsOnceDrawing (look_of names.now config.now) (depth_of names.now config.now) g start
+        mark.now drawing
         × (out.new ≡ filled out.old drawing) × (found.new ≡ found_sizes (length drawing) 0) }
     ensures kept { 0 < result → out.new ≡ out.old }
     ensures refused { 0 < result → (e : Refusal) × IsRefused result found.new e }

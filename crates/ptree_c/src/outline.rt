@@ -123,8 +123,8 @@ fn measure_item(
     Some(end)
 }
 
-// The length of the drawing of items down to a depth, each with its flag. None if it is too long for
-// any memory.
+// The length of the drawing of items down to a depth, each with its flag. None if it is too long
+// for any memory.
 fn measure_items(
     pen: &mut Pen,
     brush: &Brush<'_>,

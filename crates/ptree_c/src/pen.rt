@@ -188,8 +188,8 @@ impl Pen {
     }
 }
 
-// The length of a byte, and after a line feed of the text that is inserted. None if it is beyond any
-// memory.
+// The length of a byte, and after a line feed of the text that is inserted. None if it is beyond
+// any memory.
 fn byte_width(byte: u8, inserted: usize) -> Option<usize>
     ensures { (further : List ℕ) → inserted ≡ length further
         → IfSome result (λ n. n ≡ length (with_inserted further (byte ∷ []))) }
@@ -210,8 +210,8 @@ fn three_width(first: &[u8], second: &[u8], third: &[u8]) -> Option<usize>
     Some(three)
 }
 
-// The length of a text with another one of a length inserted after each of its line feeds. None if it
-// is beyond any memory.
+// The length of a text with another one of a length inserted after each of its line feeds. None if
+// it is beyond any memory.
 fn spread_width(text: &[u8], inserted: usize) -> Option<usize>
     ensures { (further : List ℕ) → inserted ≡ length further
         → IfSome result (λ n. n ≡ length (with_inserted further text.now)) }
@@ -223,8 +223,8 @@ fn spread_width(text: &[u8], inserted: usize) -> Option<usize>
     Some(width)
 }
 
-// The length of a text with three others inserted after each of its line feeds. None if it is beyond
-// any memory.
+// The length of a text with three others inserted after each of its line feeds. None if it is
+// beyond any memory.
 #[inline(never)]
 fn lines_width(text: &[u8], front: &[u8], below: &[u8], further: &[u8]) -> Option<usize>
     ensures { IfSome result (λ n.

@@ -76,8 +76,8 @@ fn items_by_fields(
     names: &[u8],
 ) -> Result<Flat, Refusal>
     ensures items { IfOk result (λ flat.
-        AreItemsOf (look_of names.now fields.now) (depth_of names.now fields.now) text.now flat.items.items
-        flat.texts.items) }
+        AreItemsOf (look_of names.now fields.now) (depth_of names.now fields.now) text.now
+        flat.items.items flat.texts.items) }
     ensures refused { IfErr result (λ e. IsFieldsRefusal fields.now e
         ⊎ IsReadRefusal (look_of names.now fields.now) (depth_of names.now fields.now) text.now e) }
     ensures styled { 2 < fields.now.styled → IsErrOf result Refusal.Styled }
@@ -143,7 +143,8 @@ pub extern "C" fn ptree_read_with(
     found: &mut Found,
 ) -> u32
     ensures read { result ≡ 0 → (got : List Item) × (labels : List ℕ)
-        × AreItemsOf (look_of names.now config.now) (depth_of names.now config.now) text.now got labels
+        × AreItemsOf (look_of names.now config.now) (depth_of names.now config.now) text.now got
+        labels
         × (items.new ≡ filled items.old got) × (texts.new ≡ filled texts.old labels)
         × (found.new ≡ found_sizes (length labels) (length got)) }
     ensures kept { 0 < result → (items.new ≡ items.old) × (texts.new ≡ texts.old) }

@@ -80,8 +80,8 @@ pub(crate) fn width_of_step(
     pen.width(brush, own_flag(step), text, has_line_feed)
 }
 
-/// Puts an item's entry behind the bytes that end at a place, as much as there is room for, sets its
-/// flag in the path, and returns where it ends. The pen is at the level above the item.
+/// Puts an item's entry behind the bytes that end at a place, as much as there is room for, sets
+/// its flag in the path, and returns where it ends. The pen is at the level above the item.
 #[inline(always)]
 pub(crate) fn put_step(
     pen: &Pen,

@@ -62,7 +62,8 @@ pub struct Drawing {
 impl Drawing {
     /// Returns how a drawing with these pieces is read: with all its levels, without colours.
     pub fn read_with(pieces: Option<Pieces>) -> Drawing
-        ensures { (sources : Sources) → drawing_value sources result ≡ reading_value sources pieces }
+        ensures { (sources : Sources)
+            → drawing_value sources result ≡ reading_value sources pieces }
     {
         Drawing {
             pieces,

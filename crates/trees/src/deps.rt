@@ -91,8 +91,8 @@ pub fn read_dependencies(
     drawn
 }
 
-// Reads an input into an empty network, and returns what is drawn of it: from the node with a name on,
-// or from what nothing needs.
+// Reads an input into an empty network, and returns what is drawn of it: from the node with a name
+// on, or from what nothing needs.
 fn drawn(
     alloc: Global,
     source: &Source,

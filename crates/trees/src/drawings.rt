@@ -21,8 +21,8 @@ use std::alloc::{AllocError, Global};
 ///
 /// # Errors
 ///
-/// `Input` if the text could not be read, or with the first wrong line if it is no drawing, and with
-/// the name of other pieces under which it is one. `Memory` if memory ran out.
+/// `Input` if the text could not be read, or with the first wrong line if it is no drawing, and
+/// with the name of other pieces under which it is one. `Memory` if memory ran out.
 pub fn read(alloc: Global, source: &Source, config: &PrintConfig) -> Result<StringItem, Failure>
     ensures some { IfOk result (λ t. HoldsDrawing (config_of config.now) source.now (tree_of t)) }
     ensures only { IfOk result (λ t. HoldsNoOther (config_of config.now) source.now (tree_of t)) }

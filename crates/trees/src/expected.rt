@@ -10,8 +10,8 @@ use std::alloc::{AllocError, Global};
 // How many levels are tried. Each takes a reading of the text before.
 const LEVELS: u8 = 32;
 
-/// Returns the prefixes of an item's line that could follow these lines of a drawing, each once, on a
-/// line of its own after two blanks. A text follows each of them.
+/// Returns the prefixes of an item's line that could follow these lines of a drawing, each once, on
+/// a line of its own after two blanks. A text follows each of them.
 ///
 /// It tries the first 32 levels, from the root on.
 ///

@@ -82,8 +82,8 @@ fn next_ends(
     Ok(next)
 }
 
-// Whether one of the places of a drawing is deeper than there are levels or, if all walks are drawn,
-// is below a place of its node.
+// Whether one of the places of a drawing is deeper than there are levels or, if all walks are
+// drawn, is below a place of its node.
 fn has_deeper_place(alloc: Global, places: &[Place], walks: bool) -> Result<bool, AllocError> {
     // The last place below each of those that are above the next one, and its node.
     let mut above = Vec::new(alloc);

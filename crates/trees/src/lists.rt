@@ -16,9 +16,9 @@ use std::alloc::{AllocError, Global};
 /// Returns the tree of paths: one on each line, or each before a zero byte.
 ///
 /// What is before the first name other than `.` doesn't count, nor do slashes at the end, nor paths
-/// without such a name, nor a byte order mark before the text. The root's text is the label, or else
-/// `/` if the paths begin with it, or else `.`. The names in a folder stand in the order in which
-/// they come first, or sorted by their bytes.
+/// without such a name, nor a byte order mark before the text. The root's text is the label, or
+/// else `/` if the paths begin with it, or else `.`. The names in a folder stand in the order in
+/// which they come first, or sorted by their bytes.
 ///
 /// # Errors
 ///
@@ -93,7 +93,8 @@ fn end_of(paths: Paths<'_>) -> char {
     if paths.ends_in_zero { '\0' } else { '\n' }
 }
 
-// Returns a path without what ends it: a zero byte, or a line feed with a carriage return before it.
+// Returns a path without what ends it: a zero byte, or a line feed with a carriage return before
+// it.
 fn without_end(path: &str, end: char) -> &str {
     match path.strip_suffix(end) {
         Some(path) if end == '\n' => path.strip_suffix('\r').unwrap_or(path),
@@ -167,7 +168,8 @@ fn line_of(text: &str, count: usize) -> usize {
     count
 }
 
-// Returns a text with its last line feed and without its blank lines, below a line for the label if there is one.
+// Returns a text with its last line feed and without its blank lines, below a line for the label if
+// there is one.
 fn whole(
     alloc: Global,
     given: &str,

@@ -246,7 +246,8 @@ fn config(alloc: Global, drawing: Drawing, found: &Surroundings) -> Result<Print
 
 // Sets what is said of a drawing.
 fn set_drawing(alloc: Global, config: &mut PrintConfig, drawing: Drawing) -> Result<(), AllocError>
-    ensures { IfOk result (λ _. config_of config.new ≡ with_drawing drawing (config_of config.old)) }
+    ensures { IfOk result (λ _.
+        config_of config.new ≡ with_drawing drawing (config_of config.old)) }
 {
     config.depth = drawing.depth.unwrap_or(config.depth);
     config.styled = drawing.screen.when(drawing.styled.unwrap_or(config.styled));
@@ -293,7 +294,8 @@ fn write_graph<W: Sink>(
     written.map_err(Failure::from)
 }
 
-// Returns the tree of a drawing, made with the pieces that are named, or with those of the settings.
+// Returns the tree of a drawing, made with the pieces that are named, or with those of the
+// settings.
 fn read_drawing(
     alloc: Global,
     source: &Source,
@@ -306,7 +308,8 @@ fn read_drawing(
         HoldsNoOther (reading_value found.now.sources pieces) source.now (tree_of t)) }
     ensures redrawn { IfOk result (λ t.
         IsRedrawn (reading_value found.now.sources pieces) source.now (tree_of t)) }
-    ensures failed { IfErr result (FailsToRead (reading_value found.now.sources pieces) source.now) }
+    ensures failed { IfErr result
+        (FailsToRead (reading_value found.now.sources pieces) source.now) }
 {
     let config = config(alloc, Drawing::read_with(pieces), found)?;
     let tree = drawings::read(alloc, source, &config);

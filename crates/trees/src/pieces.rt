@@ -80,7 +80,8 @@ impl Pieces {
     ///
     /// Memory ran out.
     pub fn set(self, alloc: Global, config: &mut PrintConfig) -> Result<(), AllocError>
-        ensures { IfOk result (λ _. config_of config.new ≡ with_own (pieces_value self) (config_of config.old)) }
+        ensures { IfOk result (λ _.
+            config_of config.new ≡ with_own (pieces_value self) (config_of config.old)) }
     {
         let mut own = self.config(alloc)?;
         mem::swap(&mut config.characters, &mut own.characters);
@@ -107,7 +108,8 @@ impl Pieces {
 
 // Returns the default configuration with other characters.
 fn with_characters(alloc: Global, characters: StaticIndentChars) -> Result<PrintConfig, AllocError>
-    ensures { IfOk result (λ config. config_of config ≡ drawn_with (static_characters_of characters) 3 1) }
+    ensures { IfOk result (λ config.
+        config_of config ≡ drawn_with (static_characters_of characters) 3 1) }
 {
     let characters = IndentChars::from_static(alloc, characters)?;
     let mut config = PrintConfig::default(alloc)?;

@@ -29,15 +29,16 @@ pub struct Words<'a> {
 }
 
 impl<'a> Words<'a> {
-    /// Tells the words of a call apart. The first one is a command, or a file that one is known for.
+    /// Tells the words of a call apart. The first one is a command, or a file that one is known
+    /// for.
     ///
     /// A value stands in the same word behind `=`, or is the next word. Behind `--` each word is a
     /// file. Without a file it is standard input, except of `config`.
     ///
     /// # Errors
     ///
-    /// If there is no such command, or it has no such option, or a value is missing or too much, and
-    /// `Memory`.
+    /// If there is no such command, or it has no such option, or a value is missing or too much,
+    /// and `Memory`.
     pub fn parse(alloc: Global, words: &'a [String]) -> Result<Words<'a>, Usage<'a>> {
         let (name, others) = split_command(words)?;
         let mut call = Words {

@@ -53,7 +53,8 @@ impl fmt::Display for Warning {
 }
 
 /// Returns what has no effect in the sources, in this order: unknown variables that begin with
-/// `PTREE_`, except for `PTREE_CONFIG`; unknown keys; unknown colours of variables, and then of keys.
+/// `PTREE_`, except for `PTREE_CONFIG`; unknown keys; unknown colours of variables, and then of
+/// keys.
 ///
 /// It takes the time of [`load`](ptree::print_config::load), and allocates the result.
 ///

@@ -159,8 +159,8 @@ fn source_of(table: &Value) -> &str {
     }
 }
 
-// Returns a source without the `#` and the revision at its end. Needs in a Cargo.lock have none since
-// its version 4.
+// Returns a source without the `#` and the revision at its end. Needs in a Cargo.lock have none
+// since its version 4.
 fn without_revision(source: &str) -> &str {
     match source.split_once('#') {
         Some((source, _)) => source,

@@ -7,8 +7,8 @@ use crate::suggest::Nearest;
 use ptree::graph::NodeIndex;
 use std::alloc::{AllocError, Global};
 
-/// Returns the node with this name: its label, its path, or its label up to the version. The version
-/// can stand behind `@`, a blank, or a blank and a `v`.
+/// Returns the node with this name: its label, its path, or its label up to the version. The
+/// version can stand behind `@`, a blank, or a blank and a `v`.
 ///
 /// # Errors
 ///
