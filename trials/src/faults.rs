@@ -142,23 +142,6 @@ fn try_tree(
     )
 }
 
-// Tries the drawing of a tree on a terminal.
-fn try_terminal(
-    rt: &HostRuntime,
-    name: &str,
-    whole: &str,
-    tree: &StringItem,
-    config: &PrintConfig,
-) -> io::Result<()> {
-    let alloc = rt.alloc();
-    try_writers(
-        rt,
-        name,
-        whole,
-        |out| print_tree_with(alloc, tree, out, true, config),
-    )
-}
-
 // Tries the drawing of petgraph down to a depth.
 fn try_petgraph(rt: &HostRuntime, name: &str, whole: &str, depth: u32) -> io::Result<()> {
     let alloc = rt.alloc();
@@ -169,8 +152,11 @@ fn try_petgraph(rt: &HostRuntime, name: &str, whole: &str, depth: u32) -> io::Re
 
 // Tries the drawing of a small tree on a terminal.
 fn try_small(rt: &HostRuntime, config: &PrintConfig) -> io::Result<()> {
-    let small = over_leaves(rt.alloc(), "r", &["a"])?;
-    try_terminal(rt, "a terminal", STYLED, &small, config)
+    let alloc = rt.alloc();
+    let small = over_leaves(alloc, "r", &["a"])?;
+    try_writers(rt, "a terminal", STYLED, |out| {
+        print_tree_with(alloc, &small, out, true, config)
+    })
 }
 
 // Tries the drawing of texts of several lines.
@@ -179,10 +165,13 @@ fn try_lines(rt: &HostRuntime, config: &PrintConfig) -> io::Result<()> {
     try_tree(rt, "lines", LINES, &tree, config)
 }
 
-// Tries the drawing of a painted text of two lines.
+// Tries the drawing of a painted text of two lines on a terminal.
 fn try_painted(rt: &HostRuntime, config: &PrintConfig) -> io::Result<()> {
-    let tree = leaf(rt.alloc(), "r\ns")?;
-    try_terminal(rt, "painted lines", STYLED_LINES, &tree, config)
+    let alloc = rt.alloc();
+    let tree = leaf(alloc, "r\ns")?;
+    try_writers(rt, "painted lines", STYLED_LINES, |out| {
+        print_tree_with(alloc, &tree, out, true, config)
+    })
 }
 
 // Tries the drawings of trees under the default configuration, and with bold texts.

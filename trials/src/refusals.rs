@@ -81,6 +81,12 @@ const CALLS: [Call; 23] = [
     Call::Types,
 ];
 
+// The configurations of the calls.
+struct Configs<'a> {
+    plain: &'a PrintConfig,
+    colored: &'a PrintConfig,
+}
+
 // A plain configuration.
 fn plain(alloc: Global) -> Result<Held<PrintConfig>, AllocError> {
     let mut config = hold(PrintConfig::default(alloc))?;
@@ -90,13 +96,9 @@ fn plain(alloc: Global) -> Result<Held<PrintConfig>, AllocError> {
 
 impl Trial {
     // Calls once.
-    fn call(
-        &mut self,
-        alloc: Global,
-        call: Call,
-        plain: &PrintConfig,
-        colored: &PrintConfig,
-    ) -> Result<(), Failure> {
+    fn call(&mut self, alloc: Global, call: Call, configs: &Configs<'_>) -> Result<(), Failure> {
+        let plain = configs.plain;
+        let colored = configs.colored;
         match call {
             Call::Styles => self.call_styles(alloc, colored),
             Call::Characters => self.call_characters(alloc),
@@ -125,19 +127,13 @@ impl Trial {
     }
 
     // Calls, and once more without the notes of the first time if memory was refused.
-    fn retry(
-        &mut self,
-        alloc: Global,
-        call: Call,
-        plain: &PrintConfig,
-        colored: &PrintConfig,
-    ) -> Result<(), Failure> {
+    fn retry(&mut self, alloc: Global, call: Call, configs: &Configs<'_>) -> Result<(), Failure> {
         let noted = self.notes.len();
-        match self.call(alloc, call, plain, colored) {
+        match self.call(alloc, call, configs) {
             Err(Failure::Memory) => {
                 self.count_refusal();
                 self.notes.truncate(noted);
-                self.call(alloc, call, plain, colored)
+                self.call(alloc, call, configs)
             }
             ended => ended,
         }
@@ -185,14 +181,9 @@ impl Trial {
     }
 
     // All the calls under configurations.
-    fn call_under_both(
-        &mut self,
-        alloc: Global,
-        plain: &PrintConfig,
-        colored: &PrintConfig,
-    ) -> Result<(), Failure> {
+    fn call_under_both(&mut self, alloc: Global, configs: &Configs<'_>) -> Result<(), Failure> {
         for call in CALLS {
-            self.retry(alloc, call, plain, colored)?;
+            self.retry(alloc, call, configs)?;
         }
         Ok(())
     }
@@ -201,7 +192,11 @@ impl Trial {
     fn call_all(&mut self, alloc: Global) -> Result<(), Failure> {
         let plain = self.plain(alloc)?;
         let colored = self.copied(alloc)?;
-        self.call_under_both(alloc, &plain.value, &colored.value)
+        let configs = Configs {
+            plain: &plain.value,
+            colored: &colored.value,
+        };
+        self.call_under_both(alloc, &configs)
     }
 }
 

@@ -8,21 +8,34 @@ use ptree::item::StringItem;
 use ptree::print_config::PrintConfig;
 use std::alloc::Global;
 
-// Begins a child of the current item.
-fn begin_child(alloc: Global, builder: &mut TreeBuilder, text: &str) -> Result<(), Failure> {
-    if builder.level() == u32::MAX {
-        return Err(Failure::Other);
-    }
-    builder.begin_child(String::from_str(alloc, text)?)?;
-    Ok(())
+/// Where an item is added: below the current one, and is current from then on or has no children,
+/// or at a level.
+#[derive(Clone, Copy)]
+pub enum Place {
+    Begun,
+    Empty,
+    Level(u32),
 }
 
-// Adds a child without children to the current item.
-fn add_child(alloc: Global, builder: &mut TreeBuilder, text: &str) -> Result<(), Failure> {
+// Adds an item.
+fn add_item(
+    alloc: Global,
+    builder: &mut TreeBuilder,
+    place: Place,
+    text: &str,
+) -> Result<(), Failure> {
+    let text = String::from_str(alloc, text)?;
+    if let Place::Level(level) = place {
+        return Ok(builder.add_at_level(level, text)?);
+    }
     if builder.level() == u32::MAX {
         return Err(Failure::Other);
     }
-    builder.add_empty_child(String::from_str(alloc, text)?)?;
+    if let Place::Begun = place {
+        builder.begin_child(text)?;
+    } else {
+        builder.add_empty_child(text)?;
+    }
     Ok(())
 }
 
@@ -33,66 +46,24 @@ pub fn end(builder: &mut TreeBuilder) {
     }
 }
 
-// Adds an item at a level.
-fn add_at_level(
-    alloc: Global,
-    builder: &mut TreeBuilder,
-    level: u32,
-    text: &str,
-) -> Result<(), Failure> {
-    Ok(builder.add_at_level(level, String::from_str(alloc, text)?)?)
-}
-
 /// A builder of a root.
 pub fn builder_of(alloc: Global, text: &str) -> Result<TreeBuilder, Failure> {
     Ok(TreeBuilder::new(alloc, String::from_str(alloc, text)?))
 }
 
 impl Trial {
-    /// Begins a child of the current item.
-    pub fn begin_one(
+    /// Adds an item.
+    pub fn add_one(
         &mut self,
         alloc: Global,
         builder: &mut TreeBuilder,
+        place: Place,
         text: &str,
     ) -> Result<(), Failure> {
-        match begin_child(alloc, builder, text) {
+        match add_item(alloc, builder, place, text) {
             Err(Failure::Memory) => {
                 self.count_refusal();
-                begin_child(alloc, builder, text)
-            }
-            ended => ended,
-        }
-    }
-
-    // Adds a child without children to the current item.
-    fn add_one(
-        &mut self,
-        alloc: Global,
-        builder: &mut TreeBuilder,
-        text: &str,
-    ) -> Result<(), Failure> {
-        match add_child(alloc, builder, text) {
-            Err(Failure::Memory) => {
-                self.count_refusal();
-                add_child(alloc, builder, text)
-            }
-            ended => ended,
-        }
-    }
-
-    // Adds an item at a level.
-    fn add_leveled(
-        &mut self,
-        alloc: Global,
-        builder: &mut TreeBuilder,
-        level: u32,
-        text: &str,
-    ) -> Result<(), Failure> {
-        match add_at_level(alloc, builder, level, text) {
-            Err(Failure::Memory) => {
-                self.count_refusal();
-                add_at_level(alloc, builder, level, text)
+                add_item(alloc, builder, place, text)
             }
             ended => ended,
         }
@@ -109,29 +80,16 @@ impl Trial {
         }
     }
 
-    // Begins children of the current item, each below the one before it.
-    fn begin(
-        &mut self,
-        alloc: Global,
-        builder: &mut TreeBuilder,
-        texts: &[&str],
-    ) -> Result<(), Failure> {
-        for text in texts {
-            self.begin_one(alloc, builder, text)?;
-            self.note_number("level", builder.level() as usize)?;
-        }
-        Ok(())
-    }
-
-    /// Adds children without children to the current item.
+    /// Adds items, each at this place.
     pub fn add(
         &mut self,
         alloc: Global,
         builder: &mut TreeBuilder,
+        place: Place,
         texts: &[&str],
     ) -> Result<(), Failure> {
         for text in texts {
-            self.add_one(alloc, builder, text)?;
+            self.add_one(alloc, builder, place, text)?;
             self.note_number("level", builder.level() as usize)?;
         }
         Ok(())
@@ -167,12 +125,12 @@ impl Trial {
         config: &PrintConfig,
     ) -> Result<(), Failure> {
         self.build(alloc, builder, config)?;
-        self.begin(alloc, builder, &["a", "b", "c"])?;
+        self.add(alloc, builder, Place::Begun, &["a", "b", "c"])?;
         self.build(alloc, builder, config)?;
         end(builder);
-        self.add(alloc, builder, &["d", "e", "f"])?;
+        self.add(alloc, builder, Place::Empty, &["d", "e", "f"])?;
         end(builder);
-        self.begin(alloc, builder, &["g", "h", "i"])?;
+        self.add(alloc, builder, Place::Begun, &["g", "h", "i"])?;
         self.build(alloc, builder, config)
     }
 
@@ -190,7 +148,7 @@ impl Trial {
         config: &PrintConfig,
     ) -> Result<(), Failure> {
         for (level, text) in [(1, "a"), (2, "b"), (2, "c"), (1, "d"), (2, "e")] {
-            self.add_leveled(alloc, builder, level, text)?;
+            self.add_one(alloc, builder, Place::Level(level), text)?;
         }
         self.build(alloc, builder, config)
     }

@@ -1,7 +1,7 @@
 //! Calls whose answers are written here.
 
 use crate::faults::PETGRAPH;
-use crate::refusals::building::{builder_of, end};
+use crate::refusals::building::{Place, builder_of, end};
 use crate::refusals::failure::{Failure, expect};
 use crate::refusals::graphs::graph_drawn;
 use crate::refusals::trial::Trial;
@@ -94,10 +94,10 @@ impl Trial {
 
     // Builds with a child open, and once more with two.
     fn build_open(&mut self, alloc: Global, builder: &mut TreeBuilder) -> Result<(), Failure> {
-        self.begin_one(alloc, builder, "a")?;
+        self.add_one(alloc, builder, Place::Begun, "a")?;
         self.expect_built(alloc, builder, "test\n└─ a\n")?;
         end(builder);
-        self.add(alloc, builder, &["b"])?;
+        self.add(alloc, builder, Place::Empty, &["b"])?;
         self.expect_built(alloc, builder, "test\n├─ a\n└─ b\n")
     }
 

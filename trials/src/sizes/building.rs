@@ -6,42 +6,43 @@ use ptree::TreeBuilder;
 use ptree::builder::AddError;
 use std::alloc::{AllocError, Global};
 
-// Adds a leaf to the current item.
-fn add_child(alloc: Global, builder: &mut TreeBuilder) -> Result<(), AllocError> {
+// Whether a child is the current item from then on, or is a leaf.
+#[derive(Clone, Copy)]
+enum Child {
+    Begun,
+    Leaf,
+}
+
+// Adds a child to the current item.
+fn add_child(alloc: Global, builder: &mut TreeBuilder, child: Child) -> Result<(), AllocError> {
     if builder.level() == u32::MAX {
         return Err(AllocError);
     }
-    builder.add_empty_child(String::from_str(alloc, "a")?)?;
-    Ok(())
-}
-
-// Begins a child of the current item.
-fn begin_child(alloc: Global, builder: &mut TreeBuilder) -> Result<(), AllocError> {
-    if builder.level() == u32::MAX {
-        return Err(AllocError);
-    }
-    builder.begin_child(String::from_str(alloc, "a")?)?;
-    Ok(())
-}
-
-// Begins so many children, each below the one before it.
-fn begin_children(alloc: Global, builder: &mut TreeBuilder, count: usize) -> Result<(), Deviation> {
-    for _ in 0..count {
-        made(
-            begin_child(alloc, builder),
-            "`TreeBuilder::begin_child` succeeds",
-        )?;
+    let text = String::from_str(alloc, "a")?;
+    match child {
+        Child::Begun => {
+            builder.begin_child(text)?;
+        }
+        Child::Leaf => {
+            builder.add_empty_child(text)?;
+        }
     }
     Ok(())
 }
 
-// Adds so many leaves.
-fn add_children(alloc: Global, builder: &mut TreeBuilder, count: usize) -> Result<(), Deviation> {
+// Adds so many children, each to the item that is current then.
+fn add_children(
+    alloc: Global,
+    builder: &mut TreeBuilder,
+    child: Child,
+    count: usize,
+) -> Result<(), Deviation> {
+    let rule = match child {
+        Child::Begun => "`TreeBuilder::begin_child` succeeds",
+        Child::Leaf => "`TreeBuilder::add_empty_child` succeeds",
+    };
     for _ in 0..count {
-        made(
-            add_child(alloc, builder),
-            "`TreeBuilder::add_empty_child` succeeds",
-        )?;
+        made(add_child(alloc, builder, child), rule)?;
     }
     Ok(())
 }
@@ -69,10 +70,10 @@ fn try_built(builder: &mut TreeBuilder, count: usize) -> Result<(), Deviation> {
 // A builder of many children, which go on to many levels.
 fn try_children(alloc: Global, size: usize) -> Result<(), Deviation> {
     let mut builder = TreeBuilder::new(alloc, text(alloc, size)?);
-    add_children(alloc, &mut builder, size)?;
-    begin_children(alloc, &mut builder, size.min(LEVELS))?;
+    add_children(alloc, &mut builder, Child::Leaf, size)?;
+    add_children(alloc, &mut builder, Child::Begun, size.min(LEVELS))?;
     try_built(&mut builder, size.saturating_add(size.min(1)))?;
-    begin_children(alloc, &mut builder, size.saturating_sub(LEVELS))
+    add_children(alloc, &mut builder, Child::Begun, size.saturating_sub(LEVELS))
 }
 
 // Adds items, each a level below the one before it, after which no item can follow two levels

@@ -1,12 +1,13 @@
 //! The calls of `ptree_trees` that tell of documents and of sources.
 
 use crate::deviation::{Deviation, expect};
-use crate::sizes::documents::{NESTED, json, push_lists, push_times, toml};
+use crate::sizes::documents::{NESTED, json, push_keys, push_lists, push_times, toml};
 use crate::sizes::{made, text};
+use ptree::item::StringItem;
 use ptree::print_config::{Fault, Field, FileSource, Sources};
 use ptree::value::DocFormat;
 use ptree_trees::documents::{
-    document_tree, json_refused_path, json_tree, refused_path, toml_refused_path, toml_tree,
+    Step, document_tree, json_refused_path, json_tree, refused_path, toml_refused_path, toml_tree,
 };
 use ptree_trees::settings::{entries, fault_line, warnings, wrong_value};
 use std::alloc::{AllocError, Global};
@@ -20,7 +21,22 @@ fn try_document(alloc: Global, format: DocFormat, text: &str) -> Result<(), Devi
     expect(tree.is_some(), "a document has a tree")
 }
 
-// The call that returns the tree of a value in JSON, of so many keys and three.
+// That a tree has an item for each of so many keys and three, and that no path leads to a float.
+fn expect_described(
+    tree: Result<StringItem, AllocError>,
+    path: Result<Option<Vec<Step>>, AllocError>,
+    size: usize,
+) -> Result<(), Deviation> {
+    let tree = made(tree, "`json_tree` and `toml_tree` succeed")?;
+    let path = made(path, "`json_refused_path` and `toml_refused_path` succeed")?;
+    expect(
+        tree.children.len() == size.saturating_add(3),
+        "each key of a document has its item",
+    )?;
+    expect(path.is_none(), "a document without floats has no such path")
+}
+
+// The calls that return the tree of a value in JSON, and the path to a float in it.
 fn try_json(alloc: Global, size: usize) -> Result<(), Deviation> {
     let text = json(alloc, size)?;
     try_document(alloc, DocFormat::Json, text.as_str())?;
@@ -28,16 +44,9 @@ fn try_json(alloc: Global, size: usize) -> Result<(), Deviation> {
         serde_json::Value::from_str(alloc, text.as_str()),
         "a document is read",
     )?;
-    let tree = made(json_tree(alloc, "r", &value), "`json_tree` succeeds")?;
-    expect(
-        tree.children.len() == size.saturating_add(3),
-        "each key of an object has its item",
-    )?;
-    let path = made(
-        json_refused_path(alloc, &value),
-        "`json_refused_path` succeeds",
-    )?;
-    expect(path.is_none(), "a document without floats has no such path")
+    let tree = json_tree(alloc, "r", &value);
+    let path = json_refused_path(alloc, &value);
+    expect_described(tree, path, size)
 }
 
 // The same in TOML.
@@ -49,16 +58,9 @@ fn try_toml(alloc: Global, size: usize) -> Result<(), Deviation> {
         "a document is read",
     )?;
     let value = toml::Value::Table(table);
-    let tree = made(toml_tree(alloc, "r", &value), "`toml_tree` succeeds")?;
-    expect(
-        tree.children.len() == size.saturating_add(3),
-        "each key of a table has its item",
-    )?;
-    let path = made(
-        toml_refused_path(alloc, &value),
-        "`toml_refused_path` succeeds",
-    )?;
-    expect(path.is_none(), "a document without floats has no such path")
+    let tree = toml_tree(alloc, "r", &value);
+    let path = toml_refused_path(alloc, &value);
+    expect_described(tree, path, size)
 }
 
 // A list of so many zeros, and behind them a float in lists in one another.
@@ -109,34 +111,27 @@ fn variables(alloc: Global, size: usize) -> Result<Vec<(String, String)>, AllocE
     Ok(variables)
 }
 
-// A file in TOML of so many lines with keys of no field, and behind them a wrong value of as many
-// bytes, and two of no colours.
-fn toml_file(alloc: Global, size: usize) -> Result<String, AllocError> {
-    let mut file = String::new(alloc);
-    for i in 0..size {
-        writeln!(file, "other_{i} = 1")?;
-    }
+// A file of so many lines with keys of no field, and behind them a wrong value of as many bytes, and
+// two of no colours.
+fn settings_file(alloc: Global, format: DocFormat, size: usize) -> Result<String, AllocError> {
+    let (start, key) = match format {
+        DocFormat::Toml => ("", ("other_", " = 1\n")),
+        DocFormat::Json => ("{", ("\"other_", "\": 1,\n")),
+    };
+    let mut file = String::from_str(alloc, start)?;
+    push_keys(alloc, &mut file, key, size)?;
     let value = text(alloc, size.saturating_add(1))?;
-    writeln!(file, "indent = '{value}'")?;
-    writeln!(
-        file,
-        "[leaf]\nforeground = '{value}'\nbackground = '{value}'"
-    )?;
-    Ok(file)
-}
-
-// The same in JSON.
-fn json_file(alloc: Global, size: usize) -> Result<String, AllocError> {
-    let mut file = String::from_str(alloc, "{")?;
-    for i in 0..size {
-        writeln!(file, "\"other_{i}\": 1,")?;
+    let value = value.as_str();
+    match format {
+        DocFormat::Toml => write!(
+            file,
+            "indent = '{value}'\n[leaf]\nforeground = '{value}'\nbackground = '{value}'\n"
+        )?,
+        DocFormat::Json => write!(
+            file,
+            "\"indent\": \"{value}\",\n\"leaf\": {{\"foreground\": \"{value}\", \"background\": \"{value}\"}}}}"
+        )?,
     }
-    let value = text(alloc, size.saturating_add(1))?;
-    writeln!(file, "\"indent\": \"{value}\",")?;
-    write!(
-        file,
-        "\"leaf\": {{\"foreground\": \"{value}\", \"background\": \"{value}\"}}}}"
-    )?;
     Ok(file)
 }
 
@@ -179,6 +174,6 @@ pub fn try_all(alloc: Global, size: usize) -> Result<(), Deviation> {
     try_json(alloc, size)?;
     try_toml(alloc, size)?;
     try_refused(alloc, size)?;
-    try_sources(alloc, size, FileSource::Toml(toml_file(alloc, size)?))?;
-    try_sources(alloc, size, FileSource::Json(json_file(alloc, size)?))
+    try_sources(alloc, size, FileSource::Toml(settings_file(alloc, DocFormat::Toml, size)?))?;
+    try_sources(alloc, size, FileSource::Json(settings_file(alloc, DocFormat::Json, size)?))
 }

@@ -19,8 +19,8 @@ pub fn push_times(out: &mut String, part: &str, count: usize) -> Result<(), Allo
     Ok(())
 }
 
-// Appends so many keys that differ, each with a value.
-fn push_keys(
+/// Appends so many keys that differ, each with a value.
+pub fn push_keys(
     alloc: Global,
     out: &mut String,
     (before, after): (&str, &str),
@@ -39,15 +39,27 @@ pub fn push_lists(out: &mut String, value: &str, levels: usize) -> Result<(), Al
     push_times(out, "]", levels)
 }
 
+// Appends a text, a list, and lists in one another around an empty text, behind what stands before
+// each of these.
+fn push_parts(
+    out: &mut String,
+    (text, list, lists, empty): (&str, &str, &str, &str),
+    size: usize,
+) -> Result<(), AllocError> {
+    out.push_str(text)?;
+    push_times(out, "x", size)?;
+    out.push_str(list)?;
+    push_times(out, ", -1", size)?;
+    out.push_str(lists)?;
+    push_lists(out, empty, size.min(NESTED))
+}
+
 /// A document of a text, of a list and of lists in one another, and after them so many keys.
 pub fn json(alloc: Global, size: usize) -> Result<String, AllocError> {
-    let mut document = String::from_str(alloc, "{\"text\":\"")?;
+    let mut document = String::new(alloc);
     let out = &mut document;
-    push_times(out, "x", size)?;
-    out.push_str("\",\"list\":[0")?;
-    push_times(out, ", -1", size)?;
-    out.push_str("],\"lists\":")?;
-    push_lists(out, "\"\"", size.min(NESTED))?;
+    let parts = ("{\"text\":\"", "\",\"list\":[0", "],\"lists\":", "\"\"");
+    push_parts(out, parts, size)?;
     push_keys(alloc, out, (",\"key ", "\":null"), size)?;
     out.push('}')?;
     Ok(document)
@@ -55,13 +67,10 @@ pub fn json(alloc: Global, size: usize) -> Result<String, AllocError> {
 
 /// The same in TOML.
 pub fn toml(alloc: Global, size: usize) -> Result<String, AllocError> {
-    let mut document = String::from_str(alloc, "text = '")?;
+    let mut document = String::new(alloc);
     let out = &mut document;
-    push_times(out, "x", size)?;
-    out.push_str("'\nlist = [0")?;
-    push_times(out, ", -1", size)?;
-    out.push_str("]\nlists = ")?;
-    push_lists(out, "''", size.min(NESTED))?;
+    let parts = ("text = '", "'\nlist = [0", "]\nlists = ", "''");
+    push_parts(out, parts, size)?;
     out.push('\n')?;
     push_keys(alloc, out, ("key_", " = true\n"), size)?;
     Ok(document)
@@ -122,14 +131,6 @@ fn json_value(alloc: Global, document: &str) -> Result<Value, Deviation> {
     )
 }
 
-// A document in JSON.
-fn try_json(alloc: Global, size: usize, label: &str) -> Result<(), Deviation> {
-    let document = json(alloc, size)?;
-    try_document(alloc, DocFormat::Json, document.as_str(), label)?;
-    let value = json_value(alloc, document.as_str())?;
-    try_value(alloc, &value, label)
-}
-
 // The value of a document in TOML.
 fn toml_value(alloc: Global, document: &str) -> Result<Value, Deviation> {
     let table = made(toml::table_from_str(alloc, document), "a document is read")?;
@@ -139,11 +140,22 @@ fn toml_value(alloc: Global, document: &str) -> Result<Value, Deviation> {
     )
 }
 
-// A document in TOML.
-fn try_toml(alloc: Global, size: usize, label: &str) -> Result<(), Deviation> {
-    let document = toml(alloc, size)?;
-    try_document(alloc, DocFormat::Toml, document.as_str(), label)?;
-    let value = toml_value(alloc, document.as_str())?;
+// The calls of a document, and of its value.
+fn try_format(
+    alloc: Global,
+    format: DocFormat,
+    size: usize,
+    label: &str,
+) -> Result<(), Deviation> {
+    let document = match format {
+        DocFormat::Json => json(alloc, size)?,
+        DocFormat::Toml => toml(alloc, size)?,
+    };
+    try_document(alloc, format, document.as_str(), label)?;
+    let value = match format {
+        DocFormat::Json => json_value(alloc, document.as_str())?,
+        DocFormat::Toml => toml_value(alloc, document.as_str())?,
+    };
     try_value(alloc, &value, label)
 }
 
@@ -166,8 +178,8 @@ fn try_wrapped(alloc: Global, size: usize, label: &str) -> Result<(), Deviation>
 /// Tries all of them, under a label of as many bytes.
 pub fn try_all(alloc: Global, size: usize) -> Result<(), Deviation> {
     let label = text(alloc, size)?;
-    try_json(alloc, size, label.as_str())?;
-    try_toml(alloc, size, label.as_str())?;
+    try_format(alloc, DocFormat::Json, size, label.as_str())?;
+    try_format(alloc, DocFormat::Toml, size, label.as_str())?;
     try_bytes(alloc, size, label.as_str())?;
     try_wrapped(alloc, size, label.as_str())
 }
