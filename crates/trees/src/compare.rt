@@ -163,10 +163,7 @@ fn both_children(
 ) -> Result<Vec<StyledItem>, AllocError> {
     let mut made = Vec::new(alloc);
     let others = right.children.as_slice();
-    let mut places = Places {
-        items: others,
-        sorted: Vec::new(alloc),
-    };
+    let mut places = Places::new(alloc, others);
     let mut taken = 0;
     for child in &left.children {
         match places.next_with(taken, child.text.as_str())? {
@@ -194,6 +191,14 @@ struct Places<'a> {
 }
 
 impl<'a> Places<'a> {
+    // Nothing is sorted at first.
+    fn new(alloc: Global, items: &'a [StringItem]) -> Places<'a> {
+        Places {
+            items,
+            sorted: Vec::new(alloc),
+        }
+    }
+
     // Returns the position of the first item with a text, from a position on.
     fn next_with(&mut self, from: usize, text: &str) -> Result<Option<usize>, AllocError> {
         let Some(item) = self.items.get(from) else {

@@ -47,6 +47,9 @@ impl<'a> Words<'a> {
             files: Vec::new(alloc),
         };
         call.push_words(others)?;
+        if call.files.is_empty() && name != CommandName::Config {
+            call.files.push("-")?;
+        }
         Ok(call)
     }
 
@@ -69,9 +72,6 @@ impl<'a> Words<'a> {
         }
         if let Some(option) = waiting {
             return Err(Usage::NoValue(option));
-        }
-        if self.files.is_empty() && self.name != CommandName::Config {
-            self.files.push("-")?;
         }
         Ok(())
     }

@@ -32,56 +32,26 @@ impl<T: Drop> From<AllocFailed<T>> for Failure {
     }
 }
 
-impl From<AddError> for Failure {
-    fn from(e: AddError) -> Failure {
-        match e {
-            AddError::Memory => Failure::Memory,
-            AddError::Level => Failure::Other,
-        }
-    }
+macro_rules! fails_by_memory {
+    ($($error:ident),*) => {
+        $(impl From<$error> for Failure {
+            fn from(e: $error) -> Failure {
+                match e {
+                    $error::Memory => Failure::Memory,
+                    _ => Failure::Other,
+                }
+            }
+        })*
+    };
 }
 
-impl From<EdgeError> for Failure {
-    fn from(e: EdgeError) -> Failure {
-        match e {
-            EdgeError::Memory => Failure::Memory,
-            EdgeError::NoNode => Failure::Other,
-        }
-    }
-}
-
-impl From<CharsError> for Failure {
-    fn from(e: CharsError) -> Failure {
-        match e {
-            CharsError::Memory => Failure::Memory,
-            CharsError::Unknown => Failure::Other,
-        }
-    }
-}
-
-impl From<DrawError> for Failure {
-    fn from(e: DrawError) -> Failure {
-        match e {
-            DrawError::Memory => Failure::Memory,
-            DrawError::Write(_) | DrawError::Zero => Failure::Other,
-        }
-    }
-}
+fails_by_memory!(AddError, EdgeError, CharsError, DrawError, ConvertError);
 
 impl From<DocError> for Failure {
     fn from(e: DocError) -> Failure {
         match e {
             DocError::Draw(e) => Failure::from(e),
             DocError::Syntax | DocError::Float | DocError::Date => Failure::Other,
-        }
-    }
-}
-
-impl From<ConvertError> for Failure {
-    fn from(e: ConvertError) -> Failure {
-        match e {
-            ConvertError::Memory => Failure::Memory,
-            ConvertError::Float | ConvertError::Date => Failure::Other,
         }
     }
 }

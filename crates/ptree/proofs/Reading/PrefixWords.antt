@@ -1,6 +1,8 @@
 -- The starts of texts, compared by words.
-use Rattle.std.proofs.Common.{◌≡◌, ℕ, ◌+◌, ◌-◌, ◌≤◌, ◌<◌, List, ◌++◌, length, length-append, length-drop, length-take, IsCharBoundary, IsUtf8, inl, inr, get_or, take, drop, sym, ap, ◌∙◌, subst, arith}
-use Rattle.std.proofs.lemmas.Bool.{cases_lt}
+use Rattle.std.proofs.Common.{◌≡◌, ◌↔◌, ℕ, eqb, true, ◌+◌, ◌-◌, ◌≤◌, ◌<◌, List, ◌++◌, length, length-append, length-drop, length-take, IsCharBoundary, IsUtf8, inl, inr, get_or, take, drop, sym, ap, ◌∙◌, subst, arith}
+use Rattle.std.specs.Int.{from_le_bytes, to_le_bytes}
+use mir.Syntax.{Width}
+use Rattle.std.proofs.lemmas.Bool.{cases_lt, eqb-true, eq-eqb}
 use Rattle.std.proofs.lemmas.List.{drop-append-le, ext_get_or, get_or-take, nil_from_length, take-append-drop, take-append-le}
 use Rattle.std.proofs.lemmas.Str.{IsCharBoundary-from_take}
 use Rattle.std.proofs.Math.Seq.{take-append_seam}
@@ -41,6 +43,19 @@ begins_from_words prefix text n high room first last =
     begins_from_take prefix text (ext_get_or 0 (take w text) prefix (omega (arith, length-take w text, room)) (λ i less.
     let there : i < w = omega (arith, length-take w text, less) in
     get_or-take w text i 0 there ∙ word_bytes prefix text n high first last i there))
+
+-- a text begins with a prefix of n to twice n bytes whose first n spell the same number exactly if
+-- the last n do
+pub begins_by_words : (w : Width) (prefix text : List ℕ) (n a b x y : ℕ) → n ≤ length prefix → length prefix ≤ n + n → length prefix ≤ length text
+    → to_le_bytes w a ≡ take n (drop 0 text) → to_le_bytes w b ≡ take n (drop 0 prefix) → a ≡ b
+    → to_le_bytes w x ≡ take n (drop (length prefix - n) text) → to_le_bytes w y ≡ take n (drop (length prefix - n) prefix)
+    → x ≡ from_le_bytes w (take n (drop (length prefix - n) text)) → y ≡ from_le_bytes w (take n (drop (length prefix - n) prefix))
+    → (eqb x y ≡ true) ↔ IsPrefixOf prefix text
+begins_by_words w prefix text n a b x y low high room first_text first_prefix first last_text last_prefix text_spells prefix_spells = (
+  λ yes. begins_from_words prefix text n high room (sym first_text ∙ (ap (to_le_bytes w) first ∙ first_prefix))
+      (sym last_text ∙ (ap (to_le_bytes w) (eqb-true x y yes) ∙ last_prefix)),
+  λ h. eq-eqb x y (text_spells ∙ (ap (from_le_bytes w) (begins_word prefix text (length prefix - n) n h (omega (arith, low))) ∙ sym prefix_spells)),
+)
 
 -- a text begins with a prefix of no bytes
 pub begins_none : (prefix text : List ℕ) → length prefix ≡ 0 → IsPrefixOf prefix text

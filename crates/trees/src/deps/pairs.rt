@@ -44,6 +44,18 @@ fn push_pairs(
     Ok(())
 }
 
+// Returns the two words of a line, or else what is wrong with it.
+fn pair(line: &str) -> Result<(&str, &str), &'static str> {
+    let Some((first, second)) = line.split_once(char::is_whitespace) else {
+        return Err("expected two words, found one");
+    };
+    let second = second.trim_start();
+    if second.contains(char::is_whitespace) {
+        return Err("expected two words, found more");
+    }
+    Ok((first, second))
+}
+
 // Returns the words of lines of two words.
 fn words<'a>(alloc: Global, source: &'a Source) -> Result<Vec<&'a str>, Failure> {
     let mut words = Vec::new(alloc);
@@ -52,23 +64,13 @@ fn words<'a>(alloc: Global, source: &'a Source) -> Result<Vec<&'a str>, Failure>
         if line.is_empty() {
             continue;
         }
-        let Some((first, second)) = line.split_once(char::is_whitespace) else {
-            return Err(source.wrong_at(
-                alloc,
-                i.saturating_add(1),
-                "expected two words, found one",
-            )?);
-        };
-        let second = second.trim_start();
-        if second.contains(char::is_whitespace) {
-            return Err(source.wrong_at(
-                alloc,
-                i.saturating_add(1),
-                "expected two words, found more",
-            )?);
+        match pair(line) {
+            Ok((first, second)) => {
+                words.push(first)?;
+                words.push(second)?;
+            }
+            Err(fault) => return Err(source.wrong_at(alloc, i.saturating_add(1), fault)?),
         }
-        words.push(first)?;
-        words.push(second)?;
     }
     Ok(words)
 }

@@ -1,11 +1,6 @@
-use Rattle.std.proofs.Common.{subst}
-use Rattle.std.specs.List.{concat}
-use Rattle.ptree.specs.Drawing.{Look, config_look}
-use Rattle.ptree.specs.Entries.{drawn_entries}
+use Rattle.ptree.specs.Drawing.{config_look}
 use Rattle.ptree.specs.Looks.{look_of}
-use Rattle.ptree.specs.Writing.{IsDrawn, LeavesWholeEntries}
-use Rattle.ptree.proofs.Drawing.Drawn.{drawn_nothing, whole_entries, whole_nothing}
-use Rattle.ptree.proofs.Drawing.Join.{drawn_is_drawing}
+use Rattle.ptree.proofs.Drawing.Drawn.{drawn_nothing, drawn_under, whole_nothing, whole_under}
 use Rattle.ptree.proofs.output.draw_for.Goals as goal
 
 pub returns-in_err-look-clause-bytes : goal.returns-in_err-look-clause-bytes
@@ -13,19 +8,13 @@ returns-in_err-look-clause-bytes g c = drawn_nothing _ (config_look c.args.confi
 
 pub returns-clause-bytes : goal.returns-clause-bytes
 returns-clause-bytes g c =
-    let config = c.args.config.now in
-    let x = g.T.Shaped.shape c.args.item.now in
-    let look = look_of c.in_ok-look.look in
-    subst (λ (l : Look). IsDrawn l x config.depth (g.W.Sink.contents c.args.f.now) (g.W.Sink.contents c.draw-drawn.new.f) c.draw-drawn.result) c.in_ok-look.ensures
-    (concat (drawn_entries look config.depth x), drawn_is_drawing look config.depth x, c.draw-drawn.ensures.bytes)
+    drawn_under (look_of c.in_ok-look.look) _ (g.T.Shaped.shape c.args.item.now) c.args.config.now.depth
+    (g.W.Sink.contents c.args.f.now) (g.W.Sink.contents c.draw-drawn.new.f) c.draw-drawn.result c.in_ok-look.ensures c.draw-drawn.ensures.bytes
 
 pub returns-in_err-look-clause-whole : goal.returns-in_err-look-clause-whole
 returns-in_err-look-clause-whole g c = whole_nothing (config_look c.args.config.now c.args.output_kind c.args.terminal) (g.T.Shaped.shape c.args.item.now) c.args.config.now.depth _ _
 
 pub returns-clause-whole : goal.returns-clause-whole
 returns-clause-whole g c =
-    let config = c.args.config.now in
-    let x = g.T.Shaped.shape c.args.item.now in
-    let look = look_of c.in_ok-look.look in
-    subst (λ (l : Look). LeavesWholeEntries l x config.depth (g.W.Sink.contents c.args.f.now) (g.W.Sink.contents c.draw-drawn.new.f) c.draw-drawn.result) c.in_ok-look.ensures
-    (whole_entries look x config.depth _ _ c.draw-drawn.result c.draw-drawn.ensures.whole)
+    whole_under (look_of c.in_ok-look.look) _ (g.T.Shaped.shape c.args.item.now) c.args.config.now.depth
+    (g.W.Sink.contents c.args.f.now) (g.W.Sink.contents c.draw-drawn.new.f) c.draw-drawn.result c.in_ok-look.ensures c.draw-drawn.ensures.whole
