@@ -9,7 +9,7 @@ pub(crate) mod partial;
 
 use crate::item::StringItem;
 use partial::PartialTree;
-use std::alloc::{AllocError, AllocFailed, Global};
+use std::alloc::{AllocError, Global};
 use std::error::Error;
 use std::fmt;
 use std::marker::Model;
@@ -29,26 +29,6 @@ pub enum AddError {
 
     /// Memory ran out.
     Memory,
-}
-
-impl From<AllocError> for AddError {
-    ghost use Rattle.ptree.specs.declared.builder.AddError.TheVariants.{Memory};
-
-    ghost from_gives = { λ _ e. e ≡ Memory };
-
-    fn from(_e: AllocError) -> AddError {
-        AddError::Memory
-    }
-}
-
-impl<T: Drop> From<AllocFailed<T>> for AddError {
-    ghost use Rattle.ptree.specs.declared.builder.AddError.TheVariants.{Memory};
-
-    ghost from_gives = { λ _ e. e ≡ Memory };
-
-    fn from(_e: AllocFailed<T>) -> AddError {
-        AddError::Memory
-    }
 }
 
 impl fmt::Display for AddError {

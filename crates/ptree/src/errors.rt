@@ -1,4 +1,4 @@
-//! Errors as errors of std, with their texts.
+//! What becomes which error: a refusal of memory, another error, and each of them as one of std.
 ghost use Rattle.std.specs.IoError.{error_kind};
 ghost use Rattle.std.specs.Prelude.{◌≡◌};
 ghost use Rattle.ptree.specs.Errors.{add_kind, chars_kind, convert_kind, edge_kind, read_kind, IsDocIoError};
@@ -7,10 +7,178 @@ use crate::builder::AddError;
 use crate::graph::EdgeError;
 use crate::print_config::{CharsError, Fault};
 use crate::read::ReadError;
+use crate::sink::DrawError;
 use crate::value::{ConvertError, DocError};
+use std::alloc::{AllocError, AllocFailed};
 use std::fmt::Display;
 use std::io::{self, Cursor, ErrorKind, Write};
 use std::str;
+
+impl From<AllocError> for AddError {
+    ghost use Rattle.ptree.specs.declared.builder.AddError.TheVariants.{Memory};
+
+    ghost from_gives = { λ _ e. e ≡ Memory };
+
+    fn from(_e: AllocError) -> AddError {
+        AddError::Memory
+    }
+}
+
+impl<T: Drop> From<AllocFailed<T>> for AddError {
+    ghost use Rattle.ptree.specs.declared.builder.AddError.TheVariants.{Memory};
+
+    ghost from_gives = { λ _ e. e ≡ Memory };
+
+    fn from(_e: AllocFailed<T>) -> AddError {
+        AddError::Memory
+    }
+}
+
+impl From<AllocError> for EdgeError {
+    ghost use Rattle.ptree.specs.declared.graph.EdgeError.TheVariants.{Memory};
+
+    ghost from_gives = { λ _ e. e ≡ Memory };
+
+    fn from(_e: AllocError) -> EdgeError {
+        EdgeError::Memory
+    }
+}
+
+impl<T: Drop> From<AllocFailed<T>> for EdgeError {
+    ghost use Rattle.ptree.specs.declared.graph.EdgeError.TheVariants.{Memory};
+
+    ghost from_gives = { λ _ e. e ≡ Memory };
+
+    fn from(_e: AllocFailed<T>) -> EdgeError {
+        EdgeError::Memory
+    }
+}
+
+impl From<AllocError> for ReadError {
+    ghost use Rattle.ptree.specs.declared.read.ReadError.TheVariants.{Memory};
+
+    ghost from_gives = { λ _ e. e ≡ Memory };
+
+    fn from(_e: AllocError) -> ReadError {
+        ReadError::Memory
+    }
+}
+
+impl<T: Drop> From<AllocFailed<T>> for ReadError {
+    ghost use Rattle.ptree.specs.declared.read.ReadError.TheVariants.{Memory};
+
+    ghost from_gives = { λ _ e. e ≡ Memory };
+
+    fn from(_e: AllocFailed<T>) -> ReadError {
+        ReadError::Memory
+    }
+}
+
+impl From<AllocError> for CharsError {
+    ghost use Rattle.ptree.specs.declared.print_config.characters.CharsError.TheVariants.{Memory};
+
+    ghost from_gives = { λ _ e. e ≡ Memory };
+
+    fn from(_e: AllocError) -> CharsError {
+        CharsError::Memory
+    }
+}
+
+impl<T: Drop> From<AllocFailed<T>> for CharsError {
+    ghost use Rattle.ptree.specs.declared.print_config.characters.CharsError.TheVariants.{Memory};
+
+    ghost from_gives = { λ _ e. e ≡ Memory };
+
+    fn from(_e: AllocFailed<T>) -> CharsError {
+        CharsError::Memory
+    }
+}
+
+impl From<AllocError> for DrawError {
+    ghost use Rattle.ptree.specs.declared.sink.DrawError.TheVariants.{Memory};
+
+    ghost from_gives = { λ _ e. e ≡ Memory };
+
+    fn from(_e: AllocError) -> DrawError {
+        DrawError::Memory
+    }
+}
+
+impl<T: Drop> From<AllocFailed<T>> for DrawError {
+    ghost use Rattle.ptree.specs.declared.sink.DrawError.TheVariants.{Memory};
+
+    ghost from_gives = { λ _ e. e ≡ Memory };
+
+    fn from(_e: AllocFailed<T>) -> DrawError {
+        DrawError::Memory
+    }
+}
+
+impl From<AllocError> for ConvertError {
+    ghost use Rattle.ptree.specs.declared.value.convert.ConvertError.TheVariants.{Memory};
+
+    ghost from_gives = { λ _ e. e ≡ Memory };
+
+    fn from(_e: AllocError) -> ConvertError {
+        ConvertError::Memory
+    }
+}
+
+impl<T: Drop> From<AllocFailed<T>> for ConvertError {
+    ghost use Rattle.ptree.specs.declared.value.convert.ConvertError.TheVariants.{Memory};
+
+    ghost from_gives = { λ _ e. e ≡ Memory };
+
+    fn from(_e: AllocFailed<T>) -> ConvertError {
+        ConvertError::Memory
+    }
+}
+
+impl From<ConvertError> for DocError {
+    ghost use Rattle.ptree.specs.Document.{document_error};
+
+    ghost from_gives = { λ e told. told ≡ document_error e };
+
+    fn from(e: ConvertError) -> DocError {
+        match e {
+            ConvertError::Float => DocError::Float,
+            ConvertError::Date => DocError::Date,
+            ConvertError::Memory => DocError::Draw(DrawError::Memory),
+        }
+    }
+}
+
+impl From<DrawError> for DocError {
+    ghost use Rattle.ptree.specs.declared.value.document.DocError.TheVariants.{Draw};
+
+    ghost from_gives = { λ e told. told ≡ Draw e };
+
+    fn from(e: DrawError) -> DocError {
+        DocError::Draw(e)
+    }
+}
+
+impl From<AllocError> for DocError {
+    ghost use Rattle.ptree.specs.declared.sink.DrawError.TheVariants.{Memory};
+    ghost use Rattle.ptree.specs.declared.value.document.DocError.TheVariants.{Draw};
+
+    ghost from_gives = { λ _ told. told ≡ Draw Memory };
+
+    fn from(_e: AllocError) -> DocError {
+        DocError::Draw(DrawError::Memory)
+    }
+}
+
+impl<T: Drop> From<AllocFailed<T>> for DocError {
+    ghost use Rattle.ptree.specs.declared.sink.DrawError.TheVariants.{Memory};
+    ghost use Rattle.ptree.specs.declared.value.document.DocError.TheVariants.{Draw};
+
+    ghost from_gives = { λ _ told. told ≡ Draw Memory };
+
+    fn from(_e: AllocFailed<T>) -> DocError {
+        DocError::Draw(DrawError::Memory)
+    }
+}
 
 // No text of this library's errors is longer.
 const ROOM: usize = 128;
@@ -28,6 +196,21 @@ pub fn io_error<E: Display>(kind: ErrorKind, error: &E) -> io::Error
     match str::from_utf8(room.get_ref().get(..end).unwrap_or(b"")) {
         Ok(text) => io::Error::new(kind, text),
         Err(_) => io::Error::from(kind),
+    }
+}
+
+impl From<DrawError> for io::Error {
+    ghost use Rattle.ptree.specs.Errors.{IsIoError};
+
+    ghost from_gives = { IsIoError };
+
+    /// Returns the writer's own error, or one of the kind `WriteZero` or `OutOfMemory`.
+    fn from(e: DrawError) -> io::Error {
+        match e {
+            DrawError::Write(e) => e,
+            DrawError::Zero => io::Error::from(ErrorKind::WriteZero),
+            DrawError::Memory => io::Error::from(ErrorKind::OutOfMemory),
+        }
     }
 }
 

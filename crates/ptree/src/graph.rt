@@ -11,7 +11,7 @@ mod row;
 pub use drawing::{GraphNode, Label, print_graph, write_graph_with};
 pub use once::{Expanded, OccurrenceItem, REPEATED_MARK, print_graph_once, write_graph_once_with};
 pub use places::{Occurrence, Place};
-use std::alloc::{AllocError, AllocFailed, Global};
+use std::alloc::{AllocError, Global};
 use std::error::Error;
 use std::fmt;
 
@@ -50,26 +50,6 @@ pub enum EdgeError {
 
     /// Memory ran out.
     Memory,
-}
-
-impl From<AllocError> for EdgeError {
-    ghost use Rattle.ptree.specs.declared.graph.EdgeError.TheVariants.{Memory};
-
-    ghost from_gives = { λ _ e. e ≡ Memory };
-
-    fn from(_e: AllocError) -> EdgeError {
-        EdgeError::Memory
-    }
-}
-
-impl<T: Drop> From<AllocFailed<T>> for EdgeError {
-    ghost use Rattle.ptree.specs.declared.graph.EdgeError.TheVariants.{Memory};
-
-    ghost from_gives = { λ _ e. e ≡ Memory };
-
-    fn from(_e: AllocFailed<T>) -> EdgeError {
-        EdgeError::Memory
-    }
 }
 
 impl fmt::Display for EdgeError {

@@ -10,7 +10,7 @@ mod counted;
 pub(crate) mod faults;
 
 pub use counted::Counted;
-use std::alloc::{AllocError, AllocFailed};
+use std::alloc::AllocError;
 use std::error::Error;
 use std::{fmt, io};
 
@@ -66,41 +66,6 @@ pub enum DrawError {
 
     /// Memory ran out.
     Memory,
-}
-
-impl From<AllocError> for DrawError {
-    ghost use Rattle.ptree.specs.declared.sink.DrawError.TheVariants.{Memory};
-
-    ghost from_gives = { λ _ e. e ≡ Memory };
-
-    fn from(_e: AllocError) -> DrawError {
-        DrawError::Memory
-    }
-}
-
-impl<T: Drop> From<AllocFailed<T>> for DrawError {
-    ghost use Rattle.ptree.specs.declared.sink.DrawError.TheVariants.{Memory};
-
-    ghost from_gives = { λ _ e. e ≡ Memory };
-
-    fn from(_e: AllocFailed<T>) -> DrawError {
-        DrawError::Memory
-    }
-}
-
-impl From<DrawError> for io::Error {
-    ghost use Rattle.ptree.specs.Errors.{IsIoError};
-
-    ghost from_gives = { IsIoError };
-
-    /// Returns the writer's own error, or one of the kind `WriteZero` or `OutOfMemory`.
-    fn from(e: DrawError) -> io::Error {
-        match e {
-            DrawError::Write(e) => e,
-            DrawError::Zero => io::Error::from(io::ErrorKind::WriteZero),
-            DrawError::Memory => io::Error::from(io::ErrorKind::OutOfMemory),
-        }
-    }
 }
 
 impl fmt::Display for DrawError {

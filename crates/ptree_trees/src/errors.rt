@@ -1,11 +1,42 @@
-//! Errors as errors of std, with their texts.
+//! What becomes which error: a refusal of memory, and each of them as one of std.
 ghost use Rattle.std.specs.IoError.{error_kind};
 ghost use Rattle.std.specs.Prelude.{◌≡◌};
 ghost use Rattle.ptree_trees.specs.Errors.{indent_kind, write_kind};
 
 use crate::indented::{IndentError, WriteError};
 use ptree::errors::io_error;
+use std::alloc::{AllocError, AllocFailed};
 use std::io::{self, ErrorKind};
+
+impl From<AllocError> for IndentError {
+    ghost use Rattle.ptree_trees.specs.declared.indented.IndentError.TheVariants.{Memory};
+
+    ghost from_gives = { λ _ e. e ≡ Memory };
+
+    fn from(_e: AllocError) -> IndentError {
+        IndentError::Memory
+    }
+}
+
+impl<T: Drop> From<AllocFailed<T>> for IndentError {
+    ghost use Rattle.ptree_trees.specs.declared.indented.IndentError.TheVariants.{Memory};
+
+    ghost from_gives = { λ _ e. e ≡ Memory };
+
+    fn from(_e: AllocFailed<T>) -> IndentError {
+        IndentError::Memory
+    }
+}
+
+impl From<AllocError> for WriteError {
+    ghost use Rattle.ptree_trees.specs.declared.indented.WriteError.TheVariants.{Memory};
+
+    ghost from_gives = { λ _ e. e ≡ Memory };
+
+    fn from(_e: AllocError) -> WriteError {
+        WriteError::Memory
+    }
+}
 
 impl From<IndentError> for io::Error {
     ghost from_gives = { λ e told. error_kind told ≡ indent_kind e };

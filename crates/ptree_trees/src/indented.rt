@@ -11,7 +11,7 @@ ghost use Rattle.ptree_trees.specs.IndentedReading.{IsNext, IsAdded, IsReading};
 
 use ptree::TreeBuilder;
 use ptree::item::StringItem;
-use std::alloc::{AllocError, AllocFailed, Global};
+use std::alloc::{AllocError, Global};
 use std::error::Error;
 use std::fmt;
 
@@ -50,26 +50,6 @@ pub enum IndentError {
     Memory,
 }
 
-impl From<AllocError> for IndentError {
-    ghost use Rattle.ptree_trees.specs.declared.indented.IndentError.TheVariants.{Memory};
-
-    ghost from_gives = { λ _ e. e ≡ Memory };
-
-    fn from(_e: AllocError) -> IndentError {
-        IndentError::Memory
-    }
-}
-
-impl<T: Drop> From<AllocFailed<T>> for IndentError {
-    ghost use Rattle.ptree_trees.specs.declared.indented.IndentError.TheVariants.{Memory};
-
-    ghost from_gives = { λ _ e. e ≡ Memory };
-
-    fn from(_e: AllocFailed<T>) -> IndentError {
-        IndentError::Memory
-    }
-}
-
 impl fmt::Display for IndentError {
     fn fmt<W: fmt::Write>(&self, f: &mut fmt::Formatter<W>) -> fmt::Result {
         f.write_str(match self {
@@ -93,16 +73,6 @@ pub enum WriteError {
 
     /// Memory ran out, or a level exceeds 4294967295.
     Memory,
-}
-
-impl From<AllocError> for WriteError {
-    ghost use Rattle.ptree_trees.specs.declared.indented.WriteError.TheVariants.{Memory};
-
-    ghost from_gives = { λ _ e. e ≡ Memory };
-
-    fn from(_e: AllocError) -> WriteError {
-        WriteError::Memory
-    }
 }
 
 impl fmt::Display for WriteError {

@@ -6,7 +6,7 @@ ghost use Rattle.ptree.specs.declared.print_config.characters.IndentChars.{Inden
 ghost use Rattle.ptree.specs.declared.print_config.characters.StaticIndentChars.{StaticIndentChars};
 
 use crate::print_config::parse::{Spelling, parse_set};
-use std::alloc::{AllocError, AllocFailed, Global};
+use std::alloc::{AllocError, Global};
 use std::error::Error;
 use std::fmt;
 
@@ -169,26 +169,6 @@ impl Eq for CharsError {
     ghost use Rattle.std.specs.Cmp.Rules.{comparing};
 
     ghost laws = { Prim.search (comparing, rules) };
-}
-
-impl From<AllocError> for CharsError {
-    ghost use Rattle.ptree.specs.declared.print_config.characters.CharsError.TheVariants.{Memory};
-
-    ghost from_gives = { λ _ e. e ≡ Memory };
-
-    fn from(_e: AllocError) -> CharsError {
-        CharsError::Memory
-    }
-}
-
-impl<T: Drop> From<AllocFailed<T>> for CharsError {
-    ghost use Rattle.ptree.specs.declared.print_config.characters.CharsError.TheVariants.{Memory};
-
-    ghost from_gives = { λ _ e. e ≡ Memory };
-
-    fn from(_e: AllocFailed<T>) -> CharsError {
-        CharsError::Memory
-    }
 }
 
 impl fmt::Display for CharsError {

@@ -4,7 +4,7 @@ ghost use Rattle.ptree.specs.Data.{string};
 ghost use Rattle.ptree.specs.Value.{data_of, entry_of};
 
 use super::Value;
-use std::alloc::{AllocError, AllocFailed, Global};
+use std::alloc::{AllocError, Global};
 use std::error::Error;
 use std::fmt;
 
@@ -22,26 +22,6 @@ pub enum ConvertError {
 
     /// Memory ran out.
     Memory,
-}
-
-impl From<AllocError> for ConvertError {
-    ghost use Rattle.ptree.specs.declared.value.convert.ConvertError.TheVariants.{Memory};
-
-    ghost from_gives = { λ _ e. e ≡ Memory };
-
-    fn from(_e: AllocError) -> ConvertError {
-        ConvertError::Memory
-    }
-}
-
-impl<T: Drop> From<AllocFailed<T>> for ConvertError {
-    ghost use Rattle.ptree.specs.declared.value.convert.ConvertError.TheVariants.{Memory};
-
-    ghost from_gives = { λ _ e. e ≡ Memory };
-
-    fn from(_e: AllocFailed<T>) -> ConvertError {
-        ConvertError::Memory
-    }
 }
 
 impl fmt::Display for ConvertError {

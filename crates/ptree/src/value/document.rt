@@ -1,7 +1,7 @@
 //! Reads a document, and draws it.
 ghost use Rattle.std.specs.Prelude.{◌≡◌, Ok, Err, IfOk, IfErr, IsOk, IsErrAnd, IsErrOf};
 ghost use Rattle.ptree.specs.Data.{Data, KeysAscend, pair_shape};
-ghost use Rattle.ptree.specs.Document.{document, document_error, IsRefusal, HasDocumentCause};
+ghost use Rattle.ptree.specs.Document.{document, IsRefusal, HasDocumentCause};
 ghost use Rattle.ptree.specs.Drawing.{look_by, config_look};
 ghost use Rattle.ptree.specs.Loading.{effective_config};
 ghost use Rattle.ptree.specs.Parts.{parsed_of};
@@ -15,7 +15,7 @@ use crate::output::print_tree_with;
 use crate::parsed::{Parsed, read_json, read_toml};
 use crate::print_config::{OutputKind, PrintConfig, Sources};
 use crate::sink::{DrawError, Sink};
-use std::alloc::{AllocError, AllocFailed, Global};
+use std::alloc::Global;
 use std::error::Error;
 use std::fmt;
 
@@ -43,50 +43,6 @@ pub enum DocError {
 
     /// Drawing failed, or memory ran out.
     Draw(DrawError),
-}
-
-impl From<ConvertError> for DocError {
-    ghost from_gives = { λ e told. told ≡ document_error e };
-
-    fn from(e: ConvertError) -> DocError {
-        match e {
-            ConvertError::Float => DocError::Float,
-            ConvertError::Date => DocError::Date,
-            ConvertError::Memory => DocError::Draw(DrawError::Memory),
-        }
-    }
-}
-
-impl From<DrawError> for DocError {
-    ghost use Rattle.ptree.specs.declared.value.document.DocError.TheVariants.{Draw};
-
-    ghost from_gives = { λ e told. told ≡ Draw e };
-
-    fn from(e: DrawError) -> DocError {
-        DocError::Draw(e)
-    }
-}
-
-impl From<AllocError> for DocError {
-    ghost use Rattle.ptree.specs.declared.sink.DrawError.TheVariants.{Memory};
-    ghost use Rattle.ptree.specs.declared.value.document.DocError.TheVariants.{Draw};
-
-    ghost from_gives = { λ _ told. told ≡ Draw Memory };
-
-    fn from(_e: AllocError) -> DocError {
-        DocError::Draw(DrawError::Memory)
-    }
-}
-
-impl<T: Drop> From<AllocFailed<T>> for DocError {
-    ghost use Rattle.ptree.specs.declared.sink.DrawError.TheVariants.{Memory};
-    ghost use Rattle.ptree.specs.declared.value.document.DocError.TheVariants.{Draw};
-
-    ghost from_gives = { λ _ told. told ≡ Draw Memory };
-
-    fn from(_e: AllocFailed<T>) -> DocError {
-        DocError::Draw(DrawError::Memory)
-    }
 }
 
 impl fmt::Display for DocError {
