@@ -6,7 +6,7 @@ use ptree::item::StringItem;
 use ptree::output::write_tree_with;
 use ptree::print_config::PrintConfig;
 use ptree::read::{pieces_readable, read_tree};
-use ptree::style::Counted;
+use ptree::style::{Counted, DrawError, Sink};
 use std::alloc::{AllocError, Global};
 use std::io::{self, BufWriter, Write};
 use std::str;
@@ -20,6 +20,9 @@ const FIRST_EDGES: u32 = 2;
 
 // The greatest level that is drawn: there are 976,563 walks.
 const DEPTH: u32 = 9;
+
+// Edges, by their ends.
+type Edges = Vec<(NodeIndex, NodeIndex)>;
 
 // A graph of so many nodes.
 fn graph(alloc: Global, nodes: u32) -> Result<Graph<String>, AllocError> {
@@ -40,11 +43,7 @@ fn target(neighbors: &str, i: u32, k: u32) -> u32 {
 }
 
 // The edges of such a graph.
-fn edges(
-    alloc: Global,
-    neighbors: &str,
-    nodes: u32,
-) -> Result<Vec<(NodeIndex, NodeIndex)>, AllocError> {
+fn edges(alloc: Global, neighbors: &str, nodes: u32) -> Result<Edges, AllocError> {
     let mut edges = Vec::new(alloc);
     for i in 0..nodes {
         let count = if i == 0 { FIRST_EDGES } else { EDGES };
@@ -54,6 +53,55 @@ fn edges(
         }
     }
     Ok(edges)
+}
+
+// Draws a graph with each node expanded once.
+fn write_once<W: Sink>(
+    alloc: Global,
+    graph: &Graph<String>,
+    out: &mut W,
+    config: &PrintConfig,
+) -> Result<(), DrawError> {
+    write_graph_once_with(alloc, graph, NodeIndex(0), REPEATED_MARK, out, config)
+}
+
+// What is drawn into memory: all walks of a graph, a graph with each node expanded once, or a tree.
+#[derive(Clone, Copy)]
+enum Drawn<'a> {
+    Walks(&'a Graph<String>),
+    Once(&'a Graph<String>),
+    Items(&'a StringItem),
+}
+
+// Draws into memory. Returns what that took, in nanoseconds, and the memory.
+fn drawing(
+    rt: &HostRuntime,
+    drawn: Drawn<'_>,
+    mut memory: Vec<u8>,
+    config: &PrintConfig,
+) -> io::Result<(u128, Vec<u8>)> {
+    let alloc = rt.alloc();
+    memory.clear();
+    let mut out = Counted::new(memory);
+    let start = Instant::now(rt)?;
+    let ended = match drawn {
+        Drawn::Walks(graph) => write_graph_with(alloc, graph, NodeIndex(0), &mut out, config),
+        Drawn::Once(graph) => write_once(alloc, graph, &mut out, config),
+        Drawn::Items(tree) => write_tree_with(alloc, tree, &mut out, config),
+    };
+    ended.map_err(failed)?;
+    Ok((start.elapsed(rt)?.as_nanos(), out.into_inner()))
+}
+
+// The tree of a drawing, if it can be read.
+fn tree_of_drawing(alloc: Global, drawn: &[u8], config: &PrintConfig) -> io::Result<Option<StringItem>> {
+    let Ok(text) = str::from_utf8(drawn) else {
+        return Ok(None);
+    };
+    if !pieces_readable(alloc, config)? {
+        return Ok(None);
+    }
+    Ok(read_tree(alloc, text, config)?)
 }
 
 /// Times the making of a graph, its drawing, and the drawing of the same tree as items. The neighbours are `near`, or else far.
@@ -71,28 +119,13 @@ pub fn draw_graph(rt: &HostRuntime, neighbors: &str, nodes: u32, times: u32) -> 
     let mut out = Counted::new(Vec::new(alloc));
     write_graph_with(alloc, &graph, NodeIndex(0), &mut out, &config).map_err(failed)?;
     let mut drawn = out.into_inner();
-    if !pieces_readable(alloc, &config)? {
-        return Ok(());
-    }
-    let Ok(text) = str::from_utf8(&drawn) else {
-        return Ok(());
-    };
-    let Some(tree) = read_tree(alloc, text, &config)? else {
+    let Some(tree) = tree_of_drawing(alloc, &drawn, &config)? else {
         return Ok(());
     };
     for _ in 0..times {
-        drawn.clear();
-        let mut out = Counted::new(drawn);
-        let start = Instant::now(rt)?;
-        write_graph_with(alloc, &graph, NodeIndex(0), &mut out, &config).map_err(failed)?;
-        let walks = start.elapsed(rt)?.as_nanos();
-        drawn = out.into_inner();
-        drawn.clear();
-        let mut out = Counted::new(drawn);
-        let start = Instant::now(rt)?;
-        write_tree_with(alloc, &tree, &mut out, &config).map_err(failed)?;
-        let items = start.elapsed(rt)?.as_nanos();
-        drawn = out.into_inner();
+        let (walks, memory) = drawing(rt, Drawn::Walks(&graph), drawn, &config)?;
+        let (items, memory) = drawing(rt, Drawn::Items(&tree), memory, &config)?;
+        drawn = memory;
         println!(rt; "walks drawn in {walks} ns, items in {items} ns")?;
     }
     Ok(())
@@ -113,11 +146,7 @@ fn place(neighbors: &str, i: u32, nodes: u32) -> NodeIndex {
 
 // The edges of blocks: from the first node to the first of each block, and from each node to the next five of its block. Where a block
 // ends, they go back to its first node.
-fn block_edges(
-    alloc: Global,
-    neighbors: &str,
-    nodes: u32,
-) -> Result<Vec<(NodeIndex, NodeIndex)>, AllocError> {
+fn block_edges(alloc: Global, neighbors: &str, nodes: u32) -> Result<Edges, AllocError> {
     let mut edges = Vec::new(alloc);
     for i in 0..nodes {
         let first = i - i % BLOCK;
@@ -138,7 +167,7 @@ fn block_edges(
 }
 
 // The edges of layers: from the first node to the two of the first layer, and from each node of a layer to both of the next one.
-fn layer_edges(alloc: Global, nodes: u32) -> Result<Vec<(NodeIndex, NodeIndex)>, AllocError> {
+fn layer_edges(alloc: Global, nodes: u32) -> Result<Edges, AllocError> {
     let mut edges = Vec::new(alloc);
     for i in 0..nodes {
         let next = if i % 2 == 0 { i.saturating_add(1) } else { i.saturating_add(2) };
@@ -152,7 +181,7 @@ fn layer_edges(alloc: Global, nodes: u32) -> Result<Vec<(NodeIndex, NodeIndex)>,
 }
 
 // The edges from the first node to all others.
-fn wide_edges(alloc: Global, nodes: u32) -> Result<Vec<(NodeIndex, NodeIndex)>, AllocError> {
+fn wide_edges(alloc: Global, nodes: u32) -> Result<Edges, AllocError> {
     let mut edges = Vec::new(alloc);
     for i in 1..nodes {
         edges.push((NodeIndex(0), NodeIndex(i as usize)))?;
@@ -161,7 +190,7 @@ fn wide_edges(alloc: Global, nodes: u32) -> Result<Vec<(NodeIndex, NodeIndex)>, 
 }
 
 // The edges of a chain.
-fn chain_edges(alloc: Global, nodes: u32) -> Result<Vec<(NodeIndex, NodeIndex)>, AllocError> {
+fn chain_edges(alloc: Global, nodes: u32) -> Result<Edges, AllocError> {
     let mut edges = Vec::new(alloc);
     for i in 1..nodes {
         edges.push((NodeIndex(i as usize - 1), NodeIndex(i as usize)))?;
@@ -192,23 +221,9 @@ fn once_tree(
     config: &PrintConfig,
 ) -> io::Result<Option<StringItem>> {
     let mut out = Counted::new(Vec::new(alloc));
-    write_graph_once_with(
-        alloc,
-        graph,
-        NodeIndex(0),
-        REPEATED_MARK,
-        &mut out,
-        config,
-    )
-    .map_err(failed)?;
+    write_once(alloc, graph, &mut out, config).map_err(failed)?;
     let drawn = out.into_inner();
-    let Ok(text) = str::from_utf8(&drawn) else {
-        return Ok(None);
-    };
-    if !pieces_readable(alloc, config)? {
-        return Ok(None);
-    }
-    Ok(read_tree(alloc, text, config)?)
+    tree_of_drawing(alloc, &drawn, config)
 }
 
 // How many places are right below each place.
@@ -298,21 +313,6 @@ fn copying(rt: &HostRuntime, tree: &StringItem) -> io::Result<u128> {
     Ok(copying)
 }
 
-// Draws a tree into memory. Returns what that took, in nanoseconds, and the memory.
-fn drawing(
-    rt: &HostRuntime,
-    tree: &StringItem,
-    memory: Vec<u8>,
-    config: &PrintConfig,
-) -> io::Result<(u128, Vec<u8>)> {
-    let mut drawn = memory;
-    drawn.clear();
-    let mut out = Counted::new(drawn);
-    let start = Instant::now(rt)?;
-    write_tree_with(rt.alloc(), tree, &mut out, config).map_err(failed)?;
-    Ok((start.elapsed(rt)?.as_nanos(), out.into_inner()))
-}
-
 /// Times the drawing of a graph with each node expanded once, the drawing of the same tree as items, laid out in the order of the drawing
 /// and in that of the nodes, and its copying.
 pub fn time_once(rt: &HostRuntime, shape: &str, nodes: u32, times: u32) -> io::Result<()> {
@@ -332,21 +332,9 @@ pub fn time_once(rt: &HostRuntime, shape: &str, nodes: u32, times: u32) -> io::R
     println!(rt; "{places} places")?;
     let mut drawn = Vec::new(alloc);
     for _ in 0..times {
-        drawn.clear();
-        let mut out = Counted::new(drawn);
-        let start = Instant::now(rt)?;
-        write_graph_once_with(
-            alloc,
-            &graph,
-            NodeIndex(0),
-            REPEATED_MARK,
-            &mut out,
-            &config,
-        )
-        .map_err(failed)?;
-        let once = start.elapsed(rt)?.as_nanos();
-        let (items, memory) = drawing(rt, &tree, out.into_inner(), &config)?;
-        let (alike, memory) = drawing(rt, &numbered, memory, &config)?;
+        let (once, memory) = drawing(rt, Drawn::Once(&graph), drawn, &config)?;
+        let (items, memory) = drawing(rt, Drawn::Items(&tree), memory, &config)?;
+        let (alike, memory) = drawing(rt, Drawn::Items(&numbered), memory, &config)?;
         drawn = memory;
         let start = Instant::now(rt)?;
         let made = graph.expanded_once(NodeIndex(0), u32::MAX)?;
@@ -376,15 +364,7 @@ pub fn count_once(rt: &HostRuntime, task: &str, shape: &str, nodes: u32, times: 
         if task == "once-make" {
             graph.expanded_once(NodeIndex(0), u32::MAX)?;
         } else {
-            write_graph_once_with(
-                alloc,
-                &graph,
-                NodeIndex(0),
-                REPEATED_MARK,
-                &mut out,
-                &config,
-            )
-            .map_err(failed)?;
+            write_once(alloc, &graph, &mut out, &config).map_err(failed)?;
         }
     }
     out.into_inner().flush()

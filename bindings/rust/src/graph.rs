@@ -132,45 +132,28 @@ pub fn print_graph<N: Clone + Display>(graph: &Graph<N>, start: NodeIndex) -> io
 }
 
 /// Draws all walks from a node to a writer. If the graph has a cycle, only the configured depth ends the drawing.
-pub fn write_graph_with<N, W>(
+pub fn write_graph_with<N: Clone + Display, W: Write>(
     graph: &Graph<N>,
     start: NodeIndex,
     mut f: W,
     config: &PrintConfig,
-) -> io::Result<()>
-where
-    N: Clone + Display,
-    W: Write,
-{
-    f.write_all(&drawing(
-        graph,
-        start,
-        Expansion::Walks,
-        config,
-        OutputKind::Unknown,
-    )?)
+) -> io::Result<()> {
+    let drawing = drawing(graph, start, Expansion::Walks, config, OutputKind::Unknown)?;
+    f.write_all(&drawing)
 }
 
 /// Draws a graph from a node to a writer. Each node is expanded only where it comes first, and has `mark` after its label elsewhere,
 /// such as [`REPEATED_MARK`]. So a cycle ends.
-pub fn write_graph_once_with<N, W>(
+pub fn write_graph_once_with<N: Clone + Display, W: Write>(
     graph: &Graph<N>,
     start: NodeIndex,
     mark: &str,
     mut f: W,
     config: &PrintConfig,
-) -> io::Result<()>
-where
-    N: Clone + Display,
-    W: Write,
-{
-    f.write_all(&drawing(
-        graph,
-        start,
-        Expansion::Once(mark),
-        config,
-        OutputKind::Unknown,
-    )?)
+) -> io::Result<()> {
+    let expansion = Expansion::Once(mark);
+    let drawing = drawing(graph, start, expansion, config, OutputKind::Unknown)?;
+    f.write_all(&drawing)
 }
 
 // The drawing of a graph from a node for output of a kind.

@@ -113,22 +113,6 @@ fn try_read(
     }
 }
 
-// The calls of a tree whose drawing is this text.
-fn try_drawing(
-    alloc: Global,
-    tree: &StringItem,
-    config: &PrintConfig,
-    drawing: &str,
-) -> Result<(), Deviation>
-    requires { HasReadablePieces config.now }
-{
-    try_returned(alloc, tree, config, drawing)?;
-    try_written(alloc, tree, config)?;
-    try_shown(alloc, tree, config)?;
-    try_under(alloc, tree)?;
-    try_read(alloc, tree, config, drawing)
-}
-
 // The calls of a tree under a configuration.
 fn try_drawn(alloc: Global, tree: &StringItem, config: &PrintConfig) -> Result<(), Deviation>
     requires { HasReadablePieces config.now }
@@ -137,7 +121,11 @@ fn try_drawn(alloc: Global, tree: &StringItem, config: &PrintConfig) -> Result<(
         tree.drawing(alloc, config),
         "`StringItem::drawing` succeeds",
     )?;
-    try_drawing(alloc, tree, config, drawing.as_str())
+    try_returned(alloc, tree, config, drawing.as_str())?;
+    try_written(alloc, tree, config)?;
+    try_shown(alloc, tree, config)?;
+    try_under(alloc, tree)?;
+    try_read(alloc, tree, config, drawing.as_str())
 }
 
 // The copy of a tree, and its items.
@@ -230,8 +218,8 @@ fn folders(alloc: Global, size: usize) -> Result<Vec<Folder>, AllocError> {
     Ok(folders)
 }
 
-// A root over many lent items.
-fn try_volume(alloc: Global, size: usize, config: &PrintConfig) -> Result<(), Deviation> {
+// A root over many lent items, and one of their type over them.
+fn try_lent(alloc: Global, size: usize, config: &PrintConfig) -> Result<(), Deviation> {
     let volume = Volume {
         title: text(alloc, size)?,
         folders: folders(alloc, size)?,
@@ -240,14 +228,10 @@ fn try_volume(alloc: Global, size: usize, config: &PrintConfig) -> Result<(), De
         drawing_of_volume(alloc, &volume, config),
         "a root over lent items is drawn",
     )?;
-    Ok(())
-}
-
-// A lent item over many.
-fn try_folder(alloc: Global, size: usize, config: &PrintConfig) -> Result<(), Deviation> {
+    let Volume { title, folders } = volume;
     let folder = Folder {
-        name: text(alloc, size)?,
-        folders: folders(alloc, size)?,
+        name: title,
+        folders,
     };
     made(
         drawing_of_folder(alloc, &folder, config),
@@ -273,8 +257,7 @@ fn try_halved(alloc: Global, size: usize, config: &PrintConfig) -> Result<(), De
 // Items of other types.
 fn try_types(alloc: Global, size: usize) -> Result<(), Deviation> {
     let config = PrintConfig::default(alloc)?;
-    try_volume(alloc, size, &config)?;
-    try_folder(alloc, size, &config)?;
+    try_lent(alloc, size, &config)?;
     try_halved(alloc, size, &config)
 }
 
