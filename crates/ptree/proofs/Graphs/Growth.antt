@@ -126,6 +126,11 @@ module _ {N : Type 0} (g : Graph N) where
   pub is_grown : (start depth : ℕ) (t : OccurrenceTree) → IsExpandedOnce under start depth t → t ≡ (grow under depth (all_flags (length (weights_of g)) []) start).occurrence
   is_grown start depth t h = only_one start depth depth t _ h (made_is_drawn start depth _ (ap (λ seen. (grow under depth seen start).occurrence) no_flags)) refl
 
+  -- what holds of what is made so holds of what is the graph expanded once
+  pub of_expanded : (start depth : ℕ) (P : OccurrenceTree → Type 0) → P (grow under depth (all_flags (length (weights_of g)) []) start).occurrence
+      → (t : OccurrenceTree) → IsExpandedOnce under start depth t → P t
+  of_expanded start depth P h t is = subst P (sym (is_grown start depth t is)) h
+
   -- the size of that tree
   pub made_has_size : (start depth : ℕ) (t : OccurrenceTree) → IsExpandedOnce under start depth t → HasSize (edges_of g) t
   made_has_size start depth t h = size_of_drawn (edges_of g) flags covered all_clear start depth t h
