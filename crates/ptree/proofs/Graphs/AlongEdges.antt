@@ -3,7 +3,7 @@ use Rattle.std.specs.Prelude.{if◌then◌else◌, ◌≢◌, OnOk, slice_get}
 use Rattle.std.specs.Io.KnownBytes.{Appends}
 use Rattle.std.proofs.lemmas.Bool.Decides.{nat_tests}
 use Rattle.std.specs.List.{concat}
-use Rattle.std.proofs.Common.{◌≡◌, ℕ, zero, suc, ◌-◌, Bool, true, false, Option, Result, Ok, Err, List, [], ◌∷◌, ◌++◌, length, map, take, ap, refl, sym, subst, ◌∙◌, eqb, get_or, arith}
+use Rattle.std.proofs.Common.{◌≡◌, ℕ, zero, suc, ◌-◌, Bool, true, false, Option, None, Result, Ok, Err, List, [], ◌∷◌, ◌++◌, length, map, take, ap, refl, sym, subst, ◌∙◌, eqb, get_or, arith}
 use Rattle.std.proofs.lemmas.List.{append-nil}
 use Rattle.std.proofs.lemmas.Option.{slice_get-get_or}
 use Rattle.ptree.specs.declared.graph.Graph.{Graph}
@@ -16,10 +16,11 @@ use Rattle.ptree.specs.Looks.{own_entry}
 use Rattle.ptree.specs.Occurrence.{OccurrenceTree, none, occurrence, row, occurrence_kids, occurrence_own, occurrence_shape}
 use Rattle.ptree.specs.Pieces.{turning_piece, passing_piece}
 use Rattle.ptree.specs.Shape.{Shape, kids}
+use Rattle.ptree.specs.Style.{start_codes}
 use Rattle.ptree.specs.Writing.{AppendsPart}
 use Rattle.ptree.proofs.Graphs.EdgeLists.{newest_within, newest_splits}
-use Rattle.ptree.proofs.Drawing.Engine.{AreBegun}
-use Rattle.ptree.proofs.Graphs.Growth.{grow_next}
+use Rattle.ptree.proofs.Drawing.Engine.{AreBegun, start_kept}
+use Rattle.ptree.proofs.Graphs.Growth.{grow_next, without}
 use Rattle.ptree.proofs.Graphs.NodeFlags.{seen_all}
 use Rattle.ptree.proofs.Graphs.Occurrences.{occurrences_of_row}
 use Rattle.ptree.proofs.Trees.Shapes.{kids_of_unfold}
@@ -98,6 +99,33 @@ module _ {N : Type 0} (text : N → List ℕ) (g : Graph N) (mark : List ℕ) wh
       → Appends a b (own_entry look outer last (leaf_shape text weight mark repeated)) → weight ≡ slice_get (weights_of g) v → repeated ≡ is_seen items v
       → Appends a b (own_entry look outer last (shape_of (grow (neighbors_of (edges_of g)) levels (flags_of g items) v).occurrence))
   own_whole a b look outer last levels items v weight repeated h e flag = subst (λ (z : List ℕ). Appends a b z) (own_grown look outer last levels items v weight repeated e flag) h
+
+  -- the shape of what is drawn from a node on
+  abbrev pub drawn_from : ℕ → ℕ → Shape
+  drawn_from depth v = shape_of (grow (neighbors_of (edges_of g)) depth (flags_of g []) v).occurrence
+
+  -- its own entry is written if the buffer held the branch's start codes before the root's own text
+  pub start_written : (a b : Option (List ℕ)) (look : Look) (depth v width : ℕ) (old buffer end : List ℕ) → width ≡ length old → buffer ≡ old ++ end → old ≡ start_codes look.branch
+      → ((outer : List ℕ) → take width buffer ≡ start_codes look.branch ++ outer → Appends a b (own_entry look outer None (leaf_shape text (slice_get (weights_of g) v) mark false)))
+      → Appends a b (own_entry look [] None (drawn_from depth v))
+  start_written a b look depth v width old buffer end wide is start h =
+      let held = start_kept width old buffer end wide is ∙ start ∙ sym (append-nil (start_codes look.branch)) in
+      own_whole a b look [] None depth [] v (slice_get (weights_of g) v) false (h [] held) refl refl
+
+  -- what is below it
+  pub kids_from : (depth v : ℕ) (items : List Bool) → depth ≢ 0 → items ≡ [] → map shape_of (kids_grown (neighbors_of (edges_of g)) (depth - 1) (flags_of g items) v) ≡ kids (drawn_from depth v)
+  kids_from depth v items some none_seen =
+      let below = neighbors_of (edges_of g) in
+      let seen = flags_of g [] in
+      ap (λ s. map shape_of (kids_grown below (depth - 1) (flags_of g s) v)) none_seen
+      ∙ kids_are (grow below depth seen v).occurrence _ (kids_below below depth seen v some (seen_all (length (weights_of g)) [] v))
+
+  -- nothing, if the node has no neighbours
+  pub no_kids_from : (depth v : ℕ) → depth ≢ 0 → neighbors_of (edges_of g) v ≡ [] → kids (drawn_from depth v) ≡ []
+  no_kids_from depth v some alone =
+      let below = neighbors_of (edges_of g) in
+      let seen = flags_of g [] in
+      sym (kids_are (grow below depth seen v).occurrence [] (no_kids _ v _ seen (without below depth seen v some (seen_all (length (weights_of g)) [] v) alone)))
 
 -- nothing is below a shape without children
 none_under : (look : Look) (left : ℕ) (outer : List ℕ) (x : Shape) → kids x ≡ [] → entries_below look left outer x ≡ []
