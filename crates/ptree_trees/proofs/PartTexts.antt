@@ -2,7 +2,7 @@
 use Rattle.std.specs.Cmp.{both_ways}
 use Rattle.std.specs.Prelude.{◌↔◌}
 use Rattle.std.specs.Str.Iter.{HasSubslice}
-use Rattle.std.proofs.Common.{◌≡◌, ◌∙◌, ℕ, Bool, true, false, List, [], ◌∷◌, ◌++◌, ◌||◌, ap, sym, refl, eqb-true, eq-eqb}
+use Rattle.std.proofs.Common.{◌≡◌, ◌∙◌, ℕ, Bool, true, false, List, [], ◌∷◌, ◌++◌, ◌||◌, ap, sym, refl, subst, eqb-true, eq-eqb}
 use Rattle.std.proofs.lemmas.Bool.{and_parts, and_from}
 use Rattle.ptree_trees.specs.Parts.{begins_with, has_part}
 
@@ -42,9 +42,10 @@ had part (c ∷ before) rest = by_begin (begins_with part (c ∷ (before ++ (par
     by_begin true h = refl
     by_begin false h = h
 
--- what says whether a part stands in a text is the test
-pub part_test : (part text : List ℕ) (r : Bool) → (r ≡ true) ↔ HasSubslice text part → r ≡ has_part part text
-part_test part text r h = both_ways r (has_part part text) (λ e. in_text (h.0 e)) (λ e. h.1 (has part text e))
+-- what says whether a part stands in a text that is shown is the test of the text
+pub part_test : (part text shown : List ℕ) (r : Bool) → shown ≡ text → (r ≡ true) ↔ HasSubslice shown part → r ≡ has_part part text
+part_test part text shown r same h =
+    subst (λ (z : List ℕ). r ≡ has_part part z) same (both_ways r (has_part part shown) (λ e. in_text (h.0 e)) (λ e. h.1 (has part shown e)))
   where
-    in_text : HasSubslice text part → has_part part text ≡ true
+    in_text : HasSubslice shown part → has_part part shown ≡ true
     in_text q = rw q.2 (had part q.0 q.1)

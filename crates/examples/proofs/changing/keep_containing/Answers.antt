@@ -1,4 +1,4 @@
-use Rattle.std.proofs.Common.{◌≡◌, ℕ, List, subst, rules}
+use Rattle.std.proofs.Common.{rules}
 use Rattle.std.proofs.lemmas.Result.{IfOk-weaker}
 use Rattle.std.proofs.lemmas.Str.Pattern.{contains_text}
 use Rattle.ptree_trees.specs.Parts.{has_part}
@@ -7,7 +7,6 @@ use Rattle.examples.proofs.changing.keep_containing.Goals as goal
 
 pub returns : goal.returns
 returns c =
-    let part = c.args.part.now in
     IfOk-weaker c.kept.result _ _
-    (λ kept h. h (has_part part) (λ text r calls. subst (λ (z : List ℕ). r ≡ has_part part z) calls.shows (part_test part calls.shown.now r (contains_text r part calls.shown.now (search rules)))))
+    (λ kept h. h (has_part c.args.part.now) (λ text r calls. part_test c.args.part.now _ calls.shown.now r calls.shows (contains_text r c.args.part.now calls.shown.now (search rules))))
     c.kept.ensures
