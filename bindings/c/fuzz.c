@@ -274,6 +274,18 @@ static int has_later(const struct ptree_item *items, size_t count, size_t place)
     return 0;
 }
 
+/* Draws steps into a room, and is refused memory one time in `chance`. */
+static uint32_t some_steps(const struct given *given, const struct ptree_step *steps, size_t count, uint8_t *path, size_t path_length,
+    uint8_t *out, size_t size, size_t chance, struct ptree_found *found) {
+    was_refused = 0;
+    refused_in = one_in(chance) ? (long)below(30) : -1;
+    uint32_t refusal = ptree_draw_steps(steps, count, given->texts, given->length, path, path_length, &given->config, given->names,
+        given->names_length, out, size, found);
+    refused_in = -1;
+    need_reason(given, refusal);
+    return refusal;
+}
+
 /* Draws the items of an outline one by one, some at a call, into rooms of any size, and compares that with the outline's drawing. */
 static void draw_by_steps(const struct given *given, const uint8_t *drawing, size_t length) {
     struct ptree_step steps[MOST_ITEMS];
@@ -290,12 +302,7 @@ static void draw_by_steps(const struct given *given, const uint8_t *drawing, siz
         while (count < most && from + count < given->count && steps[from + count].level <= given->config.depth) count++;
         struct ptree_step *some = copy_of(steps + from, count * sizeof *some);
         uint8_t *out = room(size);
-        was_refused = 0;
-        refused_in = one_in(8) ? (long)below(30) : -1;
-        uint32_t refusal = ptree_draw_steps(some, count, given->texts, given->length, path, MOST_ITEMS, &given->config, given->names,
-            given->names_length, out, size, &found);
-        refused_in = -1;
-        need_reason(given, refusal);
+        uint32_t refusal = some_steps(given, some, count, path, MOST_ITEMS, out, size, 8, &found);
         need(refusal == PTREE_DONE || refusal == PTREE_MEMORY, "steps of what was drawn are refused");
         need(found.items <= count && found.bytes <= size && found.bytes <= length - at, "more is drawn than there is");
         need(memcmp(out, drawing + at, found.bytes) == 0, "steps are drawn otherwise");
@@ -322,12 +329,7 @@ static void draw_any_steps(const struct given *given) {
         uint32_t level = one_in(50) ? UINT32_MAX : (uint32_t)below(5);
         steps[i] = (struct ptree_step){some_part(given->length), level, (uint8_t)below(3)};
     }
-    was_refused = 0;
-    refused_in = one_in(4) ? (long)below(30) : -1;
-    uint32_t refusal = ptree_draw_steps(steps, count, given->texts, given->length, path, length, &given->config, given->names,
-        given->names_length, out, size, &found);
-    refused_in = -1;
-    need_reason(given, refusal);
+    some_steps(given, steps, count, path, length, out, size, 4, &found);
     need(found.items <= count && found.bytes <= size, "more steps are drawn than there are");
     for (size_t i = found.bytes; i < size; i++) need(out[i] == '#', "what is behind steps was changed");
     if (length == 0) need(path[0] == '#', "a byte of no path was changed");

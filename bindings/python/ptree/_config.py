@@ -42,6 +42,13 @@ def _number(what: str, value: int, bits: int) -> int:
     return operator.index(value)
 
 
+def _known(what: str, name: str, names: tuple[str, ...]) -> str:
+    """A name that is one of these."""
+    if name not in names:
+        raise ConfigError(f"unknown {what} {name!r}, not one of {', '.join(names)}")
+    return name
+
+
 def _color(color: Color) -> Color:
     """A colour as a style keeps it."""
     if color is None or isinstance(color, NamedColor):
@@ -106,8 +113,7 @@ class Characters:
 
         Raises ConfigError for an unknown name.
         """
-        if name not in _SETS:
-            raise ConfigError(f"unknown set of characters {name!r}, not one of {', '.join(_SETS)}")
+        _known("set of characters", name, _SETS)
         return Config.load(json.dumps({"characters": name}), "json").characters
 
 
@@ -153,9 +159,8 @@ class Config:
 
         Raises ConfigError for an unknown name.
         """
-        if name not in PRESETS:
-            raise ConfigError(f"unknown preset {name!r}, not one of {', '.join(PRESETS)}")
-        return _filled(lambda *room: c.library.ptree_config(PRESETS.index(name), *room))
+        number = PRESETS.index(_known("preset", name, PRESETS))
+        return _filled(lambda *room: c.library.ptree_config(number, *room))
 
     @staticmethod
     def load(file: str | None = None, format: Literal["toml", "json"] = "toml", variables: Mapping[str, str] | None = None) -> Config:
