@@ -2,6 +2,7 @@
 //! whole drawing, and its answer is reported.
 
 use crate::deviation::Deviation;
+use crate::given::sources;
 use crate::prefixes::{Limits, drawing_of, leaves_prefix};
 use ptree::graph::{
     Graph, Label, NodeIndex, REPEATED_MARK, print_graph, print_graph_once, write_graph_once_with,
@@ -110,19 +111,9 @@ fn cycle(alloc: Global) -> Result<Graph<&'static str>, Deviation> {
     Ok(graph)
 }
 
-// Sources with variables alone.
-fn sources(alloc: Global, pairs: &[(&str, &str)]) -> Result<Sources, AllocError> {
-    let mut variables = Vec::new(alloc);
-    for (name, value) in pairs {
-        variables.push((
-            String::from_str(alloc, name)?,
-            String::from_str(alloc, value)?,
-        ))?;
-    }
-    Ok(Sources {
-        file: FileSource::Absent,
-        variables,
-    })
+// Sources with one variable alone.
+fn variable(alloc: Global, name: &str, value: &str) -> Result<Sources, AllocError> {
+    sources(alloc, FileSource::Absent, (name, value))
 }
 
 // Tries the drawing of a tree under a configuration.
@@ -259,7 +250,7 @@ fn try_number(rt: &HostRuntime, config: &PrintConfig) -> io::Result<()> {
 
 // Tries the drawings of graphs under a configuration of depth 3.
 fn try_graphs_under(rt: &HostRuntime, config: &PrintConfig) -> io::Result<()> {
-    let depth = sources(rt.alloc(), &[("PTREE_DEPTH", "3")])?;
+    let depth = variable(rt.alloc(), "PTREE_DEPTH", "3")?;
     let graph = cycle(rt.alloc())?;
     try_cycle(rt, &graph, config, &depth)?;
     try_number(rt, config)
@@ -284,7 +275,7 @@ fn try_json(rt: &HostRuntime) -> io::Result<()> {
 // Tries the drawing of a document in TOML, under sources.
 fn try_toml(rt: &HostRuntime) -> io::Result<()> {
     let alloc = rt.alloc();
-    let wide = sources(alloc, &[("PTREE_INDENT", "4")])?;
+    let wide = variable(alloc, "PTREE_INDENT", "4")?;
     try_writers(rt, "a document in TOML", TOML_DRAWN, |out| {
         drawing_of(draw_document(alloc, DocFormat::Toml, TOML, "toml", &wide, false, out))
     })
@@ -306,7 +297,7 @@ fn try_value(rt: &HostRuntime) -> io::Result<()> {
 // Tries the drawing of a tree under sources.
 fn try_sources(rt: &HostRuntime) -> io::Result<()> {
     let alloc = rt.alloc();
-    let always = sources(alloc, &[("PTREE_STYLED", "ALWAYS")])?;
+    let always = variable(alloc, "PTREE_STYLED", "ALWAYS")?;
     let small = over_leaves(alloc, "r", &["a"])?;
     try_writers(rt, "a tree under sources", STYLED, |out| {
         write_tree(alloc, &small, out, &always)

@@ -9,6 +9,7 @@
 mod deviation;
 mod extreme;
 mod faults;
+mod given;
 mod prefixes;
 mod refusals;
 mod sizes;

@@ -83,13 +83,18 @@ fn draw_out(rt: &HostRuntime, task: &Task, item: &StringItem) -> io::Result<()> 
     out.into_inner().flush()
 }
 
+// The drawing of a tree.
+fn drawing(alloc: Global, item: &StringItem, config: &PrintConfig) -> io::Result<Vec<u8>> {
+    let mut out = Counted::new(Vec::new(alloc));
+    write_tree_with(alloc, item, &mut out, config).map_err(failed)?;
+    Ok(out.into_inner())
+}
+
 // Draws into memory that is there already, and then copies the bytes, with the time of each.
 fn draw_in(rt: &HostRuntime, task: &Task, item: &StringItem) -> io::Result<()> {
     let alloc = rt.alloc();
     let config = config(alloc, &task.name)?;
-    let mut first = Counted::new(Vec::new(alloc));
-    write_tree_with(alloc, item, &mut first, &config).map_err(failed)?;
-    let drawn = first.into_inner();
+    let drawn = drawing(alloc, item, &config)?;
     let len = drawn.len();
     for _ in 0..task.times {
         let mut room: Vec<u8> = Vec::with_capacity(alloc, len)?;
@@ -113,9 +118,7 @@ fn draw_in(rt: &HostRuntime, task: &Task, item: &StringItem) -> io::Result<()> {
 fn read_back(rt: &HostRuntime, task: &Task, item: &StringItem) -> io::Result<()> {
     let alloc = rt.alloc();
     let config = config(alloc, &task.name)?;
-    let mut out = Counted::new(Vec::new(alloc));
-    write_tree_with(alloc, item, &mut out, &config).map_err(failed)?;
-    let drawn = out.into_inner();
+    let drawn = drawing(alloc, item, &config)?;
     let Ok(text) = str::from_utf8(&drawn) else {
         return Ok(());
     };

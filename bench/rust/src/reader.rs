@@ -132,7 +132,7 @@ fn add<'a>(
     let end = line_feed(text.as_bytes())?;
     let (first, rest) = (&text[..end], &text[end + 1..]);
     if further(rest, pieces, pass).is_some() {
-        return add_lines(tree, level, text, pieces, pass);
+        return add_lines(tree, level, first, rest, pieces, pass);
     }
     tree.add(level, first.to_string());
     Some(rest)
@@ -149,18 +149,18 @@ fn further<'a>(line: &'a str, pieces: &[u8], pass: &str) -> Option<&'a str> {
     is_further.then(|| &line[front + MARKER.len()..])
 }
 
-// Does what `add` does for a text of several lines.
+// Does what `add` does for a text of several lines: the first one, and what is after it.
 #[inline(never)]
 fn add_lines<'a>(
     tree: &mut Growing,
     level: usize,
-    text: &'a str,
+    first: &str,
+    rest: &'a str,
     pieces: &[u8],
     pass: &str,
 ) -> Option<&'a str> {
-    let end = line_feed(text.as_bytes())?;
-    let mut joined = text[..end].to_string();
-    let mut rest = &text[end + 1..];
+    let mut joined = first.to_string();
+    let mut rest = rest;
     while let Some(line) = further(rest, pieces, pass) {
         let end = line_feed(line.as_bytes())?;
         joined.push('\n');

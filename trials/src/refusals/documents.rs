@@ -1,7 +1,7 @@
 //! The calls of values and documents.
 
 use crate::refusals::failure::Failure;
-use crate::refusals::loading::sources;
+use crate::refusals::loading::toml_sources;
 use crate::refusals::trial::Trial;
 use crate::refusals::written::{SHEET, entries_written};
 use ptree::print_config::{PrintConfig, Sources};
@@ -104,7 +104,7 @@ impl Trial {
 
     /// The drawing of a document in TOML, under sources.
     pub fn call_toml_drawn(&mut self, alloc: Global) -> Result<(), Failure> {
-        let sources = sources(alloc, "", ("PTREE_INDENT", "4"))?;
+        let sources = toml_sources(alloc, "", ("PTREE_INDENT", "4"))?;
         self.note_bytes(toml_drawn(alloc, &sources))
     }
 }

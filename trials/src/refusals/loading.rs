@@ -1,5 +1,6 @@
 //! The calls that load a configuration, and those that draw under sources.
 
+use crate::given::sources;
 use crate::refusals::failure::Failure;
 use crate::refusals::trial::Trial;
 use crate::refusals::written::{SHEET, entries_written};
@@ -44,20 +45,13 @@ const ONCE_ENTRIES: [&str; 5] = [
 ];
 
 /// Sources with a file in TOML and one variable.
-pub fn sources(
+pub fn toml_sources(
     alloc: Global,
     file: &str,
-    (name, value): (&str, &str),
+    variable: (&str, &str),
 ) -> Result<Sources, AllocError> {
-    let mut variables = Vec::new(alloc);
-    variables.push((
-        String::from_str(alloc, name)?,
-        String::from_str(alloc, value)?,
-    ))?;
-    Ok(Sources {
-        file: FileSource::Toml(String::from_str(alloc, file)?),
-        variables,
-    })
+    let file = FileSource::Toml(String::from_str(alloc, file)?);
+    sources(alloc, file, variable)
 }
 
 // r [a, b], the text of r in two lines.
@@ -174,19 +168,19 @@ impl Trial {
 
     /// The calls of sources with a fault.
     pub fn call_faulty(&mut self, alloc: Global) -> Result<(), Failure> {
-        let faulty = sources(alloc, FAULTY, VARIABLE)?;
+        let faulty = toml_sources(alloc, FAULTY, VARIABLE)?;
         self.call_sources(alloc, &faulty)
     }
 
     /// The calls of sources without a fault.
     pub fn call_good(&mut self, alloc: Global) -> Result<(), Failure> {
-        let good = sources(alloc, FILE, VARIABLE)?;
+        let good = toml_sources(alloc, FILE, VARIABLE)?;
         self.call_sources(alloc, &good)
     }
 
     /// The drawings under sources.
     pub fn call_under(&mut self, alloc: Global) -> Result<(), Failure> {
-        let good = sources(alloc, FILE, VARIABLE)?;
+        let good = toml_sources(alloc, FILE, VARIABLE)?;
         self.draw_all(alloc, &good)
     }
 }

@@ -1,6 +1,7 @@
 //! The calls of graphs.
 
 use crate::deviation::{Deviation, expect};
+use crate::given::sources;
 use crate::sizes::{LEVELS, made, text};
 use ptree::graph::{
     Graph, Label, NodeIndex, print_graph, print_graph_once, write_graph_once_with, write_graph_with,
@@ -31,62 +32,52 @@ fn graph<N: Drop + Copy>(
 
 // Sources of a depth alone.
 fn depth_of(alloc: Global, depth: u32) -> Result<Sources, AllocError> {
-    let name = String::from_str(alloc, "PTREE_DEPTH")?;
     let value = format!(in alloc; "{depth}")?;
-    Ok(Sources {
-        file: FileSource::Absent,
-        variables: vec![in alloc; (name, value)]?,
-    })
+    sources(alloc, FileSource::Absent, ("PTREE_DEPTH", value.as_str()))
 }
 
-// The calls that draw a graph under a configuration of a depth, with a mark.
-fn try_written<N: Label>(
-    alloc: Global,
-    graph: &Graph<N>,
+// A graph that is drawn down to a depth, with a mark.
+struct Drawn<'a, N> {
+    graph: &'a Graph<N>,
     depth: u32,
-    mark: &str,
-) -> Result<(), Deviation> {
-    let mut config = PrintConfig::default(alloc)?;
-    config.depth = depth;
-    let mut out = Counted::new(Vec::new(alloc));
-    made(
-        write_graph_with(alloc, graph, START, &mut out, &config),
-        "`write_graph_with` succeeds",
-    )?;
-    made(
-        write_graph_once_with(alloc, graph, START, mark, &mut out, &config),
-        "`write_graph_once_with` succeeds",
-    )
+    mark: &'a str,
 }
 
-// The calls that draw a graph under sources of a depth, with a mark.
-fn try_printed<N: Label>(
-    alloc: Global,
-    graph: &Graph<N>,
-    depth: u32,
-    mark: &str,
-) -> Result<(), Deviation> {
-    let sources = depth_of(alloc, depth)?;
-    let mut out = Counted::new(Vec::new(alloc));
-    made(
-        print_graph(alloc, graph, START, &mut out, true, &sources),
-        "`print_graph` succeeds",
-    )?;
-    made(
-        print_graph_once(alloc, graph, START, mark, &mut out, true, &sources),
-        "`print_graph_once` succeeds",
-    )
-}
+impl<N: Label> Drawn<'_, N> {
+    // The calls that draw it under a configuration.
+    fn try_written(&self, alloc: Global) -> Result<(), Deviation> {
+        let mut config = PrintConfig::default(alloc)?;
+        config.depth = self.depth;
+        let mut out = Counted::new(Vec::new(alloc));
+        made(
+            write_graph_with(alloc, self.graph, START, &mut out, &config),
+            "`write_graph_with` succeeds",
+        )?;
+        made(
+            write_graph_once_with(alloc, self.graph, START, self.mark, &mut out, &config),
+            "`write_graph_once_with` succeeds",
+        )
+    }
 
-// The calls that draw a graph down to a depth, with a mark.
-fn try_drawn<N: Label>(
-    alloc: Global,
-    graph: &Graph<N>,
-    depth: u32,
-    mark: &str,
-) -> Result<(), Deviation> {
-    try_written(alloc, graph, depth, mark)?;
-    try_printed(alloc, graph, depth, mark)
+    // The calls that draw it under sources.
+    fn try_printed(&self, alloc: Global) -> Result<(), Deviation> {
+        let sources = depth_of(alloc, self.depth)?;
+        let mut out = Counted::new(Vec::new(alloc));
+        made(
+            print_graph(alloc, self.graph, START, &mut out, true, &sources),
+            "`print_graph` succeeds",
+        )?;
+        made(
+            print_graph_once(alloc, self.graph, START, self.mark, &mut out, true, &sources),
+            "`print_graph_once` succeeds",
+        )
+    }
+
+    // All of these.
+    fn try_drawn(&self, alloc: Global) -> Result<(), Deviation> {
+        self.try_written(alloc)?;
+        self.try_printed(alloc)
+    }
 }
 
 // The neighbours of a graph's first node, which has so many.
@@ -104,10 +95,20 @@ fn try_graph<N: Label + Drop>(
 ) -> Result<(), Deviation> {
     let mark = text(alloc, targets.min(LEVELS))?;
     try_neighbors(&graph, targets)?;
-    try_drawn(alloc, &graph, depth, mark.as_str())?;
+    let drawn = Drawn {
+        graph: &graph,
+        depth,
+        mark: mark.as_str(),
+    };
+    drawn.try_drawn(alloc)?;
     let turned = graph.reversed();
     made(turned.neighbors(START), "`Graph::neighbors` succeeds")?;
-    try_drawn(alloc, &turned, depth, mark.as_str())
+    let drawn = Drawn {
+        graph: &turned,
+        depth,
+        mark: mark.as_str(),
+    };
+    drawn.try_drawn(alloc)
 }
 
 // A node with edges to many others, of short texts.
