@@ -161,10 +161,10 @@ fn both_children(
     right: &StringItem,
     look: Look,
 ) -> Result<Vec<StyledItem>, AllocError> {
-    let mut made = Vec::new(alloc);
     let others = right.children.as_slice();
     let mut places = Places::new(alloc, others);
     let mut taken = 0;
+    let mut made = Vec::new(alloc);
     for child in &left.children {
         match places.next_with(taken, child.text.as_str())? {
             Some(at) => {
