@@ -154,13 +154,7 @@ impl<'a> Usage<'a> {
                     nearest.try_word(command.word());
                 }
             }
-            Usage::Option(command, _) => {
-                for option in OPTIONS {
-                    if command.takes(option) {
-                        nearest.try_word(option.word());
-                    }
-                }
-            }
+            Usage::Option(command, _) => try_options(&mut nearest, command),
             _ => {
                 for name in NAMES {
                     nearest.try_word(name);
@@ -168,5 +162,14 @@ impl<'a> Usage<'a> {
             }
         }
         nearest.word
+    }
+}
+
+// Tries the options that a command takes.
+fn try_options(nearest: &mut Nearest<'_, 'static>, command: CommandName) {
+    for option in OPTIONS {
+        if command.takes(option) {
+            nearest.try_word(option.word());
+        }
     }
 }
