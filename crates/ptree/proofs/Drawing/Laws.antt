@@ -6,10 +6,12 @@ use Rattle.std.proofs.lemmas.Bool.Decides.{nat_tests}
 use Rattle.std.proofs.lemmas.List.{append-nil, map-id}
 use Rattle.ptree.specs.Address.{Address, at, is_last}
 use Rattle.ptree.specs.Drawing.{Look, passing_text, entry_from, entry_text, IsDrawing}
+use Rattle.ptree.specs.DrawnForm.{IsDrawnForm}
 use Rattle.ptree.specs.Laws.{HasOneList, entry_after}
 use Rattle.ptree.specs.Entries.{is_empty, shape_entry, with_below, kid_entries, entries_below, drawn_entries}
 use Rattle.ptree.specs.Pieces.{turning_piece, passing_piece}
 use Rattle.ptree.specs.Shape.{Shape, child, kids, cut_shape}
+use Rattle.ptree.specs.Tree.{Tree, shape_of_tree}
 use Rattle.ptree.proofs.Drawing.Addresses.{one_list, walk, walk_is_list}
 use Rattle.ptree.proofs.Drawing.Join.{join, drawn_is_drawing, entry_under, passing_child}
 use Rattle.ptree.proofs.Trees.ItemTrees.{map_same, map_twice}
@@ -76,6 +78,10 @@ exactly_one_list x d = (walk kids d x, walk_is_list kids d x, λ other h. one_li
 -- only one text is the drawing
 pub one_drawing : (look : Look) (x : Shape) (d : ℕ) (text : List ℕ) → IsDrawing look x d text → text ≡ concat (drawn_entries look d x)
 one_drawing look x d text h = h.2 ∙ ap (flat_map (entry_text look x)) (one_list kids x d h.0 (walk kids d x) h.1 (walk_is_list kids d x)) ∙ join look d x
+
+-- a drawing of the tree of a text in its drawn form is the text
+pub drawn_form_again : (look : Look) (depth : ℕ) (x y : List ℕ) (t : Tree) → IsDrawnForm look depth x t → IsDrawing look (shape_of_tree t) depth y → y ≡ x
+drawn_form_again look depth x y t form drawn = one_drawing look (shape_of_tree t) depth y drawn ∙ sym (one_drawing look (shape_of_tree t) depth x form.drawn)
 
 -- shapes with the same entries have the same drawings
 pub same_drawings : (look : Look) (x y : Shape) (d e : ℕ) → drawn_entries look d x ≡ drawn_entries look e y → (text : List ℕ) → IsDrawing look x d text ↔ IsDrawing look y e text
