@@ -1,18 +1,12 @@
 //! Draws graphs. Expected drawings are those of the crate `ptree` 0.5.2 and of `cargo tree`, or were worked out by hand.
+mod common;
+
+use common::{red, wide, CRATES};
 use ptree::graph::{write_graph_once_with, write_graph_with, Graph, NodeIndex, REPEATED_MARK};
 use ptree::print_config::StyleWhen;
 use ptree::style::Style;
-use ptree::{write_tree_with, Color, PrintConfig};
+use ptree::{write_tree_with, PrintConfig};
 use std::io::{ErrorKind, Write};
-
-// Pieces of four characters, and no styles.
-fn wide() -> PrintConfig {
-    PrintConfig {
-        indent: 4,
-        branch: Style::default(),
-        ..PrintConfig::default()
-    }
-}
 
 fn walks(graph: &Graph<&str>, start: NodeIndex, config: &PrintConfig) -> String {
     let mut out = Vec::new();
@@ -45,15 +39,6 @@ fn modules() -> Graph<&'static str> {
     )
 }
 
-const PACKAGES: &str = "\
-petgraph
-├── quickcheck
-│   ├── libc
-│   └── rand
-│       └── libc
-└── fixedbitset
-";
-
 #[test]
 fn all_walks_are_drawn() {
     let mut deps = Graph::new();
@@ -63,7 +48,7 @@ fn all_walks_are_drawn() {
     let rand = deps.add_node("rand");
     let libc = deps.add_node("libc");
     deps.extend_with_edges(&[(pg, fb), (pg, qc), (qc, rand), (rand, libc), (qc, libc)]);
-    assert_eq!(walks(&deps, pg, &wide()), PACKAGES);
+    assert_eq!(walks(&deps, pg, &wide()), CRATES);
     assert_eq!(deps.neighbors(qc).collect::<Vec<_>>(), [libc, rand]);
     assert_eq!(
         (deps.node_weight(rand), deps.node_weight(NodeIndex::new(5))),
@@ -72,7 +57,7 @@ fn all_walks_are_drawn() {
     // the same as an item
     let mut out = Vec::new();
     write_tree_with(&(&deps, pg), &mut out, &wide()).expect("a drawing");
-    assert_eq!(String::from_utf8_lossy(&out), PACKAGES);
+    assert_eq!(String::from_utf8_lossy(&out), CRATES);
 }
 
 #[test]
@@ -129,10 +114,7 @@ fn a_reversed_graph_shows_what_leads_to_a_node() {
 
 #[test]
 fn labels_are_painted() {
-    let leaf = Style {
-        foreground: Some(Color::Red),
-        ..Style::default()
-    };
+    let leaf = red();
     let config = PrintConfig {
         styled: StyleWhen::Always,
         leaf,

@@ -1,4 +1,7 @@
 //! Builds, draws and reads trees. Expected drawings are those of the crate `ptree` 0.5.2, or were worked out by hand.
+mod common;
+
+use common::{red, wide, CRATES};
 use ptree::item::StringItem;
 use ptree::print_config::{IndentChars, Preset, StyleWhen, ASCII_CHARS_TICK};
 use ptree::read::ReadError;
@@ -8,15 +11,6 @@ use ptree::{read_tree, write_tree_with, Color, PrintConfig, TreeBuilder, TreeIte
 use std::borrow::Cow;
 use std::io::{self, ErrorKind, Write};
 use std::panic::{catch_unwind, AssertUnwindSafe};
-
-// Pieces of four characters, and no styles.
-fn wide() -> PrintConfig {
-    PrintConfig {
-        indent: 4,
-        branch: Style::default(),
-        ..PrintConfig::default()
-    }
-}
 
 fn drawn<T: TreeItem>(item: &T, config: &PrintConfig) -> String {
     let mut out = Vec::new();
@@ -36,15 +30,6 @@ fn crates() -> StringItem {
     let quickcheck = over("quickcheck", vec![over("libc", vec![]), rand]);
     over("petgraph", vec![quickcheck, over("fixedbitset", vec![])])
 }
-
-const CRATES: &str = "\
-petgraph
-├── quickcheck
-│   ├── libc
-│   └── rand
-│       └── libc
-└── fixedbitset
-";
 
 #[test]
 fn a_builder_without_children_gives_a_leaf() {
@@ -222,10 +207,7 @@ fn the_first_wrong_line_is_reported() {
 #[test]
 fn styles_paint_branches_and_leaves() {
     let tree = over("r", vec![over("a", vec![])]);
-    let leaf = Style {
-        foreground: Some(Color::Red),
-        ..Style::default()
-    };
+    let leaf = red();
     let config = PrintConfig {
         styled: StyleWhen::Always,
         leaf,
