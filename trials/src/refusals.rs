@@ -82,6 +82,7 @@ const CALLS: [Call; 23] = [
 ];
 
 // The configurations of the calls.
+#[derive(Drop)]
 struct Configs<'a> {
     plain: &'a PrintConfig,
     colored: &'a PrintConfig,

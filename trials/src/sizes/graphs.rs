@@ -37,6 +37,7 @@ fn depth_of(alloc: Global, depth: u32) -> Result<Sources, AllocError> {
 }
 
 // A graph that is drawn down to a depth, with a mark.
+#[derive(Drop)]
 struct Drawn<'a, N> {
     graph: &'a Graph<N>,
     depth: u32,
