@@ -8,23 +8,35 @@ use Rattle.ptree.specs.Tree.{Tree}
 use Rattle.trees.specs.declared.failure.Failure.{Failure}
 use Rattle.trees.specs.declared.failure.Failure.TheVariants.{Usage, Input, Said, Output, Memory}
 use Rattle.trees.specs.declared.source.Source.{Source}
-use Rattle.trees.specs.Reading.{HoldsDrawing, IsReadableValue, IsInput, FailsToMake, FailsToRead}
+use Rattle.trees.specs.Reading.{HoldsDrawing, IsReadableValue, IsInput, FailsFor, FailsToMake, FailsToRead}
 
--- what an input error says, if there is no tree
-pub fails_by_none : (P : Type 0) (Is : Tree → Type 0) (f : Failure) → IsInput f → ((t : Tree) → Is t → ⊥) → FailsToMake P Is f
-fails_by_none P Is (Input wrong) input none = none
-fails_by_none P Is (Usage wrong) input none = absurd input
-fails_by_none P Is Said input none = absurd input
-fails_by_none P Is (Output kind) input none = absurd input
-fails_by_none P Is Memory input none = absurd input
+-- an input error says what is known to be wrong
+pub fails_by_input : (W P : Type 0) (f : Failure) → IsInput f → W → FailsFor W P f
+fails_by_input W P (Input wrong) input is = is
+fails_by_input W P (Usage wrong) input is = absurd input
+fails_by_input W P Said input is = absurd input
+fails_by_input W P (Output kind) input is = absurd input
+fails_by_input W P Memory input is = absurd input
 
--- out of memory says nothing of a tree
-pub fails_by_memory : (P : Type 0) (Is : Tree → Type 0) (f : Failure) → f ≡ Memory → FailsToMake P Is f
-fails_by_memory P Is f is = subst (λ (e : Failure). FailsToMake P Is e) (sym is) tt
+-- what a failure says is also what follows of it
+pub fails_weaker : (W V P : Type 0) (f : Failure) → (W → V) → FailsFor W P f → FailsFor V P f
+fails_weaker W V P (Input wrong) more is = more is
+fails_weaker W V P (Usage wrong) more is = is
+fails_weaker W V P Said more is = is
+fails_weaker W V P (Output kind) more is = is
+fails_weaker W V P Memory more is = is
+
+-- out of memory says nothing
+pub fails_by_memory : (W P : Type 0) (f : Failure) → f ≡ Memory → FailsFor W P f
+fails_by_memory W P f is = subst (λ (e : Failure). FailsFor W P e) (sym is) tt
+
+-- what fails to make one thing fails to make another that has one
+pub fails_more : {X Y : Type 0} (P : Type 0) (Is : X → Type 0) (Js : Y → Type 0) (f : Failure) → ((y : Y) → Js y → (x : X) × Is x) → FailsToMake P Is f → FailsToMake P Js f
+fails_more {X} {Y} P Is Js f has h = fails_weaker ((x : X) → Is x → ⊥) ((y : Y) → Js y → ⊥) P f (λ none y is. none (has y is).0 (has y is).1) h
 
 -- an input error says that the source holds no drawing, if what was read of it is none
 pub fails_by_text : (config : PrintConfig) (source : Source) (x : List ℕ) (f : Failure) → x ≡ string_bytes source.text → IsInput f
     → ((t : Tree) → IsDrawnForm (written_look config) config.depth x t → ⊥) → FailsToRead (config_of config) source f
 fails_by_text config source x f same input none =
     let none_of : (y : List ℕ) → Type 0 = λ y. (t : Tree) → IsDrawnForm (written_look config) config.depth y t → ⊥ in
-    fails_by_none (IsReadableValue (config_of config) → ⊥) (HoldsDrawing (config_of config) source) f input (λ t holds. subst none_of same none t holds.form)
+    fails_by_input ((t : Tree) → HoldsDrawing (config_of config) source t → ⊥) (IsReadableValue (config_of config) → ⊥) f input (λ t holds. subst none_of same none t holds.form)

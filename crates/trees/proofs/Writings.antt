@@ -1,7 +1,18 @@
 -- What is written.
-use Rattle.std.proofs.Common.{ℕ, inl, inr, Option, List, Result, Ok, Err}
+use Rattle.std.proofs.Common.{◌≡◌, ℕ, inl, inr, Option, Some, None, List, Result, Ok, Err, sym, append-nil}
+use Rattle.std.proofs.lemmas.Bool.{false≢true}
+use Rattle.std.specs.Prelude.{IsErr, IfErr}
+use Rattle.ptree.specs.declared.value.document.DocFormat.TheVariants.{Toml, Json}
+use Rattle.ptree.specs.Tree.{Tree}
+use Rattle.trees.specs.declared.command.Tree.{Tree as Form}
+use Rattle.trees.specs.declared.command.Tree.TheVariants as form
 use Rattle.trees.specs.declared.failure.Failure.{Failure}
-use Rattle.trees.specs.Writing.{Writes}
+use Rattle.trees.specs.declared.failure.Failure.TheVariants.{Memory}
+use Rattle.trees.specs.declared.source.Source.{Source}
+use Rattle.trees.specs.Documents.{IsPartTree}
+use Rattle.trees.specs.Listing.{IsWrongList}
+use Rattle.trees.specs.Writing.{Writes, FailsToGive}
+use Rattle.trees.proofs.Readings.{fails_by_memory}
 
 -- what is written is also what follows of it
 pub writes_weaker : {A : Type 0} (old new : Option (List ℕ)) (r : Result A Failure) (Is Js : List ℕ → Type 0) (Fails Gives : Failure → Type 0)
@@ -9,3 +20,16 @@ pub writes_weaker : {A : Type 0} (old new : Option (List ℕ)) (r : Result A Fai
 writes_weaker old new (Ok x) Is Js Fails Gives more why h = (h.0, more h.0 h.1, h.2)
 writes_weaker old new (Err e) Is Js Fails Gives more why h =
     elim h [ inl none ↦ inl (why e none.0, none.1) | inr part ↦ inr (part.0, part.1, more part.1 part.2, part.3) ]
+
+-- a call that fails before it writes has appended nothing
+pub nothing_written : {A : Type 0} (old : Option (List ℕ)) (r : Result A Failure) (Is : List ℕ → Type 0) (Fails : Failure → Type 0) → IsErr r → IfErr r Fails → Writes old old r Is Fails
+nothing_written old (Ok x) Is Fails err says = absurd (false≢true err)
+nothing_written None (Err e) Is Fails err says = inl (says, tt)
+nothing_written (Some bytes) (Err e) Is Fails err says = inl (says, sym (append-nil bytes))
+
+-- out of memory says nothing of an input
+pub gives_memory : (source : Source) (tree : Form) (e : Failure) → e ≡ Memory → FailsToGive source tree e
+gives_memory source (form.Json document) e is = fails_by_memory ((t : Tree) → IsPartTree Json source document t → ⊥) ⊥ e is
+gives_memory source (form.Toml document) e is = fails_by_memory ((t : Tree) → IsPartTree Toml source document t → ⊥) ⊥ e is
+gives_memory source (form.Paths paths) e is = fails_by_memory (IsWrongList source paths) ⊥ e is
+gives_memory source (form.Outline outline) e is = tt

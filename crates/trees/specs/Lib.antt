@@ -6,5 +6,11 @@ pub mod Asked
 pub mod Telling
 -- what is left of trees that are changed
 pub mod Changing
+-- what is drawn of paths
+pub mod Listing
+-- what the parts of reading paths do
+pub mod ListingParts
 -- what calls write
 pub mod Writing
+-- documents, their parts and trees
+pub mod Documents

@@ -56,14 +56,18 @@ IsWriting (Usage wrong) = ⊥
 IsWriting (Input wrong) = ⊥
 IsWriting Said = ⊥
 
--- What each failure says of a call that makes a tree of which Is holds: there is none, or P if the
--- words are wrong, or memory ran out.
-abbrev pub FailsToMake : Type 0 → (Tree → Type 0) → Failure → Type 0
-FailsToMake P Is (Input wrong) = (t : Tree) → Is t → ⊥
-FailsToMake P Is (Usage wrong) = P
-FailsToMake P Is Said = ⊥
-FailsToMake P Is (Output kind) = ⊥
-FailsToMake P Is Memory = ⊤
+-- what each failure of a call that makes something says: Wrong of the input, P if the words are
+-- wrong, or memory ran out
+abbrev pub FailsFor : Type 0 → Type 0 → Failure → Type 0
+FailsFor Wrong P (Input wrong) = Wrong
+FailsFor Wrong P (Usage wrong) = P
+FailsFor Wrong P Said = ⊥
+FailsFor Wrong P (Output kind) = ⊥
+FailsFor Wrong P Memory = ⊤
+
+-- the same where Is holds of what is made: there is none, or P, or memory ran out
+abbrev pub FailsToMake : {X : Type 0} → Type 0 → (X → Type 0) → Failure → Type 0
+FailsToMake {X} P Is = FailsFor ((x : X) → Is x → ⊥) P
 
 -- what each failure of a reading says: the source holds the drawing of no tree, or the pieces are
 -- not readable, or memory ran out

@@ -1,5 +1,6 @@
 -- What a call tells by its end: success says that something holds, and a refusal that it doesn't.
-use Rattle.std.specs.Prelude.{◌≡◌, All, Result, Ok, Err, string_bytes, ⊤}
+use Rattle.std.specs.Prelude.{◌≡◌, ℕ, All, Result, Ok, Err, string_bytes, ⊤}
+use Rattle.std.specs.declared.io.ErrorKind.TheVariants.{BrokenPipe}
 use Rattle.ptree.specs.declared.print_config.Sources.{Sources}
 use Rattle.trees.specs.declared.command.Command.{Command}
 use Rattle.trees.specs.declared.command.Command.TheVariants.{Draw, Deps, Indented, Check, Convert, Diff, Config}
@@ -16,6 +17,12 @@ TellsWhether (Err (Usage wrong)) P = ⊤
 TellsWhether (Err (Input wrong)) P = ⊤
 TellsWhether (Err (Output kind)) P = ⊤
 TellsWhether (Err Memory) P = ⊤
+
+-- the exit status of a failure: 2 for a usage error, 141 for a closed pipe, else 1
+abbrev pub status_of : Failure → ℕ
+status_of (Usage wrong) = 2
+status_of (Output BrokenPipe) = 141
+status_of _ = 1
 
 -- what the end of a command says: `check`, that each input is a drawing; `diff`, that both texts are
 -- equal, byte for byte

@@ -4,6 +4,7 @@ use Rattle.std.specs.Prelude.{◌≡◌, ◌≤◌, ◌⊎◌, ⊤, ℕ, Bool, f
 use Rattle.ptree.specs.declared.print_config.OutputKind.TheVariants.{Unknown}
 use Rattle.ptree.specs.declared.print_config.Sources.{Sources}
 use Rattle.ptree.specs.declared.print_config.StyleWhen.TheVariants.{Never}
+use Rattle.ptree.specs.declared.value.document.DocFormat.TheVariants.{Toml, Json}
 use Rattle.ptree.specs.Config.{ConfigValue}
 use Rattle.ptree.specs.Drawing.{look_by, IsDrawing}
 use Rattle.ptree.specs.Tree.{Tree, tree_of, shape_of_tree}
@@ -13,20 +14,33 @@ use Rattle.trees.specs.declared.command.Command.{Command}
 use Rattle.trees.specs.declared.command.Command.TheVariants as command
 use Rattle.trees.specs.declared.command.Convert.{Convert}
 use Rattle.trees.specs.declared.command.Drawing.{Drawing}
+use Rattle.trees.specs.declared.command.Tree.{Tree as Form}
+use Rattle.trees.specs.declared.command.Tree.TheVariants as form
 use Rattle.trees.specs.declared.failure.Failure.{Failure}
-use Rattle.trees.specs.declared.failure.Failure.TheVariants.{Memory}
+use Rattle.trees.specs.declared.failure.Failure.TheVariants.{Usage, Input, Said, Output, Memory}
 use Rattle.trees.specs.declared.perform.Drawn.{Drawn}
 use Rattle.trees.specs.declared.perform.Drawn.TheVariants as drawn
 use Rattle.trees.specs.declared.source.Source.{Source}
 use Rattle.trees.specs.Asked.{drawing_value, reading_value}
 use Rattle.trees.specs.Changing.{IsConverted, FailsToConvert}
-use Rattle.trees.specs.Reading.{IsWriting, IsReadableValue}
+use Rattle.trees.specs.Documents.{IsPartTree}
+use Rattle.trees.specs.Listing.{IsListed, FailsToList}
+use Rattle.trees.specs.Reading.{IsWriting, IsReadableValue, FailsToMake}
 
 -- A call that succeeds has appended bytes of which Is holds. One that fails has appended nothing, and
 -- Fails holds of the failure; or it failed in writing, and has appended a prefix of such bytes.
 abbrev pub Writes : {A : Type 0} → Option (List ℕ) → Option (List ℕ) → Result A Failure → (List ℕ → Type 0) → (Failure → Type 0) → Type 0
 Writes old new (Ok x) Is Fails = (bytes : List ℕ) × Is bytes × Appends old new bytes
 Writes old new (Err e) Is Fails = (Fails e × Appends old new []) ⊎ (IsWriting e × (bytes : List ℕ) × Is bytes × AppendsPart old new bytes)
+
+-- what a call writes to is as it was, if it ends with a usage error or an error of an input
+abbrev pub LeavesIfWrong : {A W : Type 0} → W → W → Result A Failure → Type 0
+LeavesIfWrong old new (Ok x) = ⊤
+LeavesIfWrong old new (Err (Usage wrong)) = new ≡ old
+LeavesIfWrong old new (Err (Input wrong)) = new ≡ old
+LeavesIfWrong old new (Err Said) = ⊤
+LeavesIfWrong old new (Err (Output kind)) = ⊤
+LeavesIfWrong old new (Err Memory) = ⊤
 
 -- ## Drawings
 
@@ -49,6 +63,24 @@ abbrev pub IsDrawingOf : Sources → Drawing → (Tree → Type 0) → List ℕ 
 IsDrawingOf sources drawing Is bytes = (t : Tree) × Is t × IsTreeDrawing (drawing_value sources drawing) drawing.screen.is_terminal t bytes
 
 -- ## Commands
+
+-- t is the tree of a document, or of paths; of other inputs it is any one
+abbrev pub IsGiven : Source → Form → Tree → Type 0
+IsGiven source (form.Json document) t = IsPartTree Json source document t
+IsGiven source (form.Toml document) t = IsPartTree Toml source document t
+IsGiven source (form.Paths paths) t = IsListed source paths t
+IsGiven source (form.Outline outline) t = ⊤
+
+-- what each failure before anything is drawn says; of other inputs nothing
+abbrev pub FailsToGive : Source → Form → Failure → Type 0
+FailsToGive source (form.Json document) e = FailsToMake ⊥ (IsPartTree Json source document) e
+FailsToGive source (form.Toml document) e = FailsToMake ⊥ (IsPartTree Toml source document) e
+FailsToGive source (form.Paths paths) e = FailsToList source paths e
+FailsToGive source (form.Outline outline) e = ⊤
+
+-- the drawing of the tree of an input is written
+abbrev pub Draws : {A : Type 0} → Sources → Source → Form → Drawing → Option (List ℕ) → Option (List ℕ) → Result A Failure → Type 0
+Draws sources source tree drawing old new result = Writes old new result (IsDrawingOf sources drawing (IsGiven source tree)) (FailsToGive source tree)
 
 -- the bytes are what `convert` writes of a source
 abbrev pub IsConversion : Sources → Source → Convert → List ℕ → Type 0
@@ -75,10 +107,11 @@ ConvertsBack sources source back old new result =
     → back.pieces ≡ there.drawing.pieces → back.drawing.pieces ≡ there.pieces → IsReadableValue (reading_value sources back.pieces)
     → IsConversion sources first there (string_bytes source.text) → OnOk result (Appends old new (string_bytes first.text))
 
--- what a command writes: `convert`, the conversion, which can be turned back
+-- what a command writes: those that draw an input, the drawing of its tree; `convert`, the conversion,
+-- which can be turned back
 abbrev pub WritesOfCommand : {A : Type 0} → Sources → Command → Option (List ℕ) → Option (List ℕ) → Result A Failure → Type 0
 WritesOfCommand sources (command.Convert source convert) old new result = Converts sources source.now convert old new result × ConvertsBack sources source.now convert old new result
-WritesOfCommand sources (command.Draw source tree drawing) old new result = ⊤
+WritesOfCommand sources (command.Draw source tree drawing) old new result = Draws sources source.now tree drawing old new result
 WritesOfCommand sources (command.Deps source deps drawing) old new result = ⊤
 WritesOfCommand sources (command.Indented source indented) old new result = ⊤
 WritesOfCommand sources (command.Check inputs pieces screen) old new result = ⊤

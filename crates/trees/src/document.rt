@@ -1,4 +1,14 @@
 //! Documents as trees, with floats and dates as they are written.
+ghost use Rattle.std.specs.Prelude.{◌≡◌, ◌<◌, ◌∷◌, ⊤, [], length, option_map, string_bytes, IfOk, IfErr, OnOk, MatchOption};
+ghost use Rattle.serde_json.specs.View as json_view;
+ghost use Rattle.toml.specs.View as toml_view;
+ghost use Rattle.ptree.specs.declared.value.document.DocFormat.{DocFormat};
+ghost use Rattle.ptree.specs.declared.value.document.DocFormat.TheVariants.{Json, Toml};
+ghost use Rattle.ptree.specs.File.{FileNode, json, toml};
+ghost use Rattle.ptree.specs.Tree.{tree_of};
+ghost use Rattle.ptree_trees.specs.RefusedPath.{path_of};
+ghost use Rattle.trees.specs.Documents.{IsDocumentOf, FindsPart, steps_in, LeadsBy, IsPartAsked, IsFirstRefused, IsAllowed, IsNodeTree, IsRootText, IsTreeIn, IsPartTree};
+ghost use Rattle.trees.specs.Reading.{IsInput, FailsToMake};
 
 use crate::command::Document;
 use crate::failure::Failure;
@@ -11,6 +21,12 @@ use std::alloc::{AllocError, Global};
 
 /// The value of a document in one of the formats.
 pub trait Value: Sized + Drop {
+    /// The format.
+    ghost format: { DocFormat };
+
+    /// What a value means.
+    ghost node: { Self → FileNode };
+
     /// What a strict call refuses.
     const REFUSED: &'static str;
 
@@ -19,27 +35,36 @@ pub trait Value: Sized + Drop {
     /// # Errors
     ///
     /// `Input` with the line if the text is not of the format, and `Memory`.
-    fn read(alloc: Global, source: &Source) -> Result<Self, Failure>;
+    fn read(alloc: Global, source: &Source) -> Result<Self, Failure>
+        ensures value { IfOk result (λ v. IsDocumentOf format source.now (node v)) }
+        ensures failed { IfErr result (FailsToMake ⊥ (IsDocumentOf format source.now)) };
 
     /// Returns the part at a key or, in a list, at a position counted from 0.
-    fn part(&self, key: &str) -> Option<&Self>;
+    fn part(&self, key: &str) -> Option<&Self>
+        ensures { FindsPart (node self.now) key.now (option_map (λ part. node part.now) result) };
 
     /// Returns the path to the first value that a strict call refuses.
     ///
     /// # Errors
     ///
     /// Memory ran out.
-    fn refused_path(&self, alloc: Global) -> Result<Option<Vec<Step>>, AllocError>;
+    fn refused_path(&self, alloc: Global) -> Result<Option<Vec<Step>>, AllocError>
+        ensures { IfOk result (λ path. IsFirstRefused (node self.now) (option_map path_of path)) };
 
     /// Returns the tree below a root with this text.
     ///
     /// # Errors
     ///
     /// Memory ran out.
-    fn tree(&self, alloc: Global, label: &str) -> Result<StringItem, AllocError>;
+    fn tree(&self, alloc: Global, label: &str) -> Result<StringItem, AllocError>
+        ensures { IfOk result (λ t. IsNodeTree label.now (node self.now) (tree_of t)) };
 }
 
 impl Value for serde_json::Value {
+    ghost format = { Json };
+
+    ghost node = { λ v. json (json_view.view v) };
+
     const REFUSED: &'static str = "a float";
 
     fn read(alloc: Global, source: &Source) -> Result<serde_json::Value, Failure> {
@@ -47,10 +72,9 @@ impl Value for serde_json::Value {
     }
 
     fn part(&self, key: &str) -> Option<&serde_json::Value> {
-        match self {
-            serde_json::Value::Object(members) => members.get(key),
-            serde_json::Value::Array(items) => items.get(key.parse::<usize>().ok()?),
-            _ => None,
+        match self.get(key) {
+            Some(part) => Some(part),
+            None => self.get(key.parse::<usize>().ok()?),
         }
     }
 
@@ -64,6 +88,10 @@ impl Value for serde_json::Value {
 }
 
 impl Value for toml::Value {
+    ghost format = { Toml };
+
+    ghost node = { λ v. toml (toml_view.view v) };
+
     const REFUSED: &'static str = "a float, a date or a time";
 
     fn read(alloc: Global, source: &Source) -> Result<toml::Value, Failure> {
@@ -71,10 +99,9 @@ impl Value for toml::Value {
     }
 
     fn part(&self, key: &str) -> Option<&toml::Value> {
-        match self {
-            toml::Value::Table(table) => table.get(key),
-            toml::Value::Array(items) => items.get(key.parse::<usize>().ok()?),
-            _ => None,
+        match self.get(key) {
+            Some(part) => Some(part),
+            None => self.get(key.parse::<usize>().ok()?),
         }
     }
 
@@ -97,7 +124,12 @@ pub fn tree<V: Value>(
     alloc: Global,
     source: &Source,
     document: Document<'_>,
-) -> Result<StringItem, Failure> {
+) -> Result<StringItem, Failure>
+    ensures drawn { IfOk result
+        (λ t. IsPartTree V.format source.now document.entry (tree_of t)) }
+    ensures failed { IfErr result
+        (FailsToMake ⊥ (IsPartTree V.format source.now document.entry)) }
+{
     let value = V::read(alloc, source)?;
     tree_of(alloc, source, &value, document)
 }
@@ -108,46 +140,87 @@ fn tree_of<V: Value>(
     source: &Source,
     value: &V,
     document: Document<'_>,
-) -> Result<StringItem, Failure> {
+) -> Result<StringItem, Failure>
+    ensures drawn { IfOk result
+        (λ t. IsTreeIn source.now document.entry (V.node value.now) (tree_of t)) }
+    ensures failed { IfErr result
+        (FailsToMake ⊥ (IsTreeIn source.now document.entry (V.node value.now))) }
+{
     let part = part_at(alloc, source, value, document.at)?;
-    if document.is_strict {
-        refuse(alloc, source, part, document.at)?;
-    }
-    part.tree(alloc, root_label(source, document))
-        .map_err(Failure::from)
+    refuse(alloc, source, part, document)?;
+    Ok(part.tree(alloc, root_label(source, document))?)
 }
 
-// Refuses what a strict call refuses below the keys `at`.
+// Fails if the call is strict, and refuses what stands in a part.
 fn refuse<V: Value>(
     alloc: Global,
     source: &Source,
     part: &V,
-    at: Option<&str>,
-) -> Result<(), Failure> {
+    document: Document<'_>,
+) -> Result<(), Failure>
+    ensures allowed { OnOk result (IsAllowed document.entry.is_strict (V.node part.now)) }
+    ensures failed { IfErr result
+        (FailsToMake ⊥ (λ (_ : ⊤). IsAllowed document.entry.is_strict (V.node part.now))) }
+{
+    if !document.is_strict {
+        return Ok(());
+    }
     match part.refused_path(alloc)? {
-        Some(path) => Err(refused(alloc, source, V::REFUSED, at, &path)?),
+        Some(path) => Err(refused(alloc, source, V::REFUSED, document.at, &path)?),
         None => Ok(()),
     }
 }
 
-// Returns the part of a value at the keys `at`.
+// Returns the part of a value that the keys `at` lead to.
 fn part_at<'a, V: Value>(
     alloc: Global,
     source: &Source,
     value: &'a V,
     at: Option<&str>,
-) -> Result<&'a V, Failure> {
-    let Some(at) = at else {
-        return Ok(value);
-    };
-    let mut part = value;
-    for key in at.split('.') {
-        part = match part.part(key) {
-            Some(part) => part,
-            None => return Err(missing(alloc, source, at, key)?),
-        };
+) -> Result<&'a V, Failure>
+    ensures part { IfOk result (λ part. IsPartAsked at.entry (V.node value.now) (V.node part.now)) }
+    ensures failed { IfErr result (FailsToMake ⊥ (IsPartAsked at.entry (V.node value.now))) }
+{
+    match at {
+        Some(at) => part_below(alloc, source, value, at, at),
+        None => Ok(value),
     }
-    Ok(part)
+}
+
+// Returns the part of a value that the last of the keys `at` lead to. It calls itself once for each
+// level of the document at most.
+fn part_below<'a, V: Value>(
+    alloc: Global,
+    source: &Source,
+    value: &'a V,
+    last: &str,
+    at: &str,
+) -> Result<&'a V, Failure>
+    ensures part { IfOk result
+        (λ part. LeadsBy (steps_in last.now) (V.node value.now) (V.node part.now)) }
+    ensures failed { IfErr result
+        (FailsToMake ⊥ (LeadsBy (steps_in last.now) (V.node value.now))) }
+{
+    let (key, rest) = split_step(last);
+    let Some(part) = value.part(key) else {
+        return Err(missing(alloc, source, at, key)?);
+    };
+    match rest {
+        Some(rest) => part_below(alloc, source, part, rest, at),
+        None => Ok(part),
+    }
+}
+
+// Returns the first of some keys, and what follows its full stop.
+fn split_step(keys: &str) -> (&str, Option<&str>)
+    ensures { MatchOption result.1 (steps_in keys.now ≡ result.0.now ∷ [])
+        (λ rest. (steps_in keys.now ≡ result.0.now ∷ steps_in rest.now)
+        × (length rest.now < length keys.now)) }
+{
+    match keys.split_once('.') {
+        Some((key, rest)) => (key, Some(rest)),
+        None => (keys, None),
+    }
 }
 
 /// Returns the value of a TOML document.
@@ -155,7 +228,11 @@ fn part_at<'a, V: Value>(
 /// # Errors
 ///
 /// `Input` with the line if the text is not TOML, and `Memory`.
-pub fn toml_value(alloc: Global, source: &Source) -> Result<toml::Value, Failure> {
+pub fn toml_value(alloc: Global, source: &Source) -> Result<toml::Value, Failure>
+    ensures value { IfOk result
+        (λ v. IsDocumentOf Toml source.now (toml (toml_view.view v))) }
+    ensures failed { IfErr result (FailsToMake ⊥ (IsDocumentOf Toml source.now)) }
+{
     match toml::table_from_str(alloc, source.text.as_str()) {
         Ok(table) => Ok(toml::Value::Table(table)),
         Err(e) if e.is_memory() => Err(Failure::Memory),
@@ -174,7 +251,11 @@ pub fn toml_value(alloc: Global, source: &Source) -> Result<toml::Value, Failure
 /// # Errors
 ///
 /// `Input` with the line if the text is not JSON, and `Memory`.
-pub fn json_value(alloc: Global, source: &Source) -> Result<serde_json::Value, Failure> {
+pub fn json_value(alloc: Global, source: &Source) -> Result<serde_json::Value, Failure>
+    ensures value { IfOk result
+        (λ v. IsDocumentOf Json source.now (json (json_view.view v))) }
+    ensures failed { IfErr result (FailsToMake ⊥ (IsDocumentOf Json source.now)) }
+{
     match serde_json::Value::from_str(alloc, source.text.as_str()) {
         Ok(value) => Ok(value),
         Err(e) if e.is_memory() => Err(Failure::Memory),
@@ -202,7 +283,9 @@ fn line_at(text: &str, place: usize) -> usize {
 }
 
 // Returns the text of the root: the label, or else the last key, or else the file's name.
-fn root_label<'a>(source: &'a Source, document: Document<'a>) -> &'a str {
+fn root_label<'a>(source: &'a Source, document: Document<'a>) -> &'a str
+    ensures { IsRootText document.entry.label document.entry.at source.now result.now }
+{
     match (document.label, document.at) {
         (Some(label), _) => label,
         (None, Some(at)) => at,
@@ -211,7 +294,9 @@ fn root_label<'a>(source: &'a Source, document: Document<'a>) -> &'a str {
 }
 
 // Says that a document has no such key.
-fn missing(alloc: Global, source: &Source, at: &str, key: &str) -> Result<Failure, AllocError> {
+fn missing(alloc: Global, source: &Source, at: &str, key: &str) -> Result<Failure, AllocError>
+    ensures { IfOk result IsInput }
+{
     let wrong = format!(in alloc; "nothing at {at}: there is no {key}")?;
     source.wrong(alloc, wrong.as_str())
 }
@@ -223,7 +308,9 @@ fn refused(
     what: &str,
     at: Option<&str>,
     path: &[Step],
-) -> Result<Failure, AllocError> {
+) -> Result<Failure, AllocError>
+    ensures { IfOk result IsInput }
+{
     let keys = keys(alloc, at.is_none(), path)?;
     let at = at.unwrap_or("");
     let wrong = format!(in alloc; "{what} is at {at}{keys}")?;

@@ -1,5 +1,6 @@
 //! Why a call did not do what it was asked, and its exit status.
 ghost use Rattle.std.specs.Prelude.{◌≡◌};
+ghost use Rattle.trees.specs.Telling.{status_of};
 
 use ptree::style::DrawError;
 use std::alloc::{AllocError, AllocFailed};
@@ -27,7 +28,9 @@ pub enum Failure {
 impl Failure {
     /// Returns the exit status. After a closed pipe it is the one that a shell reports of a program
     /// that SIGPIPE ended.
-    pub fn status(&self) -> u8 {
+    pub fn status(&self) -> u8
+        ensures { result ≡ status_of self.now }
+    {
         match self {
             Failure::Usage(_) => 2,
             Failure::Output(ErrorKind::BrokenPipe) => 141,

@@ -1,4 +1,6 @@
 //! How many levels a drawing may have.
+ghost use Rattle.std.specs.Prelude.{◌≡◌, length, nat_lt};
+ghost use Rattle.ptree_trees.specs.Paths.{names};
 
 use ptree::graph::{Graph, NodeIndex, Place};
 use std::alloc::{AllocError, Global};
@@ -14,8 +16,13 @@ pub const TOO_DEEP: &str = "more than 5,000 levels";
 pub const TOO_DEEP_GRAPH: &str = "more than 5,000 levels; use --depth 5000 or less";
 
 /// Whether a path has more names than there are levels.
-pub fn has_more_names(path: &str) -> bool {
-    path.len() > LEVELS as usize && path.split('/').nth(LEVELS as usize).is_some()
+pub fn has_more_names(path: &str) -> bool
+    ensures { result ≡ nat_lt 5000 (length (names 47 path.now)) }
+{
+    if path.len() < LEVELS as usize {
+        return false;
+    }
+    path.split('/').nth(LEVELS as usize).is_some()
 }
 
 /// Returns the number of the first line that begins with more units than there are levels.

@@ -1,9 +1,16 @@
 //! Trees of paths, and of indented text.
+ghost use Rattle.std.specs.Prelude.{◌≡◌, ◌≢◌, ℕ, ◌==◌, ◌++◌, true, false, List, map, is_some, MatchOption, IfOk, IfErr, OnOk};
+ghost use Rattle.std.specs.List.{list_any, slice_split};
+ghost use Rattle.ptree.specs.Tree.{tree_of};
+ghost use Rattle.ptree_trees.specs.Paths.{names, names_of};
+ghost use Rattle.trees.specs.Listing.{path_lines, source_lines, from_first, path_names, given_paths, is_absolute, is_relative, are_wrong, root_text, IsFolders, HasPaths, IsListing};
+ghost use Rattle.trees.specs.ListingParts.{own_names, IsBehindStart, is_first_absolute, beside, is_unlike, is_wrong_line};
+ghost use Rattle.trees.specs.Reading.{FailsFor};
 
 use crate::command::{Indented, Outline, Paths};
 use crate::failure::Failure;
 use crate::levels::{TOO_DEEP, deep_line, has_more_names};
-use crate::source::Source;
+use crate::source::{Source, behind};
 use crate::usage::Usage;
 use ptree::item::StringItem;
 use ptree_trees::escape::{escaped, escaped_item};
@@ -25,82 +32,212 @@ use std::alloc::{AllocError, Global};
 /// `Input` with the number of the path if it holds a zero byte, or has more names than there are
 /// levels, or if it begins with `/` and those before it don't, or the reverse, and there is no
 /// label. `Memory` if memory ran out.
-pub fn paths(alloc: Global, source: &Source, paths: Paths<'_>) -> Result<StringItem, Failure> {
-    let root = root_of(alloc, source, paths)?;
-    let end = end_of(paths);
-    let mut given = Vec::new(alloc);
-    for path in source.unmarked().split_inclusive(end) {
-        let names = names_of(without_end(path, end));
-        if !names.is_empty() {
-            given.push(names)?;
-        }
-    }
-    if paths.is_sorted {
-        return Ok(sorted_paths_tree(alloc, root, given.as_slice(), '/')?);
-    }
-    Ok(paths_tree(alloc, root, given.as_slice(), '/')?)
+pub fn paths(alloc: Global, source: &Source, paths: Paths<'_>) -> Result<StringItem, Failure>
+    ensures listing { IfOk result (λ t. IsListing source.now paths.entry (tree_of t)) }
+    // Each path stands in the tree, and nothing else.
+    ensures stands { IfOk result (λ t. HasPaths
+        (tree_of t).children (given_paths (source_lines source.now paths.entry))) }
+    // An input error says that the paths are wrong.
+    ensures failed { IfErr result (FailsFor
+        (are_wrong paths.entry.label (source_lines source.now paths.entry) ≡ true) ⊥) }
+{
+    let lines = lines_of(alloc, source.unmarked(), paths.ends_in_zero)?;
+    let are_absolute = is_first_absolute(lines.as_slice());
+    let others = beside(paths.label, are_absolute);
+    check_lines(alloc, source, lines.as_slice(), others)?;
+    let given = given_paths(alloc, lines.as_slice())?;
+    drop(lines);
+    let root = root_of(paths.label, are_absolute);
+    Ok(folders(alloc, root, given.as_slice(), paths.is_sorted)?)
 }
 
-// Returns the names of a path, from the first one on that is not `.`.
-fn names_of(path: &str) -> &str {
-    let mut at = 0usize;
-    for name in path.split('/') {
-        if !name.is_empty() && name != "." {
-            break;
-        }
-        at = at.saturating_add(name.len()).saturating_add(1);
+// Returns the lines of a text, or its parts between zero bytes.
+fn lines_of(alloc: Global, text: &str, ends_in_zero: bool) -> Result<Vec<&str>, AllocError>
+    ensures { IfOk result (λ lines. map (λ l. l.now) lines.items ≡ path_lines ends_in_zero text.now) }
+{
+    if ends_in_zero {
+        return parts_of(alloc, text);
     }
-    path.get(at..).unwrap_or("").trim_end_matches('/')
+    let mut found = Vec::new(alloc);
+    for line in text.lines() {
+        found.push(line)?;
+    }
+    Ok(found)
 }
 
-// Checks paths, and returns the text of their root.
-fn root_of<'a>(alloc: Global, source: &Source, paths: Paths<'a>) -> Result<&'a str, Failure> {
-    let end = end_of(paths);
-    let mut is_absolute = None;
-    for (i, path) in source.unmarked().split_inclusive(end).enumerate() {
-        let path = without_end(path, end);
-        if let Some(wrong) = wrong_path(path, paths.label, is_absolute) {
+// Returns the parts of a text between zero bytes.
+fn parts_of(alloc: Global, text: &str) -> Result<Vec<&str>, AllocError>
+    ensures { IfOk result (λ parts.
+        map (λ p. p.now) parts.items ≡ slice_split (λ b. b == 0) text.now) }
+{
+    let mut found = Vec::new(alloc);
+    for part in text.split('\0') {
+        found.push(part)?;
+    }
+    Ok(found)
+}
+
+// Whether the first path that is not empty begins with a slash.
+fn is_first_absolute(lines: &[&str]) -> bool
+    ensures { result ≡ is_first_absolute (map (λ l. l.now) lines.now) }
+{
+    for line in lines {
+        if !line.is_empty() {
+            return is_absolute(line);
+        }
+    }
+    false
+}
+
+// Returns whether all paths have to begin with a slash, or none may. With a label that doesn't count.
+fn beside(label: Option<&str>, are_absolute: bool) -> Option<bool>
+    ensures { result ≡ beside label.entry are_absolute }
+{
+    match label {
+        Some(_) => None,
+        None => Some(are_absolute),
+    }
+}
+
+// Checks paths.
+fn check_lines(
+    alloc: Global,
+    source: &Source,
+    lines: &[&str],
+    others: Option<bool>,
+) -> Result<(), Failure>
+    ensures right { OnOk result (list_any (λ l. is_wrong_line others l.now) lines.now ≡ false) }
+    ensures failed { IfErr result (FailsFor
+        (list_any (λ l. is_wrong_line others l.now) lines.now ≡ true) ⊥) }
+{
+    for (i, line) in lines.iter().enumerate() {
+        if let Some(wrong) = wrong_line(line, others) {
             return Err(source.wrong_at(alloc, i.saturating_add(1), wrong)?);
         }
-        if !path.is_empty() {
-            is_absolute = Some(path.starts_with('/'));
-        }
     }
-    match paths.label {
-        Some(label) => Ok(label),
-        None if is_absolute.unwrap_or(false) => Ok("/"),
-        None => Ok("."),
-    }
+    Ok(())
 }
 
-// Returns what is wrong with a path, if anything. Without a label, all begin with a slash if those
-// before it do.
-fn wrong_path(path: &str, label: Option<&str>, is_absolute: Option<bool>) -> Option<&'static str> {
-    let begins = path.starts_with('/');
-    if path.contains('\0') {
+// Returns what is wrong with a path, if anything.
+fn wrong_line(path: &str, others: Option<bool>) -> Option<&'static str>
+    ensures { is_some result ≡ is_wrong_line others path.now }
+{
+    if has_zero(path) {
         Some("the path has a zero byte; use -0 if paths end in one")
     } else if has_more_names(names_of(path)) {
         Some(TOO_DEEP)
-    } else if label.is_none() && !path.is_empty() && is_absolute.unwrap_or(begins) != begins {
+    } else if is_unlike(path, others) {
         Some("only some paths begin with /; use --label to give all one root")
     } else {
         None
     }
 }
 
-// Returns what paths end in.
-fn end_of(paths: Paths<'_>) -> char {
-    if paths.ends_in_zero { '\0' } else { '\n' }
+// Whether a text has a zero byte.
+fn has_zero(text: &str) -> bool
+    ensures { result ≡ list_any (λ b. b == 0) text.now }
+{
+    text.contains('\0')
 }
 
-// Returns a path without what ends it: a zero byte, or a line feed with a carriage return before
-// it.
-fn without_end(path: &str, end: char) -> &str {
-    match path.strip_suffix(end) {
-        Some(path) if end == '\n' => path.strip_suffix('\r').unwrap_or(path),
-        Some(path) => path,
-        None => path,
+// Whether a path begins unlike the others, where that counts.
+fn is_unlike(path: &str, others: Option<bool>) -> bool
+    ensures { result ≡ is_unlike others path.now }
+{
+    match others {
+        Some(true) => is_relative(path),
+        Some(false) => is_absolute(path),
+        None => false,
     }
+}
+
+// Whether a path begins with a slash.
+fn is_absolute(path: &str) -> bool
+    ensures { result ≡ is_absolute path.now }
+{
+    path.starts_with('/')
+}
+
+// Whether a path begins with something else.
+fn is_relative(path: &str) -> bool
+    ensures { result ≡ is_relative path.now }
+{
+    if path.is_empty() {
+        return false;
+    }
+    !is_absolute(path)
+}
+
+// Returns the names of each path that has some.
+fn given_paths<'a>(alloc: Global, lines: &[&'a str]) -> Result<Vec<&'a str>, AllocError>
+    ensures { IfOk result (λ given.
+        names_of 47 given.items ≡ given_paths (map (λ l. l.now) lines.now)) }
+{
+    let mut given = Vec::new(alloc);
+    for line in lines {
+        let names = names_of(line);
+        if !names.is_empty() {
+            given.push(names)?;
+        }
+    }
+    Ok(given)
+}
+
+// Returns the names of a path, from the first one on that is not `.`.
+fn names_of(path: &str) -> &str
+    ensures { own_names result.now ≡ path_names path.now }
+{
+    without_start(path).trim_end_matches('/')
+}
+
+// Returns a path from the first name on that is not `.`.
+fn without_start(path: &str) -> &str
+    ensures { own_names result.now ≡ from_first (names 47 path.now) }
+{
+    let mut rest = path;
+    while let Some(more) = behind_start(rest) {
+        rest = more;
+    }
+    if rest == "." { "" } else { rest }
+}
+
+// Returns what is behind a slash or `./` at the start of a path.
+fn behind_start(path: &str) -> Option<&str>
+    ensures { MatchOption result ((rest : List ℕ) → IsBehindStart path.now rest → ⊥)
+        (λ rest. IsBehindStart path.now rest.now) }
+{
+    match behind(path, "/") {
+        Some(rest) => Some(rest),
+        None => behind(path, "./"),
+    }
+}
+
+// Returns the text of the root.
+fn root_of(label: Option<&str>, are_absolute: bool) -> &str
+    ensures { result.now ≡ root_text label.entry are_absolute }
+{
+    match label {
+        Some(label) => label,
+        None if are_absolute => "/",
+        None => ".",
+    }
+}
+
+// Returns the tree of paths below a root.
+fn folders(
+    alloc: Global,
+    root: &str,
+    paths: &[&str],
+    is_sorted: bool,
+) -> Result<StringItem, AllocError>
+    ensures root { IfOk result (λ t. (tree_of t).text ≡ root.now) }
+    ensures below { IfOk result (λ t.
+        IsFolders is_sorted (tree_of t).children (names_of 47 paths.now)) }
+{
+    if is_sorted {
+        return sorted_paths_tree(alloc, root, paths, '/');
+    }
+    paths_tree(alloc, root, paths, '/')
 }
 
 /// Returns the tree of an indented text.

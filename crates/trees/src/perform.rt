@@ -9,11 +9,12 @@ ghost use Rattle.ptree_trees.specs.Change.{kept_tree};
 ghost use Rattle.ptree_trees.specs.Parts.{has_part};
 ghost use Rattle.trees.specs.Asked.{drawing_value, reading_value, with_drawing};
 ghost use Rattle.trees.specs.Changing.{IsPart, IsKept, IsConverted, FailsToConvert};
+ghost use Rattle.trees.specs.Listing.{IsListed, FailsToList};
 ghost use Rattle.trees.specs.Reading.{HoldsDrawing, HoldsNoOther, HoldsSome, IsRedrawn, FailsToRead, FailsToMake};
 ghost use Rattle.trees.specs.Telling.{TellsWhether, TellsOfCommand};
-ghost use Rattle.trees.specs.Writing.{Writes, IsTreeDrawing, WritesDrawn, Converts, ConvertsBack, WritesOfCommand};
+ghost use Rattle.trees.specs.Writing.{Writes, IsTreeDrawing, WritesDrawn, IsGiven, FailsToGive, Draws, Converts, ConvertsBack, WritesOfCommand, LeavesIfWrong};
 
-use crate::command::{Command, Convert, Deps, Diff, Drawing, Indented, Tree};
+use crate::command::{Command, Convert, Deps, Diff, Drawing, Indented, Paths, Tree};
 use crate::compare::{self, Look};
 use crate::deps::{Dependencies, read_dependencies};
 use crate::failure::Failure;
@@ -47,6 +48,7 @@ pub fn perform<W: Sink>(
     ensures told { TellsOfCommand found.now.sources command.entry result }
     ensures written { WritesOfCommand found.now.sources command.entry
         (W.contents out.old) (W.contents out.new) result }
+    ensures quiet { LeavesIfWrong out.old out.new result }
 {
     match command {
         Command::Draw(source, tree, drawing) => draw_source(
@@ -77,7 +79,8 @@ enum Drawn<'a> {
 
 // Writes a text, which may be a refusal.
 fn say<W: Sink>(out: &mut W, text: &str, is_refusal: bool) -> Result<(), Failure>
-    ensures { TellsWhether result (is_refusal ≡ false) }
+    ensures told { TellsWhether result (is_refusal ≡ false) }
+    ensures quiet { LeavesIfWrong out.old out.new result }
 {
     put_all(out, text.as_bytes())?;
     if is_refusal {
@@ -94,7 +97,11 @@ fn draw_source<W: Sink>(
     drawing: Drawing,
     out: &mut W,
     found: &Surroundings,
-) -> Result<(), Failure> {
+) -> Result<(), Failure>
+    ensures written { Draws found.now.sources source.now tree.entry drawing
+        (W.contents out.old) (W.contents out.new) result }
+    ensures quiet { LeavesIfWrong out.old out.new result }
+{
     let tree = tree_of(alloc, source, tree)?;
     let drawn = draw(alloc, Drawn::Tree(&tree), drawing, out, found);
     drop(tree);
@@ -102,20 +109,25 @@ fn draw_source<W: Sink>(
 }
 
 // Returns the tree of an input.
-fn tree_of(alloc: Global, source: &Source, tree: Tree<'_>) -> Result<StringItem, Failure> {
+fn tree_of(alloc: Global, source: &Source, tree: Tree<'_>) -> Result<StringItem, Failure>
+    ensures given { IfOk result (λ t. IsGiven source.now tree.entry (tree_of t)) }
+    ensures failed { IfErr result (FailsToGive source.now tree.entry) }
+{
     match tree {
         Tree::Json(document) => document::tree::<serde_json::Value>(alloc, source, document),
         Tree::Toml(document) => document::tree::<toml::Value>(alloc, source, document),
-        Tree::Paths(paths) => {
-            kept_part(
-                alloc,
-                source,
-                lists::paths(alloc, source, paths)?,
-                paths.keep,
-            )
-        }
+        Tree::Paths(paths) => listed(alloc, source, paths),
         Tree::Outline(outline) => lists::outline(alloc, source, outline),
     }
+}
+
+// Returns what is kept of the tree of paths.
+fn listed(alloc: Global, source: &Source, paths: Paths<'_>) -> Result<StringItem, Failure>
+    ensures listed { IfOk result (λ t. IsListed source.now paths.entry (tree_of t)) }
+    ensures failed { IfErr result (FailsToList source.now paths.entry) }
+{
+    let tree = lists::paths(alloc, source, paths)?;
+    kept_part(alloc, source, tree, paths.keep)
 }
 
 // Returns a tree, or what contains a text in it.
@@ -173,8 +185,9 @@ fn draw<W: Sink>(
     out: &mut W,
     found: &Surroundings,
 ) -> Result<(), Failure>
-    ensures { WritesDrawn (drawing_value found.now.sources drawing) drawing.screen.is_terminal
-        drawn.entry (W.contents out.old) (W.contents out.new) result }
+    ensures written { WritesDrawn (drawing_value found.now.sources drawing)
+        drawing.screen.is_terminal drawn.entry (W.contents out.old) (W.contents out.new) result }
+    ensures quiet { LeavesIfWrong out.old out.new result }
 {
     let config = config(alloc, drawing, found)?;
     let written = write_drawing(alloc, drawn, drawing.screen.is_terminal, out, &config);
@@ -190,8 +203,9 @@ fn write_drawing<W: Sink>(
     out: &mut W,
     config: &PrintConfig,
 ) -> Result<(), Failure>
-    ensures { WritesDrawn (config_of config.now) is_terminal
+    ensures written { WritesDrawn (config_of config.now) is_terminal
         drawn.entry (W.contents out.old) (W.contents out.new) result }
+    ensures quiet { LeavesIfWrong out.old out.new result }
 {
     match drawn {
         Drawn::Tree(tree) => write_tree(alloc, tree, is_terminal, out, config),
@@ -210,9 +224,10 @@ fn write_tree<W: Sink>(
     out: &mut W,
     config: &PrintConfig,
 ) -> Result<(), Failure>
-    ensures { Writes (W.contents out.old) (W.contents out.new) result
+    ensures written { Writes (W.contents out.old) (W.contents out.new) result
         (IsTreeDrawing (config_of config.now) is_terminal (tree_of tree.now))
         (λ e. e ≡ Failure.Memory) }
+    ensures quiet { LeavesIfWrong out.old out.new result }
 {
     if is_terminal {
         let tree = escaped_item(alloc, tree)?;
@@ -228,9 +243,10 @@ fn write_as_is<W: Sink>(
     out: &mut W,
     config: &PrintConfig,
 ) -> Result<(), Failure>
-    ensures { Writes (W.contents out.old) (W.contents out.new) result
+    ensures written { Writes (W.contents out.old) (W.contents out.new) result
         (IsTreeDrawing (config_of config.now) false (tree_of tree.now))
         (λ e. e ≡ Failure.Memory) }
+    ensures quiet { LeavesIfWrong out.old out.new result }
 {
     Ok(write_tree_with(alloc, tree, out, config)?)
 }
@@ -265,7 +281,9 @@ fn draw_deps<W: Sink>(
     drawing: Drawing,
     out: &mut W,
     found: &Surroundings,
-) -> Result<(), Failure> {
+) -> Result<(), Failure>
+    ensures quiet { LeavesIfWrong out.old out.new result }
+{
     let dependencies = read_dependencies(alloc, source, deps, drawing.screen.is_terminal)?;
     let graph = Drawn::Graph(source, &dependencies, deps.walks);
     let drawn = draw(alloc, graph, drawing, out, found);
@@ -281,7 +299,9 @@ fn write_graph<W: Sink>(
     walks: bool,
     out: &mut W,
     config: &PrintConfig,
-) -> Result<(), Failure> {
+) -> Result<(), Failure>
+    ensures quiet { LeavesIfWrong out.old out.new result }
+{
     let Dependencies { graph, root } = dependencies;
     if config.depth > LEVELS && has_more_below(alloc, graph, *root, walks)? {
         return Err(source.wrong(alloc, TOO_DEEP_GRAPH)?);
@@ -324,7 +344,9 @@ fn write_indented<W: Sink>(
     indented: Indented<'_>,
     out: &mut W,
     found: &Surroundings,
-) -> Result<(), Failure> {
+) -> Result<(), Failure>
+    ensures quiet { LeavesIfWrong out.old out.new result }
+{
     let text = indented_text(alloc, source, indented, found)?;
     say(out, text.as_str(), false)
 }
@@ -349,8 +371,9 @@ fn check<W: Sink>(
     out: &mut W,
     found: &Surroundings,
 ) -> Result<(), Failure>
-    ensures { TellsWhether result
+    ensures told { TellsWhether result
         (All (HoldsSome (reading_value found.now.sources pieces)) sources.now) }
+    ensures quiet { LeavesIfWrong out.old out.new result }
 {
     let mut said = String::new(alloc);
     let are_drawings = push_checks(alloc, &mut said, sources, pieces, found)?;
@@ -431,6 +454,7 @@ fn draw_converted<W: Sink>(
     // What was converted from other pieces to these is the same text again.
     ensures back { ConvertsBack found.now.sources source.now convert.entry
         (W.contents out.old) (W.contents out.new) result }
+    ensures quiet { LeavesIfWrong out.old out.new result }
 {
     let tree = converted(alloc, source, convert, found)?;
     draw(alloc, Drawn::Tree(&tree), convert.drawing, out, found)
@@ -464,7 +488,9 @@ fn compare_drawings<W: Sink>(
     out: &mut W,
     found: &Surroundings,
 ) -> Result<(), Failure>
-    ensures { TellsWhether result (string_bytes left.now.text ≡ string_bytes right.now.text) }
+    ensures told { TellsWhether result
+        (string_bytes left.now.text ≡ string_bytes right.now.text) }
+    ensures quiet { LeavesIfWrong out.old out.new result }
 {
     let left = read_drawing(alloc, left, diff.drawing.pieces, found)?;
     compare_with(alloc, &left, right, diff, out, found)
@@ -480,9 +506,11 @@ fn compare_with<W: Sink>(
     found: &Surroundings,
 ) -> Result<(), Failure>
     // The texts with this tree's drawing are all the same.
-    ensures { let config = reading_value found.now.sources diff.drawing.pieces in (text : List ℕ)
+    ensures told { let config = reading_value found.now.sources diff.drawing.pieces in
+        (text : List ℕ)
         → IsDrawnForm (look_by config Unknown false) config.depth text (tree_of left.now)
         → TellsWhether result (text ≡ string_bytes right.now.text) }
+    ensures quiet { LeavesIfWrong out.old out.new result }
 {
     let right = read_drawing(alloc, right, diff.drawing.pieces, found)?;
     show_difference(alloc, left, &right, diff, out, found)
@@ -497,7 +525,8 @@ fn show_difference<W: Sink>(
     out: &mut W,
     found: &Surroundings,
 ) -> Result<(), Failure>
-    ensures { TellsWhether result (tree_of left.now ≡ tree_of right.now) }
+    ensures told { TellsWhether result (tree_of left.now ≡ tree_of right.now) }
+    ensures quiet { LeavesIfWrong out.old out.new result }
 {
     match compare::first(alloc, left, right)? {
         None => Ok(()),
@@ -515,7 +544,8 @@ fn write_both<W: Sink>(
     out: &mut W,
     config: &PrintConfig,
 ) -> Result<(), Failure>
-    ensures { IsErr result }
+    ensures different { IsErr result }
+    ensures quiet { LeavesIfWrong out.old out.new result }
 {
     let look = Look {
         is_colored: config.styled == StyleWhen::Always,
@@ -529,7 +559,9 @@ fn write_both<W: Sink>(
 }
 
 // Says which settings hold.
-fn show_settings<W: Sink>(alloc: Global, out: &mut W, found: &Surroundings) -> Result<(), Failure> {
+fn show_settings<W: Sink>(alloc: Global, out: &mut W, found: &Surroundings) -> Result<(), Failure>
+    ensures quiet { LeavesIfWrong out.old out.new result }
+{
     let report = settings::describe(alloc, found)?;
     say(out, report.text.as_str(), report.has_faults)
 }

@@ -1,4 +1,5 @@
 //! Runs the words of a call over any surroundings, reader and writers.
+ghost use Rattle.trees.specs.Writing.{LeavesIfWrong};
 
 use crate::failure::Failure;
 use crate::help;
@@ -30,6 +31,7 @@ pub fn run<R: Env + Files + AllocGlobal + Eprint, I: Read, W: Sink>(
 ) -> Result<(), Failure>
 where
     R::File: Drop,
+    ensures quiet { LeavesIfWrong out.old out.new result }
 {
     if let Some(page) = page(words) {
         return Ok(put_all(out, page.as_bytes())?);
@@ -59,6 +61,7 @@ fn run_words<R: Env + Files + AllocGlobal + Eprint, I: Read, W: Sink>(
 ) -> Result<(), Failure>
 where
     R::File: Drop,
+    ensures quiet { LeavesIfWrong out.old out.new result }
 {
     if words.has(Opt::Help) {
         return Ok(put_all(out, words.name.help().as_bytes())?);
@@ -118,6 +121,7 @@ fn run_over<R: Env + Files + AllocGlobal + Eprint, W: Sink>(
 ) -> Result<(), Failure>
 where
     R::File: Drop,
+    ensures quiet { LeavesIfWrong out.old out.new result }
 {
     let alloc = rt.alloc();
     match words.command(sources, screen) {

@@ -1,5 +1,7 @@
 //! The inputs of a call.
-ghost use Rattle.std.specs.Prelude.{IfOk};
+ghost use Rattle.std.specs.Prelude.{◌≡◌, ◌≢◌, ℕ, ◌++◌, List, MatchOption, IfOk, string_bytes};
+ghost use Rattle.trees.specs.Documents.{IsLastPart};
+ghost use Rattle.trees.specs.Listing.{unmarked};
 ghost use Rattle.trees.specs.Reading.{IsInput};
 
 use crate::failure::Failure;
@@ -49,7 +51,9 @@ impl Source {
     }
 
     /// Returns what a document is called: the last part of its path.
-    pub fn label(&self) -> &str {
+    pub fn label(&self) -> &str
+        ensures { IsLastPart (string_bytes self.now.name) result.now }
+    {
         let name = self.name.as_str();
         match name.rsplit_once('/') {
             Some((_, last)) => last,
@@ -58,9 +62,14 @@ impl Source {
     }
 
     /// Returns the text without a byte order mark before it.
-    pub fn unmarked(&self) -> &str {
+    pub fn unmarked(&self) -> &str
+        ensures { result.now ≡ unmarked (string_bytes self.now.text) }
+    {
         let text = self.text.as_str();
-        text.strip_prefix('\u{feff}').unwrap_or(text)
+        match behind(text, "\u{feff}") {
+            Some(rest) => rest,
+            None => text,
+        }
     }
 
     /// Says what is wrong at a line of the text.
@@ -86,6 +95,14 @@ impl Source {
         let name = &self.name;
         Ok(Failure::Input(format!(in alloc; "{name}: {wrong}")?))
     }
+}
+
+/// Returns what is behind a text at the start of another.
+pub fn behind<'a>(text: &'a str, start: &str) -> Option<&'a str>
+    ensures { MatchOption result ((rest : List ℕ) → text.now ≢ start.now ++ rest)
+        (λ rest. text.now ≡ start.now ++ rest.now) }
+{
+    text.strip_prefix(start)
 }
 
 // Reads standard input.

@@ -1,5 +1,5 @@
 use Rattle.std.proofs.Common.{string_bytes}
 use Rattle.trees.proofs.perform.compare_drawings.Goals as goal
 
-pub returns : goal.returns
-returns g c = c.compare_with.ensures (string_bytes c.args.left.now.text) c.in_ok-left.ensures.some.form
+pub returns-clause-told : goal.returns-clause-told
+returns-clause-told g c = c.compare_with.ensures.told (string_bytes c.args.left.now.text) c.in_ok-left.ensures.some.form

@@ -5,8 +5,8 @@ use Rattle.trees.specs.Telling.{TellsWhether}
 use Rattle.trees.proofs.Told.{tells_same, same_texts}
 use Rattle.trees.proofs.perform.compare_with.Goals as goal
 
-pub returns : goal.returns
-returns g c = λ text form.
+pub returns-clause-told : goal.returns-clause-told
+returns-clause-told g c = λ text form.
     let config = reading_value c.args.found.now.sources c.args.diff.drawing.pieces in
     let left = tree_of c.args.left.now in
     let read = c.in_ok-right.ensures in

@@ -4,9 +4,14 @@ use Rattle.trees.specs.Writing.{WritesOfCommand}
 use Rattle.trees.proofs.perform.perform.Goals as goal
 
 pub returns-in-Check-clause-told : goal.returns-in-Check-clause-told
-returns-in-Check-clause-told g c = subst (λ command. TellsOfCommand c.args.found.now.sources command c.check.result) (sym c.in-Check.is) c.check.ensures
+returns-in-Check-clause-told g c = subst (λ command. TellsOfCommand c.args.found.now.sources command c.check.result) (sym c.in-Check.is) c.check.ensures.told
 
 pub returns-in-Convert-clause-written : goal.returns-in-Convert-clause-written
 returns-in-Convert-clause-written g c =
     subst (λ command. WritesOfCommand c.args.found.now.sources command (g.W.Sink.contents c.args.out.now) (g.W.Sink.contents c.draw_converted.new.out) c.draw_converted.result)
     (sym c.in-Convert.is) (c.draw_converted.ensures.written, c.draw_converted.ensures.back)
+
+pub returns-in-Draw-clause-written : goal.returns-in-Draw-clause-written
+returns-in-Draw-clause-written g c =
+    subst (λ command. WritesOfCommand c.args.found.now.sources command (g.W.Sink.contents c.args.out.now) (g.W.Sink.contents c.draw_source.new.out) c.draw_source.result)
+    (sym c.in-Draw.is) c.draw_source.ensures.written

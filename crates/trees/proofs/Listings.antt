@@ -1,0 +1,237 @@
+-- Paths that are right, and their trees.
+use Rattle.std.proofs.Common.{◌≡◌, ◌≢◌, ◌∙◌, ℕ, ◌+◌, ◌<◌, ◌&&◌, ◌||◌, not, Bool, true, false, cond, eqb, ltb, Option, Some, None, List, [], ◌∷◌, ◌++◌, length, get_or, take, drop, map, refl, sym, ap, subst, arith}
+use Rattle.std.proofs.lemmas.Bool.{false≢true, eqb-true, eq-eqb, and_parts, and_from, or_parts, or_left, or_right, or_from, not_from_false}
+use Rattle.std.proofs.lemmas.List.{at_drop_more, map_more, map_push, get_or_default, append-nil}
+use Rattle.std.proofs.lemmas.List.Folds.{list_any_at, Any-from_list_any}
+use Rattle.std.specs.Borrow.{Bor}
+use Rattle.std.specs.Cmp.{both_ways}
+use Rattle.std.specs.List.{list_any}
+use Rattle.std.specs.Prelude.{filter, slice_index}
+use Rattle.ptree.specs.Tree.{Forest, Tree}
+use Rattle.ptree_trees.specs.Parts.{begins_with}
+use Rattle.ptree_trees.specs.Paths.{names, names_of, next_names, texts_below}
+use Rattle.ptree_trees.proofs.PathTrees.{names_some, names_have}
+use Rattle.trees.specs.declared.command.Paths.{Paths}
+use Rattle.trees.specs.declared.source.Source.{Source}
+use Rattle.trees.specs.Listing.{byte_order_mark, unmarked, source_lines, path_names, has_names, given_paths, is_absolute, is_relative, is_wrong_path, are_wrong, root_text, IsFolders, HasPaths, IsListing}
+use Rattle.trees.proofs.PathNames.{own_count}
+use Rattle.trees.specs.ListingParts.{own_names, is_first_absolute, beside, is_unlike, is_wrong_line}
+
+-- ## Texts
+
+-- a text that begins with a part is the part and a rest
+begins : (part text : List ℕ) → begins_with part text ≡ true → (rest : List ℕ) × (text ≡ part ++ rest)
+begins [] text h = (text, refl)
+begins (c ∷ part) [] h = absurd (false≢true h)
+begins (c ∷ part) (d ∷ text) h =
+    let s = and_parts (eqb c d) (begins_with part text) h in
+    let q = begins part text s.1 in
+    (q.0, ap (λ (e : ℕ). e ∷ text) (sym (eqb-true c d s.0)) ∙ ap (λ (z : List ℕ). c ∷ z) q.1)
+
+-- a text that begins with no byte order mark is unmarked
+pub unmarked_bare : (text : List ℕ) → ((rest : List ℕ) → text ≢ 239 ∷ 187 ∷ 191 ∷ rest) → text ≡ unmarked text
+unmarked_bare text lacks = at (begins_with byte_order_mark text) refl where
+  at : (x : Bool) → begins_with byte_order_mark text ≡ x → text ≡ cond x (drop 3 text) text
+  at true e = let q = begins byte_order_mark text e in absurd (lacks q.0 q.1)
+  at false e = refl
+
+-- a path begins with a slash if its first byte is one
+pub first_byte : (path : List ℕ) → eqb (slice_index path 0) 47 ≡ is_absolute path
+first_byte [] = refl
+first_byte (b ∷ path) = refl
+
+-- the empty path begins with nothing
+pub relative_none : (path : List ℕ) → eqb (length path) 0 ≡ true → false ≡ is_relative path
+relative_none [] h = refl
+relative_none (b ∷ path) h = let none = eqb-true (length (b ∷ path)) 0 h in absurd (omega (arith, none))
+
+-- another one with a slash or something else
+pub relative_some : (path : List ℕ) → eqb (length path) 0 ≡ false → not (is_absolute path) ≡ is_relative path
+relative_some [] h = absurd (false≢true (sym h))
+relative_some (b ∷ path) h = refl
+
+-- what says whether a text has a zero byte is the test
+pub zero_test : (bs : List ℕ) (r : Bool) → (r ≡ true → (k : ℕ) × (k < length bs) × (get_or bs k 0 ≡ 0)) × ((k : ℕ) → k < length bs → get_or bs k 0 ≡ 0 → r ≡ true)
+    → r ≡ list_any (λ b. eqb b 0) bs
+zero_test bs r h = both_ways r (list_any (λ b. eqb b 0) bs) there (λ e. back (Any-from_list_any (λ b. eqb b 0) bs e)) where
+  there : r ≡ true → list_any (λ b. eqb b 0) bs ≡ true
+  there e = let q = h.0 e in list_any_at (λ b. eqb b 0) bs q.0 0 q.1 (eq-eqb (get_or bs q.0 0) 0 q.2)
+
+  back : (k : ℕ) × (x : ℕ) × (k < length bs) × (get_or bs k x ≡ x) × (eqb x 0 ≡ true) → r ≡ true
+  back q = h.1 q.0 q.2 (get_or_default bs q.0 0 q.1 q.2 ∙ (q.3 ∙ eqb-true q.1 0 q.4))
+
+-- ## The first path
+
+-- the first one says how it begins, unless it is empty
+first_some : (path : List ℕ) (lines : List (List ℕ)) → eqb (length path) 0 ≡ false → is_absolute path ≡ is_first_absolute (path ∷ lines)
+first_some [] lines h = absurd (false≢true (sym h))
+first_some (b ∷ path) lines h = refl
+
+first_none : (path : List ℕ) (lines : List (List ℕ)) → eqb (length path) 0 ≡ true → is_first_absolute lines ≡ is_first_absolute (path ∷ lines)
+first_none [] lines h = refl
+first_none (b ∷ path) lines h = let none = eqb-true (length (b ∷ path)) 0 h in absurd (omega (arith, none))
+
+-- so does the first of the rest of the lines
+pub first_here : (lines : List (Bor (List ℕ))) (i : ℕ) (d : Bor (List ℕ)) → i < length lines → eqb (length (get_or lines i d).now) 0 ≡ false
+    → is_first_absolute (map (λ l. l.now) (drop i lines)) ≡ is_first_absolute (map (λ l. l.now) lines) → is_absolute (get_or lines i d).now ≡ is_first_absolute (map (λ l. l.now) lines)
+first_here lines i d low some before =
+    first_some (get_or lines i d).now (map (λ l. l.now) (drop (i + 1) lines)) some ∙ (sym (at_drop_more (λ (ls : List (Bor (List ℕ))). is_first_absolute (map (λ l. l.now) ls)) lines i d low) ∙ before)
+
+pub first_later : (lines : List (Bor (List ℕ))) (i : ℕ) (d : Bor (List ℕ)) → i < length lines → eqb (length (get_or lines i d).now) 0 ≡ true
+    → is_first_absolute (map (λ l. l.now) (drop i lines)) ≡ is_first_absolute (map (λ l. l.now) lines)
+    → is_first_absolute (map (λ l. l.now) (drop (i + 1) lines)) ≡ is_first_absolute (map (λ l. l.now) lines)
+first_later lines i d low none before =
+    first_none (get_or lines i d).now (map (λ l. l.now) (drop (i + 1) lines)) none ∙ (sym (at_drop_more (λ (ls : List (Bor (List ℕ))). is_first_absolute (map (λ l. l.now) ls)) lines i d low) ∙ before)
+
+-- if the first path begins with a slash, one does
+first_true : (lines : List (List ℕ)) → is_first_absolute lines ≡ true → list_any is_absolute lines ≡ true
+first_true [] h = absurd (false≢true h)
+first_true ([] ∷ lines) h = first_true lines h
+first_true ((b ∷ path) ∷ lines) h = or_left (eqb b 47) (list_any is_absolute lines) h
+
+-- if it doesn't, and one does, another one begins with something else
+first_false : (lines : List (List ℕ)) → is_first_absolute lines ≡ false → list_any is_absolute lines ≡ true → list_any is_relative lines ≡ true
+first_false [] h k = absurd (false≢true k)
+first_false ([] ∷ lines) h k = first_false lines h k
+first_false ((b ∷ path) ∷ lines) h k = or_left (not (eqb b 47)) (list_any is_relative lines) (not_from_false (eqb b 47) h)
+
+-- one is unlike the first exactly if some begin with a slash and some with something else
+unlike_first : (lines : List (List ℕ)) → list_any (is_unlike (Some (is_first_absolute lines))) lines ≡ (list_any is_absolute lines && list_any is_relative lines)
+unlike_first lines = at (is_first_absolute lines) refl where
+  both : (a b : Bool) → (a ≡ true → b ≡ true) → a ≡ (a && b)
+  both true b h = sym (h refl)
+  both false b h = refl
+
+  at : (f : Bool) → is_first_absolute lines ≡ f → list_any (is_unlike (Some f)) lines ≡ (list_any is_absolute lines && list_any is_relative lines)
+  at true e = sym (ap (λ (x : Bool). x && list_any is_relative lines) (first_true lines e))
+  at false e = both (list_any is_absolute lines) (list_any is_relative lines) (first_false lines e)
+
+-- if they all begin alike, they begin as the first one does
+same_first : (lines : List (List ℕ)) → (list_any is_absolute lines && list_any is_relative lines) ≡ false → is_first_absolute lines ≡ list_any is_absolute lines
+same_first lines h = both_ways (is_first_absolute lines) (list_any is_absolute lines) (first_true lines) (at (is_first_absolute lines) refl) where
+  at : (f : Bool) → is_first_absolute lines ≡ f → list_any is_absolute lines ≡ true → f ≡ true
+  at true e k = refl
+  at false e k = absurd (false≢true (sym h ∙ and_from (list_any is_absolute lines) (list_any is_relative lines) k (first_false lines e k)))
+
+-- ## Wrong paths
+
+-- one passes one of two tests exactly if one passes the first or one the second
+any_or : (w u : List ℕ → Bool) (lines : List (List ℕ)) → list_any (λ p. w p || u p) lines ≡ (list_any w lines || list_any u lines)
+any_or w u [] = refl
+any_or w u (l ∷ lines) = ap (λ (x : Bool). (w l || u l) || x) (any_or w u lines) ∙ swapped (w l) (u l) (list_any w lines) (list_any u lines) where
+  swapped : (a b c d : Bool) → ((a || b) || (c || d)) ≡ ((a || c) || (b || d))
+  swapped true b c d = refl
+  swapped false true true d = refl
+  swapped false true false d = refl
+  swapped false false c d = refl
+
+-- none passes a test that nothing passes
+any_none : (lines : List (List ℕ)) → list_any (is_unlike None) lines ≡ false
+any_none [] = refl
+any_none (l ∷ lines) = any_none lines
+
+-- of the values of a list
+any_map : (w : List ℕ → Bool) (lines : List (Bor (List ℕ))) → list_any (λ l. w l.now) lines ≡ list_any w (map (λ l. l.now) lines)
+any_map w [] = refl
+any_map w (l ∷ lines) = ap (λ (x : Bool). w l.now || x) (any_map w lines)
+
+-- one line is wrong beside the first exactly if the paths are wrong
+wrong_is : (label : Option (Bor (List ℕ))) (lines : List (List ℕ)) → list_any (is_wrong_line (beside label (is_first_absolute lines))) lines ≡ are_wrong label lines
+wrong_is None lines = any_or is_wrong_path (is_unlike (Some (is_first_absolute lines))) lines ∙ ap (λ (x : Bool). list_any is_wrong_path lines || x) (unlike_first lines)
+wrong_is (Some label) lines = any_or is_wrong_path (is_unlike None) lines ∙ ap (λ (x : Bool). list_any is_wrong_path lines || x) (any_none lines)
+
+-- the same of the lines of an input
+pub wrong_lines : (source : Source) (paths : Paths) (lines : List (Bor (List ℕ))) (first : Bool) (others : Option Bool) → map (λ l. l.now) lines ≡ source_lines source paths
+    → first ≡ is_first_absolute (map (λ l. l.now) lines) → others ≡ beside paths.label first
+    → list_any (λ l. is_wrong_line others l.now) lines ≡ are_wrong paths.label (source_lines source paths)
+wrong_lines source paths lines first others same is asks =
+    ap (λ (o : Option Bool). list_any (λ l. is_wrong_line o l.now) lines) (asks ∙ ap (beside paths.label) is) ∙ (any_map (is_wrong_line (beside paths.label (is_first_absolute (map (λ l. l.now) lines)))) lines
+    ∙ (wrong_is paths.label (map (λ l. l.now) lines) ∙ ap (are_wrong paths.label) same))
+
+-- a path has more names than there are levels if what is left of it has
+deep_names : (path left : List ℕ) → own_names left ≡ path_names path → ltb 5000 (length (path_names path)) ≡ ltb 5000 (length (names 47 left))
+deep_names path left e = ap (λ (ns : List (List ℕ)). ltb 5000 (length ns)) (sym e) ∙ sym (own_count left)
+
+-- a line is wrong for one of three reasons
+pub wrong_zero : (others : Option Bool) (path : List ℕ) → list_any (λ b. eqb b 0) path ≡ true → true ≡ is_wrong_line others path
+wrong_zero others path h =
+    sym (or_left (is_wrong_path path) (is_unlike others path) (or_left (list_any (λ b. eqb b 0) path) (ltb 5000 (length (path_names path))) h))
+
+pub wrong_deep : (others : Option Bool) (path left : List ℕ) → own_names left ≡ path_names path → ltb 5000 (length (names 47 left)) ≡ true → true ≡ is_wrong_line others path
+wrong_deep others path left e h =
+    sym (or_left (is_wrong_path path) (is_unlike others path) (or_right (list_any (λ b. eqb b 0) path) (ltb 5000 (length (path_names path))) (deep_names path left e ∙ h)))
+
+pub wrong_unlike : (others : Option Bool) (path : List ℕ) → is_unlike others path ≡ true → true ≡ is_wrong_line others path
+wrong_unlike others path h = sym (or_right (is_wrong_path path) (is_unlike others path) h)
+
+-- and right without them
+pub wrong_never : (others : Option Bool) (path left : List ℕ) → own_names left ≡ path_names path → list_any (λ b. eqb b 0) path ≡ false → ltb 5000 (length (names 47 left)) ≡ false
+    → is_unlike others path ≡ false → false ≡ is_wrong_line others path
+wrong_never others path left e zero deep unlike =
+    sym (or_from (is_wrong_path path) (is_unlike others path) (or_from (list_any (λ b. eqb b 0) path) (ltb 5000 (length (path_names path))) zero (deep_names path left e ∙ deep)) unlike)
+
+-- ## Names
+
+-- the names of lines and further ones
+given_append : (xs ys : List (List ℕ)) → given_paths (xs ++ ys) ≡ given_paths xs ++ given_paths ys
+given_append [] ys = refl
+given_append (x ∷ xs) ys = at (has_names (path_names x)) (given_append xs ys) where
+  at : (b : Bool) → given_paths (xs ++ ys) ≡ given_paths xs ++ given_paths ys
+      → cond b (path_names x ∷ given_paths (xs ++ ys)) (given_paths (xs ++ ys)) ≡ cond b (path_names x ∷ given_paths xs) (given_paths xs) ++ given_paths ys
+  at true e = ap (λ (z : List (List (List ℕ))). path_names x ∷ z) e
+  at false e = e
+
+-- those of one line, if it has some
+given_one : (ns : List (List ℕ)) → ns ≢ [] → filter has_names (ns ∷ []) ≡ ns ∷ []
+given_one [] h = absurd (h refl)
+given_one (n ∷ ns) h = refl
+
+given_some : (line path : List ℕ) → eqb (length path) 0 ≡ false → own_names path ≡ path_names line → given_paths (line ∷ []) ≡ names 47 path ∷ []
+given_some line [] h e = absurd (false≢true (sym h))
+given_some line (b ∷ path) h e = ap (λ (ns : List (List ℕ)). filter has_names (ns ∷ [])) (sym e) ∙ given_one (names 47 (b ∷ path)) (names_some 47 (b ∷ path))
+
+given_none : (line path : List ℕ) → eqb (length path) 0 ≡ true → own_names path ≡ path_names line → given_paths (line ∷ []) ≡ []
+given_none line [] h e = ap (λ (ns : List (List ℕ)). filter has_names (ns ∷ [])) (sym e)
+given_none line (b ∷ path) h e = let none = eqb-true (length (b ∷ path)) 0 h in absurd (omega (arith, none))
+
+-- those of a line more
+given_next : (lines : List (Bor (List ℕ))) (i : ℕ) (d : Bor (List ℕ)) (more : List (List (List ℕ))) → i < length lines → given_paths ((get_or lines i d).now ∷ []) ≡ more
+    → given_paths (map (λ l. l.now) (take (i + 1) lines)) ≡ given_paths (map (λ l. l.now) (take i lines)) ++ more
+given_next lines i d more low e =
+    ap given_paths (map_more (λ (l : Bor (List ℕ)). l.now) lines i d low)
+    ∙ (given_append (map (λ l. l.now) (take i lines)) ((get_or lines i d).now ∷ []) ∙ ap (λ (z : List (List (List ℕ))). given_paths (map (λ l. l.now) (take i lines)) ++ z) e)
+
+pub given_more : (lines given : List (Bor (List ℕ))) (i : ℕ) (d path : Bor (List ℕ)) → i < length lines → eqb (length path.now) 0 ≡ false → own_names path.now ≡ path_names (get_or lines i d).now
+    → names_of 47 given ≡ given_paths (map (λ l. l.now) (take i lines)) → names_of 47 (given ++ path ∷ []) ≡ given_paths (map (λ l. l.now) (take (i + 1) lines))
+given_more lines given i d path low some e before =
+    map_push (λ (p : Bor (List ℕ)). names 47 p.now) given path
+    ∙ (ap (λ (z : List (List (List ℕ))). z ++ names 47 path.now ∷ []) before ∙ sym (given_next lines i d (names 47 path.now ∷ []) low (given_some (get_or lines i d).now path.now some e)))
+
+pub given_same : (lines given : List (Bor (List ℕ))) (i : ℕ) (d path : Bor (List ℕ)) → i < length lines → eqb (length path.now) 0 ≡ true → own_names path.now ≡ path_names (get_or lines i d).now
+    → names_of 47 given ≡ given_paths (map (λ l. l.now) (take i lines)) → names_of 47 given ≡ given_paths (map (λ l. l.now) (take (i + 1) lines))
+given_same lines given i d path low none e before =
+    before ∙ (sym (append-nil (given_paths (map (λ l. l.now) (take i lines)))) ∙ sym (given_next lines i d [] low (given_none (get_or lines i d).now path.now none e)))
+
+-- ## Trees
+
+-- each path stands in its folders, and nothing else
+pub stands : (b : Bool) (f : Forest) (paths : List (List (List ℕ))) → IsFolders b f paths → HasPaths f paths
+stands true f paths h = λ ns n. (h ns).1 n
+stands false f paths h = λ ns n. names_have false (texts_below f ns) (next_names ns paths) (h ns) n
+
+-- the root's text is that of paths that are right
+root_is : (label : Option (Bor (List ℕ))) (lines : List (List ℕ)) → are_wrong label lines ≡ false → root_text label (is_first_absolute lines) ≡ root_text label (list_any is_absolute lines)
+root_is None lines h = ap (root_text None) (same_first lines (or_parts (list_any is_wrong_path lines) (list_any is_absolute lines && list_any is_relative lines) h).1)
+root_is (Some label) lines h = refl
+
+-- a tree with the root and the folders of lines of which none is wrong is that of the input
+pub listing : (source : Source) (paths : Paths) (t : Tree) (lines : List (Bor (List ℕ))) (first : Bool) (others : Option Bool) → map (λ l. l.now) lines ≡ source_lines source paths
+    → first ≡ is_first_absolute (map (λ l. l.now) lines) → others ≡ beside paths.label first → list_any (λ l. is_wrong_line others l.now) lines ≡ false
+    → t.text ≡ root_text paths.label first → IsFolders paths.is_sorted t.children (given_paths (map (λ l. l.now) lines)) → IsListing source paths t
+listing source paths t lines first others same is asks right root folders =
+    let fits : are_wrong paths.label (source_lines source paths) ≡ false = sym (wrong_lines source paths lines first others same is asks) ∙ right in
+    let absolute : first ≡ is_first_absolute (source_lines source paths) = is ∙ ap is_first_absolute same in record {
+      right = fits;
+      root = root ∙ (ap (root_text paths.label) absolute ∙ root_is paths.label (source_lines source paths) fits);
+      folders = subst (λ (ls : List (List ℕ)). IsFolders paths.is_sorted t.children (given_paths ls)) same folders;
+    }

@@ -1,0 +1,127 @@
+-- Parts of documents: there is one at most where some steps lead.
+use Rattle.std.proofs.Common.{◌≡◌, ◌∙◌, ◌<◌, ◌+◌, ◌-◌, ◌^◌, ◌==◌, [], ◌∷◌, ℕ, List, Option, Some, None, Result, Ok, Err, Bool, true, false, Bor, length, option_map, subst, sym, ap, refl, arith}
+use Rattle.std.proofs.lemmas.List.{length-drop}
+use Rattle.std.proofs.lemmas.List.Elements.{All-from_get_or}
+use Rattle.std.proofs.lemmas.List.Splits.{slice_split_first, slice_split_none}
+use Rattle.std.proofs.lemmas.List.Sums.{fails_before_first}
+use Rattle.std.specs.List.{position_or_len, before_first, after_first, slice_split}
+use Rattle.std.specs.Str.Parse.{ParsesUnsigned, digits_value, without_leading_plus}
+use Rattle.serde_json.specs.Data as j
+use Rattle.toml.specs.Data as t
+use Rattle.ptree.specs.declared.value.document.DocFormat.{DocFormat}
+use Rattle.ptree.specs.File.{FileNode, json, toml}
+use Rattle.ptree_trees.specs.RefusedPath.{StepValue, at_key, at_position, Path}
+use Rattle.trees.specs.declared.source.Source.{Source}
+use Rattle.trees.specs.Documents.{IsDocumentOf, node_at, IsStep, FindsPart, steps_in, LeadsBy, IsPartAsked, IsFirstRefused, IsAllowed}
+
+-- nothing has both keys and positions
+key_or_position : (node : FileNode) (key : List ℕ) (n : ℕ) (x y : FileNode) → node_at (at_key key) node ≡ Some x → node_at (at_position n) node ≡ Some y → ⊥
+key_or_position (json j.null) key n x y at_x at_y = cc
+key_or_position (json (j.boolean b)) key n x y at_x at_y = cc
+key_or_position (json (j.number m)) key n x y at_x at_y = cc
+key_or_position (json (j.string s)) key n x y at_x at_y = cc
+key_or_position (json (j.array ds)) key n x y at_x at_y = cc
+key_or_position (json (j.object ms)) key n x y at_x at_y = cc
+key_or_position (toml (t.string s)) key n x y at_x at_y = cc
+key_or_position (toml (t.integer z)) key n x y at_x at_y = cc
+key_or_position (toml (t.float f)) key n x y at_x at_y = cc
+key_or_position (toml (t.boolean b)) key n x y at_x at_y = cc
+key_or_position (toml (t.datetime d)) key n x y at_x at_y = cc
+key_or_position (toml (t.array ds)) key n x y at_x at_y = cc
+key_or_position (toml (t.table ms)) key n x y at_x at_y = cc
+
+-- a text leads to one value at most
+one_step : (whole : FileNode) (text : List ℕ) (s r : StepValue) (x y : FileNode) → IsStep text s → IsStep text r → node_at s whole ≡ Some x → node_at r whole ≡ Some y → x ≡ y
+one_step whole text (at_key k) (at_key l) x y is_s is_r at_x at_y = cc
+one_step whole text (at_key k) (at_position n) x y is_s is_r at_x at_y = absurd (key_or_position whole k n x y at_x at_y)
+one_step whole text (at_position m) (at_key l) x y is_s is_r at_x at_y = absurd (key_or_position whole l m y x at_y at_x)
+one_step whole text (at_position m) (at_position n) x y is_s is_r at_x at_y =
+    let m_is = is_s.1 in
+    let n_is = is_r.1 in
+    cc
+
+-- steps lead to one part at most
+one_part : (texts : List (List ℕ)) (whole a b : FileNode) → LeadsBy texts whole a → LeadsBy texts whole b → a ≡ b
+one_part [] whole a b to_a to_b = to_a ∙ sym to_b
+one_part (text ∷ texts) whole a b to_a to_b =
+    let same : to_b.1 ≡ to_a.1 = one_step whole text to_b.0 to_a.0 to_b.1 to_a.1 to_b.2 to_a.2 to_b.3 to_a.3 in
+    one_part texts to_a.1 a b to_a.4 (subst (λ (w : FileNode). LeadsBy texts w b) same to_b.4)
+
+-- one part at most is asked for
+pub one_asked : (at : Option (Bor (List ℕ))) (whole a b : FileNode) → IsPartAsked at whole a → IsPartAsked at whole b → a ≡ b
+one_asked None whole a b is_a is_b = is_a ∙ sym is_b
+one_asked (Some at) whole a b is_a is_b = one_part (steps_in at.now) whole a b is_a is_b
+
+-- where nothing stands at the first step, the steps lead to nothing
+pub leads_nowhere : (keys text : List ℕ) (texts : List (List ℕ)) (whole : FileNode) → steps_in keys ≡ text ∷ texts → FindsPart whole text None
+    → (part : FileNode) → LeadsBy (steps_in keys) whole part → ⊥
+leads_nowhere keys text texts whole is none part leads =
+    let way : LeadsBy (text ∷ texts) whole part = subst (λ (ts : List (List ℕ)). LeadsBy ts whole part) is leads in
+    let at : node_at way.0 whole ≡ Some way.1 = way.3 in
+    let nothing : node_at way.0 whole ≡ None = none way.0 way.2 in
+    cc
+
+-- steps lead on from what stands at the first one
+pub leads_on : (keys text : List ℕ) (texts : List (List ℕ)) (whole next part : FileNode) → steps_in keys ≡ text ∷ texts → FindsPart whole text (Some next)
+    → LeadsBy texts next part → LeadsBy (steps_in keys) whole part
+leads_on keys text texts whole next part is found leads =
+    subst (λ (ts : List (List ℕ)). LeadsBy ts whole part) (sym is) (found.0, next, found.1, found.2, leads)
+
+-- and where these lead to nothing, all do
+pub leads_from : (keys text : List ℕ) (texts : List (List ℕ)) (whole next part : FileNode) → steps_in keys ≡ text ∷ texts → FindsPart whole text (Some next)
+    → LeadsBy (steps_in keys) whole part → LeadsBy texts next part
+leads_from keys text texts whole next part is found leads =
+    let way : LeadsBy (text ∷ texts) whole part = subst (λ (ts : List (List ℕ)). LeadsBy ts whole part) is leads in
+    subst (λ (w : FileNode). LeadsBy texts w part) (one_step whole text way.0 found.0 way.1 next way.2 found.1 way.3 found.2) way.4
+
+-- a value that is refused is not allowed
+pub not_allowed : (is_strict : Bool) (part : FileNode) (path : Path) → is_strict ≡ true → IsFirstRefused part (Some path) → IsAllowed is_strict part → ⊥
+not_allowed false part path is first allowed = cc
+not_allowed true (json d) path is first allowed = allowed path first.0
+not_allowed true (toml d) path is first allowed = allowed path first.0
+
+-- ## Steps
+
+-- a text that parses is a position
+pub parsed_step : {E : Type 0} (text : List ℕ) (n : ℕ) (r : Result ℕ E) → ParsesUnsigned 64 10 text r → r ≡ Ok n → IsStep text (at_position n)
+parsed_step text n (Ok m) h is =
+    let same : digits_value 10 (without_leading_plus text) ≡ n = cc in
+    (h.0.0, same, subst (λ (k : ℕ). k < 2 ^ 64) same h.0.1)
+parsed_step text n (Err e) h is = cc
+
+-- nothing stands at a text that is no key, and whose position has nothing
+no_step : (whole : FileNode) (text : List ℕ) (n : ℕ) → IsStep text (at_position n) → node_at (at_key text) whole ≡ None → node_at (at_position n) whole ≡ None
+    → (s : StepValue) → IsStep text s → node_at s whole ≡ None
+no_step whole text n is no_key no_position (at_key key) is_s = ap (λ (k : List ℕ). node_at (at_key k) whole) is_s ∙ no_key
+no_step whole text n is no_key no_position (at_position m) is_s = ap (λ (k : ℕ). node_at (at_position k) whole) (sym is_s.1 ∙ is.1) ∙ no_position
+
+-- what stands at the position of a text that is no key
+pub at_its_position : (whole : FileNode) (text : List ℕ) (n : ℕ) (part : Option FileNode) → IsStep text (at_position n) → node_at (at_key text) whole ≡ None
+    → node_at (at_position n) whole ≡ part → FindsPart whole text part
+at_its_position whole text n None is no_key at = no_step whole text n is no_key at
+at_its_position whole text n (Some part) is no_key at = (at_position n, is, at)
+
+-- two maps are one
+pub mapped_twice : {X Y Z : Type 0} (f : Y → Z) (g : X → Y) (o : Option X) → option_map f (option_map g o) ≡ option_map (λ (x : X). f (g x)) o
+mapped_twice f g None = refl
+mapped_twice f g (Some x) = refl
+
+-- a text with a full stop is the step before it, and those after
+pub first_step : (keys key rest : List ℕ) → key ≡ before_first (λ b. b == 46) keys → rest ≡ after_first (λ b. b == 46) keys → position_or_len (λ b. b == 46) keys < length keys
+    → (steps_in keys ≡ key ∷ steps_in rest) × (length rest < length keys)
+first_step keys key rest before after within =
+    let cut : steps_in keys ≡ before_first (λ b. b == 46) keys ∷ steps_in (after_first (λ b. b == 46) keys) = slice_split_first (λ b. b == 46) keys 0 within in
+    let parts : key ∷ steps_in rest ≡ before_first (λ b. b == 46) keys ∷ steps_in (after_first (λ b. b == 46) keys) =
+    ap (λ (k : List ℕ). k ∷ steps_in rest) before ∙ ap (λ (r : List ℕ). before_first (λ b. b == 46) keys ∷ steps_in r) after in
+    let long : length rest ≡ length keys - (position_or_len (λ b. b == 46) keys + 1) = ap length after ∙ length-drop (position_or_len (λ b. b == 46) keys + 1) keys in
+    (cut ∙ sym parts, omega (arith, long, within))
+
+-- a text without one is one step
+pub one_key : (keys : List ℕ) → position_or_len (λ b. b == 46) keys ≡ length keys → steps_in keys ≡ keys ∷ []
+one_key keys none =
+    slice_split_none (λ b. b == 46) keys
+    (All-from_get_or (λ (b : ℕ). (b == 46) ≡ false) keys 0 (λ i l. fails_before_first (λ b. b == 46) keys i 0 (omega (arith, none, l))))
+
+-- a source is one document at most
+pub one_document : (format : DocFormat) (source : Source) (a b : FileNode) → IsDocumentOf format source a → IsDocumentOf format source b → a ≡ b
+one_document format source a b is_a is_b = cc

@@ -1,0 +1,19 @@
+use Rattle.std.proofs.Common.{rules, subst}
+use Rattle.std.specs.Prelude.{⊤}
+use Rattle.ptree.specs.File.{FileNode}
+use Rattle.ptree.specs.Tree.{Tree}
+use Rattle.trees.specs.Documents.{IsAllowed, IsTreeIn}
+use Rattle.trees.proofs.Parts.{one_asked}
+use Rattle.trees.proofs.Readings.{fails_more}
+use Rattle.trees.proofs.document.tree_of.Goals as goal
+
+-- what is refused is the part of each tree that is asked for
+pub returns-in_err-refuse-clause-failed : goal.returns-in_err-refuse-clause-failed
+returns-in_err-refuse-clause-failed g c =
+    let document = c.args.document in
+    let whole : FileNode = g.V.Value.node c.args.value.now in
+    let part : FileNode = g.V.Value.node c.in_ok-part.part.now in
+    let allowed : (t : Tree) → IsTreeIn c.args.source.now document whole t → (_ : ⊤) × IsAllowed document.is_strict part =
+    (λ t is. (tt, subst (λ (n : FileNode). IsAllowed document.is_strict n) (one_asked document.at whole is.part part is.found c.in_ok-part.ensures.part) is.allowed)) in
+    let none = fails_more ⊥ (λ (_ : ⊤). IsAllowed document.is_strict part) (IsTreeIn c.args.source.now document whole) _ allowed c.in_err-refuse.ensures.failed in
+    search (rules, none)

@@ -1,0 +1,10 @@
+use Rattle.std.proofs.Common.{◌∙◌, ℕ, List, lit<, map, ap}
+use Rattle.std.proofs.lemmas.Iterator.Consumers.{YieldsList-end}
+use Rattle.std.proofs.lemmas.Iterator.Splits.{YieldsList-from_str_split}
+use Rattle.std.specs.Borrow.{Bor}
+use Rattle.trees.proofs.lists.parts_of.Goals as goal
+
+pub returns : goal.returns
+returns c =
+    let end = YieldsList-end (YieldsList-from_str_split 0 c.args.text.now (lit< tt) (cc) (cc) (cc)) c.loop-part.yielded _ c.loop-part.yielded_by _ _ c.in-None.is c.next.ensures.steps in
+    ap (map (λ (x : Bor (List ℕ)). x.now)) c.loop-part.invariant ∙ end.0

@@ -1,0 +1,98 @@
+-- Documents, the parts of them that are asked for, and their trees.
+use Rattle.std.specs.Borrow.{Bor}
+use Rattle.std.specs.List.{slice_split}
+use Rattle.std.specs.Prelude.{◌≡◌, ◌<◌, ◌^◌, ◌==◌, ⊤, ℕ, Bool, true, false, List, [], ◌∷◌, drop, Option, Some, None, MatchOption, option_map, string_bytes}
+use Rattle.std.specs.Str.Parse.{IsNumeral, digits_value, without_leading_plus}
+use Rattle.std.specs.Str.Pattern.{RFindsChar}
+use Rattle.serde_json.specs.Read.{read}
+use Rattle.ptree.specs.declared.value.document.DocFormat.{DocFormat}
+use Rattle.ptree.specs.declared.value.document.DocFormat.TheVariants.{Toml, Json}
+use Rattle.ptree.specs.File.{FileNode, json, toml}
+use Rattle.ptree.specs.Sources.{toml_document}
+use Rattle.ptree.specs.Tree.{Tree}
+use Rattle.ptree_trees.specs.RefusedPath.{StepValue, at_key, at_position, Path, json_at_step, toml_at_step, IsFirstFloat, IsFirstFloatOrDate}
+use Rattle.ptree_trees.specs.WrittenDocument.{IsJsonTree, IsTomlTree}
+use Rattle.trees.specs.declared.command.Document.{Document}
+use Rattle.trees.specs.declared.source.Source.{Source}
+
+-- the document of a text, if it is one of the format
+abbrev pub document_in : DocFormat → List ℕ → Option FileNode
+document_in Json text = option_map json (read text)
+document_in Toml text = toml_document text
+
+-- the source's text is this document
+abbrev pub IsDocumentOf : DocFormat → Source → FileNode → Type 0
+IsDocumentOf format source node = document_in format (string_bytes source.text) ≡ Some node
+
+-- ## Parts
+
+-- what stands at a step into a value
+abbrev pub node_at : StepValue → FileNode → Option FileNode
+node_at s (json d) = option_map json (json_at_step s d)
+node_at s (toml d) = option_map toml (toml_at_step s d)
+
+-- a text is a step: to the value at this key, or to the element at this position, counted from 0
+abbrev pub IsStep : List ℕ → StepValue → Type 0
+IsStep text (at_key key) = key ≡ text
+IsStep text (at_position n) = IsNumeral 10 (without_leading_plus text) × (digits_value 10 (without_leading_plus text) ≡ n) × (n < 2 ^ 64)
+
+-- what stands at the step that a text is, or none
+abbrev pub FindsPart : FileNode → List ℕ → Option FileNode → Type 0
+FindsPart whole text None = (s : StepValue) → IsStep text s → node_at s whole ≡ None
+FindsPart whole text (Some part) = (s : StepValue) × IsStep text s × (node_at s whole ≡ Some part)
+
+-- what stands between the full stops of a text
+abbrev pub steps_in : List ℕ → List (List ℕ)
+steps_in text = slice_split (λ b. b == 46) text
+
+-- the texts are steps from a value to a part of it
+abbrev pub LeadsBy : List (List ℕ) → FileNode → FileNode → Type 0
+LeadsBy [] whole part = part ≡ whole
+LeadsBy (text ∷ texts) whole part = (s : StepValue) × (next : FileNode) × IsStep text s × (node_at s whole ≡ Some next) × LeadsBy texts next part
+
+-- the part of a value that is asked for: all of it, or what the steps lead to
+abbrev pub IsPartAsked : Option (Bor (List ℕ)) → FileNode → FileNode → Type 0
+IsPartAsked None whole part = part ≡ whole
+IsPartAsked (Some at) whole part = LeadsBy (steps_in at.now) whole part
+
+-- the path to the first value that a strict call refuses, or none
+abbrev pub IsFirstRefused : FileNode → Option Path → Type 0
+IsFirstRefused (json d) path = IsFirstFloat d path
+IsFirstRefused (toml d) path = IsFirstFloatOrDate d path
+
+-- a part is drawn by a call that is strict or not
+abbrev pub IsAllowed : Bool → FileNode → Type 0
+IsAllowed false part = ⊤
+IsAllowed true part = IsFirstRefused part None
+
+-- ## Trees
+
+-- what follows the last slash of a path, or all of it
+abbrev pub IsLastPart : List ℕ → List ℕ → Type 0
+IsLastPart path text = (r : Option (ℕ × ℕ)) × RFindsChar 47 path r × MatchOption r (text ≡ path) (λ found. text ≡ drop found.1 path)
+
+-- the text of the root: the label, or the steps, or the last part of the file's path
+abbrev pub IsRootText : Option (Bor (List ℕ)) → Option (Bor (List ℕ)) → Source → List ℕ → Type 0
+IsRootText (Some label) at source text = text ≡ label.now
+IsRootText None (Some at) source text = text ≡ at.now
+IsRootText None None source text = IsLastPart (string_bytes source.name) text
+
+-- the tree of a value under a label
+abbrev pub IsNodeTree : List ℕ → FileNode → Tree → Type 0
+IsNodeTree label (json d) t = IsJsonTree label d t
+IsNodeTree label (toml d) t = IsTomlTree label d t
+
+-- t is the tree of the part of a value that is asked for
+pub record IsTreeIn (source : Source) (document : Document) (whole : FileNode) (t : Tree) : Type 0 where
+  pub part : FileNode
+  pub label : List ℕ
+  pub found : IsPartAsked document.at whole part
+  pub allowed : IsAllowed document.is_strict part
+  pub named : IsRootText document.label document.at source label
+  pub drawn : IsNodeTree label part t
+
+-- t is what `json` or `toml` draws of a source
+pub record IsPartTree (format : DocFormat) (source : Source) (document : Document) (t : Tree) : Type 0 where
+  pub whole : FileNode
+  pub read : IsDocumentOf format source whole
+  pub drawn : IsTreeIn source document whole t
