@@ -26,6 +26,14 @@ fails_weaker W V P Said more is = is
 fails_weaker W V P (Output kind) more is = is
 fails_weaker W V P Memory more is = is
 
+-- where no words are wrong, that says nothing of them
+pub fails_wider : (W P : Type 0) (f : Failure) → FailsFor W ⊥ f → FailsFor W P f
+fails_wider W P (Input wrong) is = is
+fails_wider W P (Usage wrong) is = absurd is
+fails_wider W P Said is = is
+fails_wider W P (Output kind) is = is
+fails_wider W P Memory is = is
+
 -- out of memory says nothing
 pub fails_by_memory : (W P : Type 0) (f : Failure) → f ≡ Memory → FailsFor W P f
 fails_by_memory W P f is = subst (λ (e : Failure). FailsFor W P e) (sym is) tt

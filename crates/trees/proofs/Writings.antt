@@ -4,8 +4,8 @@ use Rattle.std.proofs.lemmas.Bool.{false≢true}
 use Rattle.std.specs.Prelude.{IsErr, IfErr}
 use Rattle.ptree.specs.declared.value.document.DocFormat.TheVariants.{Toml, Json}
 use Rattle.ptree.specs.Tree.{Tree}
-use Rattle.trees.specs.declared.command.Tree.{Tree as Form}
-use Rattle.trees.specs.declared.command.Tree.TheVariants as form
+use Rattle.trees.specs.declared.command.Tree.{Tree as Given}
+use Rattle.trees.specs.declared.command.Tree.TheVariants as given
 use Rattle.trees.specs.declared.failure.Failure.{Failure}
 use Rattle.trees.specs.declared.failure.Failure.TheVariants.{Memory}
 use Rattle.trees.specs.declared.source.Source.{Source}
@@ -28,8 +28,8 @@ nothing_written None (Err e) Is Fails err says = inl (says, tt)
 nothing_written (Some bytes) (Err e) Is Fails err says = inl (says, sym (append-nil bytes))
 
 -- out of memory says nothing of an input
-pub gives_memory : (source : Source) (tree : Form) (e : Failure) → e ≡ Memory → FailsToGive source tree e
-gives_memory source (form.Json document) e is = fails_by_memory ((t : Tree) → IsPartTree Json source document t → ⊥) ⊥ e is
-gives_memory source (form.Toml document) e is = fails_by_memory ((t : Tree) → IsPartTree Toml source document t → ⊥) ⊥ e is
-gives_memory source (form.Paths paths) e is = fails_by_memory (IsWrongList source paths) ⊥ e is
-gives_memory source (form.Outline outline) e is = tt
+pub gives_memory : (source : Source) (tree : Given) (e : Failure) → e ≡ Memory → FailsToGive source tree e
+gives_memory source (given.Json document) e is = fails_by_memory ((t : Tree) → IsPartTree Json source document t → ⊥) ⊥ e is
+gives_memory source (given.Toml document) e is = fails_by_memory ((t : Tree) → IsPartTree Toml source document t → ⊥) ⊥ e is
+gives_memory source (given.Paths paths) e is = fails_by_memory (IsWrongList source paths) ⊥ e is
+gives_memory source (given.Outline outline) e is = tt

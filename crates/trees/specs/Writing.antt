@@ -1,6 +1,7 @@
 -- What calls write.
+use Rattle.std.specs.Borrow.{Bor}
 use Rattle.std.specs.Io.KnownBytes.{Appends}
-use Rattle.std.specs.Prelude.{◌≡◌, ◌≤◌, ◌⊎◌, ⊤, ℕ, Bool, false, if◌then◌else◌, List, [], Option, None, Result, Ok, Err, IsErr, OnOk, string_bytes}
+use Rattle.std.specs.Prelude.{◌≡◌, ◌≤◌, ◌⊎◌, ⊤, ℕ, Bool, false, if◌then◌else◌, List, [], Option, Some, None, Result, Ok, Err, IsErr, OnOk, string_bytes}
 use Rattle.ptree.specs.declared.print_config.OutputKind.TheVariants.{Unknown}
 use Rattle.ptree.specs.declared.print_config.Sources.{Sources}
 use Rattle.ptree.specs.declared.print_config.StyleWhen.TheVariants.{Never}
@@ -10,12 +11,15 @@ use Rattle.ptree.specs.Drawing.{look_by, IsDrawing}
 use Rattle.ptree.specs.Tree.{Tree, tree_of, shape_of_tree}
 use Rattle.ptree.specs.Writing.{AppendsPart}
 use Rattle.ptree_trees.specs.Escape.{escaped_text, mapped_tree}
+use Rattle.ptree_trees.specs.Indented.{IsIndentedForm}
+use Rattle.ptree_trees.specs.declared.indented.Form.{Form}
 use Rattle.trees.specs.declared.command.Command.{Command}
 use Rattle.trees.specs.declared.command.Command.TheVariants as command
 use Rattle.trees.specs.declared.command.Convert.{Convert}
 use Rattle.trees.specs.declared.command.Drawing.{Drawing}
-use Rattle.trees.specs.declared.command.Tree.{Tree as Form}
-use Rattle.trees.specs.declared.command.Tree.TheVariants as form
+use Rattle.trees.specs.declared.command.Indented.{Indented}
+use Rattle.trees.specs.declared.command.Tree.{Tree as Given}
+use Rattle.trees.specs.declared.command.Tree.TheVariants as given
 use Rattle.trees.specs.declared.failure.Failure.{Failure}
 use Rattle.trees.specs.declared.failure.Failure.TheVariants.{Usage, Input, Said, Output, Memory}
 use Rattle.trees.specs.declared.perform.Drawn.{Drawn}
@@ -25,7 +29,7 @@ use Rattle.trees.specs.Asked.{drawing_value, reading_value}
 use Rattle.trees.specs.Changing.{IsConverted, FailsToConvert}
 use Rattle.trees.specs.Documents.{IsPartTree}
 use Rattle.trees.specs.Listing.{IsListed, FailsToList}
-use Rattle.trees.specs.Reading.{IsWriting, IsReadableValue, FailsToMake}
+use Rattle.trees.specs.Reading.{IsWriting, HoldsDrawing, IsReadableValue, FailsFor, FailsToMake}
 
 -- A call that succeeds has appended bytes of which Is holds. One that fails has appended nothing, and
 -- Fails holds of the failure; or it failed in writing, and has appended a prefix of such bytes.
@@ -62,24 +66,52 @@ WritesDrawn config is_terminal (drawn.Both left right) old new result = IsErr re
 abbrev pub IsDrawingOf : Sources → Drawing → (Tree → Type 0) → List ℕ → Type 0
 IsDrawingOf sources drawing Is bytes = (t : Tree) × Is t × IsTreeDrawing (drawing_value sources drawing) drawing.screen.is_terminal t bytes
 
+-- ## Indented text
+
+-- a text as it is written: for a terminal escaped
+abbrev pub shown_text : Bool → List ℕ → List ℕ
+shown_text is_terminal text = if is_terminal then escaped_text text else text
+
+-- the text of an option, or none
+abbrev pub text_or_none : Option (Bor (List ℕ)) → List ℕ
+text_or_none None = []
+text_or_none (Some text) = text.now
+
+-- the bytes are the indented form of a tree, for a terminal with its texts and the bullet escaped
+abbrev pub IsShownForm : Bool → List ℕ → List ℕ → Tree → List ℕ → Type 0
+IsShownForm is_terminal unit bullet t bytes = (form : Form) × (form.unit.now ≡ unit) × (form.bullet.now ≡ shown_text is_terminal bullet) × IsIndentedForm form bytes (shown_tree is_terminal t)
+
+-- the bytes are what `indented` writes of a tree
+abbrev pub IsIndented : Indented → Tree → List ℕ → Type 0
+IsIndented indented t bytes = IsShownForm indented.is_terminal indented.unit.now (text_or_none indented.bullet) t bytes
+
+-- the bytes are that of the tree whose drawing the source holds
+abbrev pub IsIndentation : Sources → Source → Indented → List ℕ → Type 0
+IsIndentation sources source indented bytes = (t : Tree) × HoldsDrawing (reading_value sources indented.pieces) source t × IsIndented indented t bytes
+
+-- what each failure before anything is written says: of the input nothing, the pieces are not readable,
+-- or memory ran out
+abbrev pub FailsToIndent : Sources → Source → Indented → Failure → Type 0
+FailsToIndent sources source indented = FailsFor ⊤ (IsReadableValue (reading_value sources indented.pieces) → ⊥)
+
 -- ## Commands
 
 -- t is the tree of a document, or of paths; of other inputs it is any one
-abbrev pub IsGiven : Source → Form → Tree → Type 0
-IsGiven source (form.Json document) t = IsPartTree Json source document t
-IsGiven source (form.Toml document) t = IsPartTree Toml source document t
-IsGiven source (form.Paths paths) t = IsListed source paths t
-IsGiven source (form.Outline outline) t = ⊤
+abbrev pub IsGiven : Source → Given → Tree → Type 0
+IsGiven source (given.Json document) t = IsPartTree Json source document t
+IsGiven source (given.Toml document) t = IsPartTree Toml source document t
+IsGiven source (given.Paths paths) t = IsListed source paths t
+IsGiven source (given.Outline outline) t = ⊤
 
 -- what each failure before anything is drawn says; of other inputs nothing
-abbrev pub FailsToGive : Source → Form → Failure → Type 0
-FailsToGive source (form.Json document) e = FailsToMake ⊥ (IsPartTree Json source document) e
-FailsToGive source (form.Toml document) e = FailsToMake ⊥ (IsPartTree Toml source document) e
-FailsToGive source (form.Paths paths) e = FailsToList source paths e
-FailsToGive source (form.Outline outline) e = ⊤
+abbrev pub FailsToGive : Source → Given → Failure → Type 0
+FailsToGive source (given.Json document) e = FailsToMake ⊥ (IsPartTree Json source document) e
+FailsToGive source (given.Toml document) e = FailsToMake ⊥ (IsPartTree Toml source document) e
+FailsToGive source (given.Paths paths) e = FailsToList source paths e
+FailsToGive source (given.Outline outline) e = ⊤
 
 -- the drawing of the tree of an input is written
-abbrev pub Draws : {A : Type 0} → Sources → Source → Form → Drawing → Option (List ℕ) → Option (List ℕ) → Result A Failure → Type 0
+abbrev pub Draws : {A : Type 0} → Sources → Source → Given → Drawing → Option (List ℕ) → Option (List ℕ) → Result A Failure → Type 0
 Draws sources source tree drawing old new result = Writes old new result (IsDrawingOf sources drawing (IsGiven source tree)) (FailsToGive source tree)
 
 -- the bytes are what `convert` writes of a source
@@ -107,13 +139,13 @@ ConvertsBack sources source back old new result =
     → back.pieces ≡ there.drawing.pieces → back.drawing.pieces ≡ there.pieces → IsReadableValue (reading_value sources back.pieces)
     → IsConversion sources first there (string_bytes source.text) → OnOk result (Appends old new (string_bytes first.text))
 
--- what a command writes: those that draw an input, the drawing of its tree; `convert`, the conversion,
--- which can be turned back
+-- what a command writes: those that draw an input, the drawing of its tree; `indented`, the
+-- indented text; `convert`, the conversion, which can be turned back
 abbrev pub WritesOfCommand : {A : Type 0} → Sources → Command → Option (List ℕ) → Option (List ℕ) → Result A Failure → Type 0
 WritesOfCommand sources (command.Convert source convert) old new result = Converts sources source.now convert old new result × ConvertsBack sources source.now convert old new result
 WritesOfCommand sources (command.Draw source tree drawing) old new result = Draws sources source.now tree drawing old new result
 WritesOfCommand sources (command.Deps source deps drawing) old new result = ⊤
-WritesOfCommand sources (command.Indented source indented) old new result = ⊤
+WritesOfCommand sources (command.Indented source indented) old new result = Writes old new result (IsIndentation sources source.now indented) (FailsToIndent sources source.now indented)
 WritesOfCommand sources (command.Check inputs pieces screen) old new result = ⊤
 WritesOfCommand sources (command.Diff left right diff) old new result = ⊤
 WritesOfCommand sources command.Config old new result = ⊤

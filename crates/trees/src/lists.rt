@@ -1,11 +1,12 @@
 //! Trees of paths, and of indented text.
-ghost use Rattle.std.specs.Prelude.{◌≡◌, ◌≢◌, ℕ, ◌==◌, ◌++◌, true, false, List, map, is_some, MatchOption, IfOk, IfErr, OnOk};
+ghost use Rattle.std.specs.Prelude.{◌≡◌, ◌≢◌, ℕ, ◌==◌, ◌++◌, true, false, List, map, is_some, string_bytes, ⊤, MatchOption, IfOk, IfErr, OnOk};
 ghost use Rattle.std.specs.List.{list_any, slice_split};
 ghost use Rattle.ptree.specs.Tree.{tree_of};
 ghost use Rattle.ptree_trees.specs.Paths.{names, names_of};
 ghost use Rattle.trees.specs.Listing.{path_lines, source_lines, from_first, path_names, given_paths, is_absolute, is_relative, are_wrong, root_text, IsFolders, HasPaths, IsListing};
 ghost use Rattle.trees.specs.ListingParts.{own_names, IsBehindStart, is_first_absolute, beside, is_unlike, is_wrong_line};
 ghost use Rattle.trees.specs.Reading.{FailsFor};
+ghost use Rattle.trees.specs.Writing.{IsShownForm, IsIndented};
 
 use crate::command::{Indented, Outline, Paths};
 use crate::failure::Failure;
@@ -350,18 +351,17 @@ pub fn indented(
     source: &Source,
     tree: &StringItem,
     indented: Indented<'_>,
-) -> Result<String, Failure> {
+) -> Result<String, Failure>
+    ensures form { IfOk result (λ text.
+        IsIndented indented.entry (tree_of tree.now) (string_bytes text)) }
+    ensures failed { IfErr result (FailsFor ⊤ ⊥) }
+{
     check_texts(alloc, source, tree, indented.bullet)?;
     let form = Form {
         unit: indented.unit,
         bullet: indented.bullet.unwrap_or(""),
     };
-    let text = if indented.is_terminal {
-        escaped_form(alloc, tree, &form)
-    } else {
-        indented_text(alloc, tree, &form)
-    };
-    match text {
+    match shown_form(alloc, tree, &form, indented.is_terminal) {
         Ok(text) => Ok(text),
         Err(WriteError::Text) => Err(source.wrong(alloc, "a text cannot be indented")?),
         Err(WriteError::Memory) => Err(Failure::Memory),
@@ -374,7 +374,9 @@ fn check_texts(
     source: &Source,
     tree: &StringItem,
     bullet: Option<&str>,
-) -> Result<(), Failure> {
+) -> Result<(), Failure>
+    ensures { IfErr result (FailsFor ⊤ ⊥) }
+{
     if bullet.is_none() && !known_bullet(tree.text.as_str()).is_empty() {
         let wrong = "the root's text begins with a bullet; use --bullet, '' for none";
         return Err(source.wrong_at(alloc, 1, wrong)?);
@@ -402,8 +404,27 @@ fn wrong_text(text: &str, bullet: &str) -> Option<&'static str> {
     }
 }
 
+// Returns the indented form of a tree, for a terminal with its texts, and the bullet, escaped.
+fn shown_form(
+    alloc: Global,
+    tree: &StringItem,
+    form: &Form<'_>,
+    is_terminal: bool,
+) -> Result<String, WriteError>
+    ensures { IfOk result (λ text. IsShownForm is_terminal
+        form.now.unit.now form.now.bullet.now (tree_of tree.now) (string_bytes text)) }
+{
+    if is_terminal {
+        return escaped_form(alloc, tree, form);
+    }
+    indented_text(alloc, tree, form)
+}
+
 // Returns the indented form of a tree with its texts, and the bullet, escaped.
-fn escaped_form(alloc: Global, tree: &StringItem, form: &Form<'_>) -> Result<String, WriteError> {
+fn escaped_form(alloc: Global, tree: &StringItem, form: &Form<'_>) -> Result<String, WriteError>
+    ensures { IfOk result (λ text. IsShownForm true
+        form.now.unit.now form.now.bullet.now (tree_of tree.now) (string_bytes text)) }
+{
     let bullet = escaped(alloc, form.bullet)?;
     let tree = escaped_item(alloc, tree)?;
     let form = Form {

@@ -12,7 +12,7 @@ ghost use Rattle.trees.specs.Changing.{IsPart, IsKept, IsConverted, FailsToConve
 ghost use Rattle.trees.specs.Listing.{IsListed, FailsToList};
 ghost use Rattle.trees.specs.Reading.{HoldsDrawing, HoldsNoOther, HoldsSome, IsRedrawn, FailsToRead, FailsToMake};
 ghost use Rattle.trees.specs.Telling.{TellsWhether, TellsOfCommand};
-ghost use Rattle.trees.specs.Writing.{Writes, IsTreeDrawing, WritesDrawn, IsGiven, FailsToGive, Draws, Converts, ConvertsBack, WritesOfCommand, LeavesIfWrong};
+ghost use Rattle.trees.specs.Writing.{Writes, IsTreeDrawing, WritesDrawn, IsIndentation, FailsToIndent, IsGiven, FailsToGive, Draws, Converts, ConvertsBack, WritesOfCommand, LeavesIfWrong};
 
 use crate::command::{Command, Convert, Deps, Diff, Drawing, Indented, Paths, Tree};
 use crate::compare::{self, Look};
@@ -82,11 +82,20 @@ fn say<W: Sink>(out: &mut W, text: &str, is_refusal: bool) -> Result<(), Failure
     ensures told { TellsWhether result (is_refusal ≡ false) }
     ensures quiet { LeavesIfWrong out.old out.new result }
 {
-    put_all(out, text.as_bytes())?;
+    write_text(out, text)?;
     if is_refusal {
         return Err(Failure::Said);
     }
     Ok(())
+}
+
+// Writes a text.
+fn write_text<W: Sink>(out: &mut W, text: &str) -> Result<(), Failure>
+    ensures written { Writes (W.contents out.old) (W.contents out.new) result
+        (λ bytes. bytes ≡ text.now) (λ e. e ≡ Failure.Memory) }
+    ensures quiet { LeavesIfWrong out.old out.new result }
+{
+    Ok(put_all(out, text.as_bytes())?)
 }
 
 // Draws the tree of an input.
@@ -345,10 +354,13 @@ fn write_indented<W: Sink>(
     out: &mut W,
     found: &Surroundings,
 ) -> Result<(), Failure>
+    ensures written { Writes (W.contents out.old) (W.contents out.new) result
+        (IsIndentation found.now.sources source.now indented.entry)
+        (FailsToIndent found.now.sources source.now indented.entry) }
     ensures quiet { LeavesIfWrong out.old out.new result }
 {
     let text = indented_text(alloc, source, indented, found)?;
-    say(out, text.as_str(), false)
+    write_text(out, text.as_str())
 }
 
 // Returns a drawing as indented text.
@@ -357,7 +369,11 @@ fn indented_text(
     source: &Source,
     indented: Indented<'_>,
     found: &Surroundings,
-) -> Result<String, Failure> {
+) -> Result<String, Failure>
+    ensures text { IfOk result (λ text.
+        IsIndentation found.now.sources source.now indented.entry (string_bytes text)) }
+    ensures failed { IfErr result (FailsToIndent found.now.sources source.now indented.entry) }
+{
     let tree = read_drawing(alloc, source, indented.pieces, found)?;
     lists::indented(alloc, source, &tree, indented)
 }

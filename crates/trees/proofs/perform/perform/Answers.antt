@@ -6,6 +6,11 @@ use Rattle.trees.proofs.perform.perform.Goals as goal
 pub returns-in-Check-clause-told : goal.returns-in-Check-clause-told
 returns-in-Check-clause-told g c = subst (λ command. TellsOfCommand c.args.found.now.sources command c.check.result) (sym c.in-Check.is) c.check.ensures.told
 
+pub returns-in-Indented-clause-written : goal.returns-in-Indented-clause-written
+returns-in-Indented-clause-written g c =
+    subst (λ command. WritesOfCommand c.args.found.now.sources command (g.W.Sink.contents c.args.out.now) (g.W.Sink.contents c.write_indented.new.out) c.write_indented.result) (sym c.in-Indented.is)
+    c.write_indented.ensures.written
+
 pub returns-in-Convert-clause-written : goal.returns-in-Convert-clause-written
 returns-in-Convert-clause-written g c =
     subst (λ command. WritesOfCommand c.args.found.now.sources command (g.W.Sink.contents c.args.out.now) (g.W.Sink.contents c.draw_converted.new.out) c.draw_converted.result)

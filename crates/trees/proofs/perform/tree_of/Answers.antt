@@ -1,12 +1,12 @@
 use Rattle.std.proofs.Common.{IfOk, sym, subst}
 use Rattle.std.specs.Prelude.{IfErr}
 use Rattle.ptree.specs.Tree.{tree_of}
-use Rattle.trees.specs.declared.command.Tree.{Tree as Form}
+use Rattle.trees.specs.declared.command.Tree.{Tree as Given}
 use Rattle.trees.specs.Writing.{IsGiven, FailsToGive}
 use Rattle.trees.proofs.perform.tree_of.Goals as goal
 
 pub returns-in-Paths-clause-given : goal.returns-in-Paths-clause-given
-returns-in-Paths-clause-given c = subst (λ (form : Form). IfOk c.listed.result (λ t. IsGiven c.args.source.now form (tree_of t))) (sym c.in-Paths.is) c.listed.ensures.listed
+returns-in-Paths-clause-given c = subst (λ (form : Given). IfOk c.listed.result (λ t. IsGiven c.args.source.now form (tree_of t))) (sym c.in-Paths.is) c.listed.ensures.listed
 
 pub returns-in-Paths-clause-failed : goal.returns-in-Paths-clause-failed
-returns-in-Paths-clause-failed c = subst (λ (form : Form). IfErr c.listed.result (FailsToGive c.args.source.now form)) (sym c.in-Paths.is) c.listed.ensures.failed
+returns-in-Paths-clause-failed c = subst (λ (form : Given). IfErr c.listed.result (FailsToGive c.args.source.now form)) (sym c.in-Paths.is) c.listed.ensures.failed
