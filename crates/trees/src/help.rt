@@ -67,8 +67,8 @@ usage: trees deps [--root NAME] [--inverse] [--walks] [--depth N] [--as PIECES] 
                   [FILE]
 
 Draws the dependencies of each package once; (*) marks a package whose dependencies are drawn
-above. FILE is a Cargo.lock, package-lock.json, poetry.lock or uv.lock, or has lines of two
-words, where the first needs the second, as go mod graph prints them.
+above. FILE is a Cargo.lock, package-lock.json, npm-shrinkwrap.json, poetry.lock or uv.lock, or
+has lines of two words, where the first needs the second, as go mod graph prints them.
 
   --root NAME   start at this package, b or b@2.0.0; by default at those that nothing needs
   --inverse     draw what needs each package
@@ -157,5 +157,6 @@ Shows the settings in use, and for each whether it comes from a variable, from t
 file, or is the default. Shows all errors in the configuration, each with the wrong value and
 what is expected; then the exit status is 1. Warns of unknown variables, keys and colours.
 
-PTREE_CONFIG names the file; by default it is ptree.toml or ptree.json in ~/.config.
+PTREE_CONFIG names the file; by default it is ptree.toml or ptree.json in $XDG_CONFIG_HOME, or
+else in ~/.config.
 ";

@@ -377,8 +377,7 @@ fn check_texts(
 ) -> Result<(), Failure>
     ensures { IfErr result (FailsFor ⊤ ⊥) }
 {
-    if bullet.is_none() && !known_bullet(tree.text.as_str()).is_empty() {
-        let wrong = "the root's text begins with a bullet; use --bullet, '' for none";
+    if let Some(wrong) = wrong_root(tree.text.as_str(), bullet) {
         return Err(source.wrong_at(alloc, 1, wrong)?);
     }
     let items = tree.items(alloc)?;
@@ -389,6 +388,18 @@ fn check_texts(
         }
     }
     Ok(())
+}
+
+// Returns what is wrong with the root's text, if anything: `outline` would read its start as something
+// else.
+fn wrong_root(text: &str, bullet: Option<&str>) -> Option<&'static str> {
+    if bullet.is_none() && !known_bullet(text).is_empty() {
+        Some("the root's text begins with a bullet; use --bullet, '' for none")
+    } else if bullet.unwrap_or("").is_empty() && text.starts_with('\u{feff}') {
+        Some("the root's text begins with a byte order mark; use --bullet")
+    } else {
+        None
+    }
 }
 
 // Returns why `outline` would not make a text again that stands behind a bullet, if it wouldn't.
