@@ -73,7 +73,12 @@ fn try_children(alloc: Global, size: usize) -> Result<(), Deviation> {
     add_children(alloc, &mut builder, Child::Leaf, size)?;
     add_children(alloc, &mut builder, Child::Begun, size.min(LEVELS))?;
     try_built(&mut builder, size.saturating_add(size.min(1)))?;
-    add_children(alloc, &mut builder, Child::Begun, size.saturating_sub(LEVELS))
+    add_children(
+        alloc,
+        &mut builder,
+        Child::Begun,
+        size.saturating_sub(LEVELS),
+    )
 }
 
 // Adds items, each a level below the one before it, after which no item can follow two levels

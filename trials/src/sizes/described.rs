@@ -174,6 +174,14 @@ pub fn try_all(alloc: Global, size: usize) -> Result<(), Deviation> {
     try_json(alloc, size)?;
     try_toml(alloc, size)?;
     try_refused(alloc, size)?;
-    try_sources(alloc, size, FileSource::Toml(settings_file(alloc, DocFormat::Toml, size)?))?;
-    try_sources(alloc, size, FileSource::Json(settings_file(alloc, DocFormat::Json, size)?))
+    try_sources(
+        alloc,
+        size,
+        FileSource::Toml(settings_file(alloc, DocFormat::Toml, size)?),
+    )?;
+    try_sources(
+        alloc,
+        size,
+        FileSource::Json(settings_file(alloc, DocFormat::Json, size)?),
+    )
 }

@@ -141,12 +141,7 @@ fn toml_value(alloc: Global, document: &str) -> Result<Value, Deviation> {
 }
 
 // The calls of a document, and of its value.
-fn try_format(
-    alloc: Global,
-    format: DocFormat,
-    size: usize,
-    label: &str,
-) -> Result<(), Deviation> {
+fn try_format(alloc: Global, format: DocFormat, size: usize, label: &str) -> Result<(), Deviation> {
     let document = match format {
         DocFormat::Json => json(alloc, size)?,
         DocFormat::Toml => toml(alloc, size)?,

@@ -69,7 +69,9 @@ impl<N: Label> Drawn<'_, N> {
             "`print_graph` succeeds",
         )?;
         made(
-            print_graph_once(alloc, self.graph, START, self.mark, &mut out, true, &sources),
+            print_graph_once(
+                alloc, self.graph, START, self.mark, &mut out, true, &sources,
+            ),
             "`print_graph_once` succeeds",
         )
     }
