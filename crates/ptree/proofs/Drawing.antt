@@ -9,5 +9,6 @@ pub mod Drawn
 pub mod CutTrees
 pub mod Subtrees
 pub mod Laws
+pub mod Joined
 pub mod Utf8Texts
 pub mod Examples

@@ -145,12 +145,12 @@ same_texts a b u v e =
     sym (encodes-chars a u) ∙ (ap encode_utf8_all (same_chars (chars a) (chars b) (encodes_same _ _ e)) ∙ encodes-chars b v)
 
 -- what none passes in two lists
-none_append : (p : ℕ → Bool) (xs ys : List ℕ) → NonePass p xs → NonePass p ys → NonePass p (xs ++ ys)
+pub none_append : (p : ℕ → Bool) (xs ys : List ℕ) → NonePass p xs → NonePass p ys → NonePass p (xs ++ ys)
 none_append p [] ys h k = k
 none_append p (x ∷ xs) ys h k = (h.0, none_append p xs ys h.1 k)
 
 -- no character that stands for one is hidden
-form_shown : (c : ℕ) → NonePass is_hidden (escape_char c)
+pub form_shown : (c : ℕ) → NonePass is_hidden (escape_char c)
 form_shown c = by_form (forms c) where
   digit : (d : ℕ) → d < 16 → is_hidden (digit_char d) ≡ false
   digit d h = let k = digit_range d h in shown_ascii (digit_char d) (omega arith) (omega arith)
@@ -239,8 +239,8 @@ same_if text r u is = (
 
 -- ## The loop
 
--- one character more
-pub char_pushed : (cs : List ℕ) (c : ℕ) (old new : List ℕ) → old ≡ encode_utf8_all (flat_map escape_char cs) → new ≡ old ++ encode_utf8_all (escape_char c)
-    → new ≡ encode_utf8_all (flat_map escape_char (cs ++ c ∷ []))
-char_pushed cs c old new is pushed =
-    pushed ∙ (ap (λ z. z ++ encode_utf8_all (escape_char c)) is ∙ (sym (encodes-append (flat_map escape_char cs) (escape_char c)) ∙ ap encode_utf8_all (flat_map_more escape_char [] cs c)))
+-- one character more, with what stands for each
+pub char_pushed : (form : ℕ → List ℕ) (cs : List ℕ) (c : ℕ) (old new : List ℕ) → old ≡ encode_utf8_all (flat_map form cs) → new ≡ old ++ encode_utf8_all (form c)
+    → new ≡ encode_utf8_all (flat_map form (cs ++ c ∷ []))
+char_pushed form cs c old new is pushed =
+    pushed ∙ (ap (λ z. z ++ encode_utf8_all (form c)) is ∙ (sym (encodes-append (flat_map form cs) (form c)) ∙ ap encode_utf8_all (flat_map_more form [] cs c)))

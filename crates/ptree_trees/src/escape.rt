@@ -70,8 +70,12 @@ pub fn needs_escape(text: &str) -> bool
     text.chars().any(|c| is_escaped(c))
 }
 
-// Adds what stands for a character.
-fn push_escaped(out: &mut String, c: char) -> Result<(), AllocError>
+/// Adds what [`escaped`] has for a character.
+///
+/// # Errors
+///
+/// Memory ran out.
+pub fn push_escaped(out: &mut String, c: char) -> Result<(), AllocError>
     ensures { OnOk result
         (string_bytes out.new ≡ string_bytes out.old ++ encode_utf8_all (escape_char c)) }
 {

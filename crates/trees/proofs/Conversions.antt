@@ -17,8 +17,9 @@ use Rattle.trees.specs.declared.command.Drawing.{Drawing}
 use Rattle.trees.specs.declared.failure.Failure.{Failure}
 use Rattle.trees.specs.declared.pieces.Pieces.{Pieces}
 use Rattle.trees.specs.declared.source.Source.{Source}
-use Rattle.trees.specs.Asked.{with_pieces, drawing_value, reading_value}
+use Rattle.trees.specs.Asked.{with_pieces, asked_config, drawing_value, reading_value}
 use Rattle.trees.specs.Changing.{IsKept, IsSortedIf}
+use Rattle.trees.specs.Shown.{shown_config}
 use Rattle.trees.specs.Reading.{HoldsDrawing}
 use Rattle.trees.specs.Writing.{IsTreeDrawing, IsConversion, Converts, ChangesPieces, ConvertsBack}
 
@@ -46,9 +47,13 @@ plain_look (Some pieces) config depth deep styled h = ap (λ s. look_by (with_pi
 abbrev reading_look : Sources → Option Pieces → Look
 reading_look sources pieces = look_by (reading_value sources pieces) Unknown false
 
--- what is drawn without colours looks as what is read
-same_look : (sources : Sources) (drawing : Drawing) → (drawing_value sources drawing).styled ≡ Never → look_by (drawing_value sources drawing) Unknown false ≡ reading_look sources drawing.pieces
-same_look sources drawing plain = plain_look drawing.pieces (effective_config sources) _ 5000 _ (sym (styled_with drawing.pieces _) ∙ plain)
+-- what is drawn without colours and escapes looks as what is read
+same_look : (sources : Sources) (drawing : Drawing) → drawing.screen.is_terminal ≡ false → (drawing_value sources drawing).styled ≡ Never
+    → look_by (drawing_value sources drawing) Unknown false ≡ reading_look sources drawing.pieces
+same_look sources drawing off plain =
+    let asked : ConfigValue = asked_config drawing (effective_config sources) in
+    let never : asked.styled ≡ Never = ap (λ (b : Bool). (shown_config b asked).styled) (sym off) ∙ plain in
+    ap (λ (b : Bool). look_by (shown_config b asked) Unknown false) off ∙ plain_look drawing.pieces (effective_config sources) _ 5000 _ (sym (styled_with drawing.pieces _) ∙ never)
 
 -- the tree whose drawing a source holds has that depth, and the text is its drawing by recursion
 held_text : (sources : Sources) (pieces : Option Pieces) (source : Source) (t : Tree) → HoldsDrawing (reading_value sources pieces) source t
@@ -68,7 +73,7 @@ changed_text sources source convert bytes same made =
     let drawn : IsTreeDrawing value false u bytes = subst (λ (b : Bool). IsTreeDrawing value b u bytes) same.unescaped made.2 in
     let of_t : IsDrawing (look_by value Unknown false) (shape_of_tree t) value.depth bytes = subst (λ (w : Tree). IsTreeDrawing value false w bytes) (order ∙ part) drawn in
     let low : height t.children ≤ value.depth = omega (arith, same.deep, (held_text sources convert.pieces source t made.1.read).0) in
-    (t, made.1.read, (drawing_of_tree (look_by value Unknown false) value.depth t bytes low).0 of_t ∙ ap (λ (look : Look). tree_drawing look t) (same_look sources convert.drawing same.plain))
+    (t, made.1.read, (drawing_of_tree (look_by value Unknown false) value.depth t bytes low).0 of_t ∙ ap (λ (look : Look). tree_drawing look t) (same_look sources convert.drawing same.unescaped same.plain))
 
 -- a conversion there and one back make the same text again
 pub converts_back : {A : Type 0} (sources : Sources) (source : Source) (back : Convert) (old new : Option (List ℕ)) (r : Result A Failure) → Converts sources source back old new r → ConvertsBack sources source back old new r

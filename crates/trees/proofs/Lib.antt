@@ -4,5 +4,6 @@ pub mod Listings
 pub mod Parts
 pub mod PathNames
 pub mod Readings
+pub mod Shown
 pub mod Told
 pub mod Writings

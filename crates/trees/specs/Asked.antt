@@ -11,6 +11,7 @@ use Rattle.trees.specs.declared.command.Drawing.{Drawing}
 use Rattle.trees.specs.declared.pieces.Pieces.{Pieces}
 use Rattle.trees.specs.declared.pieces.Pieces.TheVariants.{Utf, UtfBold, UtfDashed, UtfDouble, Ascii, AsciiPlus, Program}
 use Rattle.trees.specs.declared.screen.Screen.{Screen}
+use Rattle.trees.specs.Shown.{shown_config}
 
 -- the default configuration with these pieces
 abbrev pub pieces_value : Pieces → ConfigValue
@@ -37,12 +38,16 @@ styled_on screen Tty = if screen.styled then Always else Never
 styled_on screen Always = Always
 styled_on screen Never = Never
 
--- a configuration with what is said of a drawing
-abbrev pub with_drawing : Drawing → ConfigValue → ConfigValue
-with_drawing drawing config = with_pieces drawing.pieces (record config {
+-- a configuration with the pieces, the depth and the colours that are asked for
+abbrev pub asked_config : Drawing → ConfigValue → ConfigValue
+asked_config drawing config = with_pieces drawing.pieces (record config {
   depth = unwrap_or drawing.depth config.depth;
   styled = styled_on drawing.screen (unwrap_or drawing.styled config.styled);
 })
+
+-- a configuration with what is said of a drawing
+abbrev pub with_drawing : Drawing → ConfigValue → ConfigValue
+with_drawing drawing config = shown_config drawing.screen.is_terminal (asked_config drawing config)
 
 -- the configuration of a drawing that is written
 abbrev pub drawing_value : Sources → Drawing → ConfigValue

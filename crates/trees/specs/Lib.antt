@@ -2,6 +2,8 @@
 pub mod Reading
 -- what options ask for
 pub mod Asked
+-- what a terminal may get
+pub mod Shown
 -- what the end of a call tells
 pub mod Telling
 -- what is left of trees that are changed

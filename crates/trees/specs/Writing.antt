@@ -1,13 +1,15 @@
 -- What calls write.
 use Rattle.std.specs.Borrow.{Bor}
 use Rattle.std.specs.Io.KnownBytes.{Appends}
-use Rattle.std.specs.Prelude.{◌≡◌, ◌≤◌, ◌⊎◌, ⊤, ℕ, Bool, false, if◌then◌else◌, List, [], Option, Some, None, Result, Ok, Err, IsErr, OnOk, string_bytes}
+use Rattle.std.specs.Prelude.{◌≡◌, ◌≤◌, ◌⊎◌, ⊤, ℕ, Bool, true, false, if◌then◌else◌, List, [], Option, Some, None, Result, Ok, Err, IsErr, OnOk, codes, string_bytes}
 use Rattle.ptree.specs.declared.print_config.OutputKind.TheVariants.{Unknown}
 use Rattle.ptree.specs.declared.print_config.Sources.{Sources}
 use Rattle.ptree.specs.declared.print_config.StyleWhen.TheVariants.{Never}
 use Rattle.ptree.specs.declared.value.document.DocFormat.TheVariants.{Toml, Json}
 use Rattle.ptree.specs.Config.{ConfigValue}
 use Rattle.ptree.specs.Drawing.{look_by, IsDrawing}
+use Rattle.ptree.specs.Graph.{edges_of, neighbors_of, node_shape}
+use Rattle.ptree.specs.Occurrence.{OccurrenceTree, IsExpandedOnce, occurrence_shape}
 use Rattle.ptree.specs.Tree.{Tree, tree_of, shape_of_tree}
 use Rattle.ptree.specs.Writing.{AppendsPart}
 use Rattle.ptree_trees.specs.Escape.{escaped_text, mapped_tree}
@@ -20,6 +22,7 @@ use Rattle.trees.specs.declared.command.Drawing.{Drawing}
 use Rattle.trees.specs.declared.command.Indented.{Indented}
 use Rattle.trees.specs.declared.command.Tree.{Tree as Given}
 use Rattle.trees.specs.declared.command.Tree.TheVariants as given
+use Rattle.trees.specs.declared.deps.Dependencies.{Dependencies}
 use Rattle.trees.specs.declared.failure.Failure.{Failure}
 use Rattle.trees.specs.declared.failure.Failure.TheVariants.{Usage, Input, Said, Output, Memory}
 use Rattle.trees.specs.declared.perform.Drawn.{Drawn}
@@ -30,6 +33,7 @@ use Rattle.trees.specs.Changing.{IsConverted, FailsToConvert}
 use Rattle.trees.specs.Documents.{IsPartTree}
 use Rattle.trees.specs.Listing.{IsListed, FailsToList}
 use Rattle.trees.specs.Reading.{IsWriting, HoldsDrawing, IsReadableValue, FailsFor, FailsToMake}
+use Rattle.trees.specs.Shown.{IsNone, ShowsOnly, IsLookCode}
 
 -- A call that succeeds has appended bytes of which Is holds. One that fails has appended nothing, and
 -- Fails holds of the failure; or it failed in writing, and has appended a prefix of such bytes.
@@ -56,10 +60,18 @@ shown_tree is_terminal t = if is_terminal then mapped_tree escaped_text t else t
 abbrev pub IsTreeDrawing : ConfigValue → Bool → Tree → List ℕ → Type 0
 IsTreeDrawing config is_terminal t bytes = IsDrawing (look_by config Unknown false) (shape_of_tree (shown_tree is_terminal t)) config.depth bytes
 
--- the drawing of one tree is written; two trees in one never succeed
+-- the bytes are the drawing of a graph under a configuration: of its walks, or of it with each node
+-- expanded once
+abbrev pub IsGraphDrawing : ConfigValue → Dependencies → Bool → List ℕ → Type 0
+IsGraphDrawing config found true bytes = IsDrawing (look_by config Unknown false) (node_shape string_bytes found.graph found.root.0) config.depth bytes
+IsGraphDrawing config found false bytes =
+    (t : OccurrenceTree) × IsExpandedOnce (neighbors_of (edges_of found.graph)) found.root.0 config.depth t
+    × IsDrawing (look_by config Unknown false) (occurrence_shape string_bytes found.graph (codes " (*)") t) config.depth bytes
+
+-- the drawing of one tree or of a graph is written; two trees in one never succeed
 abbrev pub WritesDrawn : {A : Type 0} → ConfigValue → Bool → Drawn → Option (List ℕ) → Option (List ℕ) → Result A Failure → Type 0
 WritesDrawn config is_terminal (drawn.Tree item) old new result = Writes old new result (IsTreeDrawing config is_terminal (tree_of item.now)) (λ e. e ≡ Memory)
-WritesDrawn config is_terminal (drawn.Graph source graph walks) old new result = ⊤
+WritesDrawn config is_terminal (drawn.Graph source found walks) old new result = Writes old new result (IsGraphDrawing config found.now walks) (FailsFor ⊤ ⊥)
 WritesDrawn config is_terminal (drawn.Both left right) old new result = IsErr result
 
 -- the bytes are the drawing, as it is asked for, of a tree of which Is holds
@@ -149,3 +161,17 @@ WritesOfCommand sources (command.Indented source indented) old new result = Writ
 WritesOfCommand sources (command.Check inputs pieces screen) old new result = ⊤
 WritesOfCommand sources (command.Diff left right diff) old new result = ⊤
 WritesOfCommand sources command.Config old new result = ⊤
+
+-- on a terminal a drawing writes nothing that it acts on, but line feeds and the codes of its styles
+abbrev pub ShowsDrawing : Sources → Drawing → Option (List ℕ) → Option (List ℕ) → Type 0
+ShowsDrawing sources drawing = ShowsOnly drawing.screen.is_terminal (IsLookCode (look_by (drawing_value sources drawing) Unknown false))
+
+-- the same of a command; in indented text the unit may be a tab
+abbrev pub ShowsOfCommand : Sources → Command → Option (List ℕ) → Option (List ℕ) → Type 0
+ShowsOfCommand sources (command.Draw source tree drawing) old new = ShowsDrawing sources drawing old new
+ShowsOfCommand sources (command.Convert source convert) old new = ShowsDrawing sources convert.drawing old new
+ShowsOfCommand sources (command.Indented source indented) old new = ShowsOnly indented.is_terminal (λ part. part ≡ indented.unit.now) old new
+ShowsOfCommand sources (command.Check inputs pieces screen) old new = ShowsOnly screen.is_terminal IsNone old new
+ShowsOfCommand sources (command.Deps source deps drawing) old new = ShowsDrawing sources drawing old new
+ShowsOfCommand sources (command.Diff left right diff) old new = ⊤
+ShowsOfCommand sources command.Config old new = ⊤

@@ -1,4 +1,8 @@
 //! Dependencies of lock files and of lists of pairs.
+ghost use Rattle.std.specs.Prelude.{◌≡◌, true, IfOk, string_bytes};
+ghost use Rattle.std.specs.Str.{NoCharPasses};
+ghost use Rattle.ptree_trees.specs.Escape.{is_hidden};
+ghost use Rattle.trees.specs.Shown.{AreShownLabels};
 
 mod npm;
 mod packages;
@@ -78,7 +82,9 @@ pub fn read_dependencies(
     source: &Source,
     deps: Deps<'_>,
     is_terminal: bool,
-) -> Result<Dependencies, Failure> {
+) -> Result<Dependencies, Failure>
+    ensures labels { IfOk result (λ d. is_terminal ≡ true → AreShownLabels d.graph) }
+{
     let mut network = Network {
         labels: Vec::new(alloc),
         paths: Vec::new(alloc),
@@ -99,7 +105,9 @@ fn drawn(
     network: &mut Network,
     name: Option<&str>,
     is_terminal: bool,
-) -> Result<Dependencies, Failure> {
+) -> Result<Dependencies, Failure>
+    ensures labels { IfOk result (λ d. is_terminal ≡ true → AreShownLabels d.graph) }
+{
     read_network(alloc, source, network)?;
     let root = match name {
         Some(name) => root::named(alloc, source, network, name)?,
@@ -164,7 +172,9 @@ fn graph(
     source: &Source,
     network: &Network,
     is_terminal: bool,
-) -> Result<Graph<String>, Failure> {
+) -> Result<Graph<String>, Failure>
+    ensures labels { IfOk result (λ g. is_terminal ≡ true → AreShownLabels g) }
+{
     let mut graph = Graph::new(alloc);
     for label in &network.labels {
         graph.add_node(shown(alloc, label.as_str(), is_terminal)?)?;
@@ -177,7 +187,9 @@ fn graph(
 }
 
 // Returns a label as it is shown.
-fn shown(alloc: Global, label: &str, is_terminal: bool) -> Result<String, AllocError> {
+fn shown(alloc: Global, label: &str, is_terminal: bool) -> Result<String, AllocError>
+    ensures { IfOk result (λ s. is_terminal ≡ true → NoCharPasses is_hidden (string_bytes s)) }
+{
     if is_terminal {
         escaped(alloc, label)
     } else {

@@ -1,18 +1,20 @@
 //! Does what a command asks for.
-ghost use Rattle.std.specs.Prelude.{◌≡◌, ◌≢◌, ◌↔◌, ℕ, false, List, All, IsTrue, IfOk, IfErr, IsErr, option_map, string_bytes};
+ghost use Rattle.std.specs.Prelude.{◌≡◌, ◌≢◌, ◌↔◌, ⊤, ℕ, false, List, All, IsTrue, IfOk, IfErr, IsErr, option_map, string_bytes};
 ghost use Rattle.ptree.specs.declared.print_config.OutputKind.TheVariants.{Unknown};
 ghost use Rattle.ptree.specs.Config.{config_of};
 ghost use Rattle.ptree.specs.Drawing.{look_by};
 ghost use Rattle.ptree.specs.DrawnForm.{IsDrawnForm};
 ghost use Rattle.ptree.specs.Tree.{tree_of};
+ghost use Rattle.ptree.specs.Writing.{AppendsPart, IsWritten};
 ghost use Rattle.ptree_trees.specs.Change.{kept_tree};
 ghost use Rattle.ptree_trees.specs.Parts.{has_part};
 ghost use Rattle.trees.specs.Asked.{drawing_value, reading_value, with_drawing};
 ghost use Rattle.trees.specs.Changing.{IsPart, IsKept, IsConverted, FailsToConvert};
 ghost use Rattle.trees.specs.Listing.{IsListed, FailsToList};
-ghost use Rattle.trees.specs.Reading.{HoldsDrawing, HoldsNoOther, HoldsSome, IsRedrawn, FailsToRead, FailsToMake};
+ghost use Rattle.trees.specs.Reading.{HoldsDrawing, HoldsNoOther, HoldsSome, IsRedrawn, FailsFor, FailsToRead, FailsToMake};
+ghost use Rattle.trees.specs.Shown.{IsNone, ShowsOnly};
 ghost use Rattle.trees.specs.Telling.{TellsWhether, TellsOfCommand};
-ghost use Rattle.trees.specs.Writing.{Writes, IsTreeDrawing, WritesDrawn, IsIndentation, FailsToIndent, IsGiven, FailsToGive, Draws, Converts, ConvertsBack, WritesOfCommand, LeavesIfWrong};
+ghost use Rattle.trees.specs.Writing.{Writes, IsTreeDrawing, IsGraphDrawing, WritesDrawn, IsIndentation, FailsToIndent, IsGiven, FailsToGive, Draws, Converts, ConvertsBack, WritesOfCommand, ShowsOfCommand, ShowsDrawing, LeavesIfWrong};
 
 use crate::command::{Command, Convert, Deps, Diff, Drawing, Indented, Paths, Tree};
 use crate::compare::{self, Look};
@@ -20,14 +22,14 @@ use crate::deps::{Dependencies, read_dependencies};
 use crate::failure::Failure;
 use crate::levels::{LEVELS, TOO_DEEP_GRAPH, has_more_below};
 use crate::pieces::Pieces;
-use crate::screen::{Screen, shown};
+use crate::screen::{Screen, show_characters};
 use crate::source::Source;
 use crate::{document, drawings, lists, settings};
 use ptree::graph::{REPEATED_MARK, write_graph_once_with, write_graph_with};
 use ptree::item::StringItem;
 use ptree::output::write_tree_with;
 use ptree::print_config::{PrintConfig, StyleWhen};
-use ptree::style::{Sink, put_all};
+use ptree::style::{DrawError, Sink, put_all};
 use ptree_sources::surroundings::Surroundings;
 use ptree_trees::change::{kept, sorted};
 use ptree_trees::escape::escaped_item;
@@ -49,6 +51,8 @@ pub fn perform<W: Sink>(
     ensures written { WritesOfCommand found.now.sources command.entry
         (W.contents out.old) (W.contents out.new) result }
     ensures quiet { LeavesIfWrong out.old out.new result }
+    ensures shown { ShowsOfCommand found.now.sources command.entry
+        (W.contents out.old) (W.contents out.new) }
 {
     match command {
         Command::Draw(source, tree, drawing) => draw_source(
@@ -80,6 +84,7 @@ enum Drawn<'a> {
 // Writes a text, which may be a refusal.
 fn say<W: Sink>(out: &mut W, text: &str, is_refusal: bool) -> Result<(), Failure>
     ensures told { TellsWhether result (is_refusal ≡ false) }
+    ensures part { AppendsPart (W.contents out.old) (W.contents out.new) text.now }
     ensures quiet { LeavesIfWrong out.old out.new result }
 {
     write_text(out, text)?;
@@ -110,6 +115,8 @@ fn draw_source<W: Sink>(
     ensures written { Draws found.now.sources source.now tree.entry drawing
         (W.contents out.old) (W.contents out.new) result }
     ensures quiet { LeavesIfWrong out.old out.new result }
+    ensures shown { ShowsDrawing found.now.sources drawing
+        (W.contents out.old) (W.contents out.new) }
 {
     let tree = tree_of(alloc, source, tree)?;
     let drawn = draw(alloc, Drawn::Tree(&tree), drawing, out, found);
@@ -276,10 +283,13 @@ fn set_drawing(alloc: Global, config: &mut PrintConfig, drawing: Drawing) -> Res
 {
     config.depth = drawing.depth.unwrap_or(config.depth);
     config.styled = drawing.screen.when(drawing.styled.unwrap_or(config.styled));
-    match drawing.pieces {
-        Some(pieces) => pieces.set(alloc, config),
-        None => Ok(()),
+    if let Some(pieces) = drawing.pieces {
+        pieces.set(alloc, config)?;
     }
+    if drawing.screen.is_terminal {
+        show_characters(alloc, &mut config.characters)?;
+    }
+    Ok(())
 }
 
 // Draws dependencies.
@@ -292,6 +302,8 @@ fn draw_deps<W: Sink>(
     found: &Surroundings,
 ) -> Result<(), Failure>
     ensures quiet { LeavesIfWrong out.old out.new result }
+    ensures shown { ShowsDrawing found.now.sources drawing
+        (W.contents out.old) (W.contents out.new) }
 {
     let dependencies = read_dependencies(alloc, source, deps, drawing.screen.is_terminal)?;
     let graph = Drawn::Graph(source, &dependencies, deps.walks);
@@ -309,18 +321,32 @@ fn write_graph<W: Sink>(
     out: &mut W,
     config: &PrintConfig,
 ) -> Result<(), Failure>
+    ensures written { Writes (W.contents out.old) (W.contents out.new) result
+        (IsGraphDrawing (config_of config.now) dependencies.now walks) (FailsFor ⊤ ⊥) }
     ensures quiet { LeavesIfWrong out.old out.new result }
 {
     let Dependencies { graph, root } = dependencies;
     if config.depth > LEVELS && has_more_below(alloc, graph, *root, walks)? {
         return Err(source.wrong(alloc, TOO_DEEP_GRAPH)?);
     }
-    let written = if walks {
-        write_graph_with(alloc, graph, *root, out, config)
-    } else {
-        write_graph_once_with(alloc, graph, *root, REPEATED_MARK, out, config)
-    };
-    written.map_err(Failure::from)
+    if walks {
+        return Ok(write_graph_with(alloc, graph, *root, out, config)?);
+    }
+    Ok(write_once(alloc, dependencies, out, config)?)
+}
+
+// Writes the drawing of a graph with each node expanded once.
+fn write_once<W: Sink>(
+    alloc: Global,
+    dependencies: &Dependencies,
+    out: &mut W,
+    config: &PrintConfig,
+) -> Result<(), DrawError>
+    ensures { (bytes : List ℕ) × IsGraphDrawing (config_of config.now) dependencies.now false bytes
+        × IsWritten (W.contents out.old) (W.contents out.new) result bytes }
+{
+    let Dependencies { graph, root } = dependencies;
+    write_graph_once_with(alloc, graph, *root, REPEATED_MARK, out, config)
 }
 
 // Returns the tree of a drawing, made with the pieces that are named, or with those of the
@@ -358,6 +384,8 @@ fn write_indented<W: Sink>(
         (IsIndentation found.now.sources source.now indented.entry)
         (FailsToIndent found.now.sources source.now indented.entry) }
     ensures quiet { LeavesIfWrong out.old out.new result }
+    ensures shown { ShowsOnly indented.entry.is_terminal (λ part. part ≡ indented.entry.unit.now)
+        (W.contents out.old) (W.contents out.new) }
 {
     let text = indented_text(alloc, source, indented, found)?;
     write_text(out, text.as_str())
@@ -390,12 +418,11 @@ fn check<W: Sink>(
     ensures told { TellsWhether result
         (All (HoldsSome (reading_value found.now.sources pieces)) sources.now) }
     ensures quiet { LeavesIfWrong out.old out.new result }
+    ensures shown { ShowsOnly screen.is_terminal IsNone (W.contents out.old) (W.contents out.new) }
 {
     let mut said = String::new(alloc);
     let are_drawings = push_checks(alloc, &mut said, sources, pieces, found)?;
-    if screen.is_terminal {
-        said = shown(alloc, said.as_str())?;
-    }
+    let said = screen.lines(alloc, said)?;
     say(out, said.as_str(), !are_drawings)
 }
 
@@ -471,6 +498,8 @@ fn draw_converted<W: Sink>(
     ensures back { ConvertsBack found.now.sources source.now convert.entry
         (W.contents out.old) (W.contents out.new) result }
     ensures quiet { LeavesIfWrong out.old out.new result }
+    ensures shown { ShowsDrawing found.now.sources convert.entry.drawing
+        (W.contents out.old) (W.contents out.new) }
 {
     let tree = converted(alloc, source, convert, found)?;
     draw(alloc, Drawn::Tree(&tree), convert.drawing, out, found)

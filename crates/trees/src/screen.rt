@@ -1,9 +1,12 @@
 //! What standard output is.
-ghost use Rattle.std.specs.Prelude.{◌≡◌};
+ghost use Rattle.std.specs.Prelude.{◌≡◌, ◌++◌, true, IfOk, OnOk, string_bytes};
+ghost use Rattle.std.specs.Str.{encode_utf8_all};
+ghost use Rattle.ptree.specs.Characters.{characters_of};
 ghost use Rattle.trees.specs.Asked.{styled_on};
+ghost use Rattle.trees.specs.Shown.{shown_char, shown_lines, shown_characters};
 
-use ptree::print_config::StyleWhen;
-use ptree_trees::escape::escaped;
+use ptree::print_config::{IndentChars, StyleWhen};
+use ptree_trees::escape::push_escaped;
 use std::alloc::{AllocError, Global};
 
 /// What standard output is.
@@ -27,6 +30,21 @@ impl Screen {
             other => other,
         }
     }
+
+    /// Returns lines as the screen may get them: on a terminal [`shown`].
+    ///
+    /// # Errors
+    ///
+    /// Memory ran out.
+    pub fn lines(self, alloc: Global, lines: String) -> Result<String, AllocError>
+        ensures { IfOk result (λ s.
+            self.is_terminal ≡ true → string_bytes s ≡ shown_lines (string_bytes lines)) }
+    {
+        if self.is_terminal {
+            return shown(alloc, lines.as_str());
+        }
+        Ok(lines)
+    }
 }
 
 /// Returns lines as a terminal may get them: each character is escaped that it would act on, but no
@@ -35,12 +53,47 @@ impl Screen {
 /// # Errors
 ///
 /// Memory ran out.
-pub fn shown(alloc: Global, lines: &str) -> Result<String, AllocError> {
+pub fn shown(alloc: Global, lines: &str) -> Result<String, AllocError>
+    ensures { IfOk result (λ s. string_bytes s ≡ shown_lines lines.now) }
+{
     let mut shown = String::new(alloc);
-    for part in lines.split_inclusive(['\n', '\\']) {
-        let rest = part.trim_end_matches(['\n', '\\']);
-        shown.push_str(escaped(alloc, rest)?.as_str())?;
-        shown.push_str(part.strip_prefix(rest).unwrap_or(""))?;
+    for c in lines.chars() {
+        push_shown(&mut shown, c)?;
     }
     Ok(shown)
+}
+
+// Adds what a terminal may get for a character.
+fn push_shown(shown: &mut String, c: char) -> Result<(), AllocError>
+    ensures { OnOk result
+        (string_bytes shown.new ≡ string_bytes shown.old ++ encode_utf8_all (shown_char c)) }
+{
+    match c {
+        '\n' | '\\' => shown.push(c),
+        _ => push_escaped(shown, c),
+    }
+}
+
+/// Makes characters such as a terminal may get them.
+///
+/// # Errors
+///
+/// Memory ran out.
+pub fn show_characters(alloc: Global, characters: &mut IndentChars) -> Result<(), AllocError>
+    ensures { IfOk result (λ _.
+        characters_of characters.new ≡ shown_characters (characters_of characters.old)) }
+{
+    show(alloc, &mut characters.down_and_right)?;
+    show(alloc, &mut characters.down)?;
+    show(alloc, &mut characters.turn_right)?;
+    show(alloc, &mut characters.right)?;
+    show(alloc, &mut characters.empty)
+}
+
+// Makes a text such as a terminal may get it.
+fn show(alloc: Global, text: &mut String) -> Result<(), AllocError>
+    ensures { IfOk result (λ _. string_bytes text.new ≡ shown_lines (string_bytes text.old)) }
+{
+    *text = shown(alloc, text.as_str())?;
+    Ok(())
 }

@@ -27,7 +27,7 @@ returns-then-not-needs_escape-clause-apart c =
     (λ s e other u is. same_texts other c.args.text.now u c.utf8.text (is ∙ (e ∙ sym (own c)))) c.from_str.ensures.ok
 
 pub loop-c-preserved : goal.loop-c-preserved
-loop-c-preserved c = char_pushed c.loop-c.yielded c.in-Some.c (string_bytes c.loop-c.out) (string_bytes c.push_escaped.new.out) c.loop-c.invariant c.in_ok-push_escaped.ensures
+loop-c-preserved c = char_pushed escape_char c.loop-c.yielded c.in-Some.c (string_bytes c.loop-c.out) (string_bytes c.push_escaped.new.out) c.loop-c.invariant c.in_ok-push_escaped.ensures
 
 whole : (c : In-None) → string_bytes c.loop-c.out ≡ escaped_text c.args.text.now
 whole c =

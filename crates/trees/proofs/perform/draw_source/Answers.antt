@@ -4,6 +4,7 @@ use Rattle.ptree.specs.Tree.{tree_of}
 use Rattle.trees.specs.declared.failure.Failure.TheVariants.{Memory}
 use Rattle.trees.specs.Asked.{drawing_value}
 use Rattle.trees.specs.Writing.{Writes, IsTreeDrawing, IsDrawingOf, IsGiven, FailsToGive}
+use Rattle.trees.proofs.Shown.{drawing_shown, drawing_nothing}
 use Rattle.trees.proofs.Writings.{writes_weaker, nothing_written, gives_memory}
 use Rattle.trees.proofs.perform.draw_source.Goals as goal
 
@@ -30,3 +31,12 @@ returns-in_err-tree-clause-written g c =
     let says : IfErr c.from_residual.result (FailsToGive source tree) = search (rules, fails) in
     let err : IsErr c.from_residual.result = search rules in
     nothing_written (g.W.Sink.contents c.args.out.now) c.from_residual.result (IsDrawingOf c.args.found.now.sources c.args.drawing (IsGiven source tree)) (FailsToGive source tree) err says
+
+pub returns-clause-shown : goal.returns-clause-shown
+returns-clause-shown g c =
+    let source = c.args.source.now in
+    let tree = c.args.tree in
+    drawing_shown c.args.found.now.sources c.args.drawing (IsGiven source tree) (FailsToGive source tree) (g.W.Sink.contents c.args.out.now) (g.W.Sink.contents c.draw-drawn.new.out) c.draw-drawn.result (returns-clause-written g c)
+
+pub returns-in_err-tree-clause-shown : goal.returns-in_err-tree-clause-shown
+returns-in_err-tree-clause-shown g c = drawing_nothing c.args.found.now.sources c.args.drawing (g.W.Sink.contents c.args.out.now)

@@ -1,6 +1,6 @@
 use Rattle.std.proofs.Common.{subst, sym}
 use Rattle.trees.specs.Telling.{TellsOfCommand}
-use Rattle.trees.specs.Writing.{WritesOfCommand}
+use Rattle.trees.specs.Writing.{WritesOfCommand, ShowsOfCommand}
 use Rattle.trees.proofs.perform.perform.Goals as goal
 
 pub returns-in-Check-clause-told : goal.returns-in-Check-clause-told
@@ -20,3 +20,23 @@ pub returns-in-Draw-clause-written : goal.returns-in-Draw-clause-written
 returns-in-Draw-clause-written g c =
     subst (λ command. WritesOfCommand c.args.found.now.sources command (g.W.Sink.contents c.args.out.now) (g.W.Sink.contents c.draw_source.new.out) c.draw_source.result)
     (sym c.in-Draw.is) c.draw_source.ensures.written
+
+pub returns-in-Draw-clause-shown : goal.returns-in-Draw-clause-shown
+returns-in-Draw-clause-shown g c =
+    subst (λ command. ShowsOfCommand c.args.found.now.sources command (g.W.Sink.contents c.args.out.now) (g.W.Sink.contents c.draw_source.new.out)) (sym c.in-Draw.is) c.draw_source.ensures.shown
+
+pub returns-in-Deps-clause-shown : goal.returns-in-Deps-clause-shown
+returns-in-Deps-clause-shown g c =
+    subst (λ command. ShowsOfCommand c.args.found.now.sources command (g.W.Sink.contents c.args.out.now) (g.W.Sink.contents c.draw_deps.new.out)) (sym c.in-Deps.is) c.draw_deps.ensures.shown
+
+pub returns-in-Indented-clause-shown : goal.returns-in-Indented-clause-shown
+returns-in-Indented-clause-shown g c =
+    subst (λ command. ShowsOfCommand c.args.found.now.sources command (g.W.Sink.contents c.args.out.now) (g.W.Sink.contents c.write_indented.new.out)) (sym c.in-Indented.is) c.write_indented.ensures.shown
+
+pub returns-in-Check-clause-shown : goal.returns-in-Check-clause-shown
+returns-in-Check-clause-shown g c =
+    subst (λ command. ShowsOfCommand c.args.found.now.sources command (g.W.Sink.contents c.args.out.now) (g.W.Sink.contents c.check.new.out)) (sym c.in-Check.is) c.check.ensures.shown
+
+pub returns-in-Convert-clause-shown : goal.returns-in-Convert-clause-shown
+returns-in-Convert-clause-shown g c =
+    subst (λ command. ShowsOfCommand c.args.found.now.sources command (g.W.Sink.contents c.args.out.now) (g.W.Sink.contents c.draw_converted.new.out)) (sym c.in-Convert.is) c.draw_converted.ensures.shown

@@ -6,6 +6,7 @@ use Rattle.trees.specs.Reading.{IsReadableValue}
 use Rattle.std.specs.Prelude.{⊤}
 use Rattle.trees.specs.Writing.{Writes, IsIndentation, FailsToIndent}
 use Rattle.trees.proofs.Readings.{fails_by_memory}
+use Rattle.trees.proofs.Shown.{indentation_shown, nothing_shown}
 use Rattle.trees.proofs.Writings.{writes_weaker, nothing_written}
 use Rattle.trees.proofs.perform.write_indented.Goals as goal
 
@@ -32,3 +33,13 @@ returns-in_err-text-clause-written g c =
     let says : IfErr c.from_residual.result (FailsToIndent sources source indented) = search (rules, fails) in
     let err : IsErr c.from_residual.result = search rules in
     nothing_written (g.W.Sink.contents c.args.out.now) c.from_residual.result (IsIndentation sources source indented) (FailsToIndent sources source indented) err says
+
+pub returns-clause-shown : goal.returns-clause-shown
+returns-clause-shown g c =
+    let sources = c.args.found.now.sources in
+    let source = c.args.source.now in
+    let indented = c.args.indented in
+    indentation_shown sources source indented (FailsToIndent sources source indented) (g.W.Sink.contents c.args.out.now) (g.W.Sink.contents c.write_text.new.out) c.write_text.result (returns-clause-written g c)
+
+pub returns-in_err-text-clause-shown : goal.returns-in_err-text-clause-shown
+returns-in_err-text-clause-shown g c = nothing_shown c.args.indented.is_terminal (λ part. part ≡ c.args.indented.unit.now) (g.W.Sink.contents c.args.out.now)
