@@ -25,6 +25,8 @@ const LISTS: [&str; 4] = [
 
 const OLD: &str = "lockfileVersion 1 is not supported; npm 7 and later write newer ones";
 
+const OTHER: &str = "no lockfileVersion 2 or 3, as a lock file of npm has";
+
 /// Adds the dependencies of a `package-lock.json`.
 ///
 /// # Errors
@@ -46,12 +48,20 @@ fn read(
         let is_old = lock.get("dependencies").is_some() && lock.get("lockfileVersion").is_some();
         return Err(wrong(alloc, source, &[if is_old { OLD } else { "no packages" }]));
     };
+    if !matches!(version(lock), Some(2 | 3)) {
+        return Err(wrong(alloc, source, &[OTHER]));
+    }
     push_nodes(alloc, source, packages, network)?;
     let steps = steps(alloc, source, packages, &network.paths)?;
     push_needs(alloc, source, packages, &steps, network)
 }
 
-// Adds the packages that are no links, in ascending order of their paths.
+// Returns the version of the format of a file.
+fn version(lock: &Value) -> Option<u64> {
+    lock.get("lockfileVersion")?.as_u64()
+}
+
+// Adds the packages, and the links with names of their own, in ascending order of their paths.
 fn push_nodes(
     alloc: Global,
     source: &Source,
@@ -59,17 +69,53 @@ fn push_nodes(
     network: &mut Network,
 ) -> Result<(), Failure> {
     for (path, package) in packages.iter() {
-        if package.as_object().is_none() {
-            return Err(wrong(alloc, source, &[path.as_str(), " is not a package"]));
-        }
-        if !is_link(package) {
-            network
-                .labels
-                .push(label(alloc, source.label(), path.as_str(), package)?)?;
-            network.paths.push(path.clone()?)?;
-        }
+        let path = path.as_str();
+        check_package(alloc, source, path, package)?;
+        let meant = match packages.get(target(path, package)) {
+            Some(meant) if is_link(package) && is_alias(path, package, meant) => meant,
+            _ if is_link(package) => continue,
+            _ => package,
+        };
+        let label = label(alloc, source.label(), path, meant, target(path, package))?;
+        network.labels.push(label)?;
+        network.paths.push(String::from_str(alloc, path)?)?;
     }
     Ok(())
+}
+
+// Checks the kinds of what a package has.
+fn check_package(
+    alloc: Global,
+    source: &Source,
+    path: &str,
+    package: &Value,
+) -> Result<(), Failure> {
+    if package.as_object().is_none() {
+        return Err(wrong(alloc, source, &[path, " is not a package"]));
+    }
+    for key in ["name", "version"] {
+        if package.get(key).is_some() && word(package, key).is_none() {
+            return Err(wrong(alloc, source, &["invalid ", key, " of ", path]));
+        }
+    }
+    match package.get("link") {
+        None | Some(Value::Bool(false)) => Ok(()),
+        Some(Value::Bool(true)) if word(package, "resolved").is_some() => Ok(()),
+        Some(_) => Err(wrong(alloc, source, &["invalid link of ", path])),
+    }
+}
+
+// Whether a link has another name than the package that it means.
+fn is_alias(path: &str, package: &Value, meant: &Value) -> bool {
+    match place(path) {
+        Some((_, name)) => name != name_of(target(path, package), meant),
+        None => false,
+    }
+}
+
+// Returns the name of a package: the one that is given, or the last one of its path.
+fn name_of<'a>(path: &'a str, package: &'a Value) -> &'a str {
+    word(package, "name").unwrap_or(last_name(path))
 }
 
 // Whether a package is a link to another one.
@@ -82,9 +128,20 @@ fn word<'a>(package: &'a Value, key: &str) -> Option<&'a str> {
     package.get(key)?.as_str()
 }
 
-// Returns the label of a package: its name and version. In a folder of another name it is an alias.
-fn label(alloc: Global, root: &str, path: &str, package: &Value) -> Result<String, AllocError> {
-    let given = word(package, "name");
+// Returns the label of a package: its name and version. In a folder of another name, to which it
+// may be linked, it is an alias.
+fn label(
+    alloc: Global,
+    root: &str,
+    path: &str,
+    package: &Value,
+    own_path: &str,
+) -> Result<String, AllocError> {
+    let given = if path == own_path {
+        word(package, "name")
+    } else {
+        Some(name_of(own_path, package))
+    };
     let name = match (place(path), given) {
         (Some((_, name)), _) | (None, Some(name)) => name,
         (None, None) if path.is_empty() => root,
@@ -141,19 +198,34 @@ fn steps<'a>(
     for (path, package) in packages.iter() {
         let path = path.as_str();
         let meant = target(path, package);
-        let Ok(node) = paths.binary_search_by(|p| p.as_str().cmp(meant)) else {
+        let Some(node) = node_of(packages, paths, path, meant) else {
             let parts = [path, " links to ", meant, ", which is missing"];
             return Err(wrong(alloc, source, &parts));
         };
         if let Some((folder, name)) = place(path) {
             steps.push((folders(alloc, folder)?, false, name, node))?;
         }
-        if !is_link(package) {
-            steps.push((folders(alloc, path)?, true, path, node))?;
+        // A link that is a node needs what the package needs that it means.
+        if !is_link(package) || is_node(paths, path) {
+            steps.push((folders(alloc, meant)?, true, meant, node))?;
         }
     }
     steps.sort_unstable();
     Ok(steps)
+}
+
+// Returns the node of a path: its own, or that of the package that it means, which is no link.
+fn node_of(packages: &Packages, paths: &[String], path: &str, meant: &str) -> Option<usize> {
+    if packages.get(meant).is_some_and(|package| is_link(package)) {
+        return None;
+    }
+    let own = if is_node(paths, path) { path } else { meant };
+    paths.binary_search_by(|p| p.as_str().cmp(own)).ok()
+}
+
+// Whether a path is that of a node.
+fn is_node(paths: &[String], path: &str) -> bool {
+    paths.binary_search_by(|p| p.as_str().cmp(path)).is_ok()
 }
 
 // Returns the path of a package, or that to which a link leads.
@@ -316,11 +388,13 @@ impl<'s, 'a> Walk<'s, 'a> {
         workspaces: &Value,
     ) -> Result<(), Failure> {
         let patterns = patterns(alloc, source, workspaces)?;
+        let meant = Workspaces::of(alloc, patterns)?;
         for (path, package) in self.packages.iter() {
             match place(path.as_str()) {
-                Some(("", name)) if is_workspace(path.as_str(), package, patterns) => {
-                    self.push_need(node, name)?;
-                }
+                Some(("", name)) if is_link(package) && meant.has(target(path.as_str(), package)) =>
+                    {
+                        self.push_need(node, name)?;
+                    }
                 _ => {}
             }
         }
@@ -378,17 +452,49 @@ fn is_plain(pattern: &str) -> bool {
     above.split('/').all(|part| part == "*" || !part.contains(|c: char| "*?[]{}()!\\".contains(c)))
 }
 
-// Whether a package is a link to one of the workspaces that patterns mean.
-fn is_workspace(path: &str, package: &Value, patterns: &[Value]) -> bool {
-    for pattern in patterns {
-        match pattern.as_str() {
-            Some(pattern) if lies_in(target(path, package), plain(pattern)) => {
-                return is_link(package);
+// The workspaces that patterns mean.
+#[derive(Drop)]
+struct Workspaces<'a> {
+    // The paths that are named, in ascending order.
+    named: Vec<&'a str>,
+
+    // The patterns with a star.
+    starred: Vec<&'a str>,
+}
+
+impl<'a> Workspaces<'a> {
+    // Those of these patterns.
+    fn of(alloc: Global, patterns: &'a [Value]) -> Result<Workspaces<'a>, AllocError> {
+        let mut named = Vec::new(alloc);
+        let mut starred = Vec::new(alloc);
+        for pattern in patterns {
+            let pattern = plain(pattern.as_str().unwrap_or(""));
+            if pattern.contains('*') {
+                starred.push(pattern)?;
+            } else {
+                named.push(pattern)?;
             }
-            _ => {}
         }
+        named.sort_unstable();
+        Ok(Workspaces { named, starred })
     }
-    false
+
+    // Whether a path is that of one of them.
+    fn has(&self, path: &str) -> bool {
+        if self
+            .named
+            .binary_search_by(|name| (*name).cmp(path))
+            .is_ok()
+        {
+            return true;
+        }
+        for pattern in &self.starred {
+            if lies_in(path, pattern) {
+                return true;
+            }
+        }
+        false
+    }
 }
 
 // Whether a path is one of those that a pattern means. No star means a name that begins with a dot.

@@ -13,6 +13,8 @@ type Package<'a> = (&'a str, &'a str, &'a str, usize);
 // The tables of further lists of needs.
 const GROUPS: [&str; 2] = ["optional-dependencies", "dev-dependencies"];
 
+const REPLACED: &str = " is replaced, which is not supported";
+
 /// Adds the dependencies of a lock file with tables `[[package]]`.
 ///
 /// # Errors
@@ -120,6 +122,9 @@ fn package<'a>(
     let Some(name) = word(table, "name") else {
         return Err(wrong(alloc, input, &["a package has no name"]));
     };
+    if table.get("replace").is_some() {
+        return Err(wrong(alloc, input, &[name, REPLACED]));
+    }
     match version(table) {
         Some(version) => Ok((name, version, without_revision(source_of(table)), at)),
         None => Err(wrong(alloc, input, &[name, " has no version"])),
@@ -142,7 +147,7 @@ fn word<'a>(table: &'a Value, key: &str) -> Option<&'a str> {
 // Returns the version of a package. In uv.lock one whose source is a folder may have none.
 fn version(table: &Value) -> Option<&str> {
     match (word(table, "version"), table.get("source")) {
-        (None, Some(Value::Table(_))) => Some(""),
+        (None, Some(Value::Table(_))) if table.get("version").is_none() => Some(""),
         (version, _) => version,
     }
 }
@@ -250,11 +255,27 @@ impl<'p> Needing<'p> {
             None => {}
         }
         for kind in &GROUPS {
-            if let Some(Value::Table(groups)) = table.get(*kind) {
-                for needs in groups.values() {
-                    self.push_list(alloc, needs, network)?;
+            match table.get(*kind) {
+                Some(Value::Table(groups)) => self.push_groups(alloc, groups, network)?,
+                Some(_) => {
+                    let parts = [self.name, " has ", *kind, " that are not a table"];
+                    return Err(wrong(alloc, self.input, &parts));
                 }
+                None => {}
             }
+        }
+        Ok(())
+    }
+
+    // Adds the needs of groups.
+    fn push_groups(
+        &self,
+        alloc: Global,
+        groups: &Table,
+        network: &mut Network,
+    ) -> Result<(), Failure> {
+        for needs in groups.values() {
+            self.push_list(alloc, needs, network)?;
         }
         Ok(())
     }
