@@ -6,7 +6,7 @@
  * For an hour, with what bin/install puts in place:
  *
  *   cc -O1 -g -fsanitize=address,undefined -IPREFIX/include bindings/c/fuzz.c PREFIX/lib/libptree.a -Wl,--wrap=malloc,--wrap=realloc -o fuzz
- *   timeout 1h bash -c 'for ((seed = 1; ; seed++)); do ./fuzz $seed 1000000 || break; done'
+ *   timeout 1h bash -c 'for ((seed = RANDOM; ; seed++)); do echo "seed $seed"; ./fuzz $seed 100000 || break; done'
  *
  * Every block that a call gets is exactly as long as said, so a checker of memory sees each byte beside it. What is checked: a refusal
  * changes nothing, what is drawn into less room is a prefix, what is behind a result stays, memory runs out only if it was refused or a
