@@ -12,7 +12,7 @@ ghost use Rattle.examples.specs.declared.graphs.Package.{Package};
 
 use ptree::PrintConfig;
 use ptree::graph::{
-    Expanded, Graph, Label, NodeIndex, Occurrence, OccurrenceItem, Place, REPEATED_MARK,
+    Expanded, Graph, Label, NodeIndex, OccurrenceItem, Occurrences, Place, REPEATED_MARK,
     print_graph, print_graph_once, write_graph_once_with,
 };
 use ptree::item::TreeItem;
@@ -63,7 +63,7 @@ pub fn turned_twice(graph: Graph<Package>) -> Graph<Package>
 
 /// Each package's needs once. There is one tree of them and no other, and there is one occurrence
 /// more than there are needs of packages that are expanded.
-pub fn needs_once(graph: &Graph<Package>, which: NodeIndex) -> Result<Occurrence, AllocError>
+pub fn needs_once(graph: &Graph<Package>, which: NodeIndex) -> Result<Occurrences, AllocError>
     ensures tree { IfOk result (λ o.
         IsExpandedOnce (neighbors_of (edges_of graph.now)) which.0 9 (occurrence_tree o)) }
     ensures one_tree { HasOneTree (neighbors_of (edges_of graph.now)) which.0 9 }
@@ -86,7 +86,7 @@ pub fn times_named(graph: &Graph<Package>, which: NodeIndex) -> Result<usize, Al
 
 /// The same, of a package that needs something: of its occurrences above the depth, the first has
 /// its needs below it, and the others have nothing.
-pub fn first_needs_once(graph: &Graph<Package>, which: NodeIndex) -> Result<Occurrence, AllocError>
+pub fn first_needs_once(graph: &Graph<Package>, which: NodeIndex) -> Result<Occurrences, AllocError>
     requires { neighbors_of (edges_of graph.now) which.0 ≢ [] }
     ensures { IfOk result (λ o. (a : Address) (p : OccurrenceTree)
         → StandsAt (occurrence_tree o) a p → p.node ≡ which.0 → length a < 9
@@ -96,7 +96,7 @@ pub fn first_needs_once(graph: &Graph<Package>, which: NodeIndex) -> Result<Occu
 }
 
 /// The same, of a graph without edges: nothing is repeated.
-pub fn no_needs_once(graph: &Graph<Package>, which: NodeIndex) -> Result<Occurrence, AllocError>
+pub fn no_needs_once(graph: &Graph<Package>, which: NodeIndex) -> Result<Occurrences, AllocError>
     requires { (v : ℕ) → neighbors_of (edges_of graph.now) v ≡ [] }
     ensures { IfOk result (λ o. NoneRepeated (occurrence_tree o)) }
 {
@@ -104,7 +104,7 @@ pub fn no_needs_once(graph: &Graph<Package>, which: NodeIndex) -> Result<Occurre
 }
 
 /// The graph that items are of, with the mark of `cargo tree`.
-pub fn marked<'a>(graph: &'a Graph<Package>, occurrence: &'a Occurrence) -> Expanded<'a, Package>
+pub fn marked<'a>(graph: &'a Graph<Package>, occurrence: &'a Occurrences) -> Expanded<'a, Package>
     ensures graph { result.graph.now ≡ graph.now }
     ensures mark { result.mark.now ≡ REPEATED_MARK.now }
     ensures occurrence { result.occurrence.now ≡ occurrence.now }

@@ -2,7 +2,7 @@
 -- occurrences, and the others are leaves.
 use Rattle.std.specs.Prelude.{◌≡◌, ◌≢◌, ◌↔◌, IsTrue, ℕ, zero, suc, ◌+◌, ◌-◌, ◌^◌, ◌<◌, Bool, true, false, if◌then◌else◌, nat_lt, List, [], ◌∷◌, ◌++◌, length, drop, map, count_by, Option, Some, option_map, unwrap_or, slice_get}
 use Rattle.ptree.specs.declared.graph.Graph.{Graph}
-use Rattle.ptree.specs.declared.graph.places.Occurrence.{Occurrence}
+use Rattle.ptree.specs.declared.graph.places.Occurrences.{Occurrences}
 use Rattle.ptree.specs.declared.graph.places.Place.{Place}
 use Rattle.ptree.specs.Address.{Address, at, Before}
 use Rattle.ptree.specs.Graph.{weights_of}
@@ -11,27 +11,27 @@ use Rattle.ptree.specs.Style.{StyleValue, painted_text}
 
 -- Occurrences side by side: none, or a node's number, whether it is repeated and what is below it,
 -- and then the occurrences after it.
-pub data Occurrences : Type 0 where
-  none : Occurrences
-  item : (node : ℕ) (repeated : Bool) (children rest : Occurrences) → Occurrences
+pub data OccurrenceRow : Type 0 where
+  none : OccurrenceRow
+  item : (node : ℕ) (repeated : Bool) (children rest : OccurrenceRow) → OccurrenceRow
 
 -- an occurrence of a node, and the occurrences below it
 pub record OccurrenceTree : Type 0 where
   pub node : ℕ
   pub repeated : Bool
-  pub children : Occurrences
+  pub children : OccurrenceRow
 
 -- an occurrence over a row of occurrences
-abbrev pub occurrence : ℕ → Bool → Occurrences → OccurrenceTree
+abbrev pub occurrence : ℕ → Bool → OccurrenceRow → OccurrenceTree
 occurrence v r c = record { node = v; repeated = r; children = c }
 
 -- the occurrences of a row, in order
-abbrev pub occurrences : Occurrences → List OccurrenceTree
+abbrev pub occurrences : OccurrenceRow → List OccurrenceTree
 occurrences none = []
 occurrences (item v r c rest) = occurrence v r c ∷ occurrences rest
 
 -- a list of occurrences, side by side
-abbrev pub row : List OccurrenceTree → Occurrences
+abbrev pub row : List OccurrenceTree → OccurrenceRow
 row [] = none
 row (p ∷ ps) = item p.node p.repeated p.children (row ps)
 
@@ -85,7 +85,7 @@ abbrev pub IsExpanded : OccurrenceTree → ℕ → Type 0
 IsExpanded t v = (b : Address) × (q : OccurrenceTree) × StandsAt t b q × (q.node ≡ v) × (occurrence_kids q ≢ [])
 
 -- how many occurrences are in a row, and below
-abbrev pub row_size : Occurrences → ℕ
+abbrev pub row_size : OccurrenceRow → ℕ
 row_size none = 0
 row_size (item v r c rest) = suc (row_size c + row_size rest)
 
@@ -100,11 +100,11 @@ HasSize edges t =
 
 -- the place of an occurrence: its node, and how many occurrences there are here and below, or 0 if
 -- it is repeated
-abbrev pub its_place : ℕ → Bool → Occurrences → Place
+abbrev pub its_place : ℕ → Bool → OccurrenceRow → Place
 its_place v r c = record { node = record { 0 = v }; size = if r then 0 else suc (row_size c) }
 
 -- the places of a row, in order: each occurrence's own, and then those of what is below it
-abbrev pub row_places : Occurrences → List Place
+abbrev pub row_places : OccurrenceRow → List Place
 row_places none = []
 row_places (item v r c rest) = its_place v r c ∷ (row_places c ++ row_places rest)
 
@@ -142,12 +142,12 @@ abbrev pub first_tree : List Place → OccurrenceTree
 first_tree [] = occurrence (2 ^ 64 - 1) false none
 first_tree (p ∷ ps) = occurrence p.node.0 (is_repeated_size p.size) (row (trees_in (size_below p.size) ps))
 
--- what an Occurrence means
-abbrev pub occurrence_tree : Occurrence → OccurrenceTree
+-- the tree that occurrences mean
+abbrev pub occurrence_tree : Occurrences → OccurrenceTree
 occurrence_tree o = first_tree o.places.items
 
--- the occurrence at a place of it
-abbrev pub occurrence_at : Occurrence → ℕ → OccurrenceTree
+-- the tree at one of their places
+abbrev pub occurrence_at : Occurrences → ℕ → OccurrenceTree
 occurrence_at o i = first_tree (drop i o.places.items)
 
 -- the mark of an occurrence, if it is repeated

@@ -10,7 +10,7 @@ mod row;
 
 pub use drawing::{GraphNode, Label, print_graph, write_graph_with};
 pub use once::{Expanded, OccurrenceItem, REPEATED_MARK, print_graph_once, write_graph_once_with};
-pub use places::{Occurrence, Place};
+pub use places::{Occurrence, Occurrences, Place};
 use std::alloc::{AllocError, Global};
 use std::error::Error;
 use std::fmt;

@@ -1,7 +1,7 @@
 -- Rows of occurrences, and what is written for a repeated one.
 use Rattle.std.proofs.Common.{◌≡◌, ℕ, List, [], ◌∷◌, ◌++◌, Option, Result, ap, refl, sym, subst, ◌∙◌}
 use Rattle.std.specs.Io.KnownBytes.{Appends}
-use Rattle.ptree.specs.Occurrence.{Occurrences, none, item, OccurrenceTree, occurrences, row}
+use Rattle.ptree.specs.Occurrence.{OccurrenceRow, none, item, OccurrenceTree, occurrences, row}
 use Rattle.ptree.specs.Style.{StyleValue, plain_value, style_codes, painted_text}
 use Rattle.ptree.specs.Writing.{AppendsPart, IsWritten}
 use Rattle.ptree.proofs.Styles.PaintedTexts.{plain_codes, painted_plain}
@@ -13,7 +13,7 @@ occurrences_of_row [] = refl
 occurrences_of_row (p ∷ ps) = ap (λ z. p ∷ z) (occurrences_of_row ps)
 
 -- a row is made of its occurrences
-pub row_of_occurrences : (r : Occurrences) → row (occurrences r) ≡ r
+pub row_of_occurrences : (r : OccurrenceRow) → row (occurrences r) ≡ r
 row_of_occurrences none = refl
 row_of_occurrences (item v m c r) = ap (λ z. item v m c z) (row_of_occurrences r)
 

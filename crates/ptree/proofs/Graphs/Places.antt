@@ -5,7 +5,7 @@ use Rattle.std.proofs.lemmas.Bool.{cases_lt}
 use Rattle.std.proofs.lemmas.List.{append-nil, length-drop, drop_all, drop_at}
 use Rattle.ptree.specs.declared.graph.places.Place.{Place}
 use Rattle.ptree.specs.Growing.{place_of, place_at, leaf_size, ArePlaces, AppendsPlaces, IsNextPlace}
-use Rattle.ptree.specs.Occurrence.{Occurrences, none, item, OccurrenceTree, occurrence, occurrence_kids, row, row_size, occurrence_count, its_place, row_places, tree_places, is_repeated_size, size_below, trees_by, trees_in, first_tree}
+use Rattle.ptree.specs.Occurrence.{OccurrenceRow, none, item, OccurrenceTree, occurrence, occurrence_kids, row, row_size, occurrence_count, its_place, row_places, tree_places, is_repeated_size, size_below, trees_by, trees_in, first_tree}
 use Rattle.ptree.proofs.Graphs.Occurrences.{occurrences_of_row}
 
 -- more steps than places change nothing
@@ -40,7 +40,7 @@ trees_first left p ps =
 -- ## Places of trees
 
 -- a row has a place for each occurrence
-pub length-row_places : (c : Occurrences) → length (row_places c) ≡ row_size c
+pub length-row_places : (c : OccurrenceRow) → length (row_places c) ≡ row_size c
 length-row_places none = refl
 length-row_places (item v r c rest) = omega (arith, length-append (row_places c) (row_places rest), length-row_places c, length-row_places rest)
 

@@ -9,7 +9,7 @@ ghost use Rattle.ptree.specs.Style.{style_of, plain_value, painted_text};
 ghost use Rattle.ptree.specs.Writing.{IsWritten, HasCause, IsDrawn, LeavesWholeEntries};
 ghost use Rattle.ptree.specs.declared.print_config.OutputKind.{OutputKind};
 
-use super::places::{Occurrence, Place};
+use super::places::{Occurrences, Place};
 use super::row::{Marked, draw_marked};
 use super::{Graph, Label, NodeIndex};
 use crate::item::{Children, Shaped, TreeItem};
@@ -32,7 +32,7 @@ pub struct Expanded<'a, N> {
     pub mark: &'a str,
 
     /// The occurrences.
-    pub occurrence: &'a Occurrence,
+    pub occurrence: &'a Occurrences,
 }
 
 impl<N> Clone for Expanded<'_, N> {

@@ -8,7 +8,7 @@ ghost use Rattle.ptree.specs.Occurrence.{IsExpandedOnce, LeavesUnrepeated, Expan
 use super::{Graph, NodeIndex};
 use std::alloc::AllocError;
 
-/// An occurrence of a node, where a graph is drawn with each node expanded once.
+/// The place of an occurrence of a node, where a graph is drawn with each node expanded once.
 #[derive(Debug, Clone, Copy)]
 pub struct Place {
     /// The node.
@@ -54,10 +54,13 @@ impl Place {
 /// [`Place::below`] says: those of the node's neighbours, newest edge first, each followed by what
 /// is below it. Nothing is below an occurrence at the depth.
 #[derive(Debug, Drop)]
-pub struct Occurrence {
-    /// The occurrences.
+pub struct Occurrences {
+    /// The places of the occurrences.
     pub places: Vec<Place>,
 }
+
+/// The older name of [`Occurrences`].
+pub type Occurrence = Occurrences;
 
 impl<N> Graph<N> {
     /// Returns the graph as a tree in which each node is expanded once, from a start node down to a
@@ -75,7 +78,7 @@ impl<N> Graph<N> {
     /// # Errors
     ///
     /// Memory ran out.
-    pub fn expanded_once(&self, start: NodeIndex, depth: u32) -> Result<Occurrence, AllocError>
+    pub fn expanded_once(&self, start: NodeIndex, depth: u32) -> Result<Occurrences, AllocError>
         ensures tree { IfOk result (λ o.
             IsExpandedOnce (neighbors_of (edges_of self.now)) start.0 depth (occurrence_tree o)) }
         ensures one_tree { HasOneTree (neighbors_of (edges_of self.now)) start.0 depth }
@@ -94,7 +97,7 @@ impl<N> Graph<N> {
         let mut seen = Vec::new(alloc);
         let mut places = Vec::new(alloc);
         self.push_places(start, depth, &mut seen, &mut places)?;
-        Ok(Occurrence { places })
+        Ok(Occurrences { places })
     }
 
     // Appends an occurrence of a node and those below it, down to so many levels, where the nodes
