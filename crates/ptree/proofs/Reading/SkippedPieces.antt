@@ -4,7 +4,7 @@ use Rattle.std.proofs.Math.Seq.{take-append_seam, take-add}
 use Rattle.std.specs.Str.{IsUtf8, IsCharBoundary}
 use Rattle.std.proofs.lemmas.Str.{IsUtf8-nil, IsUtf8-append, IsCharBoundary-from_take}
 use Rattle.std.proofs.lemmas.Bool.{cases_lt}
-use Rattle.std.proofs.lemmas.List.{append-nil, append_cancel_right, take-append-drop}
+use Rattle.std.proofs.lemmas.List.{append-nil, append_cancel_right, get_or_default, take-append-drop}
 use Rattle.ptree.specs.declared.read.lines.Flags.{Flags}
 use Rattle.ptree.specs.Flags.{has_later, last_flags, passing_by}
 use Rattle.ptree.specs.Outline.{Line}
@@ -123,12 +123,14 @@ pub take_chunk : (n m : ℕ) (a b : List ℕ) → take n a ≡ take n b → take
 take_chunk n m a b e f = take-add n m a ∙ (ap (λ z. z ++ take m (drop n a)) e ∙ (ap (λ z. take n b ++ z) f ∙ sym (take-add n m b)))
 
 -- one level less
-pub skip_step : (p : Pieces) (fs : List Flags) (count width n end w : ℕ) (shown : List ℕ) (flags : Flags) → ArePath p fs count shown → SkipSo p fs count width n end → width < end → flags ≡ get_or fs (n - 1) any_flags
+pub skip_step : (p : Pieces) (fs : List Flags) (count width n end w : ℕ) (shown : List ℕ) (flags : Flags) → ArePath p fs count shown → SkipSo p fs count width n end → width < end → flags ≡ get_or fs (n - 1) flags
     → w ≡ length (passing_piece p flags.last) → (w ≤ end) × SkipSo p fs count width (n - 1) (end - w)
 skip_step p fs count width zero end w shown flags path h wide is w_is = let left = skip_some_left p fs count width zero end path.some h wide in absurd (omega (arith, left))
 skip_step p fs count width (suc n) end w shown flags path h wide is w_is =
     let less : suc n - 1 ≡ n = omega arith in
-    let there : flags ≡ get_or fs n any_flags = is ∙ ap (λ z. get_or fs z any_flags) less in
+    let few = h.few in
+    let enough = path.enough in
+    let there : flags ≡ get_or fs n any_flags = is ∙ (ap (λ z. get_or fs z flags) less ∙ get_or_default fs n flags any_flags (omega (arith, few, enough))) in
     let (o, a) = open_lines fs path.some in
     let parts = skip_width p fs count width n end shown flags path h there o a in
     let low : w ≤ end = omega (arith, parts, w_is) in
