@@ -2,6 +2,7 @@
 
 use crate::failed;
 use ptree::TreeBuilder;
+use ptree::builder::AddError;
 use ptree::item::StringItem;
 use ptree::output::write_tree_with;
 use ptree::print_config::{
@@ -13,14 +14,12 @@ use std::alloc::{AllocError, Global};
 use std::io::{self, BufWriter, Write};
 
 // The tree that is shown.
-fn shown(alloc: Global) -> Result<StringItem, AllocError> {
+fn shown(alloc: Global) -> Result<StringItem, AddError> {
     let mut builder = TreeBuilder::new(alloc, String::from_str(alloc, "petgraph")?);
-    builder
-        .begin_child(String::from_str(alloc, "quickcheck")?)?
-        .add_empty_child(String::from_str(alloc, "libc")?)?
-        .end_child();
-    builder.add_empty_child(String::from_str(alloc, "fixedbitset")?)?;
-    builder.build()
+    for (level, text) in [(1, "quickcheck"), (2, "libc"), (1, "fixedbitset")] {
+        builder.add_at_level(level, String::from_str(alloc, text)?)?;
+    }
+    Ok(builder.build()?)
 }
 
 // A set with a colour for the branches and a style for the texts.
