@@ -61,7 +61,8 @@ fn version(lock: &Value) -> Option<u64> {
     lock.get("lockfileVersion")?.as_u64()
 }
 
-// Adds the packages, and the links with names of their own, in ascending order of their paths.
+// Adds the packages in ascending order of their paths. A link with another name than its package is
+// a node of its own; what only such links mean is none.
 fn push_nodes(
     alloc: Global,
     source: &Source,
@@ -69,18 +70,46 @@ fn push_nodes(
     network: &mut Network,
 ) -> Result<(), Failure> {
     for (path, package) in packages.iter() {
+        check_package(alloc, source, path.as_str(), package)?;
+    }
+    let hidden = aliased(alloc, packages)?;
+    for (path, package) in packages.iter() {
         let path = path.as_str();
-        check_package(alloc, source, path, package)?;
-        let meant = match packages.get(target(path, package)) {
-            Some(meant) if is_link(package) && is_alias(path, package, meant) => meant,
-            _ if is_link(package) => continue,
-            _ => package,
+        let meant = target(path, package);
+        let is_drawn = if is_link(package) {
+            is_alias(packages, path, meant)
+        } else {
+            hidden.binary_search_by(|other| (*other).cmp(path)).is_err()
         };
-        let label = label(alloc, source.label(), path, meant, target(path, package))?;
-        network.labels.push(label)?;
-        network.paths.push(String::from_str(alloc, path)?)?;
+        if is_drawn {
+            let package = packages.get(meant).unwrap_or(package);
+            let label = label(alloc, source.label(), path, meant, package)?;
+            network.labels.push(label)?;
+            network.paths.push(String::from_str(alloc, path)?)?;
+        }
     }
     Ok(())
+}
+
+// Returns the paths of what is meant by links with names of their own alone, in ascending order.
+fn aliased<'a>(alloc: Global, packages: &'a Packages) -> Result<Vec<&'a str>, AllocError> {
+    let mut links = Vec::new(alloc);
+    for (path, package) in packages.iter() {
+        if is_link(package) {
+            let meant = target(path.as_str(), package);
+            links.push((meant, is_alias(packages, path.as_str(), meant)))?;
+        }
+    }
+    links.sort_unstable();
+    let mut paths = Vec::new(alloc);
+    let mut before = None;
+    for (path, is_alias) in &links {
+        if *is_alias && before != Some(*path) {
+            paths.push(*path)?;
+        }
+        before = Some(*path);
+    }
+    Ok(paths)
 }
 
 // Checks the kinds of what a package has.
@@ -105,11 +134,11 @@ fn check_package(
     }
 }
 
-// Whether a link has another name than the package that it means.
-fn is_alias(path: &str, package: &Value, meant: &Value) -> bool {
-    match place(path) {
-        Some((_, name)) => name != name_of(target(path, package), meant),
-        None => false,
+// Whether what is at a path is a link with another name than the package that it means.
+fn is_alias(packages: &Packages, path: &str, meant: &str) -> bool {
+    match (place(path), packages.get(meant)) {
+        (Some((_, name)), Some(package)) if path != meant => name != name_of(meant, package),
+        _ => false,
     }
 }
 
@@ -134,13 +163,13 @@ fn label(
     alloc: Global,
     root: &str,
     path: &str,
+    meant: &str,
     package: &Value,
-    own_path: &str,
 ) -> Result<String, AllocError> {
-    let given = if path == own_path {
+    let given = if path == meant {
         word(package, "name")
     } else {
-        Some(name_of(own_path, package))
+        Some(name_of(meant, package))
     };
     let name = match (place(path), given) {
         (Some((_, name)), _) | (None, Some(name)) => name,
@@ -198,6 +227,9 @@ fn steps<'a>(
     for (path, package) in packages.iter() {
         let path = path.as_str();
         let meant = target(path, package);
+        if !is_link(package) && !find_node(paths, path).is_some() {
+            continue;
+        }
         let Some(node) = node_of(packages, paths, path, meant) else {
             let parts = [path, " links to ", meant, ", which is missing"];
             return Err(wrong(alloc, source, &parts));
@@ -206,7 +238,7 @@ fn steps<'a>(
             steps.push((folders(alloc, folder)?, false, name, node))?;
         }
         // A link that is a node needs what the package needs that it means.
-        if !is_link(package) || is_node(paths, path) {
+        if !is_link(package) || find_node(paths, path).is_some() {
             steps.push((folders(alloc, meant)?, true, meant, node))?;
         }
     }
@@ -219,13 +251,12 @@ fn node_of(packages: &Packages, paths: &[String], path: &str, meant: &str) -> Op
     if packages.get(meant).is_some_and(|package| is_link(package)) {
         return None;
     }
-    let own = if is_node(paths, path) { path } else { meant };
-    paths.binary_search_by(|p| p.as_str().cmp(own)).ok()
+    find_node(paths, path).or(find_node(paths, meant))
 }
 
-// Whether a path is that of a node.
-fn is_node(paths: &[String], path: &str) -> bool {
-    paths.binary_search_by(|p| p.as_str().cmp(path)).is_ok()
+// Returns the node with a path.
+fn find_node(paths: &[String], path: &str) -> Option<usize> {
+    paths.binary_search_by(|p| p.as_str().cmp(path)).ok()
 }
 
 // Returns the path of a package, or that to which a link leads.
