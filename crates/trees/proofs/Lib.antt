@@ -1,9 +1,13 @@
 pub mod Conversions
 pub mod Examples
 pub mod Listings
+pub mod Merges
+pub mod MergeDrawings
+pub mod MergePlaces
 pub mod Parts
 pub mod PathNames
 pub mod Readings
 pub mod Shown
+pub mod StyledTrees
 pub mod Told
 pub mod Writings

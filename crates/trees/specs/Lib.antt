@@ -12,6 +12,10 @@ pub mod Changing
 pub mod Listing
 -- what the parts of reading paths do
 pub mod ListingParts
+-- merges of two trees
+pub mod Merging
+-- what the parts of merging do
+pub mod MergingParts
 -- what calls write
 pub mod Writing
 -- documents, their parts and trees

@@ -1,7 +1,7 @@
 -- What calls write.
 use Rattle.std.specs.Borrow.{Bor}
 use Rattle.std.specs.Io.KnownBytes.{Appends}
-use Rattle.std.specs.Prelude.{◌≡◌, ◌≤◌, ◌⊎◌, ⊤, ℕ, Bool, true, false, if◌then◌else◌, List, [], Option, Some, None, Result, Ok, Err, IsErr, OnOk, codes, string_bytes}
+use Rattle.std.specs.Prelude.{◌≡◌, ◌≤◌, ◌⊎◌, ⊤, ℕ, Bool, true, false, if◌then◌else◌, List, [], Option, Some, None, Result, Ok, Err, IsErr, OnOk, codes, string_bytes, IsTrue}
 use Rattle.ptree.specs.declared.print_config.OutputKind.TheVariants.{Unknown}
 use Rattle.ptree.specs.declared.print_config.Sources.{Sources}
 use Rattle.ptree.specs.declared.print_config.StyleWhen.TheVariants.{Never}
@@ -18,6 +18,7 @@ use Rattle.ptree_trees.specs.declared.indented.Form.{Form}
 use Rattle.trees.specs.declared.command.Command.{Command}
 use Rattle.trees.specs.declared.command.Command.TheVariants as command
 use Rattle.trees.specs.declared.command.Convert.{Convert}
+use Rattle.trees.specs.declared.command.Diff.{Diff}
 use Rattle.trees.specs.declared.command.Drawing.{Drawing}
 use Rattle.trees.specs.declared.command.Indented.{Indented}
 use Rattle.trees.specs.declared.command.Tree.{Tree as Given}
@@ -32,7 +33,8 @@ use Rattle.trees.specs.Asked.{drawing_value, reading_value}
 use Rattle.trees.specs.Changing.{IsConverted, FailsToConvert}
 use Rattle.trees.specs.Documents.{IsPartTree}
 use Rattle.trees.specs.Listing.{IsListed, FailsToList}
-use Rattle.trees.specs.Reading.{IsWriting, HoldsDrawing, IsReadableValue, FailsFor, FailsToMake}
+use Rattle.trees.specs.Merging.{IsMergeDrawing}
+use Rattle.trees.specs.Reading.{IsWriting, HoldsDrawing, IsReadableValue, FailsFor, FailsToMake, FailsToRead}
 use Rattle.trees.specs.Shown.{IsNone, ShowsOnly, IsLookCode}
 
 -- A call that succeeds has appended bytes of which Is holds. One that fails has appended nothing, and
@@ -40,6 +42,16 @@ use Rattle.trees.specs.Shown.{IsNone, ShowsOnly, IsLookCode}
 abbrev pub Writes : {A : Type 0} → Option (List ℕ) → Option (List ℕ) → Result A Failure → (List ℕ → Type 0) → (Failure → Type 0) → Type 0
 Writes old new (Ok x) Is Fails = (bytes : List ℕ) × Is bytes × Appends old new bytes
 Writes old new (Err e) Is Fails = (Fails e × Appends old new []) ⊎ (IsWriting e × (bytes : List ℕ) × Is bytes × AppendsPart old new bytes)
+
+-- A call that compares, and succeeds only if nothing differs, has then appended nothing. One that
+-- refuses has appended bytes of which Is holds, and any other failure is as above.
+abbrev pub WritesRefusal : {A : Type 0} → Option (List ℕ) → Option (List ℕ) → Result A Failure → (List ℕ → Type 0) → (Failure → Type 0) → Type 0
+WritesRefusal old new (Ok x) Is Fails = Appends old new []
+WritesRefusal old new (Err Said) Is Fails = (bytes : List ℕ) × Is bytes × Appends old new bytes
+WritesRefusal {A} old new (Err (Usage wrong)) Is Fails = Writes {A = A} old new (Err (Usage wrong)) Is Fails
+WritesRefusal {A} old new (Err (Input wrong)) Is Fails = Writes {A = A} old new (Err (Input wrong)) Is Fails
+WritesRefusal {A} old new (Err (Output kind)) Is Fails = Writes {A = A} old new (Err (Output kind)) Is Fails
+WritesRefusal {A} old new (Err Memory) Is Fails = Writes {A = A} old new (Err Memory) Is Fails
 
 -- what a call writes to is as it was, if it ends with a usage error or an error of an input
 abbrev pub LeavesIfWrong : {A W : Type 0} → W → W → Result A Failure → Type 0
@@ -68,11 +80,12 @@ IsGraphDrawing config found false bytes =
     (t : OccurrenceTree) × IsExpandedOnce (neighbors_of (edges_of found.graph)) found.root.0 config.depth t
     × IsDrawing (look_by config Unknown false) (occurrence_shape string_bytes found.graph (codes " (*)") t) config.depth bytes
 
--- the drawing of one tree or of a graph is written; two trees in one never succeed
+-- the drawing of one tree or of a graph is written, or of two trees in one, which never succeeds
 abbrev pub WritesDrawn : {A : Type 0} → ConfigValue → Bool → Drawn → Option (List ℕ) → Option (List ℕ) → Result A Failure → Type 0
 WritesDrawn config is_terminal (drawn.Tree item) old new result = Writes old new result (IsTreeDrawing config is_terminal (tree_of item.now)) (λ e. e ≡ Memory)
 WritesDrawn config is_terminal (drawn.Graph source found walks) old new result = Writes old new result (IsGraphDrawing config found.now walks) (FailsFor ⊤ ⊥)
-WritesDrawn config is_terminal (drawn.Both left right) old new result = IsErr result
+WritesDrawn config is_terminal (drawn.Both left right) old new result =
+    IsErr result × WritesRefusal old new result (IsMergeDrawing config is_terminal (tree_of left.now) (tree_of right.now)) (λ e. e ≡ Memory)
 
 -- the bytes are the drawing, as it is asked for, of a tree of which Is holds
 abbrev pub IsDrawingOf : Sources → Drawing → (Tree → Type 0) → List ℕ → Type 0
@@ -151,15 +164,33 @@ ConvertsBack sources source back old new result =
     → back.pieces ≡ there.drawing.pieces → back.drawing.pieces ≡ there.pieces → IsReadableValue (reading_value sources back.pieces)
     → IsConversion sources first there (string_bytes source.text) → OnOk result (Appends old new (string_bytes first.text))
 
+-- the bytes are the drawing, as it is asked for, of a merge of the trees whose drawings two sources hold
+abbrev pub IsMergeOf : Sources → Source → Source → Diff → List ℕ → Type 0
+IsMergeOf sources left right diff bytes =
+    let config = reading_value sources diff.drawing.pieces in
+    (t : Tree) × (u : Tree) × HoldsDrawing config left t × HoldsDrawing config right u
+    × IsMergeDrawing (drawing_value sources diff.drawing) diff.drawing.screen.is_terminal t u bytes
+
+-- what each failure before anything is drawn says: what reading one of the sources says
+abbrev pub FailsToCompare : Sources → Source → Source → Diff → Failure → Type 0
+FailsToCompare sources left right diff e =
+    let config = reading_value sources diff.drawing.pieces in
+    FailsToRead config left e ⊎ FailsToRead config right e
+
+-- if all differences are asked for, such a drawing is written, and nothing if there are none
+abbrev pub Compares : {A : Type 0} → Sources → Source → Source → Diff → Option (List ℕ) → Option (List ℕ) → Result A Failure → Type 0
+Compares sources left right diff old new result =
+    IsTrue diff.shows_all → WritesRefusal old new result (IsMergeOf sources left right diff) (FailsToCompare sources left right diff)
+
 -- what a command writes: those that draw an input, the drawing of its tree; `indented`, the
--- indented text; `convert`, the conversion, which can be turned back
+-- indented text; `convert`, the conversion, which can be turned back; `diff`, all differences
 abbrev pub WritesOfCommand : {A : Type 0} → Sources → Command → Option (List ℕ) → Option (List ℕ) → Result A Failure → Type 0
 WritesOfCommand sources (command.Convert source convert) old new result = Converts sources source.now convert old new result × ConvertsBack sources source.now convert old new result
 WritesOfCommand sources (command.Draw source tree drawing) old new result = Draws sources source.now tree drawing old new result
 WritesOfCommand sources (command.Deps source deps drawing) old new result = ⊤
 WritesOfCommand sources (command.Indented source indented) old new result = Writes old new result (IsIndentation sources source.now indented) (FailsToIndent sources source.now indented)
 WritesOfCommand sources (command.Check inputs pieces screen) old new result = ⊤
-WritesOfCommand sources (command.Diff left right diff) old new result = ⊤
+WritesOfCommand sources (command.Diff left right diff) old new result = Compares sources left.now right.now diff old new result
 WritesOfCommand sources command.Config old new result = ⊤
 
 -- on a terminal a drawing writes nothing that it acts on, but line feeds and the codes of its styles

@@ -1,6 +1,9 @@
 //! Compares two trees.
-ghost use Rattle.std.specs.Prelude.{◌≡◌, ◌↔◌, IfOk, None};
+ghost use Rattle.std.specs.Prelude.{◌≡◌, ◌↔◌, ◌++◌, map, option_map, IfOk, IfSome, OnOk, None, string_bytes};
+ghost use Rattle.ptree.specs.Style.{style_of};
 ghost use Rattle.ptree.specs.Tree.{tree_of};
+ghost use Rattle.trees.specs.Merging.{ShowsMerge, ShowsBoth, styled_forest, styled_tree_of, look_text, side_mark, side_style, marked_tree, roots_text};
+ghost use Rattle.trees.specs.MergingParts.{ArePlaces, IsFoundAt};
 
 use ptree::item::StringItem;
 use ptree::style::{Color, Style};
@@ -80,12 +83,14 @@ pub struct Look {
 }
 
 impl Look {
-    // Returns the text that is shown of an item.
-    fn text(self, alloc: Global, item: &StringItem) -> Result<String, AllocError> {
+    // Returns a text as it is shown.
+    fn text(self, alloc: Global, text: &str) -> Result<String, AllocError>
+        ensures { IfOk result (λ s. string_bytes s ≡ look_text self text.now) }
+    {
         if self.is_escaped {
-            escaped(alloc, item.text.as_str())
+            escaped(alloc, text)
         } else {
-            item.text.clone()
+            String::from_str(alloc, text)
         }
     }
 }
@@ -99,7 +104,9 @@ enum Side {
 
 impl Side {
     // Returns the mark before a text that is in one tree alone.
-    fn mark(self) -> &'static str {
+    fn mark(self) -> &'static str
+        ensures { result.now ≡ side_mark self }
+    {
         match self {
             Side::Left => "- ",
             Side::Right => "+ ",
@@ -107,7 +114,9 @@ impl Side {
     }
 
     // Returns the style of such a text.
-    fn style(self, look: Look) -> Option<Style> {
+    fn style(self, look: Look) -> Option<Style>
+        ensures { option_map style_of result ≡ side_style look self }
+    {
         if !look.is_colored {
             return None;
         }
@@ -132,21 +141,21 @@ pub fn both(
     left: &StringItem,
     right: &StringItem,
     look: Look,
-) -> Result<StyledItem, AllocError> {
-    let text = both_texts(alloc, left, right, look)?;
+) -> Result<StyledItem, AllocError>
+    ensures { IfOk result (λ s.
+        ShowsBoth look (tree_of left.now) (tree_of right.now) (styled_tree_of s)) }
+{
+    let text = both_texts(alloc, left.text.as_str(), right.text.as_str(), look)?;
     let children = both_children(alloc, left, right, look)?;
     StyledItem::new(alloc, text.as_str(), None, children)
 }
 
 // Returns the text of both items, or both texts with their marks.
-fn both_texts(
-    alloc: Global,
-    left: &StringItem,
-    right: &StringItem,
-    look: Look,
-) -> Result<String, AllocError> {
+fn both_texts(alloc: Global, left: &str, right: &str, look: Look) -> Result<String, AllocError>
+    ensures { IfOk result (λ s. string_bytes s ≡ roots_text look left.now right.now) }
+{
     let text = look.text(alloc, left)?;
-    if left.text == right.text {
+    if left == right {
         return Ok(text);
     }
     format!(in alloc; "- {text}\n+ {}", look.text(alloc, right)?)
@@ -160,7 +169,11 @@ fn both_children(
     left: &StringItem,
     right: &StringItem,
     look: Look,
-) -> Result<Vec<StyledItem>, AllocError> {
+) -> Result<Vec<StyledItem>, AllocError>
+    ensures { IfOk result (λ v.
+        ShowsMerge look (tree_of left.now).children (tree_of right.now).children
+        (styled_forest (map styled_tree_of v.items))) }
+{
     let others = right.children.as_slice();
     let mut places = Places::new(alloc, others);
     let mut taken = 0;
@@ -168,16 +181,14 @@ fn both_children(
     for child in &left.children {
         match places.next_with(taken, child.text.as_str())? {
             Some(at) => {
-                push_right(alloc, &mut made, others.get(taken..at), look)?;
-                if let Some(other) = others.get(at) {
-                    made.push(both(alloc, child, other, look)?)?;
-                }
-                taken = at.saturating_add(1);
+                push_right(alloc, &mut made, &others[taken..at], look)?;
+                made.push(both(alloc, child, &others[at], look)?)?;
+                taken = at + 1;
             }
             None => made.push(marked(alloc, Side::Left, child, look)?)?,
         }
     }
-    push_right(alloc, &mut made, others.get(taken..), look)?;
+    push_right(alloc, &mut made, &others[taken..], look)?;
     Ok(made)
 }
 
@@ -188,11 +199,14 @@ struct Places<'a> {
 
     // Their texts with their positions, ascending. It is empty until it is needed.
     sorted: Vec<(&'a str, usize)>,
+    ghost places: { ArePlaces items.now sorted.items },
 }
 
 impl<'a> Places<'a> {
     // Nothing is sorted at first.
-    fn new(alloc: Global, items: &'a [StringItem]) -> Places<'a> {
+    fn new(alloc: Global, items: &'a [StringItem]) -> Places<'a>
+        ensures { result.items.now ≡ items.now }
+    {
         Places {
             items,
             sorted: Vec::new(alloc),
@@ -200,7 +214,10 @@ impl<'a> Places<'a> {
     }
 
     // Returns the position of the first item with a text, from a position on.
-    fn next_with(&mut self, from: usize, text: &str) -> Result<Option<usize>, AllocError> {
+    fn next_with(&mut self, from: usize, text: &str) -> Result<Option<usize>, AllocError>
+        ensures found { IfOk result (λ o. IfSome o (IsFoundAt self.old.items.now from text.now)) }
+        ensures kept { self.new.items.now ≡ self.old.items.now }
+    {
         let Some(item) = self.items.get(from) else {
             return Ok(None);
         };
@@ -208,33 +225,44 @@ impl<'a> Places<'a> {
             return Ok(Some(from));
         }
         if self.sorted.is_empty() {
-            self.sort()?;
+            self.sorted = sorted_places(*self.sorted.allocator(), self.items)?;
         }
-        let at = self.sorted.partition_point(|place| *place < (text, from));
+        let at = match self.sorted.binary_search(&(text, from)) {
+            Ok(at) | Err(at) => at,
+        };
         match self.sorted.get(at) {
             Some((found, position)) if *found == text => Ok(Some(*position)),
             _ => Ok(None),
         }
     }
+}
 
-    // Sorts the texts.
-    fn sort(&mut self) -> Result<(), AllocError> {
-        for (i, item) in self.items.iter().enumerate() {
-            self.sorted.push((item.text.as_str(), i))?;
-        }
-        self.sorted.sort_unstable();
-        Ok(())
+// Returns the texts of items with their positions, ascending.
+fn sorted_places<'a>(
+    alloc: Global,
+    items: &'a [StringItem],
+) -> Result<Vec<(&'a str, usize)>, AllocError>
+    ensures { IfOk result (λ v. ArePlaces items.now v.items) }
+{
+    let mut places = Vec::new(alloc);
+    for (i, item) in items.iter().enumerate() {
+        places.push((item.text.as_str(), i))?;
     }
+    places.sort_unstable();
+    Ok(places)
 }
 
 // Adds items that are only in the right tree.
 fn push_right(
     alloc: Global,
     made: &mut Vec<StyledItem>,
-    items: Option<&[StringItem]>,
+    items: &[StringItem],
     look: Look,
-) -> Result<(), AllocError> {
-    for item in items.unwrap_or(&[]) {
+) -> Result<(), AllocError>
+    ensures { OnOk result (map styled_tree_of made.new.items ≡ map styled_tree_of made.old.items
+        ++ map (marked_tree look Side.Right) (map tree_of items.now)) }
+{
+    for item in items {
         made.push(marked(alloc, Side::Right, item, look)?)?;
     }
     Ok(())
@@ -246,8 +274,10 @@ fn marked(
     side: Side,
     item: &StringItem,
     look: Look,
-) -> Result<StyledItem, AllocError> {
-    let text = look.text(alloc, item)?;
+) -> Result<StyledItem, AllocError>
+    ensures { IfOk result (λ s. styled_tree_of s ≡ marked_tree look side (tree_of item.now)) }
+{
+    let text = look.text(alloc, item.text.as_str())?;
     let text = format!(in alloc; "{}{text}", side.mark())?;
     let mut children = Vec::new(alloc);
     for child in &item.children {

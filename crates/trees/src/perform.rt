@@ -11,10 +11,11 @@ ghost use Rattle.ptree_trees.specs.Parts.{has_part};
 ghost use Rattle.trees.specs.Asked.{drawing_value, reading_value, with_drawing};
 ghost use Rattle.trees.specs.Changing.{IsPart, IsKept, IsConverted, FailsToConvert};
 ghost use Rattle.trees.specs.Listing.{IsListed, FailsToList};
+ghost use Rattle.trees.specs.Merging.{IsMergeDrawing};
 ghost use Rattle.trees.specs.Reading.{HoldsDrawing, HoldsNoOther, HoldsSome, IsRedrawn, FailsFor, FailsToRead, FailsToMake};
 ghost use Rattle.trees.specs.Shown.{IsNone, ShowsOnly};
 ghost use Rattle.trees.specs.Telling.{TellsWhether, TellsOfCommand};
-ghost use Rattle.trees.specs.Writing.{Writes, IsTreeDrawing, IsGraphDrawing, WritesDrawn, IsIndentation, FailsToIndent, IsGiven, FailsToGive, Draws, Converts, ConvertsBack, WritesOfCommand, ShowsOfCommand, ShowsDrawing, LeavesIfWrong};
+ghost use Rattle.trees.specs.Writing.{Writes, IsTreeDrawing, IsGraphDrawing, WritesDrawn, IsIndentation, FailsToIndent, IsGiven, FailsToGive, Draws, Converts, ConvertsBack, WritesOfCommand, ShowsOfCommand, ShowsDrawing, LeavesIfWrong, WritesRefusal, Compares};
 
 use crate::command::{Command, Convert, Deps, Diff, Drawing, Indented, Paths, Tree};
 use crate::compare::{self, Look};
@@ -535,6 +536,8 @@ fn compare_drawings<W: Sink>(
 ) -> Result<(), Failure>
     ensures told { TellsWhether result
         (string_bytes left.now.text ≡ string_bytes right.now.text) }
+    ensures written { Compares found.now.sources left.now right.now diff
+        (W.contents out.old) (W.contents out.new) result }
     ensures quiet { LeavesIfWrong out.old out.new result }
 {
     let left = read_drawing(alloc, left, diff.drawing.pieces, found)?;
@@ -555,6 +558,12 @@ fn compare_with<W: Sink>(
         (text : List ℕ)
         → IsDrawnForm (look_by config Unknown false) config.depth text (tree_of left.now)
         → TellsWhether result (text ≡ string_bytes right.now.text) }
+    // So are the sources with its drawing.
+    ensures written { (first : Source)
+        → HoldsDrawing (reading_value found.now.sources diff.drawing.pieces) first
+        (tree_of left.now)
+        → Compares found.now.sources first right.now diff
+        (W.contents out.old) (W.contents out.new) result }
     ensures quiet { LeavesIfWrong out.old out.new result }
 {
     let right = read_drawing(alloc, right, diff.drawing.pieces, found)?;
@@ -571,6 +580,11 @@ fn show_difference<W: Sink>(
     found: &Surroundings,
 ) -> Result<(), Failure>
     ensures told { TellsWhether result (tree_of left.now ≡ tree_of right.now) }
+    ensures written { IsTrue diff.shows_all
+        → WritesRefusal (W.contents out.old) (W.contents out.new) result
+        (IsMergeDrawing (drawing_value found.now.sources diff.drawing)
+        diff.drawing.screen.is_terminal (tree_of left.now) (tree_of right.now))
+        (λ e. e ≡ Failure.Memory) }
     ensures quiet { LeavesIfWrong out.old out.new result }
 {
     match compare::first(alloc, left, right)? {
@@ -590,6 +604,9 @@ fn write_both<W: Sink>(
     config: &PrintConfig,
 ) -> Result<(), Failure>
     ensures different { IsErr result }
+    ensures written { WritesRefusal (W.contents out.old) (W.contents out.new) result
+        (IsMergeDrawing (config_of config.now) is_terminal
+        (tree_of left.now) (tree_of right.now)) (λ e. e ≡ Failure.Memory) }
     ensures quiet { LeavesIfWrong out.old out.new result }
 {
     let look = Look {

@@ -3,3 +3,6 @@ use Rattle.trees.proofs.perform.compare_drawings.Goals as goal
 
 pub returns-clause-told : goal.returns-clause-told
 returns-clause-told g c = c.compare_with.ensures.told (string_bytes c.args.left.now.text) c.in_ok-left.ensures.some.form
+
+pub returns-clause-written : goal.returns-clause-written
+returns-clause-written g c = c.compare_with.ensures.written c.args.left.now c.in_ok-left.ensures.some

@@ -1,7 +1,13 @@
-use Rattle.std.proofs.Common.{◌≡◌, string_bytes, rules}
-use Rattle.ptree.specs.Tree.{tree_of}
-use Rattle.trees.specs.Asked.{reading_value}
+use Rattle.std.proofs.Common.{◌≡◌, inl, string_bytes, rules}
+use Rattle.ptree.specs.Tree.{Tree, tree_of}
+use Rattle.trees.specs.declared.failure.Failure.TheVariants.{Memory}
+use Rattle.trees.specs.Asked.{drawing_value, reading_value}
+use Rattle.trees.specs.Merging.{IsMergeDrawing}
+use Rattle.trees.specs.Reading.{HoldsDrawing, IsReadableValue}
 use Rattle.trees.specs.Telling.{TellsWhether}
+use Rattle.trees.specs.Writing.{WritesRefusal, IsMergeOf, FailsToCompare}
+use Rattle.trees.proofs.MergeDrawings.{refusal_weaker}
+use Rattle.trees.proofs.Readings.{fails_by_memory}
 use Rattle.trees.proofs.Told.{tells_same, same_texts}
 use Rattle.trees.proofs.perform.compare_with.Goals as goal
 
@@ -13,3 +19,19 @@ returns-clause-told g c = λ text form.
     let same = same_texts config c.args.right.now left (tree_of c.in_ok-right.right) text form read.some read.only read.redrawn in
     let told : TellsWhether c.show_difference.result (left ≡ tree_of c.in_ok-right.right) = search rules in
     tells_same c.show_difference.result (left ≡ tree_of c.in_ok-right.right) (text ≡ string_bytes c.args.right.now.text) same.0 same.1 told
+
+pub returns-clause-written : goal.returns-clause-written
+returns-clause-written g c = λ first holds asks.
+    let sources = c.args.found.now.sources in
+    let diff = c.args.diff in
+    let right = c.args.right.now in
+    let config = reading_value sources diff.drawing.pieces in
+    let t = tree_of c.args.left.now in
+    let u = tree_of c.in_ok-right.right in
+    let old = g.W.Sink.contents c.args.out.now in
+    let new = g.W.Sink.contents c.show_difference.new.out in
+    let is_drawing = IsMergeDrawing (drawing_value sources diff.drawing) diff.drawing.screen.is_terminal t u in
+    let written : WritesRefusal old new c.show_difference.result is_drawing (λ e. e ≡ Memory) = c.show_difference.ensures.written asks in
+    refusal_weaker old new c.show_difference.result is_drawing (IsMergeOf sources first right diff) (λ e. e ≡ Memory) (FailsToCompare sources first right diff)
+    (λ bytes is. (t, u, holds, c.in_ok-right.ensures.some, is))
+    (λ e is. inl (fails_by_memory ((x : Tree) → HoldsDrawing config first x → ⊥) (IsReadableValue config → ⊥) e is)) written

@@ -40,3 +40,8 @@ returns-in-Check-clause-shown g c =
 pub returns-in-Convert-clause-shown : goal.returns-in-Convert-clause-shown
 returns-in-Convert-clause-shown g c =
     subst (λ command. ShowsOfCommand c.args.found.now.sources command (g.W.Sink.contents c.args.out.now) (g.W.Sink.contents c.draw_converted.new.out)) (sym c.in-Convert.is) c.draw_converted.ensures.shown
+
+pub returns-in-Diff-clause-written : goal.returns-in-Diff-clause-written
+returns-in-Diff-clause-written g c =
+    subst (λ command. WritesOfCommand c.args.found.now.sources command (g.W.Sink.contents c.args.out.now) (g.W.Sink.contents c.compare_drawings.new.out) c.compare_drawings.result) (sym c.in-Diff.is)
+    c.compare_drawings.ensures.written

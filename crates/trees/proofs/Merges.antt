@@ -1,0 +1,165 @@
+-- Merges of two trees, made one child after another.
+use Rattle.std.specs.List.{slice_range}
+use Rattle.std.specs.Prelude.{option_map}
+use Rattle.std.specs.Str.{bytes_eq}
+use Rattle.std.proofs.Common.{◌≡◌, ◌∙◌, ℕ, ◌+◌, ◌<◌, ◌≤◌, ◌++◌, true, List, [], ◌∷◌, length, get_or, map, take, drop, Option, Some, None, string_bytes, ap, refl, sym, subst, append_assoc, append-nil}
+use Rattle.std.proofs.lemmas.List.{take_more, take_all, at_drop_more, map-append}
+use Rattle.std.proofs.lemmas.List.Folds.{drop_split}
+use Rattle.std.proofs.lemmas.Option.{slice_get_read}
+use Rattle.std.proofs.lemmas.Slice.Eq.{bytes_eq-Decides}
+use Rattle.ptree.specs.Style.{StyleValue, style_of}
+use Rattle.ptree.specs.declared.style.Style.{Style}
+use Rattle.ptree.specs.declared.item.StringItem.{StringItem, out-StringItem}
+use Rattle.ptree.specs.Tree.{Forest, Tree, item, tree_of, forest}
+use Rattle.ptree.proofs.Trees.ItemTrees.{tree_of_item}
+use Rattle.ptree_trees.specs.Styled.{HasParts}
+use Rattle.ptree_trees.specs.declared.styled.StyledItem.{StyledItem}
+use Rattle.trees.specs.declared.compare.Look.{Look}
+use Rattle.trees.specs.declared.compare.Side.{Side}
+use Rattle.trees.specs.declared.compare.Side.TheVariants.{Left, Right}
+use Rattle.trees.specs.Merging.{shared, alone, nothing, left_forest, right_forest, StyledForest, StyledTree, styled, styled_forest, styled_tree_of, look_text, side_style, marked_text, marked_forest, marked_tree, shown_merge, roots_text, ShowsMerge, ShowsBoth}
+use Rattle.trees.specs.MergingParts.{text_at}
+use Rattle.trees.proofs.StyledTrees.{styled_tree, tree_of_parts}
+
+-- ## Trees that are in one alone
+
+-- what is shown of the next of the items
+pub next_shown : {X Y T U : Type 0} (view : X → T) (show : Y → U) (f : T → U) (first : List U) (xs : List X) (done new : List Y) (i : ℕ) (x : X) (s : Y)
+    → i < length xs → x ≡ get_or xs i x → new ≡ done ++ s ∷ []
+    → map show done ≡ first ++ map f (map view (take i xs)) → show s ≡ f (view x) → map show new ≡ first ++ map f (map view (take (i + 1) xs))
+next_shown view show f first xs done new i x s l is made before here =
+    let front : take (i + 1) xs ≡ take i xs ++ x ∷ [] = rw (← is) at (take_more xs i x l) in
+    rw (front, made, map-append, map-append, map-append, before, here, append_assoc) refl
+
+-- a forest of marked trees is the forest marked
+marked_trees : (look : Look) (side : Side) (ts : List Tree) → styled_forest (map (marked_tree look side) ts) ≡ marked_forest look side (forest ts)
+marked_trees look side [] = refl
+marked_trees look side (t ∷ ts) = ap (styled (marked_text look side t.text) (side_style look side) (marked_forest look side t.children)) (marked_trees look side ts)
+
+-- an item with marked parts is the item marked
+pub whole_marked : (look : Look) (side : Side) (root : StringItem) (s : StyledItem) (text : List ℕ) (own : Option Style) (made : List StyledItem) (xs : List StringItem) (i : ℕ)
+    → xs ≡ (out-StringItem root).children.items → length xs ≤ i → HasParts text own made s → text ≡ marked_text look side (string_bytes (out-StringItem root).text)
+    → option_map style_of own ≡ side_style look side → map styled_tree_of made ≡ map (marked_tree look side) (map tree_of (take i xs)) → styled_tree_of s ≡ marked_tree look side (tree_of root)
+whole_marked look side root s text own made xs i e l parts marks style kids =
+    let items = (out-StringItem root).children.items in
+    let all : take i xs ≡ items = take_all i xs l ∙ e in
+    let below : styled_forest (map styled_tree_of made) ≡ marked_forest look side (forest (map tree_of items)) =
+    ap styled_forest kids ∙ (marked_trees look side (map tree_of (take i xs)) ∙ ap (λ (ys : List StringItem). marked_forest look side (forest (map tree_of ys))) all) in
+    tree_of_parts text own made s parts ∙ ap (λ (t : List ℕ). styled_tree t (option_map style_of own) (map styled_tree_of made)) marks
+    ∙ ap (λ (o : Option StyleValue). styled_tree (marked_text look side (string_bytes (out-StringItem root).text)) o (map styled_tree_of made)) style
+    ∙ ap (λ (f : StyledForest). record { text = marked_text look side (string_bytes (out-StringItem root).text); style = side_style look side; children = f }) below
+    ∙ ap (marked_tree look side) (sym (tree_of_item root))
+
+-- ## Items
+
+-- the text of an item's tree
+pub text_of_item : (s : StringItem) → (tree_of s).text ≡ string_bytes (out-StringItem s).text
+text_of_item s = ap (λ t. t.text) (tree_of_item s)
+
+-- the forest of an item's children
+pub forest_below : (s : StringItem) (xs : List StringItem) → xs ≡ (out-StringItem s).children.items → forest (map tree_of xs) ≡ (tree_of s).children
+forest_below s xs e = ap (λ (ys : List StringItem). forest (map tree_of ys)) e ∙ sym (ap (λ t. t.children) (tree_of_item s))
+
+-- an item is the first of those that are left
+pub items_left : (xs : List StringItem) (i : ℕ) (x : StringItem) → i < length xs → x ≡ get_or xs i x → map tree_of (drop i xs) ≡ tree_of x ∷ map tree_of (drop (i + 1) xs)
+items_left xs i x l is = ap (map tree_of) (rw (← is) at (at_drop_more (λ ys. ys) xs i x l))
+
+-- an item is the first of those that are left behind others
+pub items_passed : (ys : List StringItem) (from at : ℕ) (y : StringItem) → from ≤ at → at < length ys → y ≡ get_or ys at y
+    → map tree_of (drop from ys) ≡ map tree_of (slice_range ys from at) ++ tree_of y ∷ map tree_of (drop (at + 1) ys)
+items_passed ys from at y in_order l is =
+    ap (map tree_of) (drop_split ys from at in_order) ∙ map-append tree_of (slice_range ys from at) (drop at ys) ∙ ap (λ ts. map tree_of (slice_range ys from at) ++ ts) (items_left ys at y l is)
+
+-- an item at a position has the text there
+pub text_found : (ys : List StringItem) (at : ℕ) (y : StringItem) (text : List ℕ) → at < length ys → y ≡ get_or ys at y → text_at ys at ≡ Some text → text ≡ (tree_of y).text
+text_found ys at y text l is there =
+    let some = sym there ∙ ap (option_map (λ s. (tree_of s).text)) (slice_get_read ys (length ys) at y refl l is) in
+    cc
+
+-- an item is pushed onto those that are shown
+pub pushed_shown : (mid new : List StyledItem) (s : StyledItem) (shown : List StyledTree) → new ≡ mid ++ s ∷ [] → map styled_tree_of mid ≡ shown → map styled_tree_of new ≡ shown ++ styled_tree_of s ∷ []
+pushed_shown mid new s shown made before = ap (map styled_tree_of) made ∙ map-append styled_tree_of mid (s ∷ []) ∙ ap (λ ts. ts ++ styled_tree_of s ∷ []) before
+
+-- an item over what shows a merge shows one of two trees
+pub whole_both : (look : Look) (t u : Tree) (s : StyledItem) (text : List ℕ) (made : List StyledItem) → HasParts text None made s → text ≡ roots_text look t.text u.text
+    → ShowsMerge look t.children u.children (styled_forest (map styled_tree_of made)) → ShowsBoth look t u (styled_tree_of s)
+whole_both look t u s text made parts texts below = subst (ShowsBoth look t u) (sym (tree_of_parts text None made s parts)) (record { text = texts; style = refl; below = below })
+
+-- ## Merges
+
+-- trees show a merge of two lists of trees
+abbrev pub Shows : Look → List Tree → List Tree → List StyledTree → Type 0
+Shows look ts us shown = ShowsMerge look (forest ts) (forest us) (styled_forest shown)
+
+-- with a merge of what is left, what is made shows a merge of all
+pub record ShowsBut (look : Look) (ts us left right : List Tree) (made : List StyledTree) : Type 0 where
+  pub go : (rest : List StyledTree) → Shows look left right rest → Shows look ts us (made ++ rest)
+
+module _ (look : Look) where
+  -- nothing shows a merge of nothing
+  pub shows_none : Shows look [] [] []
+  shows_none = record { merge = nothing; left = refl; right = refl; is = refl }
+
+  -- a tree before the left ones
+  shows_left : (t : Tree) (ts us : List Tree) (rest : List StyledTree) → Shows look ts us rest → Shows look (t ∷ ts) us (marked_tree look Left t ∷ rest)
+  shows_left t ts us rest h = record {
+    merge = alone Left t.text t.children h.merge;
+    left = ap (item t.text t.children) h.left;
+    right = h.right;
+    is = ap (styled (marked_text look Left t.text) (side_style look Left) (marked_forest look Left t.children)) h.is;
+  }
+
+  -- trees before the right ones
+  shows_right : (over ts us : List Tree) (rest : List StyledTree) → Shows look ts us rest → Shows look ts (over ++ us) (map (marked_tree look Right) over ++ rest)
+  shows_right [] ts us rest h = h
+  shows_right (u ∷ over) ts us rest h =
+      let k = shows_right over ts us rest h in
+      record {
+        merge = alone Right u.text u.children k.merge;
+        left = k.left;
+        right = ap (item u.text u.children) k.right;
+        is = ap (styled (marked_text look Right u.text) (side_style look Right) (marked_forest look Right u.children)) k.is;
+      }
+
+  -- the text of two roots with one text
+  one_text : (t u : List ℕ) → t ≡ u → roots_text look t u ≡ look_text look t
+  one_text t u e =
+      let same : bytes_eq t u ≡ true = (bytes_eq-Decides t u).1 e in
+      rw same refl
+
+  -- a tree with the same text before both
+  shows_both : (t u : Tree) (s : StyledTree) (ts us : List Tree) (rest : List StyledTree) → t.text ≡ u.text → ShowsBoth look t u s → Shows look ts us rest → Shows look (t ∷ ts) (u ∷ us) (s ∷ rest)
+  shows_both t u s ts us rest same both h = record {
+    merge = shared t.text both.below.merge h.merge;
+    left = ap (λ (f : Forest). item t.text f (left_forest h.merge)) both.below.left ∙ ap (item t.text t.children) h.left;
+    right = ap (λ (x : List ℕ). item x (right_forest both.below.merge) (right_forest h.merge)) same
+        ∙ ap (λ (f : Forest). item u.text f (right_forest h.merge)) both.below.right ∙ ap (item u.text u.children) h.right;
+    is = ap (λ (x : List ℕ). styled x s.style s.children (styled_forest rest)) (both.text ∙ one_text t.text u.text same)
+        ∙ ap (λ (o : Option StyleValue). styled (look_text look t.text) o s.children (styled_forest rest)) both.style
+        ∙ ap (λ (f : StyledForest). styled (look_text look t.text) None f (styled_forest rest)) both.below.is
+        ∙ ap (styled (look_text look t.text) None (shown_merge look both.below.merge)) h.is;
+  }
+
+  module _ (ts us : List Tree) where
+    -- a tree of each goes with the other, behind right ones that are passed over
+    pub step_both : (t u : Tree) (over left right ls rs : List Tree) (s : StyledTree) (made new : List StyledTree) → left ≡ t ∷ ls → right ≡ over ++ u ∷ rs → new ≡ (made ++ map (marked_tree look Right) over) ++ s ∷ []
+        → t.text ≡ u.text → ShowsBoth look t u s → ShowsBut look ts us left right made → ShowsBut look ts us ls rs new
+    step_both t u over left right ls rs s made new e f is same both h = record {
+      go = λ rest k.
+          let passed = shows_right over (t ∷ ls) (u ∷ rs) (s ∷ rest) (shows_both t u s ls rs rest same both k) in
+          let all = h.go (map (marked_tree look Right) over ++ s ∷ rest) (rw (e, f) passed) in
+          rw (is, append_assoc, append_assoc) all;
+    }
+
+    -- a left tree goes with none
+    pub step_left : (t : Tree) (left ls right : List Tree) (s : StyledTree) (made new : List StyledTree) → left ≡ t ∷ ls → new ≡ made ++ s ∷ [] → s ≡ marked_tree look Left t
+        → ShowsBut look ts us left right made → ShowsBut look ts us ls right new
+    step_left t left ls right s made new e is marks h = record {
+      go = λ rest k. rw (is, append_assoc, marks) (h.go (marked_tree look Left t ∷ rest) (rw e (shows_left t ls right rest k)));
+    }
+
+    -- the right trees that are left go with none
+    pub step_end : (left right : List Tree) (made new : List StyledTree) → left ≡ [] → new ≡ made ++ map (marked_tree look Right) right → ShowsBut look ts us left right made → Shows look ts us new
+    step_end left right made new e is h =
+        let passed = shows_right right [] [] [] shows_none in
+        rw is (h.go (map (marked_tree look Right) right) (rw e (simp append-nil at passed)))

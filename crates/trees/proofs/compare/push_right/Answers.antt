@@ -1,0 +1,17 @@
+use Rattle.std.proofs.Common.{◌≡◌, ◌++◌, List, map, take_all, subst}
+use Rattle.ptree.specs.Tree.{tree_of}
+use Rattle.ptree.specs.declared.item.StringItem.{StringItem}
+use Rattle.trees.specs.declared.compare.Side.TheVariants.{Right}
+use Rattle.trees.specs.Merging.{styled_tree_of, marked_tree}
+use Rattle.trees.proofs.Merges.{next_shown}
+use Rattle.trees.proofs.compare.push_right.Goals as goal
+
+pub loop-item-preserved : goal.loop-item-preserved
+loop-item-preserved c =
+    next_shown tree_of styled_tree_of (marked_tree c.args.look Right) (map styled_tree_of c.args.made.now.items) c.args.items.now c.loop-item.made.items c.push.new.self.items c.loop-item.item-index
+    c.item-item.result c.in_ok-marked.field-0 c.loop-item-test.true c.item-item.is c.in_ok-push.ensures.items c.loop-item.invariant c.in_ok-marked.ensures
+
+pub returns : goal.returns
+returns c =
+    subst (λ (xs : List StringItem). map styled_tree_of c.loop-item.made.items ≡ map styled_tree_of c.args.made.now.items ++ map (marked_tree c.args.look Right) (map tree_of xs))
+    (take_all c.loop-item.item-index c.args.items.now c.loop-item-test.false) c.loop-item.invariant
