@@ -4,6 +4,8 @@ pub mod Listings
 pub mod Merges
 pub mod MergeDrawings
 pub mod MergePlaces
+pub mod OutlineTexts
+pub mod Outlines
 pub mod Parts
 pub mod PathNames
 pub mod Readings

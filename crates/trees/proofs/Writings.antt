@@ -4,6 +4,7 @@ use Rattle.std.proofs.lemmas.Bool.{false≢true}
 use Rattle.std.specs.Prelude.{IsErr, IfErr}
 use Rattle.ptree.specs.declared.value.document.DocFormat.TheVariants.{Toml, Json}
 use Rattle.ptree.specs.Tree.{Tree}
+use Rattle.ptree_trees.specs.declared.indented.Form.{Form}
 use Rattle.trees.specs.declared.command.Tree.{Tree as Given}
 use Rattle.trees.specs.declared.command.Tree.TheVariants as given
 use Rattle.trees.specs.declared.failure.Failure.{Failure}
@@ -11,6 +12,7 @@ use Rattle.trees.specs.declared.failure.Failure.TheVariants.{Memory}
 use Rattle.trees.specs.declared.source.Source.{Source}
 use Rattle.trees.specs.Documents.{IsPartTree}
 use Rattle.trees.specs.Listing.{IsWrongList}
+use Rattle.trees.specs.Outlining.{outline_lines, IsFormOf, IsRightForm, HoldsOutline}
 use Rattle.trees.specs.Writing.{Writes, FailsToGive}
 use Rattle.trees.proofs.Readings.{fails_by_memory}
 
@@ -32,4 +34,5 @@ pub gives_memory : (source : Source) (tree : Given) (e : Failure) → e ≡ Memo
 gives_memory source (given.Json document) e is = fails_by_memory ((t : Tree) → IsPartTree Json source document t → ⊥) ⊥ e is
 gives_memory source (given.Toml document) e is = fails_by_memory ((t : Tree) → IsPartTree Toml source document t → ⊥) ⊥ e is
 gives_memory source (given.Paths paths) e is = fails_by_memory (IsWrongList source paths) ⊥ e is
-gives_memory source (given.Outline outline) e is = tt
+gives_memory source (given.Outline outline) e is =
+    fails_by_memory ((t : Tree) → HoldsOutline source outline t → ⊥) ((form : Form) → IsFormOf outline (outline_lines source) form → IsRightForm form → ⊥) e is

@@ -16,6 +16,8 @@ pub mod ListingParts
 pub mod Merging
 -- what the parts of merging do
 pub mod MergingParts
+-- what is drawn of indented text
+pub mod Outlining
 -- what calls write
 pub mod Writing
 -- documents, their parts and trees

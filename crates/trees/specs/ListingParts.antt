@@ -1,6 +1,7 @@
--- What the parts of reading paths do. What `perform` ensures doesn't cite this.
+-- What the parts of reading paths and indented text do. What `perform` ensures doesn't cite this.
 use Rattle.std.specs.Borrow.{Bor}
-use Rattle.std.specs.Prelude.{◌≡◌, ◌⊎◌, ℕ, ◌==◌, ◌||◌, Bool, true, false, List, [], ◌∷◌, Option, Some, None}
+use Rattle.std.specs.Prelude.{◌≡◌, ◌<◌, ◌⊎◌, ℕ, ◌==◌, ◌||◌, Bool, true, false, List, [], ◌∷◌, ◌++◌, Option, Some, None}
+use Rattle.ptree_trees.specs.Indented.{indent}
 use Rattle.ptree_trees.specs.Paths.{names}
 use Rattle.trees.specs.Listing.{is_absolute, is_relative, is_wrong_path}
 
@@ -33,3 +34,7 @@ is_unlike (Some false) path = is_absolute path
 -- whether a path is wrong, by itself or beside the others
 abbrev pub is_wrong_line : Option Bool → List ℕ → Bool
 is_wrong_line others path = is_wrong_path path || is_unlike others path
+
+-- a line begins with more units than there are levels
+abbrev pub IsDeep : ℕ → List ℕ → List ℕ → Type 0
+IsDeep levels unit line = (n : ℕ) × (rest : List ℕ) × (levels < n) × (line ≡ indent unit n ++ rest)

@@ -32,10 +32,10 @@ shown_characters c = record {
   empty = shown_lines c.empty;
 }
 
--- a configuration as it is drawn by: for a terminal with its characters escaped
+-- a configuration as it is drawn by: for a terminal with its characters and its marker escaped
 abbrev pub shown_config : Bool → ConfigValue → ConfigValue
 shown_config false config = config
-shown_config true config = record config { characters = shown_characters config.characters }
+shown_config true config = record config { characters = shown_characters config.characters; continued = shown_lines config.continued }
 
 -- no label has a character that a terminal would act on
 abbrev pub AreShownLabels : Graph (String Global) → Type 0

@@ -34,6 +34,7 @@ use Rattle.trees.specs.Changing.{IsConverted, FailsToConvert}
 use Rattle.trees.specs.Documents.{IsPartTree}
 use Rattle.trees.specs.Listing.{IsListed, FailsToList}
 use Rattle.trees.specs.Merging.{IsMergeDrawing}
+use Rattle.trees.specs.Outlining.{HoldsOutline, FailsToOutline}
 use Rattle.trees.specs.Reading.{IsWriting, HoldsDrawing, IsReadableValue, FailsFor, FailsToMake, FailsToRead}
 use Rattle.trees.specs.Shown.{IsNone, ShowsOnly, IsLookCode}
 
@@ -121,19 +122,19 @@ FailsToIndent sources source indented = FailsFor ⊤ (IsReadableValue (reading_v
 
 -- ## Commands
 
--- t is the tree of a document, or of paths; of other inputs it is any one
+-- t is the tree of a document, of paths, or of indented text
 abbrev pub IsGiven : Source → Given → Tree → Type 0
 IsGiven source (given.Json document) t = IsPartTree Json source document t
 IsGiven source (given.Toml document) t = IsPartTree Toml source document t
 IsGiven source (given.Paths paths) t = IsListed source paths t
-IsGiven source (given.Outline outline) t = ⊤
+IsGiven source (given.Outline outline) t = HoldsOutline source outline t
 
--- what each failure before anything is drawn says; of other inputs nothing
+-- what each failure before anything is drawn says
 abbrev pub FailsToGive : Source → Given → Failure → Type 0
 FailsToGive source (given.Json document) e = FailsToMake ⊥ (IsPartTree Json source document) e
 FailsToGive source (given.Toml document) e = FailsToMake ⊥ (IsPartTree Toml source document) e
 FailsToGive source (given.Paths paths) e = FailsToList source paths e
-FailsToGive source (given.Outline outline) e = ⊤
+FailsToGive source (given.Outline outline) e = FailsToOutline source outline e
 
 -- the drawing of the tree of an input is written
 abbrev pub Draws : {A : Type 0} → Sources → Source → Given → Drawing → Option (List ℕ) → Option (List ℕ) → Result A Failure → Type 0

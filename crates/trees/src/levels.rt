@@ -1,7 +1,10 @@
 //! How many levels a drawing may have.
-ghost use Rattle.std.specs.Prelude.{◌≡◌, length, nat_lt};
+ghost use Rattle.std.specs.Prelude.{◌≡◌, ◌↔◌, ◌==◌, length, nat_lt, All, Any, IsTrue, MatchOption};
+ghost use Rattle.std.specs.List.{slice_split};
 ghost use Rattle.ptree_trees.specs.Paths.{names};
+ghost use Rattle.trees.specs.ListingParts.{IsDeep};
 
+use crate::source::behind;
 use ptree::graph::{Graph, NodeIndex, Place};
 use std::alloc::{AllocError, Global};
 
@@ -26,19 +29,35 @@ pub fn has_more_names(path: &str) -> bool
 }
 
 /// Returns the number of the first line that begins with more units than there are levels.
-pub fn deep_line(text: &str, unit: &str) -> Option<usize> {
-    let most = unit.len().saturating_mul(LEVELS as usize);
-    for (i, line) in text.lines().enumerate() {
-        if line.len() > most
-            && line
-                .len()
-                .saturating_sub(line.trim_start_matches(unit).len())
-                > most
-        {
-            return Some(i.saturating_add(1));
+pub fn deep_line(text: &str, unit: &str) -> Option<usize>
+    ensures { MatchOption result
+        (All (λ l. IsDeep 5000 unit.now l → ⊥) (slice_split (λ b. b == 10) text.now))
+        (λ _. Any (IsDeep 5000 unit.now) (slice_split (λ b. b == 10) text.now)) }
+{
+    let mut number = 0usize;
+    for line in text.split('\n') {
+        number = number.saturating_add(1);
+        if is_deep(line, unit) {
+            return Some(number);
         }
     }
     None
+}
+
+// Whether a line begins with more units than there are levels.
+fn is_deep(line: &str, unit: &str) -> bool
+    ensures { IsTrue result ↔ IsDeep 5000 unit.now line.now }
+{
+    let mut rest = line;
+    let mut level = 0;
+    while let Some(more) = behind(rest, unit) {
+        if level == LEVELS {
+            return true;
+        }
+        level += 1;
+        rest = more;
+    }
+    false
 }
 
 /// Whether what is below a node has more levels, each node expanded once, or wherever it stands.

@@ -1,11 +1,14 @@
 //! Trees of paths, and of indented text.
-ghost use Rattle.std.specs.Prelude.{◌≡◌, ◌≢◌, ℕ, ◌==◌, ◌++◌, true, false, List, map, is_some, string_bytes, ⊤, MatchOption, IfOk, IfErr, OnOk};
+ghost use Rattle.std.specs.Prelude.{◌≡◌, ◌≢◌, ◌↔◌, ℕ, ◌==◌, ◌++◌, ◌∷◌, not, true, false, List, [], map, is_some, string_bytes, ⊤, MatchOption, IsTrue, IfOk, IfErr, OnOk};
 ghost use Rattle.std.specs.List.{list_any, slice_split};
-ghost use Rattle.ptree.specs.Tree.{tree_of};
+ghost use Rattle.ptree.specs.Texts.{line_feed};
+ghost use Rattle.ptree.specs.Tree.{Tree, tree_of};
+ghost use Rattle.ptree_trees.specs.Indented.{begins_blank};
 ghost use Rattle.ptree_trees.specs.Paths.{names, names_of};
 ghost use Rattle.trees.specs.Listing.{path_lines, source_lines, from_first, path_names, given_paths, is_absolute, is_relative, are_wrong, root_text, IsFolders, HasPaths, IsListing};
 ghost use Rattle.trees.specs.ListingParts.{own_names, IsBehindStart, is_first_absolute, beside, is_unlike, is_wrong_line};
-ghost use Rattle.trees.specs.Reading.{FailsFor};
+ghost use Rattle.trees.specs.Outlining.{is_filled, filled_lines, text_of_lines, line_indent, first_indent, line_bullet, first_bullet, IsRightForm, labelled_lines, IsFormWithin, HoldsOutline, HoldsNoOtherOutline, FailsToOutline};
+ghost use Rattle.trees.specs.Reading.{FailsFor, FailsToMake};
 ghost use Rattle.trees.specs.Writing.{IsShownForm, IsIndented};
 
 use crate::command::{Indented, Outline, Paths};
@@ -254,22 +257,168 @@ pub fn outline(
     alloc: Global,
     source: &Source,
     outline: Outline<'_>,
-) -> Result<StringItem, Failure> {
-    let given = source.unmarked();
+) -> Result<StringItem, Failure>
+    ensures some { IfOk result (λ t. HoldsOutline source.now outline.entry (tree_of t)) }
+    ensures only { IfOk result (λ t. HoldsNoOtherOutline source.now outline.entry (tree_of t)) }
+    // `Input` says that there is no such tree, `Usage` that the unit or the bullet is none.
+    ensures failed { IfErr result (FailsToOutline source.now outline.entry) }
+{
+    let lines = filled_lines(alloc, source.unmarked())?;
     let form = Form {
-        unit: outline.unit.unwrap_or(first_indent(given)),
-        bullet: outline.bullet.unwrap_or(first_bullet(given)),
+        unit: outline.unit.unwrap_or(first_indent(lines.as_slice())),
+        bullet: outline.bullet.unwrap_or(first_bullet(lines.as_slice())),
     };
-    if !is_unit(form.unit) || !is_line_text(form.bullet) {
+    if !is_right(&form) {
         return Err(Usage::Bullet.failure(alloc)?);
     }
-    let text = whole(alloc, given, &form, outline.label)?;
-    let above = if outline.label.is_some() { 1 } else { 0 };
-    if let Some(line) = deep_line(text.as_str(), form.unit) {
-        let line = line_of(given, line.saturating_sub(above));
+    let text = labelled_text(alloc, &form, outline.label, lines.as_slice())?;
+    drop(lines);
+    let above = usize::from(outline.label.is_some());
+    read_within(alloc, source, text.as_str(), &form, above)
+}
+
+// Returns the lines of a text that are not blank.
+fn filled_lines(alloc: Global, text: &str) -> Result<Vec<&str>, AllocError>
+    ensures { IfOk result (λ lines. map (λ l. l.now) lines.items ≡ filled_lines text.now) }
+{
+    let mut found = Vec::new(alloc);
+    for line in text.lines() {
+        if !is_blank(line) {
+            found.push(line)?;
+        }
+    }
+    Ok(found)
+}
+
+// Whether a line has nothing but blanks and tabs.
+fn is_blank(line: &str) -> bool
+    ensures { not result ≡ is_filled line.now }
+{
+    line.is_empty() || is_unit(line)
+}
+
+// Returns the indent of the first line that has one, or else a tab.
+fn first_indent<'a>(lines: &[&'a str]) -> &'a str
+    ensures { result.now ≡ first_indent (map (λ l. l.now) lines.now) }
+{
+    for line in lines {
+        if is_indented(line) {
+            return indent_of(line);
+        }
+    }
+    "\t"
+}
+
+// Whether a line begins with a blank or a tab.
+fn is_indented(line: &str) -> bool
+    ensures { result ≡ begins_blank line.now }
+{
+    line.starts_with(' ') || line.starts_with('\t')
+}
+
+// Returns the indent of a line: a tab, or all blanks before its text.
+fn indent_of(line: &str) -> &str
+    ensures { result.now ≡ line_indent line.now }
+{
+    if line.starts_with('\t') {
+        return "\t";
+    }
+    line.strip_suffix(line.trim_start_matches(' '))
+        .unwrap_or("")
+}
+
+// Returns the bullet of the first line, or nothing.
+fn first_bullet(lines: &[&str]) -> &'static str
+    ensures { result.now ≡ first_bullet (map (λ l. l.now) lines.now) }
+{
+    match lines.first() {
+        Some(line) => known_bullet(line),
+        None => "",
+    }
+}
+
+// Returns the bullet with which a line begins, or nothing.
+fn known_bullet(line: &str) -> &'static str
+    ensures { result.now ≡ line_bullet line.now }
+{
+    if line.starts_with("- ") {
+        "- "
+    } else if line.starts_with("* ") {
+        "* "
+    } else if line.starts_with("+ ") {
+        "+ "
+    } else {
+        ""
+    }
+}
+
+// Whether what is written with a unit and a bullet can be read back.
+fn is_right(form: &Form<'_>) -> bool
+    ensures { IsTrue result ↔ IsRightForm form.now }
+{
+    is_unit(form.unit) && is_line_text(form.bullet)
+}
+
+// Returns the text of lines, below one of the label if there is one.
+fn labelled_text(
+    alloc: Global,
+    form: &Form<'_>,
+    label: Option<&str>,
+    lines: &[&str],
+) -> Result<String, AllocError>
+    ensures { IfOk result (λ text. string_bytes text
+        ≡ text_of_lines (labelled_lines form.now label.entry (map (λ l. l.now) lines.now))) }
+{
+    let mut text = String::new(alloc);
+    match label {
+        Some(label) => {
+            push_line(&mut text, form.bullet, label)?;
+            push_lines(&mut text, form.unit, lines)?;
+        }
+        None => push_lines(&mut text, "", lines)?,
+    }
+    Ok(text)
+}
+
+// Adds lines, each behind an indent.
+fn push_lines(text: &mut String, indent: &str, lines: &[&str]) -> Result<(), AllocError>
+    ensures { OnOk result (string_bytes text.new
+        ≡ string_bytes text.old ++ text_of_lines (map (λ l. indent.now ++ l.now) lines.now)) }
+{
+    for line in lines {
+        push_line(text, indent, line)?;
+    }
+    Ok(())
+}
+
+// Adds a line that begins with another text.
+fn push_line(text: &mut String, start: &str, line: &str) -> Result<(), AllocError>
+    ensures { OnOk result (string_bytes text.new
+        ≡ string_bytes text.old ++ ((start.now ++ line.now) ++ line_feed ∷ [])) }
+{
+    text.push_str(start)?;
+    text.push_str(line)?;
+    text.push_str("\n")
+}
+
+// Returns the tree whose indented form a text is. So many of its lines were put above the input's.
+fn read_within(
+    alloc: Global,
+    source: &Source,
+    text: &str,
+    form: &Form<'_>,
+    above: usize,
+) -> Result<StringItem, Failure>
+    requires { IsRightForm form.now }
+    ensures some { IfOk result (λ t. IsFormWithin form.now text.now (tree_of t)) }
+    ensures only { IfOk result (λ t. (u : Tree) → IsFormWithin form.now text.now u → tree_of t ≡ u) }
+    ensures failed { IfErr result (FailsToMake ⊥ (IsFormWithin form.now text.now)) }
+{
+    if let Some(line) = deep_line(text, form.unit) {
+        let line = line_of(source.unmarked(), line.saturating_sub(above));
         return Err(source.wrong_at(alloc, line, TOO_DEEP)?);
     }
-    match read_indented(alloc, text.as_str(), &form) {
+    match read_indented(alloc, text, form) {
         Ok(tree) => Ok(tree),
         Err(wrong) => Err(wrong_indent(alloc, source, wrong, above)?),
     }
@@ -281,7 +430,9 @@ fn wrong_indent(
     source: &Source,
     wrong: IndentError,
     above: usize,
-) -> Result<Failure, AllocError> {
+) -> Result<Failure, AllocError>
+    ensures { IfOk result (FailsFor (wrong ≢ IndentError.Memory) ⊥) }
+{
     match wrong {
         IndentError::Line(line) => {
             let line = line_of(source.unmarked(), line.saturating_sub(above));
@@ -304,40 +455,6 @@ fn line_of(text: &str, count: usize) -> usize {
         }
     }
     count
-}
-
-// Returns a text with its last line feed and without its blank lines, below a line for the label if
-// there is one.
-fn whole(
-    alloc: Global,
-    given: &str,
-    form: &Form<'_>,
-    label: Option<&str>,
-) -> Result<String, AllocError> {
-    let mut text = String::new(alloc);
-    match label {
-        Some(label) => {
-            writeln!(text, "{}{label}", form.bullet)?;
-            push_lines(&mut text, form.unit, given)?;
-        }
-        None => push_lines(&mut text, "", given)?,
-    }
-    Ok(text)
-}
-
-// Adds each line of a text that is not blank behind an indent.
-fn push_lines(text: &mut String, indent: &str, lines: &str) -> Result<(), AllocError> {
-    for line in lines.lines() {
-        if !is_blank(line) {
-            writeln!(text, "{indent}{line}")?;
-        }
-    }
-    Ok(())
-}
-
-// Whether a line has nothing but blanks and tabs.
-fn is_blank(line: &str) -> bool {
-    line.is_empty() || is_unit(line)
 }
 
 /// Returns the indented form of a tree, from which `outline` with the same options makes the tree
@@ -443,44 +560,4 @@ fn escaped_form(alloc: Global, tree: &StringItem, form: &Form<'_>) -> Result<Str
         bullet: bullet.as_str(),
     };
     indented_text(alloc, &tree, &form)
-}
-
-// Returns the indent of the first line that has one, or else a tab. An indent is a tab, or all
-// blanks before the text.
-fn first_indent(text: &str) -> &str {
-    for line in text.lines() {
-        if is_blank(line) {
-            continue;
-        }
-        if line.starts_with('\t') {
-            return "\t";
-        }
-        let indent = line
-            .strip_suffix(line.trim_start_matches(' '))
-            .unwrap_or("");
-        if !indent.is_empty() {
-            return indent;
-        }
-    }
-    "\t"
-}
-
-// Returns the bullet of the first line that is not blank, or nothing.
-fn first_bullet(text: &str) -> &'static str {
-    for line in text.lines() {
-        if !is_blank(line) {
-            return known_bullet(line);
-        }
-    }
-    ""
-}
-
-// Returns the bullet with which a line begins, `- `, `* ` or `+ `, or nothing.
-fn known_bullet(line: &str) -> &'static str {
-    for bullet in ["- ", "* ", "+ "] {
-        if line.starts_with(bullet) {
-            return bullet;
-        }
-    }
-    ""
 }

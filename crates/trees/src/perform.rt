@@ -23,7 +23,7 @@ use crate::deps::{Dependencies, read_dependencies};
 use crate::failure::Failure;
 use crate::levels::{LEVELS, TOO_DEEP_GRAPH, has_more_below};
 use crate::pieces::Pieces;
-use crate::screen::{Screen, show_characters};
+use crate::screen::{Screen, show_pieces};
 use crate::source::Source;
 use crate::{document, drawings, lists, settings};
 use ptree::graph::{REPEATED_MARK, write_graph_once_with, write_graph_with};
@@ -288,7 +288,7 @@ fn set_drawing(alloc: Global, config: &mut PrintConfig, drawing: Drawing) -> Res
         pieces.set(alloc, config)?;
     }
     if drawing.screen.is_terminal {
-        show_characters(alloc, &mut config.characters)?;
+        show_pieces(alloc, config)?;
     }
     Ok(())
 }

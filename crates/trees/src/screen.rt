@@ -2,10 +2,11 @@
 ghost use Rattle.std.specs.Prelude.{◌≡◌, ◌++◌, true, IfOk, OnOk, string_bytes};
 ghost use Rattle.std.specs.Str.{encode_utf8_all};
 ghost use Rattle.ptree.specs.Characters.{characters_of};
+ghost use Rattle.ptree.specs.Config.{config_of};
 ghost use Rattle.trees.specs.Asked.{styled_on};
-ghost use Rattle.trees.specs.Shown.{shown_char, shown_lines, shown_characters};
+ghost use Rattle.trees.specs.Shown.{shown_char, shown_lines, shown_characters, shown_config};
 
-use ptree::print_config::{IndentChars, StyleWhen};
+use ptree::print_config::{IndentChars, PrintConfig, StyleWhen};
 use ptree_trees::escape::push_escaped;
 use std::alloc::{AllocError, Global};
 
@@ -74,12 +75,20 @@ fn push_shown(shown: &mut String, c: char) -> Result<(), AllocError>
     }
 }
 
-/// Makes characters such as a terminal may get them.
+/// Makes the characters and the marker of a configuration such as a terminal may get them.
 ///
 /// # Errors
 ///
 /// Memory ran out.
-pub fn show_characters(alloc: Global, characters: &mut IndentChars) -> Result<(), AllocError>
+pub fn show_pieces(alloc: Global, config: &mut PrintConfig) -> Result<(), AllocError>
+    ensures { IfOk result (λ _. config_of config.new ≡ shown_config true (config_of config.old)) }
+{
+    show_characters(alloc, &mut config.characters)?;
+    show(alloc, &mut config.continued)
+}
+
+// Makes characters such as a terminal may get them.
+fn show_characters(alloc: Global, characters: &mut IndentChars) -> Result<(), AllocError>
     ensures { IfOk result (λ _.
         characters_of characters.new ≡ shown_characters (characters_of characters.old)) }
 {

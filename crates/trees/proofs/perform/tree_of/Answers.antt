@@ -10,3 +10,9 @@ returns-in-Paths-clause-given c = subst (λ (form : Given). IfOk c.listed.result
 
 pub returns-in-Paths-clause-failed : goal.returns-in-Paths-clause-failed
 returns-in-Paths-clause-failed c = subst (λ (form : Given). IfErr c.listed.result (FailsToGive c.args.source.now form)) (sym c.in-Paths.is) c.listed.ensures.failed
+
+pub returns-in-Outline-clause-given : goal.returns-in-Outline-clause-given
+returns-in-Outline-clause-given c = subst (λ (form : Given). IfOk c.outline.result (λ t. IsGiven c.args.source.now form (tree_of t))) (sym c.in-Outline.is) c.outline.ensures.some
+
+pub returns-in-Outline-clause-failed : goal.returns-in-Outline-clause-failed
+returns-in-Outline-clause-failed c = subst (λ (form : Given). IfErr c.outline.result (FailsToGive c.args.source.now form)) (sym c.in-Outline.is) c.outline.ensures.failed

@@ -1,0 +1,13 @@
+use Rattle.std.proofs.Common.{◌≡◌, ◌∙◌, true, false, ◌∷◌, [], ◌++◌, ap, rules}
+use Rattle.std.proofs.lemmas.Iterator.Consumers.{YieldsList-end}
+use Rattle.std.proofs.lemmas.Iterator.Splits.{YieldsList-from_lines}
+use Rattle.std.specs.Prelude.{filter}
+use Rattle.trees.specs.Outlining.{is_filled}
+use Rattle.trees.proofs.Outlines.{filled_more, filled_same}
+use Rattle.trees.proofs.lists.filled_lines.Goals as goal
+
+
+pub returns : goal.returns
+returns c =
+    let end = YieldsList-end (YieldsList-from_lines c.args.text.now (cc)) c.loop-line.yielded _ c.loop-line.yielded_by _ _ c.in-None.is c.next.ensures.steps in
+    c.loop-line.invariant ∙ ap (filter is_filled) end.0

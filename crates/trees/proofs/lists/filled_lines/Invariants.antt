@@ -1,0 +1,8 @@
+use Rattle.std.proofs.Common.{◌≡◌, map}
+use Rattle.std.specs.Prelude.{filter}
+use Rattle.trees.specs.Outlining.{is_filled}
+use Rattle.trees.proofs.lists.filled_lines.Given as goal
+
+-- those so far
+abbrev pub invariant-loop-line : goal.invariant-loop-line
+invariant-loop-line l = map (λ x. x.now) l.found.items ≡ filter is_filled (map (λ x. x.now) l.yielded)
