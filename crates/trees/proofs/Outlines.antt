@@ -6,6 +6,7 @@ use Rattle.std.proofs.lemmas.List.Concat.{flat_map-append}
 use Rattle.std.proofs.lemmas.List.Elements.{All-nil, All-cons, All-head, All-tail, All-weaker, filter-append}
 use Rattle.std.proofs.lemmas.List.Splits.{slice_split_at}
 use Rattle.std.specs.Borrow.{Bor}
+use Rattle.std.specs.Prelude.{unwrap_or}
 use Rattle.std.specs.List.{All, Any, flat_map, filter, slice_split}
 use Rattle.ptree.specs.Outline.{Line, outline, outline_at}
 use Rattle.ptree.specs.Texts.{HasNoLineFeed}
@@ -15,9 +16,13 @@ use Rattle.ptree_trees.specs.Indented.{begins_blank, indent, indented_line, inde
 use Rattle.ptree_trees.specs.declared.indented.Form.{Form}
 use Rattle.ptree_trees.proofs.IndentedLines.{line_parts, no_feed_join, own, whole}
 use Rattle.trees.specs.declared.command.Outline.{Outline}
+use Rattle.trees.specs.declared.failure.Failure.{Failure}
 use Rattle.trees.specs.declared.source.Source.{Source}
 use Rattle.trees.specs.ListingParts.{IsDeep}
-use Rattle.trees.specs.Outlining.{is_filled, outline_lines, text_of_lines, line_indent, head_indent, first_indent, IsFormOf, IsRightForm, labelled_lines, IsFormWithin, HoldsOutline}
+use Rattle.trees.specs.Outlining.{is_filled, outline_lines, text_of_lines, line_indent, head_indent, first_indent, first_bullet, text_or, IsFormOf, IsRightForm, labelled_lines, IsFormWithin, HoldsOutline, FailsToOutline}
+use Rattle.trees.specs.Reading.{IsUsage, FailsToMake}
+use Rattle.trees.proofs.OutlineTexts.{text_or_is}
+use Rattle.trees.proofs.Readings.{fails_by_usage, fails_wider, fails_more}
 
 -- ## Indents
 
@@ -133,31 +138,56 @@ labelled_same f g unit bullet (Some label) ls =
 same_options : (outline : Outline) (ls : List (List ℕ)) (f g : Form) → IsFormOf outline ls f → IsFormOf outline ls g → (f.unit.now ≡ g.unit.now) × (f.bullet.now ≡ g.bullet.now)
 same_options outline ls f g h k = (h.unit ∙ sym k.unit, h.bullet ∙ sym k.bullet)
 
--- so it has one tree
-pub held_within : (source : Source) (outline : Outline) (form : Form) (ls : List (List ℕ)) (text : List ℕ) (t : Tree) → ls ≡ outline_lines source → IsFormOf outline ls form
-    → text ≡ text_of_lines (labelled_lines form outline.label ls) → HoldsOutline source outline t → IsFormWithin form text t
-held_within source outline form ls text t lines options is holds =
-    let same = same_options outline ls holds.form form (subst (λ (x : List (List ℕ)). IsFormOf outline x holds.form) (sym lines) holds.options) options in
-    let texts : text_of_lines (labelled_lines holds.form outline.label (outline_lines source)) ≡ text =
-        ap (λ (x : List (List ℕ)). text_of_lines (labelled_lines holds.form outline.label x)) (sym lines) ∙ (ap text_of_lines (labelled_same holds.form form same.0 same.1 outline.label ls) ∙ sym is) in
+-- the text is that of an outline under a form of its options
+pub record IsTextOf (source : Source) (outline : Outline) (form : Form) (text : List ℕ) : Type 0 where
+  pub options : IsFormOf outline (outline_lines source) form
+  pub is : text ≡ text_of_lines (labelled_lines form outline.label (outline_lines source))
+
+-- the form is that of the options, or else of lines
+pub form_is : (outline : Outline) (ls : List (List ℕ)) (unit bullet indent first : Bor (List ℕ)) → unit ≡ unwrap_or outline.unit indent → bullet ≡ unwrap_or outline.bullet first
+    → indent.now ≡ first_indent ls → first.now ≡ first_bullet ls → IsFormOf outline ls (record { unit = unit; bullet = bullet })
+form_is outline ls unit bullet indent first u b i f = record {
+  unit = ap (λ (x : Bor (List ℕ)). x.now) u ∙ (text_or_is outline.unit indent ∙ ap (text_or outline.unit) i);
+  bullet = ap (λ (x : Bor (List ℕ)). x.now) b ∙ (text_or_is outline.bullet first ∙ ap (text_or outline.bullet) f);
+}
+
+-- the same of the lines that count, and their text
+pub text_is : (source : Source) (outline : Outline) (form : Form) (ls : List (List ℕ)) (text : List ℕ) → ls ≡ outline_lines source → IsFormOf outline ls form
+    → text ≡ text_of_lines (labelled_lines form outline.label ls) → IsTextOf source outline form text
+text_is source outline form ls text lines options is = record {
+  options = subst (λ (x : List (List ℕ)). IsFormOf outline x form) lines options;
+  is = is ∙ ap (λ (x : List (List ℕ)). text_of_lines (labelled_lines form outline.label x)) lines;
+}
+
+-- so the outline holds a tree exactly if that is the text's
+pub within_held : (source : Source) (outline : Outline) (form : Form) (text : List ℕ) (t : Tree) → IsTextOf source outline form text → IsFormWithin form text t → HoldsOutline source outline t
+within_held source outline form text t of within = record { form = form; options = of.options; text = subst (λ (x : List ℕ). IsFormWithin form x t) of.is within }
+
+pub held_within : (source : Source) (outline : Outline) (form : Form) (text : List ℕ) (t : Tree) → IsTextOf source outline form text → HoldsOutline source outline t → IsFormWithin form text t
+held_within source outline form text t of holds =
+    let same = same_options outline (outline_lines source) holds.form form holds.options of.options in
+    let texts = ap text_of_lines (labelled_same holds.form form same.0 same.1 outline.label (outline_lines source)) ∙ sym of.is in
     record {
       read = form_same holds.form form same.0 same.1 text t (subst (λ (x : List ℕ). IsIndentedForm holds.form x t) texts holds.text.read);
       within = holds.text.within;
     }
 
-pub within_held : (source : Source) (outline : Outline) (form : Form) (ls : List (List ℕ)) (text : List ℕ) (t : Tree) → ls ≡ outline_lines source → IsFormOf outline ls form
-    → text ≡ text_of_lines (labelled_lines form outline.label ls) → IsFormWithin form text t → HoldsOutline source outline t
-within_held source outline form ls text t lines options is within = record {
-  form = form;
-  options = subst (λ (x : List (List ℕ)). IsFormOf outline x form) lines options;
-  text = subst (λ (x : List ℕ). IsFormWithin form x t) (is ∙ ap (λ (x : List (List ℕ)). text_of_lines (labelled_lines form outline.label x)) lines) within;
-}
+-- what fails to read the text fails to read the outline
+pub outline_fails : (source : Source) (outline : Outline) (form : Form) (text : List ℕ) (e : Failure) → IsTextOf source outline form text → FailsToMake ⊥ (IsFormWithin form text) e → FailsToOutline source outline e
+outline_fails source outline form text e of fails =
+    let wrong : Type 0 = (g : Form) → IsFormOf outline (outline_lines source) g → IsRightForm g → ⊥ in
+    fails_more wrong (IsFormWithin form text) (HoldsOutline source outline) e (λ u holds. (u, held_within source outline form text u of holds))
+    (fails_wider ((t : Tree) → IsFormWithin form text t → ⊥) wrong e fails)
 
--- the options say that a form is wrong if one of theirs is
-pub wrong_form : (outline : Outline) (ls : List (List ℕ)) (form g : Form) → IsFormOf outline ls form → (IsRightForm form → ⊥) → IsFormOf outline ls g → IsRightForm g → ⊥
-wrong_form outline ls form g options wrong others right =
-    let same = same_options outline ls g form others options in
-    wrong (subst IsUnit same.0 right.0, subst IsLineText same.1 right.1)
+-- a usage error says that the form is wrong
+pub form_fails : (source : Source) (outline : Outline) (form : Form) (ls : List (List ℕ)) (e : Failure) → ls ≡ outline_lines source → IsFormOf outline ls form → (IsRightForm form → ⊥) → IsUsage e
+    → FailsToOutline source outline e
+form_fails source outline form ls e lines options wrong usage =
+    fails_by_usage ((t : Tree) → HoldsOutline source outline t → ⊥) ((g : Form) → IsFormOf outline (outline_lines source) g → IsRightForm g → ⊥) e usage each where
+  each : (g : Form) → IsFormOf outline (outline_lines source) g → IsRightForm g → ⊥
+  each g others right =
+      let same = same_options outline (outline_lines source) g form others (subst (λ (x : List (List ℕ)). IsFormOf outline x form) lines options) in
+      wrong (subst IsUnit same.0 right.0, subst IsLineText same.1 right.1)
 
 -- ## Loops
 

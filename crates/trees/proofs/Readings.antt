@@ -8,7 +8,7 @@ use Rattle.ptree.specs.Tree.{Tree}
 use Rattle.trees.specs.declared.failure.Failure.{Failure}
 use Rattle.trees.specs.declared.failure.Failure.TheVariants.{Usage, Input, Said, Output, Memory}
 use Rattle.trees.specs.declared.source.Source.{Source}
-use Rattle.trees.specs.Reading.{HoldsDrawing, IsReadableValue, IsInput, FailsFor, FailsToMake, FailsToRead}
+use Rattle.trees.specs.Reading.{HoldsDrawing, IsReadableValue, IsInput, IsUsage, FailsFor, FailsToMake, FailsToRead}
 
 -- an input error says what is known to be wrong
 pub fails_by_input : (W P : Type 0) (f : Failure) → IsInput f → W → FailsFor W P f
@@ -17,6 +17,14 @@ fails_by_input W P (Usage wrong) input is = absurd input
 fails_by_input W P Said input is = absurd input
 fails_by_input W P (Output kind) input is = absurd input
 fails_by_input W P Memory input is = absurd input
+
+-- a usage error says what is known of the words
+pub fails_by_usage : (W P : Type 0) (f : Failure) → IsUsage f → P → FailsFor W P f
+fails_by_usage W P (Usage wrong) usage is = is
+fails_by_usage W P (Input wrong) usage is = absurd usage
+fails_by_usage W P Said usage is = absurd usage
+fails_by_usage W P (Output kind) usage is = absurd usage
+fails_by_usage W P Memory usage is = tt
 
 -- what a failure says is also what follows of it
 pub fails_weaker : (W V P : Type 0) (f : Failure) → (W → V) → FailsFor W P f → FailsFor V P f
