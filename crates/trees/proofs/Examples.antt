@@ -1,6 +1,7 @@
--- Paths by computation.
-use Rattle.std.proofs.Common.{◌≡◌, true, false, None, [], ◌∷◌, codes, refl}
+-- Paths and indented text by computation.
+use Rattle.std.proofs.Common.{◌≡◌, true, false, None, [], ◌∷◌, ◌++◌, codes, refl}
 use Rattle.trees.specs.Listing.{unmarked, path_lines, path_names, given_paths, are_wrong}
+use Rattle.trees.specs.Outlining.{filled_lines, first_indent, first_bullet}
 
 -- what the page on the programs says of names
 starts : path_names (codes "././a/") ≡ codes "a" ∷ []
@@ -29,3 +30,25 @@ mixed = refl
 
 alike : are_wrong None (codes "/a" ∷ [] ∷ codes "//b" ∷ []) ≡ false
 alike = refl
+
+-- ## Indented text
+
+-- blank lines don't count, nor a carriage return before a line feed
+filled : filled_lines (codes "a" ++ 13 ∷ 10 ∷ 32 ∷ 9 ∷ 10 ∷ codes "  b" ++ 10 ∷ []) ≡ codes "a" ∷ codes "  b" ∷ []
+filled = refl
+
+-- the unit is the blanks before the first line that has some, or a tab, and the bullet that of the first line
+blanks : first_indent (codes "- a" ∷ codes "   - b" ∷ codes " c" ∷ []) ≡ codes "   "
+blanks = refl
+
+tabs : first_indent (codes "a" ∷ (9 ∷ 9 ∷ 98 ∷ []) ∷ codes "  c" ∷ []) ≡ 9 ∷ []
+tabs = refl
+
+none_indented : first_indent (codes "a" ∷ []) ≡ 9 ∷ []
+none_indented = refl
+
+bullet : first_bullet (codes "* a" ∷ codes "  - b" ∷ []) ≡ codes "* "
+bullet = refl
+
+no_bullet : first_bullet (codes "-a" ∷ codes "  - b" ∷ []) ≡ []
+no_bullet = refl
