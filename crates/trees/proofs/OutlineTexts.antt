@@ -1,6 +1,6 @@
 -- Blank lines, indents and labels.
-use Rattle.std.proofs.Common.{◌≡◌, ◌≢◌, ◌∙◌, ℕ, ◌-◌, ◌≤◌, ◌&&◌, not, Bool, true, false, cond, eqb, Option, Some, None, List, [], ◌∷◌, ◌++◌, length, take, drop, map, lit<, refl, sym, ap, append_assoc, arith}
-use Rattle.std.proofs.lemmas.Bool.{false≢true, eqb-true, and_parts, ne_eqb}
+use Rattle.std.proofs.Common.{◌≡◌, ◌≢◌, ◌∙◌, ℕ, ◌&&◌, not, Bool, true, false, cond, eqb, Option, Some, None, List, [], ◌∷◌, ◌++◌, length, drop, map, lit<, refl, sym, ap, append_assoc, arith}
+use Rattle.std.proofs.lemmas.Bool.{false≢true, and_parts, ne_eqb}
 use Rattle.std.proofs.lemmas.List.{append_cancel_right}
 use Rattle.std.proofs.lemmas.List.Sums.{take_while-cons}
 use Rattle.std.proofs.lemmas.Simd.{map-map}
@@ -32,8 +32,8 @@ pub unit_blank : (line : List ℕ) (r : Bool) → eqb (length line) 0 ≡ false 
 unit_blank [] r some unit = absurd (false≢true (sym some))
 unit_blank (b ∷ line) r some unit =
     ap not (both_ways r (list_all is_blank (b ∷ line)) (λ e. blanks_pass (b ∷ line) (unit.0 e).1) (λ e. unit.1 (λ none. no none, pass_blanks (b ∷ line) e))) where
-  no : b ∷ line ≡ [] → ⊥
-  no none = cc
+      no : b ∷ line ≡ [] → ⊥
+      no none = cc
 
 -- ## Indents
 
@@ -45,11 +45,11 @@ cut_blanks (n ∷ ns) s r h =
     let before = cut_blanks ns s m h.1 in
     let blank : m ≡ 32 ∷ drop n m = drop_at_char 32 m 0 n h.2 (lit< tt) in
     let parts : s ≡ (before.0 ++ 32 ∷ []) ++ r =
-        before.2 ∙ (ap (λ (z : List ℕ). before.0 ++ z) (blank ∙ ap (λ (z : List ℕ). 32 ∷ z) (sym h.3)) ∙ sym (append_assoc before.0 (32 ∷ []) r)) in
+    before.2 ∙ (ap (λ (z : List ℕ). before.0 ++ z) (blank ∙ ap (λ (z : List ℕ). 32 ∷ z) (sym h.3)) ∙ sym (append_assoc before.0 (32 ∷ []) r)) in
     (before.0 ++ 32 ∷ [], more before.0 before.1, parts) where
-  more : (front : List ℕ) → AllByRecursion (λ b. eqb b 32 ≡ true) front → AllByRecursion (λ b. eqb b 32 ≡ true) (front ++ 32 ∷ [])
-  more [] h = (refl, tt)
-  more (b ∷ front) h = (h.0, more front h.1)
+      more : (front : List ℕ) → AllByRecursion (λ b. eqb b 32 ≡ true) front → AllByRecursion (λ b. eqb b 32 ≡ true) (front ++ 32 ∷ [])
+      more [] h = (refl, tt)
+      more (b ∷ front) h = (h.0, more front h.1)
 
 -- where none is left to cut, the text does not begin with one
 no_blank : (r : List ℕ) (o : Option ℕ) → FindsCharPrefix 32 r o → IfSome o (λ n. n ≡ 0) → (rest : List ℕ) → r ≢ 32 ∷ rest

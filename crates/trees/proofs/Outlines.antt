@@ -1,5 +1,5 @@
 -- The lines of indented text, and their trees.
-use Rattle.std.proofs.Common.{◌≡◌, ◌≢◌, ◌∙◌, ℕ, zero, suc, ◌+◌, ◌<◌, ◌≤◌, not, Bool, true, false, cond, eqb, Option, Some, None, ◌⊎◌, List, [], ◌∷◌, ◌++◌, length, get_or, take, drop, map, inl, inr, refl, sym, ap, subst, append_assoc, string_bytes, arith}
+use Rattle.std.proofs.Common.{◌≡◌, ◌≢◌, ◌∙◌, ℕ, zero, suc, ◌+◌, ◌<◌, ◌≤◌, Bool, true, false, cond, eqb, Option, Some, None, ◌⊎◌, List, [], ◌∷◌, ◌++◌, length, get_or, take, drop, map, inl, inr, refl, sym, ap, subst, append_assoc, arith}
 use Rattle.std.proofs.lemmas.Bool.{false≢true, cases_lt, ne_eqb}
 use Rattle.std.proofs.lemmas.List.{append-nil, append_cancel_left, at_drop_more, map_more, map_push}
 use Rattle.std.proofs.lemmas.List.Concat.{flat_map-append}
@@ -7,8 +7,8 @@ use Rattle.std.proofs.lemmas.List.Elements.{All-nil, All-cons, All-head, All-tai
 use Rattle.std.proofs.lemmas.List.Splits.{slice_split_at}
 use Rattle.std.specs.Borrow.{Bor}
 use Rattle.std.specs.Prelude.{unwrap_or}
-use Rattle.std.specs.List.{All, Any, flat_map, filter, slice_split}
-use Rattle.ptree.specs.Outline.{Line, outline, outline_at}
+use Rattle.std.specs.List.{All, Any, filter, slice_split}
+use Rattle.ptree.specs.Outline.{Line, outline}
 use Rattle.ptree.specs.Texts.{HasNoLineFeed}
 use Rattle.ptree.specs.Tree.{Tree, height}
 use Rattle.ptree.proofs.Reading.SpelledForms.{Low, low_height, height_low}
@@ -184,10 +184,10 @@ pub form_fails : (source : Source) (outline : Outline) (form : Form) (ls : List 
     → FailsToOutline source outline e
 form_fails source outline form ls e lines options wrong usage =
     fails_by_usage ((t : Tree) → HoldsOutline source outline t → ⊥) ((g : Form) → IsFormOf outline (outline_lines source) g → IsRightForm g → ⊥) e usage each where
-  each : (g : Form) → IsFormOf outline (outline_lines source) g → IsRightForm g → ⊥
-  each g others right =
-      let same = same_options outline (outline_lines source) g form others (subst (λ (x : List (List ℕ)). IsFormOf outline x form) lines options) in
-      wrong (subst IsUnit same.0 right.0, subst IsLineText same.1 right.1)
+      each : (g : Form) → IsFormOf outline (outline_lines source) g → IsRightForm g → ⊥
+      each g others right =
+          let same = same_options outline (outline_lines source) g form others (subst (λ (x : List (List ℕ)). IsFormOf outline x form) lines options) in
+          wrong (subst IsUnit same.0 right.0, subst IsLineText same.1 right.1)
 
 -- ## Loops
 
@@ -221,10 +221,10 @@ text_more old now new start lines i d low before is = is
     ∙ (ap (λ (z : List ℕ). z ++ ((start ++ (get_or lines i d).now) ++ 10 ∷ [])) before
     ∙ (append_assoc old (text_of_lines (map (λ (l : Bor (List ℕ)). start ++ l.now) (take i lines))) ((start ++ (get_or lines i d).now) ++ 10 ∷ [])
     ∙ ap (λ (z : List ℕ). old ++ z) (next ∙ ap text_of_lines (sym (map_more (λ (l : Bor (List ℕ)). start ++ l.now) lines i d low))))) where
-  next : text_of_lines (map (λ (l : Bor (List ℕ)). start ++ l.now) (take i lines)) ++ ((start ++ (get_or lines i d).now) ++ 10 ∷ [])
-      ≡ text_of_lines (map (λ (l : Bor (List ℕ)). start ++ l.now) (take i lines) ++ (start ++ (get_or lines i d).now) ∷ [])
-  next = ap (λ (z : List ℕ). text_of_lines (map (λ (l : Bor (List ℕ)). start ++ l.now) (take i lines)) ++ z) (sym (append-nil ((start ++ (get_or lines i d).now) ++ 10 ∷ [])))
-      ∙ sym (flat_map-append (λ (l : List ℕ). l ++ 10 ∷ []) (map (λ (l : Bor (List ℕ)). start ++ l.now) (take i lines)) ((start ++ (get_or lines i d).now) ∷ []))
+      next : text_of_lines (map (λ (l : Bor (List ℕ)). start ++ l.now) (take i lines)) ++ ((start ++ (get_or lines i d).now) ++ 10 ∷ [])
+          ≡ text_of_lines (map (λ (l : Bor (List ℕ)). start ++ l.now) (take i lines) ++ (start ++ (get_or lines i d).now) ∷ [])
+      next = ap (λ (z : List ℕ). text_of_lines (map (λ (l : Bor (List ℕ)). start ++ l.now) (take i lines)) ++ z) (sym (append-nil ((start ++ (get_or lines i d).now) ++ 10 ∷ [])))
+          ∙ sym (flat_map-append (λ (l : List ℕ). l ++ 10 ∷ []) (map (λ (l : Bor (List ℕ)). start ++ l.now) (take i lines)) ((start ++ (get_or lines i d).now) ∷ []))
 
 -- the first line that begins with a blank or a tab has the first indent, and others don't count
 indent_some : (line : List ℕ) (ls : List (List ℕ)) → begins_blank line ≡ true → line_indent line ≡ first_indent (line ∷ ls)

@@ -253,11 +253,7 @@ fn folders(
 /// # Errors
 ///
 /// `Input` with the line if the text has no such form, `Usage` if the bullet is none, and `Memory`.
-pub fn outline(
-    alloc: Global,
-    source: &Source,
-    outline: Outline<'_>,
-) -> Result<StringItem, Failure>
+pub fn outline(alloc: Global, source: &Source, outline: Outline<'_>) -> Result<StringItem, Failure>
     ensures some { IfOk result (λ t. HoldsOutline source.now outline.entry (tree_of t)) }
     ensures only { IfOk result (λ t. HoldsNoOtherOutline source.now outline.entry (tree_of t)) }
     // `Input` says that there is no such tree, `Usage` that the unit or the bullet is none.

@@ -1,9 +1,9 @@
-use Rattle.std.proofs.Common.{◌≡◌, ℕ, List, eqb, lit<, map, sym, subst, true, rules}
+use Rattle.std.proofs.Common.{ℕ, List, lit<, sym, subst, rules}
 use Rattle.std.proofs.lemmas.Iterator.Consumers.{YieldsList-turn, YieldsList-end}
 use Rattle.std.proofs.lemmas.Iterator.Splits.{YieldsList-from_str_split}
 use Rattle.std.proofs.lemmas.List.Elements.{All-push, All-map}
 use Rattle.std.specs.Borrow.{Bor}
-use Rattle.std.specs.List.{All, slice_split}
+use Rattle.std.specs.List.{All}
 use Rattle.trees.specs.ListingParts.{IsDeep}
 use Rattle.trees.proofs.levels.deep_line.Goals as goal
 

@@ -1,11 +1,9 @@
-use Rattle.std.proofs.Common.{◌≡◌, ◌∙◌, true, false, ◌∷◌, [], ◌++◌, ap, rules}
+use Rattle.std.proofs.Common.{◌∙◌, ap}
 use Rattle.std.proofs.lemmas.Iterator.Consumers.{YieldsList-end}
 use Rattle.std.proofs.lemmas.Iterator.Splits.{YieldsList-from_lines}
 use Rattle.std.specs.Prelude.{filter}
 use Rattle.trees.specs.Outlining.{is_filled}
-use Rattle.trees.proofs.Outlines.{filled_more, filled_same}
 use Rattle.trees.proofs.lists.filled_lines.Goals as goal
-
 
 pub returns : goal.returns
 returns c =

@@ -1,4 +1,4 @@
-use Rattle.std.proofs.Common.{◌≡◌, ◌∙◌, ℕ, true, false, List, [], get_or, map, sym, ap, rules}
+use Rattle.std.proofs.Common.{◌≡◌, ◌∙◌, ℕ, true, false, List, [], get_or, map, sym, rules}
 use Rattle.std.proofs.lemmas.List.{at_drop_all}
 use Rattle.std.specs.Borrow.{Bor}
 use Rattle.ptree_trees.specs.Indented.{begins_blank}
@@ -12,7 +12,7 @@ returns-then-is_indented c =
     let i = c.loop-line.line-index in
     let blank : begins_blank (get_or lines i (record { ref_ptr = (0, 0); now = [] })).now ≡ true = search rules in
     let here : line_indent (get_or lines i (record { ref_ptr = (0, 0); now = [] })).now ≡ first_indent (map (λ (l : Bor (List ℕ)). l.now) lines) =
-        indent_here lines i (record { ref_ptr = (0, 0); now = [] }) c.loop-line-test.true blank c.loop-line.invariant in
+    indent_here lines i (record { ref_ptr = (0, 0); now = [] }) c.loop-line-test.true blank c.loop-line.invariant in
     search (rules, here)
 
 pub loop-line-preserved : goal.loop-line-preserved

@@ -1,4 +1,4 @@
-use Rattle.std.proofs.Common.{◌≡◌, ◌++◌, ◌∷◌, ◌∙◌, ℕ, List, [], Option, map, sym, subst, string_bytes, rules}
+use Rattle.std.proofs.Common.{◌≡◌, ◌++◌, ◌∷◌, ℕ, List, [], Option, map, sym, subst, string_bytes, rules}
 use Rattle.std.specs.Borrow.{Bor}
 use Rattle.trees.specs.Outlining.{text_of_lines, labelled_lines}
 use Rattle.trees.proofs.OutlineTexts.{labelled_some}

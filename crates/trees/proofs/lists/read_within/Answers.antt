@@ -1,4 +1,3 @@
-use Rattle.std.proofs.Common.{rules}
 use Rattle.ptree.specs.Tree.{Tree, tree_of}
 use Rattle.trees.specs.Outlining.{IsFormWithin}
 use Rattle.trees.proofs.Outlines.{within_lines, deep_line}
