@@ -1,4 +1,4 @@
-use Rattle.std.proofs.Common.{◌≡◌, ◌∙◌, ◌-◌, ◌++◌, [], ◌∷◌, get_or, refl, List, None, map, drop, length, ap, sym, subst, arith, rules, string_bytes}
+use Rattle.std.proofs.Common.{◌≡◌, ◌∙◌, ◌+◌, ◌-◌, ◌++◌, [], ◌∷◌, get_or, refl, List, None, IfOk, map, drop, length, ap, sym, subst, arith, rules, string_bytes}
 use Rattle.std.specs.List.{slice_range}
 use Rattle.std.specs.Prelude.{IfSome}
 use Rattle.std.proofs.lemmas.List.{drop_all, take_all, length-drop}
@@ -6,7 +6,7 @@ use Rattle.std.proofs.lemmas.Result.{IfOk-weaker}
 use Rattle.ptree.specs.declared.item.StringItem.{StringItem, out-StringItem}
 use Rattle.ptree.specs.Tree.{Forest, tree_of, forest}
 use Rattle.ptree_trees.specs.Styled.{HasParts}
-use Rattle.trees.specs.declared.compare.Side.TheVariants.{Right}
+use Rattle.trees.specs.declared.compare.Side.TheVariants.{Left, Right}
 use Rattle.trees.specs.MergingParts.{IsFoundAt}
 use Rattle.trees.specs.Merging.{styled_tree_of, marked_tree, styled_forest, roots_text, ShowsBoth, ShowsMerge}
 use Rattle.trees.proofs.Merges.{text_of_item, forest_below, pushed_shown, whole_both, items_left, items_passed, text_found, step_both, step_left, step_end}
@@ -22,8 +22,9 @@ both-returns t c =
     let children = c.in_ok-children.children.items in
     let own : text ≡ roots_text look (string_bytes (out-StringItem c.args.left.now).text) (string_bytes (out-StringItem c.args.right.now).text) = search rules in
     let texts : text ≡ roots_text look left.text right.text = rw (text_of_item c.args.left.now, text_of_item c.args.right.now) own in
+    let parts : IfOk c.new.result (HasParts text None children) = search rules in
     IfOk-weaker c.new.result (HasParts text None children) (λ s. ShowsBoth look left right (styled_tree_of s))
-    (λ s parts. whole_both look left right s text children parts texts c.in_ok-children.ensures) c.new.ensures
+    (λ s has. whole_both look left right s text children has texts c.in_ok-children.ensures) parts
 
 pub both_children-loop-child-preserved : goal.both_children-loop-child-preserved
 both_children-loop-child-preserved t c =
@@ -50,8 +51,9 @@ both_children-loop-child-preserved t c =
           let passed : map styled_tree_of w.push_right.new.made.items ≡ made ++ map (marked_tree look Right) (map tree_of over) = search rules in
           let pushed : c.match-branch-2.made.items ≡ w.push_right.new.made.items ++ s ∷ [] = ap (λ v. v.items) w.made-is ∙ w.in_ok-push-in-Some.ensures.items in
           let is : y ≡ get_or ys at y = w.index-others-at.is in
+          let next : c.match-branch-2.taken ≡ at + 1 = search rules in
           let texts = text_of_item x ∙ sym c.as_str.ensures.value ∙ text_found ys at y text found.within is found.same in
-          rw w.taken-is (record {
+          rw next (record {
             within = omega (arith, found.within);
             items = kept;
             shows = step_both look (map tree_of xs) (map tree_of ys) (tree_of x) (tree_of y) (map tree_of over) _ _ _ _ (styled_tree_of s) made new first (items_passed ys taken at y found.behind found.within is)
@@ -59,12 +61,13 @@ both_children-loop-child-preserved t c =
           })
       | both_children-in-None+in_ok-marked-in-None+in_ok-push-in-None w ↦
           let s = w.in_ok-marked-in-None.field-0 in
+          let marked : styled_tree_of s ≡ marked_tree look Left (tree_of x) = search rules in
           let pushed : c.match-branch-2.made.items ≡ c.loop-child.made.items ++ s ∷ [] = ap (λ v. v.items) w.made-is ∙ w.in_ok-push-in-None.ensures.items in
           rw w.taken-is (record {
             within = before.within;
             items = kept;
             shows = step_left look (map tree_of xs) (map tree_of ys) (tree_of x) _ _ _ (styled_tree_of s) made new first (pushed_shown c.loop-child.made.items c.match-branch-2.made.items s made pushed refl)
-                w.in_ok-marked-in-None.ensures before.shows;
+                marked before.shows;
           })
     ]
 

@@ -9,8 +9,13 @@ use Rattle.trees.proofs.compare.+marked.Goals as goal
 
 pub loop-child-preserved : goal.loop-child-preserved
 loop-child-preserved t c =
-    next_shown tree_of styled_tree_of (marked_tree c.args.look c.args.side) [] c.deref-child-items.result.now c.loop-child.children.items c.push.new.self.items c.loop-child.child-index
-    c.child-item.result c.in_ok-marked.field-0 c.loop-child-test.true c.child-item.is c.in_ok-push.ensures.items c.loop-child.invariant c.in_ok-marked.ensures
+    let look = c.args.look in
+    let side = c.args.side in
+    let item = c.child-item.result in
+    let made = c.in_ok-marked.field-0 in
+    let marked : styled_tree_of made ≡ marked_tree look side (tree_of item) = search rules in
+    next_shown tree_of styled_tree_of (marked_tree look side) [] c.deref-child-items.result.now c.loop-child.children.items c.push.new.self.items c.loop-child.child-index
+    item made c.loop-child-test.true c.child-item.is c.in_ok-push.ensures.items c.loop-child.invariant marked
 
 pub returns : goal.returns
 returns t c =

@@ -1,4 +1,4 @@
-use Rattle.std.proofs.Common.{◌≡◌, ◌++◌, List, map, take_all, subst}
+use Rattle.std.proofs.Common.{◌≡◌, ◌++◌, List, map, take_all, subst, rules}
 use Rattle.ptree.specs.Tree.{tree_of}
 use Rattle.ptree.specs.declared.item.StringItem.{StringItem}
 use Rattle.trees.specs.declared.compare.Side.TheVariants.{Right}
@@ -8,8 +8,12 @@ use Rattle.trees.proofs.compare.push_right.Goals as goal
 
 pub loop-item-preserved : goal.loop-item-preserved
 loop-item-preserved c =
-    next_shown tree_of styled_tree_of (marked_tree c.args.look Right) (map styled_tree_of c.args.made.now.items) c.args.items.now c.loop-item.made.items c.push.new.self.items c.loop-item.item-index
-    c.item-item.result c.in_ok-marked.field-0 c.loop-item-test.true c.item-item.is c.in_ok-push.ensures.items c.loop-item.invariant c.in_ok-marked.ensures
+    let look = c.args.look in
+    let item = c.item-item.result in
+    let made = c.in_ok-marked.field-0 in
+    let marked : styled_tree_of made ≡ marked_tree look Right (tree_of item) = search rules in
+    next_shown tree_of styled_tree_of (marked_tree look Right) (map styled_tree_of c.args.made.now.items) c.args.items.now c.loop-item.made.items c.push.new.self.items c.loop-item.item-index
+    item made c.loop-item-test.true c.item-item.is c.in_ok-push.ensures.items c.loop-item.invariant marked
 
 pub returns : goal.returns
 returns c =

@@ -5,7 +5,7 @@ use Rattle.ptree.specs.Config.{config_of, is_styled}
 use Rattle.ptree.specs.Tree.{tree_of}
 use Rattle.trees.specs.declared.compare.Look.{Look}
 use Rattle.trees.specs.declared.failure.Failure.TheVariants.{Memory}
-use Rattle.trees.specs.Merging.{IsMergeDrawing, look_of}
+use Rattle.trees.specs.Merging.{IsMergeDrawing, ShowsBoth, look_of, styled_tree_of}
 use Rattle.trees.specs.Reading.{IsWriting}
 use Rattle.trees.proofs.MergeDrawings.{merge_drawing, refuses_early, refuses_part}
 use Rattle.trees.proofs.perform.write_both.Goals as goal
@@ -30,7 +30,8 @@ returns-in_err-written-clause-written g c =
     let look : Look = record { is_colored = c.eq.result; is_escaped = is_terminal } in
     let colored : c.eq.result ≡ is_styled config.styled Unknown false = search rules in
     let same : look ≡ look_of config is_terminal = ap (λ b. record { is_colored = b; is_escaped = is_terminal }) colored in
-    let is = merge_drawing config is_terminal look left right c.in_ok-both.both drawn.0 same c.in_ok-both.ensures drawn.1 in
+    let shows : ShowsBoth look left right (styled_tree_of c.in_ok-both.both) = search rules in
+    let is = merge_drawing config is_terminal look left right c.in_ok-both.both drawn.0 same shows drawn.1 in
     refuses_part (g.W.Sink.contents c.args.out.now) (g.W.Sink.contents c.write_tree_with-written.new.f) r (IsMergeDrawing config is_terminal left right) (λ e. e ≡ Memory) drawn.0 err writing is drawn.2
 
 pub returns-clause-written : goal.returns-clause-written
@@ -43,4 +44,5 @@ returns-clause-written g c =
     let look : Look = record { is_colored = c.eq.result; is_escaped = is_terminal } in
     let colored : c.eq.result ≡ is_styled config.styled Unknown false = search rules in
     let same : look ≡ look_of config is_terminal = ap (λ b. record { is_colored = b; is_escaped = is_terminal }) colored in
-    (drawn.0, merge_drawing config is_terminal look left right c.in_ok-both.both drawn.0 same c.in_ok-both.ensures drawn.1, drawn.2)
+    let shows : ShowsBoth look left right (styled_tree_of c.in_ok-both.both) = search rules in
+    (drawn.0, merge_drawing config is_terminal look left right c.in_ok-both.both drawn.0 same shows drawn.1, drawn.2)
