@@ -1,9 +1,9 @@
-use Rattle.std.proofs.Common.{ℕ, List, lit<, sym, subst, rules}
+use Rattle.std.proofs.Common.{ℕ, eqb, List, lit<, sym, subst, rules}
 use Rattle.std.proofs.lemmas.Iterator.Consumers.{YieldsList-turn, YieldsList-end}
 use Rattle.std.proofs.lemmas.Iterator.Splits.{YieldsList-from_str_split}
 use Rattle.std.proofs.lemmas.List.Elements.{All-push, All-map}
 use Rattle.std.specs.Borrow.{Bor}
-use Rattle.std.specs.List.{All}
+use Rattle.std.specs.List.{All, Any, slice_split}
 use Rattle.trees.specs.ListingParts.{IsDeep}
 use Rattle.trees.proofs.levels.deep_line.Goals as goal
 
@@ -12,7 +12,8 @@ returns-then-is_deep c =
     let line = c.in-Some.line in
     let turn = YieldsList-turn (YieldsList-from_str_split 10 c.args.text.now (lit< tt) (cc) (cc) (cc)) c.loop-line.yielded _ c.loop-line.yielded_by _ _ line c.in-Some.is c.next.ensures.steps in
     let deep : IsDeep 5000 c.args.unit.now line.now = search rules in
-    (_, line.now, turn.0, sym turn.1, deep)
+    let some : Any (IsDeep 5000 c.args.unit.now) (slice_split (λ b. eqb b 10) c.args.text.now) = (_, line.now, turn.0, sym turn.1, deep) in
+    search (rules, some)
 
 pub loop-line-preserved : goal.loop-line-preserved
 loop-line-preserved c =

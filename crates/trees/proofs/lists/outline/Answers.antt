@@ -33,8 +33,9 @@ returns-then-not-is_right-clause-failed c =
     let same : ls ≡ outline_lines c.args.source.now = cc (c.in_ok-lines.ensures) in
     let indent : c.first_indent.result.now ≡ first_indent ls = search rules in
     let first : c.first_bullet.result.now ≡ first_bullet ls = search rules in
-    form_fails c.args.source.now outline form ls c.in_ok-failure.field-0 same
-    (form_is outline ls c.unwrap_or.result c.unwrap_or-2.result c.first_indent.result c.first_bullet.result c.unwrap_or.ensures c.unwrap_or-2.ensures indent first)
+    let unit : c.unwrap_or.result ≡ unwrap_or outline.unit c.first_indent.result = search rules in
+    let bullet : c.unwrap_or-2.result ≡ unwrap_or outline.bullet c.first_bullet.result = search rules in
+    form_fails c.args.source.now outline form ls c.in_ok-failure.field-0 same (form_is outline ls c.unwrap_or.result c.unwrap_or-2.result c.first_indent.result c.first_bullet.result unit bullet indent first)
     (λ right. false≢true (sym c.if-not-is_right.true ∙ c.is_right.ensures.1 right)) c.in_ok-failure.ensures
 
 pub returns-clause-some : goal.returns-clause-some
