@@ -11,26 +11,32 @@ use Rattle.trees.proofs.Outlines.{form_is, IsTextOf, text_is, within_held, held_
 use Rattle.trees.proofs.lists.outline.Goals.{After-drop-text}
 use Rattle.trees.proofs.lists.outline.Goals as goal
 
--- what was read is the text of the outline
-text_read : (c : After-drop-text) → IsTextOf c.args.source.now c.args.outline (record { unit = c.unwrap_or.result; bullet = c.unwrap_or-2.result }) c.as_str.result.now
-text_read c =
+-- the unit and the bullet
+abbrev made_form : After-drop-text → Form
+made_form c = record { unit = c.unwrap_or.result; bullet = c.unwrap_or-2.result }
+
+-- the text is made of the lines
+abbrev IsMade : After-drop-text → Type 0
+IsMade c = c.as_str.result.now ≡ text_of_lines (labelled_lines (made_form c) c.args.outline.label (map (λ (l : Bor (List ℕ)). l.now) c.in_ok-lines.lines.items))
+
+-- so it is that of the outline
+text_read : (c : After-drop-text) → IsMade c → IsTextOf c.args.source.now c.args.outline (made_form c) c.as_str.result.now
+text_read c is =
     let outline = c.args.outline in
-    let form : Form = record { unit = c.unwrap_or.result; bullet = c.unwrap_or-2.result } in
     let ls : List (List ℕ) = map (λ (l : Bor (List ℕ)). l.now) c.in_ok-lines.lines.items in
-    let same : ls ≡ outline_lines c.args.source.now = cc (c.in_ok-lines.ensures) in
+    let same : ls ≡ outline_lines c.args.source.now = search rules in
     let indent : c.first_indent.result.now ≡ first_indent ls = search rules in
     let first : c.first_bullet.result.now ≡ first_bullet ls = search rules in
-    let is : c.as_str.result.now ≡ text_of_lines (labelled_lines form outline.label ls) = search rules in
     let unit : c.unwrap_or.result ≡ unwrap_or outline.unit c.first_indent.result = search rules in
     let bullet : c.unwrap_or-2.result ≡ unwrap_or outline.bullet c.first_bullet.result = search rules in
-    text_is c.args.source.now outline form ls c.as_str.result.now same (form_is outline ls c.unwrap_or.result c.unwrap_or-2.result c.first_indent.result c.first_bullet.result unit bullet indent first) is
+    text_is c.args.source.now outline (made_form c) ls c.as_str.result.now same (form_is outline ls c.unwrap_or.result c.unwrap_or-2.result c.first_indent.result c.first_bullet.result unit bullet indent first) is
 
 pub returns-then-not-is_right-clause-failed : goal.returns-then-not-is_right-clause-failed
 returns-then-not-is_right-clause-failed c =
     let outline = c.args.outline in
     let form : Form = record { unit = c.unwrap_or.result; bullet = c.unwrap_or-2.result } in
     let ls : List (List ℕ) = map (λ (l : Bor (List ℕ)). l.now) c.in_ok-lines.lines.items in
-    let same : ls ≡ outline_lines c.args.source.now = cc (c.in_ok-lines.ensures) in
+    let same : ls ≡ outline_lines c.args.source.now = search rules in
     let indent : c.first_indent.result.now ≡ first_indent ls = search rules in
     let first : c.first_bullet.result.now ≡ first_bullet ls = search rules in
     let unit : c.unwrap_or.result ≡ unwrap_or outline.unit c.first_indent.result = search rules in
@@ -40,21 +46,24 @@ returns-then-not-is_right-clause-failed c =
 
 pub returns-clause-some : goal.returns-clause-some
 returns-clause-some c =
-    let form : Form = record { unit = c.unwrap_or.result; bullet = c.unwrap_or-2.result } in
-    let text : List ℕ = c.as_str.result.now in
+    let form = made_form c in
+    let text = c.as_str.result.now in
+    let is : IsMade c = search rules in
     IfOk-weaker c.read_within.result (λ t. IsFormWithin form text (tree_of t)) (λ t. HoldsOutline c.args.source.now c.args.outline (tree_of t))
-    (λ t within. within_held c.args.source.now c.args.outline form text (tree_of t) (text_read c) within) c.read_within.ensures.some
+    (λ t within. within_held c.args.source.now c.args.outline form text (tree_of t) (text_read c is) within) c.read_within.ensures.some
 
 pub returns-clause-only : goal.returns-clause-only
 returns-clause-only c =
-    let form : Form = record { unit = c.unwrap_or.result; bullet = c.unwrap_or-2.result } in
-    let text : List ℕ = c.as_str.result.now in
+    let form = made_form c in
+    let text = c.as_str.result.now in
+    let is : IsMade c = search rules in
     IfOk-weaker c.read_within.result (λ t. (u : Tree) → IsFormWithin form text u → tree_of t ≡ u) (λ t. HoldsNoOtherOutline c.args.source.now c.args.outline (tree_of t))
-    (λ t no u holds. no u (held_within c.args.source.now c.args.outline form text u (text_read c) holds)) c.read_within.ensures.only
+    (λ t no u holds. no u (held_within c.args.source.now c.args.outline form text u (text_read c is) holds)) c.read_within.ensures.only
 
 pub returns-clause-failed : goal.returns-clause-failed
 returns-clause-failed c =
-    let form : Form = record { unit = c.unwrap_or.result; bullet = c.unwrap_or-2.result } in
-    let text : List ℕ = c.as_str.result.now in
+    let form = made_form c in
+    let text = c.as_str.result.now in
+    let is : IsMade c = search rules in
     IfErr-weaker c.read_within.result (FailsToMake ⊥ (IsFormWithin form text)) (FailsToOutline c.args.source.now c.args.outline)
-    (λ e fails. outline_fails c.args.source.now c.args.outline form text e (text_read c) fails) c.read_within.ensures.failed
+    (λ e fails. outline_fails c.args.source.now c.args.outline form text e (text_read c is) fails) c.read_within.ensures.failed
