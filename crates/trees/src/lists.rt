@@ -510,6 +510,8 @@ fn wrong_root(text: &str, bullet: Option<&str>) -> Option<&'static str> {
         Some("the root's text begins with a bullet; use --bullet, '' for none")
     } else if bullet.unwrap_or("").is_empty() && text.starts_with('\u{feff}') {
         Some("the root's text begins with a byte order mark; use --bullet")
+    } else if bullet.unwrap_or("").starts_with('\u{feff}') {
+        Some("the bullet begins with a byte order mark; use another --bullet")
     } else {
         None
     }

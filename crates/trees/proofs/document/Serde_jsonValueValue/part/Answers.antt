@@ -1,7 +1,7 @@
-use Rattle.std.proofs.Common.{◌≡◌, ◌∙◌, None, Some, Ok, option_map, rules, refl, sym, ap}
+use Rattle.std.proofs.Common.{◌≡◌, ◌∙◌, None, Ok, option_map, rules, refl, sym, ap}
 use Rattle.serde_json.specs.View.{view}
 use Rattle.ptree.specs.File.{json}
-use Rattle.ptree_trees.specs.RefusedPath.{at_key, at_position}
+use Rattle.ptree_trees.specs.RefusedPath.{at_key}
 use Rattle.trees.specs.Documents.{node_at}
 use Rattle.trees.proofs.Parts.{parsed_step, at_its_position, mapped_twice}
 use Rattle.trees.proofs.document.Serde_jsonValueValue.part.Goals as goal
