@@ -185,7 +185,7 @@ class Config:
         """Returns the configuration of the environment's variables, or of others, and of the file that they name or that is in the user's
         folder of configurations. If any of these is invalid, it is the complete default.
 
-        Raises only MemoryError.
+        Raises only MemoryError, if the names and values are str or bytes.
         """
         given = _texts(os.environb.items()) if variables is None else _texts(variables.items())
         try:
