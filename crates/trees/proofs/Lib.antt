@@ -10,6 +10,9 @@ pub mod Parts
 pub mod PathNames
 pub mod Readings
 pub mod Shown
+pub mod ShownDrawings
+pub mod ShownMerges
+pub mod ShownTexts
 pub mod StyledTrees
 pub mod Told
 pub mod Writings

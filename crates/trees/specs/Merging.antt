@@ -1,5 +1,5 @@
 -- Merges of two trees, and how they are shown.
-use Rattle.std.specs.Prelude.{◌≡◌, ℕ, Bool, false, if◌then◌else◌, List, [], ◌∷◌, ◌++◌, Option, Some, None, option_map, unwrap_or, codes, string_bytes}
+use Rattle.std.specs.Prelude.{◌≡◌, ◌⊎◌, ℕ, Bool, true, false, if◌then◌else◌, List, [], ◌∷◌, ◌++◌, Option, Some, None, option_map, unwrap_or, codes, string_bytes}
 use Rattle.std.specs.Str.{bytes_eq}
 use Rattle.ptree.specs.declared.print_config.OutputKind.TheVariants.{Unknown}
 use Rattle.ptree.specs.declared.style.color.Color.TheVariants.{Red, Green}
@@ -17,6 +17,7 @@ use Rattle.ptree_trees.specs.declared.styled.StyledItem.TheFolds.{fold-StyledIte
 use Rattle.trees.specs.declared.compare.Look.{Look}
 use Rattle.trees.specs.declared.compare.Side.{Side}
 use Rattle.trees.specs.declared.compare.Side.TheVariants.{Left, Right}
+use Rattle.trees.specs.Shown.{IsCodeOf, IsLookCode}
 
 -- ## Merges
 
@@ -144,3 +145,9 @@ look_of config is_terminal = record { is_colored = is_styled config.styled Unkno
 abbrev pub IsMergeDrawing : ConfigValue → Bool → Tree → Tree → List ℕ → Type 0
 IsMergeDrawing config is_terminal t u bytes =
     (shown : StyledTree) × ShowsBoth (look_of config is_terminal) t u shown × IsDrawing (look_by config Unknown false) (shape_of_styled shown) config.depth bytes
+
+-- a code of such a drawing on a terminal: one of its look, or of a text that is in one tree alone
+abbrev pub IsMergeCode : ConfigValue → List ℕ → Type 0
+IsMergeCode config part =
+    IsLookCode (look_by config Unknown false) part
+    ⊎ ((side : Side) × (style : StyleValue) × (side_style (look_of config true) side ≡ Some style) × IsCodeOf style part)

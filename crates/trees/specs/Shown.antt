@@ -1,5 +1,5 @@
 -- What a terminal may get.
-use Rattle.std.specs.Prelude.{◌≡◌, ◌⊎◌, ℕ, ◌==◌, ◌||◌, ◌&&◌, not, Bool, true, false, if◌then◌else◌, List, [], ◌∷◌, flat_map, All, Contains, Option, String, string_bytes}
+use Rattle.std.specs.Prelude.{◌≡◌, ◌⊎◌, ℕ, ◌==◌, ◌||◌, ◌&&◌, not, Bool, true, false, if◌then◌else◌, List, [], ◌∷◌, flat_map, All, Option, Result, OnOk, String, string_bytes}
 use Rattle.std.specs.declared.alloc.Global.{Global}
 use Rattle.std.specs.List.{concat}
 use Rattle.std.specs.Str.{chars, encode_utf8_all, NoCharPasses}
@@ -8,7 +8,7 @@ use Rattle.ptree.specs.Characters.{Characters}
 use Rattle.ptree.specs.Config.{ConfigValue}
 use Rattle.ptree.specs.Drawing.{Look}
 use Rattle.ptree.specs.Graph.{weights_of}
-use Rattle.ptree.specs.Style.{StyleValue, style_codes, end_codes}
+use Rattle.ptree.specs.Style.{StyleValue, start_codes, end_codes}
 use Rattle.ptree.specs.Writing.{AppendsPart}
 use Rattle.ptree_trees.specs.Escape.{backslash, is_hidden, escape_char}
 
@@ -47,6 +47,10 @@ AreShownLabels graph = All (λ label. NoCharPasses is_hidden (string_bytes label
 abbrev pub is_raw : ℕ → Bool
 is_raw c = is_hidden c && not (c == 10)
 
+-- a text that had no raw character has none, unless memory ran out
+abbrev pub StaysShown : {A E : Type 0} → String Global → String Global → Result A E → Type 0
+StaysShown old new result = OnOk result (NoCharPasses is_raw (string_bytes old) → NoCharPasses is_raw (string_bytes new))
+
 -- texts without a raw character and texts of which Code holds, joined: a terminal acts on line feeds
 -- and on the latter alone
 abbrev pub IsShown : (List ℕ → Type 0) → List ℕ → Type 0
@@ -60,9 +64,9 @@ ShowsOnly is_terminal Code old new = is_terminal ≡ true → (bytes : List ℕ)
 abbrev pub IsNone : List ℕ → Type 0
 IsNone part = ⊥
 
--- a code of the style, or the reset after its text
+-- the codes before a text in this style, or the reset after it
 abbrev pub IsCodeOf : StyleValue → List ℕ → Type 0
-IsCodeOf style part = Contains (style_codes style) part ⊎ (part ≡ end_codes style)
+IsCodeOf style part = (part ≡ start_codes style) ⊎ (part ≡ end_codes style)
 
 -- such a code of one of the styles of a look
 abbrev pub IsLookCode : Look → List ℕ → Type 0

@@ -33,7 +33,7 @@ use Rattle.trees.specs.Asked.{drawing_value, reading_value}
 use Rattle.trees.specs.Changing.{IsConverted, FailsToConvert}
 use Rattle.trees.specs.Documents.{IsPartTree}
 use Rattle.trees.specs.Listing.{IsListed, FailsToList}
-use Rattle.trees.specs.Merging.{IsMergeDrawing}
+use Rattle.trees.specs.Merging.{IsMergeDrawing, IsMergeCode}
 use Rattle.trees.specs.Outlining.{HoldsOutline, FailsToOutline}
 use Rattle.trees.specs.Reading.{IsWriting, HoldsDrawing, IsReadableValue, FailsFor, FailsToMake, FailsToRead}
 use Rattle.trees.specs.Shown.{IsNone, ShowsOnly, IsLookCode}
@@ -198,6 +198,10 @@ WritesOfCommand sources command.Config old new result = ⊤
 abbrev pub ShowsDrawing : Sources → Drawing → Option (List ℕ) → Option (List ℕ) → Type 0
 ShowsDrawing sources drawing = ShowsOnly drawing.screen.is_terminal (IsLookCode (look_by (drawing_value sources drawing) Unknown false))
 
+-- the same of two trees in one, and of what is said of their first difference
+abbrev pub ShowsMerged : Sources → Drawing → Option (List ℕ) → Option (List ℕ) → Type 0
+ShowsMerged sources drawing = ShowsOnly drawing.screen.is_terminal (IsMergeCode (drawing_value sources drawing))
+
 -- the same of a command; in indented text the unit may be a tab
 abbrev pub ShowsOfCommand : Sources → Command → Option (List ℕ) → Option (List ℕ) → Type 0
 ShowsOfCommand sources (command.Draw source tree drawing) old new = ShowsDrawing sources drawing old new
@@ -205,5 +209,5 @@ ShowsOfCommand sources (command.Convert source convert) old new = ShowsDrawing s
 ShowsOfCommand sources (command.Indented source indented) old new = ShowsOnly indented.is_terminal (λ part. part ≡ indented.unit.now) old new
 ShowsOfCommand sources (command.Check inputs pieces screen) old new = ShowsOnly screen.is_terminal IsNone old new
 ShowsOfCommand sources (command.Deps source deps drawing) old new = ShowsDrawing sources drawing old new
-ShowsOfCommand sources (command.Diff left right diff) old new = ⊤
+ShowsOfCommand sources (command.Diff left right diff) old new = ShowsMerged sources diff.drawing old new
 ShowsOfCommand sources command.Config old new = ⊤

@@ -1,9 +1,11 @@
 //! Compares two trees.
 ghost use Rattle.std.specs.Prelude.{◌≡◌, ◌↔◌, ◌++◌, map, option_map, IfOk, IfSome, OnOk, None, string_bytes};
+ghost use Rattle.std.specs.Str.{NoCharPasses};
 ghost use Rattle.ptree.specs.Style.{style_of};
 ghost use Rattle.ptree.specs.Tree.{tree_of};
 ghost use Rattle.trees.specs.Merging.{ShowsMerge, ShowsBoth, styled_forest, styled_tree_of, look_text, side_mark, side_style, marked_tree, roots_text};
 ghost use Rattle.trees.specs.MergingParts.{ArePlaces, IsFoundAt};
+ghost use Rattle.trees.specs.Shown.{is_raw, StaysShown};
 
 use ptree::item::StringItem;
 use ptree::style::{Color, Style};
@@ -23,15 +25,16 @@ pub fn first(
     left: &StringItem,
     right: &StringItem,
 ) -> Result<Option<String>, AllocError>
-    ensures { IfOk result (λ o. (o ≡ None) ↔ (tree_of left.now ≡ tree_of right.now)) }
+    ensures equal { IfOk result (λ o. (o ≡ None) ↔ (tree_of left.now ≡ tree_of right.now)) }
+    ensures shown { IfOk result (λ o. IfSome o (λ s. NoCharPasses is_raw (string_bytes s))) }
 {
     let Some(found) = first_difference(alloc, left, right)? else {
         return Ok(None);
     };
     let mut said = String::new(alloc);
     push_path(alloc, &mut said, left, &found)?;
-    push_side(alloc, &mut said, "- ", found.left)?;
-    push_side(alloc, &mut said, "+ ", found.right)?;
+    push_side(alloc, &mut said, Side::Left, found.left)?;
+    push_side(alloc, &mut said, Side::Right, found.right)?;
     Ok(Some(said))
 }
 
@@ -41,19 +44,30 @@ fn push_path(
     said: &mut String,
     left: &StringItem,
     found: &Difference<'_>,
-) -> Result<(), AllocError> {
+) -> Result<(), AllocError>
+    ensures { StaysShown said.old said.new result }
+{
     let mut item = Some(left);
     for position in &found.address {
         let Some(above) = item else {
             break;
         };
-        write!(said, "{} / ", escaped(alloc, above.text.as_str())?)?;
+        said.push_str(escaped(alloc, above.text.as_str())?.as_str())?;
+        said.push_str(" / ")?;
         item = above.children.get(*position);
     }
-    match found.address.last() {
+    push_place(alloc, said, found.address.last().copied())
+}
+
+// Adds which child differs, counted from 1, or that the root does.
+fn push_place(alloc: Global, said: &mut String, position: Option<usize>) -> Result<(), AllocError>
+    ensures { StaysShown said.old said.new result }
+{
+    match position {
         Some(position) => {
-            let n = position.saturating_add(1);
-            writeln!(said, "child {n}")
+            said.push_str("child ")?;
+            said.push_str(position.saturating_add(1).to_string(alloc)?.as_str())?;
+            said.push_str("\n")
         }
         None => said.push_str("root\n"),
     }
@@ -63,13 +77,18 @@ fn push_path(
 fn push_side(
     alloc: Global,
     said: &mut String,
-    mark: &str,
+    side: Side,
     item: Option<&StringItem>,
-) -> Result<(), AllocError> {
-    match item {
-        Some(item) => writeln!(said, "{mark}{}", escaped(alloc, item.text.as_str())?),
-        None => writeln!(said, "{mark}(nothing)"),
-    }
+) -> Result<(), AllocError>
+    ensures { StaysShown said.old said.new result }
+{
+    said.push_str(side.mark())?;
+    let text = match item {
+        Some(item) => escaped(alloc, item.text.as_str())?,
+        None => String::from_str(alloc, "(nothing)")?,
+    };
+    said.push_str(text.as_str())?;
+    said.push_str("\n")
 }
 
 /// How the texts of both trees are shown.

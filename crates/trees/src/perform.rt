@@ -15,7 +15,7 @@ ghost use Rattle.trees.specs.Merging.{IsMergeDrawing};
 ghost use Rattle.trees.specs.Reading.{HoldsDrawing, HoldsNoOther, HoldsSome, IsRedrawn, FailsFor, FailsToRead, FailsToMake};
 ghost use Rattle.trees.specs.Shown.{IsNone, ShowsOnly};
 ghost use Rattle.trees.specs.Telling.{TellsWhether, TellsOfCommand};
-ghost use Rattle.trees.specs.Writing.{Writes, IsTreeDrawing, IsGraphDrawing, WritesDrawn, IsIndentation, FailsToIndent, IsGiven, FailsToGive, Draws, Converts, ConvertsBack, WritesOfCommand, ShowsOfCommand, ShowsDrawing, LeavesIfWrong, WritesRefusal, Compares};
+ghost use Rattle.trees.specs.Writing.{Writes, IsTreeDrawing, IsGraphDrawing, WritesDrawn, IsIndentation, FailsToIndent, IsGiven, FailsToGive, Draws, Converts, ConvertsBack, WritesOfCommand, ShowsOfCommand, ShowsDrawing, ShowsMerged, LeavesIfWrong, WritesRefusal, Compares};
 
 use crate::command::{Command, Convert, Deps, Diff, Drawing, Indented, Paths, Tree};
 use crate::compare::{self, Look};
@@ -539,6 +539,8 @@ fn compare_drawings<W: Sink>(
     ensures written { Compares found.now.sources left.now right.now diff
         (W.contents out.old) (W.contents out.new) result }
     ensures quiet { LeavesIfWrong out.old out.new result }
+    ensures shown { ShowsMerged found.now.sources diff.drawing
+        (W.contents out.old) (W.contents out.new) }
 {
     let left = read_drawing(alloc, left, diff.drawing.pieces, found)?;
     compare_with(alloc, &left, right, diff, out, found)
@@ -565,6 +567,8 @@ fn compare_with<W: Sink>(
         → Compares found.now.sources first right.now diff
         (W.contents out.old) (W.contents out.new) result }
     ensures quiet { LeavesIfWrong out.old out.new result }
+    ensures shown { ShowsMerged found.now.sources diff.drawing
+        (W.contents out.old) (W.contents out.new) }
 {
     let right = read_drawing(alloc, right, diff.drawing.pieces, found)?;
     show_difference(alloc, left, &right, diff, out, found)
@@ -586,6 +590,8 @@ fn show_difference<W: Sink>(
         diff.drawing.screen.is_terminal (tree_of left.now) (tree_of right.now))
         (λ e. e ≡ Failure.Memory) }
     ensures quiet { LeavesIfWrong out.old out.new result }
+    ensures shown { ShowsMerged found.now.sources diff.drawing
+        (W.contents out.old) (W.contents out.new) }
 {
     match compare::first(alloc, left, right)? {
         None => Ok(()),

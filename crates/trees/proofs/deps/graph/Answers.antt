@@ -1,4 +1,4 @@
-use Rattle.trees.proofs.Shown.{no_labels, label_added, same_labels}
+use Rattle.trees.proofs.ShownDrawings.{no_labels, label_added, same_labels}
 use Rattle.trees.proofs.deps.graph.Goals as goal
 
 pub loop-label-init : goal.loop-label-init

@@ -1,4 +1,5 @@
 use Rattle.std.proofs.Common.{string_bytes}
+use Rattle.trees.proofs.Shown.{merged_nothing}
 use Rattle.trees.proofs.perform.compare_drawings.Goals as goal
 
 pub returns-clause-told : goal.returns-clause-told
@@ -6,3 +7,6 @@ returns-clause-told g c = c.compare_with.ensures.told (string_bytes c.args.left.
 
 pub returns-clause-written : goal.returns-clause-written
 returns-clause-written g c = c.compare_with.ensures.written c.args.left.now c.in_ok-left.ensures.some
+
+pub returns-in_err-left-clause-shown : goal.returns-in_err-left-clause-shown
+returns-in_err-left-clause-shown g c = merged_nothing c.args.found.now.sources c.args.diff.drawing (g.W.Sink.contents c.args.out.now)

@@ -8,6 +8,7 @@ use Rattle.trees.specs.Telling.{TellsWhether}
 use Rattle.trees.specs.Writing.{WritesRefusal, IsMergeOf, FailsToCompare}
 use Rattle.trees.proofs.MergeDrawings.{refusal_weaker}
 use Rattle.trees.proofs.Readings.{fails_by_memory}
+use Rattle.trees.proofs.Shown.{merged_nothing}
 use Rattle.trees.proofs.Told.{tells_same, same_texts}
 use Rattle.trees.proofs.perform.compare_with.Goals as goal
 
@@ -35,3 +36,6 @@ returns-clause-written g c = λ first holds asks.
     refusal_weaker old new c.show_difference.result is_drawing (IsMergeOf sources first right diff) (λ e. e ≡ Memory) (FailsToCompare sources first right diff)
     (λ bytes is. (t, u, holds, c.in_ok-right.ensures.some, is))
     (λ e is. inl (fails_by_memory ((x : Tree) → HoldsDrawing config first x → ⊥) (IsReadableValue config → ⊥) e is)) written
+
+pub returns-in_err-right-clause-shown : goal.returns-in_err-right-clause-shown
+returns-in_err-right-clause-shown g c = merged_nothing c.args.found.now.sources c.args.diff.drawing (g.W.Sink.contents c.args.out.now)

@@ -45,3 +45,7 @@ pub returns-in-Diff-clause-written : goal.returns-in-Diff-clause-written
 returns-in-Diff-clause-written g c =
     subst (λ command. WritesOfCommand c.args.found.now.sources command (g.W.Sink.contents c.args.out.now) (g.W.Sink.contents c.compare_drawings.new.out) c.compare_drawings.result) (sym c.in-Diff.is)
     c.compare_drawings.ensures.written
+
+pub returns-in-Diff-clause-shown : goal.returns-in-Diff-clause-shown
+returns-in-Diff-clause-shown g c =
+    subst (λ command. ShowsOfCommand c.args.found.now.sources command (g.W.Sink.contents c.args.out.now) (g.W.Sink.contents c.compare_drawings.new.out)) (sym c.in-Diff.is) c.compare_drawings.ensures.shown
