@@ -1,7 +1,8 @@
 -- Which texts are drawings, and how a reading fails.
-use Rattle.std.specs.Prelude.{◌≡◌, ℕ, false, List, None, string_bytes, ⊤}
+use Rattle.std.specs.Prelude.{◌≡◌, ◌⊎◌, ℕ, false, List, ◌++◌, None, codes, decimal, string_bytes, ⊤}
 use Rattle.ptree.specs.declared.print_config.OutputKind.TheVariants.{Unknown}
 use Rattle.ptree.specs.Config.{ConfigValue}
+use Rattle.ptree.specs.Continuation.{IsFirstWrongLine, EndsWrong}
 use Rattle.ptree.specs.Drawing.{look_by, IsDrawing}
 use Rattle.ptree.specs.DrawnForm.{IsDrawnForm}
 use Rattle.ptree.specs.Pieces.{pieces_from}
@@ -73,3 +74,30 @@ FailsToMake {X} P Is = FailsFor ((x : X) → Is x → ⊥) P
 -- not readable, or memory ran out
 abbrev pub FailsToRead : ConfigValue → Source → Failure → Type 0
 FailsToRead config source = FailsToMake (IsReadableValue config → ⊥) (HoldsDrawing config source)
+
+-- ## Messages
+
+-- the failure is an error of an input with this text
+abbrev pub IsInputOf : List ℕ → Failure → Type 0
+IsInputOf text (Input wrong) = string_bytes wrong ≡ text
+IsInputOf text (Usage wrong) = ⊥
+IsInputOf text Said = ⊥
+IsInputOf text (Output kind) = ⊥
+IsInputOf text Memory = ⊥
+
+-- it says what is wrong with the source
+abbrev pub Says : Source → List ℕ → Failure → Type 0
+Says source wrong = IsInputOf (string_bytes source.name ++ codes ": " ++ wrong)
+
+-- it says what is wrong at a line of it
+abbrev pub SaysAt : Source → ℕ → List ℕ → Failure → Type 0
+SaysAt source line wrong = IsInputOf (string_bytes source.name ++ codes ":" ++ decimal line ++ codes ": " ++ wrong)
+
+-- of a text that is no drawing, it names the first line that cannot continue one; or it names none, and
+-- the text ends too early
+abbrev pub NamesPlace : ConfigValue → Source → Failure → Type 0
+NamesPlace config source e =
+    let look = look_by config Unknown false in
+    let text = string_bytes source.text in
+    source.fault ≡ None → IsInput e
+    → (wrong : List ℕ) × (((line : ℕ) × IsFirstWrongLine look config.depth text line × SaysAt source line wrong e) ⊎ (EndsWrong look config.depth text × Says source wrong e))

@@ -3,7 +3,7 @@ ghost use Rattle.std.specs.Prelude.{IfOk, IfErr};
 ghost use Rattle.ptree.specs.Config.{config_of};
 ghost use Rattle.ptree.specs.Readable.{HasReadablePieces};
 ghost use Rattle.ptree.specs.Tree.{tree_of};
-ghost use Rattle.trees.specs.Reading.{HoldsDrawing, HoldsNoOther, IsRedrawn, FailsToRead};
+ghost use Rattle.trees.specs.Reading.{HoldsDrawing, HoldsNoOther, IsRedrawn, FailsToRead, NamesPlace};
 
 use crate::expected::{beginnings, is_too_deep};
 use crate::failure::Failure;
@@ -30,6 +30,8 @@ pub fn read(alloc: Global, source: &Source, config: &PrintConfig) -> Result<Stri
     ensures redrawn { IfOk result (λ t. IsRedrawn (config_of config.now) source.now (tree_of t)) }
     // `Input` says that there is no such tree, `Usage` that the pieces are not readable.
     ensures failed { IfErr result (FailsToRead (config_of config.now) source.now) }
+    // And `Input` names the first wrong line, if there is one.
+    ensures place { IfErr result (NamesPlace (config_of config.now) source.now) }
 {
     if let Some(fault) = &source.fault {
         return Err(Failure::Input(fault.clone()?));

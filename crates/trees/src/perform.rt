@@ -12,7 +12,7 @@ ghost use Rattle.trees.specs.Asked.{drawing_value, reading_value, with_drawing};
 ghost use Rattle.trees.specs.Changing.{IsPart, IsKept, IsConverted, FailsToConvert};
 ghost use Rattle.trees.specs.Listing.{IsListed, FailsToList};
 ghost use Rattle.trees.specs.Merging.{IsMergeDrawing};
-ghost use Rattle.trees.specs.Reading.{HoldsDrawing, HoldsNoOther, HoldsSome, IsRedrawn, FailsFor, FailsToRead, FailsToMake};
+ghost use Rattle.trees.specs.Reading.{HoldsDrawing, HoldsNoOther, HoldsSome, IsRedrawn, FailsFor, FailsToRead, FailsToMake, NamesPlace};
 ghost use Rattle.trees.specs.Shown.{IsNone, ShowsOnly};
 ghost use Rattle.trees.specs.Telling.{TellsWhether, TellsOfCommand};
 ghost use Rattle.trees.specs.Writing.{Writes, IsTreeDrawing, IsGraphDrawing, WritesDrawn, IsIndentation, FailsToIndent, IsGiven, FailsToGive, Draws, Converts, ConvertsBack, WritesOfCommand, ShowsOfCommand, ShowsDrawing, ShowsMerged, LeavesIfWrong, WritesRefusal, Compares};
@@ -366,6 +366,8 @@ fn read_drawing(
         IsRedrawn (reading_value found.now.sources pieces) source.now (tree_of t)) }
     ensures failed { IfErr result
         (FailsToRead (reading_value found.now.sources pieces) source.now) }
+    ensures place { IfErr result
+        (NamesPlace (reading_value found.now.sources pieces) source.now) }
 {
     let config = config(alloc, Drawing::read_with(pieces), found)?;
     let tree = drawings::read(alloc, source, &config);

@@ -2,7 +2,7 @@
 ghost use Rattle.std.specs.Prelude.{◌≡◌, ◌≢◌, ℕ, ◌++◌, List, MatchOption, IfOk, string_bytes};
 ghost use Rattle.trees.specs.Documents.{IsLastPart};
 ghost use Rattle.trees.specs.Listing.{unmarked};
-ghost use Rattle.trees.specs.Reading.{IsInput};
+ghost use Rattle.trees.specs.Reading.{IsInput, Says, SaysAt};
 
 use crate::failure::Failure;
 use std::alloc::{AllocError, Global};
@@ -78,7 +78,8 @@ impl Source {
     ///
     /// Memory ran out.
     pub fn wrong_at(&self, alloc: Global, line: usize, wrong: &str) -> Result<Failure, AllocError>
-        ensures { IfOk result IsInput }
+        ensures input { IfOk result IsInput }
+        ensures says { IfOk result (SaysAt self.now line wrong.now) }
     {
         let name = &self.name;
         Ok(Failure::Input(format!(in alloc; "{name}:{line}: {wrong}")?))
@@ -90,7 +91,8 @@ impl Source {
     ///
     /// Memory ran out.
     pub fn wrong(&self, alloc: Global, wrong: &str) -> Result<Failure, AllocError>
-        ensures { IfOk result IsInput }
+        ensures input { IfOk result IsInput }
+        ensures says { IfOk result (Says self.now wrong.now) }
     {
         let name = &self.name;
         Ok(Failure::Input(format!(in alloc; "{name}: {wrong}")?))

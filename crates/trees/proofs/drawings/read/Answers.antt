@@ -1,4 +1,8 @@
-use Rattle.std.proofs.Common.{◌∙◌}
+use Rattle.std.proofs.Common.{false, inl, inr, rules, subst, ◌∙◌}
+use Rattle.ptree.specs.declared.print_config.OutputKind.TheVariants.{Unknown}
+use Rattle.ptree.specs.Config.{config_of}
+use Rattle.ptree.specs.Continuation.{IsFirstWrongLine, EndsWrong}
+use Rattle.ptree.specs.Drawing.{look_by}
 use Rattle.trees.proofs.Readings.{fails_by_text}
 use Rattle.trees.proofs.drawings.read.Goals as goal
 
@@ -8,11 +12,23 @@ returns-in-Ok-clause-redrawn c = λ drawing is. c.in-Ok.ensures.redrawn drawing 
 pub returns-in_ok-wrong_at-in-Err-Line-clause-failed : goal.returns-in_ok-wrong_at-in-Err-Line-clause-failed
 returns-in_ok-wrong_at-in-Err-Line-clause-failed c =
     let failure = c.in_ok-wrong_at-in-Err-Line in
-    fails_by_text c.args.config.now c.args.source.now _ failure.field-0 c.as_str-text.ensures.value failure.ensures
+    fails_by_text c.args.config.now c.args.source.now _ failure.field-0 c.as_str-text.ensures.value failure.ensures.input
     (λ t form. let memory = (c.in-Err-Line.ensures.drawn t form).0 in let no : ⊥ = cc in absurd no)
 
 pub returns-in_ok-wrong-in-Err-End-2-clause-failed : goal.returns-in_ok-wrong-in-Err-End-2-clause-failed
 returns-in_ok-wrong-in-Err-End-2-clause-failed c =
     let failure = c.in_ok-wrong-in-Err-End-2 in
-    fails_by_text c.args.config.now c.args.source.now _ failure.field-0 c.as_str-text.ensures.value failure.ensures
+    fails_by_text c.args.config.now c.args.source.now _ failure.field-0 c.as_str-text.ensures.value failure.ensures.input
     (λ t form. let memory = (c.in-Err-End.ensures.drawn t form).0 in let no : ⊥ = cc in absurd no)
+
+pub returns-in_ok-wrong_at-in-Err-Line-clause-place : goal.returns-in_ok-wrong_at-in-Err-Line-clause-place
+returns-in_ok-wrong_at-in-Err-Line-clause-place c = λ unread input.
+    let look = look_by (config_of c.args.config.now) Unknown false in
+    let first = subst (λ text. IsFirstWrongLine look c.args.config.now.depth text c.in-Err-Line.line) c.as_str-text.ensures.value (c.in-Err-Line.ensures.line c.in-Err-Line.line (search rules)) in
+    (_, inl (c.in-Err-Line.line, first, c.in_ok-wrong_at-in-Err-Line.ensures.says))
+
+pub returns-in_ok-wrong-in-Err-End-2-clause-place : goal.returns-in_ok-wrong-in-Err-End-2-clause-place
+returns-in_ok-wrong-in-Err-End-2-clause-place c = λ unread input.
+    let look = look_by (config_of c.args.config.now) Unknown false in
+    let end = subst (λ text. EndsWrong look c.args.config.now.depth text) c.as_str-text.ensures.value (c.in-Err-End.ensures.end (search rules)) in
+    (_, inr (end, c.in_ok-wrong-in-Err-End-2.ensures.says))

@@ -14,7 +14,7 @@ returns-in-Some-clause-failed c =
     let i = c.loop-i.i in
     let wrong : Bor (List ℕ) → Bool = λ x. is_wrong_line c.args.others x.now in
     let here : wrong (get_or lines i (record { ref_ptr = (0, 0); now = [] })) ≡ true = search rules in
-    fails_by_input (list_any wrong lines ≡ true) ⊥ c.in_ok-wrong_at.field-0 c.in_ok-wrong_at.ensures (list_any_at wrong lines i _ c.loop-i-test.true here)
+    fails_by_input (list_any wrong lines ≡ true) ⊥ c.in_ok-wrong_at.field-0 c.in_ok-wrong_at.ensures.input (list_any_at wrong lines i _ c.loop-i-test.true here)
 
 pub loop-i-preserved : goal.loop-i-preserved
 loop-i-preserved c =
