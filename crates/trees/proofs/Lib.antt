@@ -9,6 +9,7 @@ pub mod Outlines
 pub mod Parts
 pub mod PathNames
 pub mod Readings
+pub mod Reports
 pub mod Shown
 pub mod ShownDrawings
 pub mod ShownMerges

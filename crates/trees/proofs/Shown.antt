@@ -1,7 +1,7 @@
 -- What calls write on a terminal.
 use Rattle.std.specs.Prelude.{All}
 use Rattle.std.specs.Str.{NoCharPasses}
-use Rattle.std.proofs.Common.{◌≡◌, ℕ, zero, suc, ◌++◌, Bool, true, false, List, [], ◌∷◌, Option, Result, Ok, Err, inl, inr, refl, sym, subst}
+use Rattle.std.proofs.Common.{◌≡◌, ℕ, zero, suc, ◌++◌, Bool, true, false, List, [], ◌∷◌, Option, Result, Ok, Err, inl, inr, refl, sym, ap, ◌∙◌, subst}
 use Rattle.std.proofs.lemmas.Bool.{false≢true}
 use Rattle.std.proofs.lemmas.List.{append-nil}
 use Rattle.std.proofs.lemmas.List.Elements.{All-nil, All-cons, All-head, All-tail, All-append}
@@ -27,7 +27,7 @@ use Rattle.trees.specs.declared.failure.Failure.TheVariants.{Usage, Input, Said,
 use Rattle.trees.specs.declared.source.Source.{Source}
 use Rattle.trees.specs.Asked.{asked_config, drawing_value}
 use Rattle.trees.specs.Merging.{IsMergeDrawing, IsMergeCode}
-use Rattle.trees.specs.Shown.{shown_lines, AreShownLabels, is_raw, IsNone, IsLookCode, IsShown, ShowsOnly}
+use Rattle.trees.specs.Shown.{shown_lines, shown_on, AreShownLabels, is_raw, IsNone, IsLookCode, IsShown, ShowsOnly}
 use Rattle.trees.specs.Writing.{Writes, WritesRefusal, IsGraphDrawing, IsDrawingOf, IsShownForm, IsIndentation, text_or_none, ShowsDrawing, ShowsMerged}
 use Rattle.trees.proofs.ShownDrawings.{tree_shown, graph_shown}
 use Rattle.trees.proofs.ShownMerges.{merge_drawing_shown}
@@ -113,9 +113,10 @@ indentation_shown sources source indented Fails old new r =
     (λ bytes is on. indented_shown indented.is_terminal indented.unit.now (text_or_none indented.bullet) is.0 bytes is.2 on)
 
 -- lines that are escaped for a terminal
-pub lines_part_shown : (b : Bool) (lines text : List ℕ) (old new : Option (List ℕ)) → (b ≡ true → text ≡ shown_lines lines) → AppendsPart old new text → ShowsOnly b IsNone old new
+pub lines_part_shown : (b : Bool) (lines text : List ℕ) (old new : Option (List ℕ)) → text ≡ shown_on b lines → AppendsPart old new text → ShowsOnly b IsNone old new
 lines_part_shown b lines text old new is part = λ on.
-    (text, calm_shown IsNone text (subst (NoCharPasses is_raw) (sym (is on)) (lines_calm lines)), part)
+    let shown : text ≡ shown_lines lines = is ∙ ap (λ x. shown_on x lines) on in
+    (text, calm_shown IsNone text (subst (NoCharPasses is_raw) (sym shown) (lines_calm lines)), part)
 
 -- nothing
 pub nothing_shown : (b : Bool) (Code : List ℕ → Type 0) (a : Option (List ℕ)) → ShowsOnly b Code a a

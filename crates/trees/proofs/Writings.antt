@@ -1,19 +1,20 @@
 -- What is written.
-use Rattle.std.proofs.Common.{◌≡◌, ℕ, inl, inr, Option, Some, None, List, Result, Ok, Err, sym, append-nil}
+use Rattle.std.proofs.Common.{◌≡◌, ◌≢◌, ℕ, inl, inr, Option, Some, None, List, Result, Ok, Err, refl, sym, append-nil}
 use Rattle.std.proofs.lemmas.Bool.{false≢true}
-use Rattle.std.specs.Prelude.{IsErr, IfErr}
+use Rattle.std.specs.Prelude.{IsErr, IfErr, ⊤}
 use Rattle.ptree.specs.declared.value.document.DocFormat.TheVariants.{Toml, Json}
 use Rattle.ptree.specs.Tree.{Tree}
 use Rattle.ptree_trees.specs.declared.indented.Form.{Form}
 use Rattle.trees.specs.declared.command.Tree.{Tree as Given}
 use Rattle.trees.specs.declared.command.Tree.TheVariants as given
 use Rattle.trees.specs.declared.failure.Failure.{Failure}
-use Rattle.trees.specs.declared.failure.Failure.TheVariants.{Memory}
+use Rattle.trees.specs.declared.failure.Failure.TheVariants.{Usage, Input, Said, Output, Memory}
 use Rattle.trees.specs.declared.source.Source.{Source}
 use Rattle.trees.specs.Documents.{IsPartTree}
 use Rattle.trees.specs.Listing.{IsWrongList}
 use Rattle.trees.specs.Outlining.{outline_lines, IsFormOf, IsRightForm, HoldsOutline}
-use Rattle.trees.specs.Writing.{Writes, FailsToGive}
+use Rattle.trees.specs.Writing.{Writes, WritesSaid, FailsToGive}
+use Rattle.ptree.proofs.Sinks.Written.{appends_nothing}
 use Rattle.trees.proofs.Readings.{fails_by_memory}
 
 -- what is written is also what follows of it
@@ -36,3 +37,33 @@ gives_memory source (given.Toml document) e is = fails_by_memory ((t : Tree) →
 gives_memory source (given.Paths paths) e is = fails_by_memory (IsWrongList source paths) ⊥ e is
 gives_memory source (given.Outline outline) e is =
     fails_by_memory ((t : Tree) → HoldsOutline source outline t → ⊥) ((form : Form) → IsFormOf outline (outline_lines source) form → IsRightForm form → ⊥) e is
+
+-- of a failure nothing more is said
+any_failure : (A B : Type 0) (old new : Option (List ℕ)) (e : Failure) (Is : List ℕ → Type 0) → Writes {A = A} old new (Err e) Is (λ f. f ≡ Memory) → Writes {A = B} old new (Err e) Is (λ f. ⊤)
+any_failure A B old new e Is h = elim h [ inl nothing ↦ inl (tt, nothing.1) | inr part ↦ inr part ]
+
+-- a call that failed in writing says nothing
+pub said_err : (A B : Type 0) (old new : Option (List ℕ)) (e : Failure) (Is : List ℕ → Type 0) → Writes {A = A} old new (Err e) Is (λ f. f ≡ Memory) → WritesSaid {A = B} old new (Err e) Is
+said_err A B old new (Usage wrong) Is h = any_failure A B old new (Usage wrong) Is h
+said_err A B old new (Input wrong) Is h = any_failure A B old new (Input wrong) Is h
+said_err A B old new (Output kind) Is h = any_failure A B old new (Output kind) Is h
+said_err A B old new Memory Is h = any_failure A B old new Memory Is h
+said_err A B old new Said Is h = absurd (elim h [ inl memory ↦ let no : ⊥ = cc in no | inr part ↦ part.0 ])
+
+-- what is said is also what follows of it
+pub said_weaker : {A : Type 0} (old new : Option (List ℕ)) (r : Result A Failure) (Is Js : List ℕ → Type 0) → ((bytes : List ℕ) → Is bytes → Js bytes) → WritesSaid old new r Is → WritesSaid old new r Js
+said_weaker old new (Ok x) Is Js more h = (h.0, more h.0 h.1, h.2)
+said_weaker old new (Err Said) Is Js more h = (h.0, more h.0 h.1, h.2)
+said_weaker {A} old new (Err (Usage wrong)) Is Js more h = writes_weaker {A = A} old new (Err (Usage wrong)) Is Js (λ e. ⊤) (λ e. ⊤) more (λ e k. k) h
+said_weaker {A} old new (Err (Input wrong)) Is Js more h = writes_weaker {A = A} old new (Err (Input wrong)) Is Js (λ e. ⊤) (λ e. ⊤) more (λ e k. k) h
+said_weaker {A} old new (Err (Output kind)) Is Js more h = writes_weaker {A = A} old new (Err (Output kind)) Is Js (λ e. ⊤) (λ e. ⊤) more (λ e k. k) h
+said_weaker {A} old new (Err Memory) Is Js more h = writes_weaker {A = A} old new (Err Memory) Is Js (λ e. ⊤) (λ e. ⊤) more (λ e k. k) h
+
+-- a call that fails before it says anything
+pub said_nothing : {A : Type 0} (old : Option (List ℕ)) (r : Result A Failure) (Is : List ℕ → Type 0) → IsErr r → IfErr r (λ e. e ≢ Said) → WritesSaid old old r Is
+said_nothing old (Ok x) Is err unsaid = absurd (false≢true err)
+said_nothing old (Err Said) Is err unsaid = absurd (unsaid refl)
+said_nothing old (Err (Usage wrong)) Is err unsaid = inl (tt, appends_nothing old)
+said_nothing old (Err (Input wrong)) Is err unsaid = inl (tt, appends_nothing old)
+said_nothing old (Err (Output kind)) Is err unsaid = inl (tt, appends_nothing old)
+said_nothing old (Err Memory) Is err unsaid = inl (tt, appends_nothing old)

@@ -1,10 +1,13 @@
 -- Which texts are drawings, and how a reading fails.
-use Rattle.std.specs.Prelude.{◌≡◌, ◌⊎◌, ℕ, false, List, ◌++◌, None, codes, decimal, string_bytes, ⊤}
+use Rattle.std.specs.Prelude.{◌≡◌, ◌⊎◌, ℕ, false, ◌==◌, if◌then◌else◌, List, ◌++◌, length, None, codes, decimal, String, string_bytes, ⊤}
+use Rattle.std.specs.declared.alloc.Global.{Global}
+use Rattle.std.specs.List.{concat, AllZip}
 use Rattle.ptree.specs.declared.print_config.OutputKind.TheVariants.{Unknown}
 use Rattle.ptree.specs.Config.{ConfigValue}
 use Rattle.ptree.specs.Continuation.{IsFirstWrongLine, EndsWrong}
 use Rattle.ptree.specs.Drawing.{look_by, IsDrawing}
 use Rattle.ptree.specs.DrawnForm.{IsDrawnForm}
+use Rattle.ptree.specs.Outline.{subtrees}
 use Rattle.ptree.specs.Pieces.{pieces_from}
 use Rattle.ptree.specs.Readable.{IsReadableWith}
 use Rattle.ptree.specs.Tree.{Tree, shape_of_tree}
@@ -101,3 +104,23 @@ NamesPlace config source e =
     let text = string_bytes source.text in
     source.fault ≡ None → IsInput e
     → (wrong : List ℕ) × (((line : ℕ) × IsFirstWrongLine look config.depth text line × SaysAt source line wrong e) ⊎ (EndsWrong look config.depth text × Says source wrong e))
+
+-- ## Reports
+
+-- a word for so many items
+abbrev pub item_word : ℕ → List ℕ
+item_word n = if n == 1 then codes "item" else codes "items"
+
+-- the line about the drawing of so many
+abbrev pub count_line : Source → ℕ → List ℕ
+count_line source n = string_bytes source.name ++ (codes ": a drawing of " ++ (decimal n ++ (codes " " ++ (item_word n ++ codes "\n"))))
+
+-- what `check` says of a source: of a drawing how many items it has, and else what is wrong, and where
+abbrev pub IsReport : ConfigValue → Source → List ℕ → Type 0
+IsReport config source said =
+    ((t : Tree) × HoldsDrawing config source t × (said ≡ count_line source (length (subtrees t))))
+    ⊎ ((wrong : String Global) × (HoldsSome config source → ⊥) × NamesPlace config source (Input wrong) × (said ≡ string_bytes wrong ++ codes "\n"))
+
+-- a text grows by one report on each source, in their order
+abbrev pub Adds : (Source → List ℕ → Type 0) → List Source → List ℕ → List ℕ → Type 0
+Adds R sources old new = (more : List (List ℕ)) × (new ≡ old ++ concat more) × AllZip R sources more

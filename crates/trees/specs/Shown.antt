@@ -22,6 +22,10 @@ shown_char c = if c == 10 || c == backslash then c ∷ [] else escape_char c
 abbrev pub shown_lines : List ℕ → List ℕ
 shown_lines text = encode_utf8_all (flat_map shown_char (chars text))
 
+-- lines as they are written: for a terminal escaped
+abbrev pub shown_on : Bool → List ℕ → List ℕ
+shown_on is_terminal lines = if is_terminal then shown_lines lines else lines
+
 -- the characters of pieces as a terminal may get them
 abbrev pub shown_characters : Characters → Characters
 shown_characters c = record {

@@ -28,6 +28,7 @@ use Rattle.trees.specs.declared.failure.Failure.{Failure}
 use Rattle.trees.specs.declared.failure.Failure.TheVariants.{Usage, Input, Said, Output, Memory}
 use Rattle.trees.specs.declared.perform.Drawn.{Drawn}
 use Rattle.trees.specs.declared.perform.Drawn.TheVariants as drawn
+use Rattle.trees.specs.declared.pieces.Pieces.{Pieces}
 use Rattle.trees.specs.declared.source.Source.{Source}
 use Rattle.trees.specs.Asked.{drawing_value, reading_value}
 use Rattle.trees.specs.Changing.{IsConverted, FailsToConvert}
@@ -35,8 +36,8 @@ use Rattle.trees.specs.Documents.{IsPartTree}
 use Rattle.trees.specs.Listing.{IsListed, FailsToList}
 use Rattle.trees.specs.Merging.{IsMergeDrawing, IsMergeCode}
 use Rattle.trees.specs.Outlining.{HoldsOutline, FailsToOutline}
-use Rattle.trees.specs.Reading.{IsWriting, HoldsDrawing, IsReadableValue, FailsFor, FailsToMake, FailsToRead}
-use Rattle.trees.specs.Shown.{IsNone, ShowsOnly, IsLookCode}
+use Rattle.trees.specs.Reading.{IsWriting, HoldsDrawing, IsReadableValue, FailsFor, FailsToMake, FailsToRead, IsReport, Adds}
+use Rattle.trees.specs.Shown.{shown_on, IsNone, ShowsOnly, IsLookCode}
 
 -- A call that succeeds has appended bytes of which Is holds. One that fails has appended nothing, and
 -- Fails holds of the failure; or it failed in writing, and has appended a prefix of such bytes.
@@ -53,6 +54,16 @@ WritesRefusal {A} old new (Err (Usage wrong)) Is Fails = Writes {A = A} old new 
 WritesRefusal {A} old new (Err (Input wrong)) Is Fails = Writes {A = A} old new (Err (Input wrong)) Is Fails
 WritesRefusal {A} old new (Err (Output kind)) Is Fails = Writes {A = A} old new (Err (Output kind)) Is Fails
 WritesRefusal {A} old new (Err Memory) Is Fails = Writes {A = A} old new (Err Memory) Is Fails
+
+-- A call that says something, and may refuse by that: success and a refusal have appended bytes of
+-- which Is holds, any other failure nothing or a prefix of them.
+abbrev pub WritesSaid : {A : Type 0} → Option (List ℕ) → Option (List ℕ) → Result A Failure → (List ℕ → Type 0) → Type 0
+WritesSaid old new (Ok x) Is = (bytes : List ℕ) × Is bytes × Appends old new bytes
+WritesSaid old new (Err Said) Is = (bytes : List ℕ) × Is bytes × Appends old new bytes
+WritesSaid {A} old new (Err (Usage wrong)) Is = Writes {A = A} old new (Err (Usage wrong)) Is (λ e. ⊤)
+WritesSaid {A} old new (Err (Input wrong)) Is = Writes {A = A} old new (Err (Input wrong)) Is (λ e. ⊤)
+WritesSaid {A} old new (Err (Output kind)) Is = Writes {A = A} old new (Err (Output kind)) Is (λ e. ⊤)
+WritesSaid {A} old new (Err Memory) Is = Writes {A = A} old new (Err Memory) Is (λ e. ⊤)
 
 -- what a call writes to is as it was, if it ends with a usage error or an error of an input
 abbrev pub LeavesIfWrong : {A W : Type 0} → W → W → Result A Failure → Type 0
@@ -183,6 +194,10 @@ abbrev pub Compares : {A : Type 0} → Sources → Source → Source → Diff �
 Compares sources left right diff old new result =
     IsTrue diff.shows_all → WritesRefusal old new result (IsMergeOf sources left right diff) (FailsToCompare sources left right diff)
 
+-- the bytes are what `check` writes: a report on each input, in their order, for a terminal escaped
+abbrev pub AreReports : Sources → List Source → Option Pieces → Bool → List ℕ → Type 0
+AreReports sources inputs pieces is_terminal bytes = (said : List ℕ) × Adds (IsReport (reading_value sources pieces)) inputs [] said × (bytes ≡ shown_on is_terminal said)
+
 -- what a command writes: those that draw an input, the drawing of its tree; `indented`, the
 -- indented text; `convert`, the conversion, which can be turned back; `diff`, all differences
 abbrev pub WritesOfCommand : {A : Type 0} → Sources → Command → Option (List ℕ) → Option (List ℕ) → Result A Failure → Type 0
@@ -190,7 +205,7 @@ WritesOfCommand sources (command.Convert source convert) old new result = Conver
 WritesOfCommand sources (command.Draw source tree drawing) old new result = Draws sources source.now tree drawing old new result
 WritesOfCommand sources (command.Deps source deps drawing) old new result = ⊤
 WritesOfCommand sources (command.Indented source indented) old new result = Writes old new result (IsIndentation sources source.now indented) (FailsToIndent sources source.now indented)
-WritesOfCommand sources (command.Check inputs pieces screen) old new result = ⊤
+WritesOfCommand sources (command.Check inputs pieces screen) old new result = WritesSaid old new result (AreReports sources inputs.now pieces screen.is_terminal)
 WritesOfCommand sources (command.Diff left right diff) old new result = Compares sources left.now right.now diff old new result
 WritesOfCommand sources command.Config old new result = ⊤
 

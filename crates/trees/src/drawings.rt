@@ -1,6 +1,7 @@
 //! Reads drawings, and says where a text is none.
-ghost use Rattle.std.specs.Prelude.{IfOk, IfErr};
+ghost use Rattle.std.specs.Prelude.{◌≡◌, length, IfOk, IfErr};
 ghost use Rattle.ptree.specs.Config.{config_of};
+ghost use Rattle.ptree.specs.Outline.{subtrees};
 ghost use Rattle.ptree.specs.Readable.{HasReadablePieces};
 ghost use Rattle.ptree.specs.Tree.{tree_of};
 ghost use Rattle.trees.specs.Reading.{HoldsDrawing, HoldsNoOther, IsRedrawn, FailsToRead, NamesPlace};
@@ -124,6 +125,8 @@ fn push_other(alloc: Global, said: &mut String, text: &str) -> Result<bool, Allo
 /// # Errors
 ///
 /// Memory ran out.
-pub fn count(alloc: Global, tree: &StringItem) -> Result<usize, AllocError> {
+pub fn count(alloc: Global, tree: &StringItem) -> Result<usize, AllocError>
+    ensures { IfOk result (λ n. n ≡ length (subtrees (tree_of tree.now))) }
+{
     Ok(tree.items(alloc)?.len())
 }

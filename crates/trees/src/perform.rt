@@ -1,9 +1,10 @@
 //! Does what a command asks for.
-ghost use Rattle.std.specs.Prelude.{◌≡◌, ◌≢◌, ◌↔◌, ⊤, ℕ, false, List, All, IsTrue, IfOk, IfErr, IsErr, option_map, string_bytes};
+ghost use Rattle.std.specs.Prelude.{◌≡◌, ◌≢◌, ◌↔◌, ◌++◌, ⊤, ℕ, false, List, length, All, IsTrue, IfOk, IfErr, IsErr, OnOk, option_map, string_bytes};
 ghost use Rattle.ptree.specs.declared.print_config.OutputKind.TheVariants.{Unknown};
 ghost use Rattle.ptree.specs.Config.{config_of};
 ghost use Rattle.ptree.specs.Drawing.{look_by};
 ghost use Rattle.ptree.specs.DrawnForm.{IsDrawnForm};
+ghost use Rattle.ptree.specs.Outline.{subtrees};
 ghost use Rattle.ptree.specs.Tree.{tree_of};
 ghost use Rattle.ptree.specs.Writing.{AppendsPart, IsWritten};
 ghost use Rattle.ptree_trees.specs.Change.{kept_tree};
@@ -12,10 +13,10 @@ ghost use Rattle.trees.specs.Asked.{drawing_value, reading_value, with_drawing};
 ghost use Rattle.trees.specs.Changing.{IsPart, IsKept, IsConverted, FailsToConvert};
 ghost use Rattle.trees.specs.Listing.{IsListed, FailsToList};
 ghost use Rattle.trees.specs.Merging.{IsMergeDrawing};
-ghost use Rattle.trees.specs.Reading.{HoldsDrawing, HoldsNoOther, HoldsSome, IsRedrawn, FailsFor, FailsToRead, FailsToMake, NamesPlace};
+ghost use Rattle.trees.specs.Reading.{HoldsDrawing, HoldsNoOther, HoldsSome, IsRedrawn, FailsFor, FailsToRead, FailsToMake, NamesPlace, IsReport, Adds, item_word, count_line};
 ghost use Rattle.trees.specs.Shown.{IsNone, ShowsOnly};
 ghost use Rattle.trees.specs.Telling.{TellsWhether, TellsOfCommand};
-ghost use Rattle.trees.specs.Writing.{Writes, IsTreeDrawing, IsGraphDrawing, WritesDrawn, IsIndentation, FailsToIndent, IsGiven, FailsToGive, Draws, Converts, ConvertsBack, WritesOfCommand, ShowsOfCommand, ShowsDrawing, ShowsMerged, LeavesIfWrong, WritesRefusal, Compares};
+ghost use Rattle.trees.specs.Writing.{WritesSaid, AreReports, Writes, IsTreeDrawing, IsGraphDrawing, WritesDrawn, IsIndentation, FailsToIndent, IsGiven, FailsToGive, Draws, Converts, ConvertsBack, WritesOfCommand, ShowsOfCommand, ShowsDrawing, ShowsMerged, LeavesIfWrong, WritesRefusal, Compares};
 
 use crate::command::{Command, Convert, Deps, Diff, Drawing, Indented, Paths, Tree};
 use crate::compare::{self, Look};
@@ -86,6 +87,8 @@ enum Drawn<'a> {
 fn say<W: Sink>(out: &mut W, text: &str, is_refusal: bool) -> Result<(), Failure>
     ensures told { TellsWhether result (is_refusal ≡ false) }
     ensures part { AppendsPart (W.contents out.old) (W.contents out.new) text.now }
+    ensures written { WritesSaid (W.contents out.old) (W.contents out.new) result
+        (λ bytes. bytes ≡ text.now) }
     ensures quiet { LeavesIfWrong out.old out.new result }
 {
     write_text(out, text)?;
@@ -420,6 +423,8 @@ fn check<W: Sink>(
 ) -> Result<(), Failure>
     ensures told { TellsWhether result
         (All (HoldsSome (reading_value found.now.sources pieces)) sources.now) }
+    ensures written { WritesSaid (W.contents out.old) (W.contents out.new) result
+        (AreReports found.now.sources sources.now pieces screen.is_terminal) }
     ensures quiet { LeavesIfWrong out.old out.new result }
     ensures shown { ShowsOnly screen.is_terminal IsNone (W.contents out.old) (W.contents out.new) }
 {
@@ -439,6 +444,9 @@ fn push_checks(
 ) -> Result<bool, Failure>
     ensures all { IfOk result (λ b.
         IsTrue b ↔ All (HoldsSome (reading_value found.now.sources pieces)) sources.now) }
+    ensures reports { IfOk result (λ _.
+        Adds (IsReport (reading_value found.now.sources pieces)) sources.now
+        (string_bytes said.old) (string_bytes said.new)) }
     ensures unsaid { IfErr result (λ e. e ≢ Failure.Said) }
 {
     let mut are_drawings = true;
@@ -460,6 +468,9 @@ fn push_check(
 ) -> Result<bool, Failure>
     ensures drawing { IfOk result (λ b.
         IsTrue b ↔ HoldsSome (reading_value found.now.sources pieces) source.now) }
+    ensures report { IfOk result (λ _. (more : List ℕ)
+        × (string_bytes said.new ≡ string_bytes said.old ++ more)
+        × IsReport (reading_value found.now.sources pieces) source.now more) }
     ensures unsaid { IfErr result (λ e. e ≢ Failure.Said) }
 {
     match read_drawing(alloc, source, pieces, found) {
@@ -481,10 +492,20 @@ fn push_count(
     said: &mut String,
     source: &Source,
     tree: &StringItem,
-) -> Result<(), AllocError> {
+) -> Result<(), AllocError>
+    ensures { OnOk result (string_bytes said.new ≡ string_bytes said.old
+        ++ count_line source.now (length (subtrees (tree_of tree.now)))) }
+{
     let n = drawings::count(alloc, tree)?;
-    let items = if n == 1 { "item" } else { "items" };
-    writeln!(said, "{}: a drawing of {n} {items}", source.name)
+    let (name, items) = (&source.name, item_word(n));
+    writeln!(said, "{name}: a drawing of {n} {items}")
+}
+
+// Returns a word for so many items.
+fn item_word(n: usize) -> &'static str
+    ensures { result.now ≡ item_word n }
+{
+    if n == 1 { "item" } else { "items" }
 }
 
 // Draws a drawing with other pieces.

@@ -4,7 +4,7 @@ ghost use Rattle.std.specs.Str.{encode_utf8_all};
 ghost use Rattle.ptree.specs.Characters.{characters_of};
 ghost use Rattle.ptree.specs.Config.{config_of};
 ghost use Rattle.trees.specs.Asked.{styled_on};
-ghost use Rattle.trees.specs.Shown.{shown_char, shown_lines, shown_characters, shown_config};
+ghost use Rattle.trees.specs.Shown.{shown_char, shown_lines, shown_on, shown_characters, shown_config};
 
 use ptree::print_config::{IndentChars, PrintConfig, StyleWhen};
 use ptree_trees::escape::push_escaped;
@@ -39,7 +39,7 @@ impl Screen {
     /// Memory ran out.
     pub fn lines(self, alloc: Global, lines: String) -> Result<String, AllocError>
         ensures { IfOk result (λ s.
-            self.is_terminal ≡ true → string_bytes s ≡ shown_lines (string_bytes lines)) }
+            string_bytes s ≡ shown_on self.is_terminal (string_bytes lines)) }
     {
         if self.is_terminal {
             return shown(alloc, lines.as_str());

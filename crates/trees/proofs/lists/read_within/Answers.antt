@@ -8,7 +8,7 @@ pub returns-in-Some-clause-failed : goal.returns-in-Some-clause-failed
 returns-in-Some-clause-failed c =
     let form = c.args.form.now in
     let text = c.args.text.now in
-    fails_by_input ((t : Tree) → IsFormWithin form text t → ⊥) ⊥ c.in_ok-wrong_at.field-0 c.in_ok-wrong_at.ensures
+    fails_by_input ((t : Tree) → IsFormWithin form text t → ⊥) ⊥ c.in_ok-wrong_at.field-0 c.in_ok-wrong_at.ensures.input
     (λ t is. deep_line 5000 form c.requires.0 text t is.read c.in-Some.ensures is.within)
 
 pub returns-in-Ok-clause-some : goal.returns-in-Ok-clause-some

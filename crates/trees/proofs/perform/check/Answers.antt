@@ -1,5 +1,9 @@
-use Rattle.std.proofs.Common.{◌≡◌, false, not, string_bytes, rules}
+use Rattle.std.proofs.Common.{◌≡◌, [], false, not, string_bytes, rules, subst, sym}
 use Rattle.trees.specs.Telling.{TellsWhether}
+use Rattle.trees.specs.Writing.{AreReports}
+use Rattle.trees.proofs.Writings.{said_nothing, said_weaker}
+use Rattle.trees.specs.Asked.{reading_value}
+use Rattle.trees.specs.Reading.{IsReport, Adds}
 use Rattle.trees.specs.Shown.{IsNone}
 use Rattle.trees.proofs.Shown.{lines_part_shown, nothing_shown}
 use Rattle.trees.proofs.Told.{tells_of_not}
@@ -22,3 +26,25 @@ returns-in_err-are_drawings-clause-shown g c = nothing_shown c.args.screen.is_te
 
 pub returns-in_err-said-clause-shown : goal.returns-in_err-said-clause-shown
 returns-in_err-said-clause-shown g c = nothing_shown c.args.screen.is_terminal IsNone (g.W.Sink.contents c.args.out.now)
+
+-- what is written is what is said
+pub returns-clause-written : goal.returns-clause-written
+returns-clause-written g c =
+    let sources = c.args.found.now.sources in
+    let inputs = c.args.sources.now in
+    let b = c.args.screen.is_terminal in
+    let old = g.W.Sink.contents c.args.out.now in
+    let new = g.W.Sink.contents c.say.new.out in
+    let text = c.as_str.result.now in
+    let empty : string_bytes c.new-said.result ≡ [] = search rules in
+    let lines = subst (λ a. Adds (IsReport (reading_value sources c.args.pieces)) inputs a (string_bytes c.push_checks.new.said)) empty c.in_ok-are_drawings.ensures.reports in
+    let reports : AreReports sources inputs c.args.pieces b text = (_, lines, search rules) in
+    said_weaker old new c.say.result (λ bytes. bytes ≡ text) (AreReports sources inputs c.args.pieces b) (λ bytes is. subst (AreReports sources inputs c.args.pieces b) (sym is) reports) c.say.ensures.written
+
+pub returns-in_err-are_drawings-clause-written : goal.returns-in_err-are_drawings-clause-written
+returns-in_err-are_drawings-clause-written g c =
+    said_nothing (g.W.Sink.contents c.args.out.now) c.from_residual.result (AreReports c.args.found.now.sources c.args.sources.now c.args.pieces c.args.screen.is_terminal) (search rules) (search rules)
+
+pub returns-in_err-said-clause-written : goal.returns-in_err-said-clause-written
+returns-in_err-said-clause-written g c =
+    said_nothing (g.W.Sink.contents c.args.out.now) c.from_residual-in_err-said.result (AreReports c.args.found.now.sources c.args.sources.now c.args.pieces c.args.screen.is_terminal) (search rules) (search rules)

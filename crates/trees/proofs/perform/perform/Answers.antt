@@ -49,3 +49,8 @@ returns-in-Diff-clause-written g c =
 pub returns-in-Diff-clause-shown : goal.returns-in-Diff-clause-shown
 returns-in-Diff-clause-shown g c =
     subst (λ command. ShowsOfCommand c.args.found.now.sources command (g.W.Sink.contents c.args.out.now) (g.W.Sink.contents c.compare_drawings.new.out)) (sym c.in-Diff.is) c.compare_drawings.ensures.shown
+
+pub returns-in-Check-clause-written : goal.returns-in-Check-clause-written
+returns-in-Check-clause-written g c =
+    subst (λ command. WritesOfCommand c.args.found.now.sources command (g.W.Sink.contents c.args.out.now) (g.W.Sink.contents c.check.new.out) c.check.result) (sym c.in-Check.is)
+    c.check.ensures.written
