@@ -6,6 +6,7 @@ pub mod MergeDrawings
 pub mod MergePlaces
 pub mod OutlineTexts
 pub mod Outlines
+pub mod OutlinesBack
 pub mod Parts
 pub mod PathNames
 pub mod Readings

@@ -20,7 +20,7 @@ use Rattle.trees.specs.ListingParts.{own_names, is_first_absolute, beside, is_un
 -- ## Texts
 
 -- a text that begins with a part is the part and a rest
-begins : (part text : List ℕ) → begins_with part text ≡ true → (rest : List ℕ) × (text ≡ part ++ rest)
+pub begins : (part text : List ℕ) → begins_with part text ≡ true → (rest : List ℕ) × (text ≡ part ++ rest)
 begins [] text h = (text, refl)
 begins (c ∷ part) [] h = absurd (false≢true h)
 begins (c ∷ part) (d ∷ text) h =

@@ -68,7 +68,7 @@ no_feeds : (bs : List ℕ) → HasNoLineFeed bs → All (λ b. eqb b 10 ≡ fals
 no_feeds bs h = All-weaker (λ b. b ≢ 10) (λ b. eqb b 10 ≡ false) (λ b other. ne_eqb b 10 other) bs h
 
 -- the parts of an indented form between line feeds: its lines, and the empty text
-parts_of_form : (form : Form) → IsUnit form.unit.now → (o : List Line) → AreLineTexts form o → slice_split (λ b. eqb b 10) (indented_lines form o) ≡ map (whole form) o ++ [] ∷ []
+pub parts_of_form : (form : Form) → IsUnit form.unit.now → (o : List Line) → AreLineTexts form o → slice_split (λ b. eqb b 10) (indented_lines form o) ≡ map (whole form) o ++ [] ∷ []
 parts_of_form form u [] h = refl
 parts_of_form form u (l ∷ o) h =
     ap (slice_split (λ b. eqb b 10)) (line_parts form l (indented_lines form o))

@@ -1,17 +1,19 @@
 -- What is drawn of indented text.
 use Rattle.std.specs.Borrow.{Bor}
-use Rattle.std.specs.Prelude.{◌≡◌, ◌≤◌, ℕ, ◌==◌, not, Bool, if◌then◌else◌, List, [], ◌∷◌, ◌++◌, filter, map, codes, Option, Some, None, unwrap_or, string_bytes}
-use Rattle.std.specs.List.{find, flat_map, list_all, take_while}
+use Rattle.std.specs.Prelude.{◌≡◌, ◌≢◌, ◌≤◌, ℕ, ◌==◌, not, Bool, if◌then◌else◌, List, [], ◌∷◌, ◌++◌, filter, map, codes, Option, Some, None, option_map, unwrap_or, string_bytes, false}
+use Rattle.std.specs.List.{AllByRecursion, find, flat_map, list_all, take_while}
 use Rattle.std.specs.Str.Lines.{lines}
-use Rattle.ptree.specs.Texts.{line_feed}
+use Rattle.ptree.specs.Outline.{outline}
+use Rattle.ptree.specs.Texts.{line_feed, HasNoLineFeed}
 use Rattle.ptree.specs.Tree.{Tree, height}
 use Rattle.ptree_trees.specs.Indented.{is_blank, begins_blank, IsUnit, IsLineText, IsIndentedForm}
 use Rattle.ptree_trees.specs.Parts.{begins_with}
 use Rattle.ptree_trees.specs.declared.indented.Form.{Form}
+use Rattle.trees.specs.declared.command.Indented.{Indented}
 use Rattle.trees.specs.declared.command.Outline.{Outline}
 use Rattle.trees.specs.declared.failure.Failure.{Failure}
 use Rattle.trees.specs.declared.source.Source.{Source}
-use Rattle.trees.specs.Listing.{unmarked}
+use Rattle.trees.specs.Listing.{byte_order_mark, unmarked}
 use Rattle.trees.specs.Reading.{FailsToMake}
 
 -- ## Lines
@@ -100,3 +102,45 @@ HoldsNoOtherOutline source outline t = (u : Tree) → HoldsOutline source outlin
 abbrev pub FailsToOutline : Source → Outline → Failure → Type 0
 FailsToOutline source outline =
     FailsToMake ((form : Form) → IsFormOf outline (outline_lines source) form → IsRightForm form → ⊥) (HoldsOutline source outline)
+
+-- ## Outlines of indented text
+
+-- a text ends in a carriage return
+abbrev pub EndsInReturn : List ℕ → Type 0
+EndsInReturn text = (front : List ℕ) × (text ≡ front ++ 13 ∷ [])
+
+-- a text that is read again behind a bullet: it has no line feed, and ends in no carriage return;
+-- without a bullet it is not empty, and begins with no blank or tab
+pub record IsKeptText (bullet text : List ℕ) : Type 0 where
+  pub line : HasNoLineFeed text
+  pub end : EndsInReturn text → ⊥
+  pub start : bullet ≡ [] → (text ≢ []) × (begins_blank text ≡ false)
+
+-- a text of a root that is read again: where no bullet is asked for it begins with none, and the
+-- first line begins with no byte order mark
+pub record IsKeptRoot (bullet : Option (Bor (List ℕ))) (text : List ℕ) : Type 0 where
+  pub bare : bullet ≡ None → line_bullet text ≡ []
+  pub unmarked : begins_with byte_order_mark (text_or bullet [] ++ text) ≡ false
+
+-- all texts of a tree are read again
+pub record AreKeptTexts (bullet : Option (Bor (List ℕ))) (t : Tree) : Type 0 where
+  pub root : IsKeptRoot bullet t.text
+  pub texts : AllByRecursion (λ l. IsKeptText (text_or bullet []) l.text) (outline t)
+
+-- what is written can be read again: the unit is one, the bullet ends in no carriage return, and
+-- nothing is escaped for a terminal
+pub record CanReadBack (indented : Indented) : Type 0 where
+  pub unit : IsUnit indented.unit.now
+  pub bullet : EndsInReturn (text_or indented.bullet []) → ⊥
+  pub unescaped : indented.is_terminal ≡ false
+
+-- the options of `outline` are those of `indented`, and no label is given
+pub record HasSameOptions (indented : Indented) (outline : Outline) : Type 0 where
+  pub unit : option_map (λ unit. unit.now) outline.unit ≡ Some indented.unit.now
+  pub bullet : option_map (λ bullet. bullet.now) outline.bullet ≡ option_map (λ bullet. bullet.now) indented.bullet
+  pub label : outline.label ≡ None
+
+-- if that can be, a source with these bytes is an outline of t, with the same options
+abbrev pub IsReadBack : Indented → Tree → List ℕ → Type 0
+IsReadBack indented t bytes =
+    CanReadBack indented → (source : Source) (outline : Outline) → string_bytes source.text ≡ bytes → HasSameOptions indented outline → HoldsOutline source outline t

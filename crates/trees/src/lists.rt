@@ -1,13 +1,14 @@
 //! Trees of paths, and of indented text.
-ghost use Rattle.std.specs.Prelude.{◌≡◌, ◌≢◌, ◌↔◌, ℕ, ◌==◌, ◌++◌, ◌∷◌, not, true, false, List, [], map, is_some, string_bytes, ⊤, MatchOption, IsTrue, IfOk, IfErr, OnOk};
+ghost use Rattle.std.specs.Prelude.{◌≡◌, ◌≢◌, ◌≤◌, ◌↔◌, ℕ, ◌==◌, ◌++◌, ◌∷◌, not, true, false, List, [], map, is_some, string_bytes, ⊤, MatchOption, IsTrue, IfOk, IfErr, OnOk};
 ghost use Rattle.std.specs.List.{list_any, slice_split};
 ghost use Rattle.ptree.specs.Texts.{line_feed};
-ghost use Rattle.ptree.specs.Tree.{Tree, tree_of};
+ghost use Rattle.ptree.specs.Tree.{Tree, tree_of, height};
 ghost use Rattle.ptree_trees.specs.Indented.{begins_blank};
+ghost use Rattle.ptree_trees.specs.Parts.{begins_with};
 ghost use Rattle.ptree_trees.specs.Paths.{names, names_of};
-ghost use Rattle.trees.specs.Listing.{path_lines, source_lines, from_first, path_names, given_paths, is_absolute, is_relative, are_wrong, root_text, IsFolders, HasPaths, IsListing};
+ghost use Rattle.trees.specs.Listing.{byte_order_mark, path_lines, source_lines, from_first, path_names, given_paths, is_absolute, is_relative, are_wrong, root_text, IsFolders, HasPaths, IsListing};
 ghost use Rattle.trees.specs.ListingParts.{own_names, IsBehindStart, is_first_absolute, beside, is_unlike, is_wrong_line};
-ghost use Rattle.trees.specs.Outlining.{is_filled, filled_lines, text_of_lines, line_indent, first_indent, line_bullet, first_bullet, IsRightForm, labelled_lines, IsFormWithin, HoldsOutline, HoldsNoOtherOutline, FailsToOutline};
+ghost use Rattle.trees.specs.Outlining.{is_filled, filled_lines, text_of_lines, line_indent, first_indent, line_bullet, first_bullet, IsRightForm, labelled_lines, IsFormWithin, HoldsOutline, HoldsNoOtherOutline, FailsToOutline, IsKeptText, IsKeptRoot, AreKeptTexts, IsReadBack};
 ghost use Rattle.trees.specs.Reading.{FailsFor, FailsToMake};
 ghost use Rattle.trees.specs.Writing.{IsShownForm, IsIndented};
 
@@ -467,6 +468,8 @@ pub fn indented(
 ) -> Result<String, Failure>
     ensures form { IfOk result (λ text.
         IsIndented indented.entry (tree_of tree.now) (string_bytes text)) }
+    ensures back { height (tree_of tree.now).children ≤ 5000 → IfOk result (λ text.
+        IsReadBack indented.entry (tree_of tree.now) (string_bytes text)) }
     ensures failed { IfErr result (FailsFor ⊤ ⊥) }
 {
     check_texts(alloc, source, tree, indented.bullet)?;
@@ -488,7 +491,8 @@ fn check_texts(
     tree: &StringItem,
     bullet: Option<&str>,
 ) -> Result<(), Failure>
-    ensures { IfErr result (FailsFor ⊤ ⊥) }
+    ensures kept { OnOk result (AreKeptTexts bullet.entry (tree_of tree.now)) }
+    ensures failed { IfErr result (FailsFor (AreKeptTexts bullet.entry (tree_of tree.now) → ⊥) ⊥) }
 {
     if let Some(wrong) = wrong_root(tree.text.as_str(), bullet) {
         return Err(source.wrong_at(alloc, 1, wrong)?);
@@ -505,12 +509,23 @@ fn check_texts(
 
 // Returns what is wrong with the root's text, if anything: `outline` would read its start as something
 // else.
-fn wrong_root(text: &str, bullet: Option<&str>) -> Option<&'static str> {
+fn wrong_root(text: &str, bullet: Option<&str>) -> Option<&'static str>
+    ensures { MatchOption result (IsKeptRoot bullet.entry text.now)
+        (λ _. IsKeptRoot bullet.entry text.now → ⊥) }
+{
     if bullet.is_none() && !known_bullet(text).is_empty() {
-        Some("the root's text begins with a bullet; use --bullet, '' for none")
-    } else if bullet.unwrap_or("").is_empty() && text.starts_with('\u{feff}') {
+        return Some("the root's text begins with a bullet; use --bullet, '' for none");
+    }
+    wrong_start(bullet.unwrap_or(""), text)
+}
+
+// Returns what begins with a byte order mark, if the first line does.
+fn wrong_start(bullet: &str, text: &str) -> Option<&'static str>
+    ensures { is_some result ≡ begins_with byte_order_mark (bullet.now ++ text.now) }
+{
+    if bullet.is_empty() && text.starts_with('\u{feff}') {
         Some("the root's text begins with a byte order mark; use --bullet")
-    } else if bullet.unwrap_or("").starts_with('\u{feff}') {
+    } else if bullet.starts_with('\u{feff}') {
         Some("the bullet begins with a byte order mark; use another --bullet")
     } else {
         None
@@ -518,7 +533,10 @@ fn wrong_root(text: &str, bullet: Option<&str>) -> Option<&'static str> {
 }
 
 // Returns why `outline` would not make a text again that stands behind a bullet, if it wouldn't.
-fn wrong_text(text: &str, bullet: &str) -> Option<&'static str> {
+fn wrong_text(text: &str, bullet: &str) -> Option<&'static str>
+    ensures { MatchOption result (IsKeptText bullet.now text.now)
+        (λ _. IsKeptText bullet.now text.now → ⊥) }
+{
     if text.contains('\n') {
         Some("a text of several lines cannot be indented")
     } else if text.ends_with('\r') {

@@ -1,0 +1,297 @@
+-- Indented text is an outline of the tree that it was written of.
+use Rattle.std.proofs.Common.{◌≡◌, ◌≢◌, ◌∙◌, ℕ, ◌+◌, ◌-◌, ◌<◌, ◌≤◌, ◌&&◌, not, Bool, true, false, cond, eqb, Option, Some, None, List, [], ◌∷◌, ◌++◌, length, length-append, get_or, take, drop, map, lit<, refl, sym, ap, subst, append_assoc, arith}
+use Rattle.std.proofs.lemmas.Bool.{false≢true, eqb-true, false_from_ne_true}
+use Rattle.std.proofs.lemmas.List.{append-nil, at_drop_more, drop_all, take-append-drop}
+use Rattle.std.proofs.lemmas.List.Folds.{list_all-append}
+use Rattle.std.proofs.lemmas.Str.{cons_from_encodes, encodes-append, encode_ascii}
+use Rattle.std.proofs.lemmas.Str.Pattern.{NoCharPasses-char}
+use Rattle.std.specs.Borrow.{Bor}
+use Rattle.std.specs.Prelude.{◌↔◌, filter, option_map, slice_index}
+use Rattle.std.specs.List.{AllByRecursion, list_all}
+use Rattle.std.specs.Char.{encode_utf8}
+use Rattle.std.specs.Str.{encode_utf8_all, IsUtf8, NoCharPasses}
+use Rattle.std.specs.Str.Pattern.{HasCharAt}
+use Rattle.std.specs.Str.Lines.{lines, lines_of_parts, strip_carriage_return}
+use Rattle.ptree.specs.declared.item.StringItem.{StringItem}
+use Rattle.ptree.specs.Outline.{Line, line, outline, outline_at}
+use Rattle.ptree.specs.Tree.{Tree, height}
+use Rattle.ptree.proofs.Drawing.Inserted.{no_line_feed_from_reads}
+use Rattle.ptree.proofs.Trees.OutlineItems.{left_more, item_line}
+use Rattle.ptree_trees.specs.Indented.{is_blank, begins_blank, indent, indented_lines, IsUnit, IsLineText, AreLineTexts, IsIndentedForm}
+use Rattle.ptree_trees.specs.Parts.{begins_with}
+use Rattle.ptree_trees.specs.declared.indented.Form.{Form}
+use Rattle.ptree_trees.proofs.IndentedLines.{line_parts, own, whole}
+use Rattle.trees.specs.declared.command.Indented.{Indented}
+use Rattle.trees.specs.Listing.{byte_order_mark, unmarked}
+use Rattle.trees.specs.Outlining.{is_filled, filled_lines, outline_lines, text_of_lines, first_indent, line_bullet, first_bullet, text_or, labelled_lines, EndsInReturn, IsKeptText, IsKeptRoot, AreKeptTexts, IsReadBack}
+use Rattle.trees.specs.Writing.{text_or_none, IsShownForm, IsIndented}
+use Rattle.trees.proofs.Listings.{begins}
+use Rattle.trees.proofs.Outlines.{parts_of_form}
+
+-- ## Ends of lines
+
+-- what ends in a text that is not empty ends as that does
+ends_so : (a b front : List ℕ) (c : ℕ) → a ++ (c ∷ b) ≡ front ++ 13 ∷ [] → EndsInReturn (c ∷ b)
+ends_so [] b front c e = (front, e)
+ends_so (x ∷ a) b [] c e = let long = ap length e in absurd (omega (arith, simp length-append at long))
+ends_so (x ∷ a) b (y ∷ front) c e = let tails : a ++ (c ∷ b) ≡ front ++ 13 ∷ [] = cc in ends_so a b front c tails
+
+-- so if that ends in no carriage return, the whole doesn't
+end_behind : (a x : List ℕ) → x ≢ [] → (EndsInReturn x → ⊥) → EndsInReturn (a ++ x) → ⊥
+end_behind a [] some none ends = absurd (some refl)
+end_behind a (c ∷ b) some none ends = none (ends_so a b ends.0 c ends.1)
+
+-- a line that ends in no carriage return is as it was
+strip_same : (l : List ℕ) → (EndsInReturn l → ⊥) → strip_carriage_return l ≡ l
+strip_same [] none = refl
+strip_same (b ∷ t) none = at (eqb (slice_index l n) 13) refl where
+  l : List ℕ
+  l = b ∷ t
+
+  n : ℕ
+  n = length l - 1
+
+  last : drop n l ≡ get_or l n 0 ∷ []
+  last = at_drop_more (λ (x : List ℕ). x) l n 0 (omega arith) ∙ ap (λ (x : List ℕ). get_or l n 0 ∷ x) (drop_all (n + 1) l (omega arith))
+
+  at : (x : Bool) → eqb (slice_index l n) 13 ≡ x → cond x (take n l) l ≡ l
+  at true e = absurd (none (take n l, sym (take-append-drop n l) ∙ ap (λ (x : List ℕ). take n l ++ x) (last ∙ ap (λ (z : ℕ). z ∷ []) (eqb-true (get_or l n 0) 13 e))))
+  at false e = refl
+
+-- ## Lines
+
+-- what stands behind an indent, and is read again
+record IsReadLine (x : List ℕ) : Type 0 where
+  some : x ≢ []
+  start : begins_blank x ≡ false
+  end : EndsInReturn x → ⊥
+
+-- a text behind a bullet is not empty
+not_empty : (bullet text : List ℕ) → (bullet ≡ [] → text ≢ []) → bullet ++ text ≢ []
+not_empty [] text some = some refl
+not_empty (b ∷ bullet) text some = λ e. cc
+
+-- nor does it end in a carriage return
+own_end : (bullet text : List ℕ) → (EndsInReturn bullet → ⊥) → (EndsInReturn text → ⊥) → EndsInReturn (bullet ++ text) → ⊥
+own_end bullet [] b t ends = b (ends.0, sym (append-nil bullet) ∙ ends.1)
+own_end bullet (c ∷ text) b t ends = end_behind bullet (c ∷ text) (λ e. cc) t ends
+
+-- so it is read again
+own_line : (bullet text : List ℕ) → IsLineText (bullet ++ text) → IsKeptText bullet text → (EndsInReturn bullet → ⊥) → IsReadLine (bullet ++ text)
+own_line bullet text line kept end = record {
+  some = not_empty bullet text (λ none. (kept.start none).0);
+  start = line.1;
+  end = own_end bullet text end kept.end;
+}
+
+-- the texts of lines are
+abbrev AreReadLines : Form → List Line → Type 0
+AreReadLines form o = AllByRecursion (λ l. IsReadLine (own form l.text)) o
+
+own_lines : (form : Form) (o : List Line) → AreLineTexts form o → AllByRecursion (λ l. IsKeptText form.bullet.now l.text) o → (EndsInReturn form.bullet.now → ⊥) → AreReadLines form o
+own_lines form [] texts kept end = tt
+own_lines form (l ∷ o) texts kept end = (own_line form.bullet.now l.text texts.0 kept.0 end, own_lines form o texts.1 kept.1 end)
+
+-- their lines are filled
+filled_line : (a x : List ℕ) → x ≢ [] → begins_blank x ≡ false → is_filled (a ++ x) ≡ true
+filled_line a [] some start = absurd (some refl)
+filled_line a (b ∷ x) some start =
+    ap not (list_all-append is_blank a (b ∷ x) ∙ (ap (λ (z : Bool). list_all is_blank a && (z && list_all is_blank x)) start ∙ none (list_all is_blank a))) where
+      none : (z : Bool) → (z && false) ≡ false
+      none true = refl
+      none false = refl
+
+filled_all : (form : Form) (o : List Line) → AreReadLines form o → filter is_filled (map (whole form) o) ≡ map (whole form) o
+filled_all form [] h = refl
+filled_all form (l ∷ o) h =
+    ap (λ (b : Bool). cond b (whole form l ∷ filter is_filled (map (whole form) o)) (filter is_filled (map (whole form) o))) (filled_line (indent form.unit.now l.level) (own form l.text) h.0.some h.0.start)
+    ∙ ap (λ (z : List (List ℕ)). whole form l ∷ z) (filled_all form o h.1)
+
+-- and each of them is a line of the text
+strip_line : (form : Form) (l : Line) → IsReadLine (own form l.text) → strip_carriage_return (whole form l) ≡ whole form l
+strip_line form l h = strip_same (whole form l) (end_behind (indent form.unit.now l.level) (own form l.text) h.some h.end)
+
+lines_of_form : (form : Form) (o : List Line) → AreReadLines form o → lines_of_parts (map (whole form) o ++ [] ∷ []) ≡ map (whole form) o
+lines_of_form form [] h = refl
+lines_of_form form (l ∷ []) h = ap (λ (x : List ℕ). x ∷ []) (strip_line form l h.0)
+lines_of_form form (l ∷ m ∷ o) h =
+    ap (λ (x : List ℕ). x ∷ lines_of_parts (map (whole form) (m ∷ o) ++ [] ∷ [])) (strip_line form l h.0) ∙ ap (λ (z : List (List ℕ)). whole form l ∷ z) (lines_of_form form (m ∷ o) h.1)
+
+-- so these are the lines of the text that count
+filled_form : (form : Form) → IsUnit form.unit.now → (o : List Line) → AreLineTexts form o → AreReadLines form o → filled_lines (indented_lines form o) ≡ map (whole form) o
+filled_form form u o texts h = ap (λ (ps : List (List ℕ)). filter is_filled (lines_of_parts ps)) (parts_of_form form u o texts) ∙ (ap (filter is_filled) (lines_of_form form o h) ∙ filled_all form o h)
+
+-- and with their line feeds they are the text
+text_of_form : (form : Form) (o : List Line) → text_of_lines (map (whole form) o) ≡ indented_lines form o
+text_of_form form [] = refl
+text_of_form form (l ∷ o) =
+    append_assoc (whole form l) (10 ∷ []) (text_of_lines (map (whole form) o)) ∙ (ap (λ (z : List ℕ). whole form l ++ 10 ∷ z) (text_of_form form o) ∙ sym (line_parts form l (indented_lines form o)))
+
+-- ## Texts
+
+-- the tests of a text say that it is read again
+pub kept_text : (bullet text : List ℕ) → NoCharPasses (λ d. eqb d 10) text → ((front : List ℕ) → text ≢ front ++ encode_utf8 13) → (bullet ≡ [] → (text ≢ []) × (begins_blank text ≡ false))
+    → IsKeptText bullet text
+kept_text bullet text feed end start = record {
+  line = no_line_feed_from_reads text (λ i low. NoCharPasses-char 10 text i feed (lit< tt) low);
+  end = λ ends. end ends.0 (ends.1 ∙ ap (λ (z : List ℕ). ends.0 ++ z) (sym (encode_ascii 13 (lit< tt))));
+  start = start;
+}
+
+-- a text of some length is not empty
+pub some_length : (text : List ℕ) → eqb (length text) 0 ≡ false → text ≢ []
+some_length text some none = false≢true (sym some ∙ ap (λ (z : List ℕ). eqb (length z) 0) none)
+
+pub no_length : (text : List ℕ) → eqb (length text) 0 ≡ true → text ≡ []
+no_length [] none = refl
+no_length (b ∷ text) none = let is = eqb-true (length (b ∷ text)) 0 none in absurd (omega (arith, is))
+
+-- the same text behind the same bullet
+pub same_kept : (a b x y : List ℕ) → a ≡ b → x ≡ y → IsKeptText a x → IsKeptText b y
+same_kept a b x y bullet text kept = subst (λ (z : List ℕ). IsKeptText z y) bullet (subst (IsKeptText a) text kept)
+
+-- ## Texts one by one
+
+module _ {A : Type 0} (P : Line → Type 0) (g : A → Line) (xs : List A) (i : ℕ) (x : A) (all : List Line) where
+  -- one more of which P holds leaves the others
+  pub all_more : i < length xs → x ≡ get_or xs i x → P (g x) → (AllByRecursion P (map g (drop i xs)) ↔ AllByRecursion P all) → (AllByRecursion P (map g (drop (i + 1) xs)) ↔ AllByRecursion P all)
+  all_more low is holds left =
+      let same = left_more g xs i x low is in
+      (λ later. left.0 (subst (AllByRecursion P) (sym same) (holds, later)), λ whole. (subst (AllByRecursion P) same (left.1 whole)).1)
+
+  -- one of which it doesn't hold is one of all
+  pub all_not : i < length xs → x ≡ get_or xs i x → (P (g x) → ⊥) → (AllByRecursion P (map g (drop i xs)) ↔ AllByRecursion P all) → AllByRecursion P all → ⊥
+  all_not low is not left whole = not (subst (AllByRecursion P) (left_more g xs i x low is) (left.1 whole)).0
+
+-- the texts of the items that are left, and of all
+abbrev pub AreKeptItems : Option (Bor (List ℕ)) → List (ℕ × Bor StringItem) → Type 0
+AreKeptItems bullet xs = AllByRecursion (λ l. IsKeptText (text_or bullet []) l.text) (map item_line xs)
+
+-- if none is left, all are read again
+pub all_kept : (bullet : Option (Bor (List ℕ))) (xs : List (ℕ × Bor StringItem)) (i : ℕ) (t : Tree) (root : List ℕ) → length xs ≤ i → (AreKeptItems bullet (drop i xs) ↔ AreKeptItems bullet xs)
+    → map item_line xs ≡ outline t → t.text ≡ root → IsKeptRoot bullet root → AreKeptTexts bullet t
+all_kept bullet xs i t root end left lines same kept = record {
+  root = subst (IsKeptRoot bullet) (sym same) kept;
+  texts = subst (AllByRecursion (λ (l : Line). IsKeptText (text_or bullet []) l.text)) lines (left.0 (subst (AreKeptItems bullet) (sym (drop_all i xs end)) tt));
+}
+
+-- ## The first line
+
+-- a text that begins with no part doesn't with a line behind it
+begins_more : (part x r : List ℕ) → AllByRecursion (λ b. eqb b 10 ≡ false) part → begins_with part x ≡ false → begins_with part (x ++ 10 ∷ r) ≡ false
+begins_more [] x r h e = e
+begins_more (c ∷ part) [] r h e = ap (λ (b : Bool). b && begins_with part r) h.0
+begins_more (c ∷ part) (d ∷ x) r h e = at (eqb c d) (begins_with part x) (begins_with part (x ++ 10 ∷ r)) (begins_more part x r h.1) e where
+  at : (b y z : Bool) → (y ≡ false → z ≡ false) → (b && y) ≡ false → (b && z) ≡ false
+  at true y z h e = h e
+  at false y z h e = refl
+
+-- what begins with no byte order mark has none
+unmarked_form : (form : Form) (t : Tree) → begins_with byte_order_mark (own form t.text) ≡ false → unmarked (indented_lines form (outline t)) ≡ indented_lines form (outline t)
+unmarked_form form t none = ap (λ (b : Bool). cond b (drop 3 text) text) (ap (begins_with byte_order_mark) parts ∙ begins_more byte_order_mark (own form t.text) rest (refl, (refl, (refl, tt))) none) where
+  text : List ℕ
+  text = indented_lines form (outline t)
+
+  rest : List ℕ
+  rest = indented_lines form (outline_at 1 t.children)
+
+  parts : text ≡ own form t.text ++ 10 ∷ rest
+  parts = line_parts form (line 0 t.text) rest
+
+-- a character at the start of two texts is at the start of the first
+char_first : (c : ℕ) (bullet text rest : List ℕ) → IsUtf8 bullet → IsUtf8 text → bullet ≢ [] → bullet ++ text ≡ encode_utf8 c ++ rest → (more : List ℕ) × (bullet ≡ encode_utf8 c ++ more)
+char_first c bullet text rest b t some e = at b.0 b.1.1 (cons_from_encodes (b.0 ++ t.0) rest c (encodes-append b.0 t.0 ∙ (ap (λ (z : List ℕ). z ++ encode_utf8_all t.0) b.1.1 ∙ (ap (λ (z : List ℕ). bullet ++ z) t.1.1 ∙ e)))) where
+  at : (cs : List ℕ) → encode_utf8_all cs ≡ bullet → (es : List ℕ) × (cs ++ t.0 ≡ c ∷ es) × (encode_utf8_all es ≡ rest) → (more : List ℕ) × (bullet ≡ encode_utf8 c ++ more)
+  at [] is first = absurd (some (sym is))
+  at (d ∷ cs) is first = let same : d ≡ c = let pair : d ∷ (cs ++ t.0) ≡ c ∷ first.0 = first.1 in cc in (encode_utf8_all cs, sym is ∙ ap (λ (x : ℕ). encode_utf8 x ++ encode_utf8_all cs) same)
+
+-- a byte order mark is these bytes
+mark_is : encode_utf8 65279 ≡ byte_order_mark
+unfolding encode_utf8
+mark_is = refl
+
+-- a text that begins with that character does
+marked : (x y : List ℕ) (n : ℕ) → HasCharAt 65279 x 0 n → begins_with byte_order_mark (x ++ y) ≡ true
+marked x y n at = ap (λ (z : List ℕ). begins_with byte_order_mark (z ++ y)) (at.split ∙ ap (λ (z : List ℕ). z ++ drop n x) mark_is)
+
+-- behind an empty bullet, and in a bullet
+pub marked_text : (bullet text : List ℕ) (n : ℕ) → bullet ≡ [] → HasCharAt 65279 text 0 n → begins_with byte_order_mark (bullet ++ text) ≡ true
+marked_text bullet text n none at = ap (λ (z : List ℕ). begins_with byte_order_mark (z ++ text)) none ∙ (ap (begins_with byte_order_mark) (sym (append-nil text)) ∙ marked text [] n at)
+
+pub marked_bullet : (bullet text : List ℕ) (n : ℕ) → HasCharAt 65279 bullet 0 n → begins_with byte_order_mark (bullet ++ text) ≡ true
+marked_bullet bullet text n at = marked bullet text n at
+
+-- what does not begin with that character, doesn't
+unmarked_so : (x : List ℕ) → ((rest : List ℕ) → x ≢ encode_utf8 65279 ++ rest) → begins_with byte_order_mark x ≡ false
+unmarked_so x lacks = false_from_ne_true (begins_with byte_order_mark x) (λ e. let begun = begins byte_order_mark x e in lacks begun.0 (begun.1 ∙ ap (λ (z : List ℕ). z ++ begun.0) (sym mark_is)))
+
+-- behind an empty bullet, and behind one that does not
+pub unmarked_text : (bullet text : List ℕ) → bullet ≡ [] → ((rest : List ℕ) → text ≢ encode_utf8 65279 ++ rest) → begins_with byte_order_mark (bullet ++ text) ≡ false
+unmarked_text bullet text none lacks = ap (λ (z : List ℕ). begins_with byte_order_mark (z ++ text)) none ∙ unmarked_so text lacks
+
+pub unmarked_bullet : (bullet text : List ℕ) → IsUtf8 bullet → IsUtf8 text → bullet ≢ [] → ((rest : List ℕ) → bullet ≢ encode_utf8 65279 ++ rest) → begins_with byte_order_mark (bullet ++ text) ≡ false
+unmarked_bullet bullet text b t some none = unmarked_so (bullet ++ text) (λ rest e. let first = char_first 65279 bullet text rest b t some e in none first.0 first.1)
+
+-- ## Options
+
+-- the text of an option that is there
+text_some : (o : Option (Bor (List ℕ))) (x other : List ℕ) → option_map (λ u. u.now) o ≡ Some x → text_or o other ≡ x
+text_some None x other e = cc
+text_some (Some u) x other e = cc
+
+-- equal options have equal texts
+text_same : (o p : Option (Bor (List ℕ))) (other : List ℕ) → option_map (λ u. u.now) o ≡ option_map (λ u. u.now) p → text_or o other ≡ text_or p other
+text_same None None other e = refl
+text_same None (Some v) other e = cc
+text_same (Some u) None other e = cc
+text_same (Some u) (Some v) other e = cc
+
+-- no text is the empty one
+none_is : (o : Option (Bor (List ℕ))) → text_or_none o ≡ text_or o []
+none_is None = refl
+none_is (Some text) = refl
+
+-- the first line's bullet is that of the options
+first_is : (o : Option (Bor (List ℕ))) (form : Form) (t : Tree) → form.bullet.now ≡ text_or o [] → (o ≡ None → line_bullet t.text ≡ [])
+    → form.bullet.now ≡ text_or o (first_bullet (map (whole form) (outline t)))
+first_is None form t is bare = is ∙ (sym (bare refl) ∙ ap (λ (z : List ℕ). line_bullet (z ++ t.text)) (sym is))
+first_is (Some bullet) form t is bare = is
+
+-- ## Trees
+
+-- an indented form is the outline of its tree, with the same options
+form_back : (indented : Indented) (t : Tree) (bytes : List ℕ) (form : Form) → height t.children ≤ 5000 → AreKeptTexts indented.bullet t
+    → form.unit.now ≡ indented.unit.now → form.bullet.now ≡ text_or indented.bullet [] → IsIndentedForm form bytes t → IsReadBack indented t bytes
+form_back indented t bytes form low kept unit bullet is right source options text same = record {
+  form = form;
+  options = record {
+    unit = unit ∙ sym (text_some options.unit indented.unit.now (first_indent (outline_lines source)) same.unit);
+    bullet = first_is indented.bullet form t bullet kept.root.bare
+        ∙ (sym (text_same options.bullet indented.bullet (first_bullet (map (whole form) o)) same.bullet) ∙ ap (λ (ls : List (List ℕ)). text_or options.bullet (first_bullet ls)) (sym counted));
+  };
+  text = record {
+    read = (is.0, ap (λ (l : Option (Bor (List ℕ))). text_of_lines (labelled_lines form l (outline_lines source))) same.label ∙ (ap text_of_lines counted ∙ text_of_form form o));
+    within = low;
+  };
+} where
+  o : List Line
+  o = outline t
+
+  texts : AllByRecursion (λ l. IsKeptText form.bullet.now l.text) o
+  texts = subst (λ (b : List ℕ). AllByRecursion (λ (l : Line). IsKeptText b l.text) o) (sym bullet) kept.texts
+
+  read : AreReadLines form o
+  read = own_lines form o is.0 texts (subst (λ (b : List ℕ). EndsInReturn b → ⊥) (sym bullet) right.bullet)
+
+  first : begins_with byte_order_mark (own form t.text) ≡ false
+  first = ap (λ (b : List ℕ). begins_with byte_order_mark (b ++ t.text)) bullet ∙ kept.root.unmarked
+
+  counted : outline_lines source ≡ map (whole form) o
+  counted = ap (λ (x : List ℕ). filled_lines (unmarked x)) (text ∙ is.1) ∙ (ap filled_lines (unmarked_form form t first) ∙ filled_form form (subst IsUnit (sym unit) right.unit) o is.0 read)
+
+-- so what is written of a tree is its outline
+pub outline_back : (indented : Indented) (t : Tree) (bytes : List ℕ) → height t.children ≤ 5000 → AreKeptTexts indented.bullet t
+    → IsIndented indented t bytes → IsReadBack indented t bytes
+outline_back indented t bytes low kept is right =
+    let plain : IsShownForm false indented.unit.now (text_or_none indented.bullet) t bytes = subst (λ (b : Bool). IsShownForm b indented.unit.now (text_or_none indented.bullet) t bytes) right.unescaped is in
+    form_back indented t bytes plain.0 low kept plain.1 (plain.2 ∙ none_is indented.bullet) plain.3 right
