@@ -56,7 +56,7 @@ same_look sources drawing off plain =
     ap (λ (b : Bool). look_by (shown_config b asked) Unknown false) off ∙ plain_look drawing.pieces (effective_config sources) _ 5000 _ (sym (styled_with drawing.pieces _) ∙ never)
 
 -- the tree whose drawing a source holds has that depth, and the text is its drawing by recursion
-held_text : (sources : Sources) (pieces : Option Pieces) (source : Source) (t : Tree) → HoldsDrawing (reading_value sources pieces) source t
+pub held_text : (sources : Sources) (pieces : Option Pieces) (source : Source) (t : Tree) → HoldsDrawing (reading_value sources pieces) source t
     → (height t.children ≤ 5000) × (string_bytes source.text ≡ tree_drawing (reading_look sources pieces) t)
 held_text sources pieces source t holds =
     (subst (λ (d : ℕ). height t.children ≤ d) (reading_depth sources pieces) holds.form.within, (drawing_of_tree (reading_look sources pieces) _ t (string_bytes source.text) holds.form.within).0 holds.form.drawn)

@@ -1,5 +1,5 @@
 -- Indented text is an outline of the tree that it was written of.
-use Rattle.std.proofs.Common.{◌≡◌, ◌≢◌, ◌∙◌, ℕ, ◌+◌, ◌-◌, ◌<◌, ◌≤◌, ◌&&◌, not, Bool, true, false, cond, eqb, Option, Some, None, List, [], ◌∷◌, ◌++◌, length, length-append, get_or, take, drop, map, lit<, refl, sym, ap, subst, append_assoc, arith}
+use Rattle.std.proofs.Common.{Result, Ok, Err, IfOk, ◌≡◌, ◌≢◌, ◌∙◌, ℕ, ◌+◌, ◌-◌, ◌<◌, ◌≤◌, ◌&&◌, not, Bool, true, false, cond, eqb, Option, Some, None, List, [], ◌∷◌, ◌++◌, length, length-append, get_or, take, drop, map, lit<, refl, sym, ap, subst, append_assoc, arith}
 use Rattle.std.proofs.lemmas.Bool.{false≢true, eqb-true, false_from_ne_true}
 use Rattle.std.proofs.lemmas.List.{append-nil, at_drop_more, drop_all, take-append-drop}
 use Rattle.std.proofs.lemmas.List.Folds.{list_all-append}
@@ -13,6 +13,7 @@ use Rattle.std.specs.Str.{encode_utf8_all, IsUtf8, NoCharPasses}
 use Rattle.std.specs.Str.Pattern.{HasCharAt}
 use Rattle.std.specs.Str.Lines.{lines, lines_of_parts, strip_carriage_return}
 use Rattle.ptree.specs.declared.item.StringItem.{StringItem}
+use Rattle.ptree.specs.declared.print_config.Sources.{Sources}
 use Rattle.ptree.specs.Outline.{Line, line, outline, outline_at}
 use Rattle.ptree.specs.Tree.{Tree, height}
 use Rattle.ptree.proofs.Drawing.Inserted.{no_line_feed_from_reads}
@@ -22,9 +23,14 @@ use Rattle.ptree_trees.specs.Parts.{begins_with}
 use Rattle.ptree_trees.specs.declared.indented.Form.{Form}
 use Rattle.ptree_trees.proofs.IndentedLines.{line_parts, own, whole}
 use Rattle.trees.specs.declared.command.Indented.{Indented}
+use Rattle.trees.specs.declared.failure.Failure.{Failure}
+use Rattle.trees.specs.declared.source.Source.{Source}
+use Rattle.trees.specs.Asked.{reading_value}
 use Rattle.trees.specs.Listing.{byte_order_mark, unmarked}
 use Rattle.trees.specs.Outlining.{is_filled, filled_lines, outline_lines, text_of_lines, first_indent, line_bullet, first_bullet, text_or, labelled_lines, EndsInReturn, IsKeptText, IsKeptRoot, AreKeptTexts, IsReadBack}
-use Rattle.trees.specs.Writing.{text_or_none, IsShownForm, IsIndented}
+use Rattle.trees.specs.Reading.{HoldsDrawing}
+use Rattle.trees.specs.Writing.{text_or_none, IsShownForm, IsIndented, IsIndentation}
+use Rattle.trees.proofs.Conversions.{held_text}
 use Rattle.trees.proofs.Listings.{begins}
 use Rattle.trees.proofs.Outlines.{parts_of_form}
 
@@ -295,3 +301,9 @@ pub outline_back : (indented : Indented) (t : Tree) (bytes : List ℕ) → heigh
 outline_back indented t bytes low kept is right =
     let plain : IsShownForm false indented.unit.now (text_or_none indented.bullet) t bytes = subst (λ (b : Bool). IsShownForm b indented.unit.now (text_or_none indented.bullet) t bytes) right.unescaped is in
     form_back indented t bytes plain.0 low kept plain.1 (plain.2 ∙ none_is indented.bullet) plain.3 right
+
+-- the tree of a drawing that was read has few enough levels, so what was written of it is read back
+pub indentation_made : {A : Type 0} (sources : Sources) (source : Source) (indented : Indented) (t : Tree) (r : Result A Failure) (bytes : A → List ℕ) → HoldsDrawing (reading_value sources indented.pieces) source t
+    → IfOk r (λ text. IsIndented indented t (bytes text)) → (height t.children ≤ 5000 → IfOk r (λ text. IsReadBack indented t (bytes text))) → IfOk r (λ text. IsIndentation sources source indented (bytes text))
+indentation_made sources source indented t (Ok text) bytes holds form back = (t, holds, form, back (held_text sources indented.pieces source t holds).0)
+indentation_made sources source indented t (Err e) bytes holds form back = tt

@@ -35,7 +35,7 @@ use Rattle.trees.specs.Changing.{IsConverted, FailsToConvert}
 use Rattle.trees.specs.Documents.{IsPartTree}
 use Rattle.trees.specs.Listing.{IsListed, FailsToList}
 use Rattle.trees.specs.Merging.{IsMergeDrawing, IsMergeCode}
-use Rattle.trees.specs.Outlining.{HoldsOutline, FailsToOutline}
+use Rattle.trees.specs.Outlining.{HoldsOutline, FailsToOutline, IsReadBack}
 use Rattle.trees.specs.Reading.{IsWriting, HoldsDrawing, IsReadableValue, FailsFor, FailsToMake, FailsToRead, IsReport, Adds}
 use Rattle.trees.specs.Shown.{shown_on, IsNone, ShowsOnly, IsLookCode}
 
@@ -122,9 +122,10 @@ IsShownForm is_terminal unit bullet t bytes = (form : Form) × (form.unit.now �
 abbrev pub IsIndented : Indented → Tree → List ℕ → Type 0
 IsIndented indented t bytes = IsShownForm indented.is_terminal indented.unit.now (text_or_none indented.bullet) t bytes
 
--- the bytes are that of the tree whose drawing the source holds
+-- the bytes are that of the tree whose drawing the source holds, and can be read back
 abbrev pub IsIndentation : Sources → Source → Indented → List ℕ → Type 0
-IsIndentation sources source indented bytes = (t : Tree) × HoldsDrawing (reading_value sources indented.pieces) source t × IsIndented indented t bytes
+IsIndentation sources source indented bytes =
+    (t : Tree) × HoldsDrawing (reading_value sources indented.pieces) source t × IsIndented indented t bytes × IsReadBack indented t bytes
 
 -- what each failure before anything is written says: of the input nothing, the pieces are not readable,
 -- or memory ran out

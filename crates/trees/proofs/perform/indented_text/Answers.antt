@@ -1,10 +1,11 @@
 use Rattle.std.proofs.Common.{IfOk, string_bytes, rules}
-use Rattle.std.proofs.lemmas.Result.{IfOk-weaker, IfErr-weaker}
+use Rattle.std.proofs.lemmas.Result.{IfErr-weaker}
 use Rattle.std.specs.Prelude.{⊤}
 use Rattle.ptree.specs.Tree.{Tree, tree_of}
 use Rattle.trees.specs.Asked.{reading_value}
 use Rattle.trees.specs.Reading.{HoldsDrawing, IsReadableValue, FailsFor}
-use Rattle.trees.specs.Writing.{IsIndented, IsIndentation, FailsToIndent}
+use Rattle.trees.specs.Writing.{IsIndented, FailsToIndent}
+use Rattle.trees.proofs.OutlinesBack.{indentation_made}
 use Rattle.trees.proofs.Readings.{fails_weaker, fails_wider}
 use Rattle.trees.proofs.perform.indented_text.Goals as goal
 
@@ -17,7 +18,7 @@ returns-clause-text c =
     let t = tree_of c.in_ok-tree.tree in
     let holds : HoldsDrawing (reading_value sources indented.pieces) source t = search rules in
     let is : IfOk c.indented.result (λ text. IsIndented indented t (string_bytes text)) = search rules in
-    IfOk-weaker c.indented.result (λ text. IsIndented indented t (string_bytes text)) (λ text. IsIndentation sources source indented (string_bytes text)) (λ text form. (t, holds, form)) is
+    indentation_made sources source indented t c.indented.result (λ text. string_bytes text) holds is c.indented.ensures.back
 
 pub returns-clause-failed : goal.returns-clause-failed
 returns-clause-failed c =
