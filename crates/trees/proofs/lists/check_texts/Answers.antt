@@ -1,5 +1,4 @@
-use Rattle.std.proofs.Common.{◌≡◌, ◌∙◌, ℕ, List, [], ap, map, subst, sym}
-use Rattle.std.specs.Borrow.{Bor}
+use Rattle.std.proofs.Common.{rules, ◌≡◌, ◌∙◌, [], ap, map, subst, sym}
 use Rattle.std.specs.List.{AllByRecursion}
 use Rattle.ptree.specs.Outline.{Line, outline}
 use Rattle.ptree.specs.Tree.{tree_of}
@@ -18,7 +17,7 @@ returns-in-Some-wrong_text-clause-failed c =
     let bullet = c.args.bullet in
     let Is : Line → Type 0 = λ l. IsKeptText (text_or bullet []) l.text in
     let lines : map item_line xs ≡ outline t = lines_of_items item_tree xs t (ap (map item_tree) c.deref-entry-items.ensures.value ∙ c.in_ok-items.ensures) in
-    let same : c.unwrap_or.result.now ≡ text_or bullet [] = ap (λ (b : Bor (List ℕ)). b.now) c.unwrap_or.ensures ∙ text_or_is bullet _ in
+    let same : c.unwrap_or.result.now ≡ text_or bullet [] = search (rules, text_or_is bullet) in
     let text : (tree_of x.1.now).text ≡ c.as_str-in-loop-i.result.now = item_text x.1.now ∙ sym c.as_str-in-loop-i.ensures.value in
     fails_by_input (AreKeptTexts bullet t → ⊥) ⊥ c.in_ok-wrong_at-2.field-0 c.in_ok-wrong_at-2.ensures (λ kept.
     all_not Is item_line xs c.loop-i.i x (map item_line xs) c.loop-i-test.true c.entry-item.is
@@ -31,7 +30,7 @@ loop-i-preserved c =
     let x = c.entry-item.result in
     let bullet = c.args.bullet in
     let Is : Line → Type 0 = λ l. IsKeptText (text_or bullet []) l.text in
-    let same : c.unwrap_or.result.now ≡ text_or bullet [] = ap (λ (b : Bor (List ℕ)). b.now) c.unwrap_or.ensures ∙ text_or_is bullet _ in
+    let same : c.unwrap_or.result.now ≡ text_or bullet [] = search (rules, text_or_is bullet) in
     let text : (tree_of x.1.now).text ≡ c.as_str-in-loop-i.result.now = item_text x.1.now ∙ sym c.as_str-in-loop-i.ensures.value in
     all_more Is item_line xs c.loop-i.i x (map item_line xs) c.loop-i-test.true c.entry-item.is
     (same_kept c.unwrap_or.result.now (text_or bullet []) c.as_str-in-loop-i.result.now (tree_of x.1.now).text same (sym text) c.in_default-wrong_text.ensures) c.loop-i.invariant

@@ -1,5 +1,6 @@
 use Rattle.std.proofs.Common.{string_bytes, rules}
 use Rattle.ptree.specs.Tree.{tree_of}
+use Rattle.trees.specs.Outlining.{AreKeptTexts}
 use Rattle.trees.specs.Writing.{IsIndented}
 use Rattle.trees.proofs.OutlinesBack.{outline_back}
 use Rattle.trees.proofs.lists.indented.Goals as goal
@@ -9,4 +10,5 @@ returns-in-Ok-clause-back c = λ low.
     let t = tree_of c.args.tree.now in
     let text = string_bytes c.in-Ok.text in
     let is : IsIndented c.args.indented t text = search rules in
-    outline_back c.args.indented t text low c.in_ok-check_texts.ensures.kept is
+    let kept : AreKeptTexts c.args.indented.bullet t = search rules in
+    outline_back c.args.indented t text low kept is
