@@ -22,17 +22,21 @@ use Rattle.ptree_trees.specs.Indented.{is_blank, begins_blank, indent, indented_
 use Rattle.ptree_trees.specs.Parts.{begins_with}
 use Rattle.ptree_trees.specs.declared.indented.Form.{Form}
 use Rattle.ptree_trees.proofs.IndentedLines.{line_parts, own, whole}
+use Rattle.ptree_trees.proofs.IndentedResults.{same_form}
+use Rattle.ptree_trees.proofs.IndentedWriting.{bullet_fits}
 use Rattle.trees.specs.declared.command.Indented.{Indented}
+use Rattle.trees.specs.declared.command.Outline.{Outline}
 use Rattle.trees.specs.declared.failure.Failure.{Failure}
+use Rattle.trees.specs.declared.failure.Failure.TheVariants.{Usage, Input, Said, Output, Memory}
 use Rattle.trees.specs.declared.source.Source.{Source}
 use Rattle.trees.specs.Asked.{reading_value}
 use Rattle.trees.specs.Listing.{byte_order_mark, unmarked}
-use Rattle.trees.specs.Outlining.{is_filled, filled_lines, outline_lines, text_of_lines, first_indent, line_bullet, first_bullet, text_or, labelled_lines, EndsInReturn, IsKeptText, IsKeptRoot, AreKeptTexts, IsReadBack}
+use Rattle.trees.specs.Outlining.{is_filled, filled_lines, outline_lines, text_of_lines, first_indent, line_bullet, first_bullet, text_or, IsRightForm, labelled_lines, HoldsOutline, HoldsNoOtherOutline, FailsToOutline, EndsInReturn, IsKeptText, IsKeptRoot, AreKeptTexts, MakesOnly, IsReadBack}
 use Rattle.trees.specs.Reading.{HoldsDrawing}
 use Rattle.trees.specs.Writing.{text_or_none, IsShownForm, IsIndented, IsIndentation}
 use Rattle.trees.proofs.Conversions.{held_text}
 use Rattle.trees.proofs.Listings.{begins}
-use Rattle.trees.proofs.Outlines.{parts_of_form}
+use Rattle.trees.proofs.Outlines.{parts_of_form, held_within}
 
 -- ## Ends of lines
 
@@ -265,21 +269,26 @@ first_is (Some bullet) form t is bare = is
 
 -- ## Trees
 
+-- a tree of which lines under a right form are the outline is made of them, unless memory runs out
+made_only : (source : Source) (outline : Outline) (t : Tree) (holds : HoldsOutline source outline t) → IsRightForm holds.form → MakesOnly source outline t
+made_only source outline t holds right = record { some = holds; only = only; failed = failed } where
+  text : List ℕ
+  text = text_of_lines (labelled_lines holds.form outline.label (outline_lines source))
+
+  only : HoldsNoOtherOutline source outline t
+  only u other = same_form holds.form right.0 text t u holds.text.read (held_within source outline holds.form text u (record { options = holds.options; is = refl }) other).read
+
+  failed : (e : Failure) → FailsToOutline source outline e → e ≡ Memory
+  failed (Input wrong) none = absurd (none t holds)
+  failed (Usage wrong) none = absurd (none holds.form holds.options right)
+  failed Said none = absurd none
+  failed (Output kind) none = absurd none
+  failed Memory none = refl
+
 -- an indented form is the outline of its tree, with the same options
 form_back : (indented : Indented) (t : Tree) (bytes : List ℕ) (form : Form) → height t.children ≤ 5000 → AreKeptTexts indented.bullet t
     → form.unit.now ≡ indented.unit.now → form.bullet.now ≡ text_or indented.bullet [] → IsIndentedForm form bytes t → IsReadBack indented t bytes
-form_back indented t bytes form low kept unit bullet is right source options text same = record {
-  form = form;
-  options = record {
-    unit = unit ∙ sym (text_some options.unit indented.unit.now (first_indent (outline_lines source)) same.unit);
-    bullet = first_is indented.bullet form t bullet kept.root.bare
-        ∙ (sym (text_same options.bullet indented.bullet (first_bullet (map (whole form) o)) same.bullet) ∙ ap (λ (ls : List (List ℕ)). text_or options.bullet (first_bullet ls)) (sym counted));
-  };
-  text = record {
-    read = (is.0, ap (λ (l : Option (Bor (List ℕ))). text_of_lines (labelled_lines form l (outline_lines source))) same.label ∙ (ap text_of_lines counted ∙ text_of_form form o));
-    within = low;
-  };
-} where
+form_back indented t bytes form low kept unit bullet is right source options text same = made_only source options t holds (subst IsUnit (sym unit) right.unit, bullet_fits form.bullet.now t.text is.0.0) where
   o : List Line
   o = outline t
 
@@ -294,6 +303,20 @@ form_back indented t bytes form low kept unit bullet is right source options tex
 
   counted : outline_lines source ≡ map (whole form) o
   counted = ap (λ (x : List ℕ). filled_lines (unmarked x)) (text ∙ is.1) ∙ (ap filled_lines (unmarked_form form t first) ∙ filled_form form (subst IsUnit (sym unit) right.unit) o is.0 read)
+
+  holds : HoldsOutline source options t
+  holds = record {
+    form = form;
+    options = record {
+      unit = unit ∙ sym (text_some options.unit indented.unit.now (first_indent (outline_lines source)) same.unit);
+      bullet = first_is indented.bullet form t bullet kept.root.bare
+          ∙ (sym (text_same options.bullet indented.bullet (first_bullet (map (whole form) o)) same.bullet) ∙ ap (λ (ls : List (List ℕ)). text_or options.bullet (first_bullet ls)) (sym counted));
+    };
+    text = record {
+      read = (is.0, ap (λ (l : Option (Bor (List ℕ))). text_of_lines (labelled_lines form l (outline_lines source))) same.label ∙ (ap text_of_lines counted ∙ text_of_form form o));
+      within = low;
+    };
+  }
 
 -- so what is written of a tree is its outline
 pub outline_back : (indented : Indented) (t : Tree) (bytes : List ℕ) → height t.children ≤ 5000 → AreKeptTexts indented.bullet t

@@ -12,6 +12,7 @@ use Rattle.ptree_trees.specs.declared.indented.Form.{Form}
 use Rattle.trees.specs.declared.command.Indented.{Indented}
 use Rattle.trees.specs.declared.command.Outline.{Outline}
 use Rattle.trees.specs.declared.failure.Failure.{Failure}
+use Rattle.trees.specs.declared.failure.Failure.TheVariants.{Memory}
 use Rattle.trees.specs.declared.source.Source.{Source}
 use Rattle.trees.specs.Listing.{byte_order_mark, unmarked}
 use Rattle.trees.specs.Reading.{FailsToMake}
@@ -140,7 +141,13 @@ pub record HasSameOptions (indented : Indented) (outline : Outline) : Type 0 whe
   pub bullet : option_map (λ bullet. bullet.now) outline.bullet ≡ option_map (λ bullet. bullet.now) indented.bullet
   pub label : outline.label ≡ None
 
--- if that can be, a source with these bytes is an outline of t, with the same options
+-- `outline` makes t of the source and nothing else, unless memory runs out
+pub record MakesOnly (source : Source) (outline : Outline) (t : Tree) : Type 0 where
+  pub some : HoldsOutline source outline t
+  pub only : HoldsNoOtherOutline source outline t
+  pub failed : (e : Failure) → FailsToOutline source outline e → e ≡ Memory
+
+-- if that can be, it makes t of each source with these bytes, with the same options
 abbrev pub IsReadBack : Indented → Tree → List ℕ → Type 0
 IsReadBack indented t bytes =
-    CanReadBack indented → (source : Source) (outline : Outline) → string_bytes source.text ≡ bytes → HasSameOptions indented outline → HoldsOutline source outline t
+    CanReadBack indented → (source : Source) (outline : Outline) → string_bytes source.text ≡ bytes → HasSameOptions indented outline → MakesOnly source outline t

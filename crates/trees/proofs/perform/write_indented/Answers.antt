@@ -20,7 +20,7 @@ returns-clause-written g c =
     let new = g.W.Sink.contents c.write_text.new.out in
     let text = c.as_str.result.now in
     let written : Writes old new c.write_text.result (λ bytes. bytes ≡ text) (λ e. e ≡ Memory) = search rules in
-    let made : IsIndentation sources source indented text = search rules in
+    let made : IsIndentation sources source indented text = subst (IsIndentation sources source indented) (sym c.as_str.ensures.value) c.in_ok-text.ensures.text in
     writes_weaker old new c.write_text.result (λ bytes. bytes ≡ text) (IsIndentation sources source indented) (λ e. e ≡ Memory) (FailsToIndent sources source indented)
     (λ bytes is. subst (IsIndentation sources source indented) (sym is) made) (λ e is. fails_by_memory ⊤ (IsReadableValue (reading_value sources indented.pieces) → ⊥) e is) written
 
