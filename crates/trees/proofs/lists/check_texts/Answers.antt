@@ -19,7 +19,7 @@ returns-in-Some-wrong_text-clause-failed c =
     let lines : map item_line xs ≡ outline t = lines_of_items item_tree xs t (ap (map item_tree) c.deref-entry-items.ensures.value ∙ c.in_ok-items.ensures) in
     let same : c.unwrap_or.result.now ≡ text_or bullet [] = search (rules, text_or_is bullet) in
     let text : (tree_of x.1.now).text ≡ c.as_str-in-loop-i.result.now = item_text x.1.now ∙ sym c.as_str-in-loop-i.ensures.value in
-    fails_by_input (AreKeptTexts bullet t → ⊥) ⊥ c.in_ok-wrong_at-2.field-0 c.in_ok-wrong_at-2.ensures (λ kept.
+    fails_by_input (AreKeptTexts bullet t → ⊥) ⊥ c.in_ok-wrong_at-2.field-0 c.in_ok-wrong_at-2.ensures.input (λ kept.
     all_not Is item_line xs c.loop-i.i x (map item_line xs) c.loop-i-test.true c.entry-item.is
     (λ k. c.in-Some-wrong_text.ensures (same_kept (text_or bullet []) c.unwrap_or.result.now (tree_of x.1.now).text c.as_str-in-loop-i.result.now (sym same) text k))
     c.loop-i.invariant (subst (AllByRecursion Is) (sym lines) kept.texts))
