@@ -2,6 +2,7 @@
 use Rattle.std.proofs.Common.{Result, Ok, Err, IfOk, ◌≡◌, ◌≢◌, ◌∙◌, ℕ, ◌+◌, ◌-◌, ◌<◌, ◌≤◌, ◌&&◌, not, Bool, true, false, cond, eqb, Option, Some, None, List, [], ◌∷◌, ◌++◌, length, length-append, get_or, take, drop, map, lit<, refl, sym, ap, subst, append_assoc, arith}
 use Rattle.std.proofs.lemmas.Bool.{false≢true, eqb-true, false_from_ne_true}
 use Rattle.std.proofs.lemmas.List.{append-nil, at_drop_more, drop_all, take-append-drop}
+use Rattle.std.proofs.lemmas.List.Elements.{All-append}
 use Rattle.std.proofs.lemmas.List.Folds.{list_all-append}
 use Rattle.std.proofs.lemmas.Str.{cons_from_encodes, encodes-append, encode_ascii}
 use Rattle.std.proofs.lemmas.Str.Pattern.{NoCharPasses-char}
@@ -31,12 +32,13 @@ use Rattle.trees.specs.declared.failure.Failure.TheVariants.{Usage, Input, Said,
 use Rattle.trees.specs.declared.source.Source.{Source}
 use Rattle.trees.specs.Asked.{reading_value}
 use Rattle.trees.specs.Listing.{byte_order_mark, unmarked}
-use Rattle.trees.specs.Outlining.{is_filled, filled_lines, outline_lines, text_of_lines, first_indent, line_bullet, first_bullet, text_or, IsRightForm, labelled_lines, HoldsOutline, HoldsNoOtherOutline, FailsToOutline, EndsInReturn, IsKeptText, IsKeptRoot, AreKeptTexts, MakesOnly, IsReadBack}
-use Rattle.trees.specs.Reading.{HoldsDrawing}
-use Rattle.trees.specs.Writing.{text_or_none, IsShownForm, IsIndented, IsIndentation}
+use Rattle.trees.specs.Outlining.{is_filled, filled_lines, outline_lines, text_of_lines, first_indent, line_bullet, first_bullet, text_or, IsRightForm, labelled_lines, HoldsOutline, HoldsNoOtherOutline, FailsToOutline, EndsInReturn, IsKeptText, IsKeptRoot, AreKeptTexts, LosesText, MakesOnly, IsReadBack}
+use Rattle.trees.specs.Reading.{HoldsDrawing, HoldsNoOther, IsReadableValue, FailsFor, FailsToRead}
+use Rattle.trees.specs.Writing.{text_or_none, IsShownForm, IsIndented, IsIndentation, FailsToIndent}
 use Rattle.trees.proofs.Conversions.{held_text}
 use Rattle.trees.proofs.Listings.{begins}
 use Rattle.trees.proofs.Outlines.{parts_of_form, held_within}
+use Rattle.trees.proofs.Readings.{fails_weaker, fails_wider}
 
 -- ## Ends of lines
 
@@ -159,6 +161,20 @@ no_length (b ∷ text) none = let is = eqb-true (length (b ∷ text)) 0 none in 
 -- the same text behind the same bullet
 pub same_kept : (a b x y : List ℕ) → a ≡ b → x ≡ y → IsKeptText a x → IsKeptText b y
 same_kept a b x y bullet text kept = subst (λ (z : List ℕ). IsKeptText z y) bullet (subst (IsKeptText a) text kept)
+
+-- behind a bullet that is right it can stand after an indent
+line_text : (bullet text : List ℕ) → IsLineText bullet → IsKeptText bullet text → IsLineText (bullet ++ text)
+line_text [] text line kept = (kept.line, (kept.start refl).1)
+line_text (b ∷ bullet) text line kept = (All-append (λ c. c ≢ 10) (b ∷ bullet) text line.0 kept.line, line.1)
+
+line_texts : (form : Form) (o : List Line) → IsLineText form.bullet.now → AllByRecursion (λ l. IsKeptText form.bullet.now l.text) o → AreLineTexts form o
+line_texts form [] line kept = tt
+line_texts form (l ∷ o) line kept = (line_text form.bullet.now l.text line kept.0, line_texts form o line kept.1)
+
+-- so if one of them cannot, not all are read again
+pub loses_text : (indented : Indented) (t : Tree) (form : Form) → form.bullet.now ≡ text_or indented.bullet [] → (indented.is_terminal ≡ false → AreLineTexts form (outline t) → ⊥) → LosesText indented t
+loses_text indented t form same wrong file line kept =
+    wrong file (line_texts form (outline t) (subst IsLineText (sym same) line) (subst (λ (b : List ℕ). AllByRecursion (λ (l : Line). IsKeptText b l.text) (outline t)) (sym same) kept.texts))
 
 -- ## Texts one by one
 
@@ -330,3 +346,17 @@ pub indentation_made : {A : Type 0} (sources : Sources) (source : Source) (inden
     → IfOk r (λ text. IsIndented indented t (bytes text)) → (height t.children ≤ 5000 → IfOk r (λ text. IsReadBack indented t (bytes text))) → IfOk r (λ text. IsIndentation sources source indented (bytes text))
 indentation_made sources source indented t (Ok text) bytes holds form back = (t, holds, form, back (held_text sources indented.pieces source t holds).0)
 indentation_made sources source indented t (Err e) bytes holds form back = tt
+
+-- if it loses a text of the one tree that was read, the source holds none of which all are read again
+pub fails_to_indent : (sources : Sources) (source : Source) (indented : Indented) (t : Tree) (e : Failure) → HoldsNoOther (reading_value sources indented.pieces) source t → FailsFor (LosesText indented t) ⊥ e
+    → FailsToIndent sources source indented e
+fails_to_indent sources source indented t e only fails =
+    let config = reading_value sources indented.pieces in
+    let Lost : Type 0 = (u : Tree) → HoldsDrawing config source u → LosesText indented u in
+    fails_weaker (LosesText indented t) Lost (IsReadableValue config → ⊥) e (λ loses u holds. subst (LosesText indented) (only u holds) loses) (fails_wider (LosesText indented t) (IsReadableValue config → ⊥) e fails)
+
+-- so it does if it holds none
+pub fails_to_read : (sources : Sources) (source : Source) (indented : Indented) (e : Failure) → FailsToRead (reading_value sources indented.pieces) source e → FailsToIndent sources source indented e
+fails_to_read sources source indented e fails =
+    let config = reading_value sources indented.pieces in
+    fails_weaker ((t : Tree) → HoldsDrawing config source t → ⊥) ((t : Tree) → HoldsDrawing config source t → LosesText indented t) (IsReadableValue config → ⊥) e (λ none t holds. absurd (none t holds)) fails

@@ -128,6 +128,11 @@ pub record AreKeptTexts (bullet : Option (Bor (List ℕ))) (t : Tree) : Type 0 w
   pub root : IsKeptRoot bullet t.text
   pub texts : AllByRecursion (λ l. IsKeptText (text_or bullet []) l.text) (outline t)
 
+-- not all texts of t are read again; this is said of a bullet that is right, and of what is not
+-- escaped for a terminal
+abbrev pub LosesText : Indented → Tree → Type 0
+LosesText indented t = indented.is_terminal ≡ false → IsLineText (text_or indented.bullet []) → AreKeptTexts indented.bullet t → ⊥
+
 -- what is written can be read again: the unit is one, the bullet ends in no carriage return, and
 -- nothing is escaped for a terminal
 pub record CanReadBack (indented : Indented) : Type 0 where

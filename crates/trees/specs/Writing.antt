@@ -35,7 +35,7 @@ use Rattle.trees.specs.Changing.{IsConverted, FailsToConvert}
 use Rattle.trees.specs.Documents.{IsPartTree}
 use Rattle.trees.specs.Listing.{IsListed, FailsToList}
 use Rattle.trees.specs.Merging.{IsMergeDrawing, IsMergeCode}
-use Rattle.trees.specs.Outlining.{HoldsOutline, FailsToOutline, IsReadBack}
+use Rattle.trees.specs.Outlining.{HoldsOutline, FailsToOutline, IsReadBack, LosesText}
 use Rattle.trees.specs.Reading.{IsWriting, HoldsDrawing, IsReadableValue, FailsFor, FailsToMake, FailsToRead, IsReport, Adds}
 use Rattle.trees.specs.Shown.{shown_on, IsNone, ShowsOnly, IsLookCode}
 
@@ -127,10 +127,12 @@ abbrev pub IsIndentation : Sources → Source → Indented → List ℕ → Type
 IsIndentation sources source indented bytes =
     (t : Tree) × HoldsDrawing (reading_value sources indented.pieces) source t × IsIndented indented t bytes × IsReadBack indented t bytes
 
--- what each failure before anything is written says: of the input nothing, the pieces are not readable,
--- or memory ran out
+-- what each failure before anything is written says: the source holds the drawing of no tree whose
+-- texts are all read again, the pieces are not readable, or memory ran out
 abbrev pub FailsToIndent : Sources → Source → Indented → Failure → Type 0
-FailsToIndent sources source indented = FailsFor ⊤ (IsReadableValue (reading_value sources indented.pieces) → ⊥)
+FailsToIndent sources source indented =
+    let config = reading_value sources indented.pieces in
+    FailsFor ((t : Tree) → HoldsDrawing config source t → LosesText indented t) (IsReadableValue config → ⊥)
 
 -- ## Commands
 

@@ -1,14 +1,15 @@
 //! Trees of paths, and of indented text.
-ghost use Rattle.std.specs.Prelude.{◌≡◌, ◌≢◌, ◌≤◌, ◌↔◌, ℕ, ◌==◌, ◌++◌, ◌∷◌, not, true, false, List, [], map, is_some, string_bytes, ⊤, MatchOption, IsTrue, IfOk, IfErr, OnOk};
+ghost use Rattle.std.specs.Prelude.{◌≡◌, ◌≢◌, ◌≤◌, ◌↔◌, ℕ, ◌==◌, ◌++◌, ◌∷◌, not, true, false, List, [], map, is_some, string_bytes, ⊤, MatchOption, IsTrue, IfOk, IfErr, IsErrOf, OnOk};
 ghost use Rattle.std.specs.List.{list_any, slice_split};
+ghost use Rattle.ptree.specs.Outline.{outline};
 ghost use Rattle.ptree.specs.Texts.{line_feed};
 ghost use Rattle.ptree.specs.Tree.{Tree, tree_of, height};
-ghost use Rattle.ptree_trees.specs.Indented.{begins_blank};
+ghost use Rattle.ptree_trees.specs.Indented.{begins_blank, AreLineTexts};
 ghost use Rattle.ptree_trees.specs.Parts.{begins_with};
 ghost use Rattle.ptree_trees.specs.Paths.{names, names_of};
 ghost use Rattle.trees.specs.Listing.{byte_order_mark, path_lines, source_lines, from_first, path_names, given_paths, is_absolute, is_relative, are_wrong, root_text, IsFolders, HasPaths, IsListing};
 ghost use Rattle.trees.specs.ListingParts.{own_names, IsBehindStart, is_first_absolute, beside, is_unlike, is_wrong_line};
-ghost use Rattle.trees.specs.Outlining.{is_filled, filled_lines, text_of_lines, line_indent, first_indent, line_bullet, first_bullet, IsRightForm, labelled_lines, IsFormWithin, HoldsOutline, HoldsNoOtherOutline, FailsToOutline, IsKeptText, IsKeptRoot, AreKeptTexts, IsReadBack};
+ghost use Rattle.trees.specs.Outlining.{is_filled, filled_lines, text_of_lines, line_indent, first_indent, line_bullet, first_bullet, IsRightForm, labelled_lines, IsFormWithin, HoldsOutline, HoldsNoOtherOutline, FailsToOutline, IsKeptText, IsKeptRoot, AreKeptTexts, LosesText, IsReadBack};
 ghost use Rattle.trees.specs.Reading.{FailsFor, FailsToMake};
 ghost use Rattle.trees.specs.Writing.{IsShownForm, IsIndented};
 
@@ -470,7 +471,8 @@ pub fn indented(
         IsIndented indented.entry (tree_of tree.now) (string_bytes text)) }
     ensures back { height (tree_of tree.now).children ≤ 5000 → IfOk result (λ text.
         IsReadBack indented.entry (tree_of tree.now) (string_bytes text)) }
-    ensures failed { IfErr result (FailsFor ⊤ ⊥) }
+    // `Input` says that `outline` would make another text of one in the tree.
+    ensures failed { IfErr result (FailsFor (LosesText indented.entry (tree_of tree.now)) ⊥) }
 {
     check_texts(alloc, source, tree, indented.bullet)?;
     let form = Form {
@@ -555,8 +557,10 @@ fn shown_form(
     form: &Form<'_>,
     is_terminal: bool,
 ) -> Result<String, WriteError>
-    ensures { IfOk result (λ text. IsShownForm is_terminal
+    ensures form { IfOk result (λ text. IsShownForm is_terminal
         form.now.unit.now form.now.bullet.now (tree_of tree.now) (string_bytes text)) }
+    ensures text { is_terminal ≡ false → IsErrOf result WriteError.Text
+        → AreLineTexts form.now (outline (tree_of tree.now)) → ⊥ }
 {
     if is_terminal {
         return escaped_form(alloc, tree, form);

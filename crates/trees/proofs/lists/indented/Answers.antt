@@ -1,8 +1,11 @@
-use Rattle.std.proofs.Common.{string_bytes, rules}
+use Rattle.std.proofs.Common.{◌≡◌, [], ap, Err, string_bytes, rules}
 use Rattle.ptree.specs.Tree.{tree_of}
-use Rattle.trees.specs.Outlining.{AreKeptTexts}
+use Rattle.ptree_trees.specs.declared.indented.Form.{Form}
+use Rattle.trees.specs.Outlining.{text_or, AreKeptTexts, LosesText}
 use Rattle.trees.specs.Writing.{IsIndented}
-use Rattle.trees.proofs.OutlinesBack.{outline_back}
+use Rattle.trees.proofs.OutlineTexts.{text_or_is}
+use Rattle.trees.proofs.OutlinesBack.{loses_text, outline_back}
+use Rattle.trees.proofs.Readings.{fails_by_input}
 use Rattle.trees.proofs.lists.indented.Goals as goal
 
 pub returns-in-Ok-clause-back : goal.returns-in-Ok-clause-back
@@ -12,3 +15,11 @@ returns-in-Ok-clause-back c = λ low.
     let is : IsIndented c.args.indented t text = search rules in
     let kept : AreKeptTexts c.args.indented.bullet t = search rules in
     outline_back c.args.indented t text low kept is
+
+pub returns-in_ok-wrong-in-Err-Text-clause-failed : goal.returns-in_ok-wrong-in-Err-Text-clause-failed
+returns-in_ok-wrong-in-Err-Text-clause-failed c =
+    let indented = c.args.indented in
+    let t = tree_of c.args.tree.now in
+    let form : Form = record { unit = indented.unit; bullet = c.unwrap_or.result } in
+    let same : c.unwrap_or.result.now ≡ text_or indented.bullet [] = search (rules, text_or_is indented.bullet) in
+    fails_by_input (LosesText indented t) ⊥ c.in_ok-wrong-in-Err-Text.field-0 c.in_ok-wrong-in-Err-Text.ensures (loses_text indented t form same (λ file fits. c.in-Err-Text.ensures.text file (ap Err c.in-Err-Text.field-0-is) fits))

@@ -1,12 +1,11 @@
 use Rattle.std.proofs.Common.{IfOk, string_bytes, rules}
 use Rattle.std.proofs.lemmas.Result.{IfErr-weaker}
-use Rattle.std.specs.Prelude.{⊤}
-use Rattle.ptree.specs.Tree.{Tree, tree_of}
+use Rattle.ptree.specs.Tree.{tree_of}
 use Rattle.trees.specs.Asked.{reading_value}
-use Rattle.trees.specs.Reading.{HoldsDrawing, IsReadableValue, FailsFor}
+use Rattle.trees.specs.Outlining.{LosesText}
+use Rattle.trees.specs.Reading.{HoldsDrawing, HoldsNoOther, FailsFor}
 use Rattle.trees.specs.Writing.{IsIndented, FailsToIndent}
-use Rattle.trees.proofs.OutlinesBack.{indentation_made}
-use Rattle.trees.proofs.Readings.{fails_weaker, fails_wider}
+use Rattle.trees.proofs.OutlinesBack.{indentation_made, fails_to_indent, fails_to_read}
 use Rattle.trees.proofs.perform.indented_text.Goals as goal
 
 -- the tree is the one that was read
@@ -25,11 +24,14 @@ returns-clause-failed c =
     let sources = c.args.found.now.sources in
     let source = c.args.source.now in
     let indented = c.args.indented in
-    IfErr-weaker c.indented.result (FailsFor ⊤ ⊥) (FailsToIndent sources source indented) (λ e says. fails_wider ⊤ (IsReadableValue (reading_value sources indented.pieces) → ⊥) e says) c.indented.ensures.failed
+    let t = tree_of c.in_ok-tree.tree in
+    let only : HoldsNoOther (reading_value sources indented.pieces) source t = search rules in
+    IfErr-weaker c.indented.result (FailsFor (LosesText indented t) ⊥) (FailsToIndent sources source indented) (λ e says. fails_to_indent sources source indented t e only says) c.indented.ensures.failed
 
 pub returns-in_err-tree-clause-failed : goal.returns-in_err-tree-clause-failed
 returns-in_err-tree-clause-failed c =
-    let config = reading_value c.args.found.now.sources c.args.indented.pieces in
+    let sources = c.args.found.now.sources in
     let source = c.args.source.now in
-    let says = fails_weaker ((t : Tree) → HoldsDrawing config source t → ⊥) ⊤ (IsReadableValue config → ⊥) c.in_err-tree.field-0.0 (λ none. tt) c.in_err-tree.ensures.failed in
+    let indented = c.args.indented in
+    let says = fails_to_read sources source indented c.in_err-tree.field-0.0 c.in_err-tree.ensures.failed in
     search (rules, says)

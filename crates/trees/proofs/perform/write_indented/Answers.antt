@@ -2,8 +2,9 @@ use Rattle.std.proofs.Common.{◌≡◌, subst, sym, rules}
 use Rattle.std.specs.Prelude.{IsErr, IfErr}
 use Rattle.trees.specs.declared.failure.Failure.TheVariants.{Memory}
 use Rattle.trees.specs.Asked.{reading_value}
-use Rattle.trees.specs.Reading.{IsReadableValue}
-use Rattle.std.specs.Prelude.{⊤}
+use Rattle.trees.specs.Reading.{HoldsDrawing, IsReadableValue}
+use Rattle.ptree.specs.Tree.{Tree}
+use Rattle.trees.specs.Outlining.{LosesText}
 use Rattle.trees.specs.Writing.{Writes, IsIndentation, FailsToIndent}
 use Rattle.trees.proofs.Readings.{fails_by_memory}
 use Rattle.trees.proofs.Shown.{indentation_shown, nothing_shown}
@@ -16,13 +17,14 @@ returns-clause-written g c =
     let sources = c.args.found.now.sources in
     let source = c.args.source.now in
     let indented = c.args.indented in
+    let config = reading_value sources indented.pieces in
     let old = g.W.Sink.contents c.args.out.now in
     let new = g.W.Sink.contents c.write_text.new.out in
     let text = c.as_str.result.now in
     let written : Writes old new c.write_text.result (λ bytes. bytes ≡ text) (λ e. e ≡ Memory) = search rules in
     let made : IsIndentation sources source indented text = subst (IsIndentation sources source indented) (sym c.as_str.ensures.value) c.in_ok-text.ensures.text in
     writes_weaker old new c.write_text.result (λ bytes. bytes ≡ text) (IsIndentation sources source indented) (λ e. e ≡ Memory) (FailsToIndent sources source indented)
-    (λ bytes is. subst (IsIndentation sources source indented) (sym is) made) (λ e is. fails_by_memory ⊤ (IsReadableValue (reading_value sources indented.pieces) → ⊥) e is) written
+    (λ bytes is. subst (IsIndentation sources source indented) (sym is) made) (λ e is. fails_by_memory ((t : Tree) → HoldsDrawing config source t → LosesText indented t) (IsReadableValue config → ⊥) e is) written
 
 pub returns-in_err-text-clause-written : goal.returns-in_err-text-clause-written
 returns-in_err-text-clause-written g c =
