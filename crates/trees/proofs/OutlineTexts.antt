@@ -1,7 +1,8 @@
 -- Blank lines, indents and labels.
-use Rattle.std.proofs.Common.{◌≡◌, ◌≢◌, ◌∙◌, ℕ, ◌&&◌, not, Bool, true, false, cond, eqb, Option, Some, None, List, [], ◌∷◌, ◌++◌, length, drop, map, lit<, refl, sym, ap, append_assoc, arith}
+use Rattle.std.proofs.Common.{◌≡◌, ◌≢◌, ◌∙◌, ℕ, ◌+◌, ◌<◌, ◌&&◌, not, Bool, true, false, cond, eqb, Option, Some, None, List, [], ◌∷◌, ◌++◌, length, take, drop, map, lit<, refl, sym, ap, append_assoc, arith}
 use Rattle.std.proofs.lemmas.Bool.{false≢true, and_parts, ne_eqb}
-use Rattle.std.proofs.lemmas.List.{append_cancel_right}
+use Rattle.std.proofs.lemmas.List.{append_cancel_right, take-append-drop}
+use Rattle.std.proofs.lemmas.List.Folds.{list_all-append}
 use Rattle.std.proofs.lemmas.List.Sums.{take_while-cons}
 use Rattle.std.proofs.lemmas.Simd.{map-map}
 use Rattle.std.proofs.lemmas.Str.{encode_ascii}
@@ -34,6 +35,12 @@ unit_blank (b ∷ line) r some unit =
     ap not (both_ways r (list_all is_blank (b ∷ line)) (λ e. blanks_pass (b ∷ line) (unit.0 e).1) (λ e. unit.1 (λ none. no none, pass_blanks (b ∷ line) e))) where
       no : b ∷ line ≡ [] → ⊥
       no none = cc
+
+-- a part of blanks that is not empty is a unit
+pub blank_part : (blanks unit : List ℕ) (m n : ℕ) → list_all is_blank blanks ≡ true → 0 < n → unit ≡ take m blanks → length unit + 0 ≡ n → IsUnit unit
+blank_part blanks unit m n all some is long = (λ none. let empty = ap length none in absurd (omega (arith, empty, long, some)), pass_blanks unit (ap (list_all is_blank) is ∙ front.0)) where
+  front : (list_all is_blank (take m blanks) ≡ true) × (list_all is_blank (drop m blanks) ≡ true)
+  front = and_parts (list_all is_blank (take m blanks)) (list_all is_blank (drop m blanks)) (sym (list_all-append is_blank (take m blanks) (drop m blanks)) ∙ (ap (list_all is_blank) (take-append-drop m blanks) ∙ all))
 
 -- ## Indents
 

@@ -173,8 +173,8 @@ line_texts form (l ∷ o) line kept = (line_text form.bullet.now l.text line kep
 
 -- so if one of them cannot, not all are read again
 pub loses_text : (indented : Indented) (t : Tree) (form : Form) → form.bullet.now ≡ text_or indented.bullet [] → (indented.is_terminal ≡ false → AreLineTexts form (outline t) → ⊥) → LosesText indented t
-loses_text indented t form same wrong file line kept =
-    wrong file (line_texts form (outline t) (subst IsLineText (sym same) line) (subst (λ (b : List ℕ). AllByRecursion (λ (l : Line). IsKeptText b l.text) (outline t)) (sym same) kept.texts))
+loses_text indented t form same wrong right kept =
+    wrong right.1 (line_texts form (outline t) (subst IsLineText (sym same) right.0.bullet.0) (subst (λ (b : List ℕ). AllByRecursion (λ (l : Line). IsKeptText b l.text) (outline t)) (sym same) kept.texts))
 
 -- ## Texts one by one
 
@@ -304,7 +304,7 @@ made_only source outline t holds right = record { some = holds; only = only; fai
 -- an indented form is the outline of its tree, with the same options
 form_back : (indented : Indented) (t : Tree) (bytes : List ℕ) (form : Form) → height t.children ≤ 5000 → AreKeptTexts indented.bullet t
     → form.unit.now ≡ indented.unit.now → form.bullet.now ≡ text_or indented.bullet [] → IsIndentedForm form bytes t → IsReadBack indented t bytes
-form_back indented t bytes form low kept unit bullet is right source options text same = made_only source options t holds (subst IsUnit (sym unit) right.unit, bullet_fits form.bullet.now t.text is.0.0) where
+form_back indented t bytes form low kept unit bullet is right source options text same = made_only source options t holds (subst IsUnit (sym unit) right.0.unit, bullet_fits form.bullet.now t.text is.0.0) where
   o : List Line
   o = outline t
 
@@ -312,13 +312,13 @@ form_back indented t bytes form low kept unit bullet is right source options tex
   texts = subst (λ (b : List ℕ). AllByRecursion (λ (l : Line). IsKeptText b l.text) o) (sym bullet) kept.texts
 
   read : AreReadLines form o
-  read = own_lines form o is.0 texts (subst (λ (b : List ℕ). EndsInReturn b → ⊥) (sym bullet) right.bullet)
+  read = own_lines form o is.0 texts (subst (λ (b : List ℕ). EndsInReturn b → ⊥) (sym bullet) right.0.bullet.1)
 
   first : begins_with byte_order_mark (own form t.text) ≡ false
   first = ap (λ (b : List ℕ). begins_with byte_order_mark (b ++ t.text)) bullet ∙ kept.root.unmarked
 
   counted : outline_lines source ≡ map (whole form) o
-  counted = ap (λ (x : List ℕ). filled_lines (unmarked x)) (text ∙ is.1) ∙ (ap filled_lines (unmarked_form form t first) ∙ filled_form form (subst IsUnit (sym unit) right.unit) o is.0 read)
+  counted = ap (λ (x : List ℕ). filled_lines (unmarked x)) (text ∙ is.1) ∙ (ap filled_lines (unmarked_form form t first) ∙ filled_form form (subst IsUnit (sym unit) right.0.unit) o is.0 read)
 
   holds : HoldsOutline source options t
   holds = record {
@@ -338,7 +338,7 @@ form_back indented t bytes form low kept unit bullet is right source options tex
 pub outline_back : (indented : Indented) (t : Tree) (bytes : List ℕ) → height t.children ≤ 5000 → AreKeptTexts indented.bullet t
     → IsIndented indented t bytes → IsReadBack indented t bytes
 outline_back indented t bytes low kept is right =
-    let plain : IsShownForm false indented.unit.now (text_or_none indented.bullet) t bytes = subst (λ (b : Bool). IsShownForm b indented.unit.now (text_or_none indented.bullet) t bytes) right.unescaped is in
+    let plain : IsShownForm false indented.unit.now (text_or_none indented.bullet) t bytes = subst (λ (b : Bool). IsShownForm b indented.unit.now (text_or_none indented.bullet) t bytes) right.1 is in
     form_back indented t bytes plain.0 low kept plain.1 (plain.2 ∙ none_is indented.bullet) plain.3 right
 
 -- the tree of a drawing that was read has few enough levels, so what was written of it is read back

@@ -128,17 +128,22 @@ pub record AreKeptTexts (bullet : Option (Bor (List ℕ))) (t : Tree) : Type 0 w
   pub root : IsKeptRoot bullet t.text
   pub texts : AllByRecursion (λ l. IsKeptText (text_or bullet []) l.text) (outline t)
 
--- not all texts of t are read again; this is said of a bullet that is right, and of what is not
--- escaped for a terminal
-abbrev pub LosesText : Indented → Tree → Type 0
-LosesText indented t = indented.is_terminal ≡ false → IsLineText (text_or indented.bullet []) → AreKeptTexts indented.bullet t → ⊥
+-- a bullet that a call can have: a text that can stand after an indent, and ends in no carriage return
+abbrev pub IsRightBullet : List ℕ → Type 0
+IsRightBullet bullet = IsLineText bullet × (EndsInReturn bullet → ⊥)
 
--- what is written can be read again: the unit is one, the bullet ends in no carriage return, and
--- nothing is escaped for a terminal
-pub record CanReadBack (indented : Indented) : Type 0 where
+-- the unit and the bullet are such as a call can have
+pub record HasRightOptions (indented : Indented) : Type 0 where
   pub unit : IsUnit indented.unit.now
-  pub bullet : EndsInReturn (text_or indented.bullet []) → ⊥
-  pub unescaped : indented.is_terminal ≡ false
+  pub bullet : IsRightBullet (text_or indented.bullet [])
+
+-- what is written can be read again: the options are right, and nothing is escaped for a terminal
+abbrev pub CanReadBack : Indented → Type 0
+CanReadBack indented = HasRightOptions indented × (indented.is_terminal ≡ false)
+
+-- not all texts of t are read again, though what is written can be
+abbrev pub LosesText : Indented → Tree → Type 0
+LosesText indented t = CanReadBack indented → AreKeptTexts indented.bullet t → ⊥
 
 -- the options of `outline` are those of `indented`, and no label is given
 pub record HasSameOptions (indented : Indented) (outline : Outline) : Type 0 where

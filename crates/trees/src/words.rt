@@ -1,4 +1,7 @@
 //! Reads the words of a call: the command, its options and its files.
+ghost use Rattle.std.specs.Prelude.{[], IfOk};
+ghost use Rattle.ptree_trees.specs.Indented.{IsUnit};
+ghost use Rattle.trees.specs.Outlining.{text_or, IsRightBullet, HasRightOptions};
 
 use crate::command::{
     Command, Convert, Deps, Diff, Document, Drawing, Indented, Outline, Paths, Tree,
@@ -132,7 +135,9 @@ impl<'a> Words<'a> {
             (CommandName::Deps, [source]) => self.deps(source, screen),
             (CommandName::Paths, [source]) => self.draw(source, Tree::Paths(self.paths()), screen),
             (CommandName::Outline, [source]) => self.outline(source, screen),
-            (CommandName::Indented, [source]) => self.indented(source, screen),
+            (CommandName::Indented, [source]) => {
+                Ok(Command::Indented(source, self.indented(screen)?))
+            }
             (CommandName::Check, _) => Ok(Command::Check(sources, self.pieces(Opt::As)?, screen)),
             (CommandName::Convert, [source]) => self.convert(source, screen),
             (CommandName::Diff, [left, right]) => self.diff(left, right, screen),
@@ -201,15 +206,16 @@ impl<'a> Words<'a> {
         Ok(Command::Deps(source, deps, self.drawing(Opt::As, screen)?))
     }
 
-    // Returns the command `indented`.
-    fn indented(&self, source: &'a Source, screen: Screen) -> Result<Command<'a>, Usage<'a>> {
-        let indented = Indented {
+    // Returns the options of `indented`.
+    fn indented(&self, screen: Screen) -> Result<Indented<'a>, Usage<'a>>
+        ensures { IfOk result HasRightOptions }
+    {
+        Ok(Indented {
             pieces: self.pieces(Opt::As)?,
             unit: parse_unit(self.value(Opt::Unit).unwrap_or("2"))?,
             bullet: self.bullet()?,
             is_terminal: screen.is_terminal,
-        };
-        Ok(Command::Indented(source, indented))
+        })
     }
 
     // Returns the command `convert`.
@@ -259,7 +265,9 @@ impl<'a> Words<'a> {
     }
 
     // Returns what stands before the text of each line.
-    fn bullet(&self) -> Result<Option<&'a str>, Usage<'a>> {
+    fn bullet(&self) -> Result<Option<&'a str>, Usage<'a>>
+        ensures { IfOk result (λ bullet. IsRightBullet (text_or bullet [])) }
+    {
         match self.value(Opt::Bullet) {
             Some(word) if !is_line_text(word) || word.ends_with('\r') => Err(Usage::Bullet),
             bullet => Ok(bullet),
@@ -290,7 +298,9 @@ impl<'a> Words<'a> {
 }
 
 // Returns the unit that a word names: `tab`, or a number of blanks up to 99.
-fn parse_unit(word: &str) -> Result<&'static str, Usage<'static>> {
+fn parse_unit(word: &str) -> Result<&'static str, Usage<'static>>
+    ensures { IfOk result (λ unit. IsUnit unit.now) }
+{
     if word == "tab" {
         return Ok("\t");
     }
