@@ -1,7 +1,8 @@
 -- Indented text is an outline of the tree that it was written of.
 use Rattle.std.proofs.Common.{Result, Ok, Err, IfOk, ◌≡◌, ◌≢◌, ◌∙◌, ℕ, ◌+◌, ◌-◌, ◌<◌, ◌≤◌, ◌&&◌, not, Bool, true, false, cond, eqb, Option, Some, None, List, [], ◌∷◌, ◌++◌, length, length-append, get_or, take, drop, map, lit<, refl, sym, ap, subst, append_assoc, arith}
+use Rattle.std.proofs.Math.Bool.{and-false}
 use Rattle.std.proofs.lemmas.Bool.{false≢true, eqb-true, false_from_ne_true}
-use Rattle.std.proofs.lemmas.List.{append-nil, at_drop_more, drop_all, take-append-drop}
+use Rattle.std.proofs.lemmas.List.{append-nil, at_drop_more, drop_all, nil_from_length, take-append-drop}
 use Rattle.std.proofs.lemmas.List.Elements.{All-append}
 use Rattle.std.proofs.lemmas.List.Folds.{list_all-append}
 use Rattle.std.proofs.lemmas.Str.{cons_from_encodes, encodes-append, encode_ascii}
@@ -108,10 +109,7 @@ own_lines form (l ∷ o) texts kept end = (own_line form.bullet.now l.text texts
 filled_line : (a x : List ℕ) → x ≢ [] → begins_blank x ≡ false → is_filled (a ++ x) ≡ true
 filled_line a [] some start = absurd (some refl)
 filled_line a (b ∷ x) some start =
-    ap not (list_all-append is_blank a (b ∷ x) ∙ (ap (λ (z : Bool). list_all is_blank a && (z && list_all is_blank x)) start ∙ none (list_all is_blank a))) where
-      none : (z : Bool) → (z && false) ≡ false
-      none true = refl
-      none false = refl
+    ap not (list_all-append is_blank a (b ∷ x) ∙ (ap (λ (z : Bool). list_all is_blank a && (z && list_all is_blank x)) start ∙ and-false (list_all is_blank a)))
 
 filled_all : (form : Form) (o : List Line) → AreReadLines form o → filter is_filled (map (whole form) o) ≡ map (whole form) o
 filled_all form [] h = refl
@@ -150,13 +148,12 @@ kept_text bullet text feed end start = record {
   start = start;
 }
 
--- a text of some length is not empty
+-- a text of some length is not empty, and one of none is
 pub some_length : (text : List ℕ) → eqb (length text) 0 ≡ false → text ≢ []
 some_length text some none = false≢true (sym some ∙ ap (λ (z : List ℕ). eqb (length z) 0) none)
 
 pub no_length : (text : List ℕ) → eqb (length text) 0 ≡ true → text ≡ []
-no_length [] none = refl
-no_length (b ∷ text) none = let is = eqb-true (length (b ∷ text)) 0 none in absurd (omega (arith, is))
+no_length text none = nil_from_length text (eqb-true (length text) 0 none)
 
 -- the same text behind the same bullet
 pub same_kept : (a b x y : List ℕ) → a ≡ b → x ≡ y → IsKeptText a x → IsKeptText b y
@@ -178,6 +175,7 @@ loses_text indented t form same wrong right kept =
 
 -- ## Texts one by one
 
+-- P holds of the lines that are left from i on exactly if it holds of all
 module _ {A : Type 0} (P : Line → Type 0) (g : A → Line) (xs : List A) (i : ℕ) (x : A) (all : List Line) where
   -- one more of which P holds leaves the others
   pub all_more : i < length xs → x ≡ get_or xs i x → P (g x) → (AllByRecursion P (map g (drop i xs)) ↔ AllByRecursion P all) → (AllByRecursion P (map g (drop (i + 1) xs)) ↔ AllByRecursion P all)
@@ -236,16 +234,12 @@ mark_is : encode_utf8 65279 ≡ byte_order_mark
 unfolding encode_utf8
 mark_is = refl
 
--- a text that begins with that character does
-marked : (x y : List ℕ) (n : ℕ) → HasCharAt 65279 x 0 n → begins_with byte_order_mark (x ++ y) ≡ true
-marked x y n at = ap (λ (z : List ℕ). begins_with byte_order_mark (z ++ y)) (at.split ∙ ap (λ (z : List ℕ). z ++ drop n x) mark_is)
-
--- behind an empty bullet, and in a bullet
-pub marked_text : (bullet text : List ℕ) (n : ℕ) → bullet ≡ [] → HasCharAt 65279 text 0 n → begins_with byte_order_mark (bullet ++ text) ≡ true
-marked_text bullet text n none at = ap (λ (z : List ℕ). begins_with byte_order_mark (z ++ text)) none ∙ (ap (begins_with byte_order_mark) (sym (append-nil text)) ∙ marked text [] n at)
-
+-- what begins with that character does, and so does a text behind an empty bullet
 pub marked_bullet : (bullet text : List ℕ) (n : ℕ) → HasCharAt 65279 bullet 0 n → begins_with byte_order_mark (bullet ++ text) ≡ true
-marked_bullet bullet text n at = marked bullet text n at
+marked_bullet bullet text n at = ap (λ (z : List ℕ). begins_with byte_order_mark (z ++ text)) (at.split ∙ ap (λ (z : List ℕ). z ++ drop n bullet) mark_is)
+
+pub marked_text : (bullet text : List ℕ) (n : ℕ) → bullet ≡ [] → HasCharAt 65279 text 0 n → begins_with byte_order_mark (bullet ++ text) ≡ true
+marked_text bullet text n none at = ap (λ (z : List ℕ). begins_with byte_order_mark (z ++ text)) none ∙ (ap (begins_with byte_order_mark) (sym (append-nil text)) ∙ marked_bullet text [] n at)
 
 -- what does not begin with that character, doesn't
 unmarked_so : (x : List ℕ) → ((rest : List ℕ) → x ≢ encode_utf8 65279 ++ rest) → begins_with byte_order_mark x ≡ false
