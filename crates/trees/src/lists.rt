@@ -1,5 +1,5 @@
 //! Trees of paths, and of indented text.
-ghost use Rattle.std.specs.Prelude.{◌≡◌, ◌≢◌, ◌≤◌, ◌↔◌, ℕ, ◌==◌, ◌++◌, ◌∷◌, not, true, false, List, [], map, is_some, string_bytes, ⊤, MatchOption, IsTrue, IfOk, IfErr, IsErrOf, OnOk};
+ghost use Rattle.std.specs.Prelude.{◌≡◌, ◌≢◌, ◌≤◌, ◌↔◌, ℕ, ◌==◌, ◌++◌, ◌∷◌, not, true, false, List, [], map, is_some, string_bytes, MatchOption, IsTrue, IfOk, IfErr, IsErrOf, OnOk};
 ghost use Rattle.std.specs.List.{list_any, slice_split};
 ghost use Rattle.ptree.specs.Outline.{outline};
 ghost use Rattle.ptree.specs.Texts.{line_feed};
