@@ -5,6 +5,7 @@ pub mod Merges
 pub mod MergeDrawings
 pub mod MergePlaces
 pub mod OutlineTexts
+pub mod OutlineLines
 pub mod Outlines
 pub mod OutlinesBack
 pub mod Parts

@@ -1,26 +1,24 @@
 -- Indented text is an outline of the tree that it was written of.
-use Rattle.std.proofs.Common.{Result, Ok, Err, IfOk, ◌≡◌, ◌≢◌, ◌∙◌, ℕ, ◌+◌, ◌-◌, ◌<◌, ◌≤◌, ◌&&◌, not, Bool, true, false, cond, eqb, Option, Some, None, List, [], ◌∷◌, ◌++◌, length, length-append, get_or, take, drop, map, lit<, refl, sym, ap, subst, append_assoc, arith}
-use Rattle.std.proofs.Math.Bool.{and-false}
+use Rattle.std.proofs.Common.{Result, Ok, Err, IfOk, ◌≡◌, ◌≢◌, ◌∙◌, ℕ, ◌+◌, ◌<◌, ◌≤◌, ◌&&◌, not, Bool, true, false, cond, eqb, Option, Some, None, List, [], ◌∷◌, ◌++◌, length, get_or, drop, map, lit<, refl, sym, ap, subst}
 use Rattle.std.proofs.lemmas.Bool.{false≢true, eqb-true, false_from_ne_true}
-use Rattle.std.proofs.lemmas.List.{append-nil, at_drop_more, drop_all, nil_from_length, take-append-drop}
+use Rattle.std.proofs.lemmas.List.{append-nil, drop_all, nil_from_length}
 use Rattle.std.proofs.lemmas.List.Elements.{All-append}
-use Rattle.std.proofs.lemmas.List.Folds.{list_all-append}
 use Rattle.std.proofs.lemmas.Str.{cons_from_encodes, encodes-append, encode_ascii}
 use Rattle.std.proofs.lemmas.Str.Pattern.{NoCharPasses-char}
 use Rattle.std.specs.Borrow.{Bor}
-use Rattle.std.specs.Prelude.{◌↔◌, filter, option_map, slice_index}
-use Rattle.std.specs.List.{AllByRecursion, list_all}
+use Rattle.std.specs.Prelude.{◌↔◌, option_map}
+use Rattle.std.specs.List.{AllByRecursion}
 use Rattle.std.specs.Char.{encode_utf8}
 use Rattle.std.specs.Str.{encode_utf8_all, IsUtf8, NoCharPasses}
 use Rattle.std.specs.Str.Pattern.{HasCharAt}
-use Rattle.std.specs.Str.Lines.{lines, lines_of_parts, strip_carriage_return}
+use Rattle.std.specs.Str.Lines.{lines}
 use Rattle.ptree.specs.declared.item.StringItem.{StringItem}
 use Rattle.ptree.specs.declared.print_config.Sources.{Sources}
 use Rattle.ptree.specs.Outline.{Line, line, outline, outline_at}
 use Rattle.ptree.specs.Tree.{Tree, height}
 use Rattle.ptree.proofs.Drawing.Inserted.{no_line_feed_from_reads}
 use Rattle.ptree.proofs.Trees.OutlineItems.{left_more, item_line}
-use Rattle.ptree_trees.specs.Indented.{is_blank, begins_blank, indent, indented_lines, IsUnit, IsLineText, AreLineTexts, IsIndentedForm}
+use Rattle.ptree_trees.specs.Indented.{begins_blank, indented_lines, IsUnit, IsLineText, AreLineTexts, IsIndentedForm}
 use Rattle.ptree_trees.specs.Parts.{begins_with}
 use Rattle.ptree_trees.specs.declared.indented.Form.{Form}
 use Rattle.ptree_trees.proofs.IndentedLines.{line_parts, own, whole}
@@ -33,109 +31,14 @@ use Rattle.trees.specs.declared.failure.Failure.TheVariants.{Usage, Input, Said,
 use Rattle.trees.specs.declared.source.Source.{Source}
 use Rattle.trees.specs.Asked.{reading_value}
 use Rattle.trees.specs.Listing.{byte_order_mark, unmarked}
-use Rattle.trees.specs.Outlining.{is_filled, filled_lines, outline_lines, text_of_lines, first_indent, line_bullet, first_bullet, text_or, IsRightForm, labelled_lines, HoldsOutline, HoldsNoOtherOutline, FailsToOutline, EndsInReturn, IsKeptText, IsKeptRoot, AreKeptTexts, LosesText, MakesOnly, IsReadBack}
+use Rattle.trees.specs.Outlining.{filled_lines, outline_lines, text_of_lines, first_indent, line_bullet, first_bullet, text_or, IsRightForm, labelled_lines, HoldsOutline, HoldsNoOtherOutline, FailsToOutline, EndsInReturn, IsKeptText, IsKeptRoot, AreKeptTexts, LosesText, MakesOnly, IsReadBack}
 use Rattle.trees.specs.Reading.{HoldsDrawing, HoldsNoOther, IsReadableValue, FailsFor, FailsToRead}
 use Rattle.trees.specs.Writing.{text_or_none, IsShownForm, IsIndented, IsIndentation, FailsToIndent}
 use Rattle.trees.proofs.Conversions.{held_text}
 use Rattle.trees.proofs.Listings.{begins}
-use Rattle.trees.proofs.Outlines.{parts_of_form, held_within}
+use Rattle.trees.proofs.Outlines.{held_within}
 use Rattle.trees.proofs.Readings.{fails_weaker, fails_wider}
-
--- ## Ends of lines
-
--- what ends in a text that is not empty ends as that does
-ends_so : (a b front : List ℕ) (c : ℕ) → a ++ (c ∷ b) ≡ front ++ 13 ∷ [] → EndsInReturn (c ∷ b)
-ends_so [] b front c e = (front, e)
-ends_so (x ∷ a) b [] c e = let long = ap length e in absurd (omega (arith, simp length-append at long))
-ends_so (x ∷ a) b (y ∷ front) c e = let tails : a ++ (c ∷ b) ≡ front ++ 13 ∷ [] = cc in ends_so a b front c tails
-
--- so if that ends in no carriage return, the whole doesn't
-end_behind : (a x : List ℕ) → x ≢ [] → (EndsInReturn x → ⊥) → EndsInReturn (a ++ x) → ⊥
-end_behind a [] some none ends = absurd (some refl)
-end_behind a (c ∷ b) some none ends = none (ends_so a b ends.0 c ends.1)
-
--- a line that ends in no carriage return is as it was
-strip_same : (l : List ℕ) → (EndsInReturn l → ⊥) → strip_carriage_return l ≡ l
-strip_same [] none = refl
-strip_same (b ∷ t) none = at (eqb (slice_index l n) 13) refl where
-  l : List ℕ
-  l = b ∷ t
-
-  n : ℕ
-  n = length l - 1
-
-  last : drop n l ≡ get_or l n 0 ∷ []
-  last = at_drop_more (λ (x : List ℕ). x) l n 0 (omega arith) ∙ ap (λ (x : List ℕ). get_or l n 0 ∷ x) (drop_all (n + 1) l (omega arith))
-
-  at : (x : Bool) → eqb (slice_index l n) 13 ≡ x → cond x (take n l) l ≡ l
-  at true e = absurd (none (take n l, sym (take-append-drop n l) ∙ ap (λ (x : List ℕ). take n l ++ x) (last ∙ ap (λ (z : ℕ). z ∷ []) (eqb-true (get_or l n 0) 13 e))))
-  at false e = refl
-
--- ## Lines
-
--- what stands behind an indent, and is read again
-record IsReadLine (x : List ℕ) : Type 0 where
-  some : x ≢ []
-  start : begins_blank x ≡ false
-  end : EndsInReturn x → ⊥
-
--- a text behind a bullet is not empty
-not_empty : (bullet text : List ℕ) → (bullet ≡ [] → text ≢ []) → bullet ++ text ≢ []
-not_empty [] text some = some refl
-not_empty (b ∷ bullet) text some = λ e. cc
-
--- nor does it end in a carriage return
-own_end : (bullet text : List ℕ) → (EndsInReturn bullet → ⊥) → (EndsInReturn text → ⊥) → EndsInReturn (bullet ++ text) → ⊥
-own_end bullet [] b t ends = b (ends.0, sym (append-nil bullet) ∙ ends.1)
-own_end bullet (c ∷ text) b t ends = end_behind bullet (c ∷ text) (λ e. cc) t ends
-
--- so it is read again
-own_line : (bullet text : List ℕ) → IsLineText (bullet ++ text) → IsKeptText bullet text → (EndsInReturn bullet → ⊥) → IsReadLine (bullet ++ text)
-own_line bullet text line kept end = record {
-  some = not_empty bullet text (λ none. (kept.start none).0);
-  start = line.1;
-  end = own_end bullet text end kept.end;
-}
-
--- the texts of lines are
-abbrev AreReadLines : Form → List Line → Type 0
-AreReadLines form o = AllByRecursion (λ l. IsReadLine (own form l.text)) o
-
-own_lines : (form : Form) (o : List Line) → AreLineTexts form o → AllByRecursion (λ l. IsKeptText form.bullet.now l.text) o → (EndsInReturn form.bullet.now → ⊥) → AreReadLines form o
-own_lines form [] texts kept end = tt
-own_lines form (l ∷ o) texts kept end = (own_line form.bullet.now l.text texts.0 kept.0 end, own_lines form o texts.1 kept.1 end)
-
--- their lines are filled
-filled_line : (a x : List ℕ) → x ≢ [] → begins_blank x ≡ false → is_filled (a ++ x) ≡ true
-filled_line a [] some start = absurd (some refl)
-filled_line a (b ∷ x) some start =
-    ap not (list_all-append is_blank a (b ∷ x) ∙ (ap (λ (z : Bool). list_all is_blank a && (z && list_all is_blank x)) start ∙ and-false (list_all is_blank a)))
-
-filled_all : (form : Form) (o : List Line) → AreReadLines form o → filter is_filled (map (whole form) o) ≡ map (whole form) o
-filled_all form [] h = refl
-filled_all form (l ∷ o) h =
-    ap (λ (b : Bool). cond b (whole form l ∷ filter is_filled (map (whole form) o)) (filter is_filled (map (whole form) o))) (filled_line (indent form.unit.now l.level) (own form l.text) h.0.some h.0.start)
-    ∙ ap (λ (z : List (List ℕ)). whole form l ∷ z) (filled_all form o h.1)
-
--- and each of them is a line of the text
-strip_line : (form : Form) (l : Line) → IsReadLine (own form l.text) → strip_carriage_return (whole form l) ≡ whole form l
-strip_line form l h = strip_same (whole form l) (end_behind (indent form.unit.now l.level) (own form l.text) h.some h.end)
-
-lines_of_form : (form : Form) (o : List Line) → AreReadLines form o → lines_of_parts (map (whole form) o ++ [] ∷ []) ≡ map (whole form) o
-lines_of_form form [] h = refl
-lines_of_form form (l ∷ []) h = ap (λ (x : List ℕ). x ∷ []) (strip_line form l h.0)
-lines_of_form form (l ∷ m ∷ o) h =
-    ap (λ (x : List ℕ). x ∷ lines_of_parts (map (whole form) (m ∷ o) ++ [] ∷ [])) (strip_line form l h.0) ∙ ap (λ (z : List (List ℕ)). whole form l ∷ z) (lines_of_form form (m ∷ o) h.1)
-
--- so these are the lines of the text that count
-filled_form : (form : Form) → IsUnit form.unit.now → (o : List Line) → AreLineTexts form o → AreReadLines form o → filled_lines (indented_lines form o) ≡ map (whole form) o
-filled_form form u o texts h = ap (λ (ps : List (List ℕ)). filter is_filled (lines_of_parts ps)) (parts_of_form form u o texts) ∙ (ap (filter is_filled) (lines_of_form form o h) ∙ filled_all form o h)
-
--- and with their line feeds they are the text
-text_of_form : (form : Form) (o : List Line) → text_of_lines (map (whole form) o) ≡ indented_lines form o
-text_of_form form [] = refl
-text_of_form form (l ∷ o) =
-    append_assoc (whole form l) (10 ∷ []) (text_of_lines (map (whole form) o)) ∙ (ap (λ (z : List ℕ). whole form l ++ 10 ∷ z) (text_of_form form o) ∙ sym (line_parts form l (indented_lines form o)))
+use Rattle.trees.proofs.OutlineLines.{AreReadLines, own_lines, filled_form, text_of_form}
 
 -- ## Texts
 

@@ -22,4 +22,4 @@ returns-in_ok-wrong-in-Err-Text-clause-failed c =
     let t = tree_of c.args.tree.now in
     let form : Form = record { unit = indented.unit; bullet = c.unwrap_or.result } in
     let same : c.unwrap_or.result.now ≡ text_or indented.bullet [] = search (rules, text_or_is indented.bullet) in
-    fails_by_input (LosesText indented t) ⊥ c.in_ok-wrong-in-Err-Text.field-0 c.in_ok-wrong-in-Err-Text.ensures (loses_text indented t form same (λ file fits. c.in-Err-Text.ensures.text file (ap Err c.in-Err-Text.field-0-is) fits))
+    fails_by_input (LosesText indented t) ⊥ c.in_ok-wrong-in-Err-Text.field-0 c.in_ok-wrong-in-Err-Text.ensures.input (loses_text indented t form same (λ file fits. c.in-Err-Text.ensures.text file (ap Err c.in-Err-Text.field-0-is) fits))
