@@ -3,6 +3,7 @@ use Rattle.ptree.specs.declared.print_config.OutputKind.TheVariants.{Unknown}
 use Rattle.ptree.specs.Config.{config_of}
 use Rattle.ptree.specs.Continuation.{IsFirstWrongLine, EndsWrong}
 use Rattle.ptree.specs.Drawing.{look_by}
+use Rattle.trees.specs.Reading.{SaysAt}
 use Rattle.trees.proofs.Readings.{fails_by_text}
 use Rattle.trees.proofs.drawings.read.Goals as goal
 
@@ -25,7 +26,8 @@ pub returns-in_ok-wrong_at-in-Err-Line-clause-place : goal.returns-in_ok-wrong_a
 returns-in_ok-wrong_at-in-Err-Line-clause-place c = λ unread input.
     let look = look_by (config_of c.args.config.now) Unknown false in
     let first = subst (λ text. IsFirstWrongLine look c.args.config.now.depth text c.in-Err-Line.line) c.as_str-text.ensures.value (c.in-Err-Line.ensures.line c.in-Err-Line.line (search rules)) in
-    (_, inl (c.in-Err-Line.line, first, c.in_ok-wrong_at-in-Err-Line.ensures.says))
+    let says : SaysAt c.args.source.now c.in-Err-Line.line c.as_str.result.now c.in_ok-wrong_at-in-Err-Line.field-0 = search rules in
+    (c.as_str.result.now, inl (c.in-Err-Line.line, first, says))
 
 pub returns-in_ok-wrong-in-Err-End-2-clause-place : goal.returns-in_ok-wrong-in-Err-End-2-clause-place
 returns-in_ok-wrong-in-Err-End-2-clause-place c = λ unread input.

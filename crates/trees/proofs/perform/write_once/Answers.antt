@@ -1,3 +1,6 @@
+use Rattle.std.proofs.Common.{false, rules}
+use Rattle.ptree.specs.Config.{config_of}
+use Rattle.trees.specs.Writing.{IsGraphDrawing}
 use Rattle.trees.proofs.perform.write_once.Goals as goal
 
 -- the drawing is that of the one tree
@@ -5,4 +8,5 @@ pub returns : goal.returns
 returns g c =
     let one = c.write_graph_once_with.ensures.one_tree in
     let drawn = c.write_graph_once_with.ensures.bytes one.0 one.1 in
-    (drawn.0, (one.0, one.1, drawn.1), drawn.2)
+    let is : IsGraphDrawing (config_of c.args.config.now) c.args.dependencies.now false drawn.0 = (one.0, one.1, search (rules, drawn)) in
+    (drawn.0, is, drawn.2)
