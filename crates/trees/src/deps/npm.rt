@@ -11,6 +11,9 @@ use std::collections::BTreeMap;
 // The packages by their paths.
 type Packages = Map<String, Value>;
 
+// A package in `node_modules`: how many folders are around that, and the node.
+type Found = (usize, usize);
+
 // What stands in folders: whether it is the package that is the last one itself, which comes behind
 // those in its `node_modules`, its path or else its name there, and the node.
 type Step<'a> = (Vec<&'a str>, bool, &'a str, usize);
@@ -283,7 +286,7 @@ fn folders<'a>(alloc: Global, path: &'a str) -> Result<Vec<&'a str>, AllocError>
 }
 
 // Adds what packages need, in the order of the names: the one in the nearest `node_modules` of the
-// folders from their own up.
+// folders from their own up. As npm does, this compares names without regard to case.
 fn push_needs<'a>(
     alloc: Global,
     source: &Source,
@@ -293,6 +296,7 @@ fn push_needs<'a>(
 ) -> Result<(), Failure> {
     let mut walk = Walk {
         packages,
+        same: BTreeMap::new(alloc),
         nearest: BTreeMap::new(alloc),
         open: Vec::new(alloc),
         needs: Vec::new(alloc),
@@ -308,11 +312,14 @@ struct Walk<'s, 'a> {
     packages: &'a Packages,
 
     // The nearest package of each name, seen from the folder.
-    nearest: BTreeMap<&'a str, Option<usize>>,
+    same: BTreeMap<&'a str, Option<Found>>,
+
+    // The same of each name in lower case.
+    nearest: BTreeMap<String, Option<Found>>,
 
     // The packages in `node_modules` of the folders above, the nearest last: folder, name, and the
-    // next one of that name.
-    open: Vec<(&'s [&'a str], &'a str, Option<usize>)>,
+    // next ones of that name, and of it in lower case.
+    open: Vec<(&'s [&'a str], &'a str, Option<Found>, Option<Found>)>,
 
     // The packages with what they need, and its name.
     needs: Vec<(usize, &'a str, usize)>,
@@ -328,11 +335,11 @@ impl<'s, 'a> Walk<'s, 'a> {
         network: &mut Network,
     ) -> Result<(), Failure> {
         for (folder, is_package, name, node) in steps {
-            self.leave(folder);
+            self.leave(alloc, folder)?;
             if *is_package {
                 self.push_needs(alloc, source, *node, name)?;
             } else {
-                self.enter(folder, name, *node)?;
+                self.enter(alloc, folder, name, *node)?;
             }
         }
         self.needs.sort_unstable();
@@ -345,29 +352,33 @@ impl<'s, 'a> Walk<'s, 'a> {
     // Enters a folder with a package under a name.
     fn enter(
         &mut self,
+        alloc: Global,
         folder: &'s [&'a str],
         name: &'a str,
         node: usize,
     ) -> Result<(), AllocError> {
-        let next = self.nearest.insert(name, Some(node))?;
-        self.open.push((folder, name, next.flatten()))?;
+        let found = Some((folder.len(), node));
+        let same = self.same.insert(name, found)?;
+        let next = self.nearest.insert(name.to_lowercase(alloc)?, found)?;
+        self.open
+            .push((folder, name, same.flatten(), next.flatten()))?;
         Ok(())
     }
 
     // Leaves the folders that are not above a folder.
-    fn leave(&mut self, folder: &'s [&'a str]) {
+    fn leave(&mut self, alloc: Global, folder: &'s [&'a str]) -> Result<(), AllocError> {
         for _ in 0..self.open.len() {
-            let Some((above, name, next)) = self.open.last() else {
-                return;
+            let Some((above, name, same, next)) = self.open.last() else {
+                return Ok(());
             };
             if folder.starts_with(above) {
-                return;
+                return Ok(());
             }
-            if let Some(nearest) = self.nearest.get_mut(*name) {
-                *nearest = *next;
-            }
+            self.same.insert(*name, *same)?;
+            self.nearest.insert(name.to_lowercase(alloc)?, *next)?;
             let _ = self.open.pop();
         }
+        Ok(())
     }
 
     // Adds the needs of a package. Its lists may name the same: a name among `optionalDependencies`
@@ -386,7 +397,7 @@ impl<'s, 'a> Walk<'s, 'a> {
             match package.get(list) {
                 // Only what is not in `node_modules` is developed.
                 Some(_) if list == "devDependencies" && place(path).is_some() => {}
-                Some(Value::Object(needs)) => self.push_list(node, needs)?,
+                Some(Value::Object(needs)) => self.push_list(alloc, node, needs)?,
                 Some(_) => {
                     let parts = ["invalid ", list, " of ", path];
                     return Err(wrong(alloc, source, &parts));
@@ -403,9 +414,14 @@ impl<'s, 'a> Walk<'s, 'a> {
     }
 
     // Adds the needs of a list.
-    fn push_list(&mut self, node: usize, needs: &'a Packages) -> Result<(), AllocError> {
+    fn push_list(
+        &mut self,
+        alloc: Global,
+        node: usize,
+        needs: &'a Packages,
+    ) -> Result<(), AllocError> {
         for name in needs.keys() {
-            self.push_need(node, name.as_str())?;
+            self.push_need(alloc, node, name.as_str())?;
         }
         Ok(())
     }
@@ -424,7 +440,7 @@ impl<'s, 'a> Walk<'s, 'a> {
             match place(path.as_str()) {
                 Some(("", name)) if is_link(package) && meant.has(target(path.as_str(), package)) =>
                     {
-                        self.push_need(node, name)?;
+                        self.push_need(alloc, node, name)?;
                     }
                 _ => {}
             }
@@ -433,11 +449,23 @@ impl<'s, 'a> Walk<'s, 'a> {
     }
 
     // Adds the need of the nearest package of a name, if there is one.
-    fn push_need(&mut self, node: usize, name: &'a str) -> Result<(), AllocError> {
-        if let Some(Some(need)) = self.nearest.get(name) {
-            self.needs.push((node, name, *need))?;
+    fn push_need(&mut self, alloc: Global, node: usize, name: &'a str) -> Result<(), AllocError> {
+        let lower = name.to_lowercase(alloc)?;
+        if let Some(need) = self.find(name, lower.as_str()) {
+            self.needs.push((node, name, need))?;
         }
         Ok(())
+    }
+
+    // Returns the nearest package of a name: of several in that folder, the one with the very name.
+    fn find(&self, name: &str, lower: &str) -> Option<usize> {
+        let Some(Some(nearest)) = self.nearest.get(lower) else {
+            return None;
+        };
+        match self.same.get(name) {
+            Some(Some(same)) if same.0 == nearest.0 => Some(same.1),
+            _ => Some(nearest.1),
+        }
     }
 }
 
