@@ -1,6 +1,7 @@
 //! Drawings of extreme sizes, to standard output.
 
 use crate::deviation::{Deviation, expect};
+use crate::fixtures::trees::{over, over_leaves};
 use ptree::graph::{Graph, NodeIndex, write_graph_with};
 use ptree::item::StringItem;
 use ptree::output::write_tree_with;
@@ -10,7 +11,6 @@ use ptree::style::Counted;
 use std::alloc::{AllocError, Global};
 use std::io::{self, BufWriter, Write};
 use std::str;
-use tests::fixtures::trees::{over, over_leaves};
 
 // The part that a long line is made of, of 64 bytes.
 const PART: &str = "0123456789abcdef0123456789abcdef0123456789abcdef0123456789abcde\u{7f}";

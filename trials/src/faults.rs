@@ -2,6 +2,8 @@
 //! whole drawing, and its answer is reported.
 
 use crate::deviation::Deviation;
+use crate::fixtures::failing::{Answer, Failing};
+use crate::fixtures::trees::{leaf, over, over_leaves, petgraph, plain};
 use crate::given::sources;
 use crate::prefixes::{Limits, drawing_of, leaves_prefix};
 use ptree::graph::{
@@ -15,8 +17,6 @@ use ptree::style::{Color, Counted, DrawError, Style, put_all};
 use ptree::value::{DocFormat, Value, draw_document, draw_document_with};
 use std::alloc::{AllocError, Global};
 use std::io::{self, ErrorKind};
-use tests::fixtures::failing::{Answer, Failing};
-use tests::fixtures::trees::{leaf, over, over_leaves, petgraph, plain};
 
 /// The drawing of [`petgraph`], four characters wide.
 pub const PETGRAPH: &str = "\

@@ -1,4 +1,7 @@
-//! Tries the library beyond its tests: `trials COMMAND`.
+//! Tests of `ptree` and `ptree_trees` by `rt try`, before any proof, for what no clause says and no
+//! row can show. The tests of Rattle have items, labels, writers and readers of one's own, errors,
+//! values that no document has, and the code of the pages. The program, `trials COMMAND`, has what
+//! takes many calls:
 //!
 //! - `faults` draws to writers that fail at each byte
 //! - `sizes MOST` makes each call that allocates at several sizes
@@ -6,13 +9,40 @@
 //! - `extreme NAME` draws what is of extreme size
 #![tactic(auto)]
 
+#[cfg(test)]
+mod barren;
+#[cfg(test)]
+mod change;
+#[cfg(test)]
+mod counted;
 mod deviation;
+#[cfg(test)]
+mod errors;
+#[cfg(test)]
+mod expect;
 mod extreme;
 mod faults;
+mod fixtures;
 mod given;
+#[cfg(test)]
+mod graph;
+#[cfg(test)]
+mod indented;
+#[cfg(test)]
+mod items;
+#[cfg(test)]
+mod pages;
 mod prefixes;
 mod refusals;
+#[cfg(test)]
+mod refused;
+#[cfg(test)]
+mod sinks;
 mod sizes;
+#[cfg(test)]
+mod styled;
+#[cfg(test)]
+mod values;
 
 use extreme::draw_extreme;
 use faults::try_faults;

@@ -1,10 +1,10 @@
 //! Whether a call leaves a prefix of its drawing in a writer that fails.
 
+use crate::fixtures::failing::{Answer, Failing};
 use ptree::style::{Counted, DrawError};
 use ptree::value::DocError;
 use std::alloc::{AllocError, Global};
 use std::io::ErrorKind;
-use tests::fixtures::failing::{Answer, Failing};
 
 /// How a writer fails.
 #[derive(Clone, Copy)]

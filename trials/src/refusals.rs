@@ -13,6 +13,7 @@ mod styles;
 mod trial;
 mod written;
 
+use crate::fixtures::held::{Held, hold};
 use crate::refusals::failure::Failure;
 use crate::refusals::known::call_tree;
 use crate::refusals::own::{call_buffer, call_root, call_tree_alone, call_types};
@@ -21,7 +22,6 @@ use crate::refusals::trial::{DEPTH, Trial};
 use ptree::print_config::PrintConfig;
 use std::alloc::{AllocError, Global};
 use std::io::{self, Write};
-use tests::fixtures::held::{Held, hold};
 
 // The bytes that all notes fit in.
 const ROOM: usize = 32_768;

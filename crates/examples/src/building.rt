@@ -32,6 +32,22 @@ pub fn add_sibling(builder: &mut TreeBuilder, text: String) -> Result<(), AddErr
     builder.add_at_level(level, text)
 }
 
+/// Adds the length of a list, and below it those of its halves. The level stays.
+pub fn add_list(alloc: Global, builder: &mut TreeBuilder, len: u32) -> Result<(), AddError>
+    ensures { OnOk result (builder.new.level ≡ builder.old.level) }
+{
+    if builder.level() == u32::MAX {
+        return Err(AddError::Level);
+    }
+    builder.begin_child(len.to_string(alloc)?)?;
+    if len > 1 {
+        add_list(alloc, builder, len / 2)?;
+        add_list(alloc, builder, len - len / 2)?;
+    }
+    builder.end_child();
+    Ok(())
+}
+
 /// A text over two leaves.
 pub fn over_two(
     alloc: Global,

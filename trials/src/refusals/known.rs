@@ -1,6 +1,8 @@
 //! Calls whose answers are written here.
 
 use crate::faults::PETGRAPH;
+use crate::fixtures::held::{Held, hold};
+use crate::fixtures::trees::{petgraph, plain};
 use crate::refusals::building::{Place, builder_of, end};
 use crate::refusals::failure::{Failure, expect};
 use crate::refusals::graphs::graph_drawn;
@@ -11,8 +13,6 @@ use ptree::graph::{EdgeError, Graph, NodeIndex};
 use ptree::item::StringItem;
 use ptree::print_config::{PrintConfig, UTF_CHARS};
 use std::alloc::{AllocError, Global};
-use tests::fixtures::held::{Held, hold};
-use tests::fixtures::trees::{petgraph, plain};
 
 /// That a call returned these bytes.
 pub fn expect_bytes<E>(found: Result<Vec<u8>, E>, wanted: &str) -> Result<(), Failure>

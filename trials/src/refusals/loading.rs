@@ -1,5 +1,6 @@
 //! The calls that load a configuration, and those that draw under sources.
 
+use crate::fixtures::held::hold;
 use crate::given::sources;
 use crate::refusals::failure::Failure;
 use crate::refusals::trial::Trial;
@@ -12,7 +13,6 @@ use ptree::print_config::{Fault, FileSource, PrintConfig, Sources, first_fault};
 use ptree::style::Counted;
 use std::alloc::{AllocError, Global};
 use std::io::Write;
-use tests::fixtures::held::hold;
 
 // A file with a name, a text, a colour and a table, and the variable that is set beside it.
 const FILE: &str = "\

@@ -1,5 +1,8 @@
 //! Calls of trees and items that are made without a builder, whose answers are written here.
 
+use crate::fixtures::held::hold;
+use crate::fixtures::screen::Screen;
+use crate::fixtures::trees::{leaf, over, over_leaves};
 use crate::refusals::failure::{Failure, expect};
 use crate::refusals::known::{expect_bytes, expect_text};
 use crate::refusals::written::SHEET;
@@ -13,9 +16,6 @@ use ptree::presets::Preset;
 use ptree::print_config::PrintConfig;
 use ptree::style::{Counted, put_all};
 use std::alloc::{AllocError, Global};
-use tests::fixtures::held::hold;
-use tests::fixtures::screen::Screen;
-use tests::fixtures::trees::{leaf, over, over_leaves};
 
 // r [a [b], c].
 fn branched(alloc: Global) -> Result<StringItem, AllocError> {

@@ -1,5 +1,6 @@
 //! The calls of styles, of sets of characters and of pieces.
 
+use crate::fixtures::held::{Held, hold};
 use crate::refusals::failure::Failure;
 use crate::refusals::trial::{DEPTH, Trial};
 use ptree::output::Indent;
@@ -7,7 +8,6 @@ use ptree::print_config::{IndentChars, PrintConfig, StyleWhen, UTF_CHARS_BOLD, U
 use ptree::style::{Color, Style};
 use std::alloc::{AllocError, Global};
 use std::io::Write;
-use tests::fixtures::held::{Held, hold};
 
 // The style of a colour by its name.
 fn named(alloc: Global, name: &str) -> Result<Style, AllocError> {

@@ -1,6 +1,7 @@
 //! The calls of styles, characters, pieces, configurations and buffers.
 
 use crate::deviation::{Deviation, expect};
+use crate::fixtures::trees::over_leaves;
 use crate::sizes::{made, text};
 use ptree::buffered::Buffered;
 use ptree::output::{Indent, tree_bytes};
@@ -9,7 +10,6 @@ use ptree::print_config::{
 };
 use ptree::style::{Color, Counted, Style, put_all};
 use std::alloc::{AllocError, Global};
-use tests::fixtures::trees::over_leaves;
 
 // Characters that are empty, which no shipped set has.
 const EMPTY: StaticIndentChars = StaticIndentChars {

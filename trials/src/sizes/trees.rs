@@ -2,6 +2,7 @@
 ghost use Rattle.ptree.specs.Readable.{HasReadablePieces};
 
 use crate::deviation::{Deviation, expect};
+use crate::fixtures::screen::Screen;
 use crate::sizes::{LEVELS, made, text};
 use examples::own_types::{
     Folder, Halved, Volume, drawing_of_folder, drawing_of_halved, drawing_of_volume, text_of_folder,
@@ -14,7 +15,6 @@ use ptree::print_config::{FileSource, PrintConfig, Sources};
 use ptree::read::read_tree;
 use ptree::style::Counted;
 use std::alloc::{AllocError, Global};
-use tests::fixtures::screen::Screen;
 
 // So many leaves.
 fn leaves(alloc: Global, size: usize) -> Result<Vec<StringItem>, Deviation> {

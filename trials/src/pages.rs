@@ -1,12 +1,11 @@
 //! The code of `docs/GUIDE.md` that is not in the crate `examples`, what the types there draw, and
 //! calls of a builder that are chained.
-ghost use Rattle.std.specs.Prelude.{◌≡◌, ◌<◌, OnOk};
 
 use crate::expect::{expect_drawn, expect_once, expect_text};
+use examples::building::add_list;
 use examples::own_types::{Folder, Halved};
 use examples::tasks::release;
 use ptree::TreeBuilder;
-use ptree::builder::AddError;
 use ptree::graph::Graph;
 use ptree::item::{Root, StringItem};
 use ptree::print_config::{FileSource, PrintConfig, Sources, first_fault, load, syntax_line};
@@ -53,22 +52,6 @@ fn notes_are_edited_as_text(rt: HostRuntime) -> Result<(), Fail> {
     let notes = read_default(alloc, edited.as_str())?.ok_or("no drawing")?;
     let shopping = notes.children.first().ok_or("no child")?;
     expect_text(shopping.text.as_str(), "shopping\nby Friday,\nwith flowers")
-}
-
-// Adds a list of so many elements, and below it the two halves that are sorted first.
-fn add_list(alloc: Global, builder: &mut TreeBuilder, len: u32) -> Result<(), AddError>
-    ensures { OnOk result (builder.new.level ≡ builder.old.level) }
-{
-    if builder.level() == u32::MAX {
-        return Err(AddError::Level);
-    }
-    builder.begin_child(len.to_string(alloc)?)?;
-    if len > 1 {
-        add_list(alloc, builder, len / 2)?;
-        add_list(alloc, builder, len - len / 2)?;
-    }
-    builder.end_child();
-    Ok(())
 }
 
 #[test]

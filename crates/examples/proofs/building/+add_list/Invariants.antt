@@ -1,5 +1,5 @@
 -- The recursion ends, since each half of a list is shorter than the list.
-use Rattle.tests.proofs.pages.+add_list.Given as goal
+use Rattle.examples.proofs.building.+add_list.Given as goal
 
 abbrev pub decreases-add_list : goal.decreases-add_list
 decreases-add_list l = l.len
