@@ -25,10 +25,10 @@ zeros : given_paths (path_lines true (97 ∷ 10 ∷ 0 ∷ 46 ∷ 0 ∷ [])) ≡ 
 zeros = refl
 
 -- some begin with a slash, and all do
-mixed : are_wrong None (codes "a" ∷ [] ∷ codes "/b" ∷ []) ≡ true
+mixed : are_wrong true None (codes "a" ∷ [] ∷ codes "/b" ∷ []) ≡ true
 mixed = refl
 
-alike : are_wrong None (codes "/a" ∷ [] ∷ codes "//b" ∷ []) ≡ false
+alike : are_wrong true None (codes "/a" ∷ [] ∷ codes "//b" ∷ []) ≡ false
 alike = refl
 
 -- ## Indented text

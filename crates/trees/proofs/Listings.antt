@@ -13,7 +13,7 @@ use Rattle.ptree_trees.specs.Paths.{names, names_of, next_names, texts_below}
 use Rattle.ptree_trees.proofs.PathTrees.{names_some, names_have}
 use Rattle.trees.specs.declared.command.Paths.{Paths}
 use Rattle.trees.specs.declared.source.Source.{Source}
-use Rattle.trees.specs.Listing.{byte_order_mark, unmarked, source_lines, path_names, has_names, given_paths, is_absolute, is_relative, is_wrong_path, are_wrong, root_text, IsFolders, HasPaths, IsListing}
+use Rattle.trees.specs.Listing.{byte_order_mark, unmarked, source_lines, path_names, has_names, given_paths, is_absolute, is_relative, is_quoted, is_wrong_path, are_wrong, root_text, IsFolders, HasPaths, IsListing}
 use Rattle.trees.proofs.PathNames.{own_count}
 use Rattle.trees.specs.ListingParts.{own_names, is_first_absolute, beside, is_unlike, is_wrong_line}
 
@@ -136,39 +136,53 @@ any_map w [] = refl
 any_map w (l ∷ lines) = ap (λ (x : Bool). w l.now || x) (any_map w lines)
 
 -- one line is wrong beside the first exactly if the paths are wrong
-wrong_is : (label : Option (Bor (List ℕ))) (lines : List (List ℕ)) → list_any (is_wrong_line (beside label (is_first_absolute lines))) lines ≡ are_wrong label lines
-wrong_is None lines = any_or is_wrong_path (is_unlike (Some (is_first_absolute lines))) lines ∙ ap (λ (x : Bool). list_any is_wrong_path lines || x) (unlike_first lines)
-wrong_is (Some label) lines = any_or is_wrong_path (is_unlike None) lines ∙ ap (λ (x : Bool). list_any is_wrong_path lines || x) (any_none lines)
+wrong_is : (ends : Bool) (label : Option (Bor (List ℕ))) (lines : List (List ℕ)) → list_any (is_wrong_line ends (beside label (is_first_absolute lines))) lines ≡ are_wrong ends label lines
+wrong_is ends None lines = any_or (is_wrong_path ends) (is_unlike (Some (is_first_absolute lines))) lines ∙ ap (λ (x : Bool). list_any (is_wrong_path ends) lines || x) (unlike_first lines)
+wrong_is ends (Some label) lines = any_or (is_wrong_path ends) (is_unlike None) lines ∙ ap (λ (x : Bool). list_any (is_wrong_path ends) lines || x) (any_none lines)
 
 -- the same of the lines of an input
 pub wrong_lines : (source : Source) (paths : Paths) (lines : List (Bor (List ℕ))) (first : Bool) (others : Option Bool) → map (λ l. l.now) lines ≡ source_lines source paths
     → first ≡ is_first_absolute (map (λ l. l.now) lines) → others ≡ beside paths.label first
-    → list_any (λ l. is_wrong_line others l.now) lines ≡ are_wrong paths.label (source_lines source paths)
+    → list_any (λ l. is_wrong_line paths.ends_in_zero others l.now) lines ≡ are_wrong paths.ends_in_zero paths.label (source_lines source paths)
 wrong_lines source paths lines first others same is asks =
-    ap (λ (o : Option Bool). list_any (λ l. is_wrong_line o l.now) lines) (asks ∙ ap (beside paths.label) is) ∙ (any_map (is_wrong_line (beside paths.label (is_first_absolute (map (λ l. l.now) lines)))) lines
-    ∙ (wrong_is paths.label (map (λ l. l.now) lines) ∙ ap (are_wrong paths.label) same))
+    let ends = paths.ends_in_zero in
+    ap (λ (o : Option Bool). list_any (λ l. is_wrong_line ends o l.now) lines) (asks ∙ ap (beside paths.label) is)
+    ∙ (any_map (is_wrong_line ends (beside paths.label (is_first_absolute (map (λ l. l.now) lines)))) lines
+    ∙ (wrong_is ends paths.label (map (λ l. l.now) lines) ∙ ap (are_wrong ends paths.label) same))
 
 -- a path has more names than there are levels if what is left of it has
 deep_names : (path left : List ℕ) → own_names left ≡ path_names path → ltb 5000 (length (path_names path)) ≡ ltb 5000 (length (names 47 left))
 deep_names path left e = ap (λ (ns : List (List ℕ)). ltb 5000 (length ns)) (sym e) ∙ sym (own_count left)
 
--- a line is wrong for one of three reasons
-pub wrong_zero : (others : Option Bool) (path : List ℕ) → list_any (λ b. eqb b 0) path ≡ true → true ≡ is_wrong_line others path
-wrong_zero others path h =
-    sym (or_left (is_wrong_path path) (is_unlike others path) (or_left (list_any (λ b. eqb b 0) path) (ltb 5000 (length (path_names path))) h))
+module _ (ends : Bool) (others : Option Bool) (path : List ℕ) where
+  abbrev has_zero : Bool
+  has_zero = list_any (λ b. eqb b 0) path
 
-pub wrong_deep : (others : Option Bool) (path left : List ℕ) → own_names left ≡ path_names path → ltb 5000 (length (names 47 left)) ≡ true → true ≡ is_wrong_line others path
-wrong_deep others path left e h =
-    sym (or_left (is_wrong_path path) (is_unlike others path) (or_right (list_any (λ b. eqb b 0) path) (ltb 5000 (length (path_names path))) (deep_names path left e ∙ h)))
+  abbrev is_deep : Bool
+  is_deep = ltb 5000 (length (path_names path))
 
-pub wrong_unlike : (others : Option Bool) (path : List ℕ) → is_unlike others path ≡ true → true ≡ is_wrong_line others path
-wrong_unlike others path h = sym (or_right (is_wrong_path path) (is_unlike others path) h)
+  abbrev is_quoted_line : Bool
+  is_quoted_line = not ends && is_quoted path
 
--- and right without them
-pub wrong_never : (others : Option Bool) (path left : List ℕ) → own_names left ≡ path_names path → list_any (λ b. eqb b 0) path ≡ false → ltb 5000 (length (names 47 left)) ≡ false
-    → is_unlike others path ≡ false → false ≡ is_wrong_line others path
-wrong_never others path left e zero deep unlike =
-    sym (or_from (is_wrong_path path) (is_unlike others path) (or_from (list_any (λ b. eqb b 0) path) (ltb 5000 (length (path_names path))) zero (deep_names path left e ∙ deep)) unlike)
+  -- a line is wrong for one of four reasons
+  pub wrong_zero : list_any (λ b. eqb b 0) path ≡ true → true ≡ is_wrong_line ends others path
+  wrong_zero h = sym (or_left (is_wrong_path ends path) (is_unlike others path) (or_left has_zero (is_deep || is_quoted_line) h))
+
+  pub wrong_deep : (left : List ℕ) → own_names left ≡ path_names path → ltb 5000 (length (names 47 left)) ≡ true → true ≡ is_wrong_line ends others path
+  wrong_deep left e h =
+      sym (or_left (is_wrong_path ends path) (is_unlike others path) (or_right has_zero (is_deep || is_quoted_line) (or_left is_deep is_quoted_line (deep_names path left e ∙ h))))
+
+  pub wrong_quoted : (not ends && is_quoted path) ≡ true → true ≡ is_wrong_line ends others path
+  wrong_quoted h = sym (or_left (is_wrong_path ends path) (is_unlike others path) (or_right has_zero (is_deep || is_quoted_line) (or_right is_deep is_quoted_line h)))
+
+  pub wrong_unlike : is_unlike others path ≡ true → true ≡ is_wrong_line ends others path
+  wrong_unlike h = sym (or_right (is_wrong_path ends path) (is_unlike others path) h)
+
+  -- and right without them
+  pub wrong_never : (left : List ℕ) → own_names left ≡ path_names path → list_any (λ b. eqb b 0) path ≡ false → ltb 5000 (length (names 47 left)) ≡ false
+      → (not ends && is_quoted path) ≡ false → is_unlike others path ≡ false → false ≡ is_wrong_line ends others path
+  wrong_never left e zero deep quoted unlike =
+      sym (or_from (is_wrong_path ends path) (is_unlike others path) (or_from has_zero (is_deep || is_quoted_line) zero (or_from is_deep is_quoted_line (deep_names path left e ∙ deep) quoted)) unlike)
 
 -- ## Names
 
@@ -220,18 +234,18 @@ stands true f paths h = λ ns n. (h ns).1 n
 stands false f paths h = λ ns n. names_have false (texts_below f ns) (next_names ns paths) (h ns) n
 
 -- the root's text is that of paths that are right
-root_is : (label : Option (Bor (List ℕ))) (lines : List (List ℕ)) → are_wrong label lines ≡ false → root_text label (is_first_absolute lines) ≡ root_text label (list_any is_absolute lines)
-root_is None lines h = ap (root_text None) (same_first lines (or_parts (list_any is_wrong_path lines) (list_any is_absolute lines && list_any is_relative lines) h).1)
-root_is (Some label) lines h = refl
+root_is : (ends : Bool) (label : Option (Bor (List ℕ))) (lines : List (List ℕ)) → are_wrong ends label lines ≡ false → root_text label (is_first_absolute lines) ≡ root_text label (list_any is_absolute lines)
+root_is ends None lines h = ap (root_text None) (same_first lines (or_parts (list_any (is_wrong_path ends) lines) (list_any is_absolute lines && list_any is_relative lines) h).1)
+root_is ends (Some label) lines h = refl
 
 -- a tree with the root and the folders of lines of which none is wrong is that of the input
 pub listing : (source : Source) (paths : Paths) (t : Tree) (lines : List (Bor (List ℕ))) (first : Bool) (others : Option Bool) → map (λ l. l.now) lines ≡ source_lines source paths
-    → first ≡ is_first_absolute (map (λ l. l.now) lines) → others ≡ beside paths.label first → list_any (λ l. is_wrong_line others l.now) lines ≡ false
+    → first ≡ is_first_absolute (map (λ l. l.now) lines) → others ≡ beside paths.label first → list_any (λ l. is_wrong_line paths.ends_in_zero others l.now) lines ≡ false
     → t.text ≡ root_text paths.label first → IsFolders paths.is_sorted t.children (given_paths (map (λ l. l.now) lines)) → IsListing source paths t
 listing source paths t lines first others same is asks right root folders =
-    let fits : are_wrong paths.label (source_lines source paths) ≡ false = sym (wrong_lines source paths lines first others same is asks) ∙ right in
+    let fits : are_wrong paths.ends_in_zero paths.label (source_lines source paths) ≡ false = sym (wrong_lines source paths lines first others same is asks) ∙ right in
     let absolute : first ≡ is_first_absolute (source_lines source paths) = is ∙ ap is_first_absolute same in record {
       right = fits;
-      root = root ∙ (ap (root_text paths.label) absolute ∙ root_is paths.label (source_lines source paths) fits);
+      root = root ∙ (ap (root_text paths.label) absolute ∙ root_is paths.ends_in_zero paths.label (source_lines source paths) fits);
       folders = subst (λ (ls : List (List ℕ)). IsFolders paths.is_sorted t.children (given_paths ls)) same folders;
     }

@@ -1,18 +1,26 @@
 -- Lines of outlines, and what their ends are.
 use Rattle.std.proofs.Common.{◌≡◌, ◌≢◌, ◌∙◌, ℕ, ◌+◌, ◌-◌, ◌&&◌, not, Bool, true, false, cond, eqb, List, [], ◌∷◌, ◌++◌, length, length-append, get_or, take, drop, map, refl, sym, ap, append_assoc, arith}
 use Rattle.std.proofs.Math.Bool.{and-false}
-use Rattle.std.proofs.lemmas.Bool.{eqb-true}
+use Rattle.std.proofs.lemmas.Bool.{eqb-true, false_from_ne_true}
 use Rattle.std.proofs.lemmas.List.{append-nil, at_drop_more, drop_all, take-append-drop}
 use Rattle.std.proofs.lemmas.List.Folds.{list_all-append}
+use Rattle.std.proofs.lemmas.Str.{cons_from_encodes, encodes-append}
 use Rattle.std.specs.Prelude.{filter, slice_index}
 use Rattle.std.specs.List.{AllByRecursion, list_all}
 use Rattle.std.specs.Str.Lines.{lines_of_parts, strip_carriage_return}
-use Rattle.ptree.specs.Outline.{Line, line}
+use Rattle.std.specs.Str.{encode_utf8_all, IsUtf8}
+use Rattle.std.specs.Char.{encode_utf8}
+use Rattle.std.specs.Str.Pattern.{HasCharAt}
+use Rattle.ptree.specs.Outline.{Line, line, outline, outline_at}
+use Rattle.ptree.specs.Tree.{Tree}
 use Rattle.ptree_trees.specs.Indented.{is_blank, begins_blank, indent, indented_lines, IsUnit, IsLineText, AreLineTexts}
 use Rattle.ptree_trees.specs.declared.indented.Form.{Form}
+use Rattle.ptree_trees.specs.Parts.{begins_with}
 use Rattle.ptree_trees.proofs.IndentedLines.{line_parts, own, whole}
 use Rattle.trees.specs.Outlining.{is_filled, filled_lines, text_of_lines, EndsInReturn, IsKeptText}
+use Rattle.trees.specs.Listing.{byte_order_mark, unmarked}
 use Rattle.trees.proofs.Outlines.{parts_of_form}
+use Rattle.trees.proofs.Listings.{begins}
 
 -- ## Ends of lines
 
@@ -109,3 +117,56 @@ pub text_of_form : (form : Form) (o : List Line) → text_of_lines (map (whole f
 text_of_form form [] = refl
 text_of_form form (l ∷ o) =
     append_assoc (whole form l) (10 ∷ []) (text_of_lines (map (whole form) o)) ∙ (ap (λ (z : List ℕ). whole form l ++ 10 ∷ z) (text_of_form form o) ∙ sym (line_parts form l (indented_lines form o)))
+
+-- ## The first line
+
+-- a text that begins with no part doesn't with a line behind it
+begins_more : (part x r : List ℕ) → AllByRecursion (λ b. eqb b 10 ≡ false) part → begins_with part x ≡ false → begins_with part (x ++ 10 ∷ r) ≡ false
+begins_more [] x r h e = e
+begins_more (c ∷ part) [] r h e = ap (λ (b : Bool). b && begins_with part r) h.0
+begins_more (c ∷ part) (d ∷ x) r h e = at (eqb c d) (begins_with part x) (begins_with part (x ++ 10 ∷ r)) (begins_more part x r h.1) e where
+  at : (b y z : Bool) → (y ≡ false → z ≡ false) → (b && y) ≡ false → (b && z) ≡ false
+  at true y z h e = h e
+  at false y z h e = refl
+
+-- what begins with no byte order mark has none
+pub unmarked_form : (form : Form) (t : Tree) → begins_with byte_order_mark (own form t.text) ≡ false → unmarked (indented_lines form (outline t)) ≡ indented_lines form (outline t)
+unmarked_form form t none = ap (λ (b : Bool). cond b (drop 3 text) text) (ap (begins_with byte_order_mark) parts ∙ begins_more byte_order_mark (own form t.text) rest (refl, (refl, (refl, tt))) none) where
+  text : List ℕ
+  text = indented_lines form (outline t)
+
+  rest : List ℕ
+  rest = indented_lines form (outline_at 1 t.children)
+
+  parts : text ≡ own form t.text ++ 10 ∷ rest
+  parts = line_parts form (line 0 t.text) rest
+
+-- a character at the start of two texts is at the start of the first
+char_first : (c : ℕ) (bullet text rest : List ℕ) → IsUtf8 bullet → IsUtf8 text → bullet ≢ [] → bullet ++ text ≡ encode_utf8 c ++ rest → (more : List ℕ) × (bullet ≡ encode_utf8 c ++ more)
+char_first c bullet text rest b t some e = at b.0 b.1.1 (cons_from_encodes (b.0 ++ t.0) rest c (encodes-append b.0 t.0 ∙ (ap (λ (z : List ℕ). z ++ encode_utf8_all t.0) b.1.1 ∙ (ap (λ (z : List ℕ). bullet ++ z) t.1.1 ∙ e)))) where
+  at : (cs : List ℕ) → encode_utf8_all cs ≡ bullet → (es : List ℕ) × (cs ++ t.0 ≡ c ∷ es) × (encode_utf8_all es ≡ rest) → (more : List ℕ) × (bullet ≡ encode_utf8 c ++ more)
+  at [] is first = absurd (some (sym is))
+  at (d ∷ cs) is first = let same : d ≡ c = let pair : d ∷ (cs ++ t.0) ≡ c ∷ first.0 = first.1 in cc in (encode_utf8_all cs, sym is ∙ ap (λ (x : ℕ). encode_utf8 x ++ encode_utf8_all cs) same)
+
+-- a byte order mark is these bytes
+mark_is : encode_utf8 65279 ≡ byte_order_mark
+unfolding encode_utf8
+mark_is = refl
+
+-- what begins with that character does, and so does a text behind an empty bullet
+pub marked_bullet : (bullet text : List ℕ) (n : ℕ) → HasCharAt 65279 bullet 0 n → begins_with byte_order_mark (bullet ++ text) ≡ true
+marked_bullet bullet text n at = ap (λ (z : List ℕ). begins_with byte_order_mark (z ++ text)) (at.split ∙ ap (λ (z : List ℕ). z ++ drop n bullet) mark_is)
+
+pub marked_text : (bullet text : List ℕ) (n : ℕ) → bullet ≡ [] → HasCharAt 65279 text 0 n → begins_with byte_order_mark (bullet ++ text) ≡ true
+marked_text bullet text n none at = ap (λ (z : List ℕ). begins_with byte_order_mark (z ++ text)) none ∙ (ap (begins_with byte_order_mark) (sym (append-nil text)) ∙ marked_bullet text [] n at)
+
+-- what does not begin with that character, doesn't
+unmarked_so : (x : List ℕ) → ((rest : List ℕ) → x ≢ encode_utf8 65279 ++ rest) → begins_with byte_order_mark x ≡ false
+unmarked_so x lacks = false_from_ne_true (begins_with byte_order_mark x) (λ e. let begun = begins byte_order_mark x e in lacks begun.0 (begun.1 ∙ ap (λ (z : List ℕ). z ++ begun.0) (sym mark_is)))
+
+-- behind an empty bullet, and behind one that does not
+pub unmarked_text : (bullet text : List ℕ) → bullet ≡ [] → ((rest : List ℕ) → text ≢ encode_utf8 65279 ++ rest) → begins_with byte_order_mark (bullet ++ text) ≡ false
+unmarked_text bullet text none lacks = ap (λ (z : List ℕ). begins_with byte_order_mark (z ++ text)) none ∙ unmarked_so text lacks
+
+pub unmarked_bullet : (bullet text : List ℕ) → IsUtf8 bullet → IsUtf8 text → bullet ≢ [] → ((rest : List ℕ) → bullet ≢ encode_utf8 65279 ++ rest) → begins_with byte_order_mark (bullet ++ text) ≡ false
+unmarked_bullet bullet text b t some none = unmarked_so (bullet ++ text) (λ rest e. let first = char_first 65279 bullet text rest b t some e in none first.0 first.1)

@@ -1,27 +1,26 @@
 -- Indented text is an outline of the tree that it was written of.
-use Rattle.std.proofs.Common.{Result, Ok, Err, IfOk, ◌≡◌, ◌≢◌, ◌∙◌, ℕ, ◌+◌, ◌<◌, ◌≤◌, ◌&&◌, not, Bool, true, false, cond, eqb, Option, Some, None, List, [], ◌∷◌, ◌++◌, length, get_or, drop, map, lit<, refl, sym, ap, subst}
-use Rattle.std.proofs.lemmas.Bool.{false≢true, eqb-true, false_from_ne_true}
-use Rattle.std.proofs.lemmas.List.{append-nil, drop_all, nil_from_length}
+use Rattle.std.proofs.Common.{Result, Ok, Err, IfOk, ◌≡◌, ◌≢◌, ◌∙◌, ℕ, ◌+◌, ◌<◌, ◌≤◌, ◌&&◌, not, Bool, true, false, eqb, Option, Some, None, List, [], ◌∷◌, ◌++◌, length, get_or, drop, map, lit<, refl, sym, ap, subst}
+use Rattle.std.proofs.lemmas.Bool.{false≢true, eqb-true}
+use Rattle.std.proofs.lemmas.List.{drop_all, nil_from_length}
 use Rattle.std.proofs.lemmas.List.Elements.{All-append}
-use Rattle.std.proofs.lemmas.Str.{cons_from_encodes, encodes-append, encode_ascii}
+use Rattle.std.proofs.lemmas.Str.{encode_ascii}
 use Rattle.std.proofs.lemmas.Str.Pattern.{NoCharPasses-char}
 use Rattle.std.specs.Borrow.{Bor}
 use Rattle.std.specs.Prelude.{◌↔◌, option_map}
 use Rattle.std.specs.List.{AllByRecursion}
 use Rattle.std.specs.Char.{encode_utf8}
-use Rattle.std.specs.Str.{encode_utf8_all, IsUtf8, NoCharPasses}
-use Rattle.std.specs.Str.Pattern.{HasCharAt}
+use Rattle.std.specs.Str.{NoCharPasses}
 use Rattle.std.specs.Str.Lines.{lines}
 use Rattle.ptree.specs.declared.item.StringItem.{StringItem}
 use Rattle.ptree.specs.declared.print_config.Sources.{Sources}
-use Rattle.ptree.specs.Outline.{Line, line, outline, outline_at}
+use Rattle.ptree.specs.Outline.{Line, line, outline}
 use Rattle.ptree.specs.Tree.{Tree, height}
 use Rattle.ptree.proofs.Drawing.Inserted.{no_line_feed_from_reads}
 use Rattle.ptree.proofs.Trees.OutlineItems.{left_more, item_line}
-use Rattle.ptree_trees.specs.Indented.{begins_blank, indented_lines, IsUnit, IsLineText, AreLineTexts, IsIndentedForm}
+use Rattle.ptree_trees.specs.Indented.{begins_blank, IsUnit, IsLineText, AreLineTexts, IsIndentedForm}
 use Rattle.ptree_trees.specs.Parts.{begins_with}
 use Rattle.ptree_trees.specs.declared.indented.Form.{Form}
-use Rattle.ptree_trees.proofs.IndentedLines.{line_parts, own, whole}
+use Rattle.ptree_trees.proofs.IndentedLines.{own, whole}
 use Rattle.ptree_trees.proofs.IndentedResults.{same_form}
 use Rattle.ptree_trees.proofs.IndentedWriting.{bullet_fits}
 use Rattle.trees.specs.declared.command.Indented.{Indented}
@@ -35,10 +34,9 @@ use Rattle.trees.specs.Outlining.{filled_lines, outline_lines, text_of_lines, fi
 use Rattle.trees.specs.Reading.{HoldsDrawing, HoldsNoOther, IsReadableValue, FailsFor, FailsToRead}
 use Rattle.trees.specs.Writing.{text_or_none, IsShownForm, IsIndented, IsIndentation, FailsToIndent}
 use Rattle.trees.proofs.Conversions.{held_text}
-use Rattle.trees.proofs.Listings.{begins}
 use Rattle.trees.proofs.Outlines.{held_within}
 use Rattle.trees.proofs.Readings.{fails_weaker, fails_wider}
-use Rattle.trees.proofs.OutlineLines.{AreReadLines, own_lines, filled_form, text_of_form}
+use Rattle.trees.proofs.OutlineLines.{AreReadLines, own_lines, filled_form, text_of_form, unmarked_form}
 
 -- ## Texts
 
@@ -101,59 +99,6 @@ all_kept bullet xs i t root end left lines same kept = record {
   root = subst (IsKeptRoot bullet) (sym same) kept;
   texts = subst (AllByRecursion (λ (l : Line). IsKeptText (text_or bullet []) l.text)) lines (left.0 (subst (AreKeptItems bullet) (sym (drop_all i xs end)) tt));
 }
-
--- ## The first line
-
--- a text that begins with no part doesn't with a line behind it
-begins_more : (part x r : List ℕ) → AllByRecursion (λ b. eqb b 10 ≡ false) part → begins_with part x ≡ false → begins_with part (x ++ 10 ∷ r) ≡ false
-begins_more [] x r h e = e
-begins_more (c ∷ part) [] r h e = ap (λ (b : Bool). b && begins_with part r) h.0
-begins_more (c ∷ part) (d ∷ x) r h e = at (eqb c d) (begins_with part x) (begins_with part (x ++ 10 ∷ r)) (begins_more part x r h.1) e where
-  at : (b y z : Bool) → (y ≡ false → z ≡ false) → (b && y) ≡ false → (b && z) ≡ false
-  at true y z h e = h e
-  at false y z h e = refl
-
--- what begins with no byte order mark has none
-unmarked_form : (form : Form) (t : Tree) → begins_with byte_order_mark (own form t.text) ≡ false → unmarked (indented_lines form (outline t)) ≡ indented_lines form (outline t)
-unmarked_form form t none = ap (λ (b : Bool). cond b (drop 3 text) text) (ap (begins_with byte_order_mark) parts ∙ begins_more byte_order_mark (own form t.text) rest (refl, (refl, (refl, tt))) none) where
-  text : List ℕ
-  text = indented_lines form (outline t)
-
-  rest : List ℕ
-  rest = indented_lines form (outline_at 1 t.children)
-
-  parts : text ≡ own form t.text ++ 10 ∷ rest
-  parts = line_parts form (line 0 t.text) rest
-
--- a character at the start of two texts is at the start of the first
-char_first : (c : ℕ) (bullet text rest : List ℕ) → IsUtf8 bullet → IsUtf8 text → bullet ≢ [] → bullet ++ text ≡ encode_utf8 c ++ rest → (more : List ℕ) × (bullet ≡ encode_utf8 c ++ more)
-char_first c bullet text rest b t some e = at b.0 b.1.1 (cons_from_encodes (b.0 ++ t.0) rest c (encodes-append b.0 t.0 ∙ (ap (λ (z : List ℕ). z ++ encode_utf8_all t.0) b.1.1 ∙ (ap (λ (z : List ℕ). bullet ++ z) t.1.1 ∙ e)))) where
-  at : (cs : List ℕ) → encode_utf8_all cs ≡ bullet → (es : List ℕ) × (cs ++ t.0 ≡ c ∷ es) × (encode_utf8_all es ≡ rest) → (more : List ℕ) × (bullet ≡ encode_utf8 c ++ more)
-  at [] is first = absurd (some (sym is))
-  at (d ∷ cs) is first = let same : d ≡ c = let pair : d ∷ (cs ++ t.0) ≡ c ∷ first.0 = first.1 in cc in (encode_utf8_all cs, sym is ∙ ap (λ (x : ℕ). encode_utf8 x ++ encode_utf8_all cs) same)
-
--- a byte order mark is these bytes
-mark_is : encode_utf8 65279 ≡ byte_order_mark
-unfolding encode_utf8
-mark_is = refl
-
--- what begins with that character does, and so does a text behind an empty bullet
-pub marked_bullet : (bullet text : List ℕ) (n : ℕ) → HasCharAt 65279 bullet 0 n → begins_with byte_order_mark (bullet ++ text) ≡ true
-marked_bullet bullet text n at = ap (λ (z : List ℕ). begins_with byte_order_mark (z ++ text)) (at.split ∙ ap (λ (z : List ℕ). z ++ drop n bullet) mark_is)
-
-pub marked_text : (bullet text : List ℕ) (n : ℕ) → bullet ≡ [] → HasCharAt 65279 text 0 n → begins_with byte_order_mark (bullet ++ text) ≡ true
-marked_text bullet text n none at = ap (λ (z : List ℕ). begins_with byte_order_mark (z ++ text)) none ∙ (ap (begins_with byte_order_mark) (sym (append-nil text)) ∙ marked_bullet text [] n at)
-
--- what does not begin with that character, doesn't
-unmarked_so : (x : List ℕ) → ((rest : List ℕ) → x ≢ encode_utf8 65279 ++ rest) → begins_with byte_order_mark x ≡ false
-unmarked_so x lacks = false_from_ne_true (begins_with byte_order_mark x) (λ e. let begun = begins byte_order_mark x e in lacks begun.0 (begun.1 ∙ ap (λ (z : List ℕ). z ++ begun.0) (sym mark_is)))
-
--- behind an empty bullet, and behind one that does not
-pub unmarked_text : (bullet text : List ℕ) → bullet ≡ [] → ((rest : List ℕ) → text ≢ encode_utf8 65279 ++ rest) → begins_with byte_order_mark (bullet ++ text) ≡ false
-unmarked_text bullet text none lacks = ap (λ (z : List ℕ). begins_with byte_order_mark (z ++ text)) none ∙ unmarked_so text lacks
-
-pub unmarked_bullet : (bullet text : List ℕ) → IsUtf8 bullet → IsUtf8 text → bullet ≢ [] → ((rest : List ℕ) → bullet ≢ encode_utf8 65279 ++ rest) → begins_with byte_order_mark (bullet ++ text) ≡ false
-unmarked_bullet bullet text b t some none = unmarked_so (bullet ++ text) (λ rest e. let first = char_first 65279 bullet text rest b t some e in none first.0 first.1)
 
 -- ## Options
 

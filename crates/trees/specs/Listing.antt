@@ -81,13 +81,19 @@ abbrev pub is_relative : List ℕ → Bool
 is_relative [] = false
 is_relative (b ∷ path) = not (b == 47)
 
--- whether a path is wrong by itself: it has a zero byte, or more names than there are levels
-abbrev pub is_wrong_path : List ℕ → Bool
-is_wrong_path path = list_any (λ b. b == 0) path || nat_lt 5000 (length (path_names path))
+-- whether a path begins with a quotation mark, as one does that git quotes
+abbrev pub is_quoted : List ℕ → Bool
+is_quoted [] = false
+is_quoted (b ∷ path) = b == 34
+
+-- whether a path is wrong by itself: it has a zero byte, or more names than there are levels, or is
+-- quoted where paths are lines
+abbrev pub is_wrong_path : Bool → List ℕ → Bool
+is_wrong_path ends_in_zero path = list_any (λ b. b == 0) path || (nat_lt 5000 (length (path_names path)) || (not ends_in_zero && is_quoted path))
 
 -- whether paths are wrong: one is by itself, or without a label only some begin with a slash
-abbrev pub are_wrong : Option (Bor (List ℕ)) → List (List ℕ) → Bool
-are_wrong label lines = list_any is_wrong_path lines || (is_none label && (list_any is_absolute lines && list_any is_relative lines))
+abbrev pub are_wrong : Bool → Option (Bor (List ℕ)) → List (List ℕ) → Bool
+are_wrong ends_in_zero label lines = list_any (is_wrong_path ends_in_zero) lines || (is_none label && (list_any is_absolute lines && list_any is_relative lines))
 
 -- ## Trees
 
@@ -109,7 +115,7 @@ HasPaths f paths = (ns : List (List ℕ)) (n : List ℕ) → has_name (texts_bel
 
 -- the paths in an input are right, and t is their tree
 pub record IsListing (source : Source) (paths : Paths) (t : Tree) : Type 0 where
-  pub right : are_wrong paths.label (source_lines source paths) ≡ false
+  pub right : are_wrong paths.ends_in_zero paths.label (source_lines source paths) ≡ false
   pub root : t.text ≡ root_text paths.label (list_any is_absolute (source_lines source paths))
   pub folders : IsFolders paths.is_sorted t.children (given_paths (source_lines source paths))
 
@@ -122,7 +128,7 @@ pub record IsListed (source : Source) (paths : Paths) (u : Tree) : Type 0 where
 -- the paths in an input are wrong, or nothing in their tree contains the text that is to be kept
 abbrev pub IsWrongList : Source → Paths → Type 0
 IsWrongList source paths =
-    (are_wrong paths.label (source_lines source paths) ≡ true)
+    (are_wrong paths.ends_in_zero paths.label (source_lines source paths) ≡ true)
     ⊎ ((whole : Tree) × IsListing source paths whole × ((u : Tree) → IsKept paths.keep whole u → ⊥))
 
 -- what each failure before anything is drawn says: the input is wrong, or memory ran out

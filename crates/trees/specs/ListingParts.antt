@@ -32,8 +32,8 @@ is_unlike (Some true) path = is_relative path
 is_unlike (Some false) path = is_absolute path
 
 -- whether a path is wrong, by itself or beside the others
-abbrev pub is_wrong_line : Option Bool → List ℕ → Bool
-is_wrong_line others path = is_wrong_path path || is_unlike others path
+abbrev pub is_wrong_line : Bool → Option Bool → List ℕ → Bool
+is_wrong_line ends_in_zero others path = is_wrong_path ends_in_zero path || is_unlike others path
 
 -- a line begins with more units than there are levels
 abbrev pub IsDeep : ℕ → List ℕ → List ℕ → Type 0

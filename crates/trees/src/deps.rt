@@ -23,6 +23,8 @@ const YARN: &str = "lock files of yarn are not supported";
 
 const MANIFEST: &str = "not a lock file; use the one beside it";
 
+const GO: &str = "not a lock file; use what `go mod graph` prints";
+
 /// What is drawn: a graph, and the node at the root.
 #[derive(Drop)]
 pub struct Dependencies {
@@ -139,6 +141,7 @@ fn form_not_read(source: &Source) -> Option<&'static str> {
         "pnpm-lock.yaml" => return Some(PNPM),
         "yarn.lock" => return Some(YARN),
         "Cargo.toml" | "package.json" | "pyproject.toml" => return Some(MANIFEST),
+        "go.mod" => return Some(GO),
         _ => {}
     }
     for line in source.unmarked().lines() {
@@ -208,5 +211,5 @@ fn said(alloc: Global, source: &Source, parts: &[&str]) -> Result<Failure, Alloc
     for part in parts {
         words.push_str(part)?;
     }
-    source.wrong(alloc, escaped(alloc, words.as_str())?.as_str())
+    source.wrong(alloc, words.as_str())
 }

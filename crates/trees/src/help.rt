@@ -82,7 +82,7 @@ usage: trees paths [-0] [--sort] [--keep TEXT] [--label TEXT] [--depth N] [--as 
 
 Draws paths, one on each line. Without --label, all or none of them begin with /.
 
-  -0, --null    each path ends in a zero byte, as find -print0 prints them
+  -0, --null    each path ends in a zero byte, as from find -print0 and git ls-files -z
   --sort        sort the names in each folder by their bytes
   --keep TEXT   draw only names that contain TEXT, and the folders above them
   --label TEXT  the text of the root; by default . or /

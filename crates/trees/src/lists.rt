@@ -1,5 +1,5 @@
 //! Trees of paths, and of indented text.
-ghost use Rattle.std.specs.Prelude.{◌≡◌, ◌≢◌, ◌≤◌, ◌↔◌, ℕ, ◌==◌, ◌++◌, ◌∷◌, not, true, false, List, [], map, is_some, string_bytes, MatchOption, IsTrue, IfOk, IfErr, IsErrOf, OnOk};
+ghost use Rattle.std.specs.Prelude.{◌≡◌, ◌≢◌, ◌≤◌, ◌↔◌, ℕ, ◌==◌, ◌&&◌, ◌++◌, ◌∷◌, not, true, false, List, [], map, is_some, string_bytes, MatchOption, IsTrue, IfOk, IfErr, IsErrOf, OnOk};
 ghost use Rattle.std.specs.List.{list_any, slice_split};
 ghost use Rattle.ptree.specs.Outline.{outline};
 ghost use Rattle.ptree.specs.Texts.{line_feed};
@@ -7,7 +7,7 @@ ghost use Rattle.ptree.specs.Tree.{Tree, tree_of, height};
 ghost use Rattle.ptree_trees.specs.Indented.{begins_blank, AreLineTexts};
 ghost use Rattle.ptree_trees.specs.Parts.{begins_with};
 ghost use Rattle.ptree_trees.specs.Paths.{names, names_of};
-ghost use Rattle.trees.specs.Listing.{byte_order_mark, path_lines, source_lines, from_first, path_names, given_paths, is_absolute, is_relative, are_wrong, root_text, IsFolders, HasPaths, IsListing};
+ghost use Rattle.trees.specs.Listing.{byte_order_mark, path_lines, source_lines, from_first, path_names, given_paths, is_absolute, is_relative, is_quoted, are_wrong, root_text, IsFolders, HasPaths, IsListing};
 ghost use Rattle.trees.specs.ListingParts.{own_names, IsBehindStart, is_first_absolute, beside, is_unlike, is_wrong_line};
 ghost use Rattle.trees.specs.Outlining.{is_filled, filled_lines, text_of_lines, line_indent, first_indent, line_bullet, first_bullet, IsRightForm, labelled_lines, IsFormWithin, HoldsOutline, HoldsNoOtherOutline, FailsToOutline, IsKeptText, IsKeptRoot, AreKeptTexts, LosesText, IsReadBack};
 ghost use Rattle.trees.specs.Reading.{FailsFor, FailsToMake};
@@ -36,8 +36,9 @@ use std::alloc::{AllocError, Global};
 /// # Errors
 ///
 /// `Input` with the number of the path if it holds a zero byte, or has more names than there are
-/// levels, or if it begins with `/` and those before it don't, or the reverse, and there is no
-/// label. `Memory` if memory ran out.
+/// levels, or if it is a line that begins with a quotation mark, as one does that git quotes, or if
+/// it begins with `/` and those before it don't, or the reverse, and there is no label. `Memory` if
+/// memory ran out.
 pub fn paths(alloc: Global, source: &Source, paths: Paths<'_>) -> Result<StringItem, Failure>
     ensures listing { IfOk result (λ t. IsListing source.now paths.entry (tree_of t)) }
     // Each path stands in the tree, and nothing else.
@@ -45,12 +46,13 @@ pub fn paths(alloc: Global, source: &Source, paths: Paths<'_>) -> Result<StringI
         (tree_of t).children (given_paths (source_lines source.now paths.entry))) }
     // An input error says that the paths are wrong.
     ensures failed { IfErr result (FailsFor
-        (are_wrong paths.entry.label (source_lines source.now paths.entry) ≡ true) ⊥) }
+        (are_wrong paths.entry.ends_in_zero paths.entry.label
+        (source_lines source.now paths.entry) ≡ true) ⊥) }
 {
     let lines = lines_of(alloc, source.unmarked(), paths.ends_in_zero)?;
     let are_absolute = is_first_absolute(lines.as_slice());
     let others = beside(paths.label, are_absolute);
-    check_lines(alloc, source, lines.as_slice(), others)?;
+    check_lines(alloc, source, lines.as_slice(), others, paths.ends_in_zero)?;
     let given = given_paths(alloc, lines.as_slice())?;
     drop(lines);
     let root = root_of(paths.label, are_absolute);
@@ -111,13 +113,15 @@ fn check_lines(
     source: &Source,
     lines: &[&str],
     others: Option<bool>,
+    ends_in_zero: bool,
 ) -> Result<(), Failure>
-    ensures right { OnOk result (list_any (λ l. is_wrong_line others l.now) lines.now ≡ false) }
+    ensures right { OnOk result
+        (list_any (λ l. is_wrong_line ends_in_zero others l.now) lines.now ≡ false) }
     ensures failed { IfErr result (FailsFor
-        (list_any (λ l. is_wrong_line others l.now) lines.now ≡ true) ⊥) }
+        (list_any (λ l. is_wrong_line ends_in_zero others l.now) lines.now ≡ true) ⊥) }
 {
     for (i, line) in lines.iter().enumerate() {
-        if let Some(wrong) = wrong_line(line, others) {
+        if let Some(wrong) = wrong_line(line, others, ends_in_zero) {
             return Err(source.wrong_at(alloc, i.saturating_add(1), wrong)?);
         }
     }
@@ -125,13 +129,15 @@ fn check_lines(
 }
 
 // Returns what is wrong with a path, if anything.
-fn wrong_line(path: &str, others: Option<bool>) -> Option<&'static str>
-    ensures { is_some result ≡ is_wrong_line others path.now }
+fn wrong_line(path: &str, others: Option<bool>, ends_in_zero: bool) -> Option<&'static str>
+    ensures { is_some result ≡ is_wrong_line ends_in_zero others path.now }
 {
     if has_zero(path) {
         Some("the path has a zero byte; use -0 if paths end in one")
     } else if has_more_names(names_of(path)) {
         Some(TOO_DEEP)
+    } else if is_quoted(path, ends_in_zero) {
+        Some("the path is quoted, as git does; use -0 with git ls-files -z")
     } else if is_unlike(path, others) {
         Some("only some paths begin with /; use --label to give all one root")
     } else {
@@ -144,6 +150,13 @@ fn has_zero(text: &str) -> bool
     ensures { result ≡ list_any (λ b. b == 0) text.now }
 {
     text.contains('\0')
+}
+
+// Whether a path begins with a quotation mark, where paths are lines.
+fn is_quoted(path: &str, ends_in_zero: bool) -> bool
+    ensures { result ≡ (not ends_in_zero && is_quoted path.now) }
+{
+    !ends_in_zero && path.starts_with('"')
 }
 
 // Whether a path begins unlike the others, where that counts.

@@ -54,7 +54,8 @@ fn read(
     if !matches!(version(lock), Some(2 | 3)) {
         return Err(wrong(alloc, source, &[OTHER]));
     }
-    push_nodes(alloc, source, packages, network)?;
+    let root = word(lock, "name").unwrap_or(source.label());
+    push_nodes(alloc, source, root, packages, network)?;
     let steps = steps(alloc, source, packages, &network.paths)?;
     push_needs(alloc, source, packages, &steps, network)
 }
@@ -65,10 +66,11 @@ fn version(lock: &Value) -> Option<u64> {
 }
 
 // Adds the packages in ascending order of their paths. A link with another name than its package is
-// a node of its own; what only such links mean is none.
+// a node of its own; what only such links mean is none, except for the root.
 fn push_nodes(
     alloc: Global,
     source: &Source,
+    root: &str,
     packages: &Packages,
     network: &mut Network,
 ) -> Result<(), Failure> {
@@ -82,11 +84,11 @@ fn push_nodes(
         let is_drawn = if is_link(package) {
             is_alias(packages, path, meant)
         } else {
-            hidden.binary_search_by(|other| (*other).cmp(path)).is_err()
+            path.is_empty() || hidden.binary_search_by(|other| (*other).cmp(path)).is_err()
         };
         if is_drawn {
             let package = packages.get(meant).unwrap_or(package);
-            let label = label(alloc, source.label(), path, meant, package)?;
+            let label = label(alloc, root, path, meant, package)?;
             network.labels.push(label)?;
             network.paths.push(String::from_str(alloc, path)?)?;
         }
@@ -125,6 +127,9 @@ fn check_package(
     if package.as_object().is_none() {
         return Err(wrong(alloc, source, &[path, " is not a package"]));
     }
+    if !is_path(path) {
+        return Err(wrong(alloc, source, &["invalid path ", path]));
+    }
     for key in ["name", "version"] {
         if package.get(key).is_some() && word(package, key).is_none() {
             return Err(wrong(alloc, source, &["invalid ", key, " of ", path]));
@@ -135,6 +140,22 @@ fn check_package(
         Some(Value::Bool(true)) if word(package, "resolved").is_some() => Ok(()),
         Some(_) => Err(wrong(alloc, source, &["invalid link of ", path])),
     }
+}
+
+// Whether a path is one that npm writes: of names alone, behind `..` for each folder up.
+fn is_path(path: &str) -> bool {
+    let behind = behind_up(path);
+    path.is_empty() || behind == ".." || behind.split('/').all(is_name)
+}
+
+// Returns what follows each `../` at the start of a path.
+fn behind_up(path: &str) -> &str {
+    path.trim_start_matches("../")
+}
+
+// Whether a part of a path is the name of a file or folder.
+fn is_name(part: &str) -> bool {
+    part != "" && part != "." && part != ".."
 }
 
 // Whether what is at a path is a link with another name than the package that it means.
@@ -181,7 +202,7 @@ fn label(
     };
     let mut label = String::from_str(alloc, name)?;
     match given {
-        Some(given) if given != name => write!(label, "@npm:{given}")?,
+        Some(given) if given != name && !given.is_empty() => write!(label, "@npm:{given}")?,
         _ => {}
     }
     if let Some(version) = word(package, "version") {
@@ -426,7 +447,7 @@ impl<'s, 'a> Walk<'s, 'a> {
         Ok(())
     }
 
-    // Adds the need of the links to workspaces.
+    // Adds the need of the workspaces, each by the name of its package.
     fn push_workspaces(
         &mut self,
         alloc: Global,
@@ -437,12 +458,8 @@ impl<'s, 'a> Walk<'s, 'a> {
         let patterns = patterns(alloc, source, workspaces)?;
         let meant = Workspaces::of(alloc, patterns)?;
         for (path, package) in self.packages.iter() {
-            match place(path.as_str()) {
-                Some(("", name)) if is_link(package) && meant.has(target(path.as_str(), package)) =>
-                    {
-                        self.push_need(alloc, node, name)?;
-                    }
-                _ => {}
+            if !is_link(package) && meant.has(path.as_str()) {
+                self.push_need(alloc, node, name_of(path.as_str(), package))?;
             }
         }
         Ok(())
@@ -501,14 +518,20 @@ fn plain(pattern: &str) -> &str {
     pattern.strip_suffix('/').unwrap_or(pattern)
 }
 
-// Whether a pattern has no other special parts than `*`, and `**` at its end.
+// Whether a pattern has only names and `*`, and at its end `**`.
 fn is_plain(pattern: &str) -> bool {
-    let pattern = plain(pattern);
-    let above = match pattern.strip_suffix("**") {
-        Some(above) if above.is_empty() || above.ends_with('/') => above,
-        _ => pattern,
+    let above = match plain(pattern) {
+        "**" => return true,
+        pattern => pattern.strip_suffix("/**").unwrap_or(pattern),
     };
-    above.split('/').all(|part| part == "*" || !part.contains(|c: char| "*?[]{}()!\\".contains(c)))
+    behind_up(above)
+        .split('/')
+        .all(|part| part == "*" || is_name(part) && is_literal(part))
+}
+
+// Whether a part of a pattern means itself.
+fn is_literal(part: &str) -> bool {
+    !part.contains(|c: char| "*?[]{}()!\\".contains(c))
 }
 
 // The workspaces that patterns mean.
@@ -538,8 +561,11 @@ impl<'a> Workspaces<'a> {
         Ok(Workspaces { named, starred })
     }
 
-    // Whether a path is that of one of them.
+    // Whether a path is that of one of them. The project is none, and what is in `node_modules`.
     fn has(&self, path: &str) -> bool {
+        if path.is_empty() || path.split('/').any(|name| name == "node_modules") {
+            return false;
+        }
         if self
             .named
             .binary_search_by(|name| (*name).cmp(path))

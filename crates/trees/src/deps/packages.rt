@@ -125,6 +125,12 @@ fn package<'a>(
     if table.get("replace").is_some() {
         return Err(wrong(alloc, input, &[name, REPLACED]));
     }
+    if !matches!(
+        table.get("source"),
+        None | Some(Value::String(_) | Value::Table(_))
+    ) {
+        return Err(wrong(alloc, input, &["invalid source of ", name]));
+    }
     match version(table) {
         Some(version) => Ok((name, version, without_revision(source_of(table)), at)),
         None => Err(wrong(alloc, input, &[name, " has no version"])),
@@ -293,7 +299,7 @@ impl<'p> Needing<'p> {
         };
         for need in needs {
             let Some(need) = Need::read(need) else {
-                let parts = [self.name, " has a dependency that is not a text"];
+                let parts = [self.name, " has an invalid dependency"];
                 return Err(wrong(alloc, self.input, &parts));
             };
             match need.find(self.packages) {
@@ -311,7 +317,11 @@ impl<'p> Needing<'p> {
         needs: &Table,
         network: &mut Network,
     ) -> Result<(), Failure> {
-        for name in needs.keys() {
+        for (name, need) in needs.iter() {
+            if !matches!(need, Value::String(_) | Value::Table(_) | Value::Array(_)) {
+                let parts = [self.name, " has an invalid dependency"];
+                return Err(wrong(alloc, self.input, &parts));
+            }
             let normal = normalized(alloc, name.as_str())?;
             match Need::of(normal.as_str()).find(self.packages) {
                 Ok(at) => network.add_need(self.node, at)?,
@@ -360,10 +370,13 @@ impl<'a> Need<'a> {
     // Returns the need of an entry: a text, or a table in a uv.lock.
     fn read(entry: &'a Value) -> Option<Need<'a>> {
         if let Value::String(text) = entry {
-            return Some(Need::of_text(text.as_str()));
+            return Need::of_text(text.as_str());
         }
         let name = word(entry, "name")?;
         let version = word(entry, "version");
+        if version.is_none() && entry.get("version").is_some() {
+            return None;
+        }
         let source = match (version, entry.get("source")) {
             (Some(_), Some(_)) => Some(without_revision(source_of(entry))),
             _ => None,
@@ -376,22 +389,22 @@ impl<'a> Need<'a> {
     }
 
     // Returns the need of a text: `name`, `name version` or `name version (source)`.
-    fn of_text(text: &'a str) -> Need<'a> {
+    fn of_text(text: &'a str) -> Option<Need<'a>> {
         let Some((name, rest)) = text.split_once(' ') else {
-            return Need::of(text);
+            return Some(Need::of(text));
         };
         let (version, source) = match rest.split_once(" (") {
-            Some((version, source)) => {
-                let source = source.strip_suffix(')').unwrap_or("");
-                (version, Some(without_revision(source)))
-            }
+            Some((version, source)) => (version, Some(source.strip_suffix(')')?)),
             None => (rest, None),
         };
-        Need {
+        if version.is_empty() || source == Some("") {
+            return None;
+        }
+        Some(Need {
             name,
             version: Some(version),
-            source,
-        }
+            source: source.map(without_revision),
+        })
     }
 
     // Returns the position of the package that is needed, or why there is not one.

@@ -20,8 +20,8 @@ returns-in_err-check_lines-clause-failed c =
     let is : first ≡ is_first_absolute (map (λ (l : Bor (List ℕ)). l.now) lines) = search rules in
     let asks : others ≡ beside paths.label first = search rules in
     let wrong = wrong_lines source paths lines first others same is asks in
-    let one : (ls : List (Bor (List ℕ))) → Type 0 = λ ls. list_any (λ (l : Bor (List ℕ)). is_wrong_line others l.now) ls ≡ true in
-    let says = fails_weaker (one c.as_slice-2.result.now) (are_wrong paths.label (source_lines source paths) ≡ true) ⊥ c.in_err-check_lines.field-0.0 (λ h. sym wrong ∙ subst one c.as_slice-2.ensures.value h) c.in_err-check_lines.ensures.failed in
+    let one : (ls : List (Bor (List ℕ))) → Type 0 = λ ls. list_any (λ (l : Bor (List ℕ)). is_wrong_line paths.ends_in_zero others l.now) ls ≡ true in
+    let says = fails_weaker (one c.as_slice-2.result.now) (are_wrong paths.ends_in_zero paths.label (source_lines source paths) ≡ true) ⊥ c.in_err-check_lines.field-0.0 (λ h. sym wrong ∙ subst one c.as_slice-2.ensures.value h) c.in_err-check_lines.ensures.failed in
     search (rules, says)
 
 pub returns-clause-listing : goal.returns-clause-listing
@@ -35,7 +35,7 @@ returns-clause-listing c =
     let same : map (λ (l : Bor (List ℕ)). l.now) lines ≡ source_lines source paths = c.in_ok-lines.ensures ∙ ap (path_lines paths.ends_in_zero) c.unmarked.ensures in
     let is : first ≡ is_first_absolute (map (λ (l : Bor (List ℕ)). l.now) lines) = search rules in
     let asks : others ≡ beside paths.label first = search rules in
-    let right : list_any (λ (l : Bor (List ℕ)). is_wrong_line others l.now) lines ≡ false = search rules in
+    let right : list_any (λ (l : Bor (List ℕ)). is_wrong_line paths.ends_in_zero others l.now) lines ≡ false = search rules in
     let root : t.text ≡ root_text paths.label first = search rules in
     let named : names_of 47 c.as_slice-4.result.now ≡ given_paths (map (λ (l : Bor (List ℕ)). l.now) lines) =
     ap (names_of 47) c.as_slice-4.ensures.value ∙ (c.in_ok-given.ensures ∙ ap (λ (ls : List (Bor (List ℕ))). given_paths (map (λ l. l.now) ls)) c.as_slice-3.ensures.value) in

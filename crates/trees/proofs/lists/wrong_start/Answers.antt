@@ -1,5 +1,6 @@
 use Rattle.std.proofs.Common.{◌∙◌, sym}
-use Rattle.trees.proofs.OutlinesBack.{marked_text, marked_bullet, unmarked_text, unmarked_bullet, some_length, no_length}
+use Rattle.trees.proofs.OutlineLines.{marked_text, marked_bullet, unmarked_text, unmarked_bullet}
+use Rattle.trees.proofs.OutlinesBack.{some_length, no_length}
 use Rattle.trees.proofs.lists.wrong_start.Goals.{else-is_empty-via-then-is_empty+else-starts_with, else-is_empty-via-else-is_empty}
 use Rattle.trees.proofs.lists.wrong_start.Goals as goal
 

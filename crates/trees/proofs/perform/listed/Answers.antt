@@ -28,5 +28,5 @@ pub returns-in_err-tree-clause-failed : goal.returns-in_err-tree-clause-failed
 returns-in_err-tree-clause-failed c =
     let paths = c.args.paths in
     let source = c.args.source.now in
-    let says = fails_weaker (are_wrong paths.label (source_lines source paths) ≡ true) (IsWrongList source paths) ⊥ c.in_err-tree.field-0.0 (λ wrong. inl wrong) c.in_err-tree.ensures.failed in
+    let says = fails_weaker (are_wrong paths.ends_in_zero paths.label (source_lines source paths) ≡ true) (IsWrongList source paths) ⊥ c.in_err-tree.field-0.0 (λ wrong. inl wrong) c.in_err-tree.ensures.failed in
     search (rules, says)
