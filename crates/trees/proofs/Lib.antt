@@ -1,5 +1,8 @@
+pub mod Beginnings
 pub mod Conversions
+pub mod DistinctTexts
 pub mod Examples
+pub mod Fronts
 pub mod Listings
 pub mod Merges
 pub mod MergeDrawings

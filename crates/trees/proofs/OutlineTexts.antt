@@ -73,7 +73,7 @@ take_blanks (b ∷ front) r h none =
     ∙ (ap (λ (x : Bool). cond x (b ∷ take_while (λ c. eqb c 32) (front ++ r)) []) h.0 ∙ ap (λ (z : List ℕ). b ∷ z) (take_blanks front r h.1 none))
 
 -- what is before the rest is what is left without that
-stripped : (line r front : List ℕ) (o : Option (Bor (List ℕ))) (d : Bor (List ℕ)) → line ≡ front ++ r → MatchOption o (FindsTextSuffix r line None) (λ x. StripsSuffix (FindsTextSuffix r) line x.now)
+pub stripped : (line r front : List ℕ) (o : Option (Bor (List ℕ))) (d : Bor (List ℕ)) → line ≡ front ++ r → MatchOption o (FindsTextSuffix r line None) (λ x. StripsSuffix (FindsTextSuffix r) line x.now)
     → (unwrap_or o d).now ≡ front
 stripped line r front None d e none = absurd (none front e)
 stripped line r front (Some x) d e found =

@@ -1,5 +1,7 @@
 -- which texts are drawings, and what reading one returns
 pub mod Reading
+-- what could stand in the place of a wrong line
+pub mod Expected
 -- what options ask for
 pub mod Asked
 -- what a terminal may get

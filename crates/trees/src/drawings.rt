@@ -1,9 +1,12 @@
 //! Reads drawings, and says where a text is none.
-ghost use Rattle.std.specs.Prelude.{◌≡◌, length, IfOk, IfErr};
+ghost use Rattle.std.specs.Prelude.{◌≡◌, ◌≤◌, ◌-◌, ◌∷◌, ◌++◌, length, IfOk, IfErr, string_bytes};
 ghost use Rattle.ptree.specs.Config.{config_of};
+ghost use Rattle.ptree.specs.Continuation.{first_lines, line_count};
 ghost use Rattle.ptree.specs.Outline.{subtrees};
 ghost use Rattle.ptree.specs.Readable.{HasReadablePieces};
+ghost use Rattle.ptree.specs.Texts.{line_feed, HasNoLineFeed};
 ghost use Rattle.ptree.specs.Tree.{tree_of};
+ghost use Rattle.trees.specs.Expected.{IsWholeLine, IsLineAt, AddsOther, IsHint, TellsLine};
 ghost use Rattle.trees.specs.Reading.{HoldsDrawing, HoldsNoOther, IsRedrawn, FailsToRead, NamesPlace};
 
 use crate::expected::{beginnings, is_too_deep};
@@ -63,37 +66,61 @@ fn wrong_line(
     line: usize,
     config: &PrintConfig,
 ) -> Result<String, AllocError>
-    requires { HasReadablePieces config.now }
+    requires readable { HasReadablePieces config.now }
+    requires line { IsWholeLine text.now line }
+    ensures { IfOk result (λ said.
+        TellsLine (config_of config.now) text.now line (string_bytes said)) }
 {
     let (before, wrong) = split_at_line(text, line);
     if is_too_deep(alloc, wrong, config)? {
         return String::from_str(alloc, TOO_DEEP);
     }
-    let mut said = format!(in alloc;
-        "cannot continue the drawing:\n  {}",
-        escaped(alloc, wrong)?
-    )?;
-    if push_other(alloc, &mut said, text)? {
-        return Ok(said);
+    let hint = hint(alloc, text, before, config)?;
+    let wrong = escaped(alloc, wrong)?;
+    Ok(format!(in alloc; "cannot continue the drawing:\n  {wrong}{hint}")?)
+}
+
+// Says with which pieces a text is a drawing or, if there are none, what could stand behind the
+// lines before the wrong one.
+fn hint(alloc: Global, text: &str, before: &str, config: &PrintConfig) -> Result<String, AllocError>
+    requires { HasReadablePieces config.now }
+    ensures { IfOk result (λ hint. IsHint (config_of config.now) before.now (string_bytes hint)) }
+{
+    let mut hint = String::new(alloc);
+    if push_other(alloc, &mut hint, text)? {
+        return Ok(hint);
     }
     let could = beginnings(alloc, before, config)?;
-    if !could.is_empty() {
-        let could = could.as_str().trim_end_matches('\n');
-        write!(said, "\nexpected one of:\n{could}")?;
+    if could.is_empty() {
+        return Ok(hint);
     }
-    Ok(said)
+    write!(hint, "\nexpected one of:{could}")?;
+    Ok(hint)
 }
 
 // Returns the lines before a line, and the line.
-fn split_at_line(text: &str, line: usize) -> (&str, &str) {
-    let mut at = 0usize;
-    for (i, found) in text.split('\n').enumerate() {
-        if i.saturating_add(1) == line {
-            return (text.get(..at).unwrap_or(""), found);
-        }
-        at = at.saturating_add(found.len()).saturating_add(1);
+fn split_at_line(text: &str, line: usize) -> (&str, &str)
+    requires { IsWholeLine text.now line }
+    ensures before { result.0.now ≡ first_lines (line - 1) text.now }
+    ensures line { IsLineAt text.now line result.1.now }
+{
+    let mut rest = text;
+    for _passed in 0..line - 1 {
+        rest = split_line(rest).1;
     }
-    (text, "")
+    let before = text.strip_suffix(rest).unwrap_or("");
+    (before, split_line(rest).0)
+}
+
+// Returns the first of some lines, and what follows its line feed.
+fn split_line(text: &str) -> (&str, &str)
+    requires { 1 ≤ line_count text.now }
+    ensures { HasNoLineFeed result.0.now × (text.now ≡ result.0.now ++ line_feed ∷ result.1.now) }
+{
+    match text.split_once('\n') {
+        Some((line, rest)) => (line, rest),
+        None => (text, ""),
+    }
 }
 
 // Says why a text is incomplete.
@@ -111,7 +138,9 @@ fn wrong_end(alloc: Global, text: &str) -> Result<String, AllocError> {
 }
 
 // Adds the name of pieces with which the text is a drawing, if there are some.
-fn push_other(alloc: Global, said: &mut String, text: &str) -> Result<bool, AllocError> {
+fn push_other(alloc: Global, said: &mut String, text: &str) -> Result<bool, AllocError>
+    ensures { IfOk result (λ b. AddsOther b (string_bytes said.old) (string_bytes said.new)) }
+{
     let Some(name) = pieces::reading(alloc, text)? else {
         return Ok(false);
     };

@@ -1,5 +1,9 @@
 //! What could stand in the place of a wrong line.
-ghost use Rattle.ptree.specs.Readable.{HasReadablePieces};
+ghost use Rattle.std.specs.Prelude.{◌≡◌, ◌↔◌, Bool, [], ◌++◌, map, IsTrue, IfOk, IfSome, OnOk, string_bytes};
+ghost use Rattle.ptree.specs.Config.{config_of};
+ghost use Rattle.ptree.specs.Pieces.{passing_piece, pieces_of};
+ghost use Rattle.ptree.specs.Readable.{IsReadable, HasReadablePieces};
+ghost use Rattle.trees.specs.Expected.{CanFollow, IsBeginning, AddsListed, EndsPieces, EndsPassing, AreFronts, AddsTexts};
 
 use crate::levels;
 use ptree::output::Indent;
@@ -11,7 +15,7 @@ use std::alloc::{AllocError, Global};
 const LEVELS: u8 = 32;
 
 /// Returns the prefixes of an item's line that could follow these lines of a drawing, each once, on
-/// a line of its own after two blanks. A text follows each of them.
+/// a line of its own after two blanks and behind a line feed. A text follows each of them.
 ///
 /// It tries the first 32 levels, from the root on.
 ///
@@ -20,6 +24,9 @@ const LEVELS: u8 = 32;
 /// Memory ran out.
 pub fn beginnings(alloc: Global, before: &str, config: &PrintConfig) -> Result<String, AllocError>
     requires { HasReadablePieces config.now }
+    // Each of them can follow, and no two are the same.
+    ensures { IfOk result (λ listed.
+        AddsListed (IsBeginning (config_of config.now) before.now) [] (string_bytes listed)) }
 {
     let indent = Indent::from_config(alloc, config)?;
     let fronts = fronts(alloc, last_line(before), &indent)?;
@@ -31,21 +38,24 @@ pub fn beginnings(alloc: Global, before: &str, config: &PrintConfig) -> Result<S
 }
 
 // Returns the passing pieces behind which an item could follow this line, from the root on.
-fn fronts(alloc: Global, line: &str, indent: &Indent) -> Result<Vec<String>, AllocError> {
+fn fronts(alloc: Global, line: &str, indent: &Indent) -> Result<Vec<String>, AllocError>
+    requires { IsReadable (pieces_of indent.now) }
+    ensures { IfOk result
+        (λ fronts. AreFronts (pieces_of indent.now) (map string_bytes fronts.items)) }
+{
     let mut fronts = Vec::new(alloc);
     let mut front = String::new(alloc);
     let mut rest = line;
     for level in 1..=LEVELS {
         fronts.push(front.clone()?)?;
-        if let Some((piece, left)) = passing(indent, rest) {
-            front.push_str(piece)?;
-            rest = left;
-        } else {
+        let Some((piece, left)) = passing(indent, rest) else {
             if level < LEVELS {
                 push_below(alloc, &mut fronts, front.as_str(), rest, indent)?;
             }
-            break;
-        }
+            return Ok(fronts);
+        };
+        front.push_str(piece)?;
+        rest = left;
     }
     Ok(fronts)
 }
@@ -58,13 +68,18 @@ fn push_below(
     front: &str,
     rest: &str,
     indent: &Indent,
-) -> Result<(), AllocError> {
+) -> Result<(), AllocError>
+    ensures { OnOk result (AddsTexts (EndsPassing (pieces_of indent.now) front.now)
+        (map string_bytes fronts.old.items) (map string_bytes fronts.new.items)) }
+{
     let (child, last) = (&indent.child_prefix, &indent.last_child_prefix);
-    let is_child = rest.starts_with(indent.regular_prefix.as_str());
-    if is_child {
+    if rest.starts_with(indent.regular_prefix.as_str()) {
         fronts.push(format!(in alloc; "{front}{child}")?)?;
+        if child == last {
+            return Ok(());
+        }
     }
-    if rest.starts_with(indent.last_regular_prefix.as_str()) && !(is_child && child == last) {
+    if rest.starts_with(indent.last_regular_prefix.as_str()) {
         fronts.push(format!(in alloc; "{front}{last}")?)?;
     }
     Ok(())
@@ -80,13 +95,35 @@ fn push_items(
     config: &PrintConfig,
 ) -> Result<(), AllocError>
     requires { HasReadablePieces config.now }
+    ensures { OnOk result (AddsListed (λ text. CanFollow (config_of config.now) before.now text
+        × EndsPieces (pieces_of indent.now) front.now text)
+        (string_bytes found.old) (string_bytes found.new)) }
 {
     let (regular, last) = (&indent.regular_prefix, &indent.last_regular_prefix);
-    if can_follow(alloc, before, front, regular.as_str(), config)? {
-        push_line(found, front, regular.as_str())?;
+    push_item(alloc, found, before, front, regular.as_str(), config)?;
+    if last == regular {
+        return Ok(());
     }
-    if last != regular && can_follow(alloc, before, front, last.as_str(), config)? {
-        push_line(found, front, last.as_str())?;
+    push_item(alloc, found, before, front, last.as_str(), config)?;
+    Ok(())
+}
+
+// Adds the prefix of an item behind these passing pieces, if it could follow.
+fn push_item(
+    alloc: Global,
+    found: &mut String,
+    before: &str,
+    front: &str,
+    piece: &str,
+    config: &PrintConfig,
+) -> Result<(), AllocError>
+    requires { HasReadablePieces config.now }
+    ensures { OnOk result (AddsListed (λ text. CanFollow (config_of config.now) before.now text
+        × (text ≡ front.now ++ piece.now)) (string_bytes found.old) (string_bytes found.new)) }
+{
+    let beginning = format!(in alloc; "{front}{piece}")?;
+    if can_follow(alloc, before, beginning.as_str(), config)? {
+        write!(found, "\n  {beginning}")?;
     }
     Ok(())
 }
@@ -127,7 +164,10 @@ fn has_more_pieces(indent: &Indent, line: &str) -> bool {
 }
 
 // Returns the passing piece with which a line begins, and what follows it.
-fn passing<'a>(indent: &'a Indent, line: &'a str) -> Option<(&'a str, &'a str)> {
+fn passing<'a>(indent: &'a Indent, line: &'a str) -> Option<(&'a str, &'a str)>
+    ensures { IfSome result (λ found.
+        (last : Bool) × (found.0.now ≡ passing_piece (pieces_of indent.now) last)) }
+{
     for piece in [
         indent.child_prefix.as_str(),
         indent.last_child_prefix.as_str(),
@@ -139,25 +179,22 @@ fn passing<'a>(indent: &'a Indent, line: &'a str) -> Option<(&'a str, &'a str)> 
     None
 }
 
-// Whether an item that begins so can follow lines of a drawing.
+// Whether an item whose line begins so can follow lines of a drawing.
 fn can_follow(
     alloc: Global,
     before: &str,
-    front: &str,
-    piece: &str,
+    beginning: &str,
     config: &PrintConfig,
 ) -> Result<bool, AllocError>
     requires { HasReadablePieces config.now }
+    ensures { IfOk result (λ can.
+        IsTrue can ↔ CanFollow (config_of config.now) before.now beginning.now) }
 {
-    let text = format!(in alloc; "{before}{front}{piece}x\n")?;
+    let text = format!(in alloc; "{before}{beginning}x\n")?;
     match read_tree_or_line(alloc, text.as_str(), config) {
-        Ok(_) | Err(ReadError::End) => Ok(true),
+        Ok(_) => Ok(true),
+        Err(ReadError::End) => Ok(true),
         Err(ReadError::Line(_)) => Ok(false),
         Err(ReadError::Memory) => Err(AllocError),
     }
-}
-
-// Adds a line with these pieces.
-fn push_line(found: &mut String, front: &str, piece: &str) -> Result<(), AllocError> {
-    writeln!(found, "  {front}{piece}")
 }

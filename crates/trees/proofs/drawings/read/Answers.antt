@@ -1,8 +1,9 @@
-use Rattle.std.proofs.Common.{false, inl, inr, rules, subst, ◌∙◌}
+use Rattle.std.proofs.Common.{false, inl, inr, rules, string_bytes, subst, sym, ◌∙◌}
 use Rattle.ptree.specs.declared.print_config.OutputKind.TheVariants.{Unknown}
 use Rattle.ptree.specs.Config.{config_of}
 use Rattle.ptree.specs.Continuation.{IsFirstWrongLine, EndsWrong}
 use Rattle.ptree.specs.Drawing.{look_by}
+use Rattle.trees.specs.Expected.{TellsLine}
 use Rattle.trees.specs.Reading.{SaysAt}
 use Rattle.trees.proofs.Readings.{fails_by_text}
 use Rattle.trees.proofs.drawings.read.Goals as goal
@@ -27,7 +28,10 @@ returns-in_ok-wrong_at-in-Err-Line-clause-place c = λ unread input.
     let look = look_by (config_of c.args.config.now) Unknown false in
     let first = subst (λ text. IsFirstWrongLine look c.args.config.now.depth text c.in-Err-Line.line) c.as_str-text.ensures.value (c.in-Err-Line.ensures.line c.in-Err-Line.line (search rules)) in
     let says : SaysAt c.args.source.now c.in-Err-Line.line c.as_str.result.now c.in_ok-wrong_at-in-Err-Line.field-0 = search rules in
-    (c.as_str.result.now, inl (c.in-Err-Line.line, first, says))
+    let tells : TellsLine (config_of c.args.config.now) (string_bytes c.args.source.now.text) c.in-Err-Line.line c.as_str.result.now =
+    subst (λ said. TellsLine (config_of c.args.config.now) (string_bytes c.args.source.now.text) c.in-Err-Line.line said) (sym c.as_str.ensures.value)
+    (subst (λ text. TellsLine (config_of c.args.config.now) text c.in-Err-Line.line (string_bytes c.in_ok-wrong-in-Err-Line.wrong)) c.as_str-text.ensures.value c.in_ok-wrong-in-Err-Line.ensures) in
+    (c.as_str.result.now, inl (c.in-Err-Line.line, first, tells, says))
 
 pub returns-in_ok-wrong-in-Err-End-2-clause-place : goal.returns-in_ok-wrong-in-Err-End-2-clause-place
 returns-in_ok-wrong-in-Err-End-2-clause-place c = λ unread input.

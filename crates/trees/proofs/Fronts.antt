@@ -1,0 +1,79 @@
+-- The passing pieces behind which an item could follow a line.
+use Rattle.std.proofs.Common.{◌≡◌, ◌≢◌, ℕ, suc, ◌<◌, ◌≤◌, Bool, List, [], ◌∷◌, ◌++◌, length, length-append, get_or, refl, sym, ap, ◌∙◌, subst, arith}
+use Rattle.std.proofs.lemmas.List.Elements.{All-nil, All-cons, All-append}
+use Rattle.std.specs.Prelude.{All}
+use Rattle.ptree.specs.Pieces.{Pieces, turning_piece, passing_piece}
+use Rattle.ptree.specs.Readable.{IsReadable}
+use Rattle.ptree.specs.Spelled.{ArePassing}
+use Rattle.ptree.proofs.Reading.Paths.{passing_all-push}
+use Rattle.trees.specs.Expected.{EndsPassing, AreFronts, AddsTexts}
+use Rattle.trees.proofs.DistinctTexts.{distinct_both}
+
+-- a passing piece is not empty
+passing_some : (p : Pieces) → IsReadable p → (b : Bool) → 0 < length (passing_piece p b)
+passing_some p h b = at (passing_piece p b) refl where
+  at : (x : List ℕ) → passing_piece p b ≡ x → 0 < length x
+  at [] e = absurd ((h.turning_passing b b).1 (turning_piece p b, ap (λ z. z ++ turning_piece p b) (sym e)))
+  at (c ∷ x) e = omega arith
+
+-- one passing piece more
+passing_more : (p : Pieces) (front text : List ℕ) → (level : ℕ) × ArePassing p level front → EndsPassing p front text → (level : ℕ) × ArePassing p level text
+passing_more p front text (n, (above, count, is)) (last, ends) =
+    (suc n, (above ++ last ∷ [], longer, ends ∙ (ap (λ z. z ++ passing_piece p last) is ∙ sym (passing_all-push p above last))))
+  where
+    longer : length (above ++ last ∷ []) ≡ suc n
+    longer = omega (arith, count, length-append above (last ∷ []))
+
+-- it makes the text longer
+longer_by_piece : (p : Pieces) → IsReadable p → (front text : List ℕ) → EndsPassing p front text → length front < length text
+longer_by_piece p h front text (last, ends) = omega (arith, passing_some p h last, ap length ends, length-append front (passing_piece p last))
+
+-- passing pieces at some level
+abbrev pub PassesSome : Pieces → List ℕ → Type 0
+PassesSome p front = (level : ℕ) × ArePassing p level front
+
+-- different passing pieces, all shorter than the next ones
+pub record AreFrontsBelow (p : Pieces) (fronts : List (List ℕ)) (front : List ℕ) : Type 0 where
+  pub are : AreFronts p fronts
+  pub next : PassesSome p front
+  pub shorter : All (λ f. length f < length front) fronts
+
+-- different passing pieces, none longer than the last ones
+pub record AreFrontsTo (p : Pieces) (fronts : List (List ℕ)) (front : List ℕ) : Type 0 where
+  pub are : AreFronts p fronts
+  pub last : PassesSome p front
+  pub short : All (λ f. length f ≤ length front) fronts
+
+-- before the root nothing passes
+pub no_fronts : (p : Pieces) → AreFrontsBelow p [] []
+no_fronts p = record { are = (All-nil (PassesSome p), tt); next = (0, ([], refl, refl)); shorter = All-nil (λ f. length f < 0) }
+
+-- texts that are shorter and longer are different
+apart_by_length : (n : ℕ) (xs ys : List (List ℕ)) → All (λ f. length f ≤ n) xs → All (λ f. n < length f) ys → All (λ x. All (λ y. x ≢ y) ys) xs
+apart_by_length n xs ys h k = λ i d low. λ j e below. λ same. let long = ap length same in omega (arith, h i d low, k j e below, long)
+
+-- the next ones are added
+pub front_added : (p : Pieces) (fronts new : List (List ℕ)) (front : List ℕ) → new ≡ fronts ++ front ∷ [] → AreFrontsBelow p fronts front → AreFrontsTo p new front
+front_added p fronts new front is h = subst (λ z. AreFrontsTo p z front) (sym is) record {
+  are = (
+    All-append (PassesSome p) fronts (front ∷ []) h.are.0 (All-cons (PassesSome p) front [] h.next (All-nil (PassesSome p))),
+    distinct_both fronts (front ∷ []) h.are.1 (All-nil (λ y. front ≢ y), tt) (λ i d low. All-cons (λ y. get_or fronts i d ≢ y) front [] (λ same. let long = ap length same in omega (arith, h.shorter i d low, long)) (All-nil (λ y. get_or fronts i d ≢ y))),
+  );
+  last = h.next;
+  short = All-append (λ f. length f ≤ length front) fronts (front ∷ []) (λ k d low. let less = h.shorter k d low in omega arith) (All-cons (λ f. length f ≤ length front) front [] (omega arith) (All-nil (λ f. length f ≤ length front)));
+}
+
+-- those of the next level are longer
+pub front_longer : (p : Pieces) → IsReadable p → (fronts : List (List ℕ)) (front text : List ℕ) → EndsPassing p front text → AreFrontsTo p fronts front → AreFrontsBelow p fronts text
+front_longer p r fronts front text ends h = record {
+  are = h.are;
+  next = passing_more p front text h.last ends;
+  shorter = λ k d low. omega (arith, h.short k d low, longer_by_piece p r front text ends);
+}
+
+-- those below are added
+pub fronts_below : (p : Pieces) → IsReadable p → (fronts new : List (List ℕ)) (front : List ℕ) → AreFrontsTo p fronts front → AddsTexts (EndsPassing p front) fronts new → AreFronts p new
+fronts_below p r fronts new front h (more, is, ends, apart) = subst (AreFronts p) (sym is) (
+  All-append (PassesSome p) fronts more h.are.0 (λ k d low. passing_more p front _ h.last (ends k d low)),
+  distinct_both fronts more h.are.1 apart (apart_by_length (length front) fronts more h.short (λ k d low. longer_by_piece p r front _ (ends k d low))),
+)

@@ -1,0 +1,19 @@
+use Rattle.std.proofs.Common.{◌≡◌, ◌++◌, ℕ, List, inr, ap, ◌∙◌, codes, string_bytes, subst, rules}
+use Rattle.ptree.specs.Config.{config_of}
+use Rattle.ptree_trees.specs.Escape.{escaped_text}
+use Rattle.trees.specs.Expected.{IsHint}
+use Rattle.trees.proofs.drawings.wrong_line.Goals as goal
+
+pub returns : goal.returns
+returns c =
+    let hint : List ℕ = string_bytes c.in_ok-hint.hint in
+    let line : List ℕ = c.split_at_line.result.1.now in
+    let shown : string_bytes c.in_ok-wrong.wrong ≡ escaped_text line = c.in_ok-wrong.ensures.text in
+    let said : string_bytes c.in_ok-format.field-0 ≡ codes "cannot continue the drawing:\n  " ++ (string_bytes c.in_ok-wrong.wrong ++ hint) = search rules in
+    inr (
+      line,
+      hint,
+      c.split_at_line.ensures.line,
+      subst (λ z. IsHint (config_of c.args.config.now) z hint) c.split_at_line.ensures.before c.in_ok-hint.ensures,
+      said ∙ ap (λ z. codes "cannot continue the drawing:\n  " ++ (z ++ hint)) shown,
+    )
