@@ -1,7 +1,8 @@
 -- The passing pieces behind which an item could follow a line.
-use Rattle.std.proofs.Common.{◌≡◌, ◌≢◌, ℕ, suc, ◌<◌, ◌≤◌, Bool, List, [], ◌∷◌, ◌++◌, length, length-append, get_or, refl, sym, ap, ◌∙◌, subst, arith}
+use Rattle.std.proofs.Common.{◌≡◌, ◌≢◌, ℕ, suc, ◌<◌, ◌≤◌, ◌⊎◌, inl, inr, Bool, List, [], ◌∷◌, ◌++◌, length, length-append, get_or, map, refl, sym, ap, ◌∙◌, subst, string_bytes, arith}
 use Rattle.std.proofs.lemmas.List.Elements.{All-nil, All-cons, All-append}
-use Rattle.std.specs.Prelude.{All}
+use Rattle.std.specs.Prelude.{All, String}
+use Rattle.std.specs.declared.alloc.Global.{Global}
 use Rattle.ptree.specs.Pieces.{Pieces, turning_piece, passing_piece}
 use Rattle.ptree.specs.Readable.{IsReadable}
 use Rattle.ptree.specs.Spelled.{ArePassing}
@@ -47,6 +48,11 @@ pub record AreFrontsTo (p : Pieces) (fronts : List (List ℕ)) (front : List ℕ
 -- before the root nothing passes
 pub no_fronts : (p : Pieces) → AreFrontsBelow p [] []
 no_fronts p = record { are = (All-nil (PassesSome p), tt); next = (0, ([], refl, refl)); shorter = All-nil (λ f. length f < 0) }
+
+-- all or none of them are left
+pub fronts_forgotten : (p : Pieces) (old new : List (String Global)) (front : List ℕ) → (new ≡ old) ⊎ (new ≡ []) → AreFrontsBelow p (map string_bytes old) front → AreFrontsBelow p (map string_bytes new) front
+fronts_forgotten p old new front (inl same) h = subst (λ z. AreFrontsBelow p (map string_bytes z) front) (sym same) h
+fronts_forgotten p old new front (inr none) h = subst (λ z. AreFrontsBelow p (map string_bytes z) front) (sym none) record { are = (All-nil (PassesSome p), tt); next = h.next; shorter = All-nil (λ f. length f < length front) }
 
 -- texts that are shorter and longer are different
 apart_by_length : (n : ℕ) (xs ys : List (List ℕ)) → All (λ f. length f ≤ n) xs → All (λ f. n < length f) ys → All (λ x. All (λ y. x ≢ y) ys) xs

@@ -1,5 +1,5 @@
 //! What could stand in the place of a wrong line.
-ghost use Rattle.std.specs.Prelude.{◌≡◌, ◌↔◌, Bool, [], ◌++◌, map, IsTrue, IfOk, IfSome, OnOk, string_bytes};
+ghost use Rattle.std.specs.Prelude.{◌≡◌, ◌↔◌, ◌⊎◌, Bool, [], ◌++◌, map, IsTrue, IfOk, IfSome, OnOk, string_bytes};
 ghost use Rattle.ptree.specs.Config.{config_of};
 ghost use Rattle.ptree.specs.Pieces.{passing_piece, pieces_of};
 ghost use Rattle.ptree.specs.Readable.{IsReadable, HasReadablePieces};
@@ -47,6 +47,7 @@ fn fronts(alloc: Global, line: &str, indent: &Indent) -> Result<Vec<String>, All
     let mut front = String::new(alloc);
     let mut rest = line;
     for level in 1..=LEVELS {
+        forget_closed(&mut fronts, rest, indent);
         fronts.push(front.clone()?)?;
         let Some((piece, left)) = passing(indent, rest) else {
             if level < LEVELS {
@@ -58,6 +59,20 @@ fn fronts(alloc: Global, line: &str, indent: &Indent) -> Result<Vec<String>, All
         rest = left;
     }
     Ok(fronts)
+}
+
+// Forgets all passing pieces if a line goes on with a piece of an item that is no last child: its
+// sibling has to follow before anything above.
+fn forget_closed(fronts: &mut Vec<String>, rest: &str, indent: &Indent)
+    ensures { (fronts.new.items ≡ fronts.old.items) ⊎ (fronts.new.items ≡ []) }
+{
+    let (child, last) = (&indent.child_prefix, &indent.last_child_prefix);
+    let (regular, last_regular) = (&indent.regular_prefix, &indent.last_regular_prefix);
+    if (child != last && rest.starts_with(child.as_str()))
+        || (regular != last_regular && rest.starts_with(regular.as_str()))
+    {
+        fronts.clear();
+    }
 }
 
 // Adds the passing pieces of what is below the item whose line goes on so behind others. If the
@@ -128,12 +143,12 @@ fn push_item(
     Ok(())
 }
 
-// Returns the last line of whole lines.
+// Returns the last of whole lines, or nothing if it is the first, since a root may look like pieces.
 fn last_line(text: &str) -> &str {
     let text = text.strip_suffix('\n').unwrap_or(text);
     match text.rsplit_once('\n') {
         Some((_, last)) => last,
-        None => text,
+        None => "",
     }
 }
 
