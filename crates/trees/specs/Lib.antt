@@ -20,6 +20,10 @@ pub mod Merging
 pub mod MergingParts
 -- what is drawn of indented text
 pub mod Outlining
+-- which graph is drawn of lines of two words
+pub mod Depending
+-- what the parts of reading them do
+pub mod DependingParts
 -- what calls write
 pub mod Writing
 -- documents, their parts and trees

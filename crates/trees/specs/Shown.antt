@@ -10,7 +10,7 @@ use Rattle.ptree.specs.Drawing.{Look}
 use Rattle.ptree.specs.Graph.{weights_of}
 use Rattle.ptree.specs.Style.{StyleValue, start_codes, end_codes}
 use Rattle.ptree.specs.Writing.{AppendsPart}
-use Rattle.ptree_trees.specs.Escape.{backslash, is_hidden, escape_char}
+use Rattle.ptree_trees.specs.Escape.{backslash, is_hidden, escape_char, escaped_text}
 
 -- ## What is escaped
 
@@ -25,6 +25,10 @@ shown_lines text = encode_utf8_all (flat_map shown_char (chars text))
 -- lines as they are written: for a terminal escaped
 abbrev pub shown_on : Bool → List ℕ → List ℕ
 shown_on is_terminal lines = if is_terminal then shown_lines lines else lines
+
+-- a text as it is written: for a terminal escaped
+abbrev pub shown_text : Bool → List ℕ → List ℕ
+shown_text is_terminal text = if is_terminal then escaped_text text else text
 
 -- the characters of pieces as a terminal may get them
 abbrev pub shown_characters : Characters → Characters

@@ -1,7 +1,7 @@
 -- What calls write.
 use Rattle.std.specs.Borrow.{Bor}
 use Rattle.std.specs.Io.KnownBytes.{Appends}
-use Rattle.std.specs.Prelude.{◌≡◌, ◌≤◌, ◌⊎◌, ⊤, ℕ, Bool, true, false, if◌then◌else◌, List, [], Option, Some, None, Result, Ok, Err, IsErr, OnOk, codes, string_bytes, IsTrue}
+use Rattle.std.specs.Prelude.{◌≡◌, ◌<◌, ◌≤◌, ◌⊎◌, ⊤, ℕ, Bool, true, false, if◌then◌else◌, List, [], Option, Some, None, Result, Ok, Err, IsErr, OnOk, codes, string_bytes, IsTrue}
 use Rattle.ptree.specs.declared.print_config.OutputKind.TheVariants.{Unknown}
 use Rattle.ptree.specs.declared.print_config.Sources.{Sources}
 use Rattle.ptree.specs.declared.print_config.StyleWhen.TheVariants.{Never}
@@ -18,6 +18,7 @@ use Rattle.ptree_trees.specs.declared.indented.Form.{Form}
 use Rattle.trees.specs.declared.command.Command.{Command}
 use Rattle.trees.specs.declared.command.Command.TheVariants as command
 use Rattle.trees.specs.declared.command.Convert.{Convert}
+use Rattle.trees.specs.declared.command.Deps.{Deps}
 use Rattle.trees.specs.declared.command.Diff.{Diff}
 use Rattle.trees.specs.declared.command.Drawing.{Drawing}
 use Rattle.trees.specs.declared.command.Indented.{Indented}
@@ -32,12 +33,13 @@ use Rattle.trees.specs.declared.pieces.Pieces.{Pieces}
 use Rattle.trees.specs.declared.source.Source.{Source}
 use Rattle.trees.specs.Asked.{drawing_value, reading_value}
 use Rattle.trees.specs.Changing.{IsConverted, FailsToConvert}
+use Rattle.trees.specs.Depending.{IsPairFile, IsGraphOfPairs, HoldsNoGraph}
 use Rattle.trees.specs.Documents.{IsPartTree}
 use Rattle.trees.specs.Listing.{IsListed, FailsToList}
 use Rattle.trees.specs.Merging.{IsMergeDrawing, IsMergeCode}
 use Rattle.trees.specs.Outlining.{HoldsOutline, FailsToOutline, IsReadBack, LosesText}
 use Rattle.trees.specs.Reading.{IsWriting, HoldsDrawing, IsReadableValue, FailsFor, FailsToMake, FailsToRead, IsReport, Adds}
-use Rattle.trees.specs.Shown.{shown_on, IsNone, ShowsOnly, IsLookCode}
+use Rattle.trees.specs.Shown.{shown_on, shown_text, IsNone, ShowsOnly, IsLookCode}
 
 -- A call that succeeds has appended bytes of which Is holds. One that fails has appended nothing, and
 -- Fails holds of the failure; or it failed in writing, and has appended a prefix of such bytes.
@@ -95,7 +97,7 @@ IsGraphDrawing config found false bytes =
 -- the drawing of one tree or of a graph is written, or of two trees in one, which never succeeds
 abbrev pub WritesDrawn : {A : Type 0} → ConfigValue → Bool → Drawn → Option (List ℕ) → Option (List ℕ) → Result A Failure → Type 0
 WritesDrawn config is_terminal (drawn.Tree item) old new result = Writes old new result (IsTreeDrawing config is_terminal (tree_of item.now)) (λ e. e ≡ Memory)
-WritesDrawn config is_terminal (drawn.Graph source found walks) old new result = Writes old new result (IsGraphDrawing config found.now walks) (FailsFor ⊤ ⊥)
+WritesDrawn config is_terminal (drawn.Graph source found walks) old new result = Writes old new result (IsGraphDrawing config found.now walks) (FailsFor (5000 < config.depth) ⊥)
 WritesDrawn config is_terminal (drawn.Both left right) old new result =
     IsErr result × WritesRefusal old new result (IsMergeDrawing config is_terminal (tree_of left.now) (tree_of right.now)) (λ e. e ≡ Memory)
 
@@ -104,10 +106,6 @@ abbrev pub IsDrawingOf : Sources → Drawing → (Tree → Type 0) → List ℕ 
 IsDrawingOf sources drawing Is bytes = (t : Tree) × Is t × IsTreeDrawing (drawing_value sources drawing) drawing.screen.is_terminal t bytes
 
 -- ## Indented text
-
--- a text as it is written: for a terminal escaped
-abbrev pub shown_text : Bool → List ℕ → List ℕ
-shown_text is_terminal text = if is_terminal then escaped_text text else text
 
 -- the text of an option, or none
 abbrev pub text_or_none : Option (Bor (List ℕ)) → List ℕ
@@ -153,6 +151,20 @@ FailsToGive source (given.Outline outline) e = FailsToOutline source outline e
 -- the drawing of the tree of an input is written
 abbrev pub Draws : {A : Type 0} → Sources → Source → Given → Drawing → Option (List ℕ) → Option (List ℕ) → Result A Failure → Type 0
 Draws sources source tree drawing old new result = Writes old new result (IsDrawingOf sources drawing (IsGiven source tree)) (FailsToGive source tree)
+
+-- the bytes are the drawing, as it is asked for, of the graph of the pairs in a source
+abbrev pub IsPairDrawing : Sources → Source → Deps → Drawing → List ℕ → Type 0
+IsPairDrawing sources source deps drawing bytes =
+    (d : Dependencies) × IsGraphOfPairs source deps.root deps.is_inverse drawing.screen.is_terminal d × IsGraphDrawing (drawing_value sources drawing) d deps.walks bytes
+
+-- what each failure before anything is written says: the source holds no such graph, or more than
+-- 5,000 levels are asked for, or memory ran out
+abbrev pub FailsToDepend : Sources → Source → Deps → Drawing → Failure → Type 0
+FailsToDepend sources source deps drawing = FailsFor (HoldsNoGraph source deps.root ⊎ (5000 < (drawing_value sources drawing).depth)) ⊥
+
+-- of a source that is read as lines of two words, the drawing of their graph is written
+abbrev pub DrawsPairs : {A : Type 0} → Sources → Source → Deps → Drawing → Option (List ℕ) → Option (List ℕ) → Result A Failure → Type 0
+DrawsPairs sources source deps drawing old new result = IsPairFile source → Writes old new result (IsPairDrawing sources source deps drawing) (FailsToDepend sources source deps drawing)
 
 -- the bytes are what `convert` writes of a source
 abbrev pub IsConversion : Sources → Source → Convert → List ℕ → Type 0
@@ -201,12 +213,13 @@ Compares sources left right diff old new result =
 abbrev pub AreReports : Sources → List Source → Option Pieces → Bool → List ℕ → Type 0
 AreReports sources inputs pieces is_terminal bytes = (said : List ℕ) × Adds (IsReport (reading_value sources pieces)) inputs [] said × (bytes ≡ shown_on is_terminal said)
 
--- what a command writes: those that draw an input, the drawing of its tree; `indented`, the
--- indented text; `convert`, the conversion, which can be turned back; `diff`, all differences
+-- what a command writes: those that draw an input, the drawing of its tree; `deps`, of lines of two
+-- words that of their graph; `indented`, the indented text; `convert`, the conversion, which can be
+-- turned back; `diff`, all differences
 abbrev pub WritesOfCommand : {A : Type 0} → Sources → Command → Option (List ℕ) → Option (List ℕ) → Result A Failure → Type 0
 WritesOfCommand sources (command.Convert source convert) old new result = Converts sources source.now convert old new result × ConvertsBack sources source.now convert old new result
 WritesOfCommand sources (command.Draw source tree drawing) old new result = Draws sources source.now tree drawing old new result
-WritesOfCommand sources (command.Deps source deps drawing) old new result = ⊤
+WritesOfCommand sources (command.Deps source deps drawing) old new result = DrawsPairs sources source.now deps drawing old new result
 WritesOfCommand sources (command.Indented source indented) old new result = Writes old new result (IsIndentation sources source.now indented) (FailsToIndent sources source.now indented)
 WritesOfCommand sources (command.Check inputs pieces screen) old new result = WritesSaid old new result (AreReports sources inputs.now pieces screen.is_terminal)
 WritesOfCommand sources (command.Diff left right diff) old new result = Compares sources left.now right.now diff old new result

@@ -1,8 +1,12 @@
 //! Dependencies of lock files and of lists of pairs.
-ghost use Rattle.std.specs.Prelude.{◌≡◌, true, IfOk, string_bytes};
+ghost use Rattle.std.specs.Prelude.{◌≡◌, ⊤, true, [], length, map, Any, IfSome, IfOk, IfErr, OnOk, string_bytes};
 ghost use Rattle.std.specs.Str.{NoCharPasses};
+ghost use Rattle.ptree.specs.Graph.{weights_of, edges_of, LacksNode};
 ghost use Rattle.ptree_trees.specs.Escape.{is_hidden};
-ghost use Rattle.trees.specs.Shown.{AreShownLabels};
+ghost use Rattle.trees.specs.Depending.{IsPairFile, IsGraphOfPairs, IsNoName, HoldsNoGraph};
+ghost use Rattle.trees.specs.DependingParts.{labels_of, needs_of, AreApart, HasRoot, HoldsNone, IsEmpty, IsNetworkOf, IsTopped};
+ghost use Rattle.trees.specs.Reading.{IsInput, FailsFor};
+ghost use Rattle.trees.specs.Shown.{shown_text, AreShownLabels};
 
 mod npm;
 mod packages;
@@ -51,12 +55,18 @@ pub struct Network {
 }
 
 impl Network {
+    ghost use Rattle.trees.specs.Depending.{directed};
+    ghost use Rattle.trees.specs.DependingParts.{IsIndexed, AddsEdge};
+
     /// Adds what a node needs, unless it is there.
     ///
     /// # Errors
     ///
     /// Memory ran out.
-    pub fn add_need(&mut self, node: usize, need: usize) -> Result<(), AllocError> {
+    pub fn add_need(&mut self, node: usize, need: usize) -> Result<(), AllocError>
+        ensures added { IsIndexed self.old
+            → OnOk result (AddsEdge self.old self.new (directed self.old.is_inverse (node, need))) }
+    {
         let (from, to) = if self.is_inverse {
             (need, node)
         } else {
@@ -86,6 +96,10 @@ pub fn read_dependencies(
     is_terminal: bool,
 ) -> Result<Dependencies, Failure>
     ensures labels { IfOk result (λ d. is_terminal ≡ true → AreShownLabels d.graph) }
+    ensures pairs { IsPairFile source.now → IfOk result
+        (IsGraphOfPairs source.now deps.entry.root deps.entry.is_inverse is_terminal) }
+    ensures failed { IsPairFile source.now
+        → IfErr result (FailsFor (HoldsNoGraph source.now deps.entry.root) ⊥) }
 {
     let mut network = Network {
         labels: Vec::new(alloc),
@@ -109,12 +123,13 @@ fn drawn(
     is_terminal: bool,
 ) -> Result<Dependencies, Failure>
     ensures labels { IfOk result (λ d. is_terminal ≡ true → AreShownLabels d.graph) }
+    ensures pairs { IsPairFile source.now → IsEmpty network.old → IfOk result
+        (IsGraphOfPairs source.now name.entry network.old.is_inverse is_terminal) }
+    ensures failed { IsPairFile source.now → IsEmpty network.old
+        → IfErr result (FailsFor (HoldsNoGraph source.now name.entry) ⊥) }
 {
     read_network(alloc, source, network)?;
-    let root = match name {
-        Some(name) => root::named(alloc, source, network, name)?,
-        None => top(alloc, source.label(), network)?,
-    };
+    let root = root_of(alloc, source, network, name)?;
     // A node's neighbours are drawn newest edge first.
     network.edges.reverse();
     let graph = graph(alloc, source, network, is_terminal)?;
@@ -122,7 +137,11 @@ fn drawn(
 }
 
 // Reads the dependencies of an input in one of the forms.
-fn read_network(alloc: Global, source: &Source, network: &mut Network) -> Result<(), Failure> {
+fn read_network(alloc: Global, source: &Source, network: &mut Network) -> Result<(), Failure>
+    ensures held { IsPairFile source.now → IsEmpty network.old → OnOk result
+        (IsNetworkOf source.now network.old.is_inverse network.new) }
+    ensures failed { IsPairFile source.now → IfErr result (FailsFor (HoldsNone source.now) ⊥) }
+{
     let text = source.unmarked();
     if let Some(wrong) = form_not_read(source) {
         Err(source.wrong(alloc, wrong)?)
@@ -136,7 +155,9 @@ fn read_network(alloc: Global, source: &Source, network: &mut Network) -> Result
 }
 
 // Says of a file that is no lock file, or looks like pairs of words, that it is not read.
-fn form_not_read(source: &Source) -> Option<&'static str> {
+fn form_not_read(source: &Source) -> Option<&'static str>
+    ensures { IfSome result (λ _. IsPairFile source.now → ⊥) }
+{
     match source.label() {
         "pnpm-lock.yaml" => return Some(PNPM),
         "yarn.lock" => return Some(YARN),
@@ -155,11 +176,31 @@ fn form_not_read(source: &Source) -> Option<&'static str> {
     None
 }
 
+// Returns the node with a name, or else what nothing needs.
+fn root_of(
+    alloc: Global,
+    source: &Source,
+    network: &mut Network,
+    name: Option<&str>,
+) -> Result<NodeIndex, Failure>
+    ensures root { network.old.paths.items ≡ [] → IfOk result
+        (λ r. HasRoot source.now name.entry network.old network.new r.0) }
+    ensures failed { network.old.paths.items ≡ [] → AreApart (labels_of network.old)
+        → IfErr result (FailsFor (IsNoName name.entry (labels_of network.old)) ⊥) }
+{
+    match name {
+        Some(name) => root::named(alloc, source, network, name),
+        None => Ok(top(alloc, source.label(), network)?),
+    }
+}
+
 // Returns what nothing needs. If there are several nodes, they get one with this label above them.
-fn top(alloc: Global, label: &str, network: &mut Network) -> Result<NodeIndex, AllocError> {
+fn top(alloc: Global, label: &str, network: &mut Network) -> Result<NodeIndex, AllocError>
+    ensures { IfOk result (λ r. IsTopped label.now network.old network.new r.0) }
+{
     let tops = root::tops(alloc, network)?;
-    if let [only] = tops.as_slice() {
-        return Ok(NodeIndex(*only));
+    if tops.len() == 1 {
+        return Ok(NodeIndex(tops[0]));
     }
     let above = NodeIndex(network.labels.len());
     network.labels.push(String::from_str(alloc, label)?)?;
@@ -177,6 +218,11 @@ fn graph(
     is_terminal: bool,
 ) -> Result<Graph<String>, Failure>
     ensures labels { IfOk result (λ g. is_terminal ≡ true → AreShownLabels g) }
+    ensures texts { IfOk result (λ g.
+        map string_bytes (weights_of g) ≡ map (shown_text is_terminal) (labels_of network.now)) }
+    ensures edges { IfOk result (λ g. edges_of g ≡ needs_of network.now) }
+    ensures failed { IfErr result (FailsFor
+        (Any (LacksNode (length (labels_of network.now))) network.now.edges.items) ⊥) }
 {
     let mut graph = Graph::new(alloc);
     for label in &network.labels {
@@ -191,7 +237,9 @@ fn graph(
 
 // Returns a label as it is shown.
 fn shown(alloc: Global, label: &str, is_terminal: bool) -> Result<String, AllocError>
-    ensures { IfOk result (λ s. is_terminal ≡ true → NoCharPasses is_hidden (string_bytes s)) }
+    ensures hidden { IfOk result (λ s.
+        is_terminal ≡ true → NoCharPasses is_hidden (string_bytes s)) }
+    ensures text { IfOk result (λ s. string_bytes s ≡ shown_text is_terminal label.now) }
 {
     if is_terminal {
         escaped(alloc, label)
@@ -201,12 +249,16 @@ fn shown(alloc: Global, label: &str, is_terminal: bool) -> Result<String, AllocE
 }
 
 // Says what is wrong with an input, in parts that may be names of the input.
-fn wrong(alloc: Global, source: &Source, parts: &[&str]) -> Failure {
+fn wrong(alloc: Global, source: &Source, parts: &[&str]) -> Failure
+    ensures { FailsFor ⊤ ⊥ result }
+{
     said(alloc, source, parts).unwrap_or(Failure::Memory)
 }
 
 // Says what is wrong with an input.
-fn said(alloc: Global, source: &Source, parts: &[&str]) -> Result<Failure, AllocError> {
+fn said(alloc: Global, source: &Source, parts: &[&str]) -> Result<Failure, AllocError>
+    ensures { IfOk result IsInput }
+{
     let mut words = String::new(alloc);
     for part in parts {
         words.push_str(part)?;

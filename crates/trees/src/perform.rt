@@ -1,5 +1,5 @@
 //! Does what a command asks for.
-ghost use Rattle.std.specs.Prelude.{◌≡◌, ◌≢◌, ◌↔◌, ◌++◌, ⊤, ℕ, false, List, length, All, IsTrue, IfOk, IfErr, IsErr, OnOk, option_map, string_bytes};
+ghost use Rattle.std.specs.Prelude.{◌≡◌, ◌≢◌, ◌<◌, ◌↔◌, ◌++◌, ℕ, false, List, length, All, IsTrue, IfOk, IfErr, IsErr, OnOk, option_map, string_bytes};
 ghost use Rattle.ptree.specs.declared.print_config.OutputKind.TheVariants.{Unknown};
 ghost use Rattle.ptree.specs.Config.{config_of};
 ghost use Rattle.ptree.specs.Drawing.{look_by};
@@ -16,7 +16,7 @@ ghost use Rattle.trees.specs.Merging.{IsMergeDrawing};
 ghost use Rattle.trees.specs.Reading.{HoldsDrawing, HoldsNoOther, HoldsSome, IsRedrawn, FailsFor, FailsToRead, FailsToMake, NamesPlace, IsReport, Adds, item_word, count_line};
 ghost use Rattle.trees.specs.Shown.{IsNone, ShowsOnly};
 ghost use Rattle.trees.specs.Telling.{TellsWhether, TellsOfCommand};
-ghost use Rattle.trees.specs.Writing.{WritesSaid, AreReports, Writes, IsTreeDrawing, IsGraphDrawing, WritesDrawn, IsIndentation, FailsToIndent, IsGiven, FailsToGive, Draws, Converts, ConvertsBack, WritesOfCommand, ShowsOfCommand, ShowsDrawing, ShowsMerged, LeavesIfWrong, WritesRefusal, Compares};
+ghost use Rattle.trees.specs.Writing.{WritesSaid, AreReports, Writes, IsTreeDrawing, IsGraphDrawing, WritesDrawn, IsIndentation, FailsToIndent, IsGiven, FailsToGive, Draws, DrawsPairs, Converts, ConvertsBack, WritesOfCommand, ShowsOfCommand, ShowsDrawing, ShowsMerged, LeavesIfWrong, WritesRefusal, Compares};
 
 use crate::command::{Command, Convert, Deps, Diff, Drawing, Indented, Paths, Tree};
 use crate::compare::{self, Look};
@@ -305,6 +305,8 @@ fn draw_deps<W: Sink>(
     out: &mut W,
     found: &Surroundings,
 ) -> Result<(), Failure>
+    ensures written { DrawsPairs found.now.sources source.now deps.entry drawing
+        (W.contents out.old) (W.contents out.new) result }
     ensures quiet { LeavesIfWrong out.old out.new result }
     ensures shown { ShowsDrawing found.now.sources drawing
         (W.contents out.old) (W.contents out.new) }
@@ -326,7 +328,8 @@ fn write_graph<W: Sink>(
     config: &PrintConfig,
 ) -> Result<(), Failure>
     ensures written { Writes (W.contents out.old) (W.contents out.new) result
-        (IsGraphDrawing (config_of config.now) dependencies.now walks) (FailsFor ⊤ ⊥) }
+        (IsGraphDrawing (config_of config.now) dependencies.now walks)
+        (FailsFor (5000 < (config_of config.now).depth) ⊥) }
     ensures quiet { LeavesIfWrong out.old out.new result }
 {
     let Dependencies { graph, root } = dependencies;

@@ -1,4 +1,11 @@
 //! Lines of two words.
+ghost use Rattle.std.specs.Cmp.Lexicographic.{slice_cmp};
+ghost use Rattle.std.specs.List.Sorted.{IsStrictlySortedBy};
+ghost use Rattle.std.specs.Ordering.{nat_cmp};
+ghost use Rattle.std.specs.Prelude.{◌≡◌, true, map, Contains, IfOk, IfErr, OnOk, OnErr};
+ghost use Rattle.trees.specs.Depending.{words_of, number, AreNames, HoldsPairs};
+ghost use Rattle.trees.specs.DependingParts.{texts_of, found_words, are_no_pair, HasPairs, HoldsNone, IsEmpty, IsNetworkOf};
+ghost use Rattle.trees.specs.Reading.{FailsFor, FailsToMake};
 
 use crate::deps::Network;
 use crate::failure::Failure;
@@ -10,67 +17,98 @@ use std::alloc::{AllocError, Global};
 /// # Errors
 ///
 /// `Input` with the line that has another number of words, or if there is none, and `Memory`.
-pub fn pairs(alloc: Global, source: &Source, network: &mut Network) -> Result<(), Failure> {
-    let words = words(alloc, source)?;
-    if words.is_empty() {
+pub fn pairs(alloc: Global, source: &Source, network: &mut Network) -> Result<(), Failure>
+    ensures held { IsEmpty network.old → OnOk result
+        (IsNetworkOf source.now network.old.is_inverse network.new) }
+    ensures failed { IfErr result (FailsFor (HoldsNone source.now) ⊥) }
+{
+    let pairs = line_pairs(alloc, source)?;
+    if pairs.is_empty() {
         return Err(source.wrong(alloc, "empty")?);
     }
-    let mut names = words.clone()?;
-    names.sort_unstable();
-    names.dedup();
-    push_pairs(alloc, &words, &names, network)?;
-    Ok(())
+    let names = names(alloc, &pairs)?;
+    Ok(push_pairs(alloc, &pairs, &names, network)?)
 }
 
-// Adds the nodes with these names, which ascend, and the needs of pairs of words.
+// Returns the words of pairs, each once, in ascending order.
+fn names<'a>(alloc: Global, pairs: &[(&'a str, &'a str)]) -> Result<Vec<&'a str>, AllocError>
+    ensures { IfOk result (λ names.
+        AreNames (map texts_of pairs.now) (map (λ n. n.now) names.items)) }
+{
+    let mut names = Vec::new(alloc);
+    for (first, second) in pairs {
+        names.push(*first)?;
+        names.push(*second)?;
+    }
+    names.sort_unstable();
+    names.dedup();
+    Ok(names)
+}
+
+// Returns the number of a word that is among names.
+fn number(names: &[&str], word: &str) -> usize
+    requires ascending { IsStrictlySortedBy (slice_cmp nat_cmp) (map (λ n. n.now) names.now) }
+    requires known { Contains (map (λ n. n.now) names.now) word.now }
+    ensures { result ≡ number (map (λ n. n.now) names.now) word.now }
+{
+    match names.binary_search(&word) {
+        Ok(number) => number,
+        Err(place) => place,
+    }
+}
+
+// Adds the nodes with these names, and the edges of pairs.
 fn push_pairs(
     alloc: Global,
-    words: &[&str],
+    pairs: &[(&str, &str)],
     names: &[&str],
     network: &mut Network,
-) -> Result<(), AllocError> {
+) -> Result<(), AllocError>
+    requires { AreNames (map texts_of pairs.now) (map (λ n. n.now) names.now) }
+    ensures { IsEmpty network.old → OnOk result
+        (HasPairs network.old.is_inverse (map texts_of pairs.now) network.new) }
+{
     for name in names {
         network.labels.push(String::from_str(alloc, name)?)?;
     }
-    for pair in words.chunks(2) {
-        let [first, second] = pair else {
-            continue;
-        };
-        match (names.binary_search(first), names.binary_search(second)) {
-            (Ok(node), Ok(need)) if node != need => network.add_need(node, need)?,
-            _ => {}
+    for (first, second) in pairs {
+        if first != second {
+            network.add_need(number(names, first), number(names, second))?;
         }
     }
     Ok(())
 }
 
-// Returns the two words of a line, or else what is wrong with it.
-fn pair(line: &str) -> Result<(&str, &str), &'static str> {
-    let Some((first, second)) = line.split_once(char::is_whitespace) else {
+// Returns the two words of a line, or nothing of a blank one, or else what is wrong with it.
+fn pair(line: &str) -> Result<Option<(&str, &str)>, &'static str>
+    ensures words { IfOk result (λ found. words_of line.now ≡ found_words found) }
+    ensures wrong { OnErr result (are_no_pair (words_of line.now) ≡ true) }
+{
+    let mut words = line.split_whitespace();
+    let Some(first) = words.next() else {
+        return Ok(None);
+    };
+    let Some(second) = words.next() else {
         return Err("expected two words, found one");
     };
-    let second = second.trim_start();
-    if second.contains(char::is_whitespace) {
-        return Err("expected two words, found more");
+    match words.next() {
+        None => Ok(Some((first, second))),
+        Some(_) => Err("expected two words, found more"),
     }
-    Ok((first, second))
 }
 
-// Returns the words of lines of two words.
-fn words<'a>(alloc: Global, source: &'a Source) -> Result<Vec<&'a str>, Failure> {
-    let mut words = Vec::new(alloc);
+// Returns the pairs of words on the lines that are not blank.
+fn line_pairs<'a>(alloc: Global, source: &'a Source) -> Result<Vec<(&'a str, &'a str)>, Failure>
+    ensures held { IfOk result (λ found. HoldsPairs source.now (map texts_of found.items)) }
+    ensures failed { IfErr result (FailsToMake ⊥ (HoldsPairs source.now)) }
+{
+    let mut found = Vec::new(alloc);
     for (i, line) in source.unmarked().lines().enumerate() {
-        let line = line.trim();
-        if line.is_empty() {
-            continue;
-        }
         match pair(line) {
-            Ok((first, second)) => {
-                words.push(first)?;
-                words.push(second)?;
-            }
+            Ok(Some(words)) => found.push(words)?,
+            Ok(None) => {}
             Err(fault) => return Err(source.wrong_at(alloc, i.saturating_add(1), fault)?),
         }
     }
-    Ok(words)
+    Ok(found)
 }

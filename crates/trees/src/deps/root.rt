@@ -1,4 +1,8 @@
 //! The root of what is drawn.
+ghost use Rattle.std.specs.Prelude.{◌≡◌, ◌≢◌, ◌<◌, ⊤, true, [], ◌∷◌, length, map, All, Contains, IfOk, IfErr};
+ghost use Rattle.std.specs.Str.{bytes_eq};
+ghost use Rattle.trees.specs.DependingParts.{labels_of, places_of, AreApart, IsNamed};
+ghost use Rattle.trees.specs.Reading.{FailsFor};
 
 use crate::deps::{Network, wrong};
 use crate::failure::Failure;
@@ -18,12 +22,32 @@ pub fn named(
     source: &Source,
     network: &Network,
     name: &str,
-) -> Result<NodeIndex, Failure> {
-    let mut found = nodes(alloc, network, name, true)?;
-    if found.is_empty() {
-        found = nodes(alloc, network, name, false)?;
+) -> Result<NodeIndex, Failure>
+    ensures root { network.now.paths.items ≡ []
+        → IfOk result (λ r. IsNamed (labels_of network.now) name.now r.0) }
+    ensures failed { network.now.paths.items ≡ [] → AreApart (labels_of network.now)
+        → IfErr result (FailsFor (Contains (labels_of network.now) name.now → ⊥) ⊥) }
+{
+    let whole = nodes(alloc, network, name, true)?;
+    if !whole.is_empty() {
+        return only(alloc, source, network, name, &whole);
     }
-    match found.as_slice() {
+    let parts = nodes(alloc, network, name, false)?;
+    only(alloc, source, network, name, &parts)
+}
+
+// Returns the only one of the nodes that have a name.
+fn only(
+    alloc: Global,
+    source: &Source,
+    network: &Network,
+    name: &str,
+    found: &[NodeIndex],
+) -> Result<NodeIndex, Failure>
+    ensures only { IfOk result (λ r. found.now ≡ r ∷ []) }
+    ensures failed { IfErr result (FailsFor (length found.now ≢ 1) ⊥) }
+{
+    match found {
         [only] => Ok(*only),
         [] => Err(unknown(alloc, source, network, name)),
         several => Err(ambiguous(alloc, source, network, name, several)?),
@@ -36,23 +60,32 @@ fn nodes(
     network: &Network,
     name: &str,
     is_whole: bool,
-) -> Result<Vec<NodeIndex>, AllocError> {
+) -> Result<Vec<NodeIndex>, AllocError>
+    ensures nodes { IfOk result (λ found.
+        All (λ n. n.0 < length (labels_of network.now)) found.items) }
+    ensures named { is_whole ≡ true → network.now.paths.items ≡ [] → IfOk result (λ found.
+        map (λ n. n.0) found.items ≡ places_of (labels_of network.now) name.now) }
+{
     let mut found = Vec::new(alloc);
     for (i, label) in network.labels.iter().enumerate() {
-        let has_path = match network.paths.get(i) {
-            Some(path) => path.as_str() == name,
-            None => false,
-        };
-        let is_meant = if is_whole {
-            label.as_str() == name || has_path
-        } else {
-            is_named(label.as_str(), name)
-        };
-        if is_meant {
+        if is_meant(network, i, label.as_str(), name, is_whole) {
             found.push(NodeIndex(i))?;
         }
     }
     Ok(found)
+}
+
+// Whether a name means a node: all of its label or path, or a part of its label.
+fn is_meant(network: &Network, node: usize, label: &str, name: &str, is_whole: bool) -> bool
+    ensures { is_whole ≡ true → network.now.paths.items ≡ [] → result ≡ bytes_eq label.now name.now }
+{
+    if !is_whole {
+        return is_named(label, name);
+    }
+    match network.paths.get(node) {
+        Some(path) => label == name || path.as_str() == name,
+        None => label == name,
+    }
 }
 
 // Whether a text is a name, alone or with a version behind it.
@@ -96,7 +129,9 @@ fn parts(text: &str) -> (&str, &str) {
 }
 
 // Says that no node has a name, and which name may be meant.
-fn unknown(alloc: Global, source: &Source, network: &Network, name: &str) -> Failure {
+fn unknown(alloc: Global, source: &Source, network: &Network, name: &str) -> Failure
+    ensures { FailsFor ⊤ ⊥ result }
+{
     let mut nearest = Nearest::to(name);
     for label in &network.labels {
         nearest.try_word(parts(label.as_str()).0);
@@ -118,7 +153,9 @@ fn ambiguous(
     network: &Network,
     name: &str,
     found: &[NodeIndex],
-) -> Result<Failure, AllocError> {
+) -> Result<Failure, AllocError>
+    ensures { IfOk result (FailsFor ⊤ ⊥) }
+{
     let mut words = format!(in alloc; "several packages are named {name}")?;
     let mut between = ": ";
     for node in found {
@@ -148,19 +185,10 @@ fn push_node(
 /// # Errors
 ///
 /// Memory ran out.
-pub fn tops(alloc: Global, network: &Network) -> Result<Vec<usize>, AllocError> {
-    let mut needed = vec![in alloc; false; network.labels.len()]?;
-    for (_, to) in &network.sorted {
-        mark(&mut needed, *to);
-    }
-    let mut nodes = Vec::new(alloc);
-    for is_needed in [false, true] {
-        for (i, marked) in needed.iter().enumerate() {
-            if *marked == is_needed {
-                nodes.push(i)?;
-            }
-        }
-    }
+pub fn tops(alloc: Global, network: &Network) -> Result<Vec<usize>, AllocError>
+    ensures { IfOk result (λ tops. All (λ t. t < length (labels_of network.now)) tops.items) }
+{
+    let nodes = in_turn(alloc, &needed(alloc, network)?)?;
     // None of the first ones reaches a later one, and those that a later one reaches are no tops.
     let mut firsts = firsts(alloc, network, &nodes)?;
     firsts.reverse();
@@ -169,8 +197,36 @@ pub fn tops(alloc: Global, network: &Network) -> Result<Vec<usize>, AllocError> 
     Ok(tops)
 }
 
+// Returns which nodes are needed.
+fn needed(alloc: Global, network: &Network) -> Result<Vec<bool>, AllocError>
+    ensures { IfOk result (λ needed. length needed.items ≡ length (labels_of network.now)) }
+{
+    let mut needed = vec![in alloc; false; network.labels.len()]?;
+    for (_, to) in &network.sorted {
+        mark(&mut needed, *to);
+    }
+    Ok(needed)
+}
+
+// Returns the nodes that are not needed, and then those that are.
+fn in_turn(alloc: Global, needed: &[bool]) -> Result<Vec<usize>, AllocError>
+    ensures { IfOk result (λ nodes. All (λ t. t < length needed.now) nodes.items) }
+{
+    let mut nodes = Vec::new(alloc);
+    for is_needed in [false, true] {
+        for (i, marked) in needed.iter().enumerate() {
+            if *marked == is_needed {
+                nodes.push(i)?;
+            }
+        }
+    }
+    Ok(nodes)
+}
+
 // Returns those of these nodes that none before them reaches.
-fn firsts(alloc: Global, network: &Network, nodes: &[usize]) -> Result<Vec<usize>, AllocError> {
+fn firsts(alloc: Global, network: &Network, nodes: &[usize]) -> Result<Vec<usize>, AllocError>
+    ensures { IfOk result (λ firsts. All (Contains nodes.now) firsts.items) }
+{
     let mut reached = vec![in alloc; false; network.labels.len()]?;
     let mut firsts = Vec::new(alloc);
     for node in nodes {

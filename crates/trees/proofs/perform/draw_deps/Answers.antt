@@ -1,19 +1,51 @@
-use Rattle.std.proofs.Common.{rules}
-use Rattle.std.specs.Prelude.{⊤}
+use Rattle.std.proofs.Common.{◌<◌, inl, inr, rules}
+use Rattle.std.specs.Prelude.{◌⊎◌, IsErr, IfErr}
 use Rattle.trees.specs.Asked.{drawing_value}
+use Rattle.trees.specs.Depending.{HoldsNoGraph}
 use Rattle.trees.specs.Reading.{FailsFor}
-use Rattle.trees.specs.Writing.{Writes, IsGraphDrawing}
+use Rattle.trees.specs.Writing.{Writes, IsGraphDrawing, IsPairDrawing, FailsToDepend}
+use Rattle.trees.proofs.Readings.{fails_weaker}
 use Rattle.trees.proofs.Shown.{dependencies_shown, drawing_nothing}
+use Rattle.trees.proofs.Writings.{writes_weaker, nothing_written}
 use Rattle.trees.proofs.perform.draw_deps.Goals as goal
+
+-- the graph that is drawn is that of the pairs
+pub returns-clause-written : goal.returns-clause-written
+returns-clause-written g c = λ is.
+    let sources = c.args.found.now.sources in
+    let source = c.args.source.now in
+    let deps = c.args.deps in
+    let drawing = c.args.drawing in
+    let config = drawing_value sources drawing in
+    let found = c.in_ok-dependencies.dependencies in
+    let old = g.W.Sink.contents c.args.out.now in
+    let new = g.W.Sink.contents c.draw-drawn.new.out in
+    let drawn : Writes old new c.draw-drawn.result (IsGraphDrawing config found deps.walks) (FailsFor (5000 < config.depth) ⊥) = search rules in
+    writes_weaker old new c.draw-drawn.result (IsGraphDrawing config found deps.walks) (IsPairDrawing sources source deps drawing) (FailsFor (5000 < config.depth) ⊥) (FailsToDepend sources source deps drawing)
+    (λ bytes drawing'. (found, c.in_ok-dependencies.ensures.pairs is, drawing')) (λ e. fails_weaker (5000 < config.depth) (HoldsNoGraph source deps.root ⊎ (5000 < config.depth)) ⊥ e inr) drawn
+
+pub returns-in_err-dependencies-clause-written : goal.returns-in_err-dependencies-clause-written
+returns-in_err-dependencies-clause-written g c = λ is.
+    let sources = c.args.found.now.sources in
+    let source = c.args.source.now in
+    let deps = c.args.deps in
+    let drawing = c.args.drawing in
+    let r = c.from_residual.result in
+    let fails : FailsToDepend sources source deps drawing c.in_err-dependencies.field-0.0 =
+    fails_weaker (HoldsNoGraph source deps.root) (HoldsNoGraph source deps.root ⊎ (5000 < (drawing_value sources drawing).depth)) ⊥ c.in_err-dependencies.field-0.0 inl (c.in_err-dependencies.ensures.failed is) in
+    let says : IfErr r (FailsToDepend sources source deps drawing) = search (rules, fails) in
+    let err : IsErr r = search rules in
+    nothing_written (g.W.Sink.contents c.args.out.now) r (IsPairDrawing sources source deps drawing) (FailsToDepend sources source deps drawing) err says
 
 -- the labels are as a terminal may get them
 pub returns-clause-shown : goal.returns-clause-shown
 returns-clause-shown g c =
     let found = c.in_ok-dependencies.dependencies in
+    let config = drawing_value c.args.found.now.sources c.args.drawing in
     let old = g.W.Sink.contents c.args.out.now in
     let new = g.W.Sink.contents c.draw-drawn.new.out in
-    let drawn : Writes old new c.draw-drawn.result (IsGraphDrawing (drawing_value c.args.found.now.sources c.args.drawing) found c.args.deps.walks) (FailsFor ⊤ ⊥) = search rules in
-    dependencies_shown c.args.found.now.sources c.args.drawing found c.args.deps.walks (FailsFor ⊤ ⊥) old new c.draw-drawn.result c.in_ok-dependencies.ensures.labels drawn
+    let drawn : Writes old new c.draw-drawn.result (IsGraphDrawing config found c.args.deps.walks) (FailsFor (5000 < config.depth) ⊥) = search rules in
+    dependencies_shown c.args.found.now.sources c.args.drawing found c.args.deps.walks (FailsFor (5000 < config.depth) ⊥) old new c.draw-drawn.result c.in_ok-dependencies.ensures.labels drawn
 
 pub returns-in_err-dependencies-clause-shown : goal.returns-in_err-dependencies-clause-shown
 returns-in_err-dependencies-clause-shown g c = drawing_nothing c.args.found.now.sources c.args.drawing (g.W.Sink.contents c.args.out.now)

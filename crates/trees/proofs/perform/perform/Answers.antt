@@ -21,6 +21,11 @@ returns-in-Draw-clause-written g c =
     subst (λ command. WritesOfCommand c.args.found.now.sources command (g.W.Sink.contents c.args.out.now) (g.W.Sink.contents c.draw_source.new.out) c.draw_source.result)
     (sym c.in-Draw.is) c.draw_source.ensures.written
 
+pub returns-in-Deps-clause-written : goal.returns-in-Deps-clause-written
+returns-in-Deps-clause-written g c =
+    subst (λ command. WritesOfCommand c.args.found.now.sources command (g.W.Sink.contents c.args.out.now) (g.W.Sink.contents c.draw_deps.new.out) c.draw_deps.result) (sym c.in-Deps.is)
+    c.draw_deps.ensures.written
+
 pub returns-in-Draw-clause-shown : goal.returns-in-Draw-clause-shown
 returns-in-Draw-clause-shown g c =
     subst (λ command. ShowsOfCommand c.args.found.now.sources command (g.W.Sink.contents c.args.out.now) (g.W.Sink.contents c.draw_source.new.out)) (sym c.in-Draw.is) c.draw_source.ensures.shown

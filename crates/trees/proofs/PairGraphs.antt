@@ -1,0 +1,223 @@
+-- Graphs of pairs of words.
+use Rattle.std.proofs.Common.{◌≡◌, ◌≢◌, ◌∙◌, ℕ, zero, suc, ◌+◌, ◌<◌, ◌≤◌, not, Bool, true, false, cond, List, [], ◌∷◌, ◌++◌, length, get_or, map, reverse, take, Option, Some, None, inl, inr, refl, sym, ap, subst, arith}
+use Rattle.std.proofs.Math.ListN.{get_or-map}
+use Rattle.std.proofs.lemmas.List.{length-map, map-append, reverse-append, take_all, take_more}
+use Rattle.std.proofs.lemmas.List.Elements.{All-nil, All-cons, All-head, All-tail, All-append, All-filter, All-map, All-weaker, All-contains, Contains-append_right}
+use Rattle.std.proofs.lemmas.List.Sorted.{All-permutation, IsPermutation-reverse}
+use Rattle.std.proofs.lemmas.Map.Keys.{IsDistinct-from_sorted, IsDistinct-from_apart, apart_from_distinct}
+use Rattle.std.proofs.lemmas.Slice.Eq.{bytes_eq-Decides}
+use Rattle.std.specs.Borrow.{Bor}
+use Rattle.std.specs.Cmp.Lexicographic.{slice_cmp, texts_ties}
+use Rattle.std.specs.List.Sorted.{IsStrictlySortedBy}
+use Rattle.std.specs.Ordering.{eq_by_cmp, nat_cmp}
+use Rattle.std.specs.Prelude.{All, Any, Contains, filter, flat_map, String, string_bytes}
+use Rattle.std.specs.declared.alloc.Global.{Global}
+use Rattle.std.specs.Str.{bytes_eq}
+use Rattle.ptree.specs.declared.graph.NodeIndex.{NodeIndex}
+use Rattle.ptree.specs.Graph.{edges_of, numbers_of, turned, weights_of, LacksNode}
+use Rattle.trees.specs.declared.deps.Dependencies.{Dependencies}
+use Rattle.trees.specs.declared.deps.Network.{Network}
+use Rattle.trees.specs.declared.failure.Failure.{Failure}
+use Rattle.trees.specs.declared.source.Source.{Source}
+use Rattle.trees.specs.Depending.{pair_words, number, is_need, directed, edge_of, same_edge, firsts, edges_between, ArePairs, HoldsPairs, AreNames, StandsAbove, IsRooted, IsGraphOfPairs, IsNoName, HoldsNoGraph}
+use Rattle.trees.specs.DependingParts.{texts_of, labels_of, needs_of, AreApart, HasPairs, HasRoot, HoldsNone, IsNetworkOf}
+use Rattle.trees.specs.Reading.{FailsFor, FailsToMake}
+use Rattle.trees.specs.Shown.{shown_text}
+use Rattle.trees.proofs.SortedWords.{contains_mapped}
+use Rattle.trees.proofs.Pairs.{pairs_unique}
+use Rattle.trees.proofs.Readings.{fails_weaker}
+
+-- ## Words of pairs
+
+-- a pair has two of these words
+abbrev pub HasWords : List (List ℕ) → List ℕ × List ℕ → Type 0
+HasWords words p = Contains words p.0 × Contains words p.1
+
+pub words_known : (pairs : List (List ℕ × List ℕ)) → All (HasWords (flat_map pair_words pairs)) pairs
+words_known [] = All-nil (HasWords [])
+words_known (p ∷ pairs) =
+    let rest = flat_map pair_words pairs in
+    All-cons (HasWords (p.0 ∷ p.1 ∷ rest)) p pairs ((0, omega arith, refl), (1, omega arith, refl))
+    (All-weaker (HasWords rest) (HasWords (p.0 ∷ p.1 ∷ rest)) (λ q h. (Contains-append_right (p.0 ∷ p.1 ∷ []) rest q.0 h.0, Contains-append_right (p.0 ∷ p.1 ∷ []) rest q.1 h.1)) pairs (words_known pairs))
+
+-- and so two of the names
+pub names_known : (pairs : List (List ℕ × List ℕ)) (names : List (List ℕ)) → AreNames pairs names → All (HasWords names) pairs
+names_known pairs names are =
+    All-weaker (HasWords (flat_map pair_words pairs)) (HasWords names) (λ p h. ((are.words p.0).1 h.0, (are.words p.1).1 h.1)) pairs (words_known pairs)
+
+-- of the pair at a place
+pub pair_known : (ps : List (Bor (List ℕ) × Bor (List ℕ))) (names : List (List ℕ)) → AreNames (map texts_of ps) names → (i : ℕ) (d : Bor (List ℕ) × Bor (List ℕ)) → i < length ps → HasWords names (texts_of (get_or ps i d))
+pair_known ps names are i d low = subst (HasWords names) (get_or-map texts_of ps i d) (names_known (map texts_of ps) names are i (texts_of d) (rw length-map low))
+
+-- ## Numbers of words
+
+-- the number of a word that is there
+number_first : (x : List ℕ) (names : List (List ℕ)) (w : List ℕ) (b : Bool) → bytes_eq w x ≡ b → number (x ∷ names) w ≡ cond b 0 (1 + number names w)
+number_first x names w true e = ap (λ (c : Bool). cond (not c) (1 + number names w) 0) e
+number_first x names w false e = ap (λ (c : Bool). cond (not c) (1 + number names w) 0) e
+
+known_at : (names : List (List ℕ)) (w : List ℕ) (k : ℕ) → k < length names → get_or names k w ≡ w → number names w < length names
+known_at [] w k low is = absurd (omega arith)
+known_at (x ∷ names) w zero low is = let n = number_first x names w true ((bytes_eq-Decides w x).1 (sym is)) in omega (arith, n)
+known_at (x ∷ names) w (suc k) low is = test (bytes_eq w x) refl (known_at names w k (omega arith) is) where
+  test : (b : Bool) → bytes_eq w x ≡ b → number names w < length names → number (x ∷ names) w < length (x ∷ names)
+  test true e rest = let n = number_first x names w true e in omega (arith, n)
+  test false e rest = let n = number_first x names w false e in omega (arith, n)
+
+pub number_known : (names : List (List ℕ)) (w : List ℕ) → Contains names w → number names w < length names
+number_known names w c = known_at names w c.0 c.1 c.2
+
+-- an edge between the first nodes
+abbrev pub IsWithin : ℕ → ℕ × ℕ → Type 0
+IsWithin n e = (e.0 < n) × (e.1 < n)
+
+directed_within : (b : Bool) (n : ℕ) (e : ℕ × ℕ) → IsWithin n e → IsWithin n (directed b e)
+directed_within true n e h = (h.1, h.0)
+directed_within false n e h = h
+
+all_firsts : {X : Type 0} (P : X → Type 0) (same : X → X → Bool) (xs : List X) → All P xs → All P (firsts same xs)
+all_firsts P same [] h = h
+all_firsts P same (x ∷ xs) h =
+    All-cons P x (filter (λ y. not (same x y)) (firsts same xs)) (All-head P x xs h) (All-filter (λ y. not (same x y)) P (firsts same xs) (all_firsts P same xs (All-tail P x xs h)))
+
+-- the edges of pairs are between the names
+pub edges_within : (is_inverse : Bool) (pairs : List (List ℕ × List ℕ)) (names : List (List ℕ)) → AreNames pairs names → All (IsWithin (length names)) (edges_between is_inverse names pairs)
+edges_within is_inverse pairs names are =
+    let n : ℕ = length names in
+    all_firsts (IsWithin n) same_edge (map (edge_of is_inverse names) (filter is_need pairs))
+    (All-map (IsWithin n) (edge_of is_inverse names) (filter is_need pairs)
+    (All-filter is_need (λ p. IsWithin n (edge_of is_inverse names p)) pairs
+    (All-weaker (HasWords names) (λ p. IsWithin n (edge_of is_inverse names p)) (λ p h. directed_within is_inverse n (number names p.0, number names p.1) (number_known names p.0 h.0, number_known names p.1 h.1)) pairs (names_known pairs names are))))
+
+-- ## Roots
+
+-- edges to nodes below a further one
+tops_within : (n : ℕ) (tops : List ℕ) → All (λ t. t < n) tops → All (IsWithin (n + 1)) (map (λ t. (n, t)) tops)
+tops_within n tops low = All-map (IsWithin (n + 1)) (λ t. (n, t)) tops (All-weaker (λ t. t < n) (λ t. IsWithin (n + 1) (n, t)) (λ t h. (omega arith, omega arith)) tops low)
+
+more_within : (n : ℕ) (edges : List (ℕ × ℕ)) (tops : List ℕ) → All (IsWithin n) edges → All (λ t. t < n) tops → All (IsWithin (n + 1)) (edges ++ map (λ t. (n, t)) tops)
+more_within n edges tops all low =
+    All-append (IsWithin (n + 1)) edges (map (λ t. (n, t)) tops) (All-weaker (IsWithin n) (IsWithin (n + 1)) (λ e h. let a = h.0 in let b = h.1 in (omega arith, omega arith)) edges all) (tops_within n tops low)
+
+length_more : (names : List (List ℕ)) (label : List ℕ) → length (names ++ label ∷ []) ≡ length names + 1
+length_more [] label = refl
+length_more (x ∷ names) label = let rest = length_more names label in omega (arith, rest)
+
+above_within : (names : List (List ℕ)) (label : List ℕ) (edges : List (ℕ × ℕ)) (tops : List ℕ) (texts : List (List ℕ)) (all : List (ℕ × ℕ)) → All (IsWithin (length names)) edges → All (λ t. t < length names) tops
+    → texts ≡ names ++ label ∷ [] → all ≡ edges ++ map (λ t. (length names, t)) tops → All (IsWithin (length texts)) all
+above_within names label edges tops texts all within low labels is =
+    subst (λ (n : ℕ). All (IsWithin n) all) (sym (ap length labels ∙ length_more names label)) (subst (All (IsWithin (length names + 1))) (sym is) (more_within (length names) edges tops within low))
+
+same_within : (names : List (List ℕ)) (edges : List (ℕ × ℕ)) (texts : List (List ℕ)) (all : List (ℕ × ℕ)) → All (IsWithin (length names)) edges → texts ≡ names → all ≡ edges → All (IsWithin (length texts)) all
+same_within names edges texts all within labels is = subst (λ ts. All (IsWithin (length ts)) all) (sym labels) (subst (All (IsWithin (length names))) (sym is) within)
+
+stands_within : (label : List ℕ) (names : List (List ℕ)) (edges : List (ℕ × ℕ)) (tops : List ℕ) (texts : List (List ℕ)) (all : List (ℕ × ℕ)) (root : ℕ) → All (IsWithin (length names)) edges → All (λ t. t < length names) tops
+    → StandsAbove label names edges tops texts all root → All (IsWithin (length texts)) all
+stands_within label names edges [] texts all root within low h = above_within names label edges [] texts all within low h.1 h.2
+stands_within label names edges (top ∷ []) texts all root within low h = same_within names edges texts all within h.1 h.2
+stands_within label names edges (top ∷ u ∷ tops) texts all root within low h = above_within names label edges (top ∷ u ∷ tops) texts all within low h.1 h.2
+
+-- the edges of a graph from a root on are between its nodes
+pub rooted_within : (source : Source) (name : Option (Bor (List ℕ))) (names : List (List ℕ)) (edges : List (ℕ × ℕ)) (texts : List (List ℕ)) (all : List (ℕ × ℕ)) (root : ℕ) → All (IsWithin (length names)) edges
+    → IsRooted source name names edges texts all root → All (IsWithin (length texts)) all
+rooted_within source (Some name) names edges texts all root within h = same_within names edges texts all within h.2 h.3
+rooted_within source None names edges texts all root within h = stands_within h.0 names edges h.1 texts all root within h.3 h.4
+
+-- so no edge lacks a node
+pub none_lacks : (n : ℕ) (edges : List (NodeIndex × NodeIndex)) → All (IsWithin n) (map numbers_of edges) → Any (LacksNode n) edges → ⊥
+none_lacks n edges all any =
+    let e = any.1 in
+    let at = contains_mapped numbers_of edges e (any.0, any.2, any.3) in
+    let within = All-contains (IsWithin n) (map numbers_of edges) (numbers_of e) all at in
+    let a = within.0 in
+    let b = within.1 in
+    elim any.4 [ inl low ↦ let no' : ⊥ = omega arith in no' | inr low ↦ let no' : ⊥ = omega arith in no' ]
+
+-- ## Graphs
+
+-- names in ascending order are apart
+pub names_apart : (names : List (List ℕ)) → IsStrictlySortedBy (slice_cmp nat_cmp) names → AreApart names
+names_apart names up =
+    IsDistinct-from_apart bytes_eq names (λ i j d less low. texts_ties (get_or names i d) (get_or names j d) ∙ apart_from_distinct (eq_by_cmp (slice_cmp nat_cmp)) names i j d (IsDistinct-from_sorted (slice_cmp nat_cmp) names up) less low)
+
+-- a reversed list
+map_reversed : {X Y : Type 0} (f : X → Y) (xs : List X) → map f (reverse xs) ≡ reverse (map f xs)
+map_reversed f [] = refl
+map_reversed f (x ∷ xs) =
+    ap (map f) (reverse-append (x ∷ []) xs)
+    ∙ (map-append f (reverse xs) (x ∷ []) ∙ (ap (λ ys. ys ++ f x ∷ []) (map_reversed f xs) ∙ sym (reverse-append (f x ∷ []) (map f xs))))
+
+-- the labels of a graph, and one more
+pub label_shown : (is_terminal : Bool) (ws labels : List (String Global)) (i : ℕ) (w label : String Global) → i < length labels → label ≡ get_or labels i label → map string_bytes ws ≡ map (shown_text is_terminal) (map string_bytes (take i labels))
+    → string_bytes w ≡ shown_text is_terminal (string_bytes label) → map string_bytes (ws ++ w ∷ []) ≡ map (shown_text is_terminal) (map string_bytes (take (i + 1) labels))
+label_shown is_terminal ws labels i w label low is so text =
+    map-append string_bytes ws (w ∷ [])
+    ∙ (ap (λ ts. ts ++ string_bytes w ∷ []) so
+    ∙ (ap (λ (t : List ℕ). map (shown_text is_terminal) (map string_bytes (take i labels)) ++ t ∷ []) text
+    ∙ sym (ap (λ ls. map (shown_text is_terminal) (map string_bytes ls)) (take_more labels i label low ∙ ap (λ (l : String Global). take i labels ++ l ∷ []) (sym is))
+    ∙ (ap (map (shown_text is_terminal)) (map-append string_bytes (take i labels) (label ∷ [])) ∙ map-append (shown_text is_terminal) (map string_bytes (take i labels)) (string_bytes label ∷ [])))))
+
+-- as many nodes as labels
+pub same_count : (is_terminal : Bool) (ws labels : List (String Global)) (i : ℕ) → length labels ≤ i → map string_bytes ws ≡ map (shown_text is_terminal) (map string_bytes (take i labels)) → length ws ≡ length (map string_bytes labels)
+same_count is_terminal ws labels i end so =
+    sym (length-map ws string_bytes) ∙ (ap length (so ∙ ap (λ ls. map (shown_text is_terminal) (map string_bytes ls)) (take_all i labels end)) ∙ length-map (map string_bytes labels) (shown_text is_terminal))
+
+-- what is drawn of a network
+pub graph_held : (source : Source) (name : Option (Bor (List ℕ))) (is_inverse is_terminal : Bool) (read rooted drawn : Network) (d : Dependencies) → IsNetworkOf source is_inverse read → HasRoot source name read rooted d.root.0
+    → drawn.labels ≡ rooted.labels → drawn.edges.items ≡ reverse rooted.edges.items → map string_bytes (weights_of d.graph) ≡ map (shown_text is_terminal) (labels_of drawn) → edges_of d.graph ≡ needs_of drawn
+    → IsGraphOfPairs source name is_inverse is_terminal d
+graph_held source name is_inverse is_terminal read rooted drawn d is root labels turned texts edges = record {
+  pairs = is.pairs;
+  held = is.held;
+  some = is.some;
+  names = labels_of read;
+  are = is.has.names;
+  texts = labels_of rooted;
+  edges = needs_of rooted;
+  rooted = subst (λ es. IsRooted source name (labels_of read) es (labels_of rooted) (needs_of rooted) d.root.0) is.has.needs.edges root;
+  graph = record {
+    weights = texts ∙ ap (λ v. map (shown_text is_terminal) (map string_bytes v.items)) labels;
+    edges = edges ∙ (ap (map numbers_of) turned ∙ map_reversed numbers_of rooted.edges.items);
+  };
+}
+
+-- it has no edge without a node
+pub graph_whole : (source : Source) (name : Option (Bor (List ℕ))) (is_inverse : Bool) (read rooted drawn : Network) (root : ℕ) → IsNetworkOf source is_inverse read → HasRoot source name read rooted root
+    → drawn.labels ≡ rooted.labels → drawn.edges.items ≡ reverse rooted.edges.items → Any (LacksNode (length (labels_of drawn))) drawn.edges.items → ⊥
+graph_whole source name is_inverse read rooted drawn root is has labels turned =
+    let within = rooted_within source name (labels_of read) (needs_of read) (labels_of rooted) (needs_of rooted) root (subst (All (IsWithin (length (labels_of read)))) (sym is.has.needs.edges) (edges_within is_inverse is.pairs (labels_of read) is.has.names)) has in
+    none_lacks (length (labels_of drawn)) drawn.edges.items
+    (subst (λ v. All (IsWithin (length (map string_bytes v.items))) (needs_of drawn)) (sym labels)
+    (subst (All (IsWithin (length (labels_of rooted)))) (sym (ap (map numbers_of) turned ∙ map_reversed numbers_of rooted.edges.items)) (All-permutation (IsWithin (length (labels_of rooted))) (needs_of rooted) (reverse (needs_of rooted)) (IsPermutation-reverse (needs_of rooted)) within)))
+
+-- ## Failures
+
+-- a source without pairs has no graph
+pub fails_without : (source : Source) (name : Option (Bor (List ℕ))) (e : Failure) → FailsFor (HoldsNone source) ⊥ e → FailsFor (HoldsNoGraph source name) ⊥ e
+fails_without source name e says = fails_weaker (HoldsNone source) (HoldsNoGraph source name) ⊥ e (λ none pairs held. inl (none pairs held)) says
+
+-- a name that no node has is no word
+no_word : (name : Option (Bor (List ℕ))) (names : List (List ℕ)) (pairs : List (List ℕ × List ℕ)) → AreNames pairs names → IsNoName name names → IsNoName name (flat_map pair_words pairs)
+no_word None names pairs are none = none
+no_word (Some name) names pairs are none = λ c. none ((are.words name.now).1 c)
+
+pub fails_unnamed : (source : Source) (name : Option (Bor (List ℕ))) (is_inverse : Bool) (n : Network) (e : Failure) → IsNetworkOf source is_inverse n → FailsFor (IsNoName name (labels_of n)) ⊥ e → FailsFor (HoldsNoGraph source name) ⊥ e
+fails_unnamed source name is_inverse n e is says =
+    fails_weaker (IsNoName name (labels_of n)) (HoldsNoGraph source name) ⊥ e
+    (λ none pairs held. inr (subst (λ ps. IsNoName name (flat_map pair_words ps)) (pairs_unique is.pairs pairs (sym is.held ∙ held)) (no_word name (labels_of n) is.pairs is.has.names none))) says
+
+-- ## Networks
+
+-- a source whose lines are no pairs holds none
+pub fails_unheld : (source : Source) (e : Failure) → FailsToMake ⊥ (HoldsPairs source) e → FailsFor (HoldsNone source) ⊥ e
+fails_unheld source e says = fails_weaker ((pairs : List (List ℕ × List ℕ)) → HoldsPairs source pairs → ⊥) (HoldsNone source) ⊥ e (λ none pairs held. absurd (none pairs held)) says
+
+-- nor one that has no lines of words
+pub none_held : (source : Source) (found : List (Bor (List ℕ) × Bor (List ℕ))) → length found ≡ 0 → HoldsPairs source (map texts_of found) → HoldsNone source
+none_held source [] empty held = λ pairs other. pairs_unique pairs [] (sym other ∙ held)
+none_held source (p ∷ found) empty held = absurd (omega arith)
+
+-- a network of pairs that were found
+pub network_held : (source : Source) (is_inverse : Bool) (found : List (Bor (List ℕ) × Bor (List ℕ))) (n : Network) → length found ≢ 0 → HoldsPairs source (map texts_of found) → HasPairs is_inverse (map texts_of found) n → IsNetworkOf source is_inverse n
+network_held source is_inverse [] n some held has = absurd (some refl)
+network_held source is_inverse (p ∷ found) n some held has = record { pairs = map texts_of (p ∷ found); held = held; some = λ e. let no' : ⊥ = cc in no'; has = has }

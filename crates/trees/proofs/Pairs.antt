@@ -1,0 +1,85 @@
+-- Pairs of words on lines.
+use Rattle.std.specs.Prelude.{filter}
+use Rattle.std.proofs.Common.{◌≡◌, ◌∙◌, ℕ, ◌+◌, ◌<◌, Bool, true, false, List, [], ◌∷◌, ◌++◌, length, get_or, map, zero, suc, refl, sym, ap, arith}
+use Rattle.std.proofs.lemmas.Bool.{false≢true}
+use Rattle.std.specs.Borrow.{Bor}
+use Rattle.std.specs.List.{enumerate_from}
+use Rattle.std.specs.Str.Lines.{lines}
+use Rattle.ptree.proofs.Trees.ItemTrees.{map_twice}
+use Rattle.std.proofs.Math.ListN.{get_or-map}
+use Rattle.std.proofs.lemmas.List.{append-nil, map-append, length-map}
+use Rattle.std.proofs.lemmas.List.Elements.{filter-append}
+use Rattle.trees.specs.Depending.{words_of, has_words, pair_words, ArePairs}
+use Rattle.trees.specs.DependingParts.{texts_of, are_no_pair}
+
+-- ## Lines
+
+-- no such words are a pair
+not_two : (ws : List (List ℕ)) (p : List ℕ × List ℕ) → are_no_pair ws ≡ true → ws ≡ pair_words p → ⊥
+not_two ws p wrong e = false≢true (sym (ap are_no_pair e) ∙ wrong)
+
+-- so lines with such words are no pairs
+none_among : (ls : List (List (List ℕ))) (pairs : List (List ℕ × List ℕ)) (k : ℕ) (d : List (List ℕ)) → k < length ls → are_no_pair (get_or ls k d) ≡ true → filter has_words ls ≡ map pair_words pairs → ⊥
+none_among [] pairs k d low wrong e = absurd (omega arith)
+none_among ((w ∷ ws) ∷ ls) [] k d low wrong e = cc
+none_among ((w ∷ ws) ∷ ls) (p ∷ pairs) zero d low wrong e = not_two (w ∷ ws) p wrong (cc)
+none_among ((w ∷ ws) ∷ ls) (p ∷ pairs) (suc k) d low wrong e = none_among ls pairs k d (omega arith) wrong (cc)
+none_among ([] ∷ ls) pairs zero d low wrong e = false≢true wrong
+none_among ([] ∷ ls) pairs (suc k) d low wrong e = none_among ls pairs k d (omega arith) wrong e
+
+-- what stands in a numbered list
+in_numbered : {X : Type 0} (xs : List X) (n k : ℕ) (x : ℕ × X) → k < length (enumerate_from n xs) → x ≡ get_or (enumerate_from n xs) k x → (k < length xs) × (x.1 ≡ get_or xs k x.1)
+in_numbered [] n k x low is = absurd (omega arith)
+in_numbered (y ∷ xs) n zero x low is = (omega arith, ap (λ p. p.1) is)
+in_numbered (y ∷ xs) n (suc k) x low is = let rest = in_numbered xs (n + 1) k x (omega arith) is in (omega arith, rest.1)
+
+pub numbered : {X : Type 0} (xs : List X) (n : ℕ) → map (λ p. p.1) (enumerate_from n xs) ≡ xs
+numbered [] n = refl
+numbered (x ∷ xs) n = ap (λ ys. x ∷ ys) (numbered xs (n + 1))
+
+-- a line with other words than two
+pub wrong_line : (ls : List (List ℕ)) (pairs : List (List ℕ × List ℕ)) (k : ℕ) (x : ℕ × List ℕ) → k < length (enumerate_from 0 ls) → x ≡ get_or (enumerate_from 0 ls) k x → are_no_pair (words_of x.1) ≡ true
+    → filter has_words (map words_of ls) ≡ map pair_words pairs → ⊥
+wrong_line ls pairs k x low is wrong e =
+    let line = in_numbered ls 0 k x low is in
+    none_among (map words_of ls) pairs k (words_of x.1) (rw length-map line.0) (ap are_no_pair (get_or-map words_of ls k x.1 ∙ ap words_of (sym line.1)) ∙ wrong) e
+
+-- the words of the lines so far
+abbrev pub words_so_far : List (ℕ × Bor (List ℕ)) → List (List (List ℕ))
+words_so_far passed = filter has_words (map (λ (p : ℕ × Bor (List ℕ)). words_of p.1.now) passed)
+
+abbrev pub AreFound : List (Bor (List ℕ) × Bor (List ℕ)) → List (ℕ × Bor (List ℕ)) → Type 0
+AreFound found passed = words_so_far passed ≡ map pair_words (map texts_of found)
+
+-- one line more
+more_words : (passed : List (ℕ × Bor (List ℕ))) (line : ℕ × Bor (List ℕ)) → words_so_far (passed ++ line ∷ []) ≡ words_so_far passed ++ filter has_words (words_of line.1.now ∷ [])
+more_words passed line = ap (filter has_words) (map-append (λ (p : ℕ × Bor (List ℕ)). words_of p.1.now) passed (line ∷ [])) ∙ filter-append has_words (map (λ (p : ℕ × Bor (List ℕ)). words_of p.1.now) passed) (words_of line.1.now ∷ [])
+
+pub blank_passed : (found : List (Bor (List ℕ) × Bor (List ℕ))) (passed : List (ℕ × Bor (List ℕ))) (line : ℕ × Bor (List ℕ)) → AreFound found passed → words_of line.1.now ≡ [] → AreFound found (passed ++ line ∷ [])
+blank_passed found passed line so none =
+    more_words passed line ∙ (ap (λ ws. words_so_far passed ++ filter has_words (ws ∷ [])) none ∙ (append-nil (words_so_far passed) ∙ so))
+
+pub pair_passed : (found : List (Bor (List ℕ) × Bor (List ℕ))) (passed : List (ℕ × Bor (List ℕ))) (line : ℕ × Bor (List ℕ)) (p : Bor (List ℕ) × Bor (List ℕ)) → AreFound found passed → words_of line.1.now ≡ pair_words (texts_of p)
+    → AreFound (found ++ p ∷ []) (passed ++ line ∷ [])
+pair_passed found passed line p so two =
+    more_words passed line
+    ∙ (ap (λ ws. words_so_far passed ++ filter has_words (ws ∷ [])) two
+    ∙ (ap (λ ws. ws ++ pair_words (texts_of p) ∷ []) so
+    ∙ sym (ap (map pair_words) (map-append texts_of found (p ∷ [])) ∙ map-append pair_words (map texts_of found) (texts_of p ∷ []))))
+
+-- all lines
+pub passed_all : (text : List ℕ) (found : List (Bor (List ℕ) × Bor (List ℕ))) (passed : List (ℕ × Bor (List ℕ))) → map (λ (p : ℕ × Bor (List ℕ)). (p.0, p.1.now)) passed ≡ enumerate_from 0 (lines text) → AreFound found passed → ArePairs text (map texts_of found)
+passed_all text found passed all so =
+    let own : map (λ (p : ℕ × Bor (List ℕ)). p.1.now) passed ≡ lines text = map_twice (λ (p : ℕ × Bor (List ℕ)). (p.0, p.1.now)) (λ (p : ℕ × List ℕ). p.1) passed ∙ (ap (map (λ (p : ℕ × List ℕ). p.1)) all ∙ numbered (lines text) 0) in
+    ap (filter has_words) (sym (ap (map words_of) own) ∙ sym (map_twice (λ (p : ℕ × Bor (List ℕ)). p.1.now) words_of passed)) ∙ so
+
+-- the pairs of a text are its only ones
+pub pairs_unique : (xs ys : List (List ℕ × List ℕ)) → map pair_words xs ≡ map pair_words ys → xs ≡ ys
+pairs_unique [] [] e = refl
+pairs_unique [] (y ∷ ys) e = cc
+pairs_unique (x ∷ xs) [] e = cc
+pairs_unique (x ∷ xs) (y ∷ ys) e =
+    let first : x.0 ≡ y.0 = cc in
+    let second : x.1 ≡ y.1 = cc in
+    let rest : map pair_words xs ≡ map pair_words ys = cc in
+    ap (λ (w : List ℕ). (w, x.1) ∷ xs) first ∙ (ap (λ (w : List ℕ). (y.0, w) ∷ xs) second ∙ ap (λ ps. y ∷ ps) (pairs_unique xs ys rest))

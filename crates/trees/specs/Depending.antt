@@ -1,0 +1,147 @@
+-- Which graph is drawn of lines of two words.
+use Rattle.std.specs.Borrow.{Bor}
+use Rattle.std.specs.Prelude.{◌≡◌, ◌≢◌, ◌<◌, ◌↔◌, ◌⊎◌, ℕ, ◌==◌, ◌&&◌, not, Bool, true, false, if◌then◌else◌, List, [], ◌∷◌, ◌++◌, filter, flat_map, length, map, reverse, slice_get, All, Contains, Option, Some, None, codes, string_bytes}
+use Rattle.std.specs.Char.{is_whitespace}
+use Rattle.std.specs.Cmp.Lexicographic.{slice_cmp}
+use Rattle.std.specs.List.{list_any, position_or_len, slice_split}
+use Rattle.std.specs.List.Sorted.{IsStrictlySortedBy}
+use Rattle.std.specs.Ordering.{nat_cmp}
+use Rattle.std.specs.Str.{bytes_eq, chars, encode_utf8_all, trim_start}
+use Rattle.std.specs.Str.Lines.{lines}
+use Rattle.ptree.specs.Graph.{edges_of, turned, weights_of}
+use Rattle.ptree_trees.specs.Parts.{begins_with, has_part}
+use Rattle.trees.specs.declared.deps.Dependencies.{Dependencies}
+use Rattle.trees.specs.declared.source.Source.{Source}
+use Rattle.trees.specs.Documents.{IsLastPart}
+use Rattle.trees.specs.Listing.{is_empty, unmarked}
+use Rattle.trees.specs.Shown.{shown_text}
+
+-- ## Texts of lines
+
+-- the text of a source, without a byte order mark before it
+abbrev pub source_text : Source → List ℕ
+source_text source = unmarked (string_bytes source.text)
+
+-- the names of files that are other lists of dependencies, or none
+abbrev pub other_names : List (List ℕ)
+other_names = codes "pnpm-lock.yaml" ∷ codes "yarn.lock" ∷ codes "Cargo.toml" ∷ codes "package.json" ∷ codes "pyproject.toml" ∷ codes "go.mod" ∷ []
+
+-- the beginnings of lines that only lock files of pnpm and yarn have
+abbrev pub other_starts : List (List ℕ)
+other_starts = codes "lockfileVersion:" ∷ codes "# yarn lockfile " ∷ codes "__metadata:" ∷ []
+
+-- whether a line begins so
+abbrev pub is_other_line : List ℕ → Bool
+is_other_line line = list_any (λ start. begins_with start line) other_starts
+
+-- a source is read as lines of two words: nothing says that it is a lock file
+pub record IsPairFile (source : Source) : Type 0 where
+  pub name : (label : List ℕ) → IsLastPart (string_bytes source.name) label → list_any (bytes_eq label) other_names ≡ false
+  pub lines : list_any is_other_line (lines (source_text source)) ≡ false
+  pub json : begins_with (codes "{") (trim_start (source_text source)) ≡ false
+  pub toml : has_part (codes "[[package]]") (source_text source) ≡ false
+
+-- ## Lines
+
+-- the words of a line: what stands between its white space
+abbrev pub words_of : List ℕ → List (List ℕ)
+words_of line = map encode_utf8_all (filter (λ part. not (is_empty part)) (slice_split is_whitespace (chars line)))
+
+-- whether a line has words
+abbrev pub has_words : List (List ℕ) → Bool
+has_words [] = false
+has_words (w ∷ ws) = true
+
+-- the words of each line that has some
+abbrev pub word_lines : List ℕ → List (List (List ℕ))
+word_lines text = filter has_words (map words_of (lines text))
+
+-- the two words of a pair, the first of which needs the second
+abbrev pub pair_words : List ℕ × List ℕ → List (List ℕ)
+pair_words p = p.0 ∷ p.1 ∷ []
+
+-- the lines of a text that have words are these pairs
+abbrev pub ArePairs : List ℕ → List (List ℕ × List ℕ) → Type 0
+ArePairs text pairs = word_lines text ≡ map pair_words pairs
+
+-- the lines of the source are these pairs
+abbrev pub HoldsPairs : Source → List (List ℕ × List ℕ) → Type 0
+HoldsPairs source pairs = ArePairs (source_text source) pairs
+
+-- ## Nodes and edges
+
+-- names are the words of pairs, each once, in ascending order
+pub record AreNames (pairs : List (List ℕ × List ℕ)) (names : List (List ℕ)) : Type 0 where
+  pub ascending : IsStrictlySortedBy (slice_cmp nat_cmp) names
+  pub words : (w : List ℕ) → Contains names w ↔ Contains (flat_map pair_words pairs) w
+
+-- the number of a word among names: how many stand before it
+abbrev pub number : List (List ℕ) → List ℕ → ℕ
+number names w = position_or_len (bytes_eq w) names
+
+-- whether the words of a pair differ
+abbrev pub is_need : List ℕ × List ℕ → Bool
+is_need p = not (bytes_eq p.0 p.1)
+
+-- an edge, or the reverse if what needs a node is drawn
+abbrev pub directed : Bool → ℕ × ℕ → ℕ × ℕ
+directed is_inverse e = if is_inverse then turned e else e
+
+-- the edge from the first word of a pair to the second, or the reverse
+abbrev pub edge_of : Bool → List (List ℕ) → List ℕ × List ℕ → ℕ × ℕ
+edge_of is_inverse names p = directed is_inverse (number names p.0, number names p.1)
+
+-- whether two edges are the same
+abbrev pub same_edge : ℕ × ℕ → ℕ × ℕ → Bool
+same_edge d e = (d.0 == e.0) && (d.1 == e.1)
+
+-- each element of a list once, where it first stands
+abbrev pub firsts : {X : Type 0} → (X → X → Bool) → List X → List X
+firsts same [] = []
+firsts same (x ∷ xs) = x ∷ filter (λ y. not (same x y)) (firsts same xs)
+
+-- the edges of pairs of different words, each once, in the order in which they first stand
+abbrev pub edges_between : Bool → List (List ℕ) → List (List ℕ × List ℕ) → List (ℕ × ℕ)
+edges_between is_inverse names pairs = firsts same_edge (map (edge_of is_inverse names) (filter is_need pairs))
+
+-- ## Graphs
+
+-- the texts and edges of a graph whose root stands for some nodes: it is the only one, or a node above
+-- them, with a label
+abbrev pub StandsAbove : List ℕ → List (List ℕ) → List (ℕ × ℕ) → List ℕ → List (List ℕ) → List (ℕ × ℕ) → ℕ → Type 0
+StandsAbove label names edges (top ∷ []) texts all root = (root ≡ top) × (texts ≡ names) × (all ≡ edges)
+StandsAbove label names edges tops texts all root = (root ≡ length names) × (texts ≡ names ++ label ∷ []) × (all ≡ edges ++ map (λ t. (length names, t)) tops)
+
+-- the texts and edges of a graph from a root on: from the node with the name that is asked for, if it
+-- is a word, and else from nodes among the words
+abbrev pub IsRooted : Source → Option (Bor (List ℕ)) → List (List ℕ) → List (ℕ × ℕ) → List (List ℕ) → List (ℕ × ℕ) → ℕ → Type 0
+IsRooted source (Some name) names edges texts all root =
+    (root < length names) × (Contains names name.now → slice_get names root ≡ Some name.now) × (texts ≡ names) × (all ≡ edges)
+IsRooted source None names edges texts all root =
+    (label : List ℕ) × (tops : List ℕ) × IsLastPart (string_bytes source.name) label × All (λ t. t < length names) tops × StandsAbove label names edges tops texts all root
+
+-- a graph has these texts, on a terminal escaped, and these edges, the first of a node drawn first
+pub record IsGraphFrom (is_terminal : Bool) (texts : List (List ℕ)) (all : List (ℕ × ℕ)) (d : Dependencies) : Type 0 where
+  pub weights : map string_bytes (weights_of d.graph) ≡ map (shown_text is_terminal) texts
+  pub edges : edges_of d.graph ≡ reverse all
+
+-- d is the graph of the pairs in a source, from the root that is asked for on
+pub record IsGraphOfPairs (source : Source) (root : Option (Bor (List ℕ))) (is_inverse is_terminal : Bool) (d : Dependencies) : Type 0 where
+  pub pairs : List (List ℕ × List ℕ)
+  pub held : HoldsPairs source pairs
+  pub some : pairs ≢ []
+  pub names : List (List ℕ)
+  pub are : AreNames pairs names
+  pub texts : List (List ℕ)
+  pub edges : List (ℕ × ℕ)
+  pub rooted : IsRooted source root names (edges_between is_inverse names pairs) texts edges d.root.0
+  pub graph : IsGraphFrom is_terminal texts edges d
+
+-- a name is asked for that is none of these
+abbrev pub IsNoName : Option (Bor (List ℕ)) → List (List ℕ) → Type 0
+IsNoName None names = ⊥
+IsNoName (Some name) names = Contains names name.now → ⊥
+
+-- the source holds no pairs, or the name that is asked for is no word of them
+abbrev pub HoldsNoGraph : Source → Option (Bor (List ℕ)) → Type 0
+HoldsNoGraph source root = (pairs : List (List ℕ × List ℕ)) → HoldsPairs source pairs → (pairs ≡ []) ⊎ IsNoName root (flat_map pair_words pairs)

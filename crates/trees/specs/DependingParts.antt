@@ -1,0 +1,117 @@
+-- What the parts of reading lines of two words do. What `perform` ensures doesn't cite this.
+use Rattle.std.specs.Borrow.{Bor}
+use Rattle.std.specs.BTreeSet.{contains}
+use Rattle.std.specs.Ordering.{nat_cmp, ordering_then}
+use Rattle.std.specs.declared.cmp.Ordering.{Ordering}
+use Rattle.std.specs.List.{enumerate_from, list_any, IsDistinct}
+use Rattle.std.specs.Str.{bytes_eq}
+use Rattle.std.specs.Prelude.{◌≡◌, ◌≢◌, ◌<◌, ℕ, Bool, true, false, if◌then◌else◌, List, [], ◌∷◌, ◌++◌, filter, length, map, slice_get, All, Contains, Option, Some, None, string_bytes}
+use Rattle.ptree.specs.Graph.{numbers_of}
+use Rattle.trees.specs.declared.deps.Network.{Network}
+use Rattle.trees.specs.declared.source.Source.{Source}
+use Rattle.trees.specs.Depending.{pair_words, same_edge, edges_between, HoldsPairs, AreNames, StandsAbove, IsRooted}
+
+-- ## Lines
+
+-- the texts of a pair
+abbrev pub texts_of : Bor (List ℕ) × Bor (List ℕ) → List ℕ × List ℕ
+texts_of p = (p.0.now, p.1.now)
+
+-- the words of a pair, or none
+abbrev pub found_words : Option (Bor (List ℕ) × Bor (List ℕ)) → List (List ℕ)
+found_words None = []
+found_words (Some p) = pair_words (texts_of p)
+
+-- whether there are words, but not two
+abbrev pub are_no_pair : List (List ℕ) → Bool
+are_no_pair [] = false
+are_no_pair (v ∷ []) = true
+are_no_pair (v ∷ w ∷ []) = false
+are_no_pair (v ∷ w ∷ x ∷ ws) = true
+
+-- ## Networks
+
+-- the labels of a network
+abbrev pub labels_of : Network → List (List ℕ)
+labels_of n = map string_bytes n.labels.items
+
+-- its edges, oldest first, each as the numbers of its nodes
+abbrev pub needs_of : Network → List (ℕ × ℕ)
+needs_of n = map numbers_of n.edges.items
+
+-- edges by their first and then by their second node
+abbrev pub edge_cmp : ℕ × ℕ → ℕ × ℕ → Ordering
+edge_cmp d e = ordering_then (nat_cmp d.0 e.0) (nat_cmp d.1 e.1)
+
+-- the edges in ascending order are the edges
+abbrev pub IsIndexed : Network → Type 0
+IsIndexed n = (e : ℕ × ℕ) → contains edge_cmp n.sorted e ≡ list_any (same_edge e) (needs_of n)
+
+-- a list with one element more, unless it is there
+abbrev pub added : {X : Type 0} → (X → X → Bool) → List X → X → List X
+added same xs x = if list_any (same x) xs then xs else xs ++ x ∷ []
+
+-- only the edges of a network change
+pub record KeepsNodes (old new : Network) : Type 0 where
+  pub labels : new.labels ≡ old.labels
+  pub paths : new.paths ≡ old.paths
+  pub is_inverse : new.is_inverse ≡ old.is_inverse
+
+-- a network gets an edge, unless it is there
+pub record AddsEdge (old new : Network) (e : ℕ × ℕ) : Type 0 where
+  pub nodes : KeepsNodes old new
+  pub edges : needs_of new ≡ added same_edge (needs_of old) e
+  pub indexed : IsIndexed new
+
+-- a network without nodes
+pub record IsEmpty (n : Network) : Type 0 where
+  pub labels : n.labels.items ≡ []
+  pub paths : n.paths.items ≡ []
+  pub edges : n.edges.items ≡ []
+  pub sorted : n.sorted.keys ≡ []
+
+-- a network has names as its nodes, and the edges of pairs, whose words are among them
+pub record HasNeeds (is_inverse : Bool) (names : List (List ℕ)) (pairs : List (List ℕ × List ℕ)) (n : Network) : Type 0 where
+  pub labels : labels_of n ≡ names
+  pub paths : n.paths.items ≡ []
+  pub direction : n.is_inverse ≡ is_inverse
+  pub edges : needs_of n ≡ edges_between is_inverse names pairs
+  pub indexed : IsIndexed n
+
+-- the names are the words of the pairs
+pub record HasPairs (is_inverse : Bool) (pairs : List (List ℕ × List ℕ)) (n : Network) : Type 0 where
+  pub names : AreNames pairs (labels_of n)
+  pub needs : HasNeeds is_inverse (labels_of n) pairs n
+
+-- the source holds no pairs
+abbrev pub HoldsNone : Source → Type 0
+HoldsNone source = (pairs : List (List ℕ × List ℕ)) → HoldsPairs source pairs → pairs ≡ []
+
+-- a network has the nodes and edges of the pairs in a source
+pub record IsNetworkOf (source : Source) (is_inverse : Bool) (n : Network) : Type 0 where
+  pub pairs : List (List ℕ × List ℕ)
+  pub held : HoldsPairs source pairs
+  pub some : pairs ≢ []
+  pub has : HasPairs is_inverse pairs n
+
+-- ## Roots
+
+-- no two names are the same
+abbrev pub AreApart : List (List ℕ) → Type 0
+AreApart names = IsDistinct bytes_eq names
+
+-- the numbers of the names that are this one
+abbrev pub places_of : List (List ℕ) → List ℕ → List ℕ
+places_of names name = map (λ p. p.0) (filter (λ p. bytes_eq p.1 name) (enumerate_from 0 names))
+
+-- a node has a name, if one has
+abbrev pub IsNamed : List (List ℕ) → List ℕ → ℕ → Type 0
+IsNamed names name root = (root < length names) × (Contains names name → slice_get names root ≡ Some name)
+
+-- a root stands for some nodes of a network
+abbrev pub IsTopped : List ℕ → Network → Network → ℕ → Type 0
+IsTopped label old new root = (tops : List ℕ) × All (λ t. t < length (labels_of old)) tops × StandsAbove label (labels_of old) (needs_of old) tops (labels_of new) (needs_of new) root
+
+-- the root of a network is the one that is asked for
+abbrev pub HasRoot : Source → Option (Bor (List ℕ)) → Network → Network → ℕ → Type 0
+HasRoot source name old new root = IsRooted source name (labels_of old) (needs_of old) (labels_of new) (needs_of new) root
