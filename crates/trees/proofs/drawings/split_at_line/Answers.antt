@@ -22,5 +22,6 @@ returns-clause-line c =
     let n : ℕ = c.loop-passed._passed in
     let line : List ℕ = c.split_line-2.result.0.now in
     let behind : List ℕ = c.split_line-2.result.1.now in
+    let parts : c.loop-passed.rest.now ≡ line ++ 10 ∷ behind = search rules in
     let all : n ≡ c.args.line - 1 = omega arith in
-    (c.split_line-2.ensures.0, (behind, c.loop-passed.invariant.1 ∙ (ap (λ z. first_lines n text ++ z) c.split_line-2.ensures.1 ∙ ap (λ m. first_lines m text ++ (line ++ 10 ∷ behind)) all)))
+    (c.split_line-2.ensures.0, (behind, c.loop-passed.invariant.1 ∙ (ap (λ z. first_lines n text ++ z) parts ∙ ap (λ m. first_lines m text ++ (line ++ 10 ∷ behind)) all)))

@@ -8,7 +8,7 @@ pub returns : goal.returns
 returns c =
     let hint : List ℕ = string_bytes c.in_ok-hint.hint in
     let line : List ℕ = c.split_at_line.result.1.now in
-    let shown : string_bytes c.in_ok-wrong.wrong ≡ escaped_text line = c.in_ok-wrong.ensures.text in
+    let shown : string_bytes c.in_ok-wrong.wrong ≡ escaped_text line = search rules in
     let said : string_bytes c.in_ok-format.field-0 ≡ codes "cannot continue the drawing:\n  " ++ (string_bytes c.in_ok-wrong.wrong ++ hint) = search rules in
     inr (
       line,

@@ -32,5 +32,6 @@ loop-level-preserved c =
     let new : List (List ℕ) = map string_bytes c.push.new.self.items in
     let same : string_bytes c.in_ok-clone.field-0 ≡ front = search rules in
     let added : AreFrontsTo p new front = front_added p old new front (bytes_push c.forget_closed.new.fronts.items c.push.new.self.items c.in_ok-clone.field-0 front c.in_ok-push.ensures.items same) below in
-    let ends : EndsPassing p front (string_bytes c.push_str.new.self) = (c.in-Some.ensures.0, c.in_ok-push_str.ensures.bytes ∙ ap (λ z. front ++ z) c.in-Some.ensures.1) in
+    let more : string_bytes c.push_str.new.self ≡ front ++ c.in-Some.piece.now = search rules in
+    let ends : EndsPassing p front (string_bytes c.push_str.new.self) = (c.in-Some.ensures.0, more ∙ ap (λ z. front ++ z) c.in-Some.ensures.1) in
     (search rules, front_longer p c.requires new front (string_bytes c.push_str.new.self) ends added)

@@ -13,7 +13,9 @@ returns c =
     let pieces : text ≡ c.args.front.now ++ c.args.piece.now = search rules in
     elim c.if-branch.branch [
       | then-branch+in_ok-write w ↦
-          let is : string_bytes c.if-branch.found ≡ old ++ (codes "\n  " ++ text) = ap string_bytes w.found-is ∙ (w.in_ok-write.ensures.bytes ∙ ap (λ z. old ++ (codes "\n  " ++ z)) (sym c.as_str.ensures.value)) in
-          adds_one Is old (string_bytes c.if-branch.found) text is (c.in_ok-can_follow.ensures.0 w.if-branch.true, pieces)
+          let wrote : string_bytes w.write.new.self ≡ old ++ (codes "\n  " ++ string_bytes c.in_ok-beginning.beginning) = search rules in
+          let follows : Is text = (search (rules, c.in_ok-can_follow.ensures.0 w.if-branch.true), pieces) in
+          let is : string_bytes c.if-branch.found ≡ old ++ (codes "\n  " ++ text) = ap string_bytes w.found-is ∙ (wrote ∙ ap (λ z. old ++ (codes "\n  " ++ z)) (sym c.as_str.ensures.value)) in
+          adds_one Is old (string_bytes c.if-branch.found) text is follows
       | else-branch w ↦ subst (λ s. AddsListed Is old (string_bytes s)) (sym w.found-is) (adds_none Is old)
     ]
