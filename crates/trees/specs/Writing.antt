@@ -233,7 +233,7 @@ ShowsDrawing sources drawing = ShowsOnly drawing.screen.is_terminal (IsLookCode 
 abbrev pub ShowsMerged : Sources → Drawing → Option (List ℕ) → Option (List ℕ) → Type 0
 ShowsMerged sources drawing = ShowsOnly drawing.screen.is_terminal (IsMergeCode (drawing_value sources drawing))
 
--- the same of a command; in indented text the unit may be a tab
+-- the same of a command; in indented text the unit may be a tab; the settings are so in a file too
 abbrev pub ShowsOfCommand : Sources → Command → Option (List ℕ) → Option (List ℕ) → Type 0
 ShowsOfCommand sources (command.Draw source tree drawing) old new = ShowsDrawing sources drawing old new
 ShowsOfCommand sources (command.Convert source convert) old new = ShowsDrawing sources convert.drawing old new
@@ -241,4 +241,4 @@ ShowsOfCommand sources (command.Indented source indented) old new = ShowsOnly in
 ShowsOfCommand sources (command.Check inputs pieces screen) old new = ShowsOnly screen.is_terminal IsNone old new
 ShowsOfCommand sources (command.Deps source deps drawing) old new = ShowsDrawing sources drawing old new
 ShowsOfCommand sources (command.Diff left right diff) old new = ShowsMerged sources diff.drawing old new
-ShowsOfCommand sources command.Config old new = ⊤
+ShowsOfCommand sources command.Config old new = ShowsOnly true IsNone old new

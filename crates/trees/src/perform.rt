@@ -1,5 +1,5 @@
 //! Does what a command asks for.
-ghost use Rattle.std.specs.Prelude.{◌≡◌, ◌≢◌, ◌<◌, ◌↔◌, ◌++◌, ℕ, false, List, length, All, IsTrue, IfOk, IfErr, IsErr, OnOk, option_map, string_bytes};
+ghost use Rattle.std.specs.Prelude.{◌≡◌, ◌≢◌, ◌<◌, ◌↔◌, ◌++◌, ℕ, true, false, List, length, All, IsTrue, IfOk, IfErr, IsErr, OnOk, option_map, string_bytes};
 ghost use Rattle.ptree.specs.declared.print_config.OutputKind.TheVariants.{Unknown};
 ghost use Rattle.ptree.specs.Config.{config_of};
 ghost use Rattle.ptree.specs.Drawing.{look_by};
@@ -24,7 +24,7 @@ use crate::deps::{Dependencies, read_dependencies};
 use crate::failure::Failure;
 use crate::levels::{LEVELS, TOO_DEEP_GRAPH, has_more_below};
 use crate::pieces::Pieces;
-use crate::screen::{Screen, show_pieces};
+use crate::screen::{Screen, show_pieces, shown};
 use crate::source::Source;
 use crate::{document, drawings, lists, settings};
 use ptree::graph::{REPEATED_MARK, write_graph_once_with, write_graph_with};
@@ -655,7 +655,10 @@ fn write_both<W: Sink>(
 // Says which settings hold.
 fn show_settings<W: Sink>(alloc: Global, out: &mut W, found: &Surroundings) -> Result<(), Failure>
     ensures quiet { LeavesIfWrong out.old out.new result }
+    // In a file too.
+    ensures shown { ShowsOnly true IsNone (W.contents out.old) (W.contents out.new) }
 {
     let report = settings::describe(alloc, found)?;
-    say(out, report.text.as_str(), report.has_faults)
+    let said = shown(alloc, report.text.as_str())?;
+    say(out, said.as_str(), report.has_faults)
 }

@@ -59,3 +59,7 @@ pub returns-in-Check-clause-written : goal.returns-in-Check-clause-written
 returns-in-Check-clause-written g c =
     subst (λ command. WritesOfCommand c.args.found.now.sources command (g.W.Sink.contents c.args.out.now) (g.W.Sink.contents c.check.new.out) c.check.result) (sym c.in-Check.is)
     c.check.ensures.written
+
+pub returns-in-Config-clause-shown : goal.returns-in-Config-clause-shown
+returns-in-Config-clause-shown g c =
+    subst (λ command. ShowsOfCommand c.args.found.now.sources command (g.W.Sink.contents c.args.out.now) (g.W.Sink.contents c.show_settings.new.out)) (sym c.in-Config.is) c.show_settings.ensures.shown
