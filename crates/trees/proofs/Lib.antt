@@ -19,6 +19,7 @@ pub mod Pairs
 pub mod Parts
 pub mod PathNames
 pub mod Readings
+pub mod RefusedTexts
 pub mod Reports
 pub mod Roots
 pub mod Shown

@@ -1,7 +1,7 @@
 -- Documents, the parts of them that are asked for, and their trees.
 use Rattle.std.specs.Borrow.{Bor}
 use Rattle.std.specs.List.{slice_split}
-use Rattle.std.specs.Prelude.{◌≡◌, ◌<◌, ◌^◌, ◌==◌, ⊤, ℕ, Bool, true, false, List, [], ◌∷◌, drop, Option, Some, None, MatchOption, option_map, string_bytes}
+use Rattle.std.specs.Prelude.{◌≡◌, ◌<◌, ◌^◌, ◌==◌, ◌⊎◌, ⊤, ℕ, Bool, true, false, List, [], ◌∷◌, ◌++◌, drop, codes, decimal, Option, Some, None, MatchOption, option_map, string_bytes}
 use Rattle.std.specs.Str.Parse.{IsNumeral, digits_value, without_leading_plus}
 use Rattle.std.specs.Str.Pattern.{RFindsChar}
 use Rattle.serde_json.specs.Read.{read}
@@ -10,10 +10,13 @@ use Rattle.ptree.specs.declared.value.document.DocFormat.TheVariants.{Toml, Json
 use Rattle.ptree.specs.File.{FileNode, json, toml}
 use Rattle.ptree.specs.Sources.{toml_document}
 use Rattle.ptree.specs.Tree.{Tree}
+use Rattle.ptree_trees.specs.Escape.{escaped_text}
 use Rattle.ptree_trees.specs.RefusedPath.{StepValue, at_key, at_position, Path, json_at_step, toml_at_step, IsFirstFloat, IsFirstFloatOrDate}
 use Rattle.ptree_trees.specs.WrittenDocument.{IsJsonTree, IsTomlTree}
 use Rattle.trees.specs.declared.command.Document.{Document}
+use Rattle.trees.specs.declared.failure.Failure.{Failure}
 use Rattle.trees.specs.declared.source.Source.{Source}
+use Rattle.trees.specs.Reading.{IsInput, Says, SaysAt}
 
 -- the document of a text, if it is one of the format
 abbrev pub document_in : DocFormat → List ℕ → Option FileNode
@@ -96,3 +99,51 @@ pub record IsPartTree (format : DocFormat) (source : Source) (document : Documen
   pub whole : FileNode
   pub read : IsDocumentOf format source whole
   pub drawn : IsTreeIn source document whole t
+
+-- ## Messages
+
+-- the text of a step: its key or its position
+abbrev pub step_text : StepValue → List ℕ
+step_text (at_key key) = key
+step_text (at_position n) = decimal n
+
+-- the steps of a path, a full stop before each
+abbrev pub steps_text : Path → List ℕ
+steps_text [] = []
+steps_text (s ∷ path) = codes "." ++ (step_text s ++ steps_text path)
+
+-- the steps of a path behind others, or from the top
+abbrev pub path_text : Bool → Path → List ℕ
+path_text false path = steps_text path
+path_text true [] = codes "the top"
+path_text true (s ∷ path) = step_text s ++ steps_text path
+
+-- where a path leads to from what was asked for: behind its keys, or from the top, the steps, escaped
+abbrev pub place_text : Option (Bor (List ℕ)) → Path → List ℕ
+place_text None path = escaped_text (path_text true path)
+place_text (Some at) path = at.now ++ escaped_text (path_text false path)
+
+-- what a strict call refuses in a format
+abbrev pub refused_kind : DocFormat → List ℕ
+refused_kind Json = codes "a float"
+refused_kind Toml = codes "a float, a date or a time"
+
+-- the failure says what a strict call refuses, and where its first place in a part is
+abbrev pub NamesRefused : DocFormat → Source → Option (Bor (List ℕ)) → FileNode → Failure → Type 0
+NamesRefused format source at part e = (path : Path) × IsFirstRefused part (Some path) × Says source (refused_kind format ++ (codes " is at " ++ place_text at path)) e
+
+-- the failure names a line
+abbrev pub NamesLine : Source → Failure → Type 0
+NamesLine source e = IsInput e → (line : ℕ) × (wrong : List ℕ) × SaysAt source line wrong e
+
+-- of a value, it says that nothing is at the keys asked for, or names what a strict call refuses
+abbrev pub NamesWrongIn : DocFormat → Source → Document → FileNode → Failure → Type 0
+NamesWrongIn format source document whole e = IsInput e →
+    ((part : FileNode) → IsPartAsked document.at whole part → ⊥)
+    ⊎ ((part : FileNode) × IsPartAsked document.at whole part × NamesRefused format source document.at part e)
+
+-- of a source, it names the line at which the text is no document, or what is wrong in its value
+abbrev pub NamesWrong : DocFormat → Source → Document → Failure → Type 0
+NamesWrong format source document e = IsInput e →
+    (((whole : FileNode) → IsDocumentOf format source whole → ⊥) × NamesLine source e)
+    ⊎ ((whole : FileNode) × IsDocumentOf format source whole × NamesWrongIn format source document whole e)

@@ -1,18 +1,18 @@
 //! Documents as trees, with floats and dates as they are written.
-ghost use Rattle.std.specs.Prelude.{◌≡◌, ◌<◌, ◌∷◌, ⊤, [], length, option_map, string_bytes, IfOk, IfErr, OnOk, MatchOption};
+ghost use Rattle.std.specs.Prelude.{◌≡◌, ◌<◌, ◌∷◌, ◌++◌, ⊤, true, [], map, length, codes, option_map, string_bytes, IfOk, IfErr, OnOk, MatchOption};
 ghost use Rattle.serde_json.specs.View as json_view;
 ghost use Rattle.toml.specs.View as toml_view;
 ghost use Rattle.ptree.specs.declared.value.document.DocFormat.{DocFormat};
 ghost use Rattle.ptree.specs.declared.value.document.DocFormat.TheVariants.{Json, Toml};
 ghost use Rattle.ptree.specs.File.{FileNode, json, toml};
 ghost use Rattle.ptree.specs.Tree.{tree_of};
-ghost use Rattle.ptree_trees.specs.RefusedPath.{path_of};
-ghost use Rattle.trees.specs.Documents.{IsDocumentOf, FindsPart, steps_in, LeadsBy, IsPartAsked, IsFirstRefused, IsAllowed, IsNodeTree, IsRootText, IsTreeIn, IsPartTree};
-ghost use Rattle.trees.specs.Reading.{IsInput, FailsToMake};
+ghost use Rattle.ptree_trees.specs.RefusedPath.{Path, step_of, path_of};
+ghost use Rattle.trees.specs.Documents.{IsDocumentOf, FindsPart, steps_in, LeadsBy, IsPartAsked, IsFirstRefused, IsAllowed, IsNodeTree, IsRootText, IsTreeIn, IsPartTree, refused_kind, step_text, steps_text, path_text, place_text, NamesRefused, NamesLine, NamesWrongIn, NamesWrong};
+ghost use Rattle.trees.specs.Reading.{IsInput, Says, FailsToMake};
 
 use crate::command::Document;
 use crate::failure::Failure;
-use crate::source::Source;
+use crate::source::{Source, behind};
 use ptree::item::StringItem;
 use ptree::print_config::{FileSource, syntax_line};
 use ptree_trees::documents::{Step, json_refused_path, json_tree, toml_refused_path, toml_tree};
@@ -27,8 +27,9 @@ pub trait Value: Sized + Drop {
     /// What a value means.
     ghost node: { Self → FileNode };
 
-    /// What a strict call refuses.
-    const REFUSED: &'static str;
+    /// Returns what a strict call refuses.
+    fn refused_kind() -> &'static str
+        ensures { result.now ≡ refused_kind format };
 
     /// Returns the value of an input.
     ///
@@ -37,7 +38,8 @@ pub trait Value: Sized + Drop {
     /// `Input` with the line if the text is not of the format, and `Memory`.
     fn read(alloc: Global, source: &Source) -> Result<Self, Failure>
         ensures value { IfOk result (λ v. IsDocumentOf format source.now (node v)) }
-        ensures failed { IfErr result (FailsToMake ⊥ (IsDocumentOf format source.now)) };
+        ensures failed { IfErr result (FailsToMake ⊥ (IsDocumentOf format source.now)) }
+        ensures line { IfErr result (NamesLine source.now) };
 
     /// Returns the part at a key or, in a list, at a position counted from 0.
     fn part(&self, key: &str) -> Option<&Self>
@@ -65,7 +67,9 @@ impl Value for serde_json::Value {
 
     ghost node = { λ v. json (json_view.view v) };
 
-    const REFUSED: &'static str = "a float";
+    fn refused_kind() -> &'static str {
+        "a float"
+    }
 
     fn read(alloc: Global, source: &Source) -> Result<serde_json::Value, Failure> {
         json_value(alloc, source)
@@ -92,7 +96,9 @@ impl Value for toml::Value {
 
     ghost node = { λ v. toml (toml_view.view v) };
 
-    const REFUSED: &'static str = "a float, a date or a time";
+    fn refused_kind() -> &'static str {
+        "a float, a date or a time"
+    }
 
     fn read(alloc: Global, source: &Source) -> Result<toml::Value, Failure> {
         toml_value(alloc, source)
@@ -129,6 +135,9 @@ pub fn tree<V: Value>(
         (λ t. IsPartTree V.format source.now document.entry (tree_of t)) }
     ensures failed { IfErr result
         (FailsToMake ⊥ (IsPartTree V.format source.now document.entry)) }
+    // And `Input` names the line, or the first value that a strict call refuses.
+    ensures place { IfErr result
+        (NamesWrong V.format source.now document.entry) }
 {
     let value = V::read(alloc, source)?;
     tree_of(alloc, source, &value, document)
@@ -145,6 +154,8 @@ fn tree_of<V: Value>(
         (λ t. IsTreeIn source.now document.entry (V.node value.now) (tree_of t)) }
     ensures failed { IfErr result
         (FailsToMake ⊥ (IsTreeIn source.now document.entry (V.node value.now))) }
+    ensures place { IfErr result
+        (NamesWrongIn V.format source.now document.entry (V.node value.now)) }
 {
     let part = part_at(alloc, source, value, document.at)?;
     refuse(alloc, source, part, document)?;
@@ -161,12 +172,14 @@ fn refuse<V: Value>(
     ensures allowed { OnOk result (IsAllowed document.entry.is_strict (V.node part.now)) }
     ensures failed { IfErr result
         (FailsToMake ⊥ (λ (_ : ⊤). IsAllowed document.entry.is_strict (V.node part.now))) }
+    ensures place { IfErr result (λ e. IsInput e
+        → NamesRefused V.format source.now document.entry.at (V.node part.now) e) }
 {
     if !document.is_strict {
         return Ok(());
     }
     match part.refused_path(alloc)? {
-        Some(path) => Err(refused(alloc, source, V::REFUSED, document.at, &path)?),
+        Some(path) => Err(refused(alloc, source, V::refused_kind(), document.at, &path)?),
         None => Ok(()),
     }
 }
@@ -232,6 +245,7 @@ pub fn toml_value(alloc: Global, source: &Source) -> Result<toml::Value, Failure
     ensures value { IfOk result
         (λ v. IsDocumentOf Toml source.now (toml (toml_view.view v))) }
     ensures failed { IfErr result (FailsToMake ⊥ (IsDocumentOf Toml source.now)) }
+    ensures line { IfErr result (NamesLine source.now) }
 {
     match toml::table_from_str(alloc, source.text.as_str()) {
         Ok(table) => Ok(toml::Value::Table(table)),
@@ -255,6 +269,7 @@ pub fn json_value(alloc: Global, source: &Source) -> Result<serde_json::Value, F
     ensures value { IfOk result
         (λ v. IsDocumentOf Json source.now (json (json_view.view v))) }
     ensures failed { IfErr result (FailsToMake ⊥ (IsDocumentOf Json source.now)) }
+    ensures line { IfErr result (NamesLine source.now) }
 {
     match serde_json::Value::from_str(alloc, source.text.as_str()) {
         Ok(value) => Ok(value),
@@ -309,24 +324,55 @@ fn refused(
     at: Option<&str>,
     path: &[Step],
 ) -> Result<Failure, AllocError>
-    ensures { IfOk result IsInput }
+    ensures input { IfOk result IsInput }
+    ensures says { IfOk result (Says source.now
+        (what.now ++ (codes " is at " ++ place_text at.entry (map step_of path.now)))) }
 {
-    let keys = keys(alloc, at.is_none(), path)?;
-    let at = at.unwrap_or("");
-    let wrong = format!(in alloc; "{what} is at {at}{keys}")?;
+    let place = place(alloc, at, path)?;
+    let wrong = format!(in alloc; "{what} is at {place}")?;
     source.wrong(alloc, wrong.as_str())
 }
 
 // Returns the keys of a path behind others, or from the top.
-fn keys(alloc: Global, is_top: bool, path: &[Step]) -> Result<String, AllocError> {
-    let mut keys = String::new(alloc);
-    let mut between = if is_top { "" } else { "." };
+fn place(alloc: Global, at: Option<&str>, path: &[Step]) -> Result<String, AllocError>
+    ensures { IfOk result (λ s. string_bytes s ≡ place_text at.entry (map step_of path.now)) }
+{
+    let steps = steps(alloc, path)?;
+    let Some(at) = at else {
+        return escaped(alloc, from_top(steps.as_str()));
+    };
+    let keys = escaped(alloc, steps.as_str())?;
+    Ok(format!(in alloc; "{at}{keys}")?)
+}
+
+// Returns the steps of a path from the top, if a full stop is before each of them.
+fn from_top(steps: &str) -> &str
+    ensures { (path : Path) → steps.now ≡ steps_text path → result.now ≡ path_text true path }
+{
+    match behind(steps, ".") {
+        Some(keys) => keys,
+        None => "the top",
+    }
+}
+
+// Returns the steps of a path, a full stop before each.
+fn steps(alloc: Global, path: &[Step]) -> Result<String, AllocError>
+    ensures { IfOk result (λ s. string_bytes s ≡ steps_text (map step_of path.now)) }
+{
+    let mut steps = String::new(alloc);
     for step in path {
-        write!(keys, "{between}{step}")?;
-        between = ".";
+        push_step(&mut steps, step)?;
     }
-    if between.is_empty() {
-        keys.push_str("the top")?;
+    Ok(steps)
+}
+
+// Adds a full stop and a step.
+fn push_step(steps: &mut String, step: &Step) -> Result<(), AllocError>
+    ensures { OnOk result (string_bytes steps.new
+        ≡ string_bytes steps.old ++ (codes "." ++ step_text (step_of step.now))) }
+{
+    match step {
+        Step::Key(key) => write!(steps, ".{key}"),
+        Step::Position(n) => write!(steps, ".{n}"),
     }
-    escaped(alloc, keys.as_str())
 }
