@@ -1,5 +1,8 @@
 -- Paths and indented text by computation.
 use Rattle.std.proofs.Common.{◌≡◌, true, false, None, [], ◌∷◌, ◌++◌, codes, refl}
+use Rattle.std.specs.Char.{encode_utf8}
+use Rattle.std.specs.Str.{chars}
+use Rattle.trees.specs.Depending.{edges_between, ArePairs}
 use Rattle.trees.specs.Listing.{unmarked, path_lines, path_names, given_paths, are_wrong}
 use Rattle.trees.specs.Outlining.{filled_lines, first_indent, first_bullet}
 
@@ -52,3 +55,18 @@ bullet = refl
 
 no_bullet : first_bullet (codes "-a" ∷ codes "  - b" ∷ []) ≡ []
 no_bullet = refl
+
+-- ## Pairs of words
+
+-- words stand between white space, and lines without words don't count
+paired : ArePairs (codes " a  b" ++ 13 ∷ 10 ∷ 32 ∷ 10 ∷ codes "b" ++ 9 ∷ codes "a") ((codes "a", codes "b") ∷ (codes "b", codes "a") ∷ [])
+unfolding chars encode_utf8
+paired = refl
+
+-- a pair that stands twice is one edge, and a word twice none
+needed : edges_between false (codes "a" ∷ codes "b" ∷ codes "c" ∷ []) ((codes "c", codes "a") ∷ (codes "a", codes "b") ∷ (codes "c", codes "a") ∷ (codes "b", codes "b") ∷ []) ≡ (2, 0) ∷ (0, 1) ∷ []
+needed = refl
+
+-- and turned
+needing : edges_between true (codes "a" ∷ codes "b" ∷ codes "c" ∷ []) ((codes "c", codes "a") ∷ (codes "a", codes "b") ∷ []) ≡ (0, 2) ∷ (1, 0) ∷ []
+needing = refl

@@ -77,7 +77,8 @@ fn nodes(
 
 // Whether a name means a node: all of its label or path, or a part of its label.
 fn is_meant(network: &Network, node: usize, label: &str, name: &str, is_whole: bool) -> bool
-    ensures { is_whole ≡ true → network.now.paths.items ≡ [] → result ≡ bytes_eq label.now name.now }
+    ensures { is_whole ≡ true → network.now.paths.items ≡ []
+        → result ≡ bytes_eq label.now name.now }
 {
     if !is_whole {
         return is_named(label, name);
