@@ -19,7 +19,7 @@ use Rattle.trees.specs.declared.deps.Dependencies.{Dependencies}
 use Rattle.trees.specs.declared.deps.Network.{Network}
 use Rattle.trees.specs.declared.failure.Failure.{Failure}
 use Rattle.trees.specs.declared.source.Source.{Source}
-use Rattle.trees.specs.Depending.{pair_words, number, is_need, directed, edge_of, same_edge, firsts, edges_between, ArePairs, HoldsPairs, AreNames, StandsAbove, IsRooted, IsGraphOfPairs, IsNoName, HoldsNoGraph}
+use Rattle.trees.specs.Depending.{pair_words, number, is_need, directed, edge_of, same_edge, firsts, edges_between, HoldsPairs, AreNames, StandsAbove, IsRooted, IsGraphOfPairs, IsNoName, HoldsNoGraph}
 use Rattle.trees.specs.DependingParts.{texts_of, labels_of, needs_of, AreApart, HasPairs, HasRoot, HoldsNone, IsNetworkOf}
 use Rattle.trees.specs.Reading.{FailsFor, FailsToMake}
 use Rattle.trees.specs.Shown.{shown_text}

@@ -1,4 +1,4 @@
-use Rattle.std.proofs.Common.{◌≡◌, true, List, [], map, string_bytes, take}
+use Rattle.std.proofs.Common.{◌≡◌, true, [], map, string_bytes, take}
 use Rattle.ptree.specs.Graph.{edges_of, weights_of}
 use Rattle.trees.specs.Shown.{shown_text, AreShownLabels}
 use Rattle.trees.proofs.deps.graph.Given as goal

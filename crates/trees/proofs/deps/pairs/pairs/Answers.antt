@@ -1,4 +1,4 @@
-use Rattle.std.proofs.Common.{◌≡◌, ◌≢◌, length, rules}
+use Rattle.std.proofs.Common.{◌≡◌, length, rules}
 use Rattle.trees.specs.DependingParts.{HoldsNone}
 use Rattle.trees.proofs.PairGraphs.{none_held}
 use Rattle.trees.proofs.Readings.{fails_by_input}

@@ -1,8 +1,7 @@
-use Rattle.std.proofs.Common.{◌≡◌, Bool, true, false, List, [], ℕ, get_or, map, sym, subst, rules}
+use Rattle.std.proofs.Common.{◌≡◌, true, false, List, [], ℕ, get_or, map, sym, subst, rules}
 use Rattle.std.specs.Borrow.{Bor}
 use Rattle.trees.specs.Depending.{is_need}
 use Rattle.trees.specs.DependingParts.{texts_of, HasNeeds}
-use Rattle.trees.specs.declared.deps.Network.{Network}
 use Rattle.trees.proofs.Networks.{turn_same, turn_more}
 use Rattle.trees.proofs.PairGraphs.{pair_known}
 use Rattle.trees.proofs.deps.pairs.push_pairs.Goals as goal

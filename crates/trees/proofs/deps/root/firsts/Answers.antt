@@ -1,4 +1,4 @@
-use Rattle.std.proofs.Common.{List, get_or, sym, subst}
+use Rattle.std.proofs.Common.{sym, subst}
 use Rattle.std.proofs.lemmas.List.Elements.{All-push, Contains-get_or}
 use Rattle.std.specs.Prelude.{All, Contains}
 use Rattle.trees.proofs.deps.root.firsts.Goals as goal

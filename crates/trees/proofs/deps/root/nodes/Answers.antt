@@ -1,5 +1,4 @@
-use Rattle.std.proofs.Common.{◌≡◌, ◌≤◌, ◌<◌, ◌∙◌, ◌+◌, List, length, get_or, refl, sym, ap, subst}
-use Rattle.std.specs.Prelude.{String}
+use Rattle.std.proofs.Common.{◌≡◌, ◌≤◌, ◌<◌, ◌∙◌, ◌+◌, length, get_or, refl, sym, ap, subst}
 use Rattle.std.specs.Str.{bytes_eq}
 use Rattle.trees.proofs.Roots.{AreNodes, nodes_push, nodes_same, nodes_all}
 use Rattle.trees.proofs.deps.root.nodes.Goals as goal
