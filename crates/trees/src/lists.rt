@@ -431,7 +431,7 @@ fn read_within(
     }
     match read_indented(alloc, text, form) {
         Ok(tree) => Ok(tree),
-        Err(wrong) => Err(wrong_indent(alloc, source, wrong, above)?),
+        Err(wrong) => Err(wrong_indent(alloc, source, wrong, form, above)?),
     }
 }
 
@@ -440,6 +440,7 @@ fn wrong_indent(
     alloc: Global,
     source: &Source,
     wrong: IndentError,
+    form: &Form<'_>,
     above: usize,
 ) -> Result<Failure, AllocError>
     ensures { IfOk result (FailsFor (wrong ≢ IndentError.Memory) ⊥) }
@@ -447,10 +448,23 @@ fn wrong_indent(
     match wrong {
         IndentError::Line(line) => {
             let line = line_of(source.unmarked(), line.saturating_sub(above));
-            source.wrong_at(alloc, line, "the indent matches no level")
+            let text = source.unmarked().lines().nth(line.saturating_sub(1));
+            source.wrong_at(alloc, line, unlike(text.unwrap_or(""), form.bullet))
         }
         IndentError::End => source.wrong(alloc, "empty"),
         IndentError::Memory => Ok(Failure::Memory),
+    }
+}
+
+// Says why a line continues no indented form.
+fn unlike(line: &str, bullet: &str) -> &'static str {
+    let text = line.trim_start_matches([' ', '\t']);
+    if !text.starts_with(bullet) {
+        "the bullet is missing"
+    } else if text.len() == line.len() {
+        "a second line without an indent; use --label"
+    } else {
+        "the indent matches no level"
     }
 }
 
