@@ -12,6 +12,8 @@ pub fn shaped(alloc: Global, shape: &str, items: u32) -> Result<TreeBuilder, All
         "random" => random(alloc, &mut builder, items)?,
         "notes" => notes(alloc, &mut builder, items)?,
         "short" => short(alloc, &mut builder, items)?,
+        "digits" => digits(alloc, &mut builder, items)?,
+        "long" => long(alloc, &mut builder, items)?,
         _ => wide(alloc, &mut builder, items)?,
     }
     Ok(builder)
@@ -52,6 +54,24 @@ fn wide(alloc: Global, builder: &mut TreeBuilder, items: u32) -> Result<(), Allo
 fn short(alloc: Global, builder: &mut TreeBuilder, items: u32) -> Result<(), AllocError> {
     for i in 1..items {
         begin_with(builder, format!(in alloc; "{}", i % 1_000_000)?)?;
+        rise(builder, 0);
+    }
+    Ok(())
+}
+
+// All items below the root, each with one digit.
+fn digits(alloc: Global, builder: &mut TreeBuilder, items: u32) -> Result<(), AllocError> {
+    for i in 1..items {
+        begin_with(builder, format!(in alloc; "{}", i % 10)?)?;
+        rise(builder, 0);
+    }
+    Ok(())
+}
+
+// All items below the root, each with a number of forty digits.
+fn long(alloc: Global, builder: &mut TreeBuilder, items: u32) -> Result<(), AllocError> {
+    for i in 1..items {
+        begin_with(builder, format!(in alloc; "{i:040}")?)?;
         rise(builder, 0);
     }
     Ok(())

@@ -9,6 +9,8 @@ pub fn shaped(shape: &str, items: u32) -> Option<Item> {
     match shape {
         "wide" => below_root(&mut tree, items, |i| format!("item {i}")),
         "short" => below_root(&mut tree, items, |i| (i % 1_000_000).to_string()),
+        "digits" => below_root(&mut tree, items, |i| (i % 10).to_string()),
+        "long" => below_root(&mut tree, items, |i| format!("{i:040}")),
         "notes" => below_root(&mut tree, items, |i| format!("item {i}\n").repeat(10)),
         "chain" => chain(&mut tree, items),
         "binary" => pairs(&mut tree, 1, items.ilog2() as usize),
