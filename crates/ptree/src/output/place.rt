@@ -1,25 +1,38 @@
 //! Copies texts to a place in a buffer that has room. A short text is two copies of a fixed size,
 //! which overlap.
-ghost use Rattle.std.specs.Prelude.{◌≡◌, ◌+◌, ◌≤◌, ◌++◌, length, take};
+ghost use Rattle.std.specs.Prelude.{◌≡◌, ◌+◌, ◌<◌, ◌≤◌, ◌++◌, length, take};
 
 use std::simd::Simd;
 
-/// Copies a text to a place. One of eight to fifteen bytes takes the first test.
+/// Copies a text to a place.
 #[inline(always)]
 pub(crate) fn place(room: &mut [u8], at: usize, text: &[u8])
     requires { at + length text.now ≤ length room.old }
     ensures text { take (at + length text.now) room.new ≡ take at room.old ++ text.now }
     ensures len { length room.new ≡ length room.old }
 {
-    let n = text.len();
-    if 8 <= n && n < 16 {
-        return place_ends::<8>(room, at, text);
-    }
-    match n {
-        2..4 => place_ends::<2>(room, at, text),
-        4..8 => place_ends::<4>(room, at, text),
+    match text.len() {
+        0..8 => place_few(room, at, text),
+        8..16 => place_ends::<8>(room, at, text),
         16..32 => place_ends::<16>(room, at, text),
-        _ => room[at..at + n].copy_from_slice(text),
+        32..64 => place_ends::<32>(room, at, text),
+        n => room[at..at + n].copy_from_slice(text),
+    }
+}
+
+// Copies a text of fewer than eight bytes.
+#[inline(always)]
+fn place_few(room: &mut [u8], at: usize, text: &[u8])
+    requires few { length text.now < 8 }
+    requires fits { at + length text.now ≤ length room.old }
+    ensures text { take (at + length text.now) room.new ≡ take at room.old ++ text.now }
+    ensures len { length room.new ≡ length room.old }
+{
+    match text.len() {
+        4..8 => place_ends::<4>(room, at, text),
+        2..4 => place_ends::<2>(room, at, text),
+        1 => place_front::<1>(room, at, text),
+        _ => {}
     }
 }
 
