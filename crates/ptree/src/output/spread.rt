@@ -19,9 +19,10 @@ pub(crate) fn may_hold_line_feed(bytes: &[u8], start: usize) -> bool
         return holds_line_feed_at::<16>(bytes, from);
     }
     match bytes.len() {
-        4..8 => holds_line_feed_in_two::<4>(bytes, start),
-        8..16 => holds_line_feed_in_two::<8>(bytes, start),
-        _ => holds_line_feed(bytes, start),
+        0..8 => holds_line_feed_in_few(bytes, start),
+        8..16 => holds_line_feed::<8>(bytes, start),
+        16..32 => holds_line_feed::<16>(bytes, start),
+        _ => holds_line_feed::<32>(bytes, start),
     }
 }
 
@@ -39,34 +40,35 @@ fn holds_line_feed_at<const N: usize>(bytes: &[u8], place: usize) -> bool
         != 0
 }
 
-// Whether a line feed may follow the first `start` bytes, for `N` bytes or more but fewer than
-// twice as many: two vectors overlap.
+// Whether a line feed may follow the first `start` bytes, for `N` bytes or more. The last vector
+// may overlap the one before it.
 #[inline(always)]
-fn holds_line_feed_in_two<const N: usize>(bytes: &[u8], start: usize) -> bool
+fn holds_line_feed<const N: usize>(bytes: &[u8], start: usize) -> bool
+    requires some { 0 < N }
     requires few { N ≤ 64 }
     requires low { N ≤ length bytes.now }
-    requires high { length bytes.now < N + N }
     ensures { result ≡ false → HasNoLineFeed (drop start bytes.now) }
 {
-    let last = bytes.len() - N;
-    holds_line_feed_at::<N>(bytes, last) || (start < last && holds_line_feed_at::<N>(bytes, start))
+    let mut place = bytes.len() - N;
+    while place > start {
+        if holds_line_feed_at::<N>(bytes, place) {
+            return true;
+        }
+        place = place.saturating_sub(N);
+    }
+    holds_line_feed_at::<N>(bytes, place)
 }
 
 // Whether a line feed may follow the first `start` bytes, for any number of them.
 #[inline(always)]
-fn holds_line_feed(bytes: &[u8], start: usize) -> bool
+fn holds_line_feed_in_few(bytes: &[u8], start: usize) -> bool
     requires { start ≤ length bytes.now }
     ensures { result ≡ false → HasNoLineFeed (drop start bytes.now) }
 {
-    let mut end = bytes.len();
-    while end >= 16 && end > start {
-        let from = end - 16;
-        if holds_line_feed_at::<16>(bytes, from) {
-            return true;
-        }
-        end = from;
+    if bytes.len() >= 4 {
+        return holds_line_feed::<4>(bytes, start);
     }
-    for place in start..end {
+    for place in start..bytes.len() {
         if bytes[place] == b'\n' {
             return true;
         }
