@@ -19,4 +19,4 @@ pub mod SkippedPieces
 pub mod OpenLines
 pub mod Scanning
 pub mod LineFeedSearch
-pub mod PrefixWords
+pub mod PrefixVectors

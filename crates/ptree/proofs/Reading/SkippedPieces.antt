@@ -1,6 +1,6 @@
 -- A line that begins with some of the shown passing pieces.
 use Rattle.std.proofs.Common.{◌≡◌, ℕ, zero, suc, ◌+◌, ◌-◌, ◌<◌, ◌≤◌, inl, inr, Bool, true, false, not, List, [], ◌∷◌, ◌++◌, length, length-append, take, drop, get_or, refl, sym, ap, ◌∙◌, subst, append_assoc, arith}
-use Rattle.std.proofs.Math.Seq.{take-append_seam, take-add}
+use Rattle.std.proofs.Math.Seq.{take-append_seam}
 use Rattle.std.specs.Str.{IsUtf8, IsCharBoundary}
 use Rattle.std.proofs.lemmas.Str.{IsUtf8-nil, IsUtf8-append, IsCharBoundary-from_take}
 use Rattle.std.proofs.lemmas.Bool.{cases_lt}
@@ -117,10 +117,6 @@ skip_end p fs count width n end shown text rest path h low common rest_is = reco
       take_take (suc n) zero xs l = absurd (omega arith)
       take_take (suc n) (suc m) [] l = refl
       take_take (suc n) (suc m) (y ∷ xs) l = ap (λ z. y ∷ z) (take_take n m xs (omega arith))
-
--- equal prefixes of two texts, joined
-pub take_chunk : (n m : ℕ) (a b : List ℕ) → take n a ≡ take n b → take m (drop n a) ≡ take m (drop n b) → take (n + m) a ≡ take (n + m) b
-take_chunk n m a b e f = take-add n m a ∙ (ap (λ z. z ++ take m (drop n a)) e ∙ (ap (λ z. take n b ++ z) f ∙ sym (take-add n m b)))
 
 -- one level less
 pub skip_step : (p : Pieces) (fs : List Flags) (count width n end w : ℕ) (shown : List ℕ) (flags : Flags) → ArePath p fs count shown → SkipSo p fs count width n end → width < end → flags ≡ get_or fs (n - 1) flags

@@ -1,93 +1,94 @@
-//! Compares the starts of texts by words.
+//! Compares the starts of texts by vectors.
 ghost use Rattle.std.specs.Prelude.{◌≡◌, ◌↔◌, length, take, drop, ◌≤◌, ◌+◌, IsTrue};
-ghost use Rattle.std.specs.Int.{w16, w32, w64, from_le_bytes, to_le_bytes};
 ghost use Rattle.ptree.specs.Texts.{IsPrefixOf};
 
-// Returns the number that the two bytes at a place spell.
+use std::simd::prelude::*;
+
+/// Whether the `N` bytes at a place are the same in two texts.
 #[inline(always)]
-fn two_at(bytes: &[u8], place: usize) -> u16
-    requires { place + 2 ≤ length bytes.now }
-    ensures spelled { result ≡ from_le_bytes w16 (take 2 (drop place bytes.now)) }
-    ensures spelling { to_le_bytes w16 result ≡ take 2 (drop place bytes.now) }
+pub(crate) fn same_at<const N: usize>(a: &[u8], b: &[u8], place: usize) -> bool
+    requires few { N ≤ 64 }
+    requires left { place + N ≤ length a.now }
+    requires right { place + N ≤ length b.now }
+    ensures { IsTrue result ↔ (take N (drop place a.now) ≡ take N (drop place b.now)) }
 {
-    u16::from_le_bytes([bytes[place], bytes[place + 1]])
+    Simd::<u8, N>::from_slice(&a[place..])
+        .simd_ne(Simd::from_slice(&b[place..]))
+        .to_bitmask()
+        == 0
 }
 
-// Returns the number that the four bytes at a place spell.
+// Does what `begins` does for a prefix of `N` bytes or more, but at most twice as many. The vectors
+// may overlap.
 #[inline(always)]
-fn four_at(bytes: &[u8], place: usize) -> u32
-    requires { place + 4 ≤ length bytes.now }
-    ensures spelled { result ≡ from_le_bytes w32 (take 4 (drop place bytes.now)) }
-    ensures spelling { to_le_bytes w32 result ≡ take 4 (drop place bytes.now) }
-{
-    u32::from_le_bytes([
-        bytes[place],
-        bytes[place + 1],
-        bytes[place + 2],
-        bytes[place + 3],
-    ])
-}
-
-/// Returns the number that the eight bytes at a place spell.
-#[inline(always)]
-pub(crate) fn eight_at(bytes: &[u8], place: usize) -> u64
-    requires { place + 8 ≤ length bytes.now }
-    ensures spelled { result ≡ from_le_bytes w64 (take 8 (drop place bytes.now)) }
-    ensures spelling { to_le_bytes w64 result ≡ take 8 (drop place bytes.now) }
-{
-    u64::from_le_bytes([
-        bytes[place],
-        bytes[place + 1],
-        bytes[place + 2],
-        bytes[place + 3],
-        bytes[place + 4],
-        bytes[place + 5],
-        bytes[place + 6],
-        bytes[place + 7],
-    ])
-}
-
-// Does what `begins` does for a prefix of two to four bytes. The words may overlap.
-#[inline(always)]
-fn begins_by_two(text: &[u8], prefix: &[u8]) -> bool
-    requires low { 2 ≤ length prefix.now }
-    requires high { length prefix.now ≤ 4 }
+fn begins_by<const N: usize>(text: &[u8], prefix: &[u8]) -> bool
+    requires few { N ≤ 64 }
+    requires low { N ≤ length prefix.now }
+    requires high { length prefix.now ≤ N + N }
     requires room { length prefix.now ≤ length text.now }
     ensures { IsTrue result ↔ IsPrefixOf prefix.now text.now }
 {
-    let last = prefix.len() - 2;
-    two_at(text, 0) == two_at(prefix, 0) && two_at(text, last) == two_at(prefix, last)
+    let last = prefix.len() - N;
+    same_at::<N>(text, prefix, 0) && same_at::<N>(text, prefix, last)
 }
 
-// Does what `begins` does for a prefix of four to eight bytes. The words may overlap.
+// Whether the 256 bytes at a place are those of a prefix. The four tests become one.
 #[inline(always)]
-fn begins_by_four(text: &[u8], prefix: &[u8]) -> bool
-    requires low { 4 ≤ length prefix.now }
-    requires high { length prefix.now ≤ 8 }
+fn same_block(text: &[u8], prefix: &[u8], place: usize) -> bool
+    requires block { place + 256 ≤ length prefix.now }
+    requires room { length prefix.now ≤ length text.now }
+    ensures same { IsTrue result → take place text.now ≡ take place prefix.now
+        → take (place + 256) text.now ≡ take (place + 256) prefix.now }
+    ensures prefix { IsPrefixOf prefix.now text.now → IsTrue result }
+{
+    same_at::<64>(text, prefix, place)
+        & same_at::<64>(text, prefix, place + 64)
+        & same_at::<64>(text, prefix, place + 128)
+        & same_at::<64>(text, prefix, place + 192)
+}
+
+// Does what `begins` does for a prefix of 64 bytes or more.
+#[inline(always)]
+fn begins_by_all(text: &[u8], prefix: &[u8]) -> bool
+    requires low { 64 ≤ length prefix.now }
     requires room { length prefix.now ≤ length text.now }
     ensures { IsTrue result ↔ IsPrefixOf prefix.now text.now }
 {
-    let last = prefix.len() - 4;
-    four_at(text, 0) == four_at(prefix, 0) && four_at(text, last) == four_at(prefix, last)
+    let mut place = 0;
+    while prefix.len() - place >= 256 {
+        if !same_block(text, prefix, place) {
+            return false;
+        }
+        place += 256;
+    }
+    while prefix.len() - place > 64 {
+        if !same_at::<64>(text, prefix, place) {
+            return false;
+        }
+        place += 64;
+    }
+    same_at::<64>(text, prefix, prefix.len() - 64)
 }
 
-// Does what `begins` does for a prefix of eight to sixteen bytes. The words may overlap.
-#[inline(always)]
-fn begins_by_eight(text: &[u8], prefix: &[u8]) -> bool
-    requires low { 8 ≤ length prefix.now }
-    requires high { length prefix.now ≤ 16 }
+// Does what `begins` does for a prefix of sixteen bytes or more. It is a function of its own, since
+// no piece is that long.
+#[inline(never)]
+fn begins_by_many(text: &[u8], prefix: &[u8]) -> bool
+    requires low { 16 ≤ length prefix.now }
     requires room { length prefix.now ≤ length text.now }
     ensures { IsTrue result ↔ IsPrefixOf prefix.now text.now }
 {
-    let last = prefix.len() - 8;
-    eight_at(text, 0) == eight_at(prefix, 0) && eight_at(text, last) == eight_at(prefix, last)
+    match prefix.len() {
+        0..32 => begins_by::<16>(text, prefix),
+        32..64 => begins_by::<32>(text, prefix),
+        _ => begins_by_all(text, prefix),
+    }
 }
 
-/// Whether a text begins with a prefix of at most sixteen bytes. Most pieces have four to eight, so
-/// these are tried first.
+/// Whether a text begins with a prefix. Most pieces have four to eight bytes, so these are tried
+/// first.
 #[inline(always)]
 pub(crate) fn begins(text: &[u8], prefix: &[u8]) -> bool
-    requires { length prefix.now ≤ 16 }
     ensures { IsTrue result ↔ IsPrefixOf prefix.now text.now }
 {
     let width = prefix.len();
@@ -96,12 +97,15 @@ pub(crate) fn begins(text: &[u8], prefix: &[u8]) -> bool
     }
     if width >= 4 {
         if width <= 8 {
-            return begins_by_four(text, prefix);
+            return begins_by::<4>(text, prefix);
         }
-        return begins_by_eight(text, prefix);
+        if width <= 16 {
+            return begins_by::<8>(text, prefix);
+        }
+        return begins_by_many(text, prefix);
     }
     if width >= 2 {
-        return begins_by_two(text, prefix);
+        return begins_by::<2>(text, prefix);
     }
-    width == 0 || text[0] == prefix[0]
+    width == 0 || begins_by::<1>(text, prefix)
 }

@@ -1,5 +1,5 @@
 use Rattle.std.proofs.Common.{refl}
-use Rattle.ptree.proofs.Reading.PrefixWords.{begins_boundary}
+use Rattle.ptree.proofs.Reading.PrefixVectors.{begins_boundary}
 use Rattle.ptree.proofs.read.lines.skip.Goals as goal
 
 pub range_from-requires : goal.range_from-requires
