@@ -14,7 +14,7 @@ pub(crate) mod indent;
 mod line;
 pub(crate) mod look;
 pub(crate) mod pen;
-mod place;
+pub(crate) mod place;
 mod spread;
 
 use crate::item::{StringItem, TreeItem};

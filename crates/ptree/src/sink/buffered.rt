@@ -4,6 +4,7 @@ ghost use Rattle.std.specs.Prelude.{◌≡◌, ◌+◌, ◌-◌, ◌≤◌, ◌<
 ghost use Rattle.ptree.specs.Faults.{reported_by_put, reported_by_call, faults_of};
 ghost use Rattle.ptree.specs.Writing.{HasCause, TakesNoMemory, put_faults};
 
+use crate::output::place::place;
 use crate::sink::faults::FaultCount;
 use crate::sink::{DrawError, Sink};
 use std::alloc::{AllocFailed, Global};
@@ -236,7 +237,7 @@ impl<S: Sink> Buffered<S> {
         ensures room { room_of self.new ≡ room_of self.old }
     {
         let end = self.used + bytes.len();
-        self.room[self.used..end].copy_from_slice(bytes);
+        place(&mut self.room, self.used, bytes);
         self.used = end;
         bytes.len()
     }
