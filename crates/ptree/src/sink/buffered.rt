@@ -237,7 +237,12 @@ impl<S: Sink> Buffered<S> {
         ensures room { room_of self.new ≡ room_of self.old }
     {
         let end = self.used + bytes.len();
-        place(&mut self.room, self.used, bytes);
+        // Short bytes are copied without a call, and this test spares long ones the others.
+        if bytes.len() < 64 {
+            place(&mut self.room, self.used, bytes);
+        } else {
+            self.room[self.used..end].copy_from_slice(bytes);
+        }
         self.used = end;
         bytes.len()
     }
