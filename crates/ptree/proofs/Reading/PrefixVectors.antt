@@ -1,5 +1,5 @@
 -- The starts of texts, compared by vectors.
-use Rattle.std.proofs.Common.{◌≡◌, ◌↔◌, ℕ, eqb, not, cond, Bool, true, false, ◌+◌, ◌*◌, ◌-◌, ◌^◌, ◌%◌, ◌≤◌, ◌<◌, List, [], ◌∷◌, ◌++◌, length, length-append, length-drop, length-take, IsCharBoundary, IsUtf8, inl, inr, get_or, take, drop, map, w8, refl, sym, ap, ◌∙◌, subst, arith}
+use Rattle.std.proofs.Common.{◌≡◌, ◌↔◌, ℕ, eqb, not, cond, Bool, true, false, ◌+◌, ◌-◌, ◌^◌, ◌%◌, ◌≤◌, ◌<◌, List, [], ◌∷◌, ◌++◌, length, length-append, length-drop, length-take, IsCharBoundary, IsUtf8, inl, inr, get_or, take, drop, map, w8, refl, sym, ap, ◌∙◌, subst, arith}
 use Rattle.std.specs.Simd.Lanes.{zip2, mask_l, top}
 use Rattle.std.proofs.lemmas.Bool.{cases_lt, eqb-true, eqb-false, eq-eqb}
 use Rattle.std.proofs.lemmas.List.{drop-append-le, ext_get_or, get_or-take, nil_from_length, take-append-drop, take-append-le}
