@@ -17,6 +17,8 @@ pub mod OpenItems
 pub mod FoundPieces
 pub mod SkippedPieces
 pub mod OpenLines
+pub mod OwnLines
+pub mod LineTexts
 pub mod Scanning
 pub mod LineFeedSearch
 pub mod PrefixVectors

@@ -1,25 +1,22 @@
 -- Which lines continue the open items.
-use Rattle.std.proofs.Common.{◌≡◌, ◌≢◌, ℕ, zero, suc, ◌<◌, ◌≤◌, inl, inr, Bool, not, List, [], ◌∷◌, ◌++◌, length, take, get_or, refl, sym, ap, ◌∙◌, subst, append_assoc, add-one, arith}
+use Rattle.std.proofs.Common.{◌≡◌, ◌≢◌, ℕ, zero, suc, ◌<◌, ◌≤◌, Bool, not, List, [], ◌∷◌, ◌++◌, length, sym, ap, ◌∙◌, subst, append_assoc, arith}
 use Rattle.std.proofs.lemmas.List.Elements.{All-append}
-use Rattle.std.proofs.lemmas.Bool.{cases_lt, eq-eqb, ne_eqb}
-use Rattle.std.proofs.lemmas.List.{append_cancel_left, length_push, get_or-take, length-take-le}
+use Rattle.std.proofs.lemmas.List.{append_cancel_left}
 use Rattle.ptree.specs.declared.read.lines.Flags.{Flags}
 use Rattle.ptree.specs.Drawing.{Look, continued_prefix}
-use Rattle.ptree.specs.Flags.{has_later, last_flags, pieces_by, passing_by}
+use Rattle.ptree.specs.Flags.{has_later, pieces_by, passing_by}
 use Rattle.ptree.specs.Outline.{Line, line}
 use Rattle.ptree.specs.Pieces.{Pieces, turning_piece}
-use Rattle.ptree.specs.Reached.{allows, any_flags, Allows, own_prefix, NoPiece, IsCutTo, AreSome, ArePath, IsFound, CanClose, CutsPassing, CutsPieces, IsFurtherLine, IsOwnLine, BeginsWrong}
+use Rattle.ptree.specs.Reached.{any_flags, Allows, own_prefix, NoPiece, IsCutTo, ArePath, IsFound, CutsPassing, IsFurtherLine, BeginsWrong}
 use Rattle.ptree.specs.Readable.{IsReadableWith}
-use Rattle.ptree.specs.Spelled.{ArePiecesAt, ArePassing}
+use Rattle.ptree.specs.Spelled.{ArePassing}
 use Rattle.ptree.specs.Style.{start_codes, end_codes}
 use Rattle.ptree.specs.Texts.{HasNoLineFeed}
 use Rattle.ptree.proofs.Reading.LineEnds.{no_feed_passing}
-use Rattle.ptree.proofs.Reading.LastFlags.{length-last_flags}
-use Rattle.ptree.proofs.Reading.Levels.{has_later_deeper, has_later_here}
-use Rattle.ptree.proofs.Reading.Markers.{passings_once, continued_prefix_parts, own_prefix_split}
+use Rattle.ptree.proofs.Reading.Markers.{continued_prefix_parts, own_prefix_split}
 use Rattle.ptree.proofs.Pieces.Prefixes.{apart_not_both_starts, same_prefix, same_kind}
 use Rattle.ptree.proofs.Styles.PaintedTexts.{no_line_feed_start, no_line_feed_end}
-use Rattle.ptree.proofs.Reading.OpenItems.{some_flag, allows_any, passing_deeper}
+use Rattle.ptree.proofs.Reading.OpenItems.{allows_any, passing_deeper}
 use Rattle.ptree.proofs.Reading.FoundPieces.{found_at}
 
 -- ## Lines that cannot continue a drawing
@@ -77,109 +74,6 @@ unturned_wrong k readable depth fs new x text shown rest n is h none never =
     begins_wrong k readable depth fs new x text shown rest n is h never (λ b o z deep a e. none b (end_codes k.branch ++ (start_codes k.leaf ++ z)) (allows_any b) e)
 
 -- ## Lines that continue drawings
-
--- an element of the first list
-get_left : (xs ys : List Flags) (m : ℕ) → m < length xs → get_or (xs ++ ys) m any_flags ≡ get_or xs m any_flags
-get_left [] ys m l = absurd (omega arith)
-get_left (x ∷ xs) ys zero l = refl
-get_left (x ∷ xs) ys (suc m) l = get_left xs ys m (omega arith)
-
--- the last element
-get_last : (xs : List Flags) (x : Flags) → get_or (xs ++ x ∷ []) (length xs) any_flags ≡ x
-get_last [] x = refl
-get_last (y ∷ xs) x = get_last xs x
-
--- the parts of an item's own line
-pub record OwnParts (k : Look) (x text rest turned own more : List ℕ) (flags : Flags) : Type 0 where
-  pub is : x ≡ start_codes k.branch ++ text
-  pub cut : IsCutTo (turning_piece k.pieces) any_flags rest flags turned
-  pub turned_is : turned ≡ end_codes k.branch ++ (start_codes k.leaf ++ (own ++ 10 ∷ more))
-  pub one : HasNoLineFeed own
-
--- the parts of an item's own line, as they were taken off one after the other
-pub own_line_parts : (k : Look) (x text rest turned closed start own more : List ℕ) (flags : Flags) → x ≡ start_codes k.branch ++ text → IsCutTo (turning_piece k.pieces) any_flags rest flags turned
-    → turned ≡ end_codes k.branch ++ closed → closed ≡ start_codes k.leaf ++ start → HasNoLineFeed own × (start ≡ own ++ 10 ∷ more) → OwnParts k x text rest turned own more flags
-own_line_parts k x text rest turned closed start own more flags is cut t c line = record {
-  is = is;
-  cut = cut;
-  turned_is = t ∙ ap (λ z. end_codes k.branch ++ z) (c ∙ ap (λ z. start_codes k.leaf ++ z) line.1);
-  one = line.0;
-}
-
--- an item's own line, from its parts
-pub own_line_from_parts : (k : Look) → IsReadableWith k.pieces k.marker → (depth : ℕ) (fs new fs' : List Flags) (x text shown rest turned own more : List ℕ) (n : ℕ) (flags : Flags) → IsFound k.pieces fs new text shown rest n
-    → OwnParts k x text rest turned own more flags → n < depth → CanClose n new → fs' ≡ take n new ++ flags ∷ [] → IsOwnLine k depth fs x own more fs' × ArePath k.pieces fs' n shown
-own_line_from_parts k readable depth fs new fs' x text shown rest turned own more n flags h parts deep can fs_is =
-    let p : Pieces = k.pieces in
-    let cut = parts.cut in
-    let (above, len, shown_is) = h.are_passing in
-    let turn : List ℕ = turning_piece p cut.last in
-    let pieces : List ℕ = shown ++ turn in
-    let enough = h.enough in
-    let count = h.count in
-    let short : length (take n new) ≡ n = length-take-le n new (omega (arith, enough, count)) in
-    let size : length fs' ≡ suc n = ap length fs_is ∙ (length_push (take n new) flags ∙ (add-one (length (take n new)) ∙ ap suc short)) in
-    let left : (m : ℕ) → m < n → get_or fs' m any_flags ≡ get_or new m any_flags = λ m l.
-    ap (λ z. get_or z m any_flags) fs_is ∙ (get_left (take n new) (flags ∷ []) m (omega (arith, l, short)) ∙ get_or-take n new m any_flags l) in
-    let last : get_or fs' n any_flags ≡ flags = ap (λ z. get_or z n any_flags) fs_is ∙ (ap (λ z. get_or (take n new ++ flags ∷ []) z any_flags) (sym short) ∙ get_last (take n new) flags) in
-    let same_parts : (o : List Line) → pieces_by p o (suc n) ≡ pieces → (passing_by p o n ≡ shown) × (turning_piece p (not (has_later o (suc n))) ≡ turn) = λ o e.
-    let same = passings_once p readable.pieces (last_flags o n) above (turning_piece p (not (has_later o (suc n)))) turn (length-last_flags o n ∙ sym len) (e ∙ ap (λ z. z ++ turn) shown_is) in
-    (same.0 ∙ sym shown_is, same.1) in
-    let to : (o : List Line) → Allows fs' o → Allows new (line (suc n) [] ∷ o) = λ o a m l. elim (cases_lt m n) [
-      | inl less ↦
-          let later = has_later_deeper (line (suc n) []) o (suc m) (omega arith) in
-          ap (λ z. allows (get_or new m any_flags) (not z)) later ∙ (ap (λ z. allows z (not (has_later o (suc m)))) (sym (left m less)) ∙ a m (omega (arith, size, less)))
-      | inr more ↦ elim (cases_lt n m) [
-        | inl past ↦ ap (λ z. allows (get_or new m any_flags) (not z)) (has_later_here (line (suc n) []) o (suc m) (omega arith) ∙ ne_eqb (suc m) (suc n) (omega arith)) ∙ can.below m past l
-        | inr most ↦
-            let level : m ≡ n = omega arith in
-            ap (λ z. allows (get_or new m any_flags) (not z)) (has_later_here (line (suc n) []) o (suc m) (omega arith) ∙ eq-eqb (suc m) (suc n) (omega arith))
-            ∙ (ap (λ z. (get_or new z any_flags).regular) level ∙ can.beside (omega (arith, l, level)))
-      ]
-    ] in
-    let cuts : CutsPieces p fs (suc n) pieces fs' = λ o. (
-      λ a.
-          let both = (h.cut (line (suc n) [] ∷ o)).0 (to o a) in
-          let kept = (cut.kept (not (has_later o (suc n)))).0 (ap (λ z. allows z (not (has_later o (suc n)))) (sym last) ∙ a n (omega (arith, size))) in
-          (both.0, ap (λ z. z ++ turning_piece p (not (has_later o (suc n)))) (sym (passing_deeper p n o) ∙ both.1) ∙ ap (λ z. shown ++ z) kept.1),
-      λ both.
-          let same = same_parts o both.1 in
-          let kept : Allows new (line (suc n) [] ∷ o) = (h.cut (line (suc n) [] ∷ o)).1 (both.0, passing_deeper p n o ∙ same.0) in
-          λ m l. elim (cases_lt m n) [
-            | inl less ↦
-                let later = has_later_deeper (line (suc n) []) o (suc m) (omega arith) in
-                ap (λ z. allows z (not (has_later o (suc m)))) (left m less) ∙ (ap (λ z. allows (get_or new m any_flags) (not z)) (sym later) ∙ kept m (omega (arith, less, enough, count)))
-            | inr more ↦
-                let level : m ≡ n = omega (arith, l, size) in
-                ap (λ z. allows (get_or fs' z any_flags) (not (has_later o (suc z)))) level ∙ (ap (λ z. allows z (not (has_later o (suc n)))) last
-                ∙ (cut.kept (not (has_later o (suc n)))).1 (allows_any (not (has_later o (suc n))), same.1))
-          ],
-    ) in
-    let some : AreSome fs' = λ m l. elim (cases_lt m n) [
-      | inl less ↦ ap (λ z. allows z z.last) (left m less) ∙ h.some m (omega (arith, less, enough, count))
-      | inr more ↦
-          let level : m ≡ n = omega (arith, l, size) in
-          ap (λ z. allows (get_or fs' z any_flags) (get_or fs' z any_flags).last) level ∙ (ap (λ z. allows z z.last) last ∙ some_flag flags cut.last ((cut.kept cut.last).1 (allows_any cut.last, refl)))
-    ] in (
-      record {
-        pieces = pieces;
-        one = parts.one;
-        low = omega (arith, size);
-        high = omega (arith, size, enough);
-        deep = omega (arith, size, deep);
-        are_pieces = subst (λ z. ArePiecesAt p z pieces) (sym size) (above, cut.last, len, ap (λ z. z ++ turn) shown_is);
-        text_is = parts.is ∙ (ap (λ z. start_codes k.branch ++ z) (h.text_is ∙ (ap (λ z. shown ++ z) (cut.text_is ∙ ap (λ z. turn ++ z) parts.turned_is) ∙ sym (append_assoc shown turn _)))
-            ∙ sym (own_prefix_split k pieces (own ++ 10 ∷ more)));
-        cuts = subst (λ z. CutsPieces p fs z pieces fs') (sym size) cuts;
-      },
-      record {
-        enough = omega (arith, size);
-        near = omega (arith, size);
-        some = some;
-        same = λ m l r t. h.same m l (ap (λ (f : Flags). f.regular) (sym (left m l)) ∙ r) (ap (λ (f : Flags). f.last) (sym (left m l)) ∙ t);
-        shown_is = λ o a. (same_parts o ((cuts o).0 a).1).0;
-      },
-    )
 
 -- a further line, from its parts
 pub further_line_from_parts : (k : Look) (fs new : List Flags) (x text shown rest own more : List ℕ) (n : ℕ) → IsFound k.pieces fs new text shown rest n → x ≡ start_codes k.branch ++ text

@@ -1,0 +1,12 @@
+use Rattle.std.proofs.Common.{◌++◌, inl}
+use Rattle.ptree.proofs.Reading.LineTexts.{no_text_behind, text_behind}
+use Rattle.ptree.proofs.read.lines.Frame.further_text.Goals as goal
+
+pub returns-in_default : goal.returns-in_default
+returns-in_default c = inl (λ z e. c.in_default.ensures (_ ++ z) e)
+
+pub returns-in_default-skip_branch_end : goal.returns-in_default-skip_branch_end
+returns-in_default-skip_branch_end c = no_text_behind _ _ _ _ c.in-Some.ensures c.in_default-skip_branch_end.ensures
+
+pub returns : goal.returns
+returns c = text_behind _ _ _ _ _ c.read_line.result c.in-Some.ensures c.in-Some-skip_branch_end.ensures c.read_line.ensures
