@@ -1,7 +1,8 @@
 -- The test for ASCII digits, and what follows from it.
-use Rattle.std.proofs.Common.{◌≡◌, ℕ, ◌<◌, List, [], ◌∷◌, Bool, true, false, length, nat_le, refl, rules, arith, None, ◌^◌, subst}
+use Rattle.std.proofs.Common.{◌≡◌, ℕ, ◌<◌, ◌&&◌, List, [], ◌∷◌, Bool, true, false, length, nat_le, refl, ap, rules, arith, None, ◌^◌, subst}
 use Rattle.std.proofs.lemmas.Grind.{common_steps}
 use Rattle.std.specs.Char.{digit_value, is_ascii_digit}
+use Rattle.std.specs.List.{list_all}
 use Rattle.std.specs.Str.{all_ascii_digits}
 use Rattle.std.specs.Str.Parse.{AllDigits, IsNumeral, digits_value, without_leading_plus}
 use Rattle.ptree.specs.Parse.{parse_number}
@@ -9,6 +10,11 @@ use Rattle.ptree.specs.Parse.{parse_number}
 -- a digit is less than ten
 digit_below : (c : ℕ) → is_ascii_digit c ≡ true → digit_value c < 10
 digit_below c h = grind (arith, common_steps)
+
+-- a text passes the test if each byte is a digit
+pub digits_all : (s : List ℕ) → list_all is_ascii_digit s ≡ all_ascii_digits s
+digits_all [] = refl
+digits_all (c ∷ cs) = ap (λ b. is_ascii_digit c && b) (digits_all cs)
 
 -- a text that passes the test has only digits
 pub all_digits : (s : List ℕ) → all_ascii_digits s ≡ true → AllDigits 10 s

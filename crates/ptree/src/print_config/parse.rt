@@ -116,12 +116,7 @@ pub(crate) fn parse_number(greatest: u64, text: &str) -> Option<u64>
 fn is_all_digits(text: &str) -> bool
     ensures { result ≡ all_ascii_digits text.now }
 {
-    for b in text.as_bytes() {
-        if !b.is_ascii_digit() {
-            return false;
-        }
-    }
-    true
+    text.as_bytes().iter().all(|b| b.is_ascii_digit())
 }
 
 // Returns the colour of a variable: a number of one to three digits, or else a name.

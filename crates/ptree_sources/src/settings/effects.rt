@@ -253,12 +253,7 @@ fn is_byte(text: &str) -> bool
 fn is_all_digits(text: &str) -> bool
     ensures { result ≡ all_ascii_digits text.now }
 {
-    for b in text.as_bytes() {
-        if !b.is_ascii_digit() {
-            return false;
-        }
-    }
-    true
+    text.as_bytes().iter().all(|b| b.is_ascii_digit())
 }
 
 // Whether a name is that of a known colour: then a style of it has a code.
