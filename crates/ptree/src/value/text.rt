@@ -30,11 +30,8 @@ impl Value {
             Value::String(text) => text.as_str(),
             Value::Option(Some(value)) => value.text(room),
             Value::Newtype(value) => value.text(room),
-            Value::Unit => "",
-            Value::Option(None) => "",
-            Value::Seq(_) => "",
-            Value::Map(_) => "",
-            Value::Bytes(_) => "",
+            Value::Unit | Value::Option(None) => "",
+            Value::Seq(_) | Value::Map(_) | Value::Bytes(_) => "",
         }
     }
 }

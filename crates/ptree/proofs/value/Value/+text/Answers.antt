@@ -48,9 +48,6 @@ returns-in-String t c = grind (arith, common_steps, the_lemmas)
 pub returns-in-Option-Some : goal.returns-in-Option-Some
 returns-in-Option-Some t c = grind (arith, common_steps, the_lemmas)
 
-pub returns-in-Option-None : goal.returns-in-Option-None
-returns-in-Option-None t c = grind (arith, common_steps, the_lemmas)
-
 pub returns-in-Newtype : goal.returns-in-Newtype
 returns-in-Newtype t c = grind (arith, common_steps, the_lemmas)
 
@@ -59,9 +56,3 @@ returns-in-Unit t c = grind (arith, common_steps, the_lemmas)
 
 pub returns-in-Seq : goal.returns-in-Seq
 returns-in-Seq t c = grind (arith, common_steps, the_lemmas)
-
-pub returns-in-Map : goal.returns-in-Map
-returns-in-Map t c = grind (arith, common_steps, the_lemmas)
-
-pub returns-in-Bytes : goal.returns-in-Bytes
-returns-in-Bytes t c = grind (arith, common_steps, the_lemmas)
