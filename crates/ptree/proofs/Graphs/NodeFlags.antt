@@ -55,6 +55,10 @@ seen_start (x ∷ xs) k (suc w) = seen_start xs k w
 pub seen_all : (n : ℕ) (seen : List Bool) (w : ℕ) → is_seen (all_flags n seen) w ≡ is_seen seen w
 seen_all n seen w = seen_start seen (n - length seen) w
 
+-- a flag that is read in a copy of the flags is that of the node
+pub flag_read : (n : ℕ) (seen copy : List Bool) (v : ℕ) (read : Bool) → read ≡ is_seen copy v → copy ≡ seen → read ≡ is_seen (all_flags n seen) v
+flag_read n seen copy v read is same = is ∙ (ap (λ s. is_seen s v) same ∙ sym (seen_all n seen v))
+
 -- a flag that is set in the first of two lists leaves the second
 set_start : (xs ys : List Bool) (v : ℕ) (b : Bool) → v < length xs → slice_set (xs ++ ys) v b ≡ slice_set xs v b ++ ys
 set_start [] ys v b h = absurd (omega arith)

@@ -8,7 +8,7 @@ use Rattle.ptree.specs.Growing.{is_seen, enter, grow, row_occurrences, row_seen,
 use Rattle.ptree.proofs.Graphs.EdgeLists.{newest_starts, newest_within, newest_has}
 use Rattle.ptree.proofs.Graphs.Growth.{stopped, without, grown_all, grown_more, leaf_made, row_made, seen_made, entered}
 use Rattle.ptree.proofs.Graphs.Links.{linked-step}
-use Rattle.ptree.proofs.Graphs.NodeFlags.{seen_all}
+use Rattle.ptree.proofs.Graphs.NodeFlags.{flag_read, seen_all}
 use Rattle.ptree.proofs.Graphs.Places.{appends_none, appends_more, appends_over}
 use Rattle.ptree.proofs.graph.Graph.+push.Goals as goal
 use Rattle.ptree.proofs.graph.Graph.+push.Goals.{push_places-then-repeated-via-then-repeated, push_places-then-repeated-via-else-repeated+then-levels-eq0}
@@ -19,7 +19,7 @@ push_places-returns-then-repeated-clause-places g t c =
     let v = c.args.node.0 in
     let xs = c.args.places.now.items in
     let seen = all_flags n c.args.seen.now.items in
-    let flag : c.is_flagged-repeated.result ≡ is_seen seen v = c.is_flagged-repeated.ensures ∙ (ap (λ l. is_seen l v) c.deref.ensures.value ∙ sym (seen_all n c.args.seen.now.items v)) in
+    let flag : c.is_flagged-repeated.result ≡ is_seen seen v = flag_read n c.args.seen.now.items _ v _ c.is_flagged-repeated.ensures c.deref.ensures.value in
     let leaf : c.leaf.result ≡ place_of v (leaf_size c.is_flagged-repeated.result) = search c.leaf.ensures in
     leaf_made (grow (neighbors_of (edges_of c.args.self.now)) c.args.levels seen v) xs c.push.new.self.items v (is_seen seen v) seen
     (stopped (neighbors_of (edges_of c.args.self.now)) c.args.levels seen v
@@ -31,7 +31,7 @@ push_places-returns-then-repeated-clause-seen g t c =
     let n = length (weights_of c.args.self.now) in
     let v = c.args.node.0 in
     let seen = all_flags n c.args.seen.now.items in
-    let flag : c.is_flagged-repeated.result ≡ is_seen seen v = c.is_flagged-repeated.ensures ∙ (ap (λ l. is_seen l v) c.deref.ensures.value ∙ sym (seen_all n c.args.seen.now.items v)) in
+    let flag : c.is_flagged-repeated.result ≡ is_seen seen v = flag_read n c.args.seen.now.items _ v _ c.is_flagged-repeated.ensures c.deref.ensures.value in
     seen_made (grow (neighbors_of (edges_of c.args.self.now)) c.args.levels seen v) _ seen _
     (stopped (neighbors_of (edges_of c.args.self.now)) c.args.levels seen v
     (elim c.then-repeated.branch [ push_places-then-repeated-via-then-repeated w ↦ inl (sym flag ∙ w.if-repeated.true) | push_places-then-repeated-via-else-repeated+then-levels-eq0 w ↦ inr w.if-levels-eq0.true ])) (search rules)
@@ -43,7 +43,7 @@ push_places-returns-then-newest-eq0-clause-places g t c =
     let xs = c.args.places.now.items in
     let edges = edges_of c.args.self.now in
     let seen = all_flags n c.args.seen.now.items in
-    let flag : c.is_flagged-repeated.result ≡ is_seen seen v = c.is_flagged-repeated.ensures ∙ (ap (λ l. is_seen l v) c.deref.ensures.value ∙ sym (seen_all n c.args.seen.now.items v)) in
+    let flag : c.is_flagged-repeated.result ≡ is_seen seen v = flag_read n c.args.seen.now.items _ v _ c.is_flagged-repeated.ensures c.deref.ensures.value in
     let none : neighbors_of edges v ≡ [] = sym (newest_starts edges v c.newest-newest.result c.newest-newest.ensures.newest).0 ∙ ap (λ k. neighbors_of (take k edges) v) c.if-newest-eq0.true in
     let leaf : c.leaf-then-newest-eq0.result ≡ place_of v 1 = search c.leaf-then-newest-eq0.ensures in
     leaf_made (grow (neighbors_of edges) c.args.levels seen v) xs c.push-then-newest-eq0.new.self.items v false seen
@@ -56,7 +56,7 @@ push_places-returns-then-newest-eq0-clause-seen g t c =
     let v = c.args.node.0 in
     let edges = edges_of c.args.self.now in
     let seen = all_flags n c.args.seen.now.items in
-    let flag : c.is_flagged-repeated.result ≡ is_seen seen v = c.is_flagged-repeated.ensures ∙ (ap (λ l. is_seen l v) c.deref.ensures.value ∙ sym (seen_all n c.args.seen.now.items v)) in
+    let flag : c.is_flagged-repeated.result ≡ is_seen seen v = flag_read n c.args.seen.now.items _ v _ c.is_flagged-repeated.ensures c.deref.ensures.value in
     let none : neighbors_of edges v ≡ [] = sym (newest_starts edges v c.newest-newest.result c.newest-newest.ensures.newest).0 ∙ ap (λ k. neighbors_of (take k edges) v) c.if-newest-eq0.true in
     seen_made (grow (neighbors_of edges) c.args.levels seen v) _ seen _
     (without (neighbors_of edges) c.args.levels seen v c.if-levels-eq0.false (sym flag ∙ c.if-repeated.false) none) (search rules)

@@ -16,7 +16,7 @@ use Rattle.ptree.proofs.Graphs.EdgeLists.{newest_starts, newest_within, newest_h
 use Rattle.ptree.proofs.Drawing.Engine.{item_written, all_below, begun_none, begun_part, begun_then, begun_err, not_last, still_turned, long_enough, take_again, memory_is_no_fault}
 use Rattle.ptree.proofs.Graphs.Growth.{stopped, without, entered, seen_made}
 use Rattle.ptree.proofs.Graphs.Links.{node_at, target_at, linked-step}
-use Rattle.ptree.proofs.Graphs.NodeFlags.{seen_all}
+use Rattle.ptree.proofs.Graphs.NodeFlags.{flag_read}
 use Rattle.ptree.proofs.Sinks.Written.{entries_none, entries_err, entry_part}
 use Rattle.ptree.proofs.graph.row.+draw_row.Goals as goal
 use Rattle.ptree.proofs.graph.row.+draw_row.Goals.{draw_node-then-repeated-via-then-repeated, draw_node-then-repeated-via-else-repeated+then-levels_left-eq0}
@@ -166,7 +166,7 @@ draw_node-returns-clause-bytes g t c = λ outer e.
     let v = c.args.node.0 in
     let seen = flags_of graph c.args.seen.now.items in
     let tree = (grow below c.args.levels_left seen v).occurrence in
-    let flag : c.is_flagged-repeated.result ≡ is_seen seen v = c.is_flagged-repeated.ensures ∙ (ap (λ l. is_seen l v) c.deref.ensures.value ∙ sym (seen_all (length (weights_of graph)) c.args.seen.now.items v)) in
+    let flag : c.is_flagged-repeated.result ≡ is_seen seen v = flag_read (length (weights_of graph)) c.args.seen.now.items _ v _ c.is_flagged-repeated.ensures c.deref.ensures.value in
     let node = node_at graph v c.index-record.result.now c.requires.node c.index-record.ensures in
     let kids_in = kids_are g.N.Label.text graph c.args.marked.now.mark.now tree _ (kids_below below c.args.levels_left seen v c.if-levels_left-eq0.false (sym flag ∙ c.if-repeated.false)) in
     item_written look c.args.levels_left outer c.args.is_last (shape tree) _ _ _ _ _ (λ z. c.if-levels_left-eq0.false z)
@@ -176,7 +176,7 @@ draw_node-returns-clause-bytes g t c = λ outer e.
 
 pub draw_node-returns-clause-seen : goal.draw_node-returns-clause-seen
 draw_node-returns-clause-seen g t c = flags_after_ok _ _ _ c.draw_below.result (sym (seen_below (neighbors_of (edges_of c.args.marked.now.graph.now)) c.args.levels_left (flags_of c.args.marked.now.graph.now c.args.seen.now.items) c.args.node.0 c.if-levels_left-eq0.false
-    (sym (c.is_flagged-repeated.ensures ∙ (ap (λ l. is_seen l c.args.node.0) c.deref.ensures.value ∙ sym (seen_all (length (weights_of c.args.marked.now.graph.now)) c.args.seen.now.items c.args.node.0))) ∙ c.if-repeated.false))) c.draw_below.ensures.seen
+    (sym (flag_read (length (weights_of c.args.marked.now.graph.now)) c.args.seen.now.items _ c.args.node.0 _ c.is_flagged-repeated.ensures c.deref.ensures.value) ∙ c.if-repeated.false))) c.draw_below.ensures.seen
 
 pub draw_node-returns-then-repeated-clause-bytes : goal.draw_node-returns-then-repeated-clause-bytes
 draw_node-returns-then-repeated-clause-bytes g t c = λ outer e.
@@ -187,7 +187,7 @@ draw_node-returns-then-repeated-clause-bytes g t c = λ outer e.
     let v = c.args.node.0 in
     let seen = flags_of graph c.args.seen.now.items in
     let tree = (grow below c.args.levels_left seen v).occurrence in
-    let flag : c.is_flagged-repeated.result ≡ is_seen seen v = c.is_flagged-repeated.ensures ∙ (ap (λ l. is_seen l v) c.deref.ensures.value ∙ sym (seen_all (length (weights_of graph)) c.args.seen.now.items v)) in
+    let flag : c.is_flagged-repeated.result ≡ is_seen seen v = flag_read (length (weights_of graph)) c.args.seen.now.items _ v _ c.is_flagged-repeated.ensures c.deref.ensures.value in
     let node = node_at graph v c.index-record.result.now c.requires.node c.index-record.ensures in
     let stop = stopped below c.args.levels_left seen v
     (elim c.then-repeated.branch [ draw_node-then-repeated-via-then-repeated w ↦ inl (sym flag ∙ w.if-repeated.true) | draw_node-then-repeated-via-else-repeated+then-levels_left-eq0 w ↦ inr w.if-levels_left-eq0.true ]) in
@@ -199,7 +199,7 @@ draw_node-returns-then-repeated-clause-seen g t c =
     let graph = c.args.marked.now.graph.now in
     let v = c.args.node.0 in
     let seen = flags_of graph c.args.seen.now.items in
-    let flag : c.is_flagged-repeated.result ≡ is_seen seen v = c.is_flagged-repeated.ensures ∙ (ap (λ l. is_seen l v) c.deref.ensures.value ∙ sym (seen_all (length (weights_of graph)) c.args.seen.now.items v)) in
+    let flag : c.is_flagged-repeated.result ≡ is_seen seen v = flag_read (length (weights_of graph)) c.args.seen.now.items _ v _ c.is_flagged-repeated.ensures c.deref.ensures.value in
     seen_made _ _ seen _ (stopped (neighbors_of (edges_of graph)) c.args.levels_left seen v
     (elim c.then-repeated.branch [ draw_node-then-repeated-via-then-repeated w ↦ inl (sym flag ∙ w.if-repeated.true) | draw_node-then-repeated-via-else-repeated+then-levels_left-eq0 w ↦ inr w.if-levels_left-eq0.true ])) (search rules)
 
@@ -212,7 +212,7 @@ draw_node-returns-then-newest-eq0-clause-bytes g t c = λ outer e.
     let v = c.args.node.0 in
     let seen = flags_of graph c.args.seen.now.items in
     let tree = (grow below c.args.levels_left seen v).occurrence in
-    let flag : c.is_flagged-repeated.result ≡ is_seen seen v = c.is_flagged-repeated.ensures ∙ (ap (λ l. is_seen l v) c.deref.ensures.value ∙ sym (seen_all (length (weights_of graph)) c.args.seen.now.items v)) in
+    let flag : c.is_flagged-repeated.result ≡ is_seen seen v = flag_read (length (weights_of graph)) c.args.seen.now.items _ v _ c.is_flagged-repeated.ensures c.deref.ensures.value in
     let node = node_at graph v c.index-record.result.now c.requires.node c.index-record.ensures in
     let none : below v ≡ [] = sym (newest_starts (edges_of graph) v c.index-record.result.now.newest node.1).0 ∙ ap (λ k. neighbors_of (take k (edges_of graph)) v) c.if-newest-eq0.true in
     leaf_written look c.args.levels_left outer c.args.is_last (shape tree) _ _
@@ -224,7 +224,7 @@ draw_node-returns-then-newest-eq0-clause-seen g t c =
     let graph = c.args.marked.now.graph.now in
     let v = c.args.node.0 in
     let seen = flags_of graph c.args.seen.now.items in
-    let flag : c.is_flagged-repeated.result ≡ is_seen seen v = c.is_flagged-repeated.ensures ∙ (ap (λ l. is_seen l v) c.deref.ensures.value ∙ sym (seen_all (length (weights_of graph)) c.args.seen.now.items v)) in
+    let flag : c.is_flagged-repeated.result ≡ is_seen seen v = flag_read (length (weights_of graph)) c.args.seen.now.items _ v _ c.is_flagged-repeated.ensures c.deref.ensures.value in
     let node = node_at graph v c.index-record.result.now c.requires.node c.index-record.ensures in
     let none : neighbors_of (edges_of graph) v ≡ [] = sym (newest_starts (edges_of graph) v c.index-record.result.now.newest node.1).0 ∙ ap (λ k. neighbors_of (take k (edges_of graph)) v) c.if-newest-eq0.true in
     seen_made _ _ seen _ (without (neighbors_of (edges_of graph)) c.args.levels_left seen v c.if-levels_left-eq0.false (sym flag ∙ c.if-repeated.false) none) (search rules)
