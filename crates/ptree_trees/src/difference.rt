@@ -1,5 +1,5 @@
 //! Finds the first difference of two trees.
-ghost use Rattle.std.specs.Prelude.{◌≡◌, ◌↔◌, reverse, IfOk, IfSome, None};
+ghost use Rattle.std.specs.Prelude.{◌≡◌, ◌↔◌, reverse, IfOk, IfSome, Some, None};
 ghost use Rattle.ptree.specs.Tree.{tree_of};
 ghost use Rattle.ptree_trees.specs.Difference.{DifferAt, AreSameBefore, StandThere};
 ghost use Rattle.ptree_trees.specs.Found.{IsFound};
@@ -61,19 +61,11 @@ fn find_difference<'a>(
     ensures { IfOk result (λ o. IsFound (tree_of left.now) (tree_of right.now) o) }
 {
     if left.text != right.text {
-        return Ok(Some(Difference {
-            address: Vec::new(alloc),
-            left: Some(left),
-            right: Some(right),
-        }));
+        return Ok(found_at(Vec::new(alloc), Some(left), Some(right)));
     }
     for (i, child) in left.children.iter().enumerate() {
         let Some(other) = right.children.get(i) else {
-            return Ok(Some(Difference {
-                address: vec![in alloc; i]?,
-                left: Some(child),
-                right: None,
-            }));
+            return Ok(found_at(vec![in alloc; i]?, Some(child), None));
         };
         if let Some(mut found) = find_difference(alloc, child, other)? {
             found.address.push(i)?;
@@ -83,9 +75,21 @@ fn find_difference<'a>(
     let Some(other) = right.children.get(left.children.len()) else {
         return Ok(None);
     };
-    Ok(Some(Difference {
-        address: vec![in alloc; left.children.len()]?,
-        left: None,
-        right: Some(other),
-    }))
+    let end = vec![in alloc; left.children.len()]?;
+    Ok(found_at(end, None, Some(other)))
+}
+
+// Returns the difference at an address, and what stands there in each tree.
+fn found_at<'a>(
+    address: Vec<usize>,
+    left: Option<&'a StringItem>,
+    right: Option<&'a StringItem>,
+) -> Option<Difference<'a>>
+    ensures { result ≡ Some (record { address = address; left = left.entry; right = right.entry }) }
+{
+    Some(Difference {
+        address,
+        left,
+        right,
+    })
 }

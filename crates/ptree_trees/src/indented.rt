@@ -270,6 +270,19 @@ fn add_line(
     Ok(())
 }
 
+// Returns the text of the root that has this line, or `None` if no root has it.
+fn root_text<'a>(line: &'a str, form: &Form) -> Option<&'a str>
+    ensures { MatchOption result
+        ((t : List ℕ) → begins_blank (form.now.bullet.now ++ t) ≡ false
+        → line.now ≢ form.now.bullet.now ++ t)
+        (λ r. (begins_blank line.now ≡ false) × (line.now ≡ form.now.bullet.now ++ r.now)) }
+{
+    if is_indented(line) {
+        return None;
+    }
+    strip_front(line, form.bullet)
+}
+
 // Reads an indented form.
 fn read_lines(alloc: Global, text: &str, form: &Form) -> Result<StringItem, IndentError>
     requires unit { IsUnit form.now.unit.now }
@@ -279,10 +292,7 @@ fn read_lines(alloc: Global, text: &str, form: &Form) -> Result<StringItem, Inde
     let Some((first, behind)) = split_line(text) else {
         return Err(IndentError::End);
     };
-    if is_indented(first) {
-        return Err(IndentError::Line(1));
-    }
-    let Some(root) = strip_front(first, form.bullet) else {
+    let Some(root) = root_text(first, form) else {
         return Err(IndentError::Line(1));
     };
     let mut builder = TreeBuilder::new(alloc, String::from_str(alloc, root)?);

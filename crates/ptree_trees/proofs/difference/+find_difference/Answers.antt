@@ -31,7 +31,8 @@ returns-in_default t c =
     let left = child_there a c.deref-child-items.result.now i c.child-item.result c.deref-child-items.ensures.value c.loop-i-test.true c.child-item.is in
     let right = child_not_there b c.deref.result.now i c.deref.ensures.value (omega (arith, c.in_default.ensures.lookup)) in
     let items : c.in_ok-vec.field-0.items ≡ i ∷ [] = search rules in
-    rw items (differ_at_child (tree_of a) (tree_of b) i (Some (tree_of c.child-item.result)) None c.loop-i.invariant left right (λ e. (cc)))
+    let first = differ_at_child (tree_of a) (tree_of b) i (Some (tree_of c.child-item.result)) None c.loop-i.invariant left right (λ e. (cc)) in
+    subst (IsFound (tree_of a) (tree_of b)) (sym c.found_at-in_default.ensures) (rw items first)
 
 pub returns-in-Some-2 : goal.returns-in-Some-2
 returns-in-Some-2 t c =
@@ -75,7 +76,8 @@ returns t c =
     let found = c.in-Some-get.ensures.lookup in
     let there = subst (λ (k : ℕ). y ≡ get_or c.deref-2.result.now k y) last found.1 in
     let right = child_there b c.deref-2.result.now i y c.deref-2.ensures.value (omega (arith, found)) there in
-    let step = c.in_ok-vec-2.ensures.items in
+    let step = c.in_ok-end.ensures.items in
     let position : c.len-2.result ≡ i = omega arith in
-    let items : c.in_ok-vec-2.field-0.items ≡ i ∷ [] = cc in
-    rw items ((differ_at_child (tree_of a) (tree_of b) i None (Some (tree_of y)) c.loop-i.invariant left right (λ e. (cc))))
+    let items : c.in_ok-end.end.items ≡ i ∷ [] = cc in
+    let first = differ_at_child (tree_of a) (tree_of b) i None (Some (tree_of y)) c.loop-i.invariant left right (λ e. (cc)) in
+    subst (IsFound (tree_of a) (tree_of b)) (sym c.found_at-2.ensures) (rw items first)

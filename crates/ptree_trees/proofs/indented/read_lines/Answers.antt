@@ -5,31 +5,25 @@ use Rattle.ptree.specs.Outline.{line}
 use Rattle.ptree.specs.Texts.{HasNoLineFeed}
 use Rattle.ptree.specs.Tree.{tree_of}
 use Rattle.ptree_trees.specs.Indented.{begins_blank}
-use Rattle.ptree_trees.proofs.IndentedReading.{stage_root, stage_more, stage_wrong, root_wrong, no_root, root_missing, stage_ends, stage_form}
+use Rattle.ptree_trees.proofs.IndentedReading.{stage_root, stage_more, stage_wrong, root_wrong, root_missing, stage_ends, stage_form}
 use Rattle.ptree_trees.proofs.IndentedResults.{reading_err}
 use Rattle.ptree_trees.proofs.indented.read_lines.Goals as goal
 
 pub returns-in_default : goal.returns-in_default
 returns-in_default c = root_missing c.args.form.now c.requires.bullet c.args.text.now c.in_default.ensures
 
-pub returns-then-is_indented : goal.returns-then-is_indented
-returns-then-is_indented c =
-    let first = c.in-Some.first.now in
-    root_wrong c.args.form.now c.requires.bullet c.args.text.now first c.in-Some.behind.now c.in-Some.ensures.0
-    (no_root c.args.form.now first (sym c.is_indented.ensures ∙ c.if-is_indented.true)) c.in-Some.ensures.1
-
-pub returns-in_default-strip_front : goal.returns-in_default-strip_front
-returns-in_default-strip_front c =
+pub returns-in_default-root_text : goal.returns-in_default-root_text
+returns-in_default-root_text c =
     root_wrong c.args.form.now c.requires.bullet c.args.text.now c.in-Some.first.now c.in-Some.behind.now c.in-Some.ensures.0
-    (λ t h. c.in_default-strip_front.ensures t) c.in-Some.ensures.1
+    c.in_default-root_text.ensures c.in-Some.ensures.1
 
 pub loop-line-init : goal.loop-line-init
 loop-line-init c =
-    let root = c.in-Some-strip_front.root.now in
-    let first = c.in-Some-strip_front.ensures in (
+    let root = c.in-Some-root_text.root.now in
+    let first = c.in-Some-root_text.ensures.1 in (
       search rules,
       stage_root c.args.form.now c.args.text.now root c.in-Some.behind.now c.new-builder.result
-          (subst HasNoLineFeed first c.in-Some.ensures.0) (ap begins_blank (sym first) ∙ (sym c.is_indented.ensures ∙ c.if-is_indented.false))
+          (subst HasNoLineFeed first c.in-Some.ensures.0) (ap begins_blank (sym first) ∙ c.in-Some-root_text.ensures.0)
           (c.in-Some.ensures.1 ∙ ap (λ z. z ++ 10 ∷ c.in-Some.behind.now) first)
           (c.new-builder.ensures.outline ∙ ap (λ z. line 0 z ∷ []) (c.in_ok-from_str.ensures.ok)) c.new-builder.ensures.level,
     )
