@@ -3,6 +3,7 @@ pub mod Conversions
 pub mod DistinctTexts
 pub mod Examples
 pub mod Fronts
+pub mod GivenPaths
 pub mod LineWords
 pub mod Listings
 pub mod Merges

@@ -1,19 +1,19 @@
 -- Paths that are right, and their trees.
-use Rattle.std.proofs.Common.{◌≡◌, ◌≢◌, ◌∙◌, ℕ, ◌+◌, ◌<◌, ◌&&◌, ◌||◌, not, Bool, true, false, cond, eqb, ltb, Option, Some, None, List, [], ◌∷◌, ◌++◌, length, get_or, take, drop, map, refl, sym, ap, subst, arith}
+use Rattle.std.proofs.Common.{◌≡◌, ◌≢◌, ◌∙◌, ℕ, ◌+◌, ◌<◌, ◌&&◌, ◌||◌, not, Bool, true, false, cond, eqb, ltb, Option, Some, None, List, [], ◌∷◌, ◌++◌, length, get_or, drop, map, refl, sym, ap, subst, arith}
 use Rattle.std.proofs.lemmas.Bool.{false≢true, eqb-true, eq-eqb, and_parts, and_from, or_parts, or_left, or_right, or_from, not_from_false}
-use Rattle.std.proofs.lemmas.List.{at_drop_more, map_more, map_push, get_or_default, append-nil}
+use Rattle.std.proofs.lemmas.List.{at_drop_more, get_or_default}
 use Rattle.std.proofs.lemmas.List.Folds.{list_any_at, Any-from_list_any}
 use Rattle.std.specs.Borrow.{Bor}
 use Rattle.std.specs.Cmp.{both_ways}
 use Rattle.std.specs.List.{list_any}
-use Rattle.std.specs.Prelude.{filter, slice_index}
+use Rattle.std.specs.Prelude.{slice_index}
 use Rattle.ptree.specs.Tree.{Forest, Tree}
 use Rattle.ptree_trees.specs.Parts.{begins_with}
-use Rattle.ptree_trees.specs.Paths.{names, names_of, next_names, texts_below}
-use Rattle.ptree_trees.proofs.PathTrees.{names_some, names_have}
+use Rattle.ptree_trees.specs.Paths.{names, next_names, texts_below}
+use Rattle.ptree_trees.proofs.PathTrees.{names_have}
 use Rattle.trees.specs.declared.command.Paths.{Paths}
 use Rattle.trees.specs.declared.source.Source.{Source}
-use Rattle.trees.specs.Listing.{byte_order_mark, unmarked, source_lines, path_names, has_names, given_paths, is_absolute, is_relative, is_quoted, is_wrong_path, are_wrong, root_text, IsFolders, HasPaths, IsListing}
+use Rattle.trees.specs.Listing.{byte_order_mark, unmarked, source_lines, path_names, given_paths, is_absolute, is_relative, is_quoted, is_wrong_path, are_wrong, root_text, IsFolders, HasPaths, IsListing}
 use Rattle.trees.proofs.PathNames.{own_count}
 use Rattle.trees.specs.ListingParts.{own_names, is_first_absolute, beside, is_unlike, is_wrong_line}
 
@@ -183,48 +183,6 @@ module _ (ends : Bool) (others : Option Bool) (path : List ℕ) where
       → (not ends && is_quoted path) ≡ false → is_unlike others path ≡ false → false ≡ is_wrong_line ends others path
   wrong_never left e zero deep quoted unlike =
       sym (or_from (is_wrong_path ends path) (is_unlike others path) (or_from has_zero (is_deep || is_quoted_line) zero (or_from is_deep is_quoted_line (deep_names path left e ∙ deep) quoted)) unlike)
-
--- ## Names
-
--- the names of lines and further ones
-given_append : (xs ys : List (List ℕ)) → given_paths (xs ++ ys) ≡ given_paths xs ++ given_paths ys
-given_append [] ys = refl
-given_append (x ∷ xs) ys = at (has_names (path_names x)) (given_append xs ys) where
-  at : (b : Bool) → given_paths (xs ++ ys) ≡ given_paths xs ++ given_paths ys
-      → cond b (path_names x ∷ given_paths (xs ++ ys)) (given_paths (xs ++ ys)) ≡ cond b (path_names x ∷ given_paths xs) (given_paths xs) ++ given_paths ys
-  at true e = ap (λ (z : List (List (List ℕ))). path_names x ∷ z) e
-  at false e = e
-
--- those of one line, if it has some
-given_one : (ns : List (List ℕ)) → ns ≢ [] → filter has_names (ns ∷ []) ≡ ns ∷ []
-given_one [] h = absurd (h refl)
-given_one (n ∷ ns) h = refl
-
-given_some : (line path : List ℕ) → eqb (length path) 0 ≡ false → own_names path ≡ path_names line → given_paths (line ∷ []) ≡ names 47 path ∷ []
-given_some line [] h e = absurd (false≢true (sym h))
-given_some line (b ∷ path) h e = ap (λ (ns : List (List ℕ)). filter has_names (ns ∷ [])) (sym e) ∙ given_one (names 47 (b ∷ path)) (names_some 47 (b ∷ path))
-
-given_none : (line path : List ℕ) → eqb (length path) 0 ≡ true → own_names path ≡ path_names line → given_paths (line ∷ []) ≡ []
-given_none line [] h e = ap (λ (ns : List (List ℕ)). filter has_names (ns ∷ [])) (sym e)
-given_none line (b ∷ path) h e = let none = eqb-true (length (b ∷ path)) 0 h in absurd (omega (arith, none))
-
--- those of a line more
-given_next : (lines : List (Bor (List ℕ))) (i : ℕ) (d : Bor (List ℕ)) (more : List (List (List ℕ))) → i < length lines → given_paths ((get_or lines i d).now ∷ []) ≡ more
-    → given_paths (map (λ l. l.now) (take (i + 1) lines)) ≡ given_paths (map (λ l. l.now) (take i lines)) ++ more
-given_next lines i d more low e =
-    ap given_paths (map_more (λ (l : Bor (List ℕ)). l.now) lines i d low)
-    ∙ (given_append (map (λ l. l.now) (take i lines)) ((get_or lines i d).now ∷ []) ∙ ap (λ (z : List (List (List ℕ))). given_paths (map (λ l. l.now) (take i lines)) ++ z) e)
-
-pub given_more : (lines given : List (Bor (List ℕ))) (i : ℕ) (d path : Bor (List ℕ)) → i < length lines → eqb (length path.now) 0 ≡ false → own_names path.now ≡ path_names (get_or lines i d).now
-    → names_of 47 given ≡ given_paths (map (λ l. l.now) (take i lines)) → names_of 47 (given ++ path ∷ []) ≡ given_paths (map (λ l. l.now) (take (i + 1) lines))
-given_more lines given i d path low some e before =
-    map_push (λ (p : Bor (List ℕ)). names 47 p.now) given path
-    ∙ (ap (λ (z : List (List (List ℕ))). z ++ names 47 path.now ∷ []) before ∙ sym (given_next lines i d (names 47 path.now ∷ []) low (given_some (get_or lines i d).now path.now some e)))
-
-pub given_same : (lines given : List (Bor (List ℕ))) (i : ℕ) (d path : Bor (List ℕ)) → i < length lines → eqb (length path.now) 0 ≡ true → own_names path.now ≡ path_names (get_or lines i d).now
-    → names_of 47 given ≡ given_paths (map (λ l. l.now) (take i lines)) → names_of 47 given ≡ given_paths (map (λ l. l.now) (take (i + 1) lines))
-given_same lines given i d path low none e before =
-    before ∙ (sym (append-nil (given_paths (map (λ l. l.now) (take i lines)))) ∙ sym (given_next lines i d [] low (given_none (get_or lines i d).now path.now none e)))
 
 -- ## Trees
 

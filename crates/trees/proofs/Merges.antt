@@ -17,8 +17,9 @@ use Rattle.ptree_trees.specs.declared.styled.StyledItem.{StyledItem}
 use Rattle.trees.specs.declared.compare.Look.{Look}
 use Rattle.trees.specs.declared.compare.Side.{Side}
 use Rattle.trees.specs.declared.compare.Side.TheVariants.{Left, Right}
-use Rattle.trees.specs.Merging.{shared, alone, nothing, left_forest, right_forest, StyledForest, StyledTree, styled, styled_forest, styled_tree_of, look_text, side_style, marked_text, marked_forest, marked_tree, shown_merge, roots_text, ShowsMerge, ShowsBoth}
+use Rattle.trees.specs.Merging.{shared, alone, nothing, left_forest, right_forest, StyledForest, StyledTree, styled, styled_forest, styled_tree_of, side_style, marked_text, marked_forest, marked_tree, shown_merge, roots_text, ShowsMerge, ShowsBoth}
 use Rattle.trees.specs.MergingParts.{text_at}
+use Rattle.trees.specs.Shown.{shown_text}
 use Rattle.trees.proofs.StyledTrees.{styled_tree, tree_of_parts}
 
 -- ## Trees that are in one alone
@@ -122,7 +123,7 @@ module _ (look : Look) where
       }
 
   -- the text of two roots with one text
-  one_text : (t u : List ℕ) → t ≡ u → roots_text look t u ≡ look_text look t
+  one_text : (t u : List ℕ) → t ≡ u → roots_text look t u ≡ shown_text look.is_escaped t
   one_text t u e =
       let same : bytes_eq t u ≡ true = (bytes_eq-Decides t u).1 e in
       rw same refl
@@ -135,9 +136,9 @@ module _ (look : Look) where
     right = ap (λ (x : List ℕ). item x (right_forest both.below.merge) (right_forest h.merge)) same
         ∙ ap (λ (f : Forest). item u.text f (right_forest h.merge)) both.below.right ∙ ap (item u.text u.children) h.right;
     is = ap (λ (x : List ℕ). styled x s.style s.children (styled_forest rest)) (both.text ∙ one_text t.text u.text same)
-        ∙ ap (λ (o : Option StyleValue). styled (look_text look t.text) o s.children (styled_forest rest)) both.style
-        ∙ ap (λ (f : StyledForest). styled (look_text look t.text) None f (styled_forest rest)) both.below.is
-        ∙ ap (styled (look_text look t.text) None (shown_merge look both.below.merge)) h.is;
+        ∙ ap (λ (o : Option StyleValue). styled (shown_text look.is_escaped t.text) o s.children (styled_forest rest)) both.style
+        ∙ ap (λ (f : StyledForest). styled (shown_text look.is_escaped t.text) None f (styled_forest rest)) both.below.is
+        ∙ ap (styled (shown_text look.is_escaped t.text) None (shown_merge look both.below.merge)) h.is;
   }
 
   module _ (ts us : List Tree) where

@@ -32,7 +32,7 @@ use Rattle.trees.specs.Asked.{reading_value}
 use Rattle.trees.specs.Listing.{byte_order_mark, unmarked}
 use Rattle.trees.specs.Outlining.{filled_lines, outline_lines, text_of_lines, first_indent, line_bullet, first_bullet, text_or, IsRightForm, labelled_lines, HoldsOutline, HoldsNoOtherOutline, FailsToOutline, EndsInReturn, IsKeptText, IsKeptRoot, AreKeptTexts, LosesText, MakesOnly, IsReadBack}
 use Rattle.trees.specs.Reading.{HoldsDrawing, HoldsNoOther, IsReadableValue, FailsFor, FailsToRead}
-use Rattle.trees.specs.Writing.{text_or_none, IsShownForm, IsIndented, IsIndentation, FailsToIndent}
+use Rattle.trees.specs.Writing.{IsShownForm, IsIndented, IsIndentation, FailsToIndent}
 use Rattle.trees.proofs.Conversions.{held_text}
 use Rattle.trees.proofs.Outlines.{held_within}
 use Rattle.trees.proofs.Readings.{fails_weaker, fails_wider}
@@ -114,11 +114,6 @@ text_same None (Some v) other e = cc
 text_same (Some u) None other e = cc
 text_same (Some u) (Some v) other e = cc
 
--- no text is the empty one
-none_is : (o : Option (Bor (List ℕ))) → text_or_none o ≡ text_or o []
-none_is None = refl
-none_is (Some text) = refl
-
 -- the first line's bullet is that of the options
 first_is : (o : Option (Bor (List ℕ))) (form : Form) (t : Tree) → form.bullet.now ≡ text_or o [] → (o ≡ None → line_bullet t.text ≡ [])
     → form.bullet.now ≡ text_or o (first_bullet (map (whole form) (outline t)))
@@ -180,8 +175,8 @@ form_back indented t bytes form low kept unit bullet is right source options tex
 pub outline_back : (indented : Indented) (t : Tree) (bytes : List ℕ) → height t.children ≤ 5000 → AreKeptTexts indented.bullet t
     → IsIndented indented t bytes → IsReadBack indented t bytes
 outline_back indented t bytes low kept is right =
-    let plain : IsShownForm false indented.unit.now (text_or_none indented.bullet) t bytes = subst (λ (b : Bool). IsShownForm b indented.unit.now (text_or_none indented.bullet) t bytes) right.1 is in
-    form_back indented t bytes plain.0 low kept plain.1 (plain.2 ∙ none_is indented.bullet) plain.3 right
+    let plain : IsShownForm false indented.unit.now (text_or indented.bullet []) t bytes = subst (λ (b : Bool). IsShownForm b indented.unit.now (text_or indented.bullet []) t bytes) right.1 is in
+    form_back indented t bytes plain.0 low kept plain.1 plain.2 plain.3 right
 
 -- the tree of a drawing that was read has few enough levels, so what was written of it is read back
 pub indentation_made : {A : Type 0} (sources : Sources) (source : Source) (indented : Indented) (t : Tree) (r : Result A Failure) (bytes : A → List ℕ) → HoldsDrawing (reading_value sources indented.pieces) source t

@@ -27,8 +27,9 @@ use Rattle.trees.specs.declared.failure.Failure.TheVariants.{Usage, Input, Said,
 use Rattle.trees.specs.declared.source.Source.{Source}
 use Rattle.trees.specs.Asked.{asked_config, drawing_value}
 use Rattle.trees.specs.Merging.{IsMergeDrawing, IsMergeCode}
+use Rattle.trees.specs.Outlining.{text_or}
 use Rattle.trees.specs.Shown.{shown_lines, shown_on, AreShownLabels, is_raw, IsNone, IsLookCode, IsShown, ShowsOnly}
-use Rattle.trees.specs.Writing.{Writes, WritesRefusal, IsGraphDrawing, IsDrawingOf, IsShownForm, IsIndentation, text_or_none, ShowsDrawing, ShowsMerged}
+use Rattle.trees.specs.Writing.{Writes, WritesRefusal, IsGraphDrawing, IsDrawingOf, IsShownForm, IsIndentation, ShowsDrawing, ShowsMerged}
 use Rattle.trees.proofs.ShownDrawings.{tree_shown, graph_shown}
 use Rattle.trees.proofs.ShownMerges.{merge_drawing_shown}
 use Rattle.trees.proofs.ShownTexts.{feed_calm, lines_calm, escaped_calm, none_shown, both_shown, calm_shown, code_shown}
@@ -110,7 +111,7 @@ pub indentation_shown : {A : Type 0} (sources : Sources) (source : Source) (inde
     → Writes old new r (IsIndentation sources source indented) Fails → ShowsOnly indented.is_terminal (λ part. part ≡ indented.unit.now) old new
 indentation_shown sources source indented Fails old new r =
     writes_shown indented.is_terminal (λ part. part ≡ indented.unit.now) old new r (IsIndentation sources source indented) Fails
-    (λ bytes is on. indented_shown indented.is_terminal indented.unit.now (text_or_none indented.bullet) is.0 bytes is.2 on)
+    (λ bytes is on. indented_shown indented.is_terminal indented.unit.now (text_or indented.bullet []) is.0 bytes is.2 on)
 
 -- lines that are escaped for a terminal
 pub lines_part_shown : (b : Bool) (lines text : List ℕ) (old new : Option (List ℕ)) → text ≡ shown_on b lines → AppendsPart old new text → ShowsOnly b IsNone old new

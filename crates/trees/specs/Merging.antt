@@ -10,14 +10,13 @@ use Rattle.ptree.specs.Shape.{Shape, unfolded_shape}
 use Rattle.ptree.specs.Style.{StyleValue, plain_value, style_of, painted_text}
 use Rattle.ptree.specs.Texts.{line_feed}
 use Rattle.ptree.specs.Tree.{Forest, none, item, Tree}
-use Rattle.ptree_trees.specs.Escape.{escaped_text}
 use Rattle.ptree_trees.specs.declared.styled.StyledItem.{StyledItem}
 use Rattle.ptree_trees.specs.declared.styled.StyledItem.TheOpen.{StyledItem-F}
 use Rattle.ptree_trees.specs.declared.styled.StyledItem.TheFolds.{fold-StyledItem}
 use Rattle.trees.specs.declared.compare.Look.{Look}
 use Rattle.trees.specs.declared.compare.Side.{Side}
 use Rattle.trees.specs.declared.compare.Side.TheVariants.{Left, Right}
-use Rattle.trees.specs.Shown.{IsCodeOf, IsLookCode}
+use Rattle.trees.specs.Shown.{shown_text, IsCodeOf, IsLookCode}
 
 -- ## Merges
 
@@ -83,10 +82,6 @@ shape_of_styled = unfolded_shape own_text (λ t. styled_trees t.children)
 
 -- ## Merges as they are shown
 
--- a text as it is shown: as it is, or escaped
-abbrev pub look_text : Look → List ℕ → List ℕ
-look_text look text = if look.is_escaped then escaped_text text else text
-
 -- the mark before a text that is in one tree alone
 abbrev pub side_mark : Side → List ℕ
 side_mark Left = codes "- "
@@ -103,7 +98,7 @@ side_style look side = if look.is_colored then Some (record plain_value { foregr
 
 -- such a text as it is shown
 abbrev pub marked_text : Look → Side → List ℕ → List ℕ
-marked_text look side text = side_mark side ++ look_text look text
+marked_text look side text = side_mark side ++ shown_text look.is_escaped text
 
 -- a forest that is in one tree alone, with the mark before each text
 abbrev pub marked_forest : Look → Side → Forest → StyledForest
@@ -117,12 +112,12 @@ marked_tree look side t = record { text = marked_text look side t.text; style = 
 -- a merge, with the texts that are in both as they are, and the others marked
 abbrev pub shown_merge : Look → Merge → StyledForest
 shown_merge look nothing = no_items
-shown_merge look (shared t below rest) = styled (look_text look t) None (shown_merge look below) (shown_merge look rest)
+shown_merge look (shared t below rest) = styled (shown_text look.is_escaped t) None (shown_merge look below) (shown_merge look rest)
 shown_merge look (alone side t c rest) = styled (marked_text look side t) (side_style look side) (marked_forest look side c) (shown_merge look rest)
 
 -- the text of two roots: the one that both have, or both marked, in lines of their own
 abbrev pub roots_text : Look → List ℕ → List ℕ → List ℕ
-roots_text look t u = if bytes_eq t u then look_text look t else marked_text look Left t ++ line_feed ∷ marked_text look Right u
+roots_text look t u = if bytes_eq t u then shown_text look.is_escaped t else marked_text look Left t ++ line_feed ∷ marked_text look Right u
 
 -- what is shown is a merge of two forests
 pub record ShowsMerge (look : Look) (l r : Forest) (shown : StyledForest) : Type 0 where

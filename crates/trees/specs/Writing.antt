@@ -1,5 +1,4 @@
 -- What calls write.
-use Rattle.std.specs.Borrow.{Bor}
 use Rattle.std.specs.Io.KnownBytes.{Appends}
 use Rattle.std.specs.Prelude.{◌≡◌, ◌<◌, ◌≤◌, ◌⊎◌, ⊤, ℕ, Bool, true, false, if◌then◌else◌, List, [], Option, Some, None, Result, Ok, Err, IsErr, OnOk, codes, string_bytes, IsTrue}
 use Rattle.ptree.specs.declared.print_config.OutputKind.TheVariants.{Unknown}
@@ -37,7 +36,7 @@ use Rattle.trees.specs.Depending.{IsPairFile, IsGraphOfPairs, HoldsNoGraph}
 use Rattle.trees.specs.Documents.{IsPartTree}
 use Rattle.trees.specs.Listing.{IsListed, FailsToList}
 use Rattle.trees.specs.Merging.{IsMergeDrawing, IsMergeCode}
-use Rattle.trees.specs.Outlining.{HoldsOutline, FailsToOutline, IsReadBack, LosesText}
+use Rattle.trees.specs.Outlining.{text_or, HoldsOutline, FailsToOutline, IsReadBack, LosesText}
 use Rattle.trees.specs.Reading.{IsWriting, HoldsDrawing, IsReadableValue, FailsFor, FailsToMake, FailsToRead, IsReport, Adds}
 use Rattle.trees.specs.Shown.{shown_on, shown_text, IsNone, ShowsOnly, IsLookCode}
 
@@ -107,18 +106,13 @@ IsDrawingOf sources drawing Is bytes = (t : Tree) × Is t × IsTreeDrawing (draw
 
 -- ## Indented text
 
--- the text of an option, or none
-abbrev pub text_or_none : Option (Bor (List ℕ)) → List ℕ
-text_or_none None = []
-text_or_none (Some text) = text.now
-
 -- the bytes are the indented form of a tree, for a terminal with its texts and the bullet escaped
 abbrev pub IsShownForm : Bool → List ℕ → List ℕ → Tree → List ℕ → Type 0
 IsShownForm is_terminal unit bullet t bytes = (form : Form) × (form.unit.now ≡ unit) × (form.bullet.now ≡ shown_text is_terminal bullet) × IsIndentedForm form bytes (shown_tree is_terminal t)
 
 -- the bytes are what `indented` writes of a tree
 abbrev pub IsIndented : Indented → Tree → List ℕ → Type 0
-IsIndented indented t bytes = IsShownForm indented.is_terminal indented.unit.now (text_or_none indented.bullet) t bytes
+IsIndented indented t bytes = IsShownForm indented.is_terminal indented.unit.now (text_or indented.bullet []) t bytes
 
 -- the bytes are that of the tree whose drawing the source holds, and can be read back
 abbrev pub IsIndentation : Sources → Source → Indented → List ℕ → Type 0

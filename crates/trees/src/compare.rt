@@ -3,9 +3,9 @@ ghost use Rattle.std.specs.Prelude.{◌≡◌, ◌↔◌, ◌++◌, map, option_
 ghost use Rattle.std.specs.Str.{NoCharPasses};
 ghost use Rattle.ptree.specs.Style.{style_of};
 ghost use Rattle.ptree.specs.Tree.{tree_of};
-ghost use Rattle.trees.specs.Merging.{ShowsMerge, ShowsBoth, styled_forest, styled_tree_of, look_text, side_mark, side_style, marked_tree, roots_text};
+ghost use Rattle.trees.specs.Merging.{ShowsMerge, ShowsBoth, styled_forest, styled_tree_of, side_mark, side_style, marked_tree, roots_text};
 ghost use Rattle.trees.specs.MergingParts.{ArePlaces, IsFoundAt};
-ghost use Rattle.trees.specs.Shown.{is_raw, StaysShown};
+ghost use Rattle.trees.specs.Shown.{is_raw, shown_text, StaysShown};
 
 use ptree::item::StringItem;
 use ptree::style::{Color, Style};
@@ -104,7 +104,7 @@ pub struct Look {
 impl Look {
     // Returns a text as it is shown.
     fn text(self, alloc: Global, text: &str) -> Result<String, AllocError>
-        ensures { IfOk result (λ s. string_bytes s ≡ look_text self text.now) }
+        ensures { IfOk result (λ s. string_bytes s ≡ shown_text self.is_escaped text.now) }
     {
         if self.is_escaped {
             escaped(alloc, text)

@@ -4,7 +4,7 @@ use Rattle.std.specs.Borrow.{Bor}
 use Rattle.ptree_trees.specs.Paths.{names_of}
 use Rattle.trees.specs.Listing.{given_paths, path_names}
 use Rattle.trees.specs.ListingParts.{own_names}
-use Rattle.trees.proofs.Listings.{given_more, given_same}
+use Rattle.trees.proofs.GivenPaths.{given_more, given_same}
 use Rattle.trees.proofs.lists.given_paths.Goals.{then-not-is_empty+in_ok-push, else-not-is_empty}
 use Rattle.trees.proofs.lists.given_paths.Goals as goal
 
