@@ -9,6 +9,8 @@ use crate::suggest::Nearest;
 use std::alloc::{AllocError, AllocFailed, Global};
 use std::fmt;
 
+const ONE_LINE: &str = " needs one line that begins with no space or tab";
+
 /// What is wrong with the words of a call.
 #[derive(Clone, Copy)]
 pub enum Usage<'a> {
@@ -98,16 +100,8 @@ impl<'a> Usage<'a> {
             Usage::Pieces(name) => ("unknown pieces ", name, ""),
             Usage::Unreadable => ("drawings with these pieces cannot be read back", "", ""),
             Usage::Unit => ("--unit needs a number from 1 to 99, or tab", "", ""),
-            Usage::Bullet => (
-                "--bullet needs one line that begins with no space or tab",
-                "",
-                "",
-            ),
-            Usage::Label => (
-                "--label needs one line that begins with no space or tab",
-                "",
-                "",
-            ),
+            Usage::Bullet => ("", Opt::Bullet.word(), ONE_LINE),
+            Usage::Label => ("", Opt::Label.word(), ONE_LINE),
             Usage::ConfigFile => ("config takes no file", "", ""),
             Usage::TwoFiles => ("diff needs two files", "", ""),
             Usage::OneFile => ("more than one file", "", ""),

@@ -126,20 +126,14 @@ impl<'a> Words<'a> {
     /// If the number of inputs is not the command's, or an option has no such value.
     pub fn command(&self, sources: &'a [Source], screen: Screen) -> Result<Command<'a>, Usage<'a>> {
         match (self.name, sources) {
-            (CommandName::Json, [source]) => {
-                self.draw(source, Tree::Json(self.document()), screen)
-            }
-            (CommandName::Toml, [source]) => {
-                self.draw(source, Tree::Toml(self.document()), screen)
-            }
-            (CommandName::Deps, [source]) => self.deps(source, screen),
-            (CommandName::Paths, [source]) => self.draw(source, Tree::Paths(self.paths()), screen),
-            (CommandName::Outline, [source]) => self.outline(source, screen),
-            (CommandName::Indented, [source]) => {
-                Ok(Command::Indented(source, self.indented(screen)?))
-            }
+            (CommandName::Json, [file]) => self.draw(file, Tree::Json(self.document()), screen),
+            (CommandName::Toml, [file]) => self.draw(file, Tree::Toml(self.document()), screen),
+            (CommandName::Deps, [file]) => self.deps(file, screen),
+            (CommandName::Paths, [file]) => self.draw(file, Tree::Paths(self.paths()), screen),
+            (CommandName::Outline, [file]) => self.outline(file, screen),
+            (CommandName::Indented, [file]) => Ok(Command::Indented(file, self.indented(screen)?)),
             (CommandName::Check, _) => Ok(Command::Check(sources, self.pieces(Opt::As)?, screen)),
-            (CommandName::Convert, [source]) => self.convert(source, screen),
+            (CommandName::Convert, [file]) => self.convert(file, screen),
             (CommandName::Diff, [left, right]) => self.diff(left, right, screen),
             (CommandName::Diff, _) => Err(Usage::TwoFiles),
             (CommandName::Config, []) => Ok(Command::Config),

@@ -251,7 +251,7 @@ fn steps<'a>(
     for (path, package) in packages.iter() {
         let path = path.as_str();
         let meant = target(path, package);
-        if !is_link(package) && !find_node(paths, path).is_some() {
+        if !is_link(package) && find_node(paths, path).is_none() {
             continue;
         }
         let Some(node) = node_of(packages, paths, path, meant) else {
@@ -262,7 +262,7 @@ fn steps<'a>(
             steps.push((folders(alloc, folder)?, false, name, node))?;
         }
         // A link that is a node needs what the package needs that it means.
-        if !is_link(package) || find_node(paths, path).is_some() {
+        if find_node(paths, path).is_some() {
             steps.push((folders(alloc, meant)?, true, meant, node))?;
         }
     }
@@ -419,10 +419,7 @@ impl<'s, 'a> Walk<'s, 'a> {
                 // Only what is not in `node_modules` is developed.
                 Some(_) if list == "devDependencies" && place(path).is_some() => {}
                 Some(Value::Object(needs)) => self.push_list(alloc, node, needs)?,
-                Some(_) => {
-                    let parts = ["invalid ", list, " of ", path];
-                    return Err(wrong(alloc, source, &parts));
-                }
+                Some(_) => return Err(wrong(alloc, source, &["invalid ", list, " of ", path])),
                 None => {}
             }
         }
