@@ -15,32 +15,21 @@ fn form<'a>(unit: &'a str, bullet: &'a str) -> Form<'a> {
 
 #[test]
 fn units(rt: HostRuntime) {
-    for (text, wanted) in [
-        ("", false),
-        (" ", true),
-        ("\t", true),
-        (" \t ", true),
-        ("a", false),
-        (" a", false),
-        (" \n", false),
-        ("\u{a0}", false),
-    ] {
-        assert_eq!(rt; is_unit(text), wanted, "at {text:?}");
+    for text in [" ", "\t", " \t "] {
+        assert!(rt; is_unit(text), "at {text:?}");
+    }
+    for text in ["", "a", " a", " \n", "\u{a0}"] {
+        assert!(rt; !is_unit(text), "at {text:?}");
     }
 }
 
 #[test]
 fn bullets(rt: HostRuntime) {
-    for (text, wanted) in [
-        ("", true),
-        ("- ", true),
-        ("*", true),
-        ("\u{a0}", true),
-        (" -", false),
-        ("\t", false),
-        ("-\n", false),
-    ] {
-        assert_eq!(rt; is_line_text(text), wanted, "at {text:?}");
+    for text in ["", "- ", "*", "\u{a0}"] {
+        assert!(rt; is_line_text(text), "at {text:?}");
+    }
+    for text in [" -", "\t", "-\n"] {
+        assert!(rt; !is_line_text(text), "at {text:?}");
     }
 }
 
