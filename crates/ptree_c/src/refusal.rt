@@ -1,6 +1,7 @@
 //! The errors of calls, and their codes for C.
 ghost use Rattle.std.specs.Prelude.{◌≡◌, ◌<◌};
 ghost use Rattle.ptree_c.specs.Refusals.{refusal_number, refusal_place};
+ghost use Rattle.ptree_c.specs.declared.refusal.Refusal.TheVariants.{Memory};
 
 use crate::room::fill;
 use std::alloc::{AllocError, AllocFailed};
@@ -62,8 +63,6 @@ pub enum Refusal {
 }
 
 impl From<AllocError> for Refusal {
-    ghost use Rattle.ptree_c.specs.declared.refusal.Refusal.TheVariants.{Memory};
-
     ghost from_gives = { λ _ e. e ≡ Memory };
 
     fn from(_e: AllocError) -> Refusal {
@@ -72,8 +71,6 @@ impl From<AllocError> for Refusal {
 }
 
 impl<T: Drop> From<AllocFailed<T>> for Refusal {
-    ghost use Rattle.ptree_c.specs.declared.refusal.Refusal.TheVariants.{Memory};
-
     ghost from_gives = { λ _ e. e ≡ Memory };
 
     fn from(_e: AllocFailed<T>) -> Refusal {
