@@ -1,6 +1,7 @@
 //! Why a call did not do what it was asked, and its exit status.
 ghost use Rattle.std.specs.Prelude.{◌≡◌};
 ghost use Rattle.trees.specs.Telling.{status_of};
+ghost use Rattle.trees.specs.declared.failure.Failure.TheVariants.{Memory};
 
 use ptree::style::DrawError;
 use std::alloc::{AllocError, AllocFailed};
@@ -40,8 +41,6 @@ impl Failure {
 }
 
 impl From<AllocError> for Failure {
-    ghost use Rattle.trees.specs.declared.failure.Failure.TheVariants.{Memory};
-
     ghost from_gives = { λ _ e. e ≡ Memory };
 
     fn from(_e: AllocError) -> Failure {
@@ -50,8 +49,6 @@ impl From<AllocError> for Failure {
 }
 
 impl<T: Drop> From<AllocFailed<T>> for Failure {
-    ghost use Rattle.trees.specs.declared.failure.Failure.TheVariants.{Memory};
-
     ghost from_gives = { λ _ e. e ≡ Memory };
 
     fn from(_e: AllocFailed<T>) -> Failure {
