@@ -2,6 +2,13 @@
 ghost use Rattle.std.specs.IoError.{error_kind};
 ghost use Rattle.std.specs.Prelude.{◌≡◌};
 ghost use Rattle.ptree.specs.Errors.{add_kind, chars_kind, convert_kind, edge_kind, read_kind, IsDocIoError};
+ghost use Rattle.ptree.specs.declared.builder.AddError.TheVariants as add;
+ghost use Rattle.ptree.specs.declared.graph.EdgeError.TheVariants as edge;
+ghost use Rattle.ptree.specs.declared.read.ReadError.TheVariants as read;
+ghost use Rattle.ptree.specs.declared.print_config.characters.CharsError.TheVariants as chars;
+ghost use Rattle.ptree.specs.declared.sink.DrawError.TheVariants as draw;
+ghost use Rattle.ptree.specs.declared.value.convert.ConvertError.TheVariants as convert;
+ghost use Rattle.ptree.specs.declared.value.document.DocError.TheVariants as doc;
 
 use crate::builder::AddError;
 use crate::graph::EdgeError;
@@ -15,9 +22,7 @@ use std::io::{self, Cursor, ErrorKind, Write};
 use std::str;
 
 impl From<AllocError> for AddError {
-    ghost use Rattle.ptree.specs.declared.builder.AddError.TheVariants.{Memory};
-
-    ghost from_gives = { λ _ e. e ≡ Memory };
+    ghost from_gives = { λ _ e. e ≡ add.Memory };
 
     fn from(_e: AllocError) -> AddError {
         AddError::Memory
@@ -25,9 +30,7 @@ impl From<AllocError> for AddError {
 }
 
 impl<T: Drop> From<AllocFailed<T>> for AddError {
-    ghost use Rattle.ptree.specs.declared.builder.AddError.TheVariants.{Memory};
-
-    ghost from_gives = { λ _ e. e ≡ Memory };
+    ghost from_gives = { λ _ e. e ≡ add.Memory };
 
     fn from(_e: AllocFailed<T>) -> AddError {
         AddError::Memory
@@ -35,9 +38,7 @@ impl<T: Drop> From<AllocFailed<T>> for AddError {
 }
 
 impl From<AllocError> for EdgeError {
-    ghost use Rattle.ptree.specs.declared.graph.EdgeError.TheVariants.{Memory};
-
-    ghost from_gives = { λ _ e. e ≡ Memory };
+    ghost from_gives = { λ _ e. e ≡ edge.Memory };
 
     fn from(_e: AllocError) -> EdgeError {
         EdgeError::Memory
@@ -45,9 +46,7 @@ impl From<AllocError> for EdgeError {
 }
 
 impl<T: Drop> From<AllocFailed<T>> for EdgeError {
-    ghost use Rattle.ptree.specs.declared.graph.EdgeError.TheVariants.{Memory};
-
-    ghost from_gives = { λ _ e. e ≡ Memory };
+    ghost from_gives = { λ _ e. e ≡ edge.Memory };
 
     fn from(_e: AllocFailed<T>) -> EdgeError {
         EdgeError::Memory
@@ -55,9 +54,7 @@ impl<T: Drop> From<AllocFailed<T>> for EdgeError {
 }
 
 impl From<AllocError> for ReadError {
-    ghost use Rattle.ptree.specs.declared.read.ReadError.TheVariants.{Memory};
-
-    ghost from_gives = { λ _ e. e ≡ Memory };
+    ghost from_gives = { λ _ e. e ≡ read.Memory };
 
     fn from(_e: AllocError) -> ReadError {
         ReadError::Memory
@@ -65,9 +62,7 @@ impl From<AllocError> for ReadError {
 }
 
 impl<T: Drop> From<AllocFailed<T>> for ReadError {
-    ghost use Rattle.ptree.specs.declared.read.ReadError.TheVariants.{Memory};
-
-    ghost from_gives = { λ _ e. e ≡ Memory };
+    ghost from_gives = { λ _ e. e ≡ read.Memory };
 
     fn from(_e: AllocFailed<T>) -> ReadError {
         ReadError::Memory
@@ -75,9 +70,7 @@ impl<T: Drop> From<AllocFailed<T>> for ReadError {
 }
 
 impl From<AllocError> for CharsError {
-    ghost use Rattle.ptree.specs.declared.print_config.characters.CharsError.TheVariants.{Memory};
-
-    ghost from_gives = { λ _ e. e ≡ Memory };
+    ghost from_gives = { λ _ e. e ≡ chars.Memory };
 
     fn from(_e: AllocError) -> CharsError {
         CharsError::Memory
@@ -85,9 +78,7 @@ impl From<AllocError> for CharsError {
 }
 
 impl<T: Drop> From<AllocFailed<T>> for CharsError {
-    ghost use Rattle.ptree.specs.declared.print_config.characters.CharsError.TheVariants.{Memory};
-
-    ghost from_gives = { λ _ e. e ≡ Memory };
+    ghost from_gives = { λ _ e. e ≡ chars.Memory };
 
     fn from(_e: AllocFailed<T>) -> CharsError {
         CharsError::Memory
@@ -95,9 +86,7 @@ impl<T: Drop> From<AllocFailed<T>> for CharsError {
 }
 
 impl From<AllocError> for DrawError {
-    ghost use Rattle.ptree.specs.declared.sink.DrawError.TheVariants.{Memory};
-
-    ghost from_gives = { λ _ e. e ≡ Memory };
+    ghost from_gives = { λ _ e. e ≡ draw.Memory };
 
     fn from(_e: AllocError) -> DrawError {
         DrawError::Memory
@@ -105,9 +94,7 @@ impl From<AllocError> for DrawError {
 }
 
 impl<T: Drop> From<AllocFailed<T>> for DrawError {
-    ghost use Rattle.ptree.specs.declared.sink.DrawError.TheVariants.{Memory};
-
-    ghost from_gives = { λ _ e. e ≡ Memory };
+    ghost from_gives = { λ _ e. e ≡ draw.Memory };
 
     fn from(_e: AllocFailed<T>) -> DrawError {
         DrawError::Memory
@@ -115,9 +102,7 @@ impl<T: Drop> From<AllocFailed<T>> for DrawError {
 }
 
 impl From<AllocError> for ConvertError {
-    ghost use Rattle.ptree.specs.declared.value.convert.ConvertError.TheVariants.{Memory};
-
-    ghost from_gives = { λ _ e. e ≡ Memory };
+    ghost from_gives = { λ _ e. e ≡ convert.Memory };
 
     fn from(_e: AllocError) -> ConvertError {
         ConvertError::Memory
@@ -125,9 +110,7 @@ impl From<AllocError> for ConvertError {
 }
 
 impl<T: Drop> From<AllocFailed<T>> for ConvertError {
-    ghost use Rattle.ptree.specs.declared.value.convert.ConvertError.TheVariants.{Memory};
-
-    ghost from_gives = { λ _ e. e ≡ Memory };
+    ghost from_gives = { λ _ e. e ≡ convert.Memory };
 
     fn from(_e: AllocFailed<T>) -> ConvertError {
         ConvertError::Memory
@@ -149,9 +132,7 @@ impl From<ConvertError> for DocError {
 }
 
 impl From<DrawError> for DocError {
-    ghost use Rattle.ptree.specs.declared.value.document.DocError.TheVariants.{Draw};
-
-    ghost from_gives = { λ e told. told ≡ Draw e };
+    ghost from_gives = { λ e told. told ≡ doc.Draw e };
 
     fn from(e: DrawError) -> DocError {
         DocError::Draw(e)
@@ -159,10 +140,7 @@ impl From<DrawError> for DocError {
 }
 
 impl From<AllocError> for DocError {
-    ghost use Rattle.ptree.specs.declared.sink.DrawError.TheVariants.{Memory};
-    ghost use Rattle.ptree.specs.declared.value.document.DocError.TheVariants.{Draw};
-
-    ghost from_gives = { λ _ told. told ≡ Draw Memory };
+    ghost from_gives = { λ _ told. told ≡ doc.Draw draw.Memory };
 
     fn from(_e: AllocError) -> DocError {
         DocError::Draw(DrawError::Memory)
@@ -170,10 +148,7 @@ impl From<AllocError> for DocError {
 }
 
 impl<T: Drop> From<AllocFailed<T>> for DocError {
-    ghost use Rattle.ptree.specs.declared.sink.DrawError.TheVariants.{Memory};
-    ghost use Rattle.ptree.specs.declared.value.document.DocError.TheVariants.{Draw};
-
-    ghost from_gives = { λ _ told. told ≡ Draw Memory };
+    ghost from_gives = { λ _ told. told ≡ doc.Draw draw.Memory };
 
     fn from(_e: AllocFailed<T>) -> DocError {
         DocError::Draw(DrawError::Memory)

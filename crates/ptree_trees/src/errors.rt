@@ -2,6 +2,8 @@
 ghost use Rattle.std.specs.IoError.{error_kind};
 ghost use Rattle.std.specs.Prelude.{◌≡◌};
 ghost use Rattle.ptree_trees.specs.Errors.{indent_kind, write_kind};
+ghost use Rattle.ptree_trees.specs.declared.indented.IndentError.TheVariants as indent;
+ghost use Rattle.ptree_trees.specs.declared.indented.WriteError.TheVariants as write;
 
 use crate::indented::{IndentError, WriteError};
 use ptree::errors::io_error;
@@ -9,9 +11,7 @@ use std::alloc::{AllocError, AllocFailed};
 use std::io::{self, ErrorKind};
 
 impl From<AllocError> for IndentError {
-    ghost use Rattle.ptree_trees.specs.declared.indented.IndentError.TheVariants.{Memory};
-
-    ghost from_gives = { λ _ e. e ≡ Memory };
+    ghost from_gives = { λ _ e. e ≡ indent.Memory };
 
     fn from(_e: AllocError) -> IndentError {
         IndentError::Memory
@@ -19,9 +19,7 @@ impl From<AllocError> for IndentError {
 }
 
 impl<T: Drop> From<AllocFailed<T>> for IndentError {
-    ghost use Rattle.ptree_trees.specs.declared.indented.IndentError.TheVariants.{Memory};
-
-    ghost from_gives = { λ _ e. e ≡ Memory };
+    ghost from_gives = { λ _ e. e ≡ indent.Memory };
 
     fn from(_e: AllocFailed<T>) -> IndentError {
         IndentError::Memory
@@ -29,9 +27,7 @@ impl<T: Drop> From<AllocFailed<T>> for IndentError {
 }
 
 impl From<AllocError> for WriteError {
-    ghost use Rattle.ptree_trees.specs.declared.indented.WriteError.TheVariants.{Memory};
-
-    ghost from_gives = { λ _ e. e ≡ Memory };
+    ghost from_gives = { λ _ e. e ≡ write.Memory };
 
     fn from(_e: AllocError) -> WriteError {
         WriteError::Memory
