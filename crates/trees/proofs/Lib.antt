@@ -6,6 +6,7 @@ pub mod Fronts
 pub mod GivenPaths
 pub mod LineWords
 pub mod Listings
+pub mod Marks
 pub mod Merges
 pub mod MergeDrawings
 pub mod MergePlaces
@@ -19,6 +20,7 @@ pub mod PairGraphs
 pub mod Pairs
 pub mod Parts
 pub mod PathNames
+pub mod Reached
 pub mod Readings
 pub mod RefusedTexts
 pub mod Reports
@@ -30,4 +32,5 @@ pub mod ShownTexts
 pub mod SortedWords
 pub mod StyledTrees
 pub mod Told
+pub mod Tops
 pub mod Writings

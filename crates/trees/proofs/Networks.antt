@@ -64,7 +64,7 @@ eqb_flips a b = grind (arith, nat_tests)
 edge_flips : (d e : ℕ × ℕ) → same_edge d e ≡ same_edge e d
 edge_flips d e = ap (λ (x : Bool). x && eqb d.1 e.1) (eqb_flips d.0 e.0) ∙ ap (λ (y : Bool). eqb e.0 d.0 && y) (eqb_flips d.1 e.1)
 
-edge_exact : (d e : ℕ × ℕ) → same_edge d e ≡ true → d ≡ e
+pub edge_exact : (d e : ℕ × ℕ) → same_edge d e ≡ true → d ≡ e
 edge_exact d e same = pair (eqb d.0 e.0) (eqb d.1 e.1) refl refl same where
   pair : (a b : Bool) → eqb d.0 e.0 ≡ a → eqb d.1 e.1 ≡ b → (a && b) ≡ true → d ≡ e
   pair true true x y s = let l = eqb-true d.0 e.0 x in let r = eqb-true d.1 e.1 y in ap (λ (n : ℕ). (n, d.1)) l ∙ ap (λ (n : ℕ). (e.0, n)) r

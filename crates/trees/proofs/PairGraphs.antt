@@ -20,7 +20,7 @@ use Rattle.trees.specs.declared.deps.Network.{Network}
 use Rattle.trees.specs.declared.failure.Failure.{Failure}
 use Rattle.trees.specs.declared.source.Source.{Source}
 use Rattle.trees.specs.Depending.{pair_words, number, is_need, directed, edge_of, same_edge, firsts, edges_between, HoldsPairs, AreNames, StandsAbove, IsRooted, IsGraphOfPairs, IsNoName, HoldsNoGraph}
-use Rattle.trees.specs.DependingParts.{texts_of, labels_of, needs_of, AreApart, HasPairs, HasRoot, HoldsNone, IsNetworkOf}
+use Rattle.trees.specs.DependingParts.{texts_of, labels_of, needs_of, AreApart, HasPairs, HasRoot, HoldsNone, IsNetworkOf, IsWhole, IsWithin}
 use Rattle.trees.specs.Reading.{FailsFor, FailsToMake}
 use Rattle.trees.specs.Shown.{shown_text}
 use Rattle.trees.proofs.SortedWords.{contains_mapped}
@@ -67,10 +67,6 @@ known_at (x ∷ names) w (suc k) low is = test (bytes_eq w x) refl (known_at nam
 pub number_known : (names : List (List ℕ)) (w : List ℕ) → Contains names w → number names w < length names
 number_known names w c = known_at names w c.0 c.1 c.2
 
--- an edge between the first nodes
-abbrev pub IsWithin : ℕ → ℕ × ℕ → Type 0
-IsWithin n e = (e.0 < n) × (e.1 < n)
-
 directed_within : (b : Bool) (n : ℕ) (e : ℕ × ℕ) → IsWithin n e → IsWithin n (directed b e)
 directed_within true n e h = (h.1, h.0)
 directed_within false n e h = h
@@ -88,6 +84,13 @@ edges_within is_inverse pairs names are =
     (All-map (IsWithin n) (edge_of is_inverse names) (filter is_need pairs)
     (All-filter is_need (λ p. IsWithin n (edge_of is_inverse names p)) pairs
     (All-weaker (HasWords names) (λ p. IsWithin n (edge_of is_inverse names p)) (λ p h. directed_within is_inverse n (number names p.0, number names p.1) (number_known names p.0 h.0, number_known names p.1 h.1)) pairs (names_known pairs names are))))
+
+-- the edges of a network of pairs are
+pub network_whole : (source : Source) (is_inverse : Bool) (n : Network) → IsNetworkOf source is_inverse n → IsWhole n
+network_whole source is_inverse n is = record {
+  indexed = is.has.needs.indexed;
+  within = subst (All (IsWithin (length (labels_of n)))) (sym is.has.needs.edges) (edges_within is_inverse is.pairs (labels_of n) is.has.names);
+}
 
 -- ## Roots
 
@@ -121,7 +124,7 @@ stands_within label names edges (top ∷ u ∷ tops) texts all root within low h
 pub rooted_within : (source : Source) (name : Option (Bor (List ℕ))) (names : List (List ℕ)) (edges : List (ℕ × ℕ)) (texts : List (List ℕ)) (all : List (ℕ × ℕ)) (root : ℕ) → All (IsWithin (length names)) edges
     → IsRooted source name names edges texts all root → All (IsWithin (length texts)) all
 rooted_within source (Some name) names edges texts all root within h = same_within names edges texts all within h.2 h.3
-rooted_within source None names edges texts all root within h = stands_within h.0 names edges h.1 texts all root within h.3 h.4
+rooted_within source None names edges texts all root within h = stands_within h.0 names edges h.1 texts all root within h.3 h.5
 
 -- so no edge lacks a node
 pub none_lacks : (n : ℕ) (edges : List (NodeIndex × NodeIndex)) → All (IsWithin n) (map numbers_of edges) → Any (LacksNode n) edges → ⊥
@@ -185,7 +188,7 @@ graph_held source name is_inverse is_terminal read rooted drawn d is root labels
 pub graph_whole : (source : Source) (name : Option (Bor (List ℕ))) (is_inverse : Bool) (read rooted drawn : Network) (root : ℕ) → IsNetworkOf source is_inverse read → HasRoot source name read rooted root
     → drawn.labels ≡ rooted.labels → drawn.edges.items ≡ reverse rooted.edges.items → Any (LacksNode (length (labels_of drawn))) drawn.edges.items → ⊥
 graph_whole source name is_inverse read rooted drawn root is has labels turned =
-    let within = rooted_within source name (labels_of read) (needs_of read) (labels_of rooted) (needs_of rooted) root (subst (All (IsWithin (length (labels_of read)))) (sym is.has.needs.edges) (edges_within is_inverse is.pairs (labels_of read) is.has.names)) has in
+    let within = rooted_within source name (labels_of read) (needs_of read) (labels_of rooted) (needs_of rooted) root (network_whole source is_inverse read is).within has in
     none_lacks (length (labels_of drawn)) drawn.edges.items
     (subst (λ v. All (IsWithin (length (map string_bytes v.items))) (needs_of drawn)) (sym labels)
     (subst (All (IsWithin (length (labels_of rooted)))) (sym (ap (map numbers_of) turned ∙ map_reversed numbers_of rooted.edges.items)) (All-permutation (IsWithin (length (labels_of rooted))) (needs_of rooted) (reverse (needs_of rooted)) (IsPermutation-reverse (needs_of rooted)) within)))

@@ -3,9 +3,7 @@ use Rattle.std.proofs.Common.{◌≡◌, ◌≢◌, ◌∙◌, ℕ, zero, suc, �
 use Rattle.std.proofs.lemmas.Bool.{false≢true}
 use Rattle.std.proofs.Math.ListN.{get_or-map}
 use Rattle.std.proofs.lemmas.List.{append-nil, length-map, length-take, map-append, take_all, take_more}
-use Rattle.std.proofs.lemmas.List.Elements.{All-head, All-push, All-weaker, All-contains, filter-append}
-use Rattle.std.proofs.lemmas.List.Sorted.{All-permutation}
-use Rattle.std.specs.List.Sorted.{IsPermutation}
+use Rattle.std.proofs.lemmas.List.Elements.{All-head, All-push, filter-append}
 use Rattle.std.proofs.lemmas.Result.{IfOk-weaker, IfErr-weaker}
 use Rattle.std.proofs.lemmas.Map.Keys.{IsDistinct-head, IsDistinct-tail}
 use Rattle.std.proofs.lemmas.Slice.Eq.{bytes_eq-Decides}
@@ -199,9 +197,3 @@ pub stands_above : (label : List ℕ) (names : List (List ℕ)) (edges : List (�
 stands_above label names edges [] texts all root several at labels is = (at, labels, is)
 stands_above label names edges (top ∷ []) texts all root several at labels is = absurd (several refl)
 stands_above label names edges (top ∷ u ∷ tops) texts all root several at labels is = (at, labels, is)
-
--- what is left of nodes, twice, is among the first ones
-pub tops_below : (n : ℕ) (nodes firsts turned tops last : List ℕ) → All (λ t. t < n) nodes → All (Contains nodes) firsts → IsPermutation firsts turned → All (Contains turned) tops → IsPermutation tops last → All (λ t. t < n) last
-tops_below n nodes firsts turned tops last all first back second end =
-    let low : All (λ t. t < n) turned = All-permutation (λ t. t < n) firsts turned back (All-weaker (Contains nodes) (λ t. t < n) (λ t c. All-contains (λ u. u < n) nodes t all c) firsts first) in
-    All-permutation (λ t. t < n) tops last end (All-weaker (Contains turned) (λ t. t < n) (λ t c. All-contains (λ u. u < n) turned t low c) tops second)

@@ -1,6 +1,6 @@
 -- Which graph is drawn of lines of two words.
 use Rattle.std.specs.Borrow.{Bor}
-use Rattle.std.specs.Prelude.{◌≡◌, ◌≢◌, ◌<◌, ◌↔◌, ◌⊎◌, ℕ, ◌==◌, ◌&&◌, not, Bool, true, false, if◌then◌else◌, List, [], ◌∷◌, ◌++◌, filter, flat_map, length, map, reverse, slice_get, All, Contains, Option, Some, None, codes, string_bytes}
+use Rattle.std.specs.Prelude.{◌≡◌, ◌≢◌, ◌<◌, ◌↔◌, ◌⊎◌, ℕ, ◌==◌, ◌&&◌, not, Bool, true, false, if◌then◌else◌, List, [], ◌∷◌, ◌++◌, filter, flat_map, length, map, reverse, slice_get, All, AllPairs, Contains, Option, Some, None, codes, string_bytes}
 use Rattle.std.specs.Char.{is_whitespace}
 use Rattle.std.specs.Cmp.Lexicographic.{slice_cmp}
 use Rattle.std.specs.List.{list_any, position_or_len, slice_split}
@@ -104,6 +104,25 @@ firsts same (x ∷ xs) = x ∷ filter (λ y. not (same x y)) (firsts same xs)
 abbrev pub edges_between : Bool → List (List ℕ) → List (List ℕ × List ℕ) → List (ℕ × ℕ)
 edges_between is_inverse names pairs = firsts same_edge (map (edge_of is_inverse names) (filter is_need pairs))
 
+-- ## Roots
+
+-- a set of nodes has what the edges from its nodes lead to
+abbrev pub IsClosed : List (ℕ × ℕ) → (ℕ → Bool) → Type 0
+IsClosed edges has = (e : ℕ × ℕ) → Contains edges e → has e.0 ≡ true → has e.1 ≡ true
+
+-- a set has each of these nodes
+abbrev pub HasEach : (ℕ → Bool) → List ℕ → Type 0
+HasEach has nodes = All (λ n. has n ≡ true) nodes
+
+-- edges do not lead from one node to another: such a set has the one and not the other
+abbrev pub IsUnreached : List (ℕ × ℕ) → ℕ → ℕ → Type 0
+IsUnreached edges from to = (has : ℕ → Bool) × IsClosed edges has × (has from ≡ true) × (has to ≡ false)
+
+-- edges lead from some nodes to all, and from none of them to another
+pub record AreTops (edges : List (ℕ × ℕ)) (count : ℕ) (tops : List ℕ) : Type 0 where
+  pub all : (has : ℕ → Bool) → IsClosed edges has → HasEach has tops → (n : ℕ) → n < count → has n ≡ true
+  pub apart : AllPairs (λ t u. IsUnreached edges t u × IsUnreached edges u t) tops
+
 -- ## Graphs
 
 -- the texts and edges of a graph whose root stands for some nodes: it is the only one, or a node above
@@ -113,12 +132,12 @@ StandsAbove label names edges (top ∷ []) texts all root = (root ≡ top) × (t
 StandsAbove label names edges tops texts all root = (root ≡ length names) × (texts ≡ names ++ label ∷ []) × (all ≡ edges ++ map (λ t. (length names, t)) tops)
 
 -- the texts and edges of a graph from a root on: from the node with the name that is asked for, if it
--- is a word, and else from nodes among the words
+-- is a word, and else from the nodes that lead to all
 abbrev pub IsRooted : Source → Option (Bor (List ℕ)) → List (List ℕ) → List (ℕ × ℕ) → List (List ℕ) → List (ℕ × ℕ) → ℕ → Type 0
 IsRooted source (Some name) names edges texts all root =
     (root < length names) × (Contains names name.now → slice_get names root ≡ Some name.now) × (texts ≡ names) × (all ≡ edges)
 IsRooted source None names edges texts all root =
-    (label : List ℕ) × (tops : List ℕ) × IsLastPart (string_bytes source.name) label × All (λ t. t < length names) tops × StandsAbove label names edges tops texts all root
+    (label : List ℕ) × (tops : List ℕ) × IsLastPart (string_bytes source.name) label × All (λ t. t < length names) tops × AreTops edges (length names) tops × StandsAbove label names edges tops texts all root
 
 -- a graph has these texts, on a terminal escaped, and these edges, the first of a node drawn first
 pub record IsGraphFrom (is_terminal : Bool) (texts : List (List ℕ)) (all : List (ℕ × ℕ)) (d : Dependencies) : Type 0 where

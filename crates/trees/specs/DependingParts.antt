@@ -5,11 +5,11 @@ use Rattle.std.specs.Ordering.{nat_cmp, ordering_then}
 use Rattle.std.specs.declared.cmp.Ordering.{Ordering}
 use Rattle.std.specs.List.{enumerate_from, list_any, IsDistinct}
 use Rattle.std.specs.Str.{bytes_eq}
-use Rattle.std.specs.Prelude.{◌≡◌, ◌≢◌, ◌<◌, ℕ, Bool, true, false, if◌then◌else◌, List, [], ◌∷◌, ◌++◌, filter, length, map, slice_get, All, Contains, Option, Some, None, string_bytes}
+use Rattle.std.specs.Prelude.{◌≡◌, ◌≢◌, ◌<◌, ◌+◌, ◌⊎◌, ℕ, Bool, not, true, false, if◌then◌else◌, List, [], ◌∷◌, ◌++◌, count_by, filter, length, map, slice_get, slice_index_or, All, AllPairs, Contains, Option, Some, None, string_bytes}
 use Rattle.ptree.specs.Graph.{numbers_of}
 use Rattle.trees.specs.declared.deps.Network.{Network}
 use Rattle.trees.specs.declared.source.Source.{Source}
-use Rattle.trees.specs.Depending.{pair_words, same_edge, edges_between, HoldsPairs, AreNames, StandsAbove, IsRooted}
+use Rattle.trees.specs.Depending.{pair_words, same_edge, edges_between, HoldsPairs, AreNames, IsClosed, HasEach, IsUnreached, AreTops, StandsAbove, IsRooted}
 
 -- ## Lines
 
@@ -94,6 +94,44 @@ pub record IsNetworkOf (source : Source) (is_inverse : Bool) (n : Network) : Typ
   pub some : pairs ≢ []
   pub has : HasPairs is_inverse pairs n
 
+-- ## Marks
+
+-- whether a node is marked
+abbrev pub is_marked : List Bool → ℕ → Bool
+is_marked marks node = slice_index_or marks node false
+
+-- a set has each node that is marked
+abbrev pub HasMarked : (ℕ → Bool) → List Bool → Type 0
+HasMarked has marks = (n : ℕ) → is_marked marks n ≡ true → has n ≡ true
+
+-- a set has what the edges from its nodes lead to, but for one node
+abbrev pub IsClosedBut : List (ℕ × ℕ) → ℕ → (ℕ → Bool) → Type 0
+IsClosedBut edges node has = (e : ℕ × ℕ) → Contains edges e → has e.0 ≡ true → (e.0 ≡ node) ⊎ (has e.1 ≡ true)
+
+-- what edges lead to from a node is marked, and what was not is left
+pub record MarksNeeds (edges : List (ℕ × ℕ)) (node : ℕ) (old new : List Bool) (left more : List ℕ) : Type 0 where
+  pub size : length new ≡ length old
+  pub kept : HasMarked (is_marked new) old
+  pub still : All (Contains more) left
+  pub added : (n : ℕ) → is_marked new n ≡ true → (is_marked old n ≡ true) ⊎ Contains more n
+  pub needs : (e : ℕ × ℕ) → Contains edges e → e.0 ≡ node → e.1 < length old → is_marked new e.1 ≡ true
+  pub found : (has : ℕ → Bool) → IsClosed edges has → has node ≡ true → HasMarked has old → HasEach has left → HasMarked has new × HasEach has more
+  pub count : count_by not new + length more ≡ count_by not old + length left
+
+-- all that edges lead to from a node is marked, and nothing else
+pub record Reaches (edges : List (ℕ × ℕ)) (from : ℕ) (old new : List Bool) : Type 0 where
+  pub size : length new ≡ length old
+  pub kept : HasMarked (is_marked new) old
+  pub found : (has : ℕ → Bool) → IsClosed edges has → has from ≡ true → HasMarked has old → HasMarked has new
+  pub closed : All (λ e. e.1 < length old) edges → is_marked old from ≡ true → IsClosedBut edges from (is_marked old) → IsClosed edges (is_marked new)
+
+-- some nodes of a list lead to all of it, and none of them to a later one, nor to an earlier one if no node
+-- of the list does
+pub record AreFirsts (edges : List (ℕ × ℕ)) (nodes firsts : List ℕ) : Type 0 where
+  pub all : (has : ℕ → Bool) → IsClosed edges has → HasEach has firsts → HasEach has nodes
+  pub apart : AllPairs (IsUnreached edges) firsts
+  pub turned : AllPairs (λ t u. IsUnreached edges u t) nodes → AllPairs (λ t u. IsUnreached edges u t) firsts
+
 -- ## Roots
 
 -- no two names are the same
@@ -108,9 +146,22 @@ places_of names name = map (λ p. p.0) (filter (λ p. bytes_eq p.1 name) (enumer
 abbrev pub IsNamed : List (List ℕ) → List ℕ → ℕ → Type 0
 IsNamed names name root = (root < length names) × (Contains names name → slice_get names root ≡ Some name)
 
--- a root stands for some nodes of a network
+-- an edge between the first nodes
+abbrev pub IsWithin : ℕ → ℕ × ℕ → Type 0
+IsWithin n e = (e.0 < n) × (e.1 < n)
+
+-- the edges of a network, in both orders, are between its nodes
+pub record IsWhole (n : Network) : Type 0 where
+  pub indexed : IsIndexed n
+  pub within : All (IsWithin (length (labels_of n))) (needs_of n)
+
+-- some nodes of a network are those above all others
+abbrev pub AreTopsOf : Network → List ℕ → Type 0
+AreTopsOf n tops = IsWhole n → AreTops (needs_of n) (length (labels_of n)) tops
+
+-- a root stands for these nodes
 abbrev pub IsTopped : List ℕ → Network → Network → ℕ → Type 0
-IsTopped label old new root = (tops : List ℕ) × All (λ t. t < length (labels_of old)) tops × StandsAbove label (labels_of old) (needs_of old) tops (labels_of new) (needs_of new) root
+IsTopped label old new root = (tops : List ℕ) × All (λ t. t < length (labels_of old)) tops × AreTopsOf old tops × StandsAbove label (labels_of old) (needs_of old) tops (labels_of new) (needs_of new) root
 
 -- the root of a network is the one that is asked for
 abbrev pub HasRoot : Source → Option (Bor (List ℕ)) → Network → Network → ℕ → Type 0

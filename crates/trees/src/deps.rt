@@ -4,7 +4,7 @@ ghost use Rattle.std.specs.Str.{NoCharPasses};
 ghost use Rattle.ptree.specs.Graph.{weights_of, edges_of, LacksNode};
 ghost use Rattle.ptree_trees.specs.Escape.{is_hidden};
 ghost use Rattle.trees.specs.Depending.{IsPairFile, IsGraphOfPairs, IsNoName, HoldsNoGraph};
-ghost use Rattle.trees.specs.DependingParts.{labels_of, needs_of, AreApart, HasRoot, HoldsNone, IsEmpty, IsNetworkOf, IsTopped};
+ghost use Rattle.trees.specs.DependingParts.{labels_of, needs_of, AreApart, HasRoot, HoldsNone, IsEmpty, IsNetworkOf, IsTopped, IsWhole};
 ghost use Rattle.trees.specs.Reading.{IsInput, FailsFor};
 ghost use Rattle.trees.specs.Shown.{shown_text, AreShownLabels};
 
@@ -183,7 +183,7 @@ fn root_of(
     network: &mut Network,
     name: Option<&str>,
 ) -> Result<NodeIndex, Failure>
-    ensures root { network.old.paths.items ≡ [] → IfOk result
+    ensures root { network.old.paths.items ≡ [] → IsWhole network.old → IfOk result
         (λ r. HasRoot source.now name.entry network.old network.new r.0) }
     ensures failed { network.old.paths.items ≡ [] → AreApart (labels_of network.old)
         → IfErr result (FailsFor (IsNoName name.entry (labels_of network.old)) ⊥) }

@@ -1,7 +1,7 @@
 //! The root of what is drawn.
-ghost use Rattle.std.specs.Prelude.{◌≡◌, ◌≢◌, ◌<◌, ⊤, true, [], ◌∷◌, length, map, All, Contains, IfOk, IfErr};
+ghost use Rattle.std.specs.Prelude.{◌≡◌, ◌≢◌, ◌<◌, ⊤, ℕ, not, true, [], ◌∷◌, length, map, slice_index_or, slice_set, All, Contains, IfOk, IfErr, OnOk};
 ghost use Rattle.std.specs.Str.{bytes_eq};
-ghost use Rattle.trees.specs.DependingParts.{labels_of, places_of, AreApart, IsNamed};
+ghost use Rattle.trees.specs.DependingParts.{labels_of, places_of, AreApart, AreFirsts, AreTopsOf, IsNamed, MarksNeeds, Reaches};
 ghost use Rattle.trees.specs.Reading.{FailsFor};
 
 use crate::deps::{Network, wrong};
@@ -187,7 +187,8 @@ fn push_node(
 ///
 /// Memory ran out.
 pub fn tops(alloc: Global, network: &Network) -> Result<Vec<usize>, AllocError>
-    ensures { IfOk result (λ tops. All (λ t. t < length (labels_of network.now)) tops.items) }
+    ensures nodes { IfOk result (λ tops. All (λ t. t < length (labels_of network.now)) tops.items) }
+    ensures tops { IfOk result (λ tops. AreTopsOf network.now tops.items) }
 {
     let nodes = in_turn(alloc, &needed(alloc, network)?)?;
     // None of the first ones reaches a later one, and those that a later one reaches are no tops.
@@ -211,7 +212,8 @@ fn needed(alloc: Global, network: &Network) -> Result<Vec<bool>, AllocError>
 
 // Returns the nodes that are not needed, and then those that are.
 fn in_turn(alloc: Global, needed: &[bool]) -> Result<Vec<usize>, AllocError>
-    ensures { IfOk result (λ nodes. All (λ t. t < length needed.now) nodes.items) }
+    ensures nodes { IfOk result (λ nodes. All (λ t. t < length needed.now) nodes.items) }
+    ensures all { IfOk result (λ nodes. (n : ℕ) → n < length needed.now → Contains nodes.items n) }
 {
     let mut nodes = Vec::new(alloc);
     for is_needed in [false, true] {
@@ -226,7 +228,11 @@ fn in_turn(alloc: Global, needed: &[bool]) -> Result<Vec<usize>, AllocError>
 
 // Returns those of these nodes that none before them reaches.
 fn firsts(alloc: Global, network: &Network, nodes: &[usize]) -> Result<Vec<usize>, AllocError>
-    ensures { IfOk result (λ firsts. All (Contains nodes.now) firsts.items) }
+    ensures nodes { IfOk result (λ firsts. All (Contains nodes.now) firsts.items) }
+    ensures firsts { IfOk result (λ firsts.
+        All (λ e. e.1 < length (labels_of network.now)) network.now.sorted.keys
+        → All (λ n. n < length (labels_of network.now)) nodes.now
+        → AreFirsts network.now.sorted.keys nodes.now firsts.items) }
 {
     let mut reached = vec![in alloc; false; network.labels.len()]?;
     let mut firsts = Vec::new(alloc);
@@ -245,29 +251,46 @@ fn reach(
     network: &Network,
     from: usize,
     reached: &mut [bool],
-) -> Result<(), AllocError> {
+) -> Result<(), AllocError>
+    ensures { OnOk result (Reaches network.now.sorted.keys from reached.old reached.new) }
+{
     let mut left = vec![in alloc; from]?;
     // Each node is marked once, and so is left once.
     for _ in 0..reached.len() {
         let Some(node) = left.pop() else {
             break;
         };
-        for (_, to) in network.sorted.range((node, 0)..=(node, usize::MAX)) {
-            if mark(reached, *to) {
-                left.push(*to)?;
-            }
+        mark_needs(network, node, reached, &mut left)?;
+    }
+    Ok(())
+}
+
+// Marks what a node needs, and adds what was not marked before to what is left.
+fn mark_needs(
+    network: &Network,
+    node: usize,
+    reached: &mut [bool],
+    left: &mut Vec<usize>,
+) -> Result<(), AllocError>
+    ensures { OnOk result (MarksNeeds network.now.sorted.keys node
+        reached.old reached.new left.old.items left.new.items) }
+{
+    for (_, to) in network.sorted.range((node, 0)..=(node, usize::MAX)) {
+        if mark(reached, *to) {
+            left.push(*to)?;
         }
     }
     Ok(())
 }
 
 // Marks a node. Returns whether it was not marked before.
-fn mark(marks: &mut [bool], node: usize) -> bool {
-    match marks.get_mut(node) {
-        Some(mark) if !*mark => {
-            *mark = true;
-            true
-        }
-        _ => false,
+fn mark(marks: &mut [bool], node: usize) -> bool
+    ensures new { result ≡ not (slice_index_or marks.old node true) }
+    ensures marked { marks.new ≡ slice_set marks.old node true }
+{
+    if node >= marks.len() || marks[node] {
+        return false;
     }
+    marks[node] = true;
+    true
 }

@@ -1,6 +1,8 @@
-use Rattle.std.specs.Prelude.{All, Contains}
+use Rattle.std.proofs.Common.{length}
+use Rattle.trees.specs.DependingParts.{labels_of}
+use Rattle.trees.proofs.Tops.{FirstsOf}
 use Rattle.trees.proofs.deps.root.firsts.Given as goal
 
--- the first ones so far are among the nodes
+-- the first ones of the nodes so far
 abbrev pub invariant-loop-node : goal.invariant-loop-node
-invariant-loop-node l = All (Contains l.nodes) l.firsts.items
+invariant-loop-node l = FirstsOf l.network.sorted.keys (length (labels_of l.network)) l.nodes l.node-index l.firsts.items l.reached.items

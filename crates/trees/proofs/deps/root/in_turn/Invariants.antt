@@ -1,10 +1,10 @@
-use Rattle.std.proofs.Common.{◌<◌, length}
-use Rattle.std.specs.Prelude.{All}
+use Rattle.std.proofs.Common.{take}
+use Rattle.trees.proofs.Marks.{AreMarked, AreMarkedUpTo}
 use Rattle.trees.proofs.deps.root.in_turn.Given as goal
 
--- the numbers so far are those of marks
-abbrev pub invariant-loop-i : goal.invariant-loop-i
-invariant-loop-i l = All (λ t. t < length l.needed) l.nodes.items
-
+-- the nodes so far
 abbrev pub invariant-loop-is_needed : goal.invariant-loop-is_needed
-invariant-loop-is_needed l = All (λ t. t < length l.needed) l.nodes.items
+invariant-loop-is_needed l = AreMarked l.needed (take l.is_needed-index l.is_needed-items) l.nodes.items
+
+abbrev pub invariant-loop-i : goal.invariant-loop-i
+invariant-loop-i l = AreMarkedUpTo l.needed (take l.is_needed-index l.is_needed-items) l.is_needed l.i l.nodes.items
