@@ -1,5 +1,5 @@
 -- Networks that get nodes and edges.
-use Rattle.std.proofs.Common.{◌≡◌, ◌∙◌, ℕ, ◌&&◌, ◌||◌, not, Bool, true, false, cond, eqb, ◌+◌, ◌<◌, List, [], ◌∷◌, ◌++◌, length, get_or, take, map, refl, sym, ap, subst, append_assoc, arith}
+use Rattle.std.proofs.Common.{◌≡◌, ◌∙◌, ℕ, ◌&&◌, ◌||◌, not, Bool, true, false, cond, eqb, ◌+◌, ◌<◌, List, [], ◌∷◌, ◌++◌, length, get_or, take, map, refl, sym, ap, subst, arith}
 use Rattle.std.proofs.lemmas.Bool.{eqb-true, false≢true}
 use Rattle.std.proofs.lemmas.List.{append-nil, map-append, take_more}
 use Rattle.std.proofs.lemmas.List.Elements.{filter-append}
@@ -7,13 +7,10 @@ use Rattle.std.proofs.lemmas.Map.Views.{any-filter_same}
 use Rattle.std.proofs.lemmas.Bool.Decides.{nat_tests}
 use Rattle.std.specs.Borrow.{Bor}
 use Rattle.std.specs.List.{list_any}
-use Rattle.std.specs.Ordering.{is_eq}
-use Rattle.std.specs.Prelude.{filter, String, string_bytes, Vec}
-use Rattle.std.specs.declared.alloc.Global.{Global}
-use Rattle.ptree.specs.Graph.{numbers_of}
+use Rattle.std.specs.Prelude.{filter, string_bytes}
 use Rattle.trees.specs.declared.deps.Network.{Network}
-use Rattle.trees.specs.Depending.{number, is_need, directed, edge_of, same_edge, firsts, edges_between, AreNames}
-use Rattle.trees.specs.DependingParts.{texts_of, labels_of, needs_of, edge_cmp, added, AddsEdge, IsEmpty, IsIndexed, HasNeeds, HasPairs}
+use Rattle.trees.specs.Depending.{number, is_need, directed, edge_of, same_edge, firsts, edges_between}
+use Rattle.trees.specs.DependingParts.{texts_of, labels_of, needs_of, added, AddsEdge, IsIndexed, HasNeeds}
 
 -- ## Elements once
 
@@ -89,11 +86,6 @@ module _ (is_inverse : Bool) (names : List (List ℕ)) (pairs : List (List ℕ �
 
 -- ## Networks
 
--- a network without edges is indexed
-pub indexed_none : (n : Network) → n.edges.items ≡ [] → n.sorted.keys ≡ [] → IsIndexed n
-indexed_none n edges keys e =
-    ap (list_any (λ (k : ℕ × ℕ). is_eq (edge_cmp e k))) keys ∙ sym (ap (λ es. list_any (same_edge e) (map numbers_of es)) edges)
-
 -- a network that gets names
 pub record HasNames (old new : Network) (names : List (Bor (List ℕ))) : Type 0 where
   pub labels : labels_of new ≡ labels_of old ++ map (λ x. x.now) names
@@ -101,34 +93,6 @@ pub record HasNames (old new : Network) (names : List (Bor (List ℕ))) : Type 0
   pub direction : new.is_inverse ≡ old.is_inverse
   pub edges : new.edges ≡ old.edges
   pub sorted : new.sorted ≡ old.sorted
-
-pub names_none : (n : Network) → HasNames n n []
-names_none n = record { labels = sym (append-nil (labels_of n)); paths = refl; direction = refl; edges = refl; sorted = refl }
-
--- one name more
-pub name_pushed : (old n : Network) (labels : Vec (String Global) Global) (names : List (Bor (List ℕ))) (name : Bor (List ℕ)) (label : String Global) → HasNames old n names → labels.items ≡ n.labels.items ++ label ∷ [] → string_bytes label ≡ name.now
-    → HasNames old (record n { labels = labels }) (names ++ name ∷ [])
-name_pushed old n labels names name label has more is = record {
-  labels = ap (map string_bytes) more
-      ∙ (map-append string_bytes n.labels.items (label ∷ [])
-      ∙ (ap (λ ls. ls ++ string_bytes label ∷ []) has.labels
-      ∙ (ap (λ (w : List ℕ). (labels_of old ++ map (λ (x : Bor (List ℕ)). x.now) names) ++ w ∷ []) is
-      ∙ (append_assoc (labels_of old) (map (λ (x : Bor (List ℕ)). x.now) names) (name.now ∷ []) ∙ ap (λ ls. labels_of old ++ ls) (sym (map-append (λ (x : Bor (List ℕ)). x.now) names (name ∷ [])))))));
-  paths = has.paths;
-  direction = has.direction;
-  edges = has.edges;
-  sorted = has.sorted;
-}
-
--- then it has these names and no edges
-pub needs_none : (old n : Network) (names : List (Bor (List ℕ))) → HasNames old n names → IsEmpty old → HasNeeds old.is_inverse (map (λ x. x.now) names) [] n
-needs_none old n names has empty = record {
-  labels = has.labels ∙ ap (λ ls. map string_bytes ls ++ map (λ (x : Bor (List ℕ)). x.now) names) empty.labels;
-  paths = ap (λ v. v.items) has.paths ∙ empty.paths;
-  direction = has.direction;
-  edges = ap (λ v. map numbers_of v.items) has.edges ∙ ap (map numbers_of) empty.edges;
-  indexed = indexed_none n (ap (λ v. v.items) has.edges ∙ empty.edges) (ap (λ s. s.keys) has.sorted ∙ empty.sorted);
-}
 
 -- a pair of one word twice
 pub need_same : (is_inverse : Bool) (names : List (List ℕ)) (pairs : List (List ℕ × List ℕ)) (p : List ℕ × List ℕ) (n : Network) → HasNeeds is_inverse names pairs n → is_need p ≡ false → HasNeeds is_inverse names (pairs ++ p ∷ []) n
@@ -169,10 +133,3 @@ module _ (is_inverse : Bool) (names : List (List ℕ)) (ps : List (Bor (List ℕ
       subst (λ pairs. HasNeeds is_inverse names pairs m) (sym pair_taken)
       (need_more is_inverse names (map texts_of (take i ps)) (texts_of (get_or ps i d)) n m has differ
       (λ indexed. subst (λ (y : ℕ). AddsEdge n m (directed n.is_inverse (number names (get_or ps i d).0.now, y))) second (subst (λ (x : ℕ). AddsEdge n m (directed n.is_inverse (x, b))) first (adds indexed))))
-
--- all pairs
-pub pairs_held : (is_inverse : Bool) (names : List (List ℕ)) (pairs : List (List ℕ × List ℕ)) (n : Network) → HasNeeds is_inverse names pairs n → AreNames pairs names → HasPairs is_inverse pairs n
-pairs_held is_inverse names pairs n has are = record {
-  names = subst (AreNames pairs) (sym has.labels) are;
-  needs = subst (λ ns. HasNeeds is_inverse ns pairs n) (sym has.labels) has;
-}

@@ -1,13 +1,12 @@
 -- Sources that are no lines of two words.
-use Rattle.std.proofs.Common.{◌≡◌, ◌∙◌, ℕ, ◌<◌, ◌&&◌, Bool, true, eq-eqb, List, [], ◌∷◌, ◌++◌, length, get_or, drop, lit<, refl, sym, ap, subst}
-use Rattle.std.proofs.lemmas.Str.{encode_ascii}
+use Rattle.std.proofs.Common.{◌≡◌, ◌∙◌, ℕ, ◌<◌, ◌&&◌, Bool, true, eq-eqb, List, [], ◌∷◌, ◌++◌, length, get_or, drop, refl, sym, ap, subst}
 use Rattle.std.proofs.lemmas.Bool.{false≢true}
 use Rattle.std.proofs.lemmas.List.Folds.{list_any_at}
 use Rattle.std.specs.List.{list_any}
 use Rattle.std.specs.Prelude.{codes, string_bytes}
-use Rattle.std.specs.Str.{bytes_eq, trim_start}
+use Rattle.std.specs.Str.{bytes_eq}
 use Rattle.std.specs.Str.Lines.{lines}
-use Rattle.std.specs.Str.Pattern.{FindsTextPrefix, HasPrefixMatch, HasCharAt}
+use Rattle.std.specs.Str.Pattern.{FindsTextPrefix, HasPrefixMatch}
 use Rattle.ptree_trees.specs.Parts.{begins_with, has_part}
 use Rattle.trees.specs.declared.source.Source.{Source}
 use Rattle.trees.specs.Depending.{source_text, other_names, other_starts, is_other_line, IsPairFile}
@@ -30,12 +29,6 @@ other_named source label last other is = false≢true (sym (is.name label last) 
 pub other_lined : (source : Source) (k : ℕ) (line : List ℕ) → k < length (lines (source_text source)) → line ≡ get_or (lines (source_text source)) k line → is_other_line line ≡ true → IsPairFile source → ⊥
 other_lined source k line low at other is =
     false≢true (sym is.lines ∙ list_any_at is_other_line (lines (source_text source)) k line low (ap is_other_line (sym at) ∙ other))
-
--- one that begins as JSON
-pub other_begun : (source : Source) (text : List ℕ) (n : ℕ) → text ≡ trim_start (source_text source) → HasCharAt 123 text 0 n → IsPairFile source → ⊥
-other_begun source text n same at is = false≢true (sym (ap (begins_with (codes "{")) same ∙ is.json) ∙ begins_at) where
-  begins_at : begins_with (codes "{") text ≡ true
-  begins_at = subst (λ (t : List ℕ). begins_with (codes "{") t ≡ true) (sym (at.split ∙ ap (λ (c : List ℕ). c ++ drop n text) (encode_ascii 123 (lit< tt)))) (begins_so (123 ∷ []) (drop n text))
 
 -- one with a part of TOML
 pub other_part : (source : Source) → has_part (codes "[[package]]") (source_text source) ≡ true → IsPairFile source → ⊥

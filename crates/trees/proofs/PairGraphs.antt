@@ -1,5 +1,5 @@
 -- Graphs of pairs of words.
-use Rattle.std.proofs.Common.{◌≡◌, ◌≢◌, ◌∙◌, ℕ, zero, suc, ◌+◌, ◌<◌, ◌≤◌, not, Bool, true, false, cond, List, [], ◌∷◌, ◌++◌, length, get_or, map, reverse, take, Option, Some, None, inl, inr, refl, sym, ap, subst, arith}
+use Rattle.std.proofs.Common.{◌≡◌, ◌∙◌, ℕ, zero, suc, ◌+◌, ◌<◌, ◌≤◌, not, Bool, true, false, cond, List, [], ◌∷◌, ◌++◌, length, get_or, map, reverse, take, Option, Some, None, inl, inr, refl, sym, ap, subst, arith}
 use Rattle.std.proofs.Math.ListN.{get_or-map}
 use Rattle.std.proofs.lemmas.List.{length-map, map-append, reverse-append, take_all, take_more}
 use Rattle.std.proofs.lemmas.List.Elements.{All-nil, All-cons, All-head, All-tail, All-append, All-filter, All-map, All-weaker, All-contains, Contains-append_right}
@@ -20,8 +20,8 @@ use Rattle.trees.specs.declared.deps.Network.{Network}
 use Rattle.trees.specs.declared.failure.Failure.{Failure}
 use Rattle.trees.specs.declared.source.Source.{Source}
 use Rattle.trees.specs.Depending.{pair_words, number, is_need, directed, edge_of, same_edge, firsts, edges_between, HoldsPairs, AreNames, StandsAbove, IsRooted, IsGraphOfPairs, IsNoName, HoldsNoGraph}
-use Rattle.trees.specs.DependingParts.{texts_of, labels_of, needs_of, AreApart, HasPairs, HasRoot, HoldsNone, IsNetworkOf, IsWhole, IsWithin}
-use Rattle.trees.specs.Reading.{FailsFor, FailsToMake}
+use Rattle.trees.specs.DependingParts.{texts_of, labels_of, needs_of, AreApart, HasRoot, HoldsNone, IsNetworkOf, IsWhole, IsWithin}
+use Rattle.trees.specs.Reading.{FailsFor}
 use Rattle.trees.specs.Shown.{shown_text}
 use Rattle.trees.proofs.SortedWords.{contains_mapped}
 use Rattle.trees.proofs.Pairs.{pairs_unique}
@@ -209,18 +209,7 @@ fails_unnamed source name is_inverse n e is says =
     fails_weaker (IsNoName name (labels_of n)) (HoldsNoGraph source name) ⊥ e
     (λ none pairs held. inr (subst (λ ps. IsNoName name (flat_map pair_words ps)) (pairs_unique is.pairs pairs (sym is.held ∙ held)) (no_word name (labels_of n) is.pairs is.has.names none))) says
 
--- ## Networks
-
--- a source whose lines are no pairs holds none
-pub fails_unheld : (source : Source) (e : Failure) → FailsToMake ⊥ (HoldsPairs source) e → FailsFor (HoldsNone source) ⊥ e
-fails_unheld source e says = fails_weaker ((pairs : List (List ℕ × List ℕ)) → HoldsPairs source pairs → ⊥) (HoldsNone source) ⊥ e (λ none pairs held. absurd (none pairs held)) says
-
--- nor one that has no lines of words
+-- a source without lines of words has no pairs
 pub none_held : (source : Source) (found : List (Bor (List ℕ) × Bor (List ℕ))) → length found ≡ 0 → HoldsPairs source (map texts_of found) → HoldsNone source
 none_held source [] empty held = λ pairs other. pairs_unique pairs [] (sym other ∙ held)
 none_held source (p ∷ found) empty held = absurd (omega arith)
-
--- a network of pairs that were found
-pub network_held : (source : Source) (is_inverse : Bool) (found : List (Bor (List ℕ) × Bor (List ℕ))) (n : Network) → length found ≢ 0 → HoldsPairs source (map texts_of found) → HasPairs is_inverse (map texts_of found) n → IsNetworkOf source is_inverse n
-network_held source is_inverse [] n some held has = absurd (some refl)
-network_held source is_inverse (p ∷ found) n some held has = record { pairs = map texts_of (p ∷ found); held = held; some = λ e. let no' : ⊥ = cc in no'; has = has }

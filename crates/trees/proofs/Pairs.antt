@@ -1,14 +1,13 @@
 -- Pairs of words on lines.
 use Rattle.std.specs.Prelude.{filter}
-use Rattle.std.proofs.Common.{◌≡◌, ◌∙◌, ℕ, ◌+◌, ◌<◌, true, List, [], ◌∷◌, ◌++◌, length, get_or, map, zero, suc, refl, sym, ap, arith}
+use Rattle.std.proofs.Common.{◌≡◌, ◌∙◌, ℕ, ◌+◌, ◌<◌, true, List, [], ◌∷◌, length, get_or, map, zero, suc, refl, sym, ap, arith}
 use Rattle.std.proofs.lemmas.Bool.{false≢true}
 use Rattle.std.specs.Borrow.{Bor}
 use Rattle.std.specs.List.{enumerate_from}
 use Rattle.std.specs.Str.Lines.{lines}
 use Rattle.ptree.proofs.Trees.ItemTrees.{map_twice}
 use Rattle.std.proofs.Math.ListN.{get_or-map}
-use Rattle.std.proofs.lemmas.List.{append-nil, map-append, length-map}
-use Rattle.std.proofs.lemmas.List.Elements.{filter-append}
+use Rattle.std.proofs.lemmas.List.{length-map}
 use Rattle.trees.specs.Depending.{words_of, has_words, pair_words, ArePairs}
 use Rattle.trees.specs.DependingParts.{texts_of, are_no_pair}
 
@@ -50,22 +49,6 @@ words_so_far passed = filter has_words (map (λ (p : ℕ × Bor (List ℕ)). wor
 
 abbrev pub AreFound : List (Bor (List ℕ) × Bor (List ℕ)) → List (ℕ × Bor (List ℕ)) → Type 0
 AreFound found passed = words_so_far passed ≡ map pair_words (map texts_of found)
-
--- one line more
-more_words : (passed : List (ℕ × Bor (List ℕ))) (line : ℕ × Bor (List ℕ)) → words_so_far (passed ++ line ∷ []) ≡ words_so_far passed ++ filter has_words (words_of line.1.now ∷ [])
-more_words passed line = ap (filter has_words) (map-append (λ (p : ℕ × Bor (List ℕ)). words_of p.1.now) passed (line ∷ [])) ∙ filter-append has_words (map (λ (p : ℕ × Bor (List ℕ)). words_of p.1.now) passed) (words_of line.1.now ∷ [])
-
-pub blank_passed : (found : List (Bor (List ℕ) × Bor (List ℕ))) (passed : List (ℕ × Bor (List ℕ))) (line : ℕ × Bor (List ℕ)) → AreFound found passed → words_of line.1.now ≡ [] → AreFound found (passed ++ line ∷ [])
-blank_passed found passed line so none =
-    more_words passed line ∙ (ap (λ ws. words_so_far passed ++ filter has_words (ws ∷ [])) none ∙ (append-nil (words_so_far passed) ∙ so))
-
-pub pair_passed : (found : List (Bor (List ℕ) × Bor (List ℕ))) (passed : List (ℕ × Bor (List ℕ))) (line : ℕ × Bor (List ℕ)) (p : Bor (List ℕ) × Bor (List ℕ)) → AreFound found passed → words_of line.1.now ≡ pair_words (texts_of p)
-    → AreFound (found ++ p ∷ []) (passed ++ line ∷ [])
-pair_passed found passed line p so two =
-    more_words passed line
-    ∙ (ap (λ ws. words_so_far passed ++ filter has_words (ws ∷ [])) two
-    ∙ (ap (λ ws. ws ++ pair_words (texts_of p) ∷ []) so
-    ∙ sym (ap (map pair_words) (map-append texts_of found (p ∷ [])) ∙ map-append pair_words (map texts_of found) (texts_of p ∷ []))))
 
 -- all lines
 pub passed_all : (text : List ℕ) (found : List (Bor (List ℕ) × Bor (List ℕ))) (passed : List (ℕ × Bor (List ℕ))) → map (λ (p : ℕ × Bor (List ℕ)). (p.0, p.1.now)) passed ≡ enumerate_from 0 (lines text) → AreFound found passed → ArePairs text (map texts_of found)

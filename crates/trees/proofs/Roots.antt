@@ -185,12 +185,6 @@ module _ (names : List (List ℕ)) (name : List ℕ) (whole : List NodeIndex) (i
 
 -- ## Roots
 
--- a node alone is the root
-pub stands_alone : (label : List ℕ) (names : List (List ℕ)) (edges : List (ℕ × ℕ)) (tops : List ℕ) (root : ℕ) → length tops ≡ 1 → root ≡ get_or tops 0 0 → StandsAbove label names edges tops names edges root
-stands_alone label names edges [] root one at = absurd (omega arith)
-stands_alone label names edges (top ∷ []) root one at = (at, refl, refl)
-stands_alone label names edges (top ∷ u ∷ tops) root one at = absurd (omega arith)
-
 -- a root above nodes, unless there is one alone
 pub stands_above : (label : List ℕ) (names : List (List ℕ)) (edges : List (ℕ × ℕ)) (tops : List ℕ) (texts : List (List ℕ)) (all : List (ℕ × ℕ)) (root : ℕ) → length tops ≢ 1 → root ≡ length names → texts ≡ names ++ label ∷ []
     → all ≡ edges ++ map (λ t. (length names, t)) tops → StandsAbove label names edges tops texts all root
