@@ -1,6 +1,7 @@
 -- What the end of a call tells.
-use Rattle.std.proofs.Common.{◌≡◌, ◌<◌, ◌+◌, ◌∙◌, true, false, not, ℕ, List, All, take, length, get_or, Bool, Result, Ok, Err, ◌↔◌, IsTrue, string_bytes, arith, subst, sym, refl}
-use Rattle.std.proofs.lemmas.Bool.{false≢true}
+use Rattle.std.proofs.Common.{◌≡◌, ◌<◌, ◌+◌, ◌∙◌, true, false, not, eqb, ℕ, List, [], ◌∷◌, All, take, length, get_or, Bool, Option, Some, None, Result, Ok, Err, ◌↔◌, IsTrue, string_bytes, arith, subst, sym, ap, refl}
+use Rattle.std.proofs.lemmas.Bool.{ne_eqb, false≢true}
+use Rattle.std.specs.Prelude.{is_some, slice_get}
 use Rattle.std.proofs.lemmas.List.{take-take, get_or-take, length-take-le}
 use Rattle.std.proofs.lemmas.List.Elements.{All-more, All-take, All-get_or}
 use Rattle.ptree.specs.declared.print_config.OutputKind.TheVariants.{Unknown}
@@ -55,3 +56,15 @@ pub not_all : {X : Type 0} (P : X → Type 0) (xs : List X) (i : ℕ) (x : X) �
 not_all P xs i x l is fails =
     let long : length (take (i + 1) xs) ≡ i + 1 = length-take-le (i + 1) xs (omega (arith, l)) in
     ((λ no. cc), (λ all. absurd (fails (subst P (get_or-take (i + 1) xs i x (omega arith) ∙ sym is) (All-get_or P (take (i + 1) xs) i x (omega (arith, long)) all)))))
+
+-- ## Settings
+
+-- a list has a first element exactly if it is not empty
+pub some_first : {X : Type 0} (xs : List X) → not (eqb (length xs) 0) ≡ is_some (slice_get xs 0)
+some_first [] = refl
+some_first (x ∷ xs) = ap not (ne_eqb (length (x ∷ xs)) 0 (omega arith))
+
+-- an option is empty or has a value
+pub none_or_some : {X : Type 0} (o : Option X) → (is_some o ≡ false → o ≡ None) × (o ≡ None → is_some o ≡ false)
+none_or_some None = ((λ _. refl), λ _. refl)
+none_or_some (Some x) = ((λ e. absurd (false≢true (sym e))), λ e. ap is_some e)

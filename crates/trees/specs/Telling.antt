@@ -1,7 +1,8 @@
 -- What a call tells by its end: success says that something holds, and a refusal that it doesn't.
-use Rattle.std.specs.Prelude.{◌≡◌, ℕ, All, Result, Ok, Err, string_bytes, ⊤}
+use Rattle.std.specs.Prelude.{◌≡◌, ℕ, All, None, Result, Ok, Err, string_bytes, ⊤}
 use Rattle.std.specs.declared.io.ErrorKind.TheVariants.{BrokenPipe}
 use Rattle.ptree.specs.declared.print_config.Sources.{Sources}
+use Rattle.ptree.specs.Loading.{first_fault}
 use Rattle.trees.specs.declared.command.Command.{Command}
 use Rattle.trees.specs.declared.command.Command.TheVariants.{Draw, Deps, Indented, Check, Convert, Diff, Config}
 use Rattle.trees.specs.declared.failure.Failure.{Failure}
@@ -25,7 +26,7 @@ status_of (Output BrokenPipe) = 141
 status_of _ = 1
 
 -- what the end of a command says: `check`, that each input is a drawing; `diff`, that both texts are
--- equal, byte for byte
+-- equal, byte for byte; `config`, that no source has a fault
 abbrev pub TellsOfCommand : {A : Type 0} → Sources → Command → Result A Failure → Type 0
 TellsOfCommand sources (Check inputs pieces screen) result = TellsWhether result (All (HoldsSome (reading_value sources pieces)) inputs.now)
 TellsOfCommand sources (Diff left right diff) result = TellsWhether result (string_bytes left.now.text ≡ string_bytes right.now.text)
@@ -33,4 +34,4 @@ TellsOfCommand sources (Draw source tree drawing) result = ⊤
 TellsOfCommand sources (Deps source deps drawing) result = ⊤
 TellsOfCommand sources (Indented source indented) result = ⊤
 TellsOfCommand sources (Convert source convert) result = ⊤
-TellsOfCommand sources Config result = ⊤
+TellsOfCommand sources Config result = TellsWhether result (first_fault sources ≡ None)

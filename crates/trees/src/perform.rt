@@ -1,9 +1,10 @@
 //! Does what a command asks for.
-ghost use Rattle.std.specs.Prelude.{◌≡◌, ◌≢◌, ◌<◌, ◌↔◌, ◌++◌, ℕ, true, false, List, length, All, IsTrue, IfOk, IfErr, IsErr, OnOk, option_map, string_bytes};
+ghost use Rattle.std.specs.Prelude.{◌≡◌, ◌≢◌, ◌<◌, ◌↔◌, ◌++◌, ℕ, true, false, List, None, length, All, IsTrue, IfOk, IfErr, IsErr, OnOk, option_map, string_bytes};
 ghost use Rattle.ptree.specs.declared.print_config.OutputKind.TheVariants.{Unknown};
 ghost use Rattle.ptree.specs.Config.{config_of};
 ghost use Rattle.ptree.specs.Drawing.{look_by};
 ghost use Rattle.ptree.specs.DrawnForm.{IsDrawnForm};
+ghost use Rattle.ptree.specs.Loading.{first_fault};
 ghost use Rattle.ptree.specs.Outline.{subtrees};
 ghost use Rattle.ptree.specs.Tree.{tree_of};
 ghost use Rattle.ptree.specs.Writing.{AppendsPart, IsWritten};
@@ -654,6 +655,7 @@ fn write_both<W: Sink>(
 
 // Says which settings hold.
 fn show_settings<W: Sink>(alloc: Global, out: &mut W, found: &Surroundings) -> Result<(), Failure>
+    ensures told { TellsWhether result (first_fault found.now.sources ≡ None) }
     ensures quiet { LeavesIfWrong out.old out.new result }
     // In a file too.
     ensures shown { ShowsOnly true IsNone (W.contents out.old) (W.contents out.new) }

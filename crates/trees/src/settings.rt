@@ -1,4 +1,6 @@
 //! Says which settings hold, where each comes from, and what is wrong with the sources.
+ghost use Rattle.std.specs.Prelude.{◌≡◌, is_some, IfOk};
+ghost use Rattle.ptree.specs.Loading.{first_fault};
 
 use crate::suggest::Nearest;
 use ptree::print_config::{
@@ -25,7 +27,10 @@ pub struct Report {
 /// # Errors
 ///
 /// Memory ran out.
-pub fn describe(alloc: Global, found: &Surroundings) -> Result<Report, AllocError> {
+pub fn describe(alloc: Global, found: &Surroundings) -> Result<Report, AllocError>
+    ensures { IfOk result (λ report.
+        report.has_faults ≡ is_some (first_fault found.now.sources)) }
+{
     let mut text = String::new(alloc);
     match &found.path {
         Some(path) => writeln!(text, "file: {}", escaped(alloc, path.as_str())?)?,

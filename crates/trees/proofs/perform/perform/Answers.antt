@@ -6,6 +6,9 @@ use Rattle.trees.proofs.perform.perform.Goals as goal
 pub returns-in-Check-clause-told : goal.returns-in-Check-clause-told
 returns-in-Check-clause-told g c = subst (λ command. TellsOfCommand c.args.found.now.sources command c.check.result) (sym c.in-Check.is) c.check.ensures.told
 
+pub returns-in-Config-clause-told : goal.returns-in-Config-clause-told
+returns-in-Config-clause-told g c = subst (λ command. TellsOfCommand c.args.found.now.sources command c.show_settings.result) (sym c.in-Config.is) c.show_settings.ensures.told
+
 pub returns-in-Indented-clause-written : goal.returns-in-Indented-clause-written
 returns-in-Indented-clause-written g c =
     subst (λ command. WritesOfCommand c.args.found.now.sources command (g.W.Sink.contents c.args.out.now) (g.W.Sink.contents c.write_indented.new.out) c.write_indented.result) (sym c.in-Indented.is)

@@ -1,7 +1,18 @@
-use Rattle.std.proofs.Common.{◌≡◌, true, string_bytes, rules}
+use Rattle.std.proofs.Common.{◌≡◌, ◌∙◌, true, false, None, sym, string_bytes, rules}
+use Rattle.ptree.specs.Loading.{first_fault}
+use Rattle.trees.specs.Telling.{TellsWhether}
 use Rattle.trees.specs.Shown.{IsNone, shown_lines}
 use Rattle.trees.proofs.Shown.{lines_part_shown, nothing_shown}
+use Rattle.trees.proofs.Told.{tells_same, none_or_some}
 use Rattle.trees.proofs.perform.show_settings.Goals as goal
+
+pub returns-clause-told : goal.returns-clause-told
+returns-clause-told g c =
+    let fault = first_fault c.args.found.now.sources in
+    let both = none_or_some fault in
+    let report = c.in_ok-report.report in
+    let told : TellsWhether c.say.result (report.has_faults ≡ false) = search rules in
+    tells_same c.say.result (report.has_faults ≡ false) (fault ≡ None) (λ none. both.0 (sym c.in_ok-report.ensures ∙ none)) (λ none. c.in_ok-report.ensures ∙ both.1 none) told
 
 -- what is said is as a terminal may get it
 pub returns-clause-shown : goal.returns-clause-shown
