@@ -1,21 +1,25 @@
 -- With which pieces a drawing can go on after some lines.
-use Rattle.std.proofs.Common.{◌≡◌, ◌≢◌, ℕ, suc, ◌+◌, ◌<◌, Bool, cond, List, [], ◌∷◌, ◌++◌, length, get_or, inl, inr, refl, sym, ap, ◌∙◌, subst, append_assoc, arith}
-use Rattle.std.proofs.lemmas.Bool.{eq-eqb, ne_eqb}
-use Rattle.std.proofs.lemmas.List.{append-nil}
+use Rattle.std.proofs.Common.{◌≡◌, ◌≢◌, ℕ, suc, ◌+◌, ◌<◌, ◌⊎◌, Bool, true, false, cond, List, [], ◌∷◌, ◌++◌, length, get_or, inl, inr, refl, sym, ap, ◌∙◌, subst, append_assoc, arith}
+use Rattle.std.proofs.lemmas.Bool.{cases_lt, eq-eqb, ne_eqb}
+use Rattle.std.proofs.lemmas.List.{append-nil, get_or_default}
+use Rattle.ptree.specs.declared.print_config.OutputKind.TheVariants.{Unknown}
 use Rattle.ptree.specs.Config.{ConfigValue}
 use Rattle.ptree.specs.Continuation.{HasContinuation, IsFirstWrongLine, EndsWrong, first_lines, line_count}
-use Rattle.ptree.specs.Drawing.{Look}
+use Rattle.ptree.specs.Drawing.{Look, look_by, effective_style}
 use Rattle.ptree.specs.DrawnForm.{IsDrawnForm}
 use Rattle.ptree.specs.Pieces.{Pieces, turning_piece, passing_piece, passing_all, pieces_from}
-use Rattle.ptree.specs.Readable.{IsReadable}
+use Rattle.ptree.specs.Readable.{IsReadable, IsReadableWith}
 use Rattle.ptree.specs.Spelled.{ArePassing, ArePiecesAt}
+use Rattle.ptree.specs.Style.{style_codes}
 use Rattle.ptree.specs.Tree.{Tree}
 use Rattle.ptree.proofs.Drawing.Inserted.{is_feed}
 use Rattle.ptree.proofs.Pieces.Prefixes.{apart_not_both_starts, same_kind, same_prefix}
 use Rattle.ptree.proofs.Reading.Continuations.{goes_on_before}
 use Rattle.ptree.proofs.Reading.FirstLines.{first_rest}
-use Rattle.trees.specs.Expected.{CanFollow, IsBeginning, AddsListed, EndsPieces, AreFronts}
-use Rattle.trees.proofs.DistinctTexts.{distinct_at, adds_weaker, adds_both}
+use Rattle.ptree.proofs.Styles.PaintedTexts.{plain_codes}
+use Rattle.trees.specs.Expected.{CanFollow, IsBeginning, IsUncoloured, ListsBeginnings, IsLastLine, AddsListed, EndsPieces, AreFronts, HasFronts}
+use Rattle.trees.proofs.DistinctTexts.{all_contained, distinct_at, adds_both}
+use Rattle.trees.proofs.NextFronts.{lets_front, IsPlainLook, each_let}
 
 -- ## Whole lines
 
@@ -97,30 +101,77 @@ behind_apart p h m n f g x y (above, _, is) (other, _, are) apart (a, one) (b, t
 item_pieces : (p : Pieces) (n : ℕ) (front text : List ℕ) → ArePassing p n front → EndsPieces p front text → (level : ℕ) × ArePiecesAt p level text
 item_pieces p n front text (above, count, is) (last, ends) = (suc n, (above, last, count, ends ∙ ap (λ z. z ++ turning_piece p last) is))
 
+-- an item's piece is one of two
+pub either_piece : (p : Pieces) (front text : List ℕ) → EndsPieces p front text → (text ≡ front ++ turning_piece p false) ⊎ (text ≡ front ++ turning_piece p true)
+either_piece p front text (false, is) = inl is
+either_piece p front text (true, is) = inr is
+
+-- or there is one alone
+pub one_piece : (p : Pieces) → turning_piece p true ≡ turning_piece p false → (front text : List ℕ) → EndsPieces p front text → text ≡ front ++ turning_piece p false
+one_piece p same front text (false, is) = is
+one_piece p same front text (true, is) = is ∙ ap (λ z. front ++ z) same
+
 -- ## Beginnings
 
 -- the pieces of an item behind one of the first fronts, with which a drawing can go on
 abbrev pub IsBehind : ConfigValue → List ℕ → Pieces → List (List ℕ) → ℕ → List ℕ → Type 0
-IsBehind config lines p fronts n text = IsBeginning config lines text × ((k : ℕ) × (k < n) × EndsPieces p (get_or fronts k []) text)
+IsBehind config lines p fronts n text = CanFollow config lines text × ((k : ℕ) × (k < n) × EndsPieces p (get_or fronts k []) text)
+
+-- behind none of them there is none
+pub behind_none : (config : ConfigValue) (lines : List ℕ) (p : Pieces) (fronts : List (List ℕ)) (text : List ℕ) → IsBehind config lines p fronts 0 text → ⊥
+behind_none config lines p fronts text so = omega (arith, so.1.1)
 
 -- the pieces behind one front more
-pub next_listed : (config : ConfigValue) (lines : List ℕ) (p : Pieces) → p ≡ pieces_from config.characters config.indent config.padding → IsReadable p
+pub next_listed : (config : ConfigValue) (lines : List ℕ) (p : Pieces) → IsReadable p
     → (fronts : List (List ℕ)) → AreFronts p fronts → (i : ℕ) (front : List ℕ) → i < length fronts → front ≡ get_or fronts i [] → (a b : List ℕ)
     → AddsListed (IsBehind config lines p fronts i) [] a → AddsListed (λ text. CanFollow config lines text × EndsPieces p front text) a b
     → AddsListed (IsBehind config lines p fronts (i + 1)) [] b
-next_listed config lines p held readable fronts are i front low is a b before added =
+next_listed config lines p readable fronts are i front low is a b before added =
     let (n, passes) = subst (λ z. (level : ℕ) × ArePassing p level z) (sym is) (are.0 i [] low) in
     adds_both (IsBehind config lines p fronts i) (λ text. CanFollow config lines text × EndsPieces p front text) (IsBehind config lines p fronts (i + 1))
     (λ text so. (so.0, (so.1.0, omega (arith, so.1.1), so.1.2)))
-    (λ text new. (
-      (subst (λ q. (level : ℕ) × ArePiecesAt q level text) held (item_pieces p n front text passes new.1), new.0),
-      (i, omega arith, subst (λ z. EndsPieces p z text) is new.1),
-    ))
+    (λ text new. (new.0, (i, omega arith, subst (λ z. EndsPieces p z text) is new.1)))
+    (λ text so. elim (cases_lt so.1.0 i) [
+      | inl less ↦ inl (so.0, (so.1.0, less, so.1.2))
+      | inr more ↦
+          let same : so.1.0 ≡ i = omega (arith, so.1.1, more) in
+          inr (so.0, subst (λ z. EndsPieces p z text) (ap (λ k. get_or fronts k []) same ∙ sym is) so.1.2)
+    ])
     (λ x y so new.
     let (m, passed) = are.0 so.1.0 [] (omega (arith, so.1.1)) in
     behind_apart p readable m n (get_or fronts so.1.0 []) front x y passed passes (λ e. distinct_at fronts so.1.0 i are.1 so.1.1 low (e ∙ is)) so.1.2 new.1)
     [] a b before added
 
--- a text of a list of beginnings is one
-pub listed_beginnings : (config : ConfigValue) (lines : List ℕ) (p : Pieces) (fronts : List (List ℕ)) (n : ℕ) (a b : List ℕ) → AddsListed (IsBehind config lines p fronts n) a b → AddsListed (IsBeginning config lines) a b
-listed_beginnings config lines p fronts n a b h = adds_weaker (IsBehind config lines p fronts n) (IsBeginning config lines) a b (λ text so. so.0) h
+-- drawings that are not coloured have no codes
+plain_look : (config : ConfigValue) → IsUncoloured config → IsPlainLook (look_by config Unknown false)
+plain_look config plain = (
+  ap (λ s. style_codes (effective_style s config.branch)) plain ∙ plain_codes,
+  ap (λ s. style_codes (effective_style s config.leaf)) plain ∙ plain_codes,
+)
+
+-- those behind all fronts of the last line are the beginnings
+pub listed_beginnings : (config : ConfigValue) (lines line : List ℕ) → IsReadableWith (pieces_from config.characters config.indent config.padding) config.continued
+    → ((front : List ℕ) → lines ≡ front ++ 10 ∷ [] → IsLastLine front line)
+    → (fronts : List (List ℕ)) → AreFronts (pieces_from config.characters config.indent config.padding) fronts → HasFronts (pieces_from config.characters config.indent config.padding) line fronts
+    → (n : ℕ) → n ≡ length fronts → (listed : List ℕ) → AddsListed (IsBehind config lines (pieces_from config.characters config.indent config.padding) fronts n) [] listed → ListsBeginnings config lines listed
+listed_beginnings config lines line readable last fronts are has n all listed h = record {
+  texts = h.0;
+  listed_is = h.1;
+  each_once = h.3;
+  no_other = all_contained (IsBeginning config lines) h.0 (λ text there.
+      let so = (h.2 text).0 there in
+      let (m, passes) = are.0 so.1.0 [] (omega (arith, so.1.1, all)) in
+      let (level, at) = item_pieces p m (get_or fronts so.1.0 []) text passes so.1.2 in
+      (level, (at, so.0)));
+  all = λ plain whole level text low is.
+      let goes : HasContinuation k config.depth ((whole.0 ++ 10 ∷ []) ++ (text ++ 120 ∷ 10 ∷ [])) = subst (λ z. HasContinuation k config.depth (z ++ (text ++ 120 ∷ 10 ∷ []))) whole.1 is.1 in
+      let found = each_let k readable (plain_look config plain) config.depth whole.0 line (last whole.0 whole.1) level text is.0 goes in
+      let (i, inside, here) = lets_front p line fronts has found.n found.front (omega (arith, low, found.level_is)) found.lets in
+      let there : get_or fronts i [] ≡ found.front = get_or_default fronts i [] found.front inside ∙ here in
+      (h.2 text).1 (is.1, (i, omega (arith, inside, all), subst (λ z. EndsPieces p z text) (sym there) found.ends));
+} where
+  k : Look
+  k = look_by config Unknown false
+
+  p : Pieces
+  p = pieces_from config.characters config.indent config.padding

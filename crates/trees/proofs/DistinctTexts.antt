@@ -1,9 +1,9 @@
 -- Lists of different texts.
-use Rattle.std.proofs.Common.{◌≡◌, ◌≢◌, ℕ, zero, suc, ◌<◌, List, [], ◌∷◌, ◌++◌, map, length, get_or, String, Global, string_bytes, sym, ap, ◌∙◌, append_assoc, arith}
+use Rattle.std.proofs.Common.{◌≡◌, ◌≢◌, ℕ, zero, suc, ◌<◌, List, [], ◌∷◌, ◌++◌, map, length, get_or, inl, inr, String, Global, string_bytes, refl, sym, ap, ◌∙◌, subst, append_assoc, arith}
 use Rattle.std.proofs.lemmas.Grind.{flat_map-append}
 use Rattle.std.proofs.lemmas.List.{append-nil, map-append}
-use Rattle.std.proofs.lemmas.List.Elements.{All-nil, All-cons, All-head, All-tail, All-append}
-use Rattle.std.specs.Prelude.{All, codes}
+use Rattle.std.proofs.lemmas.List.Elements.{All-nil, All-cons, All-head, All-tail, All-append, Contains-get_or, Contains-append_left, Contains-append_right, Contains-append_cases, Contains-push, Contains-push_cases}
+use Rattle.std.specs.Prelude.{◌↔◌, ◌⊎◌, All, Contains, codes}
 use Rattle.trees.specs.Expected.{AreDistinct, listed_texts, AddsListed, AddsTexts}
 
 -- those of two lists that have none in common
@@ -20,54 +20,83 @@ distinct_at (x ∷ xs) i zero h less low e = absurd (omega arith)
 distinct_at (x ∷ xs) zero (suc j) h less low e = h.0 j [] (omega arith) e
 distinct_at (x ∷ xs) (suc i) (suc j) h less low e = distinct_at xs i j h.1 (omega arith) (omega arith) e
 
--- what holds of each text of a list, also holds if it says less
-all_weaker : (P Q : List ℕ → Type 0) → ((x : List ℕ) → P x → Q x) → (xs : List (List ℕ)) → All P xs → All Q xs
-all_weaker P Q f xs h = λ k d low. f (get_or xs k d) (h k d low)
-
 -- texts of two kinds that have none in common
 all_apart : (P Q : List ℕ → Type 0) → ((x y : List ℕ) → P x → Q y → x ≢ y) → (xs ys : List (List ℕ)) → All P xs → All Q ys → All (λ x. All (λ y. x ≢ y) ys) xs
 all_apart P Q apart xs ys h k = λ i d low. λ j e below. apart (get_or xs i d) (get_or ys j e) (h i d low) (k j e below)
 
+-- what each text of a list is, each of those at its places is
+pub all_contained : (P : List ℕ → Type 0) (xs : List (List ℕ)) → ((x : List ℕ) → Contains xs x → P x) → All P xs
+all_contained P xs h = λ k d low. h (get_or xs k d) (Contains-get_or xs k d low)
+
+-- no text is in the empty list
+pub contains_none : (x : List ℕ) → Contains [] x → ⊥
+contains_none x (k, low, is) = omega (arith, low)
+
+-- a list of one text has no other
+pub contains_one : (x text : List ℕ) → Contains (text ∷ []) x → x ≡ text
+contains_one x text h = elim (Contains-push_cases [] text x h) [ inl none ↦ absurd (contains_none x none) | inr same ↦ sym same ]
+
+-- exactly the texts of which P holds are in a list
+abbrev pub IsListOf : (List ℕ → Type 0) → List (List ℕ) → Type 0
+IsListOf P xs = (x : List ℕ) → Contains xs x ↔ P x
+
+-- a list of one text
+one_text : (P : List ℕ → Type 0) (text : List ℕ) → P text → ((x : List ℕ) → P x → x ≡ text) → IsListOf P (text ∷ [])
+one_text P text holds only x = (λ there. subst P (sym (contains_one x text there)) holds, λ p. subst (Contains (text ∷ [])) (sym (only x p)) (Contains-push [] text))
+
+-- those of one of two kinds are in two lists
+list_both : (P Q R : List ℕ → Type 0) → ((x : List ℕ) → P x → R x) → ((x : List ℕ) → Q x → R x) → ((x : List ℕ) → R x → P x ⊎ Q x) → (xs ys : List (List ℕ))
+    → IsListOf P xs → IsListOf Q ys → IsListOf R (xs ++ ys)
+list_both P Q R f g back xs ys h k x = (
+  λ there. elim (Contains-append_cases xs ys x there) [ inl l ↦ f x ((h x).0 l) | inr r ↦ g x ((k x).0 r) ],
+  λ holds. elim (back x holds) [ inl p ↦ Contains-append_left xs ys x ((h x).1 p) | inr q ↦ Contains-append_right xs ys x ((k x).1 q) ],
+)
+
 -- ## Lists
 
 -- nothing is added
-pub adds_none : (Is : List ℕ → Type 0) (a : List ℕ) → AddsListed Is a a
-adds_none Is a = ([], sym (append-nil a), All-nil Is, tt)
+pub adds_none : (Is : List ℕ → Type 0) (a : List ℕ) → ((x : List ℕ) → Is x → ⊥) → AddsListed Is a a
+adds_none Is a never = ([], sym (append-nil a), λ x. (λ there. absurd (contains_none x there), λ holds. absurd (never x holds)), tt)
 
 -- a text is added
-pub adds_one : (Is : List ℕ → Type 0) (a b text : List ℕ) → b ≡ a ++ (codes "\n  " ++ text) → Is text → AddsListed Is a b
-adds_one Is a b text is holds = (text ∷ [], is ∙ ap (λ z. a ++ z) (sym (append-nil (codes "\n  " ++ text))), All-cons Is text [] holds (All-nil Is), (All-nil (λ y. text ≢ y), tt))
+pub adds_one : (Is : List ℕ → Type 0) (a b text : List ℕ) → b ≡ a ++ (codes "\n  " ++ text) → Is text → ((x : List ℕ) → Is x → x ≡ text) → AddsListed Is a b
+adds_one Is a b text is holds only = (
+  text ∷ [],
+  is ∙ ap (λ z. a ++ z) (sym (append-nil (codes "\n  " ++ text))),
+  one_text Is text holds only,
+  (All-nil (λ y. text ≢ y), tt),
+)
 
--- what is added says less
-pub adds_weaker : (P Q : List ℕ → Type 0) (a b : List ℕ) → ((x : List ℕ) → P x → Q x) → AddsListed P a b → AddsListed Q a b
-adds_weaker P Q a b f h = (h.0, h.1, all_weaker P Q f h.0 h.2, h.3)
+-- the same is said otherwise
+pub adds_same : (P Q : List ℕ → Type 0) (a b : List ℕ) → ((x : List ℕ) → P x → Q x) → ((x : List ℕ) → Q x → P x) → AddsListed P a b → AddsListed Q a b
+adds_same P Q a b f g h = (h.0, h.1, λ x. (λ there. f x ((h.2 x).0 there), λ q. (h.2 x).1 (g x q)), h.3)
 
 -- texts of two kinds that have none in common are added
-pub adds_both : (P Q R : List ℕ → Type 0) → ((x : List ℕ) → P x → R x) → ((x : List ℕ) → Q x → R x) → ((x y : List ℕ) → P x → Q y → x ≢ y) → (a b c : List ℕ)
-    → AddsListed P a b → AddsListed Q b c → AddsListed R a c
-adds_both P Q R f g apart a b c (xs, first, p, d) (ys, second, q, e) = (
+pub adds_both : (P Q R : List ℕ → Type 0) → ((x : List ℕ) → P x → R x) → ((x : List ℕ) → Q x → R x) → ((x : List ℕ) → R x → P x ⊎ Q x) → ((x y : List ℕ) → P x → Q y → x ≢ y)
+    → (a b c : List ℕ) → AddsListed P a b → AddsListed Q b c → AddsListed R a c
+adds_both P Q R f g back apart a b c (xs, first, p, d) (ys, second, q, e) = (
   xs ++ ys,
   second ∙ (ap (λ z. z ++ listed_texts ys) first ∙ (append_assoc a (listed_texts xs) (listed_texts ys) ∙ ap (λ z. a ++ z) (sym (flat_map-append (λ text. codes "\n  " ++ text) xs ys)))),
-  All-append R xs ys (all_weaker P R f xs p) (all_weaker Q R g ys q),
-  distinct_both xs ys d e (all_apart P Q apart xs ys p q),
+  list_both P Q R f g back xs ys p q,
+  distinct_both xs ys d e (all_apart P Q apart xs ys (all_contained P xs (λ x there. (p x).0 there)) (all_contained Q ys (λ x there. (q x).0 there))),
 )
 
 -- ## Texts
 
 -- nothing is added
-pub texts_none : (Is : List ℕ → Type 0) (a : List (List ℕ)) → AddsTexts Is a a
-texts_none Is a = ([], sym (append-nil a), All-nil Is, tt)
+pub texts_none : (Is : List ℕ → Type 0) (a : List (List ℕ)) → ((x : List ℕ) → Is x → ⊥) → AddsTexts Is a a
+texts_none Is a never = ([], sym (append-nil a), λ x. (λ there. absurd (contains_none x there), λ holds. absurd (never x holds)), tt)
 
 -- a text is added
-pub texts_one : (Is : List ℕ → Type 0) (a b : List (List ℕ)) (text : List ℕ) → b ≡ a ++ text ∷ [] → Is text → AddsTexts Is a b
-texts_one Is a b text is holds = (text ∷ [], is, All-cons Is text [] holds (All-nil Is), (All-nil (λ y. text ≢ y), tt))
+pub texts_one : (Is : List ℕ → Type 0) (a b : List (List ℕ)) (text : List ℕ) → b ≡ a ++ text ∷ [] → Is text → ((x : List ℕ) → Is x → x ≡ text) → AddsTexts Is a b
+texts_one Is a b text is holds only = (text ∷ [], is, one_text Is text holds only, (All-nil (λ y. text ≢ y), tt))
 
 -- two different texts are added
-pub texts_two : (Is : List ℕ → Type 0) (a b c : List (List ℕ)) (x y : List ℕ) → b ≡ a ++ x ∷ [] → c ≡ b ++ y ∷ [] → x ≢ y → Is x → Is y → AddsTexts Is a c
-texts_two Is a b c x y first second apart p q = (
+pub texts_two : (Is : List ℕ → Type 0) (a b c : List (List ℕ)) (x y : List ℕ) → b ≡ a ++ x ∷ [] → c ≡ b ++ y ∷ [] → x ≢ y → Is x → Is y → ((z : List ℕ) → Is z → (z ≡ x) ⊎ (z ≡ y)) → AddsTexts Is a c
+texts_two Is a b c x y first second apart p q only = (
   x ∷ y ∷ [],
   second ∙ (ap (λ z. z ++ y ∷ []) first ∙ append_assoc a (x ∷ []) (y ∷ [])),
-  All-cons Is x (y ∷ []) p (All-cons Is y [] q (All-nil Is)),
+  list_both (λ z. z ≡ x) (λ z. z ≡ y) Is (λ z e. subst Is (sym e) p) (λ z e. subst Is (sym e) q) only (x ∷ []) (y ∷ []) (one_text (λ z. z ≡ x) x refl (λ z e. e)) (one_text (λ z. z ≡ y) y refl (λ z e. e)),
   (All-cons (λ z. x ≢ z) y [] apart (All-nil (λ z. x ≢ z)), (All-nil (λ z. y ≢ z), tt)),
 )
 

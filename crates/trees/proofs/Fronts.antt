@@ -1,17 +1,23 @@
 -- The passing pieces behind which an item could follow a line.
-use Rattle.std.proofs.Common.{◌≡◌, ◌≢◌, ℕ, suc, ◌<◌, ◌≤◌, ◌⊎◌, inl, inr, Bool, List, [], ◌∷◌, ◌++◌, length, length-append, get_or, map, refl, sym, ap, ◌∙◌, subst, string_bytes, arith}
+use Rattle.std.proofs.Common.{◌≡◌, ◌≢◌, ℕ, suc, ◌<◌, ◌≤◌, ◌⊎◌, inl, inr, Bool, true, false, List, [], ◌∷◌, ◌++◌, length, length-append, get_or, map, refl, sym, ap, ◌∙◌, subst, string_bytes, arith}
+use Rattle.std.proofs.lemmas.List.{append_cancel_left}
 use Rattle.std.proofs.lemmas.List.Elements.{All-nil, All-cons, All-append}
 use Rattle.std.specs.Prelude.{All, String}
 use Rattle.std.specs.declared.alloc.Global.{Global}
 use Rattle.ptree.specs.Pieces.{Pieces, turning_piece, passing_piece}
 use Rattle.ptree.specs.Readable.{IsReadable}
 use Rattle.ptree.specs.Spelled.{ArePassing}
+use Rattle.ptree.specs.Texts.{IsPrefixOf}
 use Rattle.ptree.proofs.Reading.Paths.{passing_all-push}
-use Rattle.trees.specs.Expected.{EndsPassing, AreFronts, AddsTexts}
-use Rattle.trees.proofs.DistinctTexts.{distinct_both}
+use Rattle.trees.specs.Expected.{EndsBelow, ShowsSibling, AreFronts, AddsTexts}
+use Rattle.trees.proofs.DistinctTexts.{distinct_both, all_contained, texts_none, texts_one, texts_two}
+
+-- a text, and a passing piece behind it
+abbrev pub EndsPassing : Pieces → List ℕ → List ℕ → Type 0
+EndsPassing p front text = (last : Bool) × (text ≡ front ++ passing_piece p last)
 
 -- a passing piece is not empty
-passing_some : (p : Pieces) → IsReadable p → (b : Bool) → 0 < length (passing_piece p b)
+pub passing_some : (p : Pieces) → IsReadable p → (b : Bool) → 0 < length (passing_piece p b)
 passing_some p h b = at (passing_piece p b) refl where
   at : (x : List ℕ) → passing_piece p b ≡ x → 0 < length x
   at [] e = absurd ((h.turning_passing b b).1 (turning_piece p b, ap (λ z. z ++ turning_piece p b) (sym e)))
@@ -50,9 +56,10 @@ pub no_fronts : (p : Pieces) → AreFrontsBelow p [] []
 no_fronts p = record { are = (All-nil (PassesSome p), tt); next = (0, ([], refl, refl)); shorter = All-nil (λ f. length f < 0) }
 
 -- all or none of them are left
-pub fronts_forgotten : (p : Pieces) (old new : List (String Global)) (front : List ℕ) → (new ≡ old) ⊎ (new ≡ []) → AreFrontsBelow p (map string_bytes old) front → AreFrontsBelow p (map string_bytes new) front
-fronts_forgotten p old new front (inl same) h = subst (λ z. AreFrontsBelow p (map string_bytes z) front) (sym same) h
-fronts_forgotten p old new front (inr none) h = subst (λ z. AreFrontsBelow p (map string_bytes z) front) (sym none) record { are = (All-nil (PassesSome p), tt); next = h.next; shorter = All-nil (λ f. length f < length front) }
+pub fronts_forgotten : (p : Pieces) (old new : List (String Global)) (front rest : List ℕ) → (new ≡ old) ⊎ ((new ≡ []) × ShowsSibling p rest)
+    → AreFrontsBelow p (map string_bytes old) front → AreFrontsBelow p (map string_bytes new) front
+fronts_forgotten p old new front rest (inl same) h = subst (λ z. AreFrontsBelow p (map string_bytes z) front) (sym same) h
+fronts_forgotten p old new front rest (inr (none, shows)) h = subst (λ z. AreFrontsBelow p (map string_bytes z) front) (sym none) record { are = (All-nil (PassesSome p), tt); next = h.next; shorter = All-nil (λ f. length f < length front) }
 
 -- texts that are shorter and longer are different
 apart_by_length : (n : ℕ) (xs ys : List (List ℕ)) → All (λ f. length f ≤ n) xs → All (λ f. n < length f) ys → All (λ x. All (λ y. x ≢ y) ys) xs
@@ -78,8 +85,52 @@ front_longer p r fronts front text ends h = record {
 }
 
 -- those below are added
-pub fronts_below : (p : Pieces) → IsReadable p → (fronts new : List (List ℕ)) (front : List ℕ) → AreFrontsTo p fronts front → AddsTexts (EndsPassing p front) fronts new → AreFronts p new
-fronts_below p r fronts new front h (more, is, ends, apart) = subst (AreFronts p) (sym is) (
-  All-append (PassesSome p) fronts more h.are.0 (λ k d low. passing_more p front _ h.last (ends k d low)),
-  distinct_both fronts more h.are.1 apart (apart_by_length (length front) fronts more h.short (λ k d low. longer_by_piece p r front _ (ends k d low))),
-)
+pub fronts_below : (p : Pieces) → IsReadable p → (fronts new : List (List ℕ)) (front rest : List ℕ) → AreFrontsTo p fronts front → AddsTexts (EndsBelow p front rest) fronts new → AreFronts p new
+fronts_below p r fronts new front rest h (more, is, exact, apart) =
+    let ends : All (EndsPassing p front) more = all_contained (EndsPassing p front) more (λ x there. let so = (exact x).0 there in (so.0, so.2)) in
+    subst (AreFronts p) (sym is) (
+      All-append (PassesSome p) fronts more h.are.0 (λ k d low. passing_more p front _ h.last (ends k d low)),
+      distinct_both fronts more h.are.1 apart (apart_by_length (length front) fronts more h.short (λ k d low. longer_by_piece p r front _ (ends k d low))),
+    )
+
+-- ## Below an own line
+
+-- a line that is no item's own has none below
+pub below_none : (p : Pieces) (front rest : List ℕ) (a : List (List ℕ)) → (IsPrefixOf p.regular rest → ⊥) → (IsPrefixOf p.last_regular rest → ⊥) → AddsTexts (EndsBelow p front rest) a a
+below_none p front rest a first second = texts_none (EndsBelow p front rest) a none where
+  none : (x : List ℕ) → EndsBelow p front rest x → ⊥
+  none x (false, starts, is) = first starts
+  none x (true, starts, is) = second starts
+
+-- if passing pieces are all alike, there is one text
+pub below_same : (p : Pieces) (front rest : List ℕ) (a b : List (List ℕ)) (text : List ℕ) → p.child ≡ p.last_child → IsPrefixOf p.regular rest → b ≡ a ++ text ∷ [] → text ≡ front ++ p.child → AddsTexts (EndsBelow p front rest) a b
+below_same p front rest a b text same starts is made = texts_one (EndsBelow p front rest) a b text is (false, starts, made) only where
+  only : (x : List ℕ) → EndsBelow p front rest x → x ≡ text
+  only x (false, so, ends) = ends ∙ sym made
+  only x (true, so, ends) = ends ∙ (ap (λ z. front ++ z) (sym same) ∙ sym made)
+
+-- an own line of an item that is no last child
+pub below_regular : (p : Pieces) (front rest : List ℕ) (a b : List (List ℕ)) (text : List ℕ) → IsPrefixOf p.regular rest → (IsPrefixOf p.last_regular rest → ⊥) → b ≡ a ++ text ∷ [] → text ≡ front ++ p.child
+    → AddsTexts (EndsBelow p front rest) a b
+below_regular p front rest a b text starts never is made = texts_one (EndsBelow p front rest) a b text is (false, starts, made) only where
+  only : (x : List ℕ) → EndsBelow p front rest x → x ≡ text
+  only x (false, so, ends) = ends ∙ sym made
+  only x (true, so, ends) = absurd (never so)
+
+-- that of a last child
+pub below_last : (p : Pieces) (front rest : List ℕ) (a b : List (List ℕ)) (text : List ℕ) → (IsPrefixOf p.regular rest → ⊥) → IsPrefixOf p.last_regular rest → b ≡ a ++ text ∷ [] → text ≡ front ++ p.last_child
+    → AddsTexts (EndsBelow p front rest) a b
+below_last p front rest a b text never starts is made = texts_one (EndsBelow p front rest) a b text is (true, starts, made) only where
+  only : (x : List ℕ) → EndsBelow p front rest x → x ≡ text
+  only x (false, so, ends) = absurd (never so)
+  only x (true, so, ends) = ends ∙ sym made
+
+-- that of an item that may be either
+pub below_either : (p : Pieces) (front rest : List ℕ) (a b c : List (List ℕ)) (x y : List ℕ) → p.child ≢ p.last_child → IsPrefixOf p.regular rest → IsPrefixOf p.last_regular rest
+    → b ≡ a ++ x ∷ [] → x ≡ front ++ p.child → c ≡ b ++ y ∷ [] → y ≡ front ++ p.last_child → AddsTexts (EndsBelow p front rest) a c
+below_either p front rest a b c x y apart starts too first child second last =
+    texts_two (EndsBelow p front rest) a b c x y first second (λ e. apart (append_cancel_left front p.child p.last_child (sym child ∙ (e ∙ last)))) (false, starts, child) (true, too, last) only
+  where
+    only : (z : List ℕ) → EndsBelow p front rest z → (z ≡ x) ⊎ (z ≡ y)
+    only z (false, so, ends) = inl (ends ∙ sym child)
+    only z (true, so, ends) = inr (ends ∙ sym last)

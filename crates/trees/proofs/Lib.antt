@@ -4,6 +4,8 @@ pub mod DistinctTexts
 pub mod Examples
 pub mod Fronts
 pub mod GivenPaths
+pub mod FrontsTried
+pub mod LineCuts
 pub mod LineWords
 pub mod Listings
 pub mod Marks
@@ -14,6 +16,9 @@ pub mod OtherFiles
 pub mod OutlineTexts
 pub mod OutlineLines
 pub mod Networks
+pub mod NextFronts
+pub mod NextItems
+pub mod OpenLevels
 pub mod Outlines
 pub mod OutlinesBack
 pub mod PairGraphs

@@ -1,21 +1,25 @@
 -- What could stand in the place of a wrong line.
-use Rattle.std.specs.Prelude.{◌≡◌, ◌≢◌, ◌⊎◌, ◌≤◌, ◌-◌, ⊤, ℕ, Bool, true, false, List, [], ◌∷◌, ◌++◌, All, flat_map, codes}
+use Rattle.std.specs.Prelude.{◌≡◌, ◌≢◌, ◌↔◌, ◌⊎◌, ◌<◌, ◌≤◌, ◌-◌, ⊤, ℕ, suc, Bool, true, false, List, [], ◌∷◌, ◌++◌, length, All, Contains, flat_map, codes}
 use Rattle.ptree.specs.declared.print_config.OutputKind.TheVariants.{Unknown}
-use Rattle.ptree.specs.Config.{ConfigValue}
+use Rattle.ptree.specs.Config.{ConfigValue, is_styled}
 use Rattle.ptree.specs.Continuation.{HasContinuation, first_lines, line_count}
 use Rattle.ptree.specs.Drawing.{look_by}
-use Rattle.ptree.specs.Pieces.{Pieces, turning_piece, passing_piece, pieces_from}
+use Rattle.ptree.specs.Pieces.{Pieces, turning_piece, passing_piece, passing_all, pieces_from}
 use Rattle.ptree.specs.Spelled.{ArePiecesAt, ArePassing}
-use Rattle.ptree.specs.Texts.{line_feed, HasNoLineFeed}
+use Rattle.ptree.specs.Texts.{line_feed, HasNoLineFeed, IsPrefixOf}
 use Rattle.ptree_trees.specs.Escape.{escaped_text}
 
 -- some drawing within the depth begins with these lines, and then one with this before the text `x`
 abbrev pub CanFollow : ConfigValue → List ℕ → List ℕ → Type 0
 CanFollow config lines beginning = HasContinuation (look_by config Unknown false) config.depth (lines ++ (beginning ++ codes "x\n"))
 
--- the pieces of an item at some level, with which a drawing can go on after these lines
+-- the pieces of an item at this level, with which a drawing can go on after these lines
+abbrev pub IsBeginningAt : ConfigValue → List ℕ → ℕ → List ℕ → Type 0
+IsBeginningAt config lines level beginning = ArePiecesAt (pieces_from config.characters config.indent config.padding) level beginning × CanFollow config lines beginning
+
+-- the same at some level
 abbrev pub IsBeginning : ConfigValue → List ℕ → List ℕ → Type 0
-IsBeginning config lines beginning = ((level : ℕ) × ArePiecesAt (pieces_from config.characters config.indent config.padding) level beginning) × CanFollow config lines beginning
+IsBeginning config lines beginning = (level : ℕ) × IsBeginningAt config lines level beginning
 
 -- no text stands twice in the list
 abbrev pub AreDistinct : List (List ℕ) → Type 0
@@ -26,9 +30,22 @@ AreDistinct (text ∷ texts) = All (λ other. text ≢ other) texts × AreDistin
 abbrev pub listed_texts : List (List ℕ) → List ℕ
 listed_texts texts = flat_map (λ text. codes "\n  " ++ text) texts
 
--- a text grows by such a list: of different texts of which Is holds
-abbrev pub AddsListed : (List ℕ → Type 0) → List ℕ → List ℕ → Type 0
-AddsListed Is old new = (texts : List (List ℕ)) × (new ≡ old ++ listed_texts texts) × All Is texts × AreDistinct texts
+-- drawings are not coloured
+abbrev pub IsUncoloured : ConfigValue → Type 0
+IsUncoloured config = is_styled config.styled Unknown false ≡ false
+
+-- some lines, each of which ends in a line feed
+abbrev pub AreWholeLines : List ℕ → Type 0
+AreWholeLines lines = (front : List ℕ) × (lines ≡ front ++ line_feed ∷ [])
+
+-- such a list of beginnings after these lines: each once, and after whole lines that are not coloured
+-- all those down to level 32
+pub record ListsBeginnings (config : ConfigValue) (lines listed : List ℕ) : Type 0 where
+  pub texts : List (List ℕ)
+  pub listed_is : listed ≡ listed_texts texts
+  pub each_once : AreDistinct texts
+  pub no_other : All (IsBeginning config lines) texts
+  pub all : IsUncoloured config → AreWholeLines lines → (level : ℕ) (text : List ℕ) → level ≤ 32 → IsBeginningAt config lines level text → Contains texts text
 
 -- ## Messages
 
@@ -45,13 +62,13 @@ abbrev pub AddsOther : Bool → List ℕ → List ℕ → Type 0
 AddsOther true old new = (name : List ℕ) × (new ≡ old ++ (codes "\nit is a drawing with --as " ++ name))
 AddsOther false old new = new ≡ old
 
--- what is said behind a wrong line: nothing, the name of other pieces, or a list of the beginnings
--- that could stand there
+-- what is said behind a wrong line: the name of other pieces, or a list of the beginnings that could
+-- stand there, or nothing if that is empty
 abbrev pub IsHint : ConfigValue → List ℕ → List ℕ → Type 0
 IsHint config lines hint =
-    (hint ≡ [])
+    ((hint ≡ []) × ListsBeginnings config lines [])
     ⊎ (((name : List ℕ) × (hint ≡ codes "\nit is a drawing with --as " ++ name))
-    ⊎ ((listed : List ℕ) × (hint ≡ codes "\nexpected one of:" ++ listed) × AddsListed (IsBeginning config lines) [] listed))
+    ⊎ ((listed : List ℕ) × (hint ≡ codes "\nexpected one of:" ++ listed) × ListsBeginnings config lines listed))
 
 -- what is said of a wrong line: that it has too many levels, or the line, escaped, and a hint
 abbrev pub TellsLine : ConfigValue → List ℕ → ℕ → List ℕ → Type 0
@@ -62,18 +79,43 @@ TellsLine config text n said =
 
 -- ## Parts
 
+-- of lines whose last line feed is left out, this is the last one, or nothing if it is the first
+abbrev pub IsLastLine : List ℕ → List ℕ → Type 0
+IsLastLine lines line = (HasNoLineFeed lines × (line ≡ [])) ⊎ ((front : List ℕ) × (lines ≡ front ++ line_feed ∷ line) × HasNoLineFeed line)
+
+-- a text grows by a list of exactly the texts of which Is holds, each once
+abbrev pub AddsListed : (List ℕ → Type 0) → List ℕ → List ℕ → Type 0
+AddsListed Is old new = (texts : List (List ℕ)) × (new ≡ old ++ listed_texts texts) × ((text : List ℕ) → Contains texts text ↔ Is text) × AreDistinct texts
+
+-- a list grows by exactly the texts of which Is holds, each once
+abbrev pub AddsTexts : (List ℕ → Type 0) → List (List ℕ) → List (List ℕ) → Type 0
+AddsTexts Is old new = (texts : List (List ℕ)) × (new ≡ old ++ texts) × ((text : List ℕ) → Contains texts text ↔ Is text) × AreDistinct texts
+
 -- a text, and an item's piece behind it
 abbrev pub EndsPieces : Pieces → List ℕ → List ℕ → Type 0
 EndsPieces p front text = (last : Bool) × (text ≡ front ++ turning_piece p last)
 
--- a text, and a passing piece behind it
-abbrev pub EndsPassing : Pieces → List ℕ → List ℕ → Type 0
-EndsPassing p front text = (last : Bool) × (text ≡ front ++ passing_piece p last)
+-- a text, and the passing piece behind it of an item whose own line goes on so
+abbrev pub EndsBelow : Pieces → List ℕ → List ℕ → List ℕ → Type 0
+EndsBelow p front rest text = (last : Bool) × IsPrefixOf (turning_piece p last) rest × (text ≡ front ++ passing_piece p last)
 
 -- different texts that are passing pieces
 abbrev pub AreFronts : Pieces → List (List ℕ) → Type 0
 AreFronts p fronts = All (λ front. (level : ℕ) × ArePassing p level front) fronts × AreDistinct fronts
 
--- a list grows by different texts of which Is holds
-abbrev pub AddsTexts : (List ℕ → Type 0) → List (List ℕ) → List (List ℕ) → Type 0
-AddsTexts Is old new = (texts : List (List ℕ)) × (new ≡ old ++ texts) × All Is texts × AreDistinct texts
+-- a line goes on with the piece of an item that is no last child, and that of a last child is another
+abbrev pub ShowsSibling : Pieces → List ℕ → Type 0
+ShowsSibling p rest = ((p.child ≢ p.last_child) × IsPrefixOf p.child rest) ⊎ ((p.regular ≢ p.last_regular) × IsPrefixOf p.regular rest)
+
+-- a line begins with passing pieces, and no item below the next level shows that a sibling follows it
+abbrev pub LeavesOpen : Pieces → List ℕ → List Bool → Type 0
+LeavesOpen p line above =
+    (rest : List ℕ) × (line ≡ passing_all p above ++ rest)
+    × ((last : Bool) (more : List Bool) (left : List ℕ) → rest ≡ passing_all p (last ∷ more) ++ left → ShowsSibling p left → ⊥)
+
+-- among the texts are the passing pieces down to level 31 behind which an item could follow a line: a
+-- sibling of one that the line is below, or a child of the one whose own line it is
+pub record HasFronts (p : Pieces) (line : List ℕ) (fronts : List (List ℕ)) : Type 0 where
+  pub beside : (above : List Bool) → length above < 32 → LeavesOpen p line above → Contains fronts (passing_all p above)
+  pub below : (above : List Bool) (last : Bool) → suc (length above) < 32 → IsPrefixOf (passing_all p above ++ turning_piece p last) line
+      → Contains fronts (passing_all p (above ++ last ∷ []))

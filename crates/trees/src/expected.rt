@@ -1,11 +1,13 @@
 //! What could stand in the place of a wrong line.
-ghost use Rattle.std.specs.Prelude.{◌≡◌, ◌↔◌, ◌⊎◌, Bool, [], ◌++◌, map, IsTrue, IfOk, IfSome, OnOk, string_bytes};
+ghost use Rattle.std.specs.Prelude.{◌≡◌, ◌≢◌, ◌↔◌, ◌⊎◌, ℕ, Bool, List, [], ◌∷◌, ◌++◌, map, IsTrue, IfOk, MatchOption, OnOk, string_bytes};
 ghost use Rattle.ptree.specs.Config.{config_of};
 ghost use Rattle.ptree.specs.Pieces.{passing_piece, pieces_of};
 ghost use Rattle.ptree.specs.Readable.{IsReadable, HasReadablePieces};
-ghost use Rattle.trees.specs.Expected.{CanFollow, IsBeginning, AddsListed, EndsPieces, EndsPassing, AreFronts, AddsTexts};
+ghost use Rattle.ptree.specs.Texts.{line_feed, IsPrefixOf};
+ghost use Rattle.trees.specs.Expected.{CanFollow, ListsBeginnings, IsLastLine, AddsListed, EndsPieces, EndsBelow, ShowsSibling, AreFronts, HasFronts, AddsTexts};
 
 use crate::levels;
+use crate::source::behind;
 use ptree::output::Indent;
 use ptree::print_config::PrintConfig;
 use ptree::read::{ReadError, read_tree_or_line};
@@ -17,16 +19,16 @@ const LEVELS: u8 = 32;
 /// Returns the prefixes of an item's line that could follow these lines of a drawing, each once, on
 /// a line of its own after two blanks and behind a line feed. A text follows each of them.
 ///
-/// It tries the first 32 levels, from the root on.
+/// It tries the first 32 levels below the root.
 ///
 /// # Errors
 ///
 /// Memory ran out.
 pub fn beginnings(alloc: Global, before: &str, config: &PrintConfig) -> Result<String, AllocError>
     requires { HasReadablePieces config.now }
-    // Each of them can follow, and no two are the same.
+    // Each of them can follow, no two are the same, and none down to that level is missing.
     ensures { IfOk result (λ listed.
-        AddsListed (IsBeginning (config_of config.now) before.now) [] (string_bytes listed)) }
+        ListsBeginnings (config_of config.now) before.now (string_bytes listed)) }
 {
     let indent = Indent::from_config(alloc, config)?;
     let fronts = fronts(alloc, last_line(before), &indent)?;
@@ -40,17 +42,18 @@ pub fn beginnings(alloc: Global, before: &str, config: &PrintConfig) -> Result<S
 // Returns the passing pieces behind which an item could follow this line, from the root on.
 fn fronts(alloc: Global, line: &str, indent: &Indent) -> Result<Vec<String>, AllocError>
     requires { IsReadable (pieces_of indent.now) }
-    ensures { IfOk result
-        (λ fronts. AreFronts (pieces_of indent.now) (map string_bytes fronts.items)) }
+    ensures { IfOk result (λ fronts.
+        AreFronts (pieces_of indent.now) (map string_bytes fronts.items)
+        × HasFronts (pieces_of indent.now) line.now (map string_bytes fronts.items)) }
 {
     let mut fronts = Vec::new(alloc);
     let mut front = String::new(alloc);
     let mut rest = line;
-    for level in 1..=LEVELS {
+    for passed in 0..LEVELS {
         forget_closed(&mut fronts, rest, indent);
         fronts.push(front.clone()?)?;
         let Some((piece, left)) = passing(indent, rest) else {
-            if level < LEVELS {
+            if passed + 1 < LEVELS {
                 push_below(alloc, &mut fronts, front.as_str(), rest, indent)?;
             }
             return Ok(fronts);
@@ -64,15 +67,30 @@ fn fronts(alloc: Global, line: &str, indent: &Indent) -> Result<Vec<String>, All
 // Forgets all passing pieces if a line goes on with a piece of an item that is no last child: its
 // sibling has to follow before anything above.
 fn forget_closed(fronts: &mut Vec<String>, rest: &str, indent: &Indent)
-    ensures { (fronts.new.items ≡ fronts.old.items) ⊎ (fronts.new.items ≡ []) }
+    ensures { (fronts.new.items ≡ fronts.old.items)
+        ⊎ ((fronts.new.items ≡ []) × ShowsSibling (pieces_of indent.now) rest.now) }
 {
     let (child, last) = (&indent.child_prefix, &indent.last_child_prefix);
     let (regular, last_regular) = (&indent.regular_prefix, &indent.last_regular_prefix);
-    if (child != last && rest.starts_with(child.as_str()))
-        || (regular != last_regular && rest.starts_with(regular.as_str()))
+    if begins_apart(rest, child.as_str(), last.as_str())
+        || begins_apart(rest, regular.as_str(), last_regular.as_str())
     {
         fronts.clear();
     }
+}
+
+// Whether a text begins with a piece, and another piece differs from it.
+fn begins_apart(text: &str, piece: &str, other: &str) -> bool
+    ensures { IsTrue result → (piece.now ≢ other.now) × IsPrefixOf piece.now text.now }
+{
+    piece != other && begins(text, piece)
+}
+
+// Whether a text begins with a piece.
+fn begins(text: &str, piece: &str) -> bool
+    ensures { IsTrue result ↔ IsPrefixOf piece.now text.now }
+{
+    behind(text, piece).is_some()
 }
 
 // Adds the passing pieces of what is below the item whose line goes on so behind others. If the
@@ -84,17 +102,17 @@ fn push_below(
     rest: &str,
     indent: &Indent,
 ) -> Result<(), AllocError>
-    ensures { OnOk result (AddsTexts (EndsPassing (pieces_of indent.now) front.now)
+    ensures { OnOk result (AddsTexts (EndsBelow (pieces_of indent.now) front.now rest.now)
         (map string_bytes fronts.old.items) (map string_bytes fronts.new.items)) }
 {
     let (child, last) = (&indent.child_prefix, &indent.last_child_prefix);
-    if rest.starts_with(indent.regular_prefix.as_str()) {
+    if begins(rest, indent.regular_prefix.as_str()) {
         fronts.push(format!(in alloc; "{front}{child}")?)?;
         if child == last {
             return Ok(());
         }
     }
-    if rest.starts_with(indent.last_regular_prefix.as_str()) {
+    if begins(rest, indent.last_regular_prefix.as_str()) {
         fronts.push(format!(in alloc; "{front}{last}")?)?;
     }
     Ok(())
@@ -144,7 +162,10 @@ fn push_item(
 }
 
 // Returns the last of whole lines, or nothing if it is the first, since a root may look like pieces.
-fn last_line(text: &str) -> &str {
+fn last_line(text: &str) -> &str
+    ensures { (front : List ℕ) → text.now ≡ front ++ line_feed ∷ []
+        → IsLastLine front result.now }
+{
     let text = text.strip_suffix('\n').unwrap_or(text);
     match text.rsplit_once('\n') {
         Some((_, last)) => last,
@@ -174,24 +195,25 @@ fn has_more_pieces(indent: &Indent, line: &str) -> bool {
         };
         rest = left;
     }
-    rest.starts_with(indent.regular_prefix.as_str())
-        || rest.starts_with(indent.last_regular_prefix.as_str())
+    begins(rest, indent.regular_prefix.as_str())
+        || begins(rest, indent.last_regular_prefix.as_str())
 }
 
 // Returns the passing piece with which a line begins, and what follows it.
 fn passing<'a>(indent: &'a Indent, line: &'a str) -> Option<(&'a str, &'a str)>
-    ensures { IfSome result (λ found.
-        (last : Bool) × (found.0.now ≡ passing_piece (pieces_of indent.now) last)) }
+    ensures { MatchOption result ((last : Bool) (rest : List ℕ)
+        → line.now ≢ passing_piece (pieces_of indent.now) last ++ rest)
+        (λ found. (last : Bool) × (found.0.now ≡ passing_piece (pieces_of indent.now) last)
+        × (line.now ≡ found.0.now ++ found.1.now)) }
 {
-    for piece in [
+    let (child, last) = (
         indent.child_prefix.as_str(),
         indent.last_child_prefix.as_str(),
-    ] {
-        if let Some(rest) = line.strip_prefix(piece) {
-            return Some((piece, rest));
-        }
+    );
+    if let Some(rest) = behind(line, child) {
+        return Some((child, rest));
     }
-    None
+    Some((last, behind(line, last)?))
 }
 
 // Whether an item whose line begins so can follow lines of a drawing.
