@@ -24,8 +24,9 @@ loop-front-preserved c =
     let i : ℕ = c.loop-front.front-index in
     let held : p ≡ config_pieces c.args.config.now = c.in_ok-indent.ensures in
     let readable : IsReadable p = subst IsReadable (sym held) c.requires.pieces in
-    let are : AreFronts p all = subst (λ xs. AreFronts p (map string_bytes xs)) (sym c.deref-front-items.ensures.value) c.in_ok-fronts.ensures.0 in
-    let inside : i < length items = c.loop-front-test.true in
+    let same : c.in_ok-fronts.fronts.items ≡ items = search rules in
+    let are : AreFronts p all = subst (λ xs. AreFronts p (map string_bytes xs)) same c.in_ok-fronts.ensures.0 in
+    let inside : i < length items = omega (arith, c.loop-front-test.true) in
     let low : i < length all = rw length-map inside in
     let front : c.as_str.result.now ≡ get_or all i [] = c.as_str.ensures.value ∙ (ap string_bytes c.front-item.is ∙ sym (get_or-map string_bytes items i c.front-item.result [] inside)) in
     next_listed config c.args.before.now p readable all are i c.as_str.result.now low front (string_bytes c.loop-front.found) (string_bytes c.push_items.new.found) c.loop-front.invariant c.in_ok-push_items.ensures
@@ -37,7 +38,7 @@ returns c =
     let all : List (List ℕ) = map string_bytes items in
     let n : ℕ = c.loop-front.front-index in
     let held : pieces_of c.in_ok-indent.indent ≡ config_pieces c.args.config.now = c.in_ok-indent.ensures in
-    let same = sym c.deref-front-items.ensures.value in
+    let same : c.in_ok-fronts.fronts.items ≡ items = search rules in
     let are : AreFronts (config_pieces c.args.config.now) all = subst (λ q. AreFronts q all) held (subst (λ xs. AreFronts (pieces_of c.in_ok-indent.indent) (map string_bytes xs)) same c.in_ok-fronts.ensures.0) in
     let has : HasFronts (config_pieces c.args.config.now) c.last_line.result.now all =
     subst (λ q. HasFronts q c.last_line.result.now all) held (subst (λ xs. HasFronts (pieces_of c.in_ok-indent.indent) c.last_line.result.now (map string_bytes xs)) same c.in_ok-fronts.ensures.1) in

@@ -5,5 +5,5 @@ use Rattle.trees.proofs.settings.describe.Goals as goal
 
 pub returns : goal.returns
 returns c =
-    let empty : c.is_empty-has_faults.result ≡ eqb (length c.in_ok-faults.faults.items) 0 = search rules in
-    ap not empty ∙ (some_first c.in_ok-faults.faults.items ∙ ap is_some c.in_ok-faults.ensures.first)
+    let items = c.in_ok-faults.faults.items in
+    ◌∙◌ {b = not (eqb (length items) 0)} (search rules) (some_first items ∙ ap is_some c.in_ok-faults.ensures.first)
