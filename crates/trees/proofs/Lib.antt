@@ -9,12 +9,17 @@ pub mod LineCuts
 pub mod LineWords
 pub mod Listings
 pub mod Marks
+pub mod LockedEdges
+pub mod LockedEntries
+pub mod LockedPackages
+pub mod LockedTables
 pub mod Merges
 pub mod MergeDrawings
 pub mod MergePlaces
 pub mod OtherFiles
 pub mod OutlineTexts
 pub mod OutlineLines
+pub mod NeedTexts
 pub mod Networks
 pub mod NextFronts
 pub mod NextItems
@@ -35,6 +40,7 @@ pub mod ShownDrawings
 pub mod ShownMerges
 pub mod ShownTexts
 pub mod SortedWords
+pub mod SourceTexts
 pub mod StyledTrees
 pub mod Told
 pub mod Tops

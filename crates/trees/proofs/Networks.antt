@@ -58,7 +58,7 @@ module _ {X : Type 0} (same : X → X → Bool) (exact : (x y : X) → same x y 
 eqb_flips : (a b : ℕ) → eqb a b ≡ eqb b a
 eqb_flips a b = grind (arith, nat_tests)
 
-edge_flips : (d e : ℕ × ℕ) → same_edge d e ≡ same_edge e d
+pub edge_flips : (d e : ℕ × ℕ) → same_edge d e ≡ same_edge e d
 edge_flips d e = ap (λ (x : Bool). x && eqb d.1 e.1) (eqb_flips d.0 e.0) ∙ ap (λ (y : Bool). eqb e.0 d.0 && y) (eqb_flips d.1 e.1)
 
 pub edge_exact : (d e : ℕ × ℕ) → same_edge d e ≡ true → d ≡ e

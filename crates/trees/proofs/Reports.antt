@@ -7,7 +7,7 @@ use Rattle.trees.specs.declared.source.Source.{Source}
 use Rattle.trees.specs.Reading.{Adds}
 
 -- one pair more
-zip_push : {X Y : Type 0} (R : X → Y → Type 0) (xs : List X) (ys : List Y) (x : X) (y : Y) → AllZip R xs ys → R x y → AllZip R (xs ++ x ∷ []) (ys ++ y ∷ [])
+pub zip_push : {X Y : Type 0} (R : X → Y → Type 0) (xs : List X) (ys : List Y) (x : X) (y : Y) → AllZip R xs ys → R x y → AllZip R (xs ++ x ∷ []) (ys ++ y ∷ [])
 zip_push R [] [] x y h r = (r, tt)
 zip_push R [] (w ∷ ys) x y h r = absurd h
 zip_push R (v ∷ xs) [] x y h r = absurd h

@@ -24,6 +24,10 @@ pub mod Outlining
 pub mod Depending
 -- what the parts of reading them do
 pub mod DependingParts
+-- which packages a lock file has, and what its entries need
+pub mod Locking
+-- what the parts of reading lock files do
+pub mod LockingParts
 -- what calls write
 pub mod Writing
 -- documents, their parts and trees

@@ -1,4 +1,11 @@
 //! Lock files with tables `[[package]]`: `Cargo.lock`, `poetry.lock` and `uv.lock`.
+ghost use Rattle.std.specs.List.Sorted.{IsStrictlySortedBy};
+ghost use Rattle.std.specs.List.{AllAdjacentBelow};
+ghost use Rattle.std.specs.Option.{option_map_or};
+ghost use Rattle.std.specs.Prelude.{◌≡◌, ◌≢◌, false, length, map, option_copied, Decides, IfSome, IfNone, IfOk};
+ghost use Rattle.toml.specs.View.{view};
+ghost use Rattle.trees.specs.Locking.{package_cmp, same_version, IsPackage, IsVersion, text_at, source_of, source_text, without_revision};
+ghost use Rattle.trees.specs.LockingParts.{package_of, AreLocked};
 
 use crate::deps::{Network, wrong};
 use crate::document::toml_value;
@@ -9,9 +16,6 @@ use toml::{Table, Value};
 
 // A package: its name, version and source without a revision, and the position of its table.
 type Package<'a> = (&'a str, &'a str, &'a str, usize);
-
-// The tables of further lists of needs.
-const GROUPS: [&str; 2] = ["optional-dependencies", "dev-dependencies"];
 
 const REPLACED: &str = " is replaced, which is not supported";
 
@@ -98,18 +102,38 @@ fn packages<'a>(
     alloc: Global,
     input: &Source,
     tables: &'a [Value],
-) -> Result<Vec<Package<'a>>, Failure> {
+) -> Result<Vec<Package<'a>>, Failure>
+    ensures { IfOk result (λ ps. AreLocked (map view tables.now) ps.items) }
+{
     let mut packages = Vec::new(alloc);
     for (at, table) in tables.iter().enumerate() {
         packages.push(package(alloc, input, table, at)?)?;
     }
     packages.sort_unstable();
-    for (one, next) in packages.iter().zip(packages.iter().skip(1)) {
-        if is_same(one, Some(next)) && one.2 == next.2 {
-            return Err(wrong(alloc, input, &[one.0, " ", one.1, " occurs twice"]));
+    match twice(&packages) {
+        Some(one) => Err(wrong(alloc, input, &[one.0, " ", one.1, " occurs twice"])),
+        None => Ok(packages),
+    }
+}
+
+// Returns a package that stands twice in a row, if there is one.
+fn twice<'p, 'a>(packages: &'p [Package<'a>]) -> Option<&'p Package<'a>>
+    ensures { IfNone result (AllAdjacentBelow (λ p q. package_of p ≢ package_of q)
+        packages.now (length packages.now)) }
+{
+    for i in 1..packages.len() {
+        if is_one(&packages[i - 1], &packages[i]) {
+            return Some(&packages[i]);
         }
     }
-    Ok(packages)
+    None
+}
+
+// Whether two packages have one name, version and source.
+fn is_one(one: &Package<'_>, other: &Package<'_>) -> bool
+    ensures { Decides result (package_of one.now ≡ package_of other.now) }
+{
+    is_same(one, Some(other)) && one.2 == other.2
 }
 
 // Returns the package of a table.
@@ -118,7 +142,9 @@ fn package<'a>(
     input: &Source,
     table: &'a Value,
     at: usize,
-) -> Result<Package<'a>, Failure> {
+) -> Result<Package<'a>, Failure>
+    ensures { IfOk result (λ p. IsPackage (view table.now) (package_of p) × (p.3 ≡ at)) }
+{
     let Some(name) = word(table, "name") else {
         return Err(wrong(alloc, input, &["a package has no name"]));
     };
@@ -138,31 +164,51 @@ fn package<'a>(
 }
 
 // Whether a package and another one, if there is one, have one name and version.
-fn is_same(package: &Package<'_>, other: Option<&Package<'_>>) -> bool {
+fn is_same(one: &Package<'_>, other: Option<&Package<'_>>) -> bool
+    ensures { result ≡ option_map_or
+        (λ p. same_version (package_of one.now) (package_of p.now)) other.entry false }
+{
     match other {
-        Some(other) => package.0 == other.0 && package.1 == other.1,
+        Some(other) => one.0 == other.0 && one.1 == other.1,
         None => false,
     }
 }
 
 // Returns the text at a key of a table.
-fn word<'a>(table: &'a Value, key: &str) -> Option<&'a str> {
+fn word<'a>(table: &'a Value, key: &str) -> Option<&'a str>
+    ensures { option_copied result ≡ text_at key.now (view table.now) }
+{
     table.get(key)?.as_str()
 }
 
 // Returns the version of a package. In uv.lock one whose source is a folder may have none.
-fn version(table: &Value) -> Option<&str> {
-    match (word(table, "version"), table.get("source")) {
-        (None, Some(Value::Table(_))) if table.get("version").is_none() => Some(""),
-        (version, _) => version,
+fn version(table: &Value) -> Option<&str>
+    ensures { IfSome result (λ v. IsVersion (view table.now) v.now) }
+{
+    match table.get("version") {
+        Some(version) => version.as_str(),
+        None if table.get("source")?.is_table() => Some(""),
+        None => None,
     }
 }
 
-// Returns the source of a package: a text, or the URL or the first text of a table.
-fn source_of(table: &Value) -> &str {
+// Returns the source of a package, or an empty text.
+fn source_of(table: &Value) -> &str
+    ensures { result.now ≡ source_of (view table.now) }
+{
     match table.get("source") {
-        Some(Value::String(text)) => text.as_str(),
-        Some(Value::Table(parts)) => match parts.get("url").or(parts.values().next()) {
+        Some(source) => text_of_source(source),
+        None => "",
+    }
+}
+
+// Returns the text of a source: a text, or the URL or the first text of a table.
+fn text_of_source(source: &Value) -> &str
+    ensures { result.now ≡ source_text (view source.now) }
+{
+    match source {
+        Value::String(text) => text.as_str(),
+        Value::Table(parts) => match source.get("url").or(parts.values().next()) {
             Some(part) => part.as_str().unwrap_or(""),
             None => "",
         },
@@ -170,9 +216,18 @@ fn source_of(table: &Value) -> &str {
     }
 }
 
+// Returns the text of a source without a revision.
+fn source_without_revision(source: &Value) -> &str
+    ensures { result.now ≡ without_revision (source_text (view source.now)) }
+{
+    without_revision(text_of_source(source))
+}
+
 // Returns a source without the `#` and the revision at its end. Needs in a Cargo.lock have none
 // since its version 4.
-fn without_revision(source: &str) -> &str {
+fn without_revision(source: &str) -> &str
+    ensures { result.now ≡ without_revision source.now }
+{
     match source.split_once('#') {
         Some((source, _)) => source,
         None => source,
@@ -186,7 +241,9 @@ fn push_packages<'p>(
     tables: &[Value],
     packages: &'p [Package<'p>],
     network: &mut Network,
-) -> Result<(), Failure> {
+) -> Result<(), Failure>
+    requires { IsStrictlySortedBy package_cmp (map package_of packages.now) }
+{
     push_labels(alloc, tables, packages, &mut network.labels)?;
     for (node, package) in packages.iter().enumerate() {
         if let Some(table) = tables.get(package.3) {
@@ -248,38 +305,71 @@ struct Needing<'p> {
 }
 
 impl<'p> Needing<'p> {
+    ghost use Rattle.std.specs.List.Sorted.{IsStrictlySortedBy};
+    ghost use Rattle.std.specs.Prelude.{codes, IfOk, OnOk};
+    ghost use Rattle.toml.specs.View.{view};
+    ghost use Rattle.trees.specs.Locking.{package_cmp, entries_in, entries_at, entries_of, grouped, IsListed, Leads};
+    ghost use Rattle.trees.specs.LockingParts.{packages_of, AddsEntries};
+
     // Adds the needs of its table.
-    fn push_needs(
-        &self,
-        alloc: Global,
-        table: &Value,
-        network: &mut Network,
-    ) -> Result<(), Failure> {
-        match table.get("dependencies") {
-            Some(Value::Table(needs)) => self.push_python_needs(alloc, needs, network)?,
-            Some(needs) => self.push_list(alloc, needs, network)?,
-            None => {}
-        }
-        for kind in &GROUPS {
-            match table.get(*kind) {
-                Some(Value::Table(groups)) => self.push_groups(alloc, groups, network)?,
-                Some(_) => {
-                    let parts = [self.name, " has ", *kind, " that are not a table"];
-                    return Err(wrong(alloc, self.input, &parts));
-                }
-                None => {}
-            }
-        }
-        Ok(())
+    fn push_needs(&self, alloc: Global, table: &Value, network: &mut Network) -> Result<(), Failure>
+        requires { IsStrictlySortedBy package_cmp (packages_of self.now) }
+        ensures { IsListed (view table.now) → OnOk result
+            (AddsEntries self.now (entries_in (view table.now)) network.old network.new) }
+    {
+        self.push_own(alloc, table, network)?;
+        self.push_groups(alloc, table, "optional-dependencies", network)?;
+        self.push_groups(alloc, table, "dev-dependencies", network)
     }
 
-    // Adds the needs of groups.
+    // Adds the needs that are in no group.
+    fn push_own(&self, alloc: Global, table: &Value, network: &mut Network) -> Result<(), Failure>
+        requires { IsStrictlySortedBy package_cmp (packages_of self.now) }
+        ensures { IsListed (view table.now) → OnOk result (AddsEntries self.now
+            (entries_at entries_of (codes "dependencies") (view table.now))
+            network.old network.new) }
+    {
+        match table.get("dependencies") {
+            Some(Value::Table(needs)) => self.push_python_needs(alloc, needs, network),
+            Some(needs) => self.push_list(alloc, needs, network),
+            None => Ok(()),
+        }
+    }
+
+    // Adds the needs of groups at a key of its table.
     fn push_groups(
         &self,
         alloc: Global,
-        groups: &Table,
+        table: &Value,
+        key: &str,
         network: &mut Network,
-    ) -> Result<(), Failure> {
+    ) -> Result<(), Failure>
+        requires { IsStrictlySortedBy package_cmp (packages_of self.now) }
+        ensures { OnOk result (AddsEntries self.now (entries_at grouped key.now (view table.now))
+            network.old network.new) }
+    {
+        match table.get(key) {
+            Some(groups) => self.push_lists(alloc, key, groups, network),
+            None => Ok(()),
+        }
+    }
+
+    // Adds the needs of the lists in a table, which is at a key.
+    fn push_lists(
+        &self,
+        alloc: Global,
+        key: &str,
+        groups: &Value,
+        network: &mut Network,
+    ) -> Result<(), Failure>
+        requires { IsStrictlySortedBy package_cmp (packages_of self.now) }
+        ensures { OnOk result (AddsEntries self.now (grouped (view groups.now))
+            network.old network.new) }
+    {
+        let Some(groups) = groups.as_table() else {
+            let parts = [self.name, " has ", key, " that are not a table"];
+            return Err(wrong(alloc, self.input, &parts));
+        };
         for needs in groups.values() {
             self.push_list(alloc, needs, network)?;
         }
@@ -287,27 +377,35 @@ impl<'p> Needing<'p> {
     }
 
     // Adds the needs of a list.
-    fn push_list(
-        &self,
-        alloc: Global,
-        needs: &Value,
-        network: &mut Network,
-    ) -> Result<(), Failure> {
+    fn push_list(&self, alloc: Global, needs: &Value, network: &mut Network) -> Result<(), Failure>
+        requires { IsStrictlySortedBy package_cmp (packages_of self.now) }
+        ensures { OnOk result (AddsEntries self.now (entries_of (view needs.now))
+            network.old network.new) }
+    {
         let Some(needs) = needs.as_array() else {
             let parts = [self.name, " has dependencies that are not a list"];
             return Err(wrong(alloc, self.input, &parts));
         };
         for need in needs {
-            let Some(need) = Need::read(need) else {
-                let parts = [self.name, " has an invalid dependency"];
-                return Err(wrong(alloc, self.input, &parts));
-            };
-            match need.find(self.packages) {
-                Ok(at) => network.add_need(self.node, at)?,
-                Err(why) => return Err(self.faulty(alloc, need.name, why)),
-            }
+            let at = self.place(alloc, need)?;
+            network.add_need(self.node, at)?;
         }
         Ok(())
+    }
+
+    // Returns the place of the package that an entry needs.
+    fn place(&self, alloc: Global, entry: &Value) -> Result<usize, Failure>
+        requires { IsStrictlySortedBy package_cmp (packages_of self.now) }
+        ensures { IfOk result (Leads (packages_of self.now) (view entry.now)) }
+    {
+        let Some(need) = Need::read(entry) else {
+            let parts = [self.name, " has an invalid dependency"];
+            return Err(wrong(alloc, self.input, &parts));
+        };
+        match need.find(self.packages) {
+            Ok(at) => Ok(at),
+            Err(why) => Err(self.faulty(alloc, need.name, why)),
+        }
     }
 
     // Adds those needs of a table of `poetry.lock` that are locked.
@@ -316,7 +414,9 @@ impl<'p> Needing<'p> {
         alloc: Global,
         needs: &Table,
         network: &mut Network,
-    ) -> Result<(), Failure> {
+    ) -> Result<(), Failure>
+        requires { IsStrictlySortedBy package_cmp (packages_of self.now) }
+    {
         for (name, need) in needs.iter() {
             if !matches!(need, Value::String(_) | Value::Table(_) | Value::Array(_)) {
                 let parts = [self.name, " has an invalid dependency"];
@@ -358,8 +458,18 @@ enum Fault {
 }
 
 impl<'a> Need<'a> {
+    ghost use Rattle.std.specs.List.{HoldsAt};
+    ghost use Rattle.std.specs.List.Sorted.{IsStrictlySortedBy};
+    ghost use Rattle.std.specs.Ordering.{is_lt};
+    ghost use Rattle.std.specs.Prelude.{◌≡◌, ◌<◌, ◌^◌, length, map, None, IfSome, IfOk, IfErr, MatchOption};
+    ghost use Rattle.toml.specs.View.{view};
+    ghost use Rattle.trees.specs.Locking.{Known, package_cmp, is_as, unrevised, IsNeed, IsNeedTable, IsNeedText, IsNeeded};
+    ghost use Rattle.trees.specs.LockingParts.{package_of, known_of, least, IsNamed, IsAt, IsFaulty, IsStart, IsWhole, IsBehind};
+
     // Returns a need of which only the name is known.
-    fn of(name: &'a str) -> Need<'a> {
+    fn of(name: &'a str) -> Need<'a>
+        ensures { known_of result ≡ record { name = name.now; version = None; source = None } }
+    {
         Need {
             name,
             version: None,
@@ -368,35 +478,56 @@ impl<'a> Need<'a> {
     }
 
     // Returns the need of an entry: a text, or a table in a uv.lock.
-    fn read(entry: &'a Value) -> Option<Need<'a>> {
-        if let Value::String(text) = entry {
-            return Need::of_text(text.as_str());
+    fn read(entry: &'a Value) -> Option<Need<'a>>
+        ensures need { IfSome result (λ need. IsNeed (view entry.now) (known_of need)) }
+        ensures named { IfSome result (λ need. IsNamed (known_of need)) }
+    {
+        match entry.as_str() {
+            Some(text) => Need::of_text(text),
+            None => Need::of_table(entry),
         }
-        let name = word(entry, "name")?;
-        let version = word(entry, "version");
-        if version.is_none() && entry.get("version").is_some() {
-            return None;
+    }
+
+    // Returns the need of a table.
+    fn of_table(table: &'a Value) -> Option<Need<'a>>
+        ensures need { IfSome result (λ need. IsNeedTable (view table.now) (known_of need)) }
+    {
+        let name = word(table, "name")?;
+        match table.get("version") {
+            Some(version) => Some(Need {
+                name,
+                version: Some(version.as_str()?),
+                source: table.get("source").map(source_without_revision),
+            }),
+            None => Some(Need::of(name)),
         }
-        let source = match (version, entry.get("source")) {
-            (Some(_), Some(_)) => Some(without_revision(source_of(entry))),
-            _ => None,
-        };
-        Some(Need {
-            name,
-            version,
-            source,
-        })
     }
 
     // Returns the need of a text: `name`, `name version` or `name version (source)`.
-    fn of_text(text: &'a str) -> Option<Need<'a>> {
-        let Some((name, rest)) = text.split_once(' ') else {
-            return Some(Need::of(text));
-        };
-        let (version, source) = match rest.split_once(" (") {
-            Some((version, source)) => (version, Some(source.strip_suffix(')')?)),
-            None => (rest, None),
-        };
+    fn of_text(text: &'a str) -> Option<Need<'a>>
+        ensures need { IfSome result (λ need. (whole : Known)
+            × IsNeedText text.now whole × (known_of need ≡ unrevised whole)) }
+    {
+        match text.split_once(' ') {
+            Some((name, rest)) => Need::with_version(name, rest),
+            None => Some(Need::of(text)),
+        }
+    }
+
+    // Returns the need of a name and what is behind it: `version` or `version (source)`.
+    fn with_version(name: &'a str, rest: &'a str) -> Option<Need<'a>>
+        ensures { IfSome result (IsBehind name.now rest.now) }
+    {
+        match rest.split_once(" (") {
+            Some((version, source)) => Need::whole(name, version, Some(source.strip_suffix(')')?)),
+            None => Need::whole(name, rest, None),
+        }
+    }
+
+    // Returns the need of these parts, if none is empty.
+    fn whole(name: &'a str, version: &'a str, source: Option<&'a str>) -> Option<Need<'a>>
+        ensures { IfSome result (IsWhole name.now version.now (option_copied source.entry)) }
+    {
         if version.is_empty() || source == Some("") {
             return None;
         }
@@ -408,23 +539,64 @@ impl<'a> Need<'a> {
     }
 
     // Returns the position of the package that is needed, or why there is not one.
-    fn find(&self, packages: &[Package<'_>]) -> Result<usize, Fault> {
-        let (version, source) = (self.version.unwrap_or(""), self.source.unwrap_or(""));
-        let least = (self.name, version, source, 0);
-        let at = packages.partition_point(|package| *package < least);
-        match (packages.get(at), packages.get(at.saturating_add(1))) {
-            (Some(found), _) if !self.is(found) => Err(Fault::Missing),
-            (None, _) => Err(Fault::Missing),
-            // A package in a folder has no source, so it cannot be named with one.
-            (Some(found), _) if self.version.is_some() && found.2.is_empty() => Ok(at),
-            (_, Some(next)) if self.is(next) => Err(Fault::Several),
-            _ => Ok(at),
+    fn find(&self, packages: &[Package<'_>]) -> Result<usize, Fault>
+        requires named { IsNamed (known_of self.now) }
+        requires ascending { IsStrictlySortedBy package_cmp (map package_of packages.now) }
+        ensures found { IfOk result
+            (IsNeeded (map package_of packages.now) (known_of self.now)) }
+        ensures failed { IfErr result
+            (IsFaulty (map package_of packages.now) (known_of self.now)) }
+    {
+        let at = self.start(packages);
+        let Some(first) = self.at(packages, at) else {
+            return Err(Fault::Missing);
+        };
+        // A package in a folder has no source, so it cannot be named with one.
+        if self.version.is_some() && first.2.is_empty() {
+            return Ok(at);
+        }
+        match self.at(packages, at.saturating_add(1)) {
+            Some(_) => Err(Fault::Several),
+            None => Ok(at),
         }
     }
 
+    // Returns the position of the first package that is not below all that can be as known.
+    fn start(&self, packages: &[Package<'_>]) -> usize
+        requires { IsStrictlySortedBy package_cmp (map package_of packages.now) }
+        ensures { IsStart (map package_of packages.now) (known_of self.now) result }
+    {
+        packages.partition_point(|package| self.is_behind(package))
+    }
+
+    // Returns the package at a position, if it is as known.
+    fn at<'p, 'q>(&self, packages: &'p [Package<'q>], at: usize) -> Option<&'p Package<'q>>
+        ensures known { MatchOption result (IsAt (map package_of packages.now) (known_of self.now) at → ⊥)
+            (λ p. IsAt (map package_of packages.now) (known_of self.now) at
+            × HoldsAt (λ q. q ≡ package_of p.now) (map package_of packages.now) at) }
+        ensures fits { length packages.now < 2 ^ 64 }
+    {
+        if at < packages.len() && self.is(&packages[at]) {
+            Some(&packages[at])
+        } else {
+            None
+        }
+    }
+
+    // Whether a package is below all that can be as known.
+    fn is_behind(&self, locked: &Package<'_>) -> bool
+        ensures { result
+            ≡ is_lt (package_cmp (package_of locked.now) (least (known_of self.now))) }
+    {
+        let (version, source) = (self.version.unwrap_or(""), self.source.unwrap_or(""));
+        *locked < (self.name, version, source, 0)
+    }
+
     // Whether a package is as known.
-    fn is(&self, package: &Package<'_>) -> bool {
-        let (name, version, source, _) = *package;
+    fn is(&self, locked: &Package<'_>) -> bool
+        ensures { result ≡ is_as (known_of self.now) (package_of locked.now) }
+    {
+        let (name, version, source, _) = *locked;
         self.name == name
             && self.version.unwrap_or(version) == version
             && self.source.unwrap_or(source) == source

@@ -1,0 +1,261 @@
+-- Packages in ascending order, and those that are as known.
+use Rattle.std.proofs.Common.{◌≡◌, ◌∙◌, ℕ, ◌+◌, ◌<◌, ◌≤◌, ◌&&◌, Bool, true, false, List, [], ◌∷◌, length, get_or, map, inl, inr, refl, sym, ap, subst, arith}
+use Rattle.std.proofs.lemmas.Bool.{false≢true, false_from_ne_true, and_parts, and_from, cases_lt}
+use Rattle.std.proofs.lemmas.Cmp.{nat_list_cmp_total, on_total, then_total, tied_itself}
+use Rattle.std.proofs.lemmas.List.{get_or_default, get_or-map, length-map}
+use Rattle.std.proofs.lemmas.Map.Keys.{Less-from_sorted}
+use Rattle.std.proofs.lemmas.Map.Lookups.{exact_bytes}
+use Rattle.std.proofs.lemmas.Slice.Eq.{bytes_eq-Decides}
+use Rattle.std.specs.Cmp.{IsTotalOrder}
+use Rattle.std.specs.Cmp.Lexicographic.{slice_cmp}
+use Rattle.std.specs.List.{HoldsAt}
+use Rattle.std.specs.Borrow.{Bor}
+use Rattle.std.specs.List.Sorted.{IsStrictlySortedBy, IsPartitionedBy, IsPartitionPoint}
+use Rattle.std.specs.Ordering.{is_lt, nat_cmp, ordering_reverse, ordering_then}
+use Rattle.std.specs.Prelude.{Option, Some, None, unwrap_or, is_some}
+use Rattle.std.specs.Str.{bytes_eq}
+use Rattle.std.specs.declared.cmp.Ordering.{Ordering}
+use Rattle.std.specs.declared.cmp.Ordering.TheVariants.{Less, Equal, Greater}
+use Rattle.trees.specs.declared.deps.packages.Fault.TheVariants.{Missing, Several}
+use Rattle.trees.specs.Listing.{is_empty}
+use Rattle.trees.specs.Locking.{Package, Known, package_cmp, is_known, is_as, is_in_folder, IsNeeded}
+use Rattle.trees.specs.LockingParts.{package_of, least, IsNamed, IsStart, IsAt, IsFaulty}
+
+-- ## Texts
+
+-- the order of texts
+abbrev text_cmp : List ℕ → List ℕ → Ordering
+text_cmp = slice_cmp nat_cmp
+
+tied : (o p : Ordering) → o ≡ ordering_reverse p → is_lt o ≡ false → is_lt p ≡ false → o ≡ Equal
+tied Less p e a b = absurd (false≢true (sym a))
+tied Equal p e a b = refl
+tied Greater Less e a b = absurd (false≢true (sym b))
+tied Greater Equal e a b = e
+tied Greater Greater e a b = cc
+
+-- texts of which neither is below the other
+same_text : (x y : List ℕ) → is_lt (text_cmp x y) ≡ false → is_lt (text_cmp y x) ≡ false → x ≡ y
+same_text x y a b = exact_bytes x y (tied (text_cmp x y) (text_cmp y x) (nat_list_cmp_total.antisymm x y) a b)
+
+none_below : (x : List ℕ) → is_lt (text_cmp x []) ≡ false
+none_below [] = refl
+none_below (c ∷ cs) = refl
+
+then_first : (o p : Ordering) → is_lt (ordering_then o p) ≡ false → is_lt o ≡ false
+then_first Less p h = h
+then_first Equal p h = refl
+then_first Greater p h = refl
+
+then_second : (o p : Ordering) → o ≡ Equal → is_lt (ordering_then o p) ≡ false → is_lt p ≡ false
+then_second o p e h = subst (λ (x : Ordering). is_lt (ordering_then x p) ≡ false) e h
+
+then_both : (o p : Ordering) → is_lt o ≡ false → is_lt p ≡ false → is_lt (ordering_then o p) ≡ false
+then_both Less p a b = a
+then_both Equal p a b = b
+then_both Greater p a b = refl
+
+itself : (x y : List ℕ) → x ≡ y → text_cmp x y ≡ Equal
+itself x y e = subst (λ (z : List ℕ). text_cmp x z ≡ Equal) e (tied_itself nat_list_cmp_total x)
+
+same_bytes : (x y : List ℕ) → x ≡ y → bytes_eq x y ≡ true
+same_bytes x y e = (bytes_eq-Decides x y).1 e
+
+-- ## What is known
+
+not_below_known : (known : Option (List ℕ)) (x : List ℕ) → is_known known x ≡ true → is_lt (text_cmp x (unwrap_or known [])) ≡ false
+not_below_known None x is = none_below x
+not_below_known (Some t) x is = ap is_lt (itself x t (sym ((bytes_eq-Decides t x).0 is)))
+
+-- a text between the least and one that is as known
+known_between : (known : Option (List ℕ)) (x y : List ℕ) → is_known known y ≡ true → is_lt (text_cmp x (unwrap_or known [])) ≡ false → is_lt (text_cmp y x) ≡ false → is_known known x ≡ true
+known_between None x y is a b = same_bytes x x refl
+known_between (Some t) x y is a b =
+    same_bytes t x (same_text t x (subst (λ (z : List ℕ). is_lt (text_cmp z x) ≡ false) (sym ((bytes_eq-Decides t y).0 is)) b) a)
+
+-- the same where it is known that there is one
+known_same : (known : Option (List ℕ)) (x y : List ℕ) → is_some known ≡ true → is_known known x ≡ true → is_known known y ≡ true → x ≡ y
+known_same None x y some a b = absurd (false≢true some)
+known_same (Some t) x y some a b = sym ((bytes_eq-Decides t x).0 a) ∙ (bytes_eq-Decides t y).0 b
+
+-- ## Packages
+
+pub package_total : IsTotalOrder package_cmp
+package_total = then_total (on_total (λ (p : Package). p.name) nat_list_cmp_total) (then_total (on_total (λ (p : Package). p.version) nat_list_cmp_total) (on_total (λ (p : Package). p.source) nat_list_cmp_total))
+
+-- one that is not above another is below what that is below
+lower : (p q r : Package) → is_lt (package_cmp q p) ≡ false → is_lt (package_cmp q r) ≡ true → is_lt (package_cmp p r) ≡ true
+lower p q r order is = by (package_cmp p q) refl where
+  less : (o : Ordering) → is_lt o ≡ true → o ≡ Less
+  less Less e = refl
+  less Equal e = absurd (false≢true e)
+  less Greater e = absurd (false≢true e)
+
+  by : (o : Ordering) → package_cmp p q ≡ o → is_lt (package_cmp p r) ≡ true
+  by Less e = ap is_lt (package_total.trans p q r e (less (package_cmp q r) is))
+  by Equal e = ap is_lt (package_total.congr p q r e) ∙ is
+  by Greater e = absurd (false≢true (sym order ∙ ap is_lt (package_total.antisymm q p ∙ ap ordering_reverse e)))
+
+-- the parts of being as known
+record IsAs (known : Known) (p : Package) : Type 0 where
+  name : known.name ≡ p.name
+  version : is_known known.version p.version ≡ true
+  source : is_known known.source p.source ≡ true
+
+parts_as : (known : Known) (p : Package) → is_as known p ≡ true → IsAs known p
+parts_as known p is =
+    let outer = and_parts (bytes_eq known.name p.name && is_known known.version p.version) (is_known known.source p.source) is in
+    let inner = and_parts (bytes_eq known.name p.name) (is_known known.version p.version) outer.0 in
+    record { name = (bytes_eq-Decides known.name p.name).0 inner.0; version = inner.1; source = outer.1 }
+
+from_parts : (known : Known) (p : Package) → IsAs known p → is_as known p ≡ true
+from_parts known p is =
+    and_from (bytes_eq known.name p.name && is_known known.version p.version) (is_known known.source p.source)
+    (and_from (bytes_eq known.name p.name) (is_known known.version p.version) (same_bytes known.name p.name is.name) is.version) is.source
+
+-- one that is as known is not below the least
+as_behind : (known : Known) (p : Package) → is_as known p ≡ true → is_lt (package_cmp p (least known)) ≡ false
+as_behind known p is =
+    let parts = parts_as known p is in
+    then_both (text_cmp p.name known.name) _ (ap is_lt (itself p.name known.name (sym parts.name)))
+    (then_both (text_cmp p.version (unwrap_or known.version [])) (text_cmp p.source (unwrap_or known.source [])) (not_below_known known.version p.version parts.version) (not_below_known known.source p.source parts.source))
+
+-- of two packages in order with one name, what is known of the versions decides
+module _ (known : Known) (p q : Package) (a : is_lt (package_cmp p (least known)) ≡ false) (b : is_lt (package_cmp q p) ≡ false) (is : is_as known q ≡ true) where
+  between_name : p.name ≡ known.name
+  between_name =
+      same_text p.name known.name (then_first (text_cmp p.name known.name) _ a)
+      (subst (λ (z : List ℕ). is_lt (text_cmp z p.name) ≡ false) (sym (parts_as known q is).name) (then_first (text_cmp q.name p.name) _ b))
+
+  rest_least : is_lt (ordering_then (text_cmp p.version (unwrap_or known.version [])) (text_cmp p.source (unwrap_or known.source []))) ≡ false
+  rest_least = then_second (text_cmp p.name known.name) _ (itself p.name known.name between_name) a
+
+  rest_other : is_lt (ordering_then (text_cmp q.version p.version) (text_cmp q.source p.source)) ≡ false
+  rest_other = then_second (text_cmp q.name p.name) _ (itself q.name p.name (sym (parts_as known q is).name ∙ sym between_name)) b
+
+  between_version : is_known known.version p.version ≡ true
+  between_version = known_between known.version p.version q.version (parts_as known q is).version (then_first _ _ rest_least) (then_first _ _ rest_other)
+
+  -- where a version is known, the sources are in order
+  module _ (some : is_some known.version ≡ true) where
+    versions : q.version ≡ p.version
+    versions = known_same known.version q.version p.version some (parts_as known q is).version between_version
+
+    source_other : is_lt (text_cmp q.source p.source) ≡ false
+    source_other = then_second (text_cmp q.version p.version) _ (itself q.version p.version versions) rest_other
+
+    source_least : is_lt (text_cmp p.source (unwrap_or known.source [])) ≡ false
+    source_least = then_second (text_cmp p.version (unwrap_or known.version [])) _ (tied_known known.version p.version some between_version) rest_least where
+      tied_known : (o : Option (List ℕ)) (x : List ℕ) → is_some o ≡ true → is_known o x ≡ true → text_cmp x (unwrap_or o []) ≡ Equal
+      tied_known None x some is = absurd (false≢true some)
+      tied_known (Some t) x some is = itself x t (sym ((bytes_eq-Decides t x).0 is))
+
+  as_between : IsNamed known → is_as known p ≡ true
+  as_between named = from_parts known p (record { name = sym between_name; version = between_version; source = sources known.version refl }) where
+    sources : (o : Option (List ℕ)) → known.version ≡ o → is_known known.source p.source ≡ true
+    sources None e = ap (λ (o : Option (List ℕ)). is_known o p.source) (named e) ∙ same_bytes p.source p.source refl
+    sources (Some v) e = known_between known.source p.source q.source (parts_as known q is).source (source_least (ap is_some e)) (source_other (ap is_some e))
+
+  -- the one in a folder is the first
+  folder_first : is_in_folder known q ≡ true → is_in_folder known p ≡ true
+  folder_first folder =
+      let both = and_parts (is_some known.version) (is_empty q.source) folder in
+      let none : q.source ≡ [] = empty_is q.source both.1 in
+      let first : [] ≡ p.source = same_text [] p.source (subst (λ (z : List ℕ). is_lt (text_cmp z p.source) ≡ false) none (source_other both.0)) (none_below p.source) in
+      and_from (is_some known.version) (is_empty p.source) both.0 (ap is_empty (sym first)) where
+        empty_is : (x : List ℕ) → is_empty x ≡ true → x ≡ []
+        empty_is [] e = refl
+        empty_is (c ∷ cs) e = absurd (false≢true e)
+
+-- ## Places
+
+-- what stands behind the last package
+abbrev pub nothing : Package
+nothing = record { name = []; version = []; source = [] }
+
+-- those before one are not above it
+pub in_order : (ps : List Package) → IsStrictlySortedBy package_cmp ps → (j k : ℕ) → j ≤ k → k < length ps → is_lt (package_cmp (get_or ps k nothing) (get_or ps j nothing)) ≡ false
+in_order ps up j k le low = elim (cases_lt j k) [
+  | inl lt ↦ ap is_lt (package_total.antisymm (get_or ps k nothing) (get_or ps j nothing) ∙ ap ordering_reverse (Less-from_sorted package_cmp ps j k nothing up lt low))
+  | inr ge ↦ ap is_lt (ap (λ (i : ℕ). package_cmp (get_or ps k nothing) (get_or ps i nothing)) (let same : j ≡ k = omega arith in same) ∙ tied_itself package_total (get_or ps k nothing))
+]
+
+module _ (ps : List Package) (known : Known) where
+  -- the package at a place is as known
+  abbrev pub Has : ℕ → Type 0
+  Has k = (k < length ps) × (is_as known (get_or ps k nothing) ≡ true)
+
+  holds_as : (k : ℕ) → Has k → HoldsAt (λ p. is_as known p ≡ true) ps k
+  holds_as k has = λ d. ap (is_as known) (get_or_default ps k d nothing has.0) ∙ has.1
+
+  holds_folder : (k : ℕ) → k < length ps → is_in_folder known (get_or ps k nothing) ≡ true → HoldsAt (λ p. is_in_folder known p ≡ true) ps k
+  holds_folder k low is = λ d. ap (is_in_folder known) (get_or_default ps k d nothing low) ∙ is
+
+  module _ (named : IsNamed known) (up : IsStrictlySortedBy package_cmp ps) (at : ℕ) (start : IsStart ps known at) where
+    none_before : (k : ℕ) → Has k → at ≤ k
+    none_before k has = elim (cases_lt k at) [
+      | inl lt ↦ absurd (false≢true (sym (as_behind known (get_or ps k nothing) has.1) ∙ start.before k nothing (omega arith) lt))
+      | inr ge ↦ ge
+    ]
+
+    has_between : (j k : ℕ) → at ≤ j → j ≤ k → Has k → Has j
+    has_between j k low le has =
+        let within : j < length ps = omega (arith, has.0) in
+        (within, as_between known (get_or ps j nothing) (get_or ps k nothing) (start.behind j nothing low within) (in_order ps up j k le has.0) has.1 named)
+
+    pub missing : (IsAt ps known at → ⊥) → IsFaulty ps known Missing
+    missing none = λ k d low. false_from_ne_true (is_as known (get_or ps k d)) (λ is.
+        let has : Has k = (low, ap (is_as known) (get_or_default ps k nothing d low) ∙ is) in
+        let first : Has at = has_between at k (omega arith) (none_before k has) has in
+        none (first.0, holds_as at first))
+
+    pub alone : IsAt ps known at → (IsAt ps known (at + 1) → ⊥) → IsNeeded ps known at
+    alone is none = record {
+      below = is.0;
+      is = is.1;
+      only = inr (λ k low other.
+          let has : Has k = (low, other nothing) in
+          elim (cases_lt at k) [
+            | inl lt ↦ (let next : Has (at + 1) = has_between (at + 1) k (omega arith) (omega arith) has in absurd (none (next.0, holds_as (at + 1) next)))
+            | inr ge ↦ (let le : at ≤ k = none_before k has in omega arith)
+          ]);
+    }
+
+    pub several : IsAt ps known at → IsAt ps known (at + 1) → is_in_folder known (get_or ps at nothing) ≡ false → IsFaulty ps known Several
+    several is next other = (
+      (at, get_or ps at nothing, is.0, get_or_default ps at (get_or ps at nothing) nothing is.0, is.1 nothing),
+      λ k needed.
+          let has : Has k = (needed.below, needed.is nothing) in
+          elim needed.only [
+            | inl folder ↦ false≢true (sym other ∙ folder_first known (get_or ps at nothing) (get_or ps k nothing) (start.behind at nothing (omega arith) is.0) (in_order ps up at k (none_before k has) has.0) has.1 (folder nothing))
+            | inr only ↦ (let one : at ≡ k = only at is.0 is.1 in let two : at + 1 ≡ k = only (at + 1) next.0 next.1 in omega arith)
+          ],
+    )
+
+-- ## A search
+
+-- a package as the code has it
+abbrev pub Tuple : Type 0
+Tuple = Bor (List ℕ) × Bor (List ℕ) × Bor (List ℕ) × ℕ
+
+abbrev pub no_tuple : Tuple
+no_tuple = (record { ref_ptr = (0, 0); now = [] }, record { ref_ptr = (0, 0); now = [] }, record { ref_ptr = (0, 0); now = [] }, 0)
+
+module _ (ps : List Tuple) (known : Known) where
+  -- whether a package is below all that can be as known
+  abbrev pub is_behind : Tuple → Bool
+  is_behind p = is_lt (package_cmp (package_of p) (least known))
+
+  pub behind_first : IsStrictlySortedBy package_cmp (map package_of ps) → IsPartitionedBy is_behind ps
+  behind_first up = λ i j d le low is.
+      let one : get_or (map package_of ps) i nothing ≡ package_of (get_or ps i d) = get_or-map package_of ps i d nothing (omega arith) in
+      let two : get_or (map package_of ps) j nothing ≡ package_of (get_or ps j d) = get_or-map package_of ps j d nothing low in
+      let within : j < length (map package_of ps) = omega (arith, length-map ps package_of) in
+      let order : is_lt (package_cmp (package_of (get_or ps j d)) (package_of (get_or ps i d))) ≡ false = ap is_lt (ap (λ (p : Package). package_cmp p (package_of (get_or ps i d))) (sym two) ∙ ap (package_cmp (get_or (map package_of ps) j nothing)) (sym one)) ∙ in_order (map package_of ps) up i j le within in
+      lower (package_of (get_or ps i d)) (package_of (get_or ps j d)) (least known) order is
+
+  pub start_found : (i : ℕ) → i ≤ length ps → IsPartitionPoint (λ p. is_behind p ≡ true) (λ p. is_behind p ≡ false) ps i → IsStart (map package_of ps) known i
+  start_found i le point = record {
+    before = λ k d zero low. ap (λ (p : Package). is_lt (package_cmp p (least known))) (get_or-map package_of ps k no_tuple d (omega arith)) ∙ point.0 k no_tuple zero low;
+    behind = λ k d from low. (let within : k < length ps = omega (arith, length-map ps package_of) in ap (λ (p : Package). is_lt (package_cmp p (least known))) (get_or-map package_of ps k no_tuple d within) ∙ point.1 k no_tuple from within);
+  }

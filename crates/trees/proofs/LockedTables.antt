@@ -1,0 +1,88 @@
+-- The packages of tables.
+use Rattle.std.proofs.Common.{◌≡◌, ◌≢◌, ◌∙◌, ℕ, ◌+◌, ◌<◌, ◌≤◌, false, List, [], ◌∷◌, ◌++◌, length, get_or, map, take, refl, sym, ap, subst, arith}
+use Rattle.std.proofs.lemmas.Bool.{false≢true}
+use Rattle.std.proofs.lemmas.List.{get_or-map, length-map, map-append, take_all, take_more}
+use Rattle.std.proofs.lemmas.List.Elements.{All-push}
+use Rattle.std.proofs.lemmas.List.Sorted.{All-permutation, IsPermutation-map}
+use Rattle.std.proofs.lemmas.Map.Keys.{sorted_from_all_adjacent}
+use Rattle.std.proofs.lemmas.Map.Lookups.{exact_bytes}
+use Rattle.std.specs.Cmp.Lexicographic.{slice_cmp}
+use Rattle.std.specs.List.{All, AllAdjacentBelow}
+use Rattle.std.specs.List.Sorted.{IsPermutation, IsSorted, IsStrictlySortedBy}
+use Rattle.std.specs.Ordering.{is_lt, nat_cmp, ordering_reverse, ordering_then}
+use Rattle.std.specs.declared.cmp.Ordering.{Ordering}
+use Rattle.std.specs.declared.cmp.Ordering.TheVariants.{Less, Equal, Greater}
+use Rattle.toml.specs.Data.{Data, boolean}
+use Rattle.trees.specs.Locking.{Package, package_cmp, IsPackage}
+use Rattle.trees.specs.LockingParts.{package_of, table_of, AreLocked}
+use Rattle.trees.proofs.LockedPackages.{Tuple, no_tuple, nothing, package_total}
+
+-- ## Tables
+
+-- the packages of the first tables
+pub record AreRead (tables : List Data) (n : ℕ) (ps : List Tuple) : Type 0 where
+  pub each : All (λ p. (p.3 < length tables) × IsPackage (table_of tables p) (package_of p)) ps
+  pub all : map (table_of tables) ps ≡ take n tables
+
+pub none_read : (tables : List Data) → AreRead tables 0 []
+none_read tables = record { each = λ k d low. absurd (omega arith); all = refl }
+
+pub more_read : (tables : List Data) (n : ℕ) (ps : List Tuple) (p : Tuple) → AreRead tables n ps → n < length tables → p.3 ≡ n → IsPackage (get_or tables n (boolean false)) (package_of p) → AreRead tables (n + 1) (ps ++ p ∷ [])
+more_read tables n ps p so low at is =
+    let here : table_of tables p ≡ get_or tables n (boolean false) = ap (λ (k : ℕ). get_or tables k (boolean false)) at in
+    record {
+      each = All-push (λ p. (p.3 < length tables) × IsPackage (table_of tables p) (package_of p)) ps p so.each (omega (arith, at), subst (λ d. IsPackage d (package_of p)) (sym here) is);
+      all = map-append (table_of tables) ps (p ∷ []) ∙ (ap (λ ds. ds ++ table_of tables p ∷ []) so.all ∙ (ap (λ d. take n tables ++ d ∷ []) here ∙ sym (take_more tables n (boolean false) low)));
+    }
+
+-- ## Order
+
+-- packages as they are sorted
+abbrev pub tuple_cmp : Tuple → Tuple → Ordering
+tuple_cmp p q = ordering_then (ordering_then (ordering_then (slice_cmp nat_cmp p.0.now q.0.now) (slice_cmp nat_cmp p.1.now q.1.now)) (slice_cmp nat_cmp p.2.now q.2.now)) (nat_cmp p.3 q.3)
+
+without_last : (a b c d : Ordering) → is_lt (ordering_then (ordering_then (ordering_then a b) c) d) ≡ false → is_lt (ordering_then a (ordering_then b c)) ≡ false
+without_last Less b c d is = is
+without_last Equal Less c d is = is
+without_last Equal Equal Less d is = is
+without_last Equal Equal Equal d is = refl
+without_last Equal Equal Greater d is = refl
+without_last Equal Greater c d is = refl
+without_last Greater b c d is = refl
+
+both_equal : (a b : Ordering) → ordering_then a b ≡ Equal → (a ≡ Equal) × (b ≡ Equal)
+both_equal Less b e = cc
+both_equal Equal b e = (refl, e)
+both_equal Greater b e = cc
+
+one_package : (p q : Package) → package_cmp p q ≡ Equal → p ≡ q
+one_package p q e =
+    let outer = both_equal (slice_cmp nat_cmp p.name q.name) _ e in
+    let inner = both_equal (slice_cmp nat_cmp p.version q.version) (slice_cmp nat_cmp p.source q.source) outer.1 in
+    let name : p.name ≡ q.name = exact_bytes p.name q.name outer.0 in
+    let version : p.version ≡ q.version = exact_bytes p.version q.version inner.0 in
+    let source : p.source ≡ q.source = exact_bytes p.source q.source inner.1 in
+    ap (λ (n : List ℕ). record p { name = n }) name ∙ (ap (λ (v : List ℕ). record p { name = q.name; version = v }) version ∙ ap (λ (t : List ℕ). record q { source = t }) source)
+
+risen : (p q : Package) (o : Ordering) → package_cmp q p ≡ o → is_lt o ≡ false → p ≢ q → package_cmp p q ≡ Less
+risen p q Less e is other = absurd (false≢true (sym is))
+risen p q Equal e is other = absurd (other (sym (one_package q p e)))
+risen p q Greater e is other = package_total.antisymm p q ∙ ap ordering_reverse e
+
+strictly : (ps : List Tuple) → IsSorted tuple_cmp ps → AllAdjacentBelow (λ p q. package_of p ≢ package_of q) ps (length ps) → IsStrictlySortedBy package_cmp (map package_of ps)
+strictly ps up apart = sorted_from_all_adjacent package_total (map package_of ps) nothing (λ k low.
+    let within : k + 1 < length ps = omega (arith, length-map ps package_of) in
+    let p = get_or ps k no_tuple in
+    let q = get_or ps (k + 1) no_tuple in
+    ap (λ (x : Package). package_cmp x (get_or (map package_of ps) (k + 1) nothing)) (get_or-map package_of ps k no_tuple nothing (omega arith))
+    ∙ (ap (package_cmp (package_of p)) (get_or-map package_of ps (k + 1) no_tuple nothing within)
+    ∙ risen (package_of p) (package_of q) (package_cmp (package_of q) (package_of p)) refl
+    (without_last (slice_cmp nat_cmp q.0.now p.0.now) (slice_cmp nat_cmp q.1.now p.1.now) (slice_cmp nat_cmp q.2.now p.2.now) (nat_cmp q.3 p.3) (up k no_tuple (omega arith) within)) (apart k no_tuple within)))
+
+-- all tables, sorted
+pub all_locked : (tables : List Data) (n : ℕ) (found ps : List Tuple) → AreRead tables n found → length tables ≤ n → IsPermutation found ps → IsSorted tuple_cmp ps → AllAdjacentBelow (λ p q. package_of p ≢ package_of q) ps (length ps) → AreLocked tables ps
+all_locked tables n found ps so end moved up apart = record {
+  ascending = strictly ps up apart;
+  each = All-permutation (λ p. (p.3 < length tables) × IsPackage (table_of tables p) (package_of p)) found ps moved so.each;
+  all = subst (λ ds. IsPermutation ds (map (table_of tables) ps)) (so.all ∙ take_all n tables end) (IsPermutation-map (table_of tables) found ps moved);
+}

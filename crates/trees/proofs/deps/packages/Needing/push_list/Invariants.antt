@@ -1,0 +1,8 @@
+use Rattle.std.proofs.Common.{map, take}
+use Rattle.toml.specs.View.{view}
+use Rattle.trees.specs.LockingParts.{AddsEntries}
+use Rattle.trees.proofs.deps.packages.Needing.push_list.Given as goal
+
+-- the edges of the entries so far
+abbrev pub invariant-loop-need : goal.invariant-loop-need
+invariant-loop-need l = AddsEntries l.self (map view (take l.need-index l.need-items)) l.fn.network l.network

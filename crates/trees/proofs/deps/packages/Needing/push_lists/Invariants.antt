@@ -1,0 +1,10 @@
+use Rattle.std.proofs.Common.{map}
+use Rattle.std.specs.Prelude.{flat_map}
+use Rattle.toml.specs.View.{view}
+use Rattle.trees.specs.Locking.{entries_of}
+use Rattle.trees.specs.LockingParts.{AddsEntries}
+use Rattle.trees.proofs.deps.packages.Needing.push_lists.Given as goal
+
+-- the edges of the lists so far
+abbrev pub invariant-loop-needs : goal.invariant-loop-needs
+invariant-loop-needs l = AddsEntries l.self (flat_map entries_of (map (λ v. view v.now) l.yielded)) l.fn.network l.network

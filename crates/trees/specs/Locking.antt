@@ -1,0 +1,159 @@
+-- Which packages a lock file with tables `[[package]]` has, and which of them an entry needs.
+use Rattle.std.specs.Cmp.Lexicographic.{slice_cmp}
+use Rattle.std.specs.List.{before_first}
+use Rattle.std.specs.Option.{option_and, option_and_then, option_or}
+use Rattle.std.specs.Ordering.{nat_cmp, ordering_then}
+use Rattle.std.specs.Prelude.{◌≡◌, ◌≢◌, ◌<◌, ◌⊎◌, ◌==◌, ◌&&◌, ℕ, Bool, true, is_some, List, [], ◌∷◌, ◌++◌, codes, flat_map, length, HoldsAt, Option, Some, None, IfSome, IsSome, MatchOption, option_map, unwrap_or}
+use Rattle.std.specs.Str.{bytes_eq}
+use Rattle.std.specs.declared.cmp.Ordering.{Ordering}
+use Rattle.toml.specs.Data.{Data, string, array, table, Items, no_items, item, Members, no_members, member, get, get_member, as_str, as_table}
+use Rattle.trees.specs.Listing.{is_empty}
+
+-- ## Packages
+
+-- a package: its name, its version, and its source without a revision
+pub record Package : Type 0 where
+  pub name : List ℕ
+  pub version : List ℕ
+  pub source : List ℕ
+
+-- packages by their names, then their versions, then their sources
+abbrev pub package_cmp : Package → Package → Ordering
+package_cmp p q = ordering_then (slice_cmp nat_cmp p.name q.name) (ordering_then (slice_cmp nat_cmp p.version q.version) (slice_cmp nat_cmp p.source q.source))
+
+-- whether two packages have one name and version
+abbrev pub same_version : Package → Package → Bool
+same_version p q = bytes_eq p.name q.name && bytes_eq p.version q.version
+
+-- ## Needs
+
+-- what is known of a package that is needed
+pub record Known : Type 0 where
+  pub name : List ℕ
+  pub version : Option (List ℕ)
+  pub source : Option (List ℕ)
+
+-- whether a text is the one that is known, if one is
+abbrev pub is_known : Option (List ℕ) → List ℕ → Bool
+is_known known text = bytes_eq (unwrap_or known text) text
+
+-- whether a package is as known
+abbrev pub is_as : Known → Package → Bool
+is_as known p = bytes_eq known.name p.name && is_known known.version p.version && is_known known.source p.source
+
+-- whether a version means a package in a folder: that has no source to be named with
+abbrev pub is_in_folder : Known → Package → Bool
+is_in_folder known p = is_some known.version && is_empty p.source
+
+-- the package at a place is needed: it is as known, and is the only one, or the one in a folder
+pub record IsNeeded (packages : List Package) (known : Known) (at : ℕ) : Type 0 where
+  pub below : at < length packages
+  pub is : HoldsAt (λ p. is_as known p ≡ true) packages at
+  pub only : HoldsAt (λ p. is_in_folder known p ≡ true) packages at ⊎ ((k : ℕ) → k < length packages → HoldsAt (λ p. is_as known p ≡ true) packages k → k ≡ at)
+
+-- ## Texts of needs
+
+-- a text between others, if there is one
+abbrev pub between : List ℕ → Option (List ℕ) → List ℕ → List ℕ
+between before None after = []
+between before (Some text) after = before ++ (text ++ after)
+
+-- `name`, `name version` or `name version (source)`
+abbrev pub need_text : Known → List ℕ
+need_text known = known.name ++ (between (codes " ") known.version [] ++ between (codes " (") known.source (codes ")"))
+
+-- a text is nowhere in another
+abbrev pub Lacks : List ℕ → List ℕ → Type 0
+Lacks part text = (before after : List ℕ) → text ≢ before ++ (part ++ after)
+
+-- a text says what is known: its parts are the first that can be told apart, and none is empty
+pub record IsNeedText (text : List ℕ) (known : Known) : Type 0 where
+  pub is : text ≡ need_text known
+  pub name : Lacks (codes " ") known.name
+  pub version : IfSome known.version (λ version. (version ≢ []) × Lacks (codes " (") version)
+  pub source : IfSome known.source (λ source. (source ≢ []) × IsSome known.version)
+
+-- a source without the `#` and the revision at its end
+abbrev pub without_revision : List ℕ → List ℕ
+without_revision source = before_first (λ b. b == 35) source
+
+abbrev pub unrevised : Known → Known
+unrevised known = record known { source = option_map without_revision known.source }
+
+-- ## Tables
+
+-- the text at a key
+abbrev pub text_at : List ℕ → Data → Option (List ℕ)
+text_at key d = option_and_then as_str (get key d)
+
+-- the value at the first key
+abbrev pub first_value : Members → Option Data
+first_value no_members = None
+first_value (member key d rest) = Some d
+
+-- the text of a source: of a table the one at `url`, or else at its first key
+abbrev pub source_text : Data → List ℕ
+source_text (string text) = text
+source_text (table parts) = unwrap_or (option_and_then as_str (option_or (get_member (codes "url") parts) (first_value parts))) []
+source_text _ = []
+
+-- the text of a table's source, or the empty one
+abbrev pub source_of : Data → List ℕ
+source_of d = unwrap_or (option_map source_text (get (codes "source") d)) []
+
+-- the version in a package's table; there may be none if the source is a folder, or another table
+abbrev pub IsVersion : Data → List ℕ → Type 0
+IsVersion d version = (text_at (codes "version") d ≡ Some version) ⊎ ((get (codes "version") d ≡ None) × IsSome (option_and_then as_table (get (codes "source") d)) × (version ≡ []))
+
+-- the package of a table, which no other one replaces
+pub record IsPackage (d : Data) (p : Package) : Type 0 where
+  pub name : text_at (codes "name") d ≡ Some p.name
+  pub version : IsVersion d p.version
+  pub source : p.source ≡ without_revision (source_of d)
+  pub whole : get (codes "replace") d ≡ None
+
+-- a table says what is known: its name and, if they are there, its version and with that its source
+pub record IsNeedTable (d : Data) (known : Known) : Type 0 where
+  pub name : text_at (codes "name") d ≡ Some known.name
+  pub version : get (codes "version") d ≡ option_map string known.version
+  pub source : known.source ≡ option_map (λ s. without_revision (source_text s)) (option_and known.version (get (codes "source") d))
+
+-- what is known of the package that an entry needs
+abbrev pub IsNeed : Data → Known → Type 0
+IsNeed entry known = MatchOption (as_str entry) (IsNeedTable entry known) (λ text. (whole : Known) × IsNeedText text whole × (known ≡ unrevised whole))
+
+-- ## Entries
+
+abbrev pub listed : Items → List Data
+listed no_items = []
+listed (item d items) = d ∷ listed items
+
+abbrev pub values_of : Members → List Data
+values_of no_members = []
+values_of (member key d members) = d ∷ values_of members
+
+-- the entries of a list
+abbrev pub entries_of : Data → List Data
+entries_of (array items) = listed items
+entries_of _ = []
+
+-- those of all lists in a table
+abbrev pub grouped : Data → List Data
+grouped (table groups) = flat_map entries_of (values_of groups)
+grouped _ = []
+
+-- the entries at a key, or none
+abbrev pub entries_at : (Data → List Data) → List ℕ → Data → List Data
+entries_at entries key d = unwrap_or (option_map entries (get key d)) []
+
+-- the entries that a package's table lists
+abbrev pub entries_in : Data → List Data
+entries_in d = entries_at entries_of (codes "dependencies") d ++ entries_at grouped (codes "optional-dependencies") d ++ entries_at grouped (codes "dev-dependencies") d
+
+-- an entry leads to the place of the package that it needs
+abbrev pub Leads : List Package → Data → ℕ → Type 0
+Leads packages entry at = (known : Known) × IsNeed entry known × IsNeeded packages known at
+
+-- the dependencies of a package's table are no table of their own, as they are in a poetry.lock
+abbrev pub IsListed : Data → Type 0
+IsListed d = (needs : Members) → get (codes "dependencies") d ≢ Some (table needs)

@@ -1,0 +1,88 @@
+-- What the parts of reading lock files do. What `perform` ensures doesn't cite this.
+use Rattle.std.specs.Borrow.{Bor}
+use Rattle.std.specs.List.{AllWithin, AllZip}
+use Rattle.std.specs.List.Sorted.{IsPermutation, IsStrictlySortedBy}
+use Rattle.std.specs.Ordering.{is_lt}
+use Rattle.std.specs.Prelude.{◌≡◌, ◌≢◌, ◌<◌, ℕ, true, false, List, [], ◌++◌, codes, fold, length, map, slice_index_or, All, Any, HoldsAt, Option, Some, None, IfSome, unwrap_or, option_copied}
+use Rattle.toml.specs.Data.{Data, boolean}
+use Rattle.trees.specs.declared.deps.Network.{Network}
+use Rattle.trees.specs.declared.deps.packages.Fault.{Fault}
+use Rattle.trees.specs.declared.deps.packages.Fault.TheVariants.{Missing, Several}
+use Rattle.trees.specs.declared.deps.packages.Need.{Need}
+use Rattle.trees.specs.declared.deps.packages.Needing.{Needing}
+use Rattle.trees.specs.Depending.{directed, same_edge}
+use Rattle.trees.specs.DependingParts.{needs_of, added, KeepsNodes, IsIndexed}
+use Rattle.trees.specs.Locking.{Package, Known, is_as, package_cmp, IsPackage, between, unrevised, Lacks, IsNeeded, Leads}
+
+-- ## Packages
+
+-- the package of four parts, and its table
+abbrev pub package_of : Bor (List ℕ) × Bor (List ℕ) × Bor (List ℕ) × ℕ → Package
+package_of p = record { name = p.0.now; version = p.1.now; source = p.2.now }
+
+abbrev pub table_of : List Data → Bor (List ℕ) × Bor (List ℕ) × Bor (List ℕ) × ℕ → Data
+table_of tables p = slice_index_or tables p.3 (boolean false)
+
+-- the packages of tables in ascending order, each once
+pub record AreLocked (tables : List Data) (ps : List (Bor (List ℕ) × Bor (List ℕ) × Bor (List ℕ) × ℕ)) : Type 0 where
+  pub ascending : IsStrictlySortedBy package_cmp (map package_of ps)
+  pub each : All (λ p. (p.3 < length tables) × IsPackage (table_of tables p) (package_of p)) ps
+  pub all : IsPermutation tables (map (table_of tables) ps)
+
+-- ## Needs
+
+-- what is known of a package
+abbrev pub known_of : Need → Known
+known_of need = record { name = need.name.now; version = option_copied need.version; source = option_copied need.source }
+
+-- a source is known only with a version
+abbrev pub IsNamed : Known → Type 0
+IsNamed known = known.version ≡ None → known.source ≡ None
+
+-- the least of the packages that can be as known
+abbrev pub least : Known → Package
+least known = record { name = known.name; version = unwrap_or known.version []; source = unwrap_or known.source [] }
+
+-- the packages before a place are below the least, and no others
+pub record IsStart (packages : List Package) (known : Known) (at : ℕ) : Type 0 where
+  pub before : AllWithin (λ p. is_lt (package_cmp p (least known)) ≡ true) packages 0 at
+  pub behind : AllWithin (λ p. is_lt (package_cmp p (least known)) ≡ false) packages at (length packages)
+
+-- the package at a place is as known
+abbrev pub IsAt : List Package → Known → ℕ → Type 0
+IsAt packages known at = (at < length packages) × HoldsAt (λ p. is_as known p ≡ true) packages at
+
+-- why not one package is needed
+abbrev pub IsFaulty : List Package → Known → Fault → Type 0
+IsFaulty packages known Missing = All (λ p. is_as known p ≡ false) packages
+IsFaulty packages known Several = Any (λ p. is_as known p ≡ true) packages × ((at : ℕ) → IsNeeded packages known at → ⊥)
+
+-- ## Texts
+
+-- a need has these parts, of which none is empty
+abbrev pub IsWhole : List ℕ → List ℕ → Option (List ℕ) → Need → Type 0
+IsWhole name version source need = (version ≢ []) × IfSome source (λ s. s ≢ []) × (known_of need ≡ unrevised (record { name = name; version = Some version; source = source }))
+
+-- it has the parts of what is behind its name
+abbrev pub IsBehind : List ℕ → List ℕ → Need → Type 0
+IsBehind name rest need = (version : List ℕ) × (source : Option (List ℕ)) × (rest ≡ version ++ between (codes " (") source (codes ")")) × Lacks (codes " (") version × IsWhole name version source need
+
+-- ## Networks
+
+-- a network gets edges, each unless it is there
+pub record AddsEdges (old new : Network) (es : List (ℕ × ℕ)) : Type 0 where
+  pub nodes : KeepsNodes old new
+  pub edges : needs_of new ≡ fold (added same_edge) (needs_of old) (map (directed old.is_inverse) es)
+  pub indexed : IsIndexed new
+
+-- it gets edges from a node to some places
+abbrev pub AddsNeeds : ℕ → (List ℕ → Type 0) → Network → Network → Type 0
+AddsNeeds node Places old new = (places : List ℕ) × Places places × AddsEdges old new (map (λ at. (node, at)) places)
+
+-- the packages that are known while the needs of one are read
+abbrev pub packages_of : Needing → List Package
+packages_of needing = map package_of needing.packages.now
+
+-- it gets edges from that one to the packages that entries need
+abbrev pub AddsEntries : Needing → List Data → Network → Network → Type 0
+AddsEntries needing entries old new = IsIndexed old → AddsNeeds needing.node (AllZip (Leads (packages_of needing)) entries) old new
