@@ -11,8 +11,12 @@ pub mod Listings
 pub mod Marks
 pub mod LockedEdges
 pub mod LockedEntries
+pub mod LockedGraphs
+pub mod LockedLabels
+pub mod LockedNetworks
 pub mod LockedPackages
 pub mod LockedTables
+pub mod LockedTwins
 pub mod Merges
 pub mod MergeDrawings
 pub mod MergePlaces

@@ -24,7 +24,7 @@ use Rattle.trees.specs.LockingParts.{package_of, least, IsNamed, IsStart, IsAt, 
 -- ## Texts
 
 -- the order of texts
-abbrev text_cmp : List ℕ → List ℕ → Ordering
+abbrev pub text_cmp : List ℕ → List ℕ → Ordering
 text_cmp = slice_cmp nat_cmp
 
 tied : (o p : Ordering) → o ≡ ordering_reverse p → is_lt o ≡ false → is_lt p ≡ false → o ≡ Equal
@@ -35,19 +35,19 @@ tied Greater Equal e a b = e
 tied Greater Greater e a b = cc
 
 -- texts of which neither is below the other
-same_text : (x y : List ℕ) → is_lt (text_cmp x y) ≡ false → is_lt (text_cmp y x) ≡ false → x ≡ y
+pub same_text : (x y : List ℕ) → is_lt (text_cmp x y) ≡ false → is_lt (text_cmp y x) ≡ false → x ≡ y
 same_text x y a b = exact_bytes x y (tied (text_cmp x y) (text_cmp y x) (nat_list_cmp_total.antisymm x y) a b)
 
 none_below : (x : List ℕ) → is_lt (text_cmp x []) ≡ false
 none_below [] = refl
 none_below (c ∷ cs) = refl
 
-then_first : (o p : Ordering) → is_lt (ordering_then o p) ≡ false → is_lt o ≡ false
+pub then_first : (o p : Ordering) → is_lt (ordering_then o p) ≡ false → is_lt o ≡ false
 then_first Less p h = h
 then_first Equal p h = refl
 then_first Greater p h = refl
 
-then_second : (o p : Ordering) → o ≡ Equal → is_lt (ordering_then o p) ≡ false → is_lt p ≡ false
+pub then_second : (o p : Ordering) → o ≡ Equal → is_lt (ordering_then o p) ≡ false → is_lt p ≡ false
 then_second o p e h = subst (λ (x : Ordering). is_lt (ordering_then x p) ≡ false) e h
 
 then_both : (o p : Ordering) → is_lt o ≡ false → is_lt p ≡ false → is_lt (ordering_then o p) ≡ false
@@ -55,10 +55,10 @@ then_both Less p a b = a
 then_both Equal p a b = b
 then_both Greater p a b = refl
 
-itself : (x y : List ℕ) → x ≡ y → text_cmp x y ≡ Equal
+pub itself : (x y : List ℕ) → x ≡ y → text_cmp x y ≡ Equal
 itself x y e = subst (λ (z : List ℕ). text_cmp x z ≡ Equal) e (tied_itself nat_list_cmp_total x)
 
-same_bytes : (x y : List ℕ) → x ≡ y → bytes_eq x y ≡ true
+pub same_bytes : (x y : List ℕ) → x ≡ y → bytes_eq x y ≡ true
 same_bytes x y e = (bytes_eq-Decides x y).1 e
 
 -- ## What is known

@@ -3,7 +3,7 @@ use Rattle.std.specs.Cmp.Lexicographic.{slice_cmp}
 use Rattle.std.specs.List.{before_first}
 use Rattle.std.specs.Option.{option_and, option_and_then, option_or}
 use Rattle.std.specs.Ordering.{nat_cmp, ordering_then}
-use Rattle.std.specs.Prelude.{◌≡◌, ◌≢◌, ◌<◌, ◌⊎◌, ◌==◌, ◌&&◌, ℕ, Bool, true, is_some, List, [], ◌∷◌, ◌++◌, codes, flat_map, length, HoldsAt, Option, Some, None, IfSome, IsSome, MatchOption, option_map, unwrap_or}
+use Rattle.std.specs.Prelude.{◌≡◌, ◌≢◌, ◌+◌, ◌<◌, ◌⊎◌, ◌==◌, ◌&&◌, ℕ, Bool, true, is_some, List, [], ◌∷◌, ◌++◌, codes, flat_map, length, map, Contains, HoldsAt, Option, Some, None, IfSome, IsSome, MatchOption, option_map, unwrap_or}
 use Rattle.std.specs.Str.{bytes_eq}
 use Rattle.std.specs.declared.cmp.Ordering.{Ordering}
 use Rattle.toml.specs.Data.{Data, string, array, table, Items, no_items, item, Members, no_members, member, get, get_member, as_str, as_table}
@@ -157,3 +157,27 @@ Leads packages entry at = (known : Known) × IsNeed entry known × IsNeeded pack
 -- the dependencies of a package's table are no table of their own, as they are in a poetry.lock
 abbrev pub IsListed : Data → Type 0
 IsListed d = (needs : Members) → get (codes "dependencies") d ≢ Some (table needs)
+
+-- the edges from nodes to places, in the order of the nodes
+abbrev pub edges_from : ℕ → List (List ℕ) → List (ℕ × ℕ)
+edges_from node [] = []
+edges_from node (places ∷ more) = map (λ at. (node, at)) places ++ edges_from (node + 1) more
+
+-- ## Labels
+
+-- another package has the name and version of this one
+abbrev pub HasTwin : List Package → Package → Type 0
+HasTwin packages p = (q : Package) × Contains packages q × (q ≢ p) × (same_version p q ≡ true)
+
+abbrev pub non_empty : List ℕ → Option (List ℕ)
+non_empty [] = None
+non_empty (b ∷ bs) = Some (b ∷ bs)
+
+-- the name of a package, and its version and a source if they are given
+abbrev pub label_text : Package → List ℕ → List ℕ
+label_text p source = p.name ++ between (codes " v") (non_empty p.version) [] ++ between (codes " (") (non_empty source) (codes ")")
+
+-- the label of a package with its table has the source exactly if another one has the name and version
+pub record IsLabel (packages : List Package) (l : Data × Package) (text : List ℕ) : Type 0 where
+  pub twin : HasTwin packages l.1 → text ≡ label_text l.1 (source_of l.0)
+  pub alone : (HasTwin packages l.1 → ⊥) → text ≡ label_text l.1 []

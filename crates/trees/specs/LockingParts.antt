@@ -3,16 +3,17 @@ use Rattle.std.specs.Borrow.{Bor}
 use Rattle.std.specs.List.{AllWithin, AllZip}
 use Rattle.std.specs.List.Sorted.{IsPermutation, IsStrictlySortedBy}
 use Rattle.std.specs.Ordering.{is_lt}
-use Rattle.std.specs.Prelude.{◌≡◌, ◌≢◌, ◌<◌, ℕ, true, false, List, [], ◌++◌, codes, fold, length, map, slice_index_or, All, Any, HoldsAt, Option, Some, None, IfSome, unwrap_or, option_copied}
+use Rattle.std.specs.Prelude.{◌≡◌, ◌≢◌, ◌<◌, ℕ, Bool, true, false, List, [], ◌++◌, codes, fold, length, map, slice_index_or, string_bytes, String, All, Any, HoldsAt, Option, Some, None, IfSome, unwrap_or, option_copied}
+use Rattle.std.specs.declared.alloc.Global.{Global}
 use Rattle.toml.specs.Data.{Data, boolean}
 use Rattle.trees.specs.declared.deps.Network.{Network}
 use Rattle.trees.specs.declared.deps.packages.Fault.{Fault}
 use Rattle.trees.specs.declared.deps.packages.Fault.TheVariants.{Missing, Several}
 use Rattle.trees.specs.declared.deps.packages.Need.{Need}
 use Rattle.trees.specs.declared.deps.packages.Needing.{Needing}
-use Rattle.trees.specs.Depending.{directed, same_edge}
-use Rattle.trees.specs.DependingParts.{needs_of, added, KeepsNodes, IsIndexed}
-use Rattle.trees.specs.Locking.{Package, Known, is_as, package_cmp, IsPackage, between, unrevised, Lacks, IsNeeded, Leads}
+use Rattle.trees.specs.Depending.{directed, firsts, same_edge}
+use Rattle.trees.specs.DependingParts.{labels_of, needs_of, added, KeepsNodes, IsIndexed}
+use Rattle.trees.specs.Locking.{Package, Known, is_as, package_cmp, IsPackage, between, unrevised, Lacks, IsLabel, IsNeeded, entries_in, edges_from, Leads}
 
 -- ## Packages
 
@@ -86,3 +87,41 @@ packages_of needing = map package_of needing.packages.now
 -- it gets edges from that one to the packages that entries need
 abbrev pub AddsEntries : Needing → List Data → Network → Network → Type 0
 AddsEntries needing entries old new = IsIndexed old → AddsNeeds needing.node (AllZip (Leads (packages_of needing)) entries) old new
+
+-- the entries of a package's table lead to these places
+abbrev pub NeedPlaces : List Package → Data → List ℕ → Type 0
+NeedPlaces packages d places = AllZip (Leads packages) (entries_in d) places
+
+-- a network gets the edges of all packages
+abbrev pub AddsAll : List Data → List (Bor (List ℕ) × Bor (List ℕ) × Bor (List ℕ) × ℕ) → Network → Network → Type 0
+AddsAll tables ps old new = (all : List (List ℕ)) × AllZip (NeedPlaces (map package_of ps)) (map (table_of tables) ps) all × AddsEdges old new (edges_from 0 all)
+
+-- ## Labels
+
+-- the package at a place, and with its table
+abbrev pub package_at : List (Bor (List ℕ) × Bor (List ℕ) × Bor (List ℕ) × ℕ) → ℕ → Package
+package_at ps at = slice_index_or (map package_of ps) at (record { name = []; version = []; source = [] })
+
+abbrev pub locked_of : List Data → Bor (List ℕ) × Bor (List ℕ) × Bor (List ℕ) × ℕ → Data × Package
+locked_of tables p = (table_of tables p, package_of p)
+
+abbrev pub locked_at : List Data → List (Bor (List ℕ) × Bor (List ℕ) × Bor (List ℕ) × ℕ) → ℕ → Data × Package
+locked_at tables ps at = slice_index_or (map (locked_of tables) ps) at (boolean false, record { name = []; version = []; source = [] })
+
+-- labels get those of all packages
+abbrev pub AddsLabels : List Data → List (Bor (List ℕ) × Bor (List ℕ) × Bor (List ℕ) × ℕ) → List (String Global) → List (String Global) → Type 0
+AddsLabels tables ps old new = (texts : List (List ℕ)) × AllZip (IsLabel (map package_of ps)) (map (locked_of tables) ps) texts × (map string_bytes new ≡ map string_bytes old ++ texts)
+
+-- ## Lock files
+
+-- a network has the packages of tables in ascending order, with their labels, and the edges of their
+-- entries, each once, in the order in which they first stand
+pub record HasLocked (is_inverse : Bool) (tables : List Data) (n : Network) : Type 0 where
+  pub locked : List (Data × Package)
+  pub all : IsPermutation tables (map (λ l. l.0) locked)
+  pub each : All (λ l. IsPackage l.0 l.1) locked
+  pub ascending : IsStrictlySortedBy package_cmp (map (λ l. l.1) locked)
+  pub labels : AllZip (IsLabel (map (λ l. l.1) locked)) locked (labels_of n)
+  pub places : List (List ℕ)
+  pub leads : AllZip (λ l. NeedPlaces (map (λ l. l.1) locked) l.0) locked places
+  pub edges : needs_of n ≡ firsts same_edge (map (directed is_inverse) (edges_from 0 places))

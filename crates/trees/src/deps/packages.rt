@@ -1,11 +1,11 @@
 //! Lock files with tables `[[package]]`: `Cargo.lock`, `poetry.lock` and `uv.lock`.
 ghost use Rattle.std.specs.List.Sorted.{IsStrictlySortedBy};
 ghost use Rattle.std.specs.List.{AllAdjacentBelow};
-ghost use Rattle.std.specs.Option.{option_map_or};
-ghost use Rattle.std.specs.Prelude.{◌≡◌, ◌≢◌, false, length, map, option_copied, Decides, IfSome, IfNone, IfOk};
+ghost use Rattle.std.specs.Prelude.{◌≡◌, ◌≢◌, ◌<◌, ◌++◌, length, map, option_copied, All, Decides, IfSome, IfNone, IfOk, OnOk, string_bytes};
 ghost use Rattle.toml.specs.View.{view};
-ghost use Rattle.trees.specs.Locking.{package_cmp, same_version, IsPackage, IsVersion, text_at, source_of, source_text, without_revision};
-ghost use Rattle.trees.specs.LockingParts.{package_of, AreLocked};
+ghost use Rattle.trees.specs.Locking.{between, label_text, non_empty, package_cmp, same_version, HasTwin, IsLabel, IsListed, IsPackage, IsVersion, text_at, source_of, source_text, without_revision};
+ghost use Rattle.trees.specs.DependingParts.{IsEmpty, IsIndexed};
+ghost use Rattle.trees.specs.LockingParts.{locked_at, package_at, package_of, AddsAll, AddsLabels, AreLocked, HasLocked};
 
 use crate::deps::{Network, wrong};
 use crate::document::toml_value;
@@ -133,7 +133,7 @@ fn twice<'p, 'a>(packages: &'p [Package<'a>]) -> Option<&'p Package<'a>>
 fn is_one(one: &Package<'_>, other: &Package<'_>) -> bool
     ensures { Decides result (package_of one.now ≡ package_of other.now) }
 {
-    is_same(one, Some(other)) && one.2 == other.2
+    is_same(one, other) && one.2 == other.2
 }
 
 // Returns the package of a table.
@@ -163,15 +163,11 @@ fn package<'a>(
     }
 }
 
-// Whether a package and another one, if there is one, have one name and version.
-fn is_same(one: &Package<'_>, other: Option<&Package<'_>>) -> bool
-    ensures { result ≡ option_map_or
-        (λ p. same_version (package_of one.now) (package_of p.now)) other.entry false }
+// Whether two packages have one name and version.
+fn is_same(one: &Package<'_>, other: &Package<'_>) -> bool
+    ensures { result ≡ same_version (package_of one.now) (package_of other.now) }
 {
-    match other {
-        Some(other) => one.0 == other.0 && one.1 == other.1,
-        None => false,
-    }
+    one.0 == other.0 && one.1 == other.1
 }
 
 // Returns the text at a key of a table.
@@ -242,54 +238,108 @@ fn push_packages<'p>(
     packages: &'p [Package<'p>],
     network: &mut Network,
 ) -> Result<(), Failure>
-    requires { IsStrictlySortedBy package_cmp (map package_of packages.now) }
+    requires { AreLocked (map view tables.now) packages.now }
+    ensures { All IsListed (map view tables.now) → IsEmpty network.old → OnOk result
+        (HasLocked network.old.is_inverse (map view tables.now) network.new) }
 {
     push_labels(alloc, tables, packages, &mut network.labels)?;
-    for (node, package) in packages.iter().enumerate() {
-        if let Some(table) = tables.get(package.3) {
-            let needing = Needing {
-                input,
-                packages,
-                node,
-                name: package.0,
-            };
-            needing.push_needs(alloc, table, network)?;
-        }
+    push_edges(alloc, input, tables, packages, network)
+}
+
+// Adds what each package needs.
+fn push_edges<'p>(
+    alloc: Global,
+    input: &'p Source,
+    tables: &[Value],
+    packages: &'p [Package<'p>],
+    network: &mut Network,
+) -> Result<(), Failure>
+    requires { AreLocked (map view tables.now) packages.now }
+    ensures { All IsListed (map view tables.now) → IsIndexed network.old → OnOk result
+        (AddsAll (map view tables.now) packages.now network.old network.new) }
+{
+    for (node, locked) in packages.iter().enumerate() {
+        let needing = Needing {
+            input,
+            packages,
+            node,
+            name: locked.0,
+        };
+        needing.push_needs(alloc, &tables[locked.3], network)?;
     }
     Ok(())
 }
 
-// Adds the labels of packages, with the source if it is needed to tell them apart.
+// Adds the labels of packages.
 fn push_labels(
     alloc: Global,
     tables: &[Value],
     packages: &[Package<'_>],
     labels: &mut Vec<String>,
-) -> Result<(), AllocError> {
-    let mut before = None;
-    for (i, package) in packages.iter().enumerate() {
-        let after = packages.get(i.saturating_add(1));
-        let is_twin = is_same(package, before) || is_same(package, after);
-        let source = match tables.get(package.3) {
-            Some(table) if is_twin => source_of(table),
-            _ => "",
-        };
-        labels.push(label(alloc, package.0, package.1, source)?)?;
-        before = Some(package);
+) -> Result<(), AllocError>
+    requires { AreLocked (map view tables.now) packages.now }
+    ensures { OnOk result
+        (AddsLabels (map view tables.now) packages.now labels.old.items labels.new.items) }
+{
+    for at in 0..packages.len() {
+        labels.push(label_of(alloc, tables, packages, at)?)?;
     }
     Ok(())
 }
 
-// Returns the label of a package: its name, and its version and source if they are given.
-fn label(alloc: Global, name: &str, version: &str, source: &str) -> Result<String, AllocError> {
-    let mut label = String::from_str(alloc, name)?;
-    if !version.is_empty() {
-        write!(label, " v{version}")?;
+// Returns the label of a package, with the source if it is needed to tell it apart.
+fn label_of(
+    alloc: Global,
+    tables: &[Value],
+    packages: &[Package<'_>],
+    at: usize,
+) -> Result<String, AllocError>
+    requires locked { AreLocked (map view tables.now) packages.now }
+    requires below { at < length packages.now }
+    ensures { IfOk result (λ s. IsLabel (map package_of packages.now)
+        (locked_at (map view tables.now) packages.now at) (string_bytes s)) }
+{
+    let locked = &packages[at];
+    if has_twin(packages, at) {
+        label(alloc, locked, source_of(&tables[locked.3]))
+    } else {
+        label(alloc, locked, "")
     }
-    if !source.is_empty() {
-        write!(label, " ({source})")?;
+}
+
+// Whether another package has the name and version of the one at a position.
+fn has_twin(packages: &[Package<'_>], at: usize) -> bool
+    requires ascending { IsStrictlySortedBy package_cmp (map package_of packages.now) }
+    requires below { at < length packages.now }
+    ensures { Decides result
+        (HasTwin (map package_of packages.now) (package_at packages.now at)) }
+{
+    if at > 0 && is_same(&packages[at], &packages[at - 1]) {
+        return true;
     }
+    at + 1 < packages.len() && is_same(&packages[at], &packages[at + 1])
+}
+
+// Returns the label of a package: its name, and its version and a source if they are given.
+fn label(alloc: Global, locked: &Package<'_>, source: &str) -> Result<String, AllocError>
+    ensures { IfOk result (λ s.
+        string_bytes s ≡ label_text (package_of locked.now) source.now) }
+{
+    let mut label = String::from_str(alloc, locked.0)?;
+    push_part(&mut label, " v", locked.1, "")?;
+    push_part(&mut label, " (", source, ")")?;
     Ok(label)
+}
+
+// Adds a text between two others, if it is given.
+fn push_part(label: &mut String, before: &str, part: &str, after: &str) -> Result<(), AllocError>
+    ensures { OnOk result (string_bytes label.new
+        ≡ string_bytes label.old ++ between before.now (non_empty part.now) after.now) }
+{
+    if part.is_empty() {
+        return Ok(());
+    }
+    write!(label, "{before}{part}{after}")
 }
 
 // A package whose needs are read.
