@@ -255,8 +255,7 @@ fn steps<'a>(
             continue;
         }
         let Some(node) = node_of(packages, paths, path, meant) else {
-            let parts = [path, " links to ", meant, ", which is missing"];
-            return Err(wrong(alloc, source, &parts));
+            return Err(wrong(alloc, source, &[path, " links to ", meant, ", which is missing"]));
         };
         if let Some((folder, name)) = place(path) {
             steps.push((folders(alloc, folder)?, false, name, node))?;
