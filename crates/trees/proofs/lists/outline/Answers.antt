@@ -3,10 +3,9 @@ use Rattle.std.proofs.lemmas.Bool.{false≢true}
 use Rattle.std.proofs.lemmas.Result.{IfOk-weaker, IfErr-weaker}
 use Rattle.std.specs.Borrow.{Bor}
 use Rattle.std.specs.Prelude.{unwrap_or}
-use Rattle.ptree.specs.Tree.{Tree, tree_of}
+use Rattle.ptree.specs.Tree.{tree_of}
 use Rattle.ptree_trees.specs.declared.indented.Form.{Form}
-use Rattle.trees.specs.Outlining.{outline_lines, text_of_lines, first_indent, first_bullet, labelled_lines, IsFormOf, IsFormWithin, HoldsOutline, HoldsNoOtherOutline, FailsToOutline}
-use Rattle.trees.specs.Reading.{FailsToMake}
+use Rattle.trees.specs.Outlining.{outline_lines, text_of_lines, first_indent, first_bullet, labelled_lines, IsFormOf}
 use Rattle.trees.proofs.Outlines.{form_is, IsTextOf, text_is, within_held, held_within, outline_fails, form_fails}
 use Rattle.trees.proofs.lists.outline.Goals.{After-unwrap_or-2}
 use Rattle.trees.proofs.lists.outline.Goals as goal
