@@ -1,5 +1,6 @@
 pub mod Beginnings
 pub mod Conversions
+pub mod DeepLines
 pub mod DistinctTexts
 pub mod Examples
 pub mod Fronts

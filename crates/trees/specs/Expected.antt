@@ -70,12 +70,16 @@ IsHint config lines hint =
     ⊎ (((name : List ℕ) × (hint ≡ codes "\nit is a drawing with --as " ++ name))
     ⊎ ((listed : List ℕ) × (hint ≡ codes "\nexpected one of:" ++ listed) × ListsBeginnings config lines listed))
 
+-- a line begins with the pieces of an item below level 5,000
+abbrev pub IsTooDeep : Pieces → List ℕ → Type 0
+IsTooDeep p line = (beginning : List ℕ) × ArePiecesAt p 5001 beginning × IsPrefixOf beginning line
+
 -- what is said of a wrong line: that it has too many levels, or the line, escaped, and a hint
 abbrev pub TellsLine : ConfigValue → List ℕ → ℕ → List ℕ → Type 0
 TellsLine config text n said =
-    (said ≡ codes "more than 5,000 levels")
-    ⊎ ((line : List ℕ) × (hint : List ℕ) × IsLineAt text n line × IsHint config (first_lines (n - 1) text) hint
-    × (said ≡ codes "cannot continue the drawing:\n  " ++ (escaped_text line ++ hint)))
+    (line : List ℕ) × IsLineAt text n line
+    × (((said ≡ codes "more than 5,000 levels") × IsTooDeep (pieces_from config.characters config.indent config.padding) line)
+    ⊎ ((hint : List ℕ) × IsHint config (first_lines (n - 1) text) hint × (said ≡ codes "cannot continue the drawing:\n  " ++ (escaped_text line ++ hint))))
 
 -- ## Parts
 

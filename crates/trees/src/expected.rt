@@ -1,10 +1,10 @@
 //! What could stand in the place of a wrong line.
 ghost use Rattle.std.specs.Prelude.{◌≡◌, ◌≢◌, ◌↔◌, ◌⊎◌, ℕ, Bool, List, [], ◌∷◌, ◌++◌, map, IsTrue, IfOk, MatchOption, OnOk, string_bytes};
 ghost use Rattle.ptree.specs.Config.{config_of};
-ghost use Rattle.ptree.specs.Pieces.{passing_piece, pieces_of};
+ghost use Rattle.ptree.specs.Pieces.{passing_piece, config_pieces, pieces_of};
 ghost use Rattle.ptree.specs.Readable.{IsReadable, HasReadablePieces};
 ghost use Rattle.ptree.specs.Texts.{line_feed, IsPrefixOf};
-ghost use Rattle.trees.specs.Expected.{CanFollow, ListsBeginnings, IsLastLine, AddsListed, EndsPieces, EndsBelow, ShowsSibling, AreFronts, HasFronts, AddsTexts};
+ghost use Rattle.trees.specs.Expected.{CanFollow, ListsBeginnings, IsTooDeep, IsLastLine, AddsListed, EndsPieces, EndsBelow, ShowsSibling, AreFronts, HasFronts, AddsTexts};
 
 use crate::levels;
 use crate::source::behind;
@@ -178,7 +178,10 @@ fn last_line(text: &str) -> &str
 /// # Errors
 ///
 /// Memory ran out.
-pub fn is_too_deep(alloc: Global, line: &str, config: &PrintConfig) -> Result<bool, AllocError> {
+pub fn is_too_deep(alloc: Global, line: &str, config: &PrintConfig) -> Result<bool, AllocError>
+    ensures { IfOk result (λ is_deep.
+        IsTrue is_deep → IsTooDeep (config_pieces config.now) line.now) }
+{
     if line.len() <= levels::LEVELS as usize {
         return Ok(false);
     }
@@ -187,7 +190,9 @@ pub fn is_too_deep(alloc: Global, line: &str, config: &PrintConfig) -> Result<bo
 }
 
 // Whether the piece of an item stands behind as many passing pieces as there are levels.
-fn has_more_pieces(indent: &Indent, line: &str) -> bool {
+fn has_more_pieces(indent: &Indent, line: &str) -> bool
+    ensures { IsTrue result → IsTooDeep (pieces_of indent.now) line.now }
+{
     let mut rest = line;
     for _level in 0..levels::LEVELS {
         let Some((_, left)) = passing(indent, rest) else {
