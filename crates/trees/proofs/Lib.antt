@@ -17,6 +17,7 @@ pub mod LockedLabels
 pub mod LockedNetworks
 pub mod LockedPackages
 pub mod LockedTables
+pub mod LockedTuples
 pub mod LockedTwins
 pub mod Merges
 pub mod MergeDrawings

@@ -8,7 +8,7 @@ use Rattle.trees.specs.DependingParts.{IsIndexed}
 use Rattle.trees.specs.Locking.{edges_from}
 use Rattle.trees.specs.LockingParts.{package_of, table_of, AddsEdges, AddsNeeds, AddsAll, NeedPlaces}
 use Rattle.trees.proofs.LockedEdges.{edges_none, edges_both}
-use Rattle.trees.proofs.LockedPackages.{Tuple}
+use Rattle.trees.proofs.LockedTuples.{Tuple}
 use Rattle.trees.proofs.Reports.{zip_push}
 
 length_zip : {X Y : Type 0} (R : X → Y → Type 0) (xs : List X) (ys : List Y) → AllZip R xs ys → length ys ≡ length xs

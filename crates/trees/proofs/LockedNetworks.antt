@@ -1,5 +1,5 @@
 -- Networks of lock files.
-use Rattle.std.proofs.Common.{◌≡◌, ◌∙◌, ℕ, ◌<◌, Bool, List, [], ◌∷◌, ◌++◌, length, map, refl, sym, ap, subst, arith}
+use Rattle.std.proofs.Common.{◌≡◌, ◌∙◌, ℕ, ◌<◌, List, [], ◌∷◌, ◌++◌, length, map, sym, ap, subst, arith}
 use Rattle.std.proofs.lemmas.List.{get_or-map, length-map}
 use Rattle.std.specs.List.{AllZip}
 use Rattle.std.specs.List.Sorted.{IsPermutation, IsStrictlySortedBy}
@@ -14,7 +14,7 @@ use Rattle.trees.specs.DependingParts.{added, IsEmpty, IsIndexed}
 use Rattle.trees.specs.Locking.{Package, package_cmp, edges_from, IsLabel, IsPackage}
 use Rattle.trees.specs.LockingParts.{locked_of, package_of, table_of, AddsAll, AddsLabels, AreLocked, HasLocked, NeedPlaces}
 use Rattle.trees.proofs.LockedEdges.{first_edges}
-use Rattle.trees.proofs.LockedPackages.{Tuple, no_tuple}
+use Rattle.trees.proofs.LockedTuples.{Tuple, no_tuple}
 use Rattle.trees.proofs.Networks.{indexed_none}
 
 zip_with_tables : (packages : List Package) (tables : List Data) (ps : List Tuple) (all : List (List ℕ)) → AllZip (NeedPlaces packages) (map (table_of tables) ps) all → AllZip (λ l. NeedPlaces packages l.0) (map (locked_of tables) ps) all

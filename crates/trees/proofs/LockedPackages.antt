@@ -1,16 +1,15 @@
 -- Packages in ascending order, and those that are as known.
-use Rattle.std.proofs.Common.{◌≡◌, ◌∙◌, ℕ, ◌+◌, ◌<◌, ◌≤◌, ◌&&◌, Bool, true, false, List, [], ◌∷◌, length, get_or, map, inl, inr, refl, sym, ap, subst, arith}
+use Rattle.std.proofs.Common.{◌≡◌, ◌∙◌, ℕ, ◌+◌, ◌<◌, ◌≤◌, ◌&&◌, true, false, List, [], ◌∷◌, length, get_or, inl, inr, refl, sym, ap, subst, arith}
 use Rattle.std.proofs.lemmas.Bool.{false≢true, false_from_ne_true, and_parts, and_from, cases_lt}
 use Rattle.std.proofs.lemmas.Cmp.{nat_list_cmp_total, on_total, then_total, tied_itself}
-use Rattle.std.proofs.lemmas.List.{get_or_default, get_or-map, length-map}
+use Rattle.std.proofs.lemmas.List.{get_or_default}
 use Rattle.std.proofs.lemmas.Map.Keys.{Less-from_sorted}
 use Rattle.std.proofs.lemmas.Map.Lookups.{exact_bytes}
 use Rattle.std.proofs.lemmas.Slice.Eq.{bytes_eq-Decides}
 use Rattle.std.specs.Cmp.{IsTotalOrder}
 use Rattle.std.specs.Cmp.Lexicographic.{slice_cmp}
 use Rattle.std.specs.List.{HoldsAt}
-use Rattle.std.specs.Borrow.{Bor}
-use Rattle.std.specs.List.Sorted.{IsStrictlySortedBy, IsPartitionedBy, IsPartitionPoint}
+use Rattle.std.specs.List.Sorted.{IsStrictlySortedBy}
 use Rattle.std.specs.Ordering.{is_lt, nat_cmp, ordering_reverse, ordering_then}
 use Rattle.std.specs.Prelude.{Option, Some, None, unwrap_or, is_some}
 use Rattle.std.specs.Str.{bytes_eq}
@@ -19,7 +18,7 @@ use Rattle.std.specs.declared.cmp.Ordering.TheVariants.{Less, Equal, Greater}
 use Rattle.trees.specs.declared.deps.packages.Fault.TheVariants.{Missing, Several}
 use Rattle.trees.specs.Listing.{is_empty}
 use Rattle.trees.specs.Locking.{Package, Known, package_cmp, is_known, is_as, is_in_folder, IsNeeded}
-use Rattle.trees.specs.LockingParts.{package_of, least, IsNamed, IsStart, IsAt, IsFaulty}
+use Rattle.trees.specs.LockingParts.{least, IsNamed, IsStart, IsAt, IsFaulty}
 
 -- ## Texts
 
@@ -84,7 +83,7 @@ pub package_total : IsTotalOrder package_cmp
 package_total = then_total (on_total (λ (p : Package). p.name) nat_list_cmp_total) (then_total (on_total (λ (p : Package). p.version) nat_list_cmp_total) (on_total (λ (p : Package). p.source) nat_list_cmp_total))
 
 -- one that is not above another is below what that is below
-lower : (p q r : Package) → is_lt (package_cmp q p) ≡ false → is_lt (package_cmp q r) ≡ true → is_lt (package_cmp p r) ≡ true
+pub lower : (p q r : Package) → is_lt (package_cmp q p) ≡ false → is_lt (package_cmp q r) ≡ true → is_lt (package_cmp p r) ≡ true
 lower p q r order is = by (package_cmp p q) refl where
   less : (o : Ordering) → is_lt o ≡ true → o ≡ Less
   less Less e = refl
@@ -231,31 +230,3 @@ module _ (ps : List Package) (known : Known) where
             | inr only ↦ (let one : at ≡ k = only at is.0 is.1 in let two : at + 1 ≡ k = only (at + 1) next.0 next.1 in omega arith)
           ],
     )
-
--- ## A search
-
--- a package as the code has it
-abbrev pub Tuple : Type 0
-Tuple = Bor (List ℕ) × Bor (List ℕ) × Bor (List ℕ) × ℕ
-
-abbrev pub no_tuple : Tuple
-no_tuple = (record { ref_ptr = (0, 0); now = [] }, record { ref_ptr = (0, 0); now = [] }, record { ref_ptr = (0, 0); now = [] }, 0)
-
-module _ (ps : List Tuple) (known : Known) where
-  -- whether a package is below all that can be as known
-  abbrev pub is_behind : Tuple → Bool
-  is_behind p = is_lt (package_cmp (package_of p) (least known))
-
-  pub behind_first : IsStrictlySortedBy package_cmp (map package_of ps) → IsPartitionedBy is_behind ps
-  behind_first up = λ i j d le low is.
-      let one : get_or (map package_of ps) i nothing ≡ package_of (get_or ps i d) = get_or-map package_of ps i d nothing (omega arith) in
-      let two : get_or (map package_of ps) j nothing ≡ package_of (get_or ps j d) = get_or-map package_of ps j d nothing low in
-      let within : j < length (map package_of ps) = omega (arith, length-map ps package_of) in
-      let order : is_lt (package_cmp (package_of (get_or ps j d)) (package_of (get_or ps i d))) ≡ false = ap is_lt (ap (λ (p : Package). package_cmp p (package_of (get_or ps i d))) (sym two) ∙ ap (package_cmp (get_or (map package_of ps) j nothing)) (sym one)) ∙ in_order (map package_of ps) up i j le within in
-      lower (package_of (get_or ps i d)) (package_of (get_or ps j d)) (least known) order is
-
-  pub start_found : (i : ℕ) → i ≤ length ps → IsPartitionPoint (λ p. is_behind p ≡ true) (λ p. is_behind p ≡ false) ps i → IsStart (map package_of ps) known i
-  start_found i le point = record {
-    before = λ k d zero low. ap (λ (p : Package). is_lt (package_cmp p (least known))) (get_or-map package_of ps k no_tuple d (omega arith)) ∙ point.0 k no_tuple zero low;
-    behind = λ k d from low. (let within : k < length ps = omega (arith, length-map ps package_of) in ap (λ (p : Package). is_lt (package_cmp p (least known))) (get_or-map package_of ps k no_tuple d within) ∙ point.1 k no_tuple from within);
-  }

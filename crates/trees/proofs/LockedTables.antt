@@ -15,7 +15,8 @@ use Rattle.std.specs.declared.cmp.Ordering.TheVariants.{Less, Equal, Greater}
 use Rattle.toml.specs.Data.{Data, boolean}
 use Rattle.trees.specs.Locking.{Package, package_cmp, IsPackage}
 use Rattle.trees.specs.LockingParts.{package_of, table_of, AreLocked}
-use Rattle.trees.proofs.LockedPackages.{Tuple, no_tuple, nothing, package_total}
+use Rattle.trees.proofs.LockedPackages.{nothing, package_total}
+use Rattle.trees.proofs.LockedTuples.{Tuple, no_tuple}
 
 -- ## Tables
 

@@ -3,7 +3,7 @@ use Rattle.std.specs.Cmp.Lexicographic.{slice_cmp}
 use Rattle.std.specs.List.{before_first}
 use Rattle.std.specs.Option.{option_and, option_and_then, option_or}
 use Rattle.std.specs.Ordering.{nat_cmp, ordering_then}
-use Rattle.std.specs.Prelude.{◌≡◌, ◌≢◌, ◌+◌, ◌<◌, ◌⊎◌, ◌==◌, ◌&&◌, ℕ, Bool, true, is_some, List, [], ◌∷◌, ◌++◌, codes, flat_map, length, map, Contains, HoldsAt, Option, Some, None, IfSome, IsSome, MatchOption, option_map, unwrap_or}
+use Rattle.std.specs.Prelude.{◌≡◌, ◌≢◌, ◌+◌, ◌<◌, ◌⊎◌, ◌==◌, ◌&&◌, ℕ, Bool, true, false, is_some, List, [], ◌∷◌, ◌++◌, codes, flat_map, length, map, All, Contains, HoldsAt, Option, Some, None, IfSome, IsSome, MatchOption, option_map, unwrap_or}
 use Rattle.std.specs.Str.{bytes_eq}
 use Rattle.std.specs.declared.cmp.Ordering.{Ordering}
 use Rattle.toml.specs.Data.{Data, string, array, table, Items, no_items, item, Members, no_members, member, get, get_member, as_str, as_table}
@@ -162,6 +162,22 @@ IsListed d = (needs : Members) → get (codes "dependencies") d ≢ Some (table 
 abbrev pub edges_from : ℕ → List (List ℕ) → List (ℕ × ℕ)
 edges_from node [] = []
 edges_from node (places ∷ more) = map (λ at. (node, at)) places ++ edges_from (node + 1) more
+
+-- ## Lock files
+
+-- the tables of packages
+abbrev pub tables_in : Data → List Data
+tables_in d = entries_at entries_of (codes "package") d
+
+-- whether a lock file has a hash of what it was made from, as a poetry.lock has
+abbrev pub has_hash : Data → Bool
+has_hash d = is_some (option_and_then (get (codes "content-hash")) (get (codes "metadata") d))
+
+-- a lock file is none of poetry, and has no package besides its tables
+pub record IsPlain (d : Data) : Type 0 where
+  pub root : get (codes "root") d ≡ None
+  pub hash : has_hash d ≡ false
+  pub listed : All IsListed (tables_in d)
 
 -- ## Labels
 

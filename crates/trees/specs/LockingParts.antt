@@ -11,9 +11,13 @@ use Rattle.trees.specs.declared.deps.packages.Fault.{Fault}
 use Rattle.trees.specs.declared.deps.packages.Fault.TheVariants.{Missing, Several}
 use Rattle.trees.specs.declared.deps.packages.Need.{Need}
 use Rattle.trees.specs.declared.deps.packages.Needing.{Needing}
+use Rattle.ptree.specs.File.{toml}
+use Rattle.ptree.specs.declared.value.document.DocFormat.TheVariants.{Toml}
+use Rattle.trees.specs.declared.source.Source.{Source}
+use Rattle.trees.specs.Documents.{IsDocumentOf}
 use Rattle.trees.specs.Depending.{directed, firsts, same_edge}
 use Rattle.trees.specs.DependingParts.{labels_of, needs_of, added, KeepsNodes, IsIndexed}
-use Rattle.trees.specs.Locking.{Package, Known, is_as, package_cmp, IsPackage, between, unrevised, Lacks, IsLabel, IsNeeded, entries_in, edges_from, Leads}
+use Rattle.trees.specs.Locking.{Package, Known, is_as, package_cmp, IsPackage, between, unrevised, Lacks, IsLabel, IsNeeded, IsPlain, tables_in, entries_in, edges_from, Leads}
 
 -- ## Packages
 
@@ -125,3 +129,7 @@ pub record HasLocked (is_inverse : Bool) (tables : List Data) (n : Network) : Ty
   pub places : List (List ℕ)
   pub leads : AllZip (λ l. NeedPlaces (map (λ l. l.1) locked) l.0) locked places
   pub edges : needs_of n ≡ firsts same_edge (map (directed is_inverse) (edges_from 0 places))
+
+-- a source is the document of a lock file; of a plain one the network has the packages
+abbrev pub HoldsLocked : Source → Bool → Network → Type 0
+HoldsLocked source is_inverse n = (d : Data) × IsDocumentOf Toml source (toml d) × (IsPlain d → HasLocked is_inverse (tables_in d) n)

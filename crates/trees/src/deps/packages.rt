@@ -1,11 +1,12 @@
 //! Lock files with tables `[[package]]`: `Cargo.lock`, `poetry.lock` and `uv.lock`.
 ghost use Rattle.std.specs.List.Sorted.{IsStrictlySortedBy};
 ghost use Rattle.std.specs.List.{AllAdjacentBelow};
-ghost use Rattle.std.specs.Prelude.{◌≡◌, ◌≢◌, ◌<◌, ◌++◌, length, map, option_copied, All, Decides, IfSome, IfNone, IfOk, OnOk, string_bytes};
+ghost use Rattle.std.specs.Prelude.{◌≡◌, ◌≢◌, ◌<◌, ◌++◌, false, length, map, option_copied, All, Decides, IfSome, IfNone, IfOk, None, OnOk, codes, string_bytes};
+ghost use Rattle.toml.specs.Data.{get};
 ghost use Rattle.toml.specs.View.{view};
-ghost use Rattle.trees.specs.Locking.{between, label_text, non_empty, package_cmp, same_version, HasTwin, IsLabel, IsListed, IsPackage, IsVersion, text_at, source_of, source_text, without_revision};
+ghost use Rattle.trees.specs.Locking.{between, label_text, non_empty, package_cmp, same_version, tables_in, has_hash, HasTwin, IsLabel, IsListed, IsPlain, IsPackage, IsVersion, text_at, source_of, source_text, without_revision};
 ghost use Rattle.trees.specs.DependingParts.{IsEmpty, IsIndexed};
-ghost use Rattle.trees.specs.LockingParts.{locked_at, package_at, package_of, AddsAll, AddsLabels, AreLocked, HasLocked};
+ghost use Rattle.trees.specs.LockingParts.{locked_at, package_at, package_of, AddsAll, AddsLabels, AreLocked, HasLocked, HoldsLocked};
 
 use crate::deps::{Network, wrong};
 use crate::document::toml_value;
@@ -24,7 +25,10 @@ const REPLACED: &str = " is replaced, which is not supported";
 /// # Errors
 ///
 /// `Input` if the text is no such file, and `Memory`.
-pub fn toml_lock(alloc: Global, input: &Source, network: &mut Network) -> Result<(), Failure> {
+pub fn toml_lock(alloc: Global, input: &Source, network: &mut Network) -> Result<(), Failure>
+    ensures { IsEmpty network.old → OnOk result
+        (HoldsLocked input.now network.old.is_inverse network.new) }
+{
     let mut lock = toml_value(alloc, input)?;
     read(alloc, input, &mut lock, network)
 }
@@ -35,7 +39,10 @@ fn read(
     input: &Source,
     lock: &mut Value,
     network: &mut Network,
-) -> Result<(), Failure> {
+) -> Result<(), Failure>
+    ensures { IsPlain (view lock.old) → IsEmpty network.old → OnOk result
+        (HasLocked network.old.is_inverse (tables_in (view lock.old)) network.new) }
+{
     let tables = tables(alloc, input, lock)?;
     let packages = packages(alloc, input, tables)?;
     push_packages(alloc, input, tables, &packages, network)
@@ -43,30 +50,83 @@ fn read(
 
 // Returns the tables of packages. The first versions of Cargo.lock have one of them as `[root]`. In
 // a poetry.lock their names get the form that names are compared in.
-fn tables<'a>(alloc: Global, input: &Source, lock: &'a mut Value) -> Result<&'a [Value], Failure> {
-    let root = match lock.as_table_mut() {
-        Some(lock) => lock.remove("root"),
-        None => None,
-    };
-    let has_hash = match lock.get("metadata") {
-        Some(metadata) => metadata.get("content-hash").is_some(),
-        None => false,
-    };
-    let Some(Value::Array(tables)) = lock.get_mut("package") else {
+fn tables<'a>(alloc: Global, input: &Source, lock: &'a mut Value) -> Result<&'a [Value], Failure>
+    ensures { IsPlain (view lock.old) → IfOk result
+        (λ tables. map view tables.now ≡ tables_in (view lock.old)) }
+{
+    let root = take_root(lock);
+    let has_hash = has_hash(lock);
+    let Some(list) = lock.get_mut("package") else {
         return Err(wrong(alloc, input, &["no packages"]));
     };
-    if let Some(root) = root {
-        tables.insert(0, root)?;
-    }
-    if has_hash || tables.iter().any(has_table_of_needs) {
-        normalize(alloc, tables)?;
-    }
+    let Some(tables) = list.as_array_mut() else {
+        return Err(wrong(alloc, input, &["no packages"]));
+    };
+    complete(alloc, root, has_hash, tables)?;
     Ok(tables.as_slice())
 }
 
+// Takes the table `root` out of a lock file, if it has one.
+fn take_root(lock: &mut Value) -> Option<Value>
+    ensures none { get (codes "root") (view lock.old) ≡ None → result ≡ None }
+    ensures same { get (codes "root") (view lock.old) ≡ None → lock.new ≡ lock.old }
+{
+    if lock.get("root").is_none() {
+        return None;
+    }
+    lock.as_table_mut()?.remove("root")
+}
+
+// Adds a root to tables, and brings the names of Python packages into the form that they are
+// compared in.
+fn complete(
+    alloc: Global,
+    root: Option<Value>,
+    has_hash: bool,
+    tables: &mut Vec<Value>,
+) -> Result<(), Failure>
+    ensures { root ≡ None → has_hash ≡ false → All IsListed (map view tables.old.items)
+        → OnOk result (tables.new.items ≡ tables.old.items) }
+{
+    if let Some(root) = root {
+        tables.insert(0, root)?;
+    }
+    if has_hash || has_tables_of_needs(tables) {
+        normalize(alloc, tables)?;
+    }
+    Ok(())
+}
+
+// Whether a lock file has a hash of what it was made from, as a `poetry.lock` has.
+fn has_hash(lock: &Value) -> bool
+    ensures { result ≡ has_hash (view lock.now) }
+{
+    match lock.get("metadata") {
+        Some(metadata) => metadata.get("content-hash").is_some(),
+        None => false,
+    }
+}
+
+// Whether some packages have their dependencies in tables.
+fn has_tables_of_needs(tables: &[Value]) -> bool
+    ensures { All IsListed (map view tables.now) → result ≡ false }
+{
+    for table in tables {
+        if has_table_of_needs(table) {
+            return true;
+        }
+    }
+    false
+}
+
 // Whether a package has its dependencies in a table, as in `poetry.lock`.
-fn has_table_of_needs(table: &Value) -> bool {
-    matches!(table.get("dependencies"), Some(Value::Table(_)))
+fn has_table_of_needs(table: &Value) -> bool
+    ensures { IsListed (view table.now) → result ≡ false }
+{
+    match table.get("dependencies") {
+        Some(needs) => needs.is_table(),
+        None => false,
+    }
 }
 
 // Brings the names of Python packages into the form that names are compared in.
@@ -621,7 +681,8 @@ impl<'a> Need<'a> {
 
     // Returns the package at a position, if it is as known.
     fn at<'p, 'q>(&self, packages: &'p [Package<'q>], at: usize) -> Option<&'p Package<'q>>
-        ensures known { MatchOption result (IsAt (map package_of packages.now) (known_of self.now) at → ⊥)
+        ensures known { MatchOption result
+            (IsAt (map package_of packages.now) (known_of self.now) at → ⊥)
             (λ p. IsAt (map package_of packages.now) (known_of self.now) at
             × HoldsAt (λ q. q ≡ package_of p.now) (map package_of packages.now) at) }
         ensures fits { length packages.now < 2 ^ 64 }

@@ -1,4 +1,4 @@
-use Rattle.std.proofs.Common.{◌<◌, ◌∙◌, false, length, sym, ap, subst, arith, rules}
+use Rattle.std.proofs.Common.{◌<◌, ◌∙◌, false, length, sym, ap, arith}
 use Rattle.std.proofs.lemmas.Bool.{false≢true}
 use Rattle.std.proofs.lemmas.List.{get_or-map, length-map}
 use Rattle.std.specs.Prelude.{get_or, map}
@@ -6,7 +6,7 @@ use Rattle.toml.specs.Data.{boolean}
 use Rattle.toml.specs.View.{view}
 use Rattle.trees.specs.Locking.{source_of}
 use Rattle.trees.proofs.LockedLabels.{label_twin, label_alone}
-use Rattle.trees.proofs.LockedPackages.{no_tuple}
+use Rattle.trees.proofs.LockedTuples.{no_tuple}
 use Rattle.trees.proofs.deps.packages.label_of.Goals as goal
 
 pub returns-then-has_twin : goal.returns-then-has_twin

@@ -5,7 +5,7 @@ use Rattle.toml.specs.Data.{boolean}
 use Rattle.toml.specs.View.{view}
 use Rattle.trees.specs.Locking.{IsPackage}
 use Rattle.trees.specs.LockingParts.{package_of}
-use Rattle.trees.proofs.LockedPackages.{Tuple}
+use Rattle.trees.proofs.LockedTuples.{Tuple}
 use Rattle.trees.proofs.LockedTables.{AreRead, none_read, more_read, all_locked}
 use Rattle.trees.proofs.deps.packages.packages.Goals as goal
 

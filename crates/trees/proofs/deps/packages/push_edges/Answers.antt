@@ -6,7 +6,7 @@ use Rattle.trees.specs.DependingParts.{IsIndexed}
 use Rattle.trees.specs.Locking.{IsListed}
 use Rattle.trees.specs.LockingParts.{package_of, table_of, AddsNeeds, NeedPlaces}
 use Rattle.trees.proofs.LockedGraphs.{first_none, first_more, first_all}
-use Rattle.trees.proofs.LockedPackages.{no_tuple}
+use Rattle.trees.proofs.LockedTuples.{no_tuple}
 use Rattle.trees.proofs.deps.packages.push_edges.Goals as goal
 
 pub loop-node-init : goal.loop-node-init

@@ -3,7 +3,8 @@ use Rattle.std.proofs.lemmas.Bool.{false≢true}
 use Rattle.std.proofs.lemmas.List.{get_or-map, length-map}
 use Rattle.trees.specs.Locking.{is_as}
 use Rattle.trees.specs.LockingParts.{package_of, known_of}
-use Rattle.trees.proofs.LockedPackages.{nothing, no_tuple}
+use Rattle.trees.proofs.LockedPackages.{nothing}
+use Rattle.trees.proofs.LockedTuples.{no_tuple}
 use Rattle.trees.proofs.deps.packages.Need.at.Goals as goal
 use Rattle.trees.proofs.deps.packages.Need.at.Goals.{else-at-packages-via-then-at-packages+else-is, else-at-packages-via-else-at-packages}
 

@@ -1,7 +1,7 @@
 use Rattle.std.proofs.Common.{rules}
 use Rattle.std.proofs.lemmas.List.Sorted.{IsPartitionPoint-from_clause}
 use Rattle.trees.specs.LockingParts.{known_of}
-use Rattle.trees.proofs.LockedPackages.{is_behind, behind_first, start_found}
+use Rattle.trees.proofs.LockedTuples.{is_behind, behind_first, start_found}
 use Rattle.trees.proofs.deps.packages.Need.start.Goals as goal
 
 pub returns : goal.returns
