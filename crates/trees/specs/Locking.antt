@@ -1,4 +1,4 @@
--- Which packages a lock file with tables `[[package]]` has, and which of them an entry needs.
+-- Which packages a lock file with tables `[[package]]` has, their labels, and which of them an entry needs.
 use Rattle.std.specs.Cmp.Lexicographic.{slice_cmp}
 use Rattle.std.specs.List.{before_first}
 use Rattle.std.specs.Option.{option_and, option_and_then, option_or}
@@ -77,6 +77,7 @@ pub record IsNeedText (text : List ℕ) (known : Known) : Type 0 where
 abbrev pub without_revision : List ℕ → List ℕ
 without_revision source = before_first (λ b. b == 35) source
 
+-- what is known, with the source so
 abbrev pub unrevised : Known → Known
 unrevised known = record known { source = option_map without_revision known.source }
 
@@ -124,10 +125,12 @@ IsNeed entry known = MatchOption (as_str entry) (IsNeedTable entry known) (λ te
 
 -- ## Entries
 
+-- the elements of a list
 abbrev pub listed : Items → List Data
 listed no_items = []
 listed (item d items) = d ∷ listed items
 
+-- the values of a table
 abbrev pub values_of : Members → List Data
 values_of no_members = []
 values_of (member key d members) = d ∷ values_of members
@@ -185,6 +188,7 @@ pub record IsPlain (d : Data) : Type 0 where
 abbrev pub HasTwin : List Package → Package → Type 0
 HasTwin packages p = (q : Package) × Contains packages q × (q ≢ p) × (same_version p q ≡ true)
 
+-- a text, if it is not empty
 abbrev pub non_empty : List ℕ → Option (List ℕ)
 non_empty [] = None
 non_empty (b ∷ bs) = Some (b ∷ bs)
