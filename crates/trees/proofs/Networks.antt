@@ -7,10 +7,12 @@ use Rattle.std.proofs.lemmas.Map.Views.{any-filter_same}
 use Rattle.std.proofs.lemmas.Bool.Decides.{nat_tests}
 use Rattle.std.specs.Borrow.{Bor}
 use Rattle.std.specs.List.{list_any}
+use Rattle.std.specs.Ordering.{is_eq}
 use Rattle.std.specs.Prelude.{filter, string_bytes}
+use Rattle.ptree.specs.Graph.{numbers_of}
 use Rattle.trees.specs.declared.deps.Network.{Network}
 use Rattle.trees.specs.Depending.{number, is_need, directed, edge_of, same_edge, firsts, edges_between}
-use Rattle.trees.specs.DependingParts.{texts_of, labels_of, needs_of, added, AddsEdge, IsIndexed, HasNeeds}
+use Rattle.trees.specs.DependingParts.{texts_of, labels_of, needs_of, edge_cmp, added, AddsEdge, IsIndexed, HasNeeds}
 
 -- ## Elements once
 
@@ -85,6 +87,11 @@ module _ (is_inverse : Bool) (names : List (List ℕ)) (pairs : List (List ℕ �
   edges_more e = ap (firsts same_edge) (needs_pushed true e) ∙ firsts_push same_edge edge_exact edge_flips (map (edge_of is_inverse names) (filter is_need pairs)) (edge_of is_inverse names p)
 
 -- ## Networks
+
+-- a network without edges is indexed
+pub indexed_none : (n : Network) → n.edges.items ≡ [] → n.sorted.keys ≡ [] → IsIndexed n
+indexed_none n edges keys e =
+    ap (list_any (λ (k : ℕ × ℕ). is_eq (edge_cmp e k))) keys ∙ sym (ap (λ es. list_any (same_edge e) (map numbers_of es)) edges)
 
 -- a network that gets names
 pub record HasNames (old new : Network) (names : List (Bor (List ℕ))) : Type 0 where
