@@ -532,14 +532,23 @@ impl<'p> Needing<'p> {
                 let parts = [self.name, " has an invalid dependency"];
                 return Err(wrong(alloc, self.input, &parts));
             }
-            let normal = normalized(alloc, name.as_str())?;
-            match Need::of(normal.as_str()).find(self.packages) {
-                Ok(at) => network.add_need(self.node, at)?,
-                Err(Fault::Missing) => {}
-                Err(why) => return Err(self.faulty(alloc, name.as_str(), why)),
+            if let Some(at) = self.locked_place(alloc, name.as_str())? {
+                network.add_need(self.node, at)?;
             }
         }
         Ok(())
+    }
+
+    // Returns the place of the package with a name in a table of `poetry.lock`, if it is locked.
+    fn locked_place(&self, alloc: Global, name: &str) -> Result<Option<usize>, Failure>
+        requires { IsStrictlySortedBy package_cmp (packages_of self.now) }
+    {
+        let normal = normalized(alloc, name)?;
+        match Need::of(normal.as_str()).find(self.packages) {
+            Ok(at) => Ok(Some(at)),
+            Err(Fault::Missing) => Ok(None),
+            Err(why) => Err(self.faulty(alloc, name, why)),
+        }
     }
 
     // Says that it needs what is not there, or what is there several times.
