@@ -255,7 +255,8 @@ fn steps<'a>(
             continue;
         }
         let Some(node) = node_of(packages, paths, path, meant) else {
-            return Err(wrong(alloc, source, &[path, " links to ", meant, ", which is missing"]));
+            let parts = [path, " links to ", meant, ", which is missing"];
+            return Err(wrong(alloc, source, &parts));
         };
         if let Some((folder, name)) = place(path) {
             steps.push((folders(alloc, folder)?, false, name, node))?;
