@@ -29,6 +29,8 @@ pub mod NeedTexts
 pub mod Networks
 pub mod NextFronts
 pub mod NextItems
+pub mod NpmPackages
+pub mod NpmPaths
 pub mod OpenLevels
 pub mod Outlines
 pub mod OutlinesBack

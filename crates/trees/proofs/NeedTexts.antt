@@ -9,11 +9,11 @@ use Rattle.trees.specs.LockingParts.{known_of, IsWhole, IsBehind}
 
 -- ## Parts of texts
 
-at_front : (xs ys : List ℕ) (c : ℕ) → get_or (xs ++ c ∷ ys) (length xs) 0 ≡ c
+pub at_front : (xs ys : List ℕ) (c : ℕ) → get_or (xs ++ c ∷ ys) (length xs) 0 ≡ c
 at_front [] ys c = refl
 at_front (x ∷ xs) ys c = at_front xs ys c
 
-behind_front : (xs ys : List ℕ) → drop (length xs) (xs ++ ys) ≡ ys
+pub behind_front : (xs ys : List ℕ) → drop (length xs) (xs ++ ys) ≡ ys
 behind_front [] ys = refl
 behind_front (x ∷ xs) ys = behind_front xs ys
 

@@ -28,6 +28,10 @@ pub mod DependingParts
 pub mod Locking
 -- what the parts of reading lock files do
 pub mod LockingParts
+-- which packages a package-lock.json has, and their labels
+pub mod Npm
+-- what the parts of reading it do
+pub mod NpmParts
 -- what calls write
 pub mod Writing
 -- documents, their parts and trees

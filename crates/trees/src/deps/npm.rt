@@ -1,4 +1,11 @@
 //! Lock files of npm.
+ghost use Rattle.std.specs.Prelude.{◌≡◌, ℕ, false, true, [], ◌∷◌, ◌++◌, codes, map, List, MatchOption, option_copied, IfSome, IfOk, OnOk, string_bytes};
+ghost use Rattle.serde_json.specs.View.{view, members_view};
+ghost use Rattle.trees.specs.DependingParts.{IsEmpty, IsIndexed};
+ghost use Rattle.trees.specs.Documents.{IsLastPart};
+ghost use Rattle.trees.specs.LockingParts.{AddsEdges};
+ghost use Rattle.trees.specs.Npm.{path_in, packages_in, listed, text_at, is_link, other_name, behind, IsName, IsRootName, IsCalled, IsLabel, AreAscending, HasNoLinks, HasPackages, HoldsPackages};
+ghost use Rattle.trees.specs.NpmParts.{AddsPackages, AddsInOrder, edge_of};
 
 use crate::deps::{Network, wrong};
 use crate::document::json_value;
@@ -35,29 +42,47 @@ const OTHER: &str = "no lockfileVersion 2 or 3, as a lock file of npm has";
 /// # Errors
 ///
 /// `Input` if the text is no such file, or one without paths, and `Memory`.
-pub fn package_lock(alloc: Global, source: &Source, network: &mut Network) -> Result<(), Failure> {
+pub fn package_lock(alloc: Global, source: &Source, network: &mut Network) -> Result<(), Failure>
+    ensures { IsEmpty network.old → OnOk result
+        (HoldsPackages source.now network.old.is_inverse network.new) }
+{
     let lock = json_value(alloc, source)?;
     read(alloc, source, &lock, network)
 }
 
 // Adds the dependencies of a file.
-fn read(
-    alloc: Global,
-    source: &Source,
-    lock: &Value,
-    network: &mut Network,
-) -> Result<(), Failure> {
-    let Some(Value::Object(packages)) = lock.get("packages") else {
+fn read(alloc: Global, source: &Source, lock: &Value, network: &mut Network) -> Result<(), Failure>
+    ensures { HasNoLinks (packages_in (view lock.now)) → IsEmpty network.old → OnOk result
+        (HasPackages network.old.is_inverse source.now (view lock.now) network.new) }
+{
+    let Some(packages) = packages_of(lock) else {
         let is_old = lock.get("dependencies").is_some() && lock.get("lockfileVersion").is_some();
         return Err(wrong(alloc, source, &[if is_old { OLD } else { "no packages" }]));
     };
     if !matches!(version(lock), Some(2 | 3)) {
         return Err(wrong(alloc, source, &[OTHER]));
     }
-    let root = word(lock, "name").unwrap_or(source.label());
-    push_nodes(alloc, source, root, packages, network)?;
+    push_nodes(alloc, source, root_name(source, lock), packages, network)?;
     let steps = steps(alloc, source, packages, &network.paths)?;
     push_needs(alloc, source, packages, &steps, network)
+}
+
+// Returns the packages of a file, if it has some.
+fn packages_of(lock: &Value) -> Option<&Packages>
+    ensures { IfSome result
+        (λ m. packages_in (view lock.now) ≡ listed (members_view m.now.entries)) }
+{
+    lock.get("packages")?.as_object()
+}
+
+// Returns what the project is called: its name in the file, or the last part of the file's path.
+fn root_name<'a>(source: &'a Source, lock: &'a Value) -> &'a str
+    ensures { IsRootName source.now (view lock.now) result.now }
+{
+    match word(lock, "name") {
+        Some(name) => name,
+        None => source.label(),
+    }
 }
 
 // Returns the version of the format of a file.
@@ -73,38 +98,79 @@ fn push_nodes(
     root: &str,
     packages: &Packages,
     network: &mut Network,
-) -> Result<(), Failure> {
-    for (path, package) in packages.iter() {
-        check_package(alloc, source, path.as_str(), package)?;
-    }
+) -> Result<(), Failure>
+    ensures added { HasNoLinks (listed (members_view packages.now.entries)) → OnOk result
+        (AddsPackages root.now (listed (members_view packages.now.entries))
+        network.old network.new) }
+    ensures ascending { OnOk result
+        (AreAscending (listed (members_view packages.now.entries))) }
+{
+    check_packages(alloc, source, packages)?;
     let hidden = aliased(alloc, packages)?;
     for (path, package) in packages.iter() {
-        let path = path.as_str();
-        let meant = target(path, package);
-        let is_drawn = if is_link(package) {
-            is_alias(packages, path, meant)
-        } else {
-            path.is_empty() || hidden.binary_search_by(|other| (*other).cmp(path)).is_err()
-        };
-        if is_drawn {
-            let package = packages.get(meant).unwrap_or(package);
-            let label = label(alloc, root, path, meant, package)?;
-            network.labels.push(label)?;
-            network.paths.push(String::from_str(alloc, path)?)?;
+        if is_drawn(packages, &hidden, path.as_str(), package) {
+            push_node(alloc, root, packages, path.as_str(), package, network)?;
         }
     }
     Ok(())
 }
 
-// Returns the paths of what is meant by links with names of their own alone, in ascending order.
-fn aliased<'a>(alloc: Global, packages: &'a Packages) -> Result<Vec<&'a str>, AllocError> {
-    let mut links = Vec::new(alloc);
+// Checks the kinds of what packages have.
+fn check_packages(alloc: Global, source: &Source, packages: &Packages) -> Result<(), Failure> {
     for (path, package) in packages.iter() {
-        if is_link(package) {
-            let meant = target(path.as_str(), package);
-            links.push((meant, is_alias(packages, path.as_str(), meant)))?;
-        }
+        check_package(alloc, source, path.as_str(), package)?;
     }
+    Ok(())
+}
+
+// Whether what is at a path is a node. These paths are hidden.
+fn is_drawn(packages: &Packages, hidden: &[&str], path: &str, package: &Value) -> bool
+    ensures { hidden.now ≡ [] → is_link (view «package».now) ≡ false → result ≡ true }
+{
+    if is_link(package) {
+        return is_alias(packages, path, target(path, package));
+    }
+    path.is_empty() || hidden.binary_search_by(|other| (*other).cmp(path)).is_err()
+}
+
+// Adds what is at a path.
+fn push_node(
+    alloc: Global,
+    root: &str,
+    packages: &Packages,
+    path: &str,
+    package: &Value,
+    network: &mut Network,
+) -> Result<(), AllocError>
+    ensures { is_link (view «package».now) ≡ false → OnOk result
+        (AddsPackages root.now ((path.now, view «package».now) ∷ []) network.old network.new) }
+{
+    let (meant, package) = meant(packages, path, package);
+    network
+        .labels
+        .push(label(alloc, root, path, meant, package)?)?;
+    network.paths.push(String::from_str(alloc, path)?)?;
+    Ok(())
+}
+
+// Returns the path that is meant by what is at a path, and the package there.
+fn meant<'a>(packages: &'a Packages, path: &'a str, package: &'a Value) -> (&'a str, &'a Value)
+    ensures { is_link (view «package».now) ≡ false
+        → (result.0.now ≡ path.now) × (result.1.now ≡ «package».now) }
+{
+    if !is_link(package) {
+        return (path, package);
+    }
+    let meant = target(path, package);
+    (meant, packages.get(meant).unwrap_or(package))
+}
+
+// Returns the paths of what is meant by links with names of their own alone, in ascending order.
+fn aliased<'a>(alloc: Global, packages: &'a Packages) -> Result<Vec<&'a str>, AllocError>
+    ensures { HasNoLinks (listed (members_view packages.now.entries))
+        → IfOk result (λ paths. paths.items ≡ []) }
+{
+    let mut links = links(alloc, packages)?;
     links.sort_unstable();
     let mut paths = Vec::new(alloc);
     let mut before = None;
@@ -115,6 +181,21 @@ fn aliased<'a>(alloc: Global, packages: &'a Packages) -> Result<Vec<&'a str>, Al
         before = Some(*path);
     }
     Ok(paths)
+}
+
+// Returns the paths that links mean, and whether the links have names of their own.
+fn links<'a>(alloc: Global, packages: &'a Packages) -> Result<Vec<(&'a str, bool)>, AllocError>
+    ensures { HasNoLinks (listed (members_view packages.now.entries))
+        → IfOk result (λ links. links.items ≡ []) }
+{
+    let mut links = Vec::new(alloc);
+    for (path, package) in packages.iter() {
+        if is_link(package) {
+            let meant = target(path.as_str(), package);
+            links.push((meant, is_alias(packages, path.as_str(), meant)))?;
+        }
+    }
+    Ok(links)
 }
 
 // Checks the kinds of what a package has.
@@ -172,12 +253,19 @@ fn name_of<'a>(path: &'a str, package: &'a Value) -> &'a str {
 }
 
 // Whether a package is a link to another one.
-fn is_link(package: &Value) -> bool {
-    matches!(package.get("link"), Some(Value::Bool(true)))
+fn is_link(package: &Value) -> bool
+    ensures { result ≡ is_link (view «package».now) }
+{
+    match package.get("link") {
+        Some(link) => link.as_bool().unwrap_or(false),
+        None => false,
+    }
 }
 
 // Returns the text at a key of a package.
-fn word<'a>(package: &'a Value, key: &str) -> Option<&'a str> {
+fn word<'a>(package: &'a Value, key: &str) -> Option<&'a str>
+    ensures { option_copied result ≡ text_at key.now (view «package».now) }
+{
     package.get(key)?.as_str()
 }
 
@@ -189,37 +277,74 @@ fn label(
     path: &str,
     meant: &str,
     package: &Value,
-) -> Result<String, AllocError> {
-    let given = if path == meant {
-        word(package, "name")
-    } else {
-        Some(name_of(meant, package))
-    };
-    let name = match (place(path), given) {
-        (Some((_, name)), _) | (None, Some(name)) => name,
-        (None, None) if path.is_empty() => root,
-        (None, None) => last_name(path),
-    };
+) -> Result<String, AllocError>
+    ensures { path.now ≡ meant.now → IfOk result
+        (λ s. IsLabel root.now (path.now, view «package».now) (string_bytes s)) }
+{
+    let given = given_name(path, meant, package);
+    let name = called(root, path, given);
     let mut label = String::from_str(alloc, name)?;
-    match given {
-        Some(given) if given != name && !given.is_empty() => write!(label, "@npm:{given}")?,
-        _ => {}
-    }
-    if let Some(version) = word(package, "version") {
-        write!(label, "@{version}")?;
-    }
+    push_behind(&mut label, "@npm:", other_name(name, given))?;
+    push_behind(&mut label, "@", word(package, "version"))?;
     Ok(label)
 }
 
+// Returns the name that a package gives itself, or that of a package that is meant by a link.
+fn given_name<'a>(path: &str, meant: &'a str, package: &'a Value) -> Option<&'a str>
+    ensures { path.now ≡ meant.now
+        → option_copied result ≡ text_at (codes "name") (view «package».now) }
+{
+    if path == meant {
+        word(package, "name")
+    } else {
+        Some(name_of(meant, package))
+    }
+}
+
+// Returns what the package at a path is called, which may give itself a name.
+fn called<'a>(root: &'a str, path: &'a str, given: Option<&'a str>) -> &'a str
+    ensures { (name : List ℕ) → IsCalled root.now path.now (option_copied given.entry) name
+        → result.now ≡ name }
+{
+    if path.is_empty() {
+        return given.unwrap_or(root);
+    }
+    match place(path) {
+        Some((_, name)) => name,
+        None => given.unwrap_or(last_name(path)),
+    }
+}
+
+// Returns the name that is given, if it is another one.
+fn other_name<'a>(name: &str, given: Option<&'a str>) -> Option<&'a str>
+    ensures { option_copied result ≡ other_name name.now (option_copied given.entry) }
+{
+    match given {
+        Some(given) if given != name && !given.is_empty() => Some(given),
+        _ => None,
+    }
+}
+
+// Adds a text behind another, if there is one.
+fn push_behind(label: &mut String, before: &str, text: Option<&str>) -> Result<(), AllocError>
+    ensures { OnOk result (string_bytes label.new
+        ≡ string_bytes label.old ++ behind before.now (option_copied text.entry)) }
+{
+    match text {
+        Some(text) => write!(label, "{before}{text}"),
+        None => Ok(()),
+    }
+}
+
 // Returns the last name of a path, with the scope before it.
-fn last_name(path: &str) -> &str {
+fn last_name(path: &str) -> &str
+    ensures { (folder name : List ℕ) → IsName name → path.now ≡ path_in folder name
+        → result.now ≡ name }
+{
     let Some((above, name)) = path.rsplit_once('/') else {
         return path;
     };
-    let scope = match above.rsplit_once('/') {
-        Some((_, scope)) => scope,
-        None => above,
-    };
+    let scope = last_part(above);
     if scope.starts_with('@') {
         path.get(above.len().saturating_sub(scope.len())..)
             .unwrap_or(name)
@@ -228,8 +353,21 @@ fn last_name(path: &str) -> &str {
     }
 }
 
+// Returns what is behind the last slash of a path.
+fn last_part(path: &str) -> &str
+    ensures { IsLastPart path.now result.now }
+{
+    match path.rsplit_once('/') {
+        Some((_, last)) => last,
+        None => path,
+    }
+}
+
 // Returns the folder in whose `node_modules` a package is, and its name there.
-fn place(path: &str) -> Option<(&str, &str)> {
+fn place(path: &str) -> Option<(&str, &str)>
+    ensures { (folder name : List ℕ) → IsName name → path.now ≡ path_in folder name
+        → MatchOption result ⊥ (λ p. (p.0.now ≡ folder) × (p.1.now ≡ name)) }
+{
     let name = last_name(path);
     let folder = path.strip_suffix(name)?.strip_suffix("node_modules/")?;
     if folder.is_empty() {
@@ -314,7 +452,9 @@ fn push_needs<'a>(
     packages: &'a Packages,
     steps: &[Step<'a>],
     network: &mut Network,
-) -> Result<(), Failure> {
+) -> Result<(), Failure>
+    ensures { IsIndexed network.old → OnOk result (AddsInOrder network.old network.new) }
+{
     let mut walk = Walk {
         packages,
         same: BTreeMap::new(alloc),
@@ -325,6 +465,17 @@ fn push_needs<'a>(
     let added = walk.add(alloc, source, steps, network);
     drop(walk);
     added
+}
+
+// Adds an edge for each need.
+fn push_edges(needs: &[(usize, &str, usize)], network: &mut Network) -> Result<(), AllocError>
+    ensures { IsIndexed network.old → OnOk result
+        (AddsEdges network.old network.new (map edge_of needs.now)) }
+{
+    for (node, _, need) in needs {
+        network.add_need(*node, *need)?;
+    }
+    Ok(())
 }
 
 // A walk through all folders.
@@ -347,6 +498,10 @@ struct Walk<'s, 'a> {
 }
 
 impl<'s, 'a> Walk<'s, 'a> {
+    ghost use Rattle.std.specs.Prelude.{OnOk};
+    ghost use Rattle.trees.specs.DependingParts.{IsIndexed};
+    ghost use Rattle.trees.specs.NpmParts.{AddsInOrder};
+
     // Goes these steps, and adds what packages need.
     fn add(
         &mut self,
@@ -354,7 +509,9 @@ impl<'s, 'a> Walk<'s, 'a> {
         source: &Source,
         steps: &'s [Step<'a>],
         network: &mut Network,
-    ) -> Result<(), Failure> {
+    ) -> Result<(), Failure>
+        ensures { IsIndexed network.old → OnOk result (AddsInOrder network.old network.new) }
+    {
         for (folder, is_package, name, node) in steps {
             self.leave(alloc, folder)?;
             if *is_package {
@@ -364,10 +521,7 @@ impl<'s, 'a> Walk<'s, 'a> {
             }
         }
         self.needs.sort_unstable();
-        for (node, _, need) in &self.needs {
-            network.add_need(*node, *need)?;
-        }
-        Ok(())
+        Ok(push_edges(&self.needs, network)?)
     }
 
     // Enters a folder with a package under a name.

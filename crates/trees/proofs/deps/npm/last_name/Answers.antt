@@ -1,0 +1,40 @@
+use Rattle.std.proofs.Common.{◌≡◌, ◌∙◌, ℕ, List, get_or, inl, inr, sym, ap, arith}
+use Rattle.std.proofs.lemmas.Bool.{false≢true}
+use Rattle.std.proofs.lemmas.Str.Pattern.{starts_char}
+use Rattle.std.specs.Prelude.{Some, None}
+use Rattle.trees.specs.Npm.{home}
+use Rattle.trees.proofs.NpmPaths.{cut_last, alone, scoped, whole}
+use Rattle.trees.proofs.deps.npm.last_name.Goals as goal
+
+pub returns-in_default : goal.returns-in_default
+returns-in_default c = λ folder own named at. absurd (cut_last c.args.path.now None c.in_default.ensures.cases (home folder) own at)
+
+pub returns-then-starts_with : goal.returns-then-starts_with
+returns-then-starts_with c = λ folder own named at.
+    let path = c.args.path.now in
+    let above = c.in-Some.above.now in
+    let name = c.in-Some.name.now in
+    let scope = c.last_part-scope.result.now in
+    let part = c.last_part-scope.ensures in
+    let cut = cut_last path (Some (c.in-Some.above, c.in-Some.name)) c.in-Some.ensures.cases in
+    let starts : get_or scope 0 0 ≡ 64 = (starts_char 64 scope c.starts_with.result c.starts_with.ensures.cases (omega arith) (omega arith)).0 c.if-starts_with.true in
+    elim named [
+      | inl lacks ↦ (let other : get_or scope 0 0 ≡ 110 = ap (λ (t : List ℕ). get_or t 0 0) (alone path above name scope folder own cut.0 cut.1 part at lacks).1 in absurd (omega (arith, starts, other)))
+      | inr s ↦ ap (λ t. t.now) c.unwrap_or.ensures ∙ whole path above name scope folder own cut.0 cut.1 part at s c.saturating_sub.result c.get.result c.in-Some.name (omega arith) c.get.ensures.cases
+    ]
+
+pub returns-else-starts_with : goal.returns-else-starts_with
+returns-else-starts_with c = λ folder own named at.
+    let path = c.args.path.now in
+    let above = c.in-Some.above.now in
+    let name = c.in-Some.name.now in
+    let scope = c.last_part-scope.result.now in
+    let part = c.last_part-scope.ensures in
+    let cut = cut_last path (Some (c.in-Some.above, c.in-Some.name)) c.in-Some.ensures.cases in
+    elim named [
+      | inl lacks ↦ (alone path above name scope folder own cut.0 cut.1 part at lacks).0
+      | inr s ↦
+          (let first : get_or scope 0 0 ≡ 64 = ap (λ (t : List ℕ). get_or t 0 0) (scoped path above name scope folder own cut.0 cut.1 part at s) in
+          let starts = (starts_char 64 scope c.starts_with.result c.starts_with.ensures.cases (omega arith) (omega arith)).1 first in
+          absurd (false≢true (sym c.if-starts_with.false ∙ starts)))
+    ]
