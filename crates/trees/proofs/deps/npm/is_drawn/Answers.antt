@@ -1,4 +1,4 @@
-use Rattle.std.proofs.Common.{◌∙◌, sym}
+use Rattle.std.proofs.Common.{◌∙◌}
 use Rattle.trees.proofs.NpmPackages.{search_nothing}
 use Rattle.trees.proofs.deps.npm.is_drawn.Goals as goal
 

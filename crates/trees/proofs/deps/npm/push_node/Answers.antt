@@ -1,4 +1,4 @@
-use Rattle.std.proofs.Common.{◌∙◌, refl, sym, ap}
+use Rattle.std.proofs.Common.{refl, sym, ap}
 use Rattle.serde_json.specs.View.{view}
 use Rattle.trees.proofs.NpmPackages.{package_added}
 use Rattle.trees.proofs.deps.npm.push_node.Goals as goal

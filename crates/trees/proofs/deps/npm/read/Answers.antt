@@ -1,4 +1,4 @@
-use Rattle.std.proofs.Common.{◌∙◌, sym, subst}
+use Rattle.std.proofs.Common.{subst}
 use Rattle.serde_json.specs.View.{view, members_view}
 use Rattle.trees.specs.Npm.{listed, HasNoLinks, HasPackages}
 use Rattle.trees.specs.NpmParts.{AddsInOrder}
