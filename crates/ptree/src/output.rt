@@ -10,12 +10,12 @@ ghost use Rattle.ptree.specs.Utf8.{HasUtf8Texts};
 
 pub(crate) mod brush;
 pub(crate) mod engine;
+pub(crate) mod feeds;
 pub(crate) mod indent;
 mod line;
 pub(crate) mod look;
 pub(crate) mod pen;
 pub(crate) mod place;
-mod spread;
 
 use crate::item::{StringItem, TreeItem};
 use crate::print_config::{OutputKind, PrintConfig, Sources};

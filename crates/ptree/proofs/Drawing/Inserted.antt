@@ -35,6 +35,12 @@ inserted_none inserted [] h = refl
 inserted_none inserted (b ∷ text) h =
     inserted_other inserted b text (All-head (λ c. c ≢ 10) b text h) ∙ ap (λ z. b ∷ z) (inserted_none inserted text (All-tail (λ c. c ≢ 10) b text h))
 
+-- what follows the first line of a text is behind its line feed and the inserted text
+pub inserted_line : (inserted own rest : List ℕ) → HasNoLineFeed own → with_inserted inserted (own ++ 10 ∷ rest) ≡ own ++ 10 ∷ (inserted ++ with_inserted inserted rest)
+inserted_line inserted own rest h =
+    inserted-append inserted own (10 ∷ rest) ∙ (ap (λ z. z ++ with_inserted inserted (10 ∷ rest)) (inserted_none inserted own h)
+    ∙ ap (λ z. own ++ z) (inserted_feed inserted 10 rest refl))
+
 -- own bytes without a line feed are unchanged in their entry
 pub entry_of_one_line : (look : Look) (prefix passing own : List ℕ) → HasNoLineFeed own → entry_from look prefix passing own ≡ painted_text look.branch prefix ++ own ++ 10 ∷ []
 entry_of_one_line look prefix passing own h = ap (λ z. painted_text look.branch prefix ++ z ++ 10 ∷ []) (inserted_none _ own h)

@@ -1,11 +1,12 @@
 -- Searches for line feeds by vectors.
-use Rattle.std.proofs.Common.{◌≡◌, ◌≢◌, ℕ, ◌+◌, ◌-◌, ◌%◌, ◌^◌, ◌≤◌, ◌<◌, Bool, cond, not, eqb, List, length, length-take, get_or, take, drop, ◌∷◌, ◌++◌, map, sym, ap, ◌∙◌, arith}
+use Rattle.std.proofs.Common.{◌≡◌, ◌≢◌, ℕ, ◌+◌, ◌-◌, ◌%◌, ◌^◌, ◌≤◌, ◌<◌, Bool, cond, not, eqb, List, length, length-take, get_or, take, drop, [], ◌∷◌, ◌++◌, map, sym, ap, ◌∙◌, append_assoc, arith}
 use Rattle.std.specs.List.{prefix_len}
 use Rattle.std.proofs.lemmas.Bool.{eqb-true, eqb-false, eq-eqb, ne_eqb}
-use Rattle.std.proofs.lemmas.List.{get_or-take, drop_more, take-append-drop}
+use Rattle.std.proofs.lemmas.List.{get_or-take, take_more, drop_more, take-append-drop}
 use Rattle.std.proofs.lemmas.Simd.{bitmask_splat, first_set_mask_l, run_in_chunk_le, run_in_chunk_fails, run_in_chunk_stops, length-chunk}
+use Rattle.ptree.specs.Drawing.{with_inserted}
 use Rattle.ptree.specs.Texts.{HasNoLineFeed}
-use Rattle.ptree.proofs.Drawing.Inserted.{no_line_feed_from_reads}
+use Rattle.ptree.proofs.Drawing.Inserted.{inserted_line, no_line_feed_from_reads}
 use lib.Count.{count_trailing_zeros}
 use lib.Lanes.{chunk, mask_l, top, zip2}
 use lib.ListN.{replicate}
@@ -56,3 +57,15 @@ line_at_feed text end within before feed = (
   no_line_feed_from_reads (take end text) (λ k less e. let low : k < end = omega (arith, length-take end text, less) in before k low (sym (get_or-take end text k 0 low) ∙ e)),
   sym (take-append-drop end text) ∙ (ap (λ z. take end text ++ z) (drop_more text end 0 within) ∙ ap (λ z. take end text ++ z ∷ drop (end + 1) text) feed),
 )
+
+-- a text with insertions, from its first line feed on
+pub inserted_at_feed : (inserted text : List ℕ) (end : ℕ) → end < length text → ((k : ℕ) → k < end → get_or text k 0 ≢ 10) → get_or text end 0 ≡ 10
+    → with_inserted inserted text ≡ (take (end + 1) text ++ inserted) ++ with_inserted inserted (drop (end + 1) text)
+inserted_at_feed inserted text end within before feed =
+    let line = line_at_feed text end within before feed in
+    let whole : take (end + 1) text ≡ take end text ++ 10 ∷ [] = take_more text end 0 within ∙ ap (λ b. take end text ++ b ∷ []) feed in
+    ap (with_inserted inserted) line.1 ∙ (inserted_line inserted (take end text) (drop (end + 1) text) line.0
+    ∙ sym (ap (λ z. (z ++ inserted) ++ with_inserted inserted (drop (end + 1) text)) whole ∙ regrouped (take end text) inserted _))
+  where
+    regrouped : (a b c : List ℕ) → ((a ++ 10 ∷ []) ++ b) ++ c ≡ a ++ 10 ∷ (b ++ c)
+    regrouped a b c = simp append_assoc

@@ -11,7 +11,7 @@ use Rattle.ptree.specs.Spelled.{text_entry}
 use Rattle.ptree.specs.Style.{start_codes, end_codes, painted_text}
 use Rattle.ptree.specs.Texts.{HasNoLineFeed}
 use Rattle.ptree.specs.Tree.{Tree, tree, height}
-use Rattle.ptree.proofs.Drawing.Inserted.{is_feed, inserted_feed, inserted_other, inserted-append, inserted_none}
+use Rattle.ptree.proofs.Drawing.Inserted.{is_feed, inserted_feed, inserted_other, inserted-append, inserted_none, inserted_line}
 use Rattle.ptree.proofs.Reading.Levels.{lines_drawing, entry_shown, tree_by_levels}
 use Rattle.ptree.proofs.Trees.LineTrees.{tree_of_lines}
 use Rattle.ptree.proofs.Reading.SpelledForms.{tree_steps, Low, low_height, height_low}
@@ -52,9 +52,7 @@ pub inserted_from_first_line : (further own more w d : List ℕ) → HasNoLineFe
     → own ++ 10 ∷ more ≡ with_inserted further w ++ 10 ∷ d
 inserted_from_first_line further own more w d h (inl s) = ap (λ z. own ++ 10 ∷ z) s.1 ∙ ap (λ z. z ++ 10 ∷ d) (sym (ap (with_inserted further) (sym s.0) ∙ inserted_none further own h))
 inserted_from_first_line further own more w d h (inr s) =
-    let shown : with_inserted further w ≡ own ++ 10 ∷ (further ++ with_inserted further s.0) =
-    ap (with_inserted further) s.1 ∙ (inserted-append further own (10 ∷ s.0) ∙ (ap (λ z. z ++ with_inserted further (10 ∷ s.0)) (inserted_none further own h)
-    ∙ ap (λ z. own ++ z) (inserted_feed further 10 s.0 refl))) in
+    let shown : with_inserted further w ≡ own ++ 10 ∷ (further ++ with_inserted further s.0) = ap (with_inserted further) s.1 ∙ inserted_line further own s.0 h in
     ap (λ z. own ++ 10 ∷ z) s.2 ∙ (sym (append_assoc own (10 ∷ (further ++ with_inserted further s.0)) (10 ∷ d)) ∙ ap (λ z. z ++ 10 ∷ d) (sym shown))
 
 -- ## The entry of a line

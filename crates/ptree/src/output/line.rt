@@ -4,19 +4,21 @@ ghost use Rattle.ptree.specs.Drawing.{with_inserted};
 ghost use Rattle.ptree.specs.Texts.{line_feed};
 
 use crate::output::brush::Brush;
+use crate::output::feeds::{first_line_feed, may_hold_line_feed};
 use crate::output::place::place;
-use crate::output::spread::{may_hold_line_feed, spread};
 use crate::sink::Sink;
 use crate::sink::faults::FaultCount;
 use std::alloc::{AllocError, Global};
-use std::io;
+use std::{io, mem};
 
 /// The bytes of an entry, gathered so that one put writes them: the first `used` bytes of `room`.
-/// As a sink it fails if it cannot grow.
+/// An entry of several lines is made in `other`, which then is the room. As a sink it fails if it
+/// cannot grow.
 #[derive(Drop)]
 pub(crate) struct LineBuffer {
     room: Vec<u8>,
     used: usize,
+    other: Vec<u8>,
     faults: FaultCount,
     ghost fits: { used ≤ length room.items },
 }
@@ -53,6 +55,7 @@ impl LineBuffer {
         LineBuffer {
             room: Vec::new(alloc),
             used: 0,
+            other: Vec::new(alloc),
             faults: FaultCount::new(),
         }
     }
@@ -108,14 +111,16 @@ impl LineBuffer {
     // Keeps only the first `width` bytes.
     #[inline(always)]
     pub(crate) fn truncate(&mut self, width: usize)
+        requires { width ≤ length (line_bytes self.old) }
         ensures { line_bytes self.new ≡ take width (line_bytes self.old) }
     {
-        self.used = self.used.min(width);
+        self.used = width;
     }
 
     // Replaces what follows the first `width` bytes with a text.
     #[inline(always)]
     pub(crate) fn replace_end(&mut self, width: usize, text: &str) -> Result<(), AllocError>
+        requires { width ≤ length (line_bytes self.old) }
         ensures { OnOk result (line_bytes self.new ≡ take width (line_bytes self.old) ++ text.now) }
     {
         self.truncate(width);
@@ -155,8 +160,8 @@ impl LineBuffer {
         }
     }
 
-    // Does what `continue_lines` does, whether there is a line feed or not, and leaves room for the
-    // line feed after it. It is a function of its own, since it is seldom called.
+    // Does what `continue_lines` does, whether there is a line feed or not. It is a function of its
+    // own, since it is seldom called.
     #[inline(never)]
     fn spread(
         &mut self,
@@ -173,12 +178,41 @@ impl LineBuffer {
             ++ further_text (brush_look brush.now) last)
             (drop start (line_bytes self.old))) }
     {
-        let (held, further) = (self.as_slice(), brush.further(last));
-        let mut room = spread(brush.alloc, held, start, width, further)?;
-        let used = room.len();
-        room.push(0)?;
-        self.room = room;
-        self.used = used;
-        Ok(())
+        let further = brush.further(last).as_bytes();
+        let used = mem::replace(&mut self.used, 0);
+        mem::swap(&mut self.room, &mut self.other);
+        let held = mem::replace(&mut self.other, Vec::new(brush.alloc));
+        let spread = self.append_lines(&held[..used], start, width, further);
+        self.other = held;
+        spread
+    }
+
+    // Appends bytes with a text inserted after each line feed that is after the first `start` ones.
+    // The text is the first `width` bytes and `further`.
+    #[inline(always)]
+    fn append_lines(
+        &mut self,
+        bytes: &[u8],
+        start: usize,
+        width: usize,
+        further: &[u8],
+    ) -> Result<(), AllocError>
+        requires within { width ≤ start }
+        requires start { start ≤ length bytes.now }
+        ensures { OnOk result (line_bytes self.new ≡ line_bytes self.old
+            ++ (take start bytes.now
+            ++ with_inserted (take width bytes.now ++ further.now) (drop start bytes.now))) }
+    {
+        self.append(&bytes[..start])?;
+        let mut rest = &bytes[start..];
+        let mut end = first_line_feed(rest);
+        while end < rest.len() {
+            self.append(&rest[..end + 1])?;
+            self.append(&bytes[..width])?;
+            self.append(further)?;
+            rest = &rest[end + 1..];
+            end = first_line_feed(rest);
+        }
+        self.append(rest)
     }
 }

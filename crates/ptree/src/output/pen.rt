@@ -1,5 +1,5 @@
 //! The engine's buffer between its calls.
-ghost use Rattle.std.specs.Prelude.{◌≡◌, true, false, Some, take, ◌++◌, IfOk, OnOk};
+ghost use Rattle.std.specs.Prelude.{◌≡◌, ◌≤◌, true, false, Some, length, take, ◌++◌, IfOk, OnOk};
 ghost use Rattle.ptree.specs.Line.{line_bytes};
 ghost use Rattle.ptree.specs.Looks.{own_text};
 ghost use Rattle.ptree.specs.Pen.{brush_look};
@@ -49,7 +49,8 @@ impl Pen {
         brush: &Brush<'_>,
         is_last: bool,
     ) -> Result<(), AllocError>
-        requires { self.old.turned ≡ true → is_last ≡ false
+        requires width { width ≤ length (line_bytes self.old.line) }
+        requires turned { self.old.turned ≡ true → is_last ≡ false
             → line_bytes self.old.line
             ≡ take width (line_bytes self.old.line)
             ++ own_text (brush_look brush.now) (Some false) }
@@ -74,6 +75,7 @@ impl Pen {
         brush: &Brush<'_>,
         is_last: bool,
     ) -> Result<(), AllocError>
+        requires { width ≤ length (line_bytes self.old.line) }
         ensures line { OnOk result
             (line_bytes self.new.line
             ≡ take width (line_bytes self.old.line)
@@ -89,6 +91,7 @@ impl Pen {
     // Keeps only the first `width` bytes.
     #[inline(always)]
     pub(crate) fn cut(&mut self, width: usize)
+        requires { width ≤ length (line_bytes self.old.line) }
         ensures line { line_bytes self.new.line ≡ take width (line_bytes self.old.line) }
         ensures turned { self.new.turned ≡ false }
         ensures error { self.new.error ≡ self.old.error }

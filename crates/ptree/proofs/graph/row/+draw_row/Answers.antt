@@ -70,7 +70,13 @@ draw_row-returns-in_err-turn-clause-bytes g t c = λ outer e.
     entries_err _ _ _ _ _ _ c.from_residual-in_err-turn.ensures.1 (begun_part look (entries_below look c.args.levels_left) outer _ _ _ _ c.turn.new.self.error (c.loop-number.invariant.begun outer e))
 
 pub draw_row-turn-requires : goal.draw_row-turn-requires
-draw_row-turn-requires g t c = λ held last. c.loop-number.invariant.turned held (omega arith)
+draw_row-turn-requires g t c = record {
+  width = long_enough _ _ _ c.loop-number.invariant.kept c.len-width.ensures;
+  turned = λ held last. c.loop-number.invariant.turned held (omega arith);
+}
+
+pub draw_row-cut-requires : goal.draw_row-cut-requires
+draw_row-cut-requires g t c = long_enough _ _ _ c.loop-number.invariant.kept c.len-width.ensures
 
 pub draw_row-draw_node-requires : goal.draw_row-draw_node-requires
 draw_row-draw_node-requires g t c =

@@ -28,7 +28,13 @@ draw_children-returns-in_err-turn-clause-bytes g t c = λ outer e.
     entries_err _ _ _ _ _ _ c.from_residual.ensures.1 (begun_part look (entries_below look c.args.levels_left) outer _ _ _ _ c.turn.new.self.error (c.loop-item.invariant.begun outer e))
 
 pub draw_children-turn-requires : goal.draw_children-turn-requires
-draw_children-turn-requires g t c = λ held last. c.loop-item.invariant.turned held (omega (arith, c.in-Some.ensures.cases.1))
+draw_children-turn-requires g t c = record {
+  width = long_enough _ _ _ c.loop-item.invariant.kept c.len-width.ensures;
+  turned = λ held last. c.loop-item.invariant.turned held (omega (arith, c.in-Some.ensures.cases.1));
+}
+
+pub draw_children-cut-requires : goal.draw_children-cut-requires
+draw_children-cut-requires g t c = long_enough _ _ _ c.loop-item.invariant.kept c.len-width.ensures
 
 pub draw_children-returns-in_err-draw_item-clause-bytes : goal.draw_children-returns-in_err-draw_item-clause-bytes
 draw_children-returns-in_err-draw_item-clause-bytes g t c = λ outer e.

@@ -1,5 +1,5 @@
 use Rattle.ptree.proofs.Reading.LineFeedSearch.{feedless_none, feedless_some}
-use Rattle.ptree.proofs.read.feeds.feedless_of_sixteen.Goals as goal
+use Rattle.ptree.proofs.output.feeds.feedless_of_sixteen.Goals as goal
 
 pub returns-then-found-eq0-clause-before : goal.returns-then-found-eq0-clause-before
 returns-then-found-eq0-clause-before c = (feedless_none c.args.bytes.now c.args.place c.requires c.if-found-eq0.true).before

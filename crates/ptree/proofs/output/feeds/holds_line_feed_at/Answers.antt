@@ -3,7 +3,7 @@ use Rattle.std.proofs.lemmas.Bool.{eqb-true, eqb-false}
 use Rattle.std.proofs.lemmas.Simd.{bitmask_splat, none_from_empty_mask, length-chunk}
 use lib.Lanes.{chunk}
 use mir.Syntax.{w8}
-use Rattle.ptree.proofs.output.spread.holds_line_feed_at.Goals as goal
+use Rattle.ptree.proofs.output.feeds.holds_line_feed_at.Goals as goal
 
 unnot : (b : Bool) → not b ≡ false → b ≡ true
 unnot true e = refl

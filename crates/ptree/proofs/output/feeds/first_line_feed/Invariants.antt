@@ -1,5 +1,5 @@
 use Rattle.std.proofs.Common.{◌≢◌, ℕ, ◌≤◌, ◌<◌, ◌-◌, length, get_or}
-use Rattle.ptree.proofs.read.feeds.first_line_feed.Given as goal
+use Rattle.ptree.proofs.output.feeds.first_line_feed.Given as goal
 
 -- there is no line feed before the place
 abbrev pub invariant-loop-place : goal.invariant-loop-place

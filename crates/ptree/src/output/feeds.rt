@@ -1,9 +1,7 @@
-//! Texts of several lines: finds their line feeds, and inserts after each.
-ghost use Rattle.std.specs.Prelude.{◌≡◌, ◌≢◌, ℕ, false, length, slice_index, take, drop, ◌≤◌, ◌<◌, ◌+◌, ◌++◌, IfOk};
-ghost use Rattle.ptree.specs.Drawing.{with_inserted};
+//! Finds line feeds.
+ghost use Rattle.std.specs.Prelude.{◌≡◌, ◌≢◌, ℕ, false, length, slice_index, drop, ◌≤◌, ◌<◌, ◌+◌};
 ghost use Rattle.ptree.specs.Texts.{HasNoLineFeed, line_feed};
 
-use std::alloc::{AllocError, Global};
 use std::simd::prelude::*;
 
 /// Whether a line feed may follow the first `start` bytes. If the result is false, there is none.
@@ -76,35 +74,42 @@ fn holds_line_feed_in_few(bytes: &[u8], start: usize) -> bool
     false
 }
 
-/// Returns the bytes with a text inserted after each line feed that is after the first `start`
-/// bytes. The text is the first `width` bytes and `further`.
-///
-/// # Errors
-///
-/// Memory ran out.
-#[inline(never)]
-pub(crate) fn spread(
-    alloc: Global,
-    bytes: &[u8],
-    start: usize,
-    width: usize,
-    further: &str,
-) -> Result<Vec<u8>, AllocError>
-    requires within { width ≤ start }
-    requires start { start ≤ length bytes.now }
-    ensures { IfOk result (λ v.
-        v.items
-        ≡ take start bytes.now
-        ++ with_inserted (take width bytes.now ++ further.now) (drop start bytes.now)) }
+// Returns how many of the sixteen bytes at a place precede the first line feed, or sixteen.
+#[inline(always)]
+fn feedless_of_sixteen(bytes: &[u8], place: usize) -> usize
+    requires { place + 16 ≤ length bytes.now }
+    ensures most { result ≤ 16 }
+    ensures before { (k : ℕ) → place ≤ k → k < place + result
+        → slice_index bytes.now k ≢ line_feed }
+    ensures at { result < 16 → slice_index bytes.now (place + result) ≡ line_feed }
 {
-    let mut out = Vec::with_capacity(alloc, bytes.len())?;
-    out.extend_from_slice(&bytes[..start])?;
-    for b in &bytes[start..] {
-        out.push(*b)?;
-        if *b == b'\n' {
-            out.extend_from_slice(&bytes[..width])?;
-            out.extend_from_slice(further.as_bytes())?;
-        }
+    let found = Simd::<u8, 16>::from_slice(&bytes[place..])
+        .simd_eq(Simd::splat(b'\n'))
+        .to_bitmask();
+    if found == 0 {
+        16
+    } else {
+        found.trailing_zeros() as usize
     }
-    Ok(out)
+}
+
+/// Returns the place of the first line feed, or the number of bytes if there is none.
+#[inline(always)]
+pub(crate) fn first_line_feed(bytes: &[u8]) -> usize
+    ensures within { result ≤ length bytes.now }
+    ensures before { (k : ℕ) → k < result → slice_index bytes.now k ≢ line_feed }
+    ensures at { result < length bytes.now → slice_index bytes.now result ≡ line_feed }
+{
+    let mut place = 0;
+    while bytes.len() - place >= 16 {
+        let width = feedless_of_sixteen(bytes, place);
+        if width < 16 {
+            return place + width;
+        }
+        place += 16;
+    }
+    while place < bytes.len() && bytes[place] != b'\n' {
+        place += 1;
+    }
+    place
 }

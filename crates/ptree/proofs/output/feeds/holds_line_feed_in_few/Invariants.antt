@@ -1,5 +1,5 @@
 use Rattle.std.proofs.Common.{◌≢◌, ℕ, ◌≤◌, ◌<◌, get_or}
-use Rattle.ptree.proofs.output.spread.holds_line_feed_in_few.Given as goal
+use Rattle.ptree.proofs.output.feeds.holds_line_feed_in_few.Given as goal
 
 -- there is no line feed before the place
 abbrev pub invariant-loop-place : goal.invariant-loop-place
