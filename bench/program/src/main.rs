@@ -12,6 +12,7 @@ use documents::{draw_json, load_all};
 use gallery::draw_gallery;
 use graphs::{count_once, draw_graph, time_once};
 use ptree::TreeBuilder;
+use ptree::buffered::Buffered;
 use ptree::item::StringItem;
 use ptree::output::write_tree_with;
 use ptree::print_config::{PrintConfig, StyleWhen};
@@ -19,9 +20,12 @@ use ptree::read::{pieces_readable, read_tree};
 use ptree::style::{Counted, DrawError};
 use shapes::shaped;
 use std::alloc::{AllocError, Global};
-use std::io::{self, BufWriter, Write};
+use std::io;
 use std::time::Instant;
 use std::{env, str};
+
+// The size of the buffer, that of both programs.
+const ROOM: usize = 8192;
 
 // What is to be measured.
 #[derive(Drop)]
@@ -76,11 +80,11 @@ fn config(alloc: Global, name: &str) -> Result<PrintConfig, AllocError> {
 fn draw_out(rt: &HostRuntime, task: &Task, item: &StringItem) -> io::Result<()> {
     let alloc = rt.alloc();
     let config = config(alloc, &task.name)?;
-    let mut out = Counted::new(BufWriter::new(alloc, io::writer(rt))?);
+    let mut out = Buffered::with_capacity(alloc, ROOM, Counted::new(io::writer(rt)))?;
     for _ in 0..task.times {
         write_tree_with(alloc, item, &mut out, &config).map_err(failed)?;
     }
-    out.into_inner().flush()
+    out.flush().map_err(failed)
 }
 
 // The drawing of a tree.
