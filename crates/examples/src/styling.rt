@@ -1,5 +1,5 @@
 //! Callers that make and draw items with styles of their own.
-ghost use Rattle.std.specs.Prelude.{◌≡◌, ℕ, length, Some, None, IfOk, IsOkAnd, string_bytes};
+ghost use Rattle.std.specs.Prelude.{◌≡◌, length, Some, None, IfOk, IsOkAnd, string_bytes};
 ghost use Rattle.ptree.specs.Drawing.{written_look, IsDrawing};
 ghost use Rattle.ptree.specs.Style.{StyleValue, style_of, painted_text};
 ghost use Rattle.ptree.specs.Tree.{shape_of_tree};

@@ -86,10 +86,6 @@ place_at ps i = unwrap_or (slice_get ps i) (place_of (2 ^ 64 - 1) 1)
 abbrev pub leaf_shape : {N : Type 0} → (N → List ℕ) → Option N → List ℕ → Bool → Shape
 leaf_shape text weight mark r = over_shape (weight_own text mark r weight) []
 
--- some places are left, and this is the first of them, with those after it
-abbrev pub IsFirst : List Place → ℕ → Place → List Place → Type 0
-IsFirst ps left p after = (0 < left) × (ps ≡ p ∷ after)
-
 -- some places are left, and the first of them is at this index, with so many below it
 abbrev pub IsNextPlace : List Place → (index left below : ℕ) → Type 0
 IsNextPlace ps index left below =

@@ -1,5 +1,5 @@
 //! Configurations and styles as C gives them: by their fields.
-ghost use Rattle.std.specs.Prelude.{◌≡◌, ◌⊎◌, ◌≤◌, ◌<◌, IfOk, IfErr, IsErrOf, IsOk, Err, option_map, string_bytes};
+ghost use Rattle.std.specs.Prelude.{◌≡◌, ◌≤◌, ◌<◌, IfOk, IfErr, IsErrOf, IsOk, Err, option_map, string_bytes};
 ghost use Rattle.ptree.specs.Characters.{characters_of};
 ghost use Rattle.ptree.specs.Color.{color_of};
 ghost use Rattle.ptree.specs.Config.{config_of};

@@ -4,7 +4,7 @@ ghost use Rattle.std.specs.Io.KnownBytes.{Consumes, IsAtEnd};
 ghost use Rattle.ptree_sources.specs.Input.{ReadsAll, read_faults};
 
 use ptree::style::Feed;
-use std::alloc::{AllocError, AllocFailed, Global};
+use std::alloc::{AllocError, Global};
 
 /// Why the input could not be read as a text.
 #[derive(Clone, Copy, Debug, PartialEq, Eq)]

@@ -9,10 +9,6 @@ use Rattle.trees.specs.Expected.{IsTooDeep}
 abbrev pub PassesTo : Pieces → List ℕ → ℕ → List ℕ → Type 0
 PassesTo p line n rest = (above : List Bool) × (length above ≡ n) × (line ≡ passing_all p above ++ rest)
 
--- every line begins with none
-pub passes_none : (p : Pieces) (line : List ℕ) → PassesTo p line 0 line
-passes_none p line = ([], refl, refl)
-
 -- one passing piece more
 pub passes_more : (p : Pieces) (line rest piece left : List ℕ) (n : ℕ) → PassesTo p line n rest → (last : Bool) × (piece ≡ passing_piece p last) × (rest ≡ piece ++ left) → PassesTo p line (n + 1) left
 passes_more p line rest piece left n (above, count, is) (last, same, goes) = (

@@ -51,10 +51,6 @@ pub record AreFrontsTo (p : Pieces) (fronts : List (List ℕ)) (front : List ℕ
   pub last : PassesSome p front
   pub short : All (λ f. length f ≤ length front) fronts
 
--- before the root nothing passes
-pub no_fronts : (p : Pieces) → AreFrontsBelow p [] []
-no_fronts p = record { are = (All-nil (PassesSome p), tt); next = (0, ([], refl, refl)); shorter = All-nil (λ f. length f < 0) }
-
 -- all or none of them are left
 pub fronts_forgotten : (p : Pieces) (old new : List (String Global)) (front rest : List ℕ) → (new ≡ old) ⊎ ((new ≡ []) × ShowsSibling p rest)
     → AreFrontsBelow p (map string_bytes old) front → AreFrontsBelow p (map string_bytes new) front

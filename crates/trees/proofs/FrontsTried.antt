@@ -1,5 +1,5 @@
 -- That no passing pieces are missing behind which an item could follow a line.
-use Rattle.std.proofs.Common.{◌≡◌, ℕ, suc, ◌<◌, ◌≤◌, ◌⊎◌, inl, inr, Bool, List, [], ◌∷◌, ◌++◌, length, length-append, map, refl, sym, ap, ◌∙◌, subst, string_bytes, append_assoc, arith}
+use Rattle.std.proofs.Common.{◌≡◌, ℕ, suc, ◌<◌, ◌≤◌, ◌⊎◌, inl, inr, Bool, List, [], ◌∷◌, ◌++◌, length, length-append, map, sym, ap, ◌∙◌, subst, string_bytes, append_assoc, arith}
 use Rattle.std.proofs.lemmas.Bool.{cases_lt}
 use Rattle.std.proofs.lemmas.List.Elements.{Contains-append_left, Contains-append_right, Contains-push}
 use Rattle.std.specs.Prelude.{Contains, String}
@@ -59,10 +59,6 @@ none_turns p readable line n m fronts front rest h above last (z, is) = elim (ca
 ]
 
 -- ## From level to level
-
--- at the start none is tried
-pub none_tried : (p : Pieces) (line : List ℕ) → HasTried p line 0 0 [] [] line
-none_tried p line = record { above = []; count = refl; front_is = refl; line_is = refl; tried = λ other low. absurd (omega (arith, low)) }
 
 -- where the line shows that a sibling follows, no level above is open
 tried_forgotten : (p : Pieces) → IsReadable p → (line : List ℕ) (n : ℕ) (old new : List (String Global)) (front rest : List ℕ) → (new ≡ old) ⊎ ((new ≡ []) × ShowsSibling p rest)

@@ -1,9 +1,9 @@
 -- The lines of indented text, and their trees.
 use Rattle.std.proofs.Common.{◌≡◌, ◌≢◌, ◌∙◌, ℕ, zero, suc, ◌+◌, ◌<◌, ◌≤◌, Bool, true, false, cond, eqb, Option, Some, None, ◌⊎◌, List, [], ◌∷◌, ◌++◌, length, get_or, take, drop, map, inl, inr, refl, sym, ap, subst, append_assoc, arith}
 use Rattle.std.proofs.lemmas.Bool.{false≢true, cases_lt, ne_eqb}
-use Rattle.std.proofs.lemmas.List.{append-nil, append_cancel_left, at_drop_more, map_more, map_push}
+use Rattle.std.proofs.lemmas.List.{append-nil, append_cancel_left, at_drop_more, map_more}
 use Rattle.std.proofs.lemmas.List.Concat.{flat_map-append}
-use Rattle.std.proofs.lemmas.List.Elements.{All-nil, All-cons, All-head, All-tail, All-weaker, filter-append}
+use Rattle.std.proofs.lemmas.List.Elements.{All-nil, All-cons, All-head, All-tail, All-weaker}
 use Rattle.std.proofs.lemmas.List.Splits.{slice_split_at}
 use Rattle.std.specs.Borrow.{Bor}
 use Rattle.std.specs.Prelude.{unwrap_or}
@@ -19,7 +19,7 @@ use Rattle.trees.specs.declared.command.Outline.{Outline}
 use Rattle.trees.specs.declared.failure.Failure.{Failure}
 use Rattle.trees.specs.declared.source.Source.{Source}
 use Rattle.trees.specs.ListingParts.{IsDeep}
-use Rattle.trees.specs.Outlining.{is_filled, outline_lines, text_of_lines, line_indent, head_indent, first_indent, first_bullet, text_or, IsFormOf, IsRightForm, labelled_lines, IsFormWithin, HoldsOutline, FailsToOutline}
+use Rattle.trees.specs.Outlining.{outline_lines, text_of_lines, line_indent, head_indent, first_indent, first_bullet, text_or, IsFormOf, IsRightForm, labelled_lines, IsFormWithin, HoldsOutline, FailsToOutline}
 use Rattle.trees.specs.Reading.{IsUsage, FailsToMake}
 use Rattle.trees.proofs.OutlineTexts.{text_or_is}
 use Rattle.trees.proofs.Readings.{fails_by_usage, fails_wider, fails_more}
@@ -190,28 +190,6 @@ form_fails source outline form ls e lines options wrong usage =
           wrong (subst IsUnit same.0 right.0, subst IsLineText same.1 right.1)
 
 -- ## Loops
-
--- the filled ones of a line more
-filled_next : (yielded : List (Bor (List ℕ))) (line : Bor (List ℕ))
-    → filter is_filled (map (λ l. l.now) (yielded ++ line ∷ [])) ≡ filter is_filled (map (λ l. l.now) yielded) ++ cond (is_filled line.now) (line.now ∷ []) []
-filled_next yielded line =
-    ap (filter is_filled) (map_push (λ (l : Bor (List ℕ)). l.now) yielded line) ∙ filter-append is_filled (map (λ (l : Bor (List ℕ)). l.now) yielded) (line.now ∷ [])
-
--- a line more that is filled, and one that isn't
-pub filled_more : (found yielded : List (Bor (List ℕ))) (line : Bor (List ℕ)) → is_filled line.now ≡ true → map (λ l. l.now) found ≡ filter is_filled (map (λ l. l.now) yielded)
-    → map (λ l. l.now) (found ++ line ∷ []) ≡ filter is_filled (map (λ l. l.now) (yielded ++ line ∷ []))
-filled_more found yielded line filled before =
-    map_push (λ (l : Bor (List ℕ)). l.now) found line
-    ∙ (ap (λ (z : List (List ℕ)). z ++ line.now ∷ []) before
-    ∙ (ap (λ (b : Bool). filter is_filled (map (λ (l : Bor (List ℕ)). l.now) yielded) ++ cond b (line.now ∷ []) []) (sym filled)
-    ∙ sym (filled_next yielded line)))
-
-pub filled_same : (found yielded : List (Bor (List ℕ))) (line : Bor (List ℕ)) → is_filled line.now ≡ false → map (λ l. l.now) found ≡ filter is_filled (map (λ l. l.now) yielded)
-    → map (λ l. l.now) found ≡ filter is_filled (map (λ l. l.now) (yielded ++ line ∷ []))
-filled_same found yielded line blank before =
-    before ∙ (sym (append-nil (filter is_filled (map (λ (l : Bor (List ℕ)). l.now) yielded)))
-    ∙ (ap (λ (b : Bool). filter is_filled (map (λ (l : Bor (List ℕ)). l.now) yielded) ++ cond b (line.now ∷ []) []) (sym blank)
-    ∙ sym (filled_next yielded line)))
 
 -- a line more is a line feed more
 pub text_more : (old now new start : List ℕ) (lines : List (Bor (List ℕ))) (i : ℕ) (d : Bor (List ℕ)) → i < length lines

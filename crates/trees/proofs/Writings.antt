@@ -38,18 +38,6 @@ gives_memory source (given.Paths paths) e is = fails_by_memory (IsWrongList sour
 gives_memory source (given.Outline outline) e is =
     fails_by_memory ((t : Tree) → HoldsOutline source outline t → ⊥) ((form : Form) → IsFormOf outline (outline_lines source) form → IsRightForm form → ⊥) e is
 
--- of a failure nothing more is said
-any_failure : (A B : Type 0) (old new : Option (List ℕ)) (e : Failure) (Is : List ℕ → Type 0) → Writes {A = A} old new (Err e) Is (λ f. f ≡ Memory) → Writes {A = B} old new (Err e) Is (λ f. ⊤)
-any_failure A B old new e Is h = elim h [ inl nothing ↦ inl (tt, nothing.1) | inr part ↦ inr part ]
-
--- a call that failed in writing says nothing
-pub said_err : (A B : Type 0) (old new : Option (List ℕ)) (e : Failure) (Is : List ℕ → Type 0) → Writes {A = A} old new (Err e) Is (λ f. f ≡ Memory) → WritesSaid {A = B} old new (Err e) Is
-said_err A B old new (Usage wrong) Is h = any_failure A B old new (Usage wrong) Is h
-said_err A B old new (Input wrong) Is h = any_failure A B old new (Input wrong) Is h
-said_err A B old new (Output kind) Is h = any_failure A B old new (Output kind) Is h
-said_err A B old new Memory Is h = any_failure A B old new Memory Is h
-said_err A B old new Said Is h = absurd (elim h [ inl memory ↦ let no : ⊥ = cc in no | inr part ↦ part.0 ])
-
 -- what is said is also what follows of it
 pub said_weaker : {A : Type 0} (old new : Option (List ℕ)) (r : Result A Failure) (Is Js : List ℕ → Type 0) → ((bytes : List ℕ) → Is bytes → Js bytes) → WritesSaid old new r Is → WritesSaid old new r Js
 said_weaker old new (Ok x) Is Js more h = (h.0, more h.0 h.1, h.2)

@@ -1,5 +1,5 @@
--- Prefixes of drawings that end in a line feed.
-use Rattle.std.proofs.Common.{◌≡◌, ◌≢◌, ℕ, zero, suc, ◌⊎◌, inl, inr, Bool, not, List, [], ◌∷◌, ◌++◌, length, length-append, refl, sym, ap, ◌∙◌, subst, arith}
+-- Parts of a drawing that hold no line feed.
+use Rattle.std.proofs.Common.{◌≡◌, ◌≢◌, ℕ, zero, suc, Bool, not, List, [], ◌∷◌, ◌++◌, refl, sym, ap, ◌∙◌}
 use Rattle.std.proofs.lemmas.List.Elements.{All-nil, All-head, All-tail, All-append}
 use Rattle.ptree.specs.Drawing.{Look, continued_prefix}
 use Rattle.ptree.specs.Flags.{has_later, last_flags, pieces_by}
@@ -21,36 +21,6 @@ first_feed_after_prefix (b ∷ a) x (c ∷ g) e h is =
     let tails : a ++ x ≡ g ++ 10 ∷ e = cc in
     let rest = first_feed_after_prefix a x g e (All-tail (λ c. c ≢ 10) b a h) tails in
     (rest.0, ap (λ z. z ∷ g) (sym heads) ∙ ap (λ z. b ∷ z) rest.1, rest.2)
-
--- a text ends in a line feed
-abbrev pub Ends : List ℕ → Type 0
-Ends x = (g : List ℕ) × (x ≡ g ++ 10 ∷ [])
-
--- the empty text holds no byte
-nothing_there : (g e : List ℕ) (b : ℕ) → [] ≡ g ++ b ∷ e → ⊥
-nothing_there g e b is = let long = ap length is in omega (arith, simp length-append at long)
-
--- a nonempty end of such a text ends in a line feed
-pub ends_tail : (g b : List ℕ) (c : ℕ) (f : List ℕ) → g ++ 10 ∷ [] ≡ b ++ c ∷ f → Ends (c ∷ f)
-ends_tail g [] c f e = (g, sym e)
-ends_tail [] (v ∷ b) c f e = let tails : [] ≡ b ++ c ∷ f = cc in absurd (nothing_there b f c tails)
-ends_tail (w ∷ g) (v ∷ b) c f e = let tails : g ++ 10 ∷ [] ≡ b ++ c ∷ f = cc in ends_tail g b c f tails
-
--- a text is empty or ends in a line feed
-abbrev pub Whole : List ℕ → Type 0
-Whole x = (x ≡ []) ⊎ Ends x
-
--- only whole lines come before a line
-no_more : (a b c : List ℕ) → Whole a → a ≡ b ++ c → HasNoLineFeed c → c ≡ []
-no_more a b [] w e h = refl
-no_more a b (x ∷ c) (inl none) e h = absurd (nothing_there b c x (sym none ∙ e))
-no_more a b (x ∷ c) (inr (g, is)) e h =
-    let (g', ends) = ends_tail g b x c (sym is ∙ e) in
-    absurd (holds g' (subst HasNoLineFeed ends h))
-  where
-    holds : (g : List ℕ) → HasNoLineFeed (g ++ 10 ∷ []) → ⊥
-    holds [] h = All-head (λ c. c ≢ 10) 10 [] h refl
-    holds (y ∷ g) h = holds g (All-tail (λ c. c ≢ 10) y (g ++ 10 ∷ []) h)
 
 -- ## Items
 

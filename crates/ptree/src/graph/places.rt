@@ -3,7 +3,7 @@ ghost use Rattle.std.specs.Prelude.{◌≡◌, ◌≢◌, ◌∷◌, [], ◌≤�
 ghost use Rattle.ptree.specs.Graph.{weights_of, edges_of, neighbors_of};
 ghost use Rattle.ptree.specs.GraphLinks.{newest_from};
 ghost use Rattle.ptree.specs.Growing.{is_seen, grow, all_flags, place_of, leaf_size, AppendsPlaces};
-ghost use Rattle.ptree.specs.Occurrence.{IsExpandedOnce, LeavesUnrepeated, ExpandsFirst, HasOneTree, HasSize, occurrence_count, tree_places, is_repeated_size, size_below, first_tree, occurrence_tree};
+ghost use Rattle.ptree.specs.Occurrence.{IsExpandedOnce, LeavesUnrepeated, ExpandsFirst, HasOneTree, HasSize, occurrence_count, tree_places, is_repeated_size, size_below, occurrence_tree};
 
 use super::{Graph, NodeIndex};
 use std::alloc::AllocError;

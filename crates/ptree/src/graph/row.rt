@@ -6,7 +6,7 @@ ghost use Rattle.ptree.specs.Drawing.{config_look};
 ghost use Rattle.ptree.specs.Entries.{item_entries, kid_entries, entries_below, drawn_entries};
 ghost use Rattle.ptree.specs.Graph.{weights_of, edges_of, neighbors_of};
 ghost use Rattle.ptree.specs.GraphLinks.{newest_from};
-ghost use Rattle.ptree.specs.Growing.{flags_of, is_seen, leaf_shape, grow, kids_grown, kids_seen};
+ghost use Rattle.ptree.specs.Growing.{flags_of, leaf_shape, grow, kids_grown, kids_seen};
 ghost use Rattle.ptree.specs.Looks.{look_of, own_entry};
 ghost use Rattle.ptree.specs.Occurrence.{occurrence_shape};
 ghost use Rattle.ptree.specs.Pen.{brush_look, buffer_of, HoldsPassing, HoldsOwnText};

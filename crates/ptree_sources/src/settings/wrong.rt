@@ -1,5 +1,5 @@
 //! The value in the sources of a configuration that is wrong.
-ghost use Rattle.std.specs.Prelude.{◌≡◌, option_copied, option_map, option_and_then, IfOk, Some};
+ghost use Rattle.std.specs.Prelude.{option_copied, IfOk, Some};
 ghost use Rattle.serde_json.specs.View.{view as json_view};
 ghost use Rattle.toml.specs.View.{view as toml_view};
 ghost use Rattle.ptree.specs.File.{json, toml, get};
