@@ -7,14 +7,15 @@ use Rattle.ptree.specs.Drawing.{Look}
 use Rattle.ptree.specs.Flags.{has_later, last_flags, pieces_by, passing_by, shown_by}
 use Rattle.ptree.specs.Outline.{Line, outline_at, Steps}
 use Rattle.ptree.specs.Pieces.{turning_piece, passing_piece, passing_all}
+use Rattle.ptree.specs.Reached.{AreWithin, lines_text}
 use Rattle.ptree.specs.Spelled.{has_line_feed, text_entry}
-use Rattle.ptree.proofs.Reading.Levels.{lines_drawing, has_later_deeper, last_flags_same, entry_shown, tree_by_levels}
-use Rattle.ptree.proofs.Reading.SpelledForms.{Low, tree_steps, low_height}
+use Rattle.ptree.proofs.Reading.Levels.{has_later_deeper, last_flags_same, entry_shown, tree_by_levels}
+use Rattle.ptree.proofs.Reading.Paths.{passing_all-push}
+use Rattle.ptree.proofs.Reading.SpelledForms.{tree_steps, low_height}
 use Rattle.ptree.proofs.Drawing.TreeDrawing.{drawing_of_tree}
 use Rattle.ptree_c.specs.Fields.{is_set, part_text}
 use Rattle.ptree_c.specs.Steps.{path_flags, own_flag, entry_below, step_entry, path_with, path_after, steps_text, IsStepOf, AreStepsOf, DrawsTrees, DrawsParts}
 use Rattle.ptree_c.specs.declared.steps.Step.{Step}
-use Rattle.ptree_c.proofs.Paths.{passing_more}
 use Rattle.ptree_c.proofs.Walks.{with_above, with_length}
 
 -- the flags of the first levels stay
@@ -53,7 +54,7 @@ entry_of_step k texts path s l o is some above =
     let level_is : l.level ≡ suc n = omega (arith, some) in
     let own : own_flag l.level s.is_last ≡ Some b =
     ap (λ r. cond r None (Some (is_set s.is_last))) (ne_eqb l.level 0 (omega (arith, some))) ∙ ap Some (is.last ∙ ap (λ m. not (has_later o m)) level_is) in
-    let passing : passing_all p (last_flags o n) ++ passing_piece p b ≡ passing_by p o (suc n) = sym (passing_more p (last_flags o n) b) in
+    let passing : passing_all p (last_flags o n) ++ passing_piece p b ≡ passing_by p o (suc n) = sym (passing_all-push p (last_flags o n) b) in
     ap (λ m. entry_below k (path_flags path (m - 1)) (own_flag m s.is_last) (part_text texts s.text)) is.level
     ∙ (ap (λ t. entry_below k (path_flags path n) (own_flag l.level s.is_last) t) is.text
     ∙ (ap (λ f. entry_below k f (own_flag l.level s.is_last) l.text) above
@@ -79,8 +80,8 @@ flags_after n path texts s l o is some step h keeps m low = elim (cases_lt m l.l
 ]
 
 -- the entries of items below a root are the drawing of their lines
-steps_lines : (k : Look) (texts : List ℕ) (n : ℕ) (o : List Line) (path : List ℕ) (steps : List Step) → Steps n o → Low (length path) o → KeepsFlags n path o → AreStepsOf texts o steps
-    → steps_text k texts path steps ≡ lines_drawing k o
+steps_lines : (k : Look) (texts : List ℕ) (n : ℕ) (o : List Line) (path : List ℕ) (steps : List Step) → Steps n o → AreWithin (length path) o → KeepsFlags n path o → AreStepsOf texts o steps
+    → steps_text k texts path steps ≡ lines_text k o
 steps_lines k texts n [] path [] st low keeps are = refl
 steps_lines k texts n [] path (s ∷ steps) st low keeps are = absurd are
 steps_lines k texts n (l ∷ o) path [] st low keeps are = absurd are
@@ -91,7 +92,7 @@ steps_lines k texts n (l ∷ o) path (s ∷ steps) st low keeps are =
     let h : l.level ≤ length path = low.0 in
     let above = flags_behind n path l o (l.level - 1) keeps (omega (arith, some, step)) (omega (arith, some)) in
     let after : List ℕ = path_with path l.level s.is_last in
-    let low' : Low (length after) o = subst (λ m. Low m o) (sym (with_length path l.level s.is_last h)) low.1 in
+    let low' : AreWithin (length after) o = subst (λ m. AreWithin m o) (sym (with_length path l.level s.is_last h)) low.1 in
     ap (λ z. z ++ steps_text k texts (path_with path s.level s.is_last) steps) (entry_of_step k texts path s l o is some above)
     ∙ ap (λ z. text_entry k (pieces_by k.pieces o l.level) (shown_by k.pieces o l) l.text ++ z)
     (ap (λ m. steps_text k texts (path_with path m s.is_last) steps) is.level
@@ -110,7 +111,7 @@ draws_trees look texts t path (s ∷ steps) depth long high are =
     let o : List Line = outline_at 1 t.children in
     let root : step_entry look texts path s ≡ text_entry look [] [] t.text =
     ap (λ m. entry_below look (path_flags path (m - 1)) (own_flag m s.is_last) (part_text texts s.text)) is.level ∙ ap (text_entry look [] []) is.text in
-    let rest : steps_text look texts (path_with path s.level s.is_last) steps ≡ lines_drawing look o =
+    let rest : steps_text look texts (path_with path s.level s.is_last) steps ≡ lines_text look o =
     ap (λ m. steps_text look texts (path_with path m s.is_last) steps) is.level
     ∙ steps_lines look texts 0 o path steps (tree_steps t.children) (low_height (length path) 0 t.children (omega (arith, long))) (no_flags path o) are.1 in
     (drawing_of_tree look depth t _ high).1

@@ -12,11 +12,12 @@ use Rattle.ptree.proofs.Trees.Outlines.{same_tree}
 use Rattle.ptree.specs.Drawing.{Look, IsDrawing}
 use Rattle.ptree.specs.Flags.{has_later}
 use Rattle.ptree.specs.Outline.{Line, line, outline, outline_at, Steps}
+use Rattle.ptree.specs.Reached.{AreWithin}
 use Rattle.ptree.specs.Tree.{none, item, Forest, Tree, tree, height, cut_forest, cut_tree, shape_of_tree}
 use Rattle.ptree.proofs.Drawing.CutTrees.{drawing_of_cut_tree}
 use Rattle.ptree.proofs.Trees.LineTrees.{tree_of_lines}
 use Rattle.ptree.proofs.Trees.OutlineAddresses.{outline_of_tree}
-use Rattle.ptree.proofs.Reading.SpelledForms.{Low, height_low}
+use Rattle.ptree.proofs.Reading.SpelledForms.{height_low}
 use Rattle.ptree_c.specs.Calls.{IsItemsDrawing}
 use Rattle.ptree_c.specs.Fields.{is_set}
 use Rattle.ptree_c.specs.Items.{lines_from}
@@ -130,15 +131,15 @@ steps_down deepest previous from texts (i ∷ items) down = (down.0, down.1, ste
 
 -- the lines that are drawn are low
 low_drawn : (deepest depth long previous from : ℕ) (texts : List ℕ) (items : List Item) → ((n : ℕ) → n ≤ deepest → n ≤ depth → n ≤ long) → StepsDown deepest previous items
-    → Low long (drawn_lines depth (lines_from from texts items))
+    → AreWithin long (drawn_lines depth (lines_from from texts items))
 low_drawn deepest depth long previous from texts [] fit down = tt
 low_drawn deepest depth long previous from texts (i ∷ items) fit down =
     let o : List Line = drawn_lines depth (lines_from i.end texts items) in
     let l : Line = line i.level (take (i.end - from) (drop from texts)) in
-    let below : Low long o = low_drawn deepest depth long i.level i.end texts items fit down.3 in
+    let below : AreWithin long o = low_drawn deepest depth long i.level i.end texts items fit down.3 in
     elim (low_or_deep depth i.level) [
-      | inl (deep, h) ↦ subst (λ b. Low long (cond b o (l ∷ o))) (sym deep) below
-      | inr (drawn, low) ↦ subst (λ b. Low long (cond b o (l ∷ o))) (sym drawn) (fit i.level down.2 low, below)
+      | inl (deep, h) ↦ subst (λ b. AreWithin long (cond b o (l ∷ o))) (sym deep) below
+      | inr (drawn, low) ↦ subst (λ b. AreWithin long (cond b o (l ∷ o))) (sym drawn) (fit i.level down.2 low, below)
     ]
 
 -- the items of an outline, drawn as steps, are the drawing of its tree
@@ -156,7 +157,7 @@ outline_drawn look texts path (i ∷ items) (flag ∷ flags) deepest depth drawi
     let root : line i.level text ∷ o ≡ line 0 text ∷ o = ap (λ n. line n text ∷ o) are.0 in
     let cut : outline_at 1 (cut_forest depth f) ≡ drawn_lines depth o = outline_cut depth 0 depth f (omega arith) ∙ ap (drawn_lines depth) made.1 in
     let high : (long : ℕ) → ((n : ℕ) → n ≤ deepest → n ≤ depth → n ≤ long) → height (cut_forest depth f) ≤ long =
-    λ long fits. let low = height_low long 0 (cut_forest depth f) (omega arith) (subst (λ z. Low long z) (sym cut) (low_drawn deepest depth long 0 i.end texts items fits are.1)) in omega (arith, low) in
+    λ long fits. let low = height_low long 0 (cut_forest depth f) (omega arith) (subst (λ z. AreWithin long z) (sym cut) (low_drawn deepest depth long 0 i.end texts items fits are.1)) in omega (arith, low) in
     let drawn : drawn_lines depth (line i.level text ∷ o) ≡ outline (cut_tree depth t) =
     ap (drawn_lines depth) root
     ∙ (ap (λ b. cond b (drawn_lines depth o) (line 0 text ∷ drawn_lines depth o)) (le-ltb depth 0 (omega arith)) ∙ ap (λ z. line 0 text ∷ z) (sym cut)) in

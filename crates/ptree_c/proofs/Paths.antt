@@ -2,18 +2,14 @@
 use Rattle.std.proofs.Common.{◌≡◌, ℕ, suc, ◌+◌, ◌-◌, ◌*◌, ◌<◌, ◌≤◌, Bool, true, false, List, [], ◌∷◌, ◌++◌, length, map, take, get_or, sym, ap, ◌∙◌, subst, append_assoc, arith}
 use Rattle.std.proofs.Math.Seq.{take-append_seam}
 use Rattle.std.proofs.Math.Nat.{mul-le-mul_right, suc-mul}
-use Rattle.std.proofs.lemmas.List.{append-nil, length-append, length-map, length-take-le, map-append, take_more}
+use Rattle.std.proofs.lemmas.List.{length-append, length-map, length-take-le, map-append, take_more}
 use Rattle.ptree.specs.Drawing.{Look}
 use Rattle.ptree.specs.Pieces.{Pieces, passing_piece, passing_all}
 use Rattle.ptree.specs.Style.{start_codes}
+use Rattle.ptree.proofs.Reading.Paths.{passing_all-push}
 use Rattle.ptree_c.specs.Fields.{is_set}
 use Rattle.ptree_c.specs.Pens.{widest}
 use Rattle.ptree_c.specs.Steps.{path_flags}
-
--- the passing pieces of one level more
-pub passing_more : (p : Pieces) (above : List Bool) (b : Bool) → passing_all p (above ++ b ∷ []) ≡ passing_all p above ++ passing_piece p b
-passing_more p [] b = append-nil (passing_piece p b)
-passing_more p (d ∷ above) b = ap (λ z. passing_piece p d ++ z) (passing_more p above b) ∙ sym (append_assoc (passing_piece p d) (passing_all p above) (passing_piece p b))
 
 -- the flags of one level more
 pub flags_more : (path : List ℕ) (n : ℕ) → n < length path → path_flags path (n + 1) ≡ path_flags path n ++ is_set (get_or path n 0) ∷ []
@@ -21,7 +17,7 @@ flags_more path n h = ap (map is_set) (take_more path n 0 h) ∙ map-append is_s
 
 -- the pieces of one level more
 pieces_more : (p : Pieces) (path : List ℕ) (n : ℕ) → n < length path → passing_all p (path_flags path (n + 1)) ≡ passing_all p (path_flags path n) ++ passing_piece p (is_set (get_or path n 0))
-pieces_more p path n h = ap (passing_all p) (flags_more path n h) ∙ passing_more p (path_flags path n) (is_set (get_or path n 0))
+pieces_more p path n h = ap (passing_all p) (flags_more path n h) ∙ passing_all-push p (path_flags path n) (is_set (get_or path n 0))
 
 -- a level down
 pub front_down : (p : Pieces) (path start front : List ℕ) (n : ℕ) → n < length path → front ≡ start ++ passing_all p (path_flags path n)

@@ -3,7 +3,7 @@ use Rattle.std.specs.Borrow.{Bor}
 use Rattle.std.specs.Prelude.{option_map}
 use Rattle.std.proofs.Common.{◌≡◌, ◌∙◌, ℕ, ◌+◌, ◌<◌, ◌≤◌, List, [], ◌∷◌, ◌++◌, map, length, get_or, set, take, drop, sym, ap, subst, arith}
 use Rattle.std.proofs.Math.Seq.{set-append_seam}
-use Rattle.std.proofs.lemmas.List.{map-append, map_more, take_all, take_more, length-map, length-take, set-get_or}
+use Rattle.std.proofs.lemmas.List.{map-append, map_more, take_all, take_more, length-map, length-take, set-get_or, map_push}
 use Rattle.ptree_trees.specs.declared.paths.cut.CutPath.{CutPath}
 use Rattle.ptree_trees.specs.declared.paths.group.Group.{Group}
 use Rattle.ptree_trees.specs.CutName.{tail_names}
@@ -32,19 +32,15 @@ split_last xs k x y e is =
     let front : length (take k xs) ≡ k = length-take k xs ∙ omega (arith, e) in
     (whole, ap (λ z. set z k y) whole ∙ (ap (λ j. set (take k xs ++ x ∷ []) j y) (sym front) ∙ set-append_seam (take k xs) x [] y))
 
--- those of a list with one more at the end
-groups_push : (gs : List Group) (g : Group) → map group_of (gs ++ g ∷ []) ≡ map group_of gs ++ group_of g ∷ []
-groups_push gs g = map-append group_of gs (g ∷ [])
-
 -- a path of the last group's name
 pub group_same : (gs : List Group) (k : ℕ) (g made : Group) (c : Cut) → length gs ≡ k + 1 → g ≡ get_or gs k g → g.name.now ≡ c.name
     → group_of made ≡ with_tail (group_of g) c → (cuts : List Cut) → IsGrouping cuts (map group_of gs) → IsGrouping (cuts ++ c ∷ []) (map group_of (set gs k made))
 group_same gs k g made c e is same added cuts h =
     let parts = split_last gs k g made e is in
     let front = take k gs in
-    let old : map group_of gs ≡ map group_of front ++ group_of g ∷ [] = ap (map group_of) parts.0 ∙ groups_push front g in
+    let old : map group_of gs ≡ map group_of front ++ group_of g ∷ [] = ap (map group_of) parts.0 ∙ map_push group_of front g in
     let new : map group_of (set gs k made) ≡ map group_of front ++ with_tail (group_of g) c ∷ [] =
-    ap (map group_of) parts.1 ∙ (groups_push front made ∙ ap (λ z. map group_of front ++ z ∷ []) added) in
+    ap (map group_of) parts.1 ∙ (map_push group_of front made ∙ ap (λ z. map group_of front ++ z ∷ []) added) in
     subst (IsGrouping (cuts ++ c ∷ [])) (sym new)
     (grouping_same cuts (map group_of front) (group_of g) c (subst (IsGrouping cuts) old h) same)
 
@@ -55,9 +51,9 @@ pub group_next : (gs mid new : List Group) (k : ℕ) (g made : Group) (c : Cut) 
 group_next gs mid new k g made c e is other added pushed same cuts h none =
     let parts = split_last gs k g made e is in
     let front = take k gs in
-    let old : map group_of gs ≡ map group_of front ++ group_of g ∷ [] = ap (map group_of) parts.0 ∙ groups_push front g in
+    let old : map group_of gs ≡ map group_of front ++ group_of g ∷ [] = ap (map group_of) parts.0 ∙ map_push group_of front g in
     let whole : map group_of new ≡ (map group_of front ++ group_of g ∷ []) ++ group_from c ∷ [] =
-    ap (map group_of) (pushed ∙ ap (λ z. z ++ made ∷ []) same) ∙ (groups_push gs made ∙ (ap (λ z. z ++ group_of made ∷ []) old ∙ ap (λ z. (map group_of front ++ group_of g ∷ []) ++ z ∷ []) added)) in
+    ap (map group_of) (pushed ∙ ap (λ z. z ++ made ∷ []) same) ∙ (map_push group_of gs made ∙ (ap (λ z. z ++ group_of made ∷ []) old ∙ ap (λ z. (map group_of front ++ group_of g ∷ []) ++ z ∷ []) added)) in
     subst (IsGrouping (cuts ++ c ∷ [])) (sym whole)
     (grouping_next cuts (map group_of front) (group_of g) c (subst (IsGrouping cuts) old h) none other)
 

@@ -57,7 +57,7 @@ no_feed_indent unit u zero = All-nil (λ c. c ≢ 10)
 no_feed_indent unit u (suc n) = All-append (λ c. c ≢ 10) unit (indent unit n) (no_feed_blanks unit u.1) (no_feed_indent unit u n)
 
 -- what begins with a unit begins with a blank or a tab
-blank_unit : (unit : List ℕ) → IsUnit unit → (x : List ℕ) → begins_blank (unit ++ x) ≡ true
+pub blank_unit : (unit : List ℕ) → IsUnit unit → (x : List ℕ) → begins_blank (unit ++ x) ≡ true
 blank_unit [] u x = absurd (u.0 refl)
 blank_unit (b ∷ unit) u x = u.1.0
 

@@ -7,7 +7,7 @@ use Rattle.std.proofs.lemmas.Bool.{and_parts, and_from}
 use Rattle.ptree_trees.specs.Parts.{begins_with, has_part}
 
 -- a text that begins with a part is the part and a rest
-begins : (part text : List ℕ) → begins_with part text ≡ true → (rest : List ℕ) × (text ≡ part ++ rest)
+pub begins : (part text : List ℕ) → begins_with part text ≡ true → (rest : List ℕ) × (text ≡ part ++ rest)
 begins [] text h = (text, refl)
 begins (c ∷ part) [] h = absurd (cc)
 begins (c ∷ part) (d ∷ text) h =
@@ -16,7 +16,7 @@ begins (c ∷ part) (d ∷ text) h =
     (q.0, ap (λ e. e ∷ text) (sym (eqb-true c d s.0)) ∙ ap (λ z. c ∷ z) q.1)
 
 -- a part and a rest begin with the part
-begun : (part rest : List ℕ) → begins_with part (part ++ rest) ≡ true
+pub begun : (part rest : List ℕ) → begins_with part (part ++ rest) ≡ true
 begun [] rest = refl
 begun (c ∷ part) rest = and_from _ _ (eq-eqb c c refl) (begun part rest)
 

@@ -1,17 +1,10 @@
 -- The first path to a value of a kind, row by row.
 use Rattle.std.proofs.Common.{◌≡◌, ◌∙◌, ◌⊎◌, inl, inr, ℕ, List, [], ◌∷◌, ◌++◌, map, reverse, Vec, Option, Some, None, Global, ap, sym, refl, subst}
 use Rattle.std.proofs.lemmas.List.{reverse-append}
+use Rattle.std.proofs.lemmas.Option.{none-some}
 use Rattle.ptree_trees.specs.declared.documents.refused.Step.{Step}
 use Rattle.ptree_trees.specs.RefusedPath.{StepValue, at_key, at_position, step_of, Path, IsStepBefore, IsPathBefore, LeadsTo, IsFirstOf}
 use Rattle.ptree_trees.specs.RefusedWalk.{path_found, HasRow, LeadsThrough, IsFirstIn}
-
--- nothing is something
-pub none_some : {D : Type 0} (c : D) → None ≡ Some c → ⊥
-none_some c h = (cc)
-
--- the same something
-pub some_same : {D : Type 0} (c d : D) → Some c ≡ Some d → c ≡ d
-some_same c d h = (cc)
 
 -- the first of some paths is the first of others that are the same
 pub same_paths : (L M : Path → Type 0) (path : Option Path) → ((q : Path) → L q → M q) → ((q : Path) → M q → L q) → IsFirstOf L path → IsFirstOf M path
@@ -113,8 +106,8 @@ pub none_in_leaf : {D : Type 0} (at_step : StepValue → D → Option D) (IsOfKi
 none_in_leaf {D} at_step IsOfKind d e is not no_key no_position = subst (λ d. IsFirstOf (LeadsTo at_step IsOfKind d) None) (sym is) none
   where
     nothing : (s : StepValue) (c : D) → at_step s e ≡ Some c → ⊥
-    nothing (at_key k) c h = none_some c (sym (no_key k) ∙ h)
-    nothing (at_position n) c h = none_some c (sym (no_position n) ∙ h)
+    nothing (at_key k) c h = none-some c (sym (no_key k) ∙ h)
+    nothing (at_position n) c h = none-some c (sym (no_position n) ∙ h)
 
     none : (q : Path) → LeadsTo at_step IsOfKind e q → ⊥
     none [] h = not h
@@ -127,8 +120,8 @@ first_of_kind {D} at_step IsOfKind d e p is here kind no_key no_position =
     subst (λ d. IsFirstOf (LeadsTo at_step IsOfKind d) (Some p)) (sym is) (subst (λ p. IsFirstOf (LeadsTo at_step IsOfKind e) (Some p)) (sym here) (kind, others))
   where
     nothing : (s : StepValue) (c : D) → at_step s e ≡ Some c → ⊥
-    nothing (at_key k) c h = none_some c (sym (no_key k) ∙ h)
-    nothing (at_position n) c h = none_some c (sym (no_position n) ∙ h)
+    nothing (at_key k) c h = none-some c (sym (no_key k) ∙ h)
+    nothing (at_position n) c h = none-some c (sym (no_position n) ∙ h)
 
     others : (q : Path) → LeadsTo at_step IsOfKind e q → (q ≡ []) ⊎ IsPathBefore [] q
     others [] h = inl refl

@@ -1,5 +1,6 @@
 -- The rows of a list's elements and of a table's members, and the first path through them.
 use Rattle.std.proofs.Common.{◌≡◌, ◌∙◌, ◌⊎◌, inl, inr, ℕ, zero, suc, ◌<◌, ◌+◌, List, [], ◌∷◌, Option, Some, None, String, Global, Less, Equal, Greater, nat_cmp, string_bytes, ap, sym, refl, subst, arith, add-zero, Ordering}
+use Rattle.std.proofs.lemmas.Option.{none-some, same_Some}
 use Rattle.std.specs.Cmp.Lexicographic.{slice_cmp, nat_list_cmp_total}
 use Rattle.std.specs.FinMap.{nat_cmp-IsAntisymmetric, slice_cmp-IsAntisymmetric}
 use Rattle.std.specs.List.{AllByRecursion}
@@ -7,7 +8,7 @@ use Rattle.std.specs.List.Sorted.{IsStrictlySortedBy}
 use Rattle.std.specs.Map.{keys_of}
 use Rattle.std.specs.Ordering.{match_ordering, ordering_reverse}
 use Rattle.std.specs.String.{string_cmp}
-use Rattle.ptree_trees.proofs.RefusedPaths.{none_some, some_same, first_by_rows}
+use Rattle.ptree_trees.proofs.RefusedPaths.{first_by_rows}
 use Rattle.ptree_trees.specs.RefusedPath.{StepValue, at_key, at_position, Path, IsStepBefore, LeadsTo, IsFirstOf}
 use Rattle.ptree_trees.specs.RefusedWalk.{element_rows, member_rows, HasRow, IsFirstIn}
 
@@ -28,8 +29,8 @@ module _ {D : Type 0} (get : ℕ → List D → Option D) (nothing : (n : ℕ) �
     (later : (n : ℕ) (d : D) (ds : List D) → get (suc n) (d ∷ ds) ≡ get n ds) where
   -- an element has a row
   element_row : (n m : ℕ) (ds : List D) (c : D) → get m ds ≡ Some c → HasRow (element_rows n ds) (at_position (n + m)) c
-  element_row n m [] c h = absurd (none_some c (sym (nothing m) ∙ h))
-  element_row n zero (d ∷ ds) c h = inl (ap at_position (add-zero n), some_same c d (sym h ∙ first d ds))
+  element_row n m [] c h = absurd (none-some c (sym (nothing m) ∙ h))
+  element_row n zero (d ∷ ds) c h = inl (ap at_position (add-zero n), same_Some c d (sym h ∙ first d ds))
   element_row n (suc m) (d ∷ ds) c h =
       let e : (n + 1) + m ≡ n + suc m = omega arith in
       inr (subst (λ k. HasRow (element_rows (n + 1) ds) (at_position k) c) e (element_row (n + 1) m ds c (sym (later m d ds) ∙ h)))
@@ -56,7 +57,7 @@ module _ {D : Type 0} (get : ℕ → List D → Option D) (nothing : (n : ℕ) �
 -- what an ordering picks
 picked : {D : Type 0} (o : Ordering) (rest : Option D) (d c : D) → match_ordering o rest (Some d) rest ≡ Some c → ((o ≡ Equal) × (c ≡ d)) ⊎ (rest ≡ Some c)
 picked Less rest d c h = inr h
-picked Equal rest d c h = inl (refl, some_same c d (sym h))
+picked Equal rest d c h = inl (refl, same_Some c d (sym h))
 picked Greater rest d c h = inr h
 
 -- an ordering that is its own reverse
@@ -74,7 +75,7 @@ module _ {V D : Type 0} (meant : V → D) (find : List ℕ → List (String Glob
     → find k (m ∷ ms) ≡ match_ordering (slice_cmp nat_cmp k (string_bytes m.0)) (find k ms) (Some (meant m.1)) (find k ms)) where
   -- a value that is found at a key has a row
   pub member_row : (k : List ℕ) (ms : List (String Global × V)) (c : D) → find k ms ≡ Some c → HasRow (member_rows meant ms) (at_key k) c
-  member_row k [] c h = absurd (none_some c (sym (nothing k) ∙ h))
+  member_row k [] c h = absurd (none-some c (sym (nothing k) ∙ h))
   member_row k (m ∷ ms) c h = by_order (member_row k ms c) (picked (slice_cmp nat_cmp k (string_bytes m.0)) (find k ms) (meant m.1) c (sym (first k m ms) ∙ h))
     where
       by_order : (find k ms ≡ Some c → HasRow (member_rows meant ms) (at_key k) c) → ((slice_cmp nat_cmp k (string_bytes m.0) ≡ Equal) × (c ≡ meant m.1)) ⊎ (find k ms ≡ Some c)
@@ -105,7 +106,7 @@ first_in_list {D} at_step IsOfKind get nothing first later d ds path not positio
     first_by_rows at_step IsOfKind d (element_rows 0 ds) path not row step h
   where
     row : (s : StepValue) (c : D) → at_step s d ≡ Some c → HasRow (element_rows 0 ds) s c
-    row (at_key k) c e = absurd (none_some c (sym (no_key k) ∙ e))
+    row (at_key k) c e = absurd (none-some c (sym (no_key k) ∙ e))
     row (at_position n) c e = element_rows_are get nothing first later ds n c (sym (position n) ∙ e)
 
     step : (s : StepValue) (c : D) → HasRow (element_rows 0 ds) s c → at_step s d ≡ Some c
@@ -126,7 +127,7 @@ first_in_members {V} {D} at_step IsOfKind meant find nothing first d ms path sor
   where
     row : (s : StepValue) (c : D) → at_step s d ≡ Some c → HasRow (member_rows meant ms) s c
     row (at_key k) c e = member_row meant find nothing first k ms c (sym (key k) ∙ e)
-    row (at_position n) c e = absurd (none_some c (sym (no_position n) ∙ e))
+    row (at_position n) c e = absurd (none-some c (sym (no_position n) ∙ e))
 
     step : (s : StepValue) (c : D) → HasRow (member_rows meant ms) s c → at_step s d ≡ Some c
     step s c e =

@@ -15,7 +15,7 @@ use Rattle.ptree.specs.Tree.{Tree}
 use Rattle.ptree.proofs.Drawing.Inserted.{is_feed}
 use Rattle.ptree.proofs.Pieces.Prefixes.{apart_not_both_starts, same_kind, same_prefix}
 use Rattle.ptree.proofs.Reading.Continuations.{goes_on_before}
-use Rattle.ptree.proofs.Reading.FirstLines.{first_rest}
+use Rattle.ptree.proofs.Reading.FirstLines.{first_rest, count_other}
 use Rattle.ptree.proofs.Styles.PaintedTexts.{plain_codes}
 use Rattle.trees.specs.Expected.{CanFollow, IsBeginning, IsUncoloured, ListsBeginnings, IsLastLine, AddsListed, EndsPieces, AreFronts, HasFronts}
 use Rattle.trees.proofs.DistinctTexts.{all_contained, distinct_at, adds_both}
@@ -28,10 +28,6 @@ count_feed : (b : ℕ) (x : List ℕ) → b ≡ 10 → line_count (b ∷ x) ≡ 
 count_feed b x e =
     let one : 1 + line_count x ≡ suc (line_count x) = omega arith in
     ap (λ c. cond c (1 + line_count x) (line_count x)) (eq-eqb b 10 e) ∙ one
-
--- any other byte does not
-count_other : (b : ℕ) (x : List ℕ) → b ≢ 10 → line_count (b ∷ x) ≡ line_count x
-count_other b x e = ap (λ c. cond c (1 + line_count x) (line_count x)) (ne_eqb b 10 e)
 
 -- whole lines are at least one
 counts_some : (x : List ℕ) → (n : ℕ) × (line_count (x ++ 10 ∷ []) ≡ suc n)

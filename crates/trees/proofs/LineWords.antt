@@ -1,6 +1,7 @@
 -- Words of lines.
 use Rattle.std.specs.Prelude.{filter}
 use Rattle.std.proofs.Common.{◌≡◌, ◌∙◌, ℕ, ◌<◌, not, Bool, true, false, List, [], ◌∷◌, ◌++◌, length, length-append, map, refl, sym, ap, subst, append_assoc, arith}
+use Rattle.std.proofs.lemmas.Bool.{not-false}
 use Rattle.std.proofs.lemmas.List.{append-nil}
 use Rattle.std.proofs.lemmas.List.Elements.{All-from_recursion}
 use Rattle.std.proofs.lemmas.List.Splits.{slice_split-cons_yes, slice_split_none, slice_split_at}
@@ -13,10 +14,6 @@ use Rattle.trees.specs.Listing.{is_empty}
 
 -- ## Characters
 
-from_not : (x : Bool) → not x ≡ false → x ≡ true
-from_not true e = refl
-from_not false e = cc
-
 -- what stands between the characters that pass a test
 module _ (p : ℕ → Bool) where
   abbrev pub parts : List ℕ → List (List ℕ)
@@ -25,7 +22,7 @@ module _ (p : ℕ → Bool) where
   -- no character of the list is no white space
   none_other : (cs : List ℕ) → NonePass (λ c. not (p c)) cs → AllByRecursion (λ c. p c ≡ true) cs
   none_other [] h = tt
-  none_other (c ∷ cs) h = (from_not (p c) h.0, none_other cs h.1)
+  none_other (c ∷ cs) h = (not-false (p c) h.0, none_other cs h.1)
 
   none_passes : (cs : List ℕ) → NonePass p cs → AllByRecursion (λ c. p c ≡ false) cs
   none_passes [] h = tt

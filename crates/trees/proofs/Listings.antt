@@ -1,6 +1,6 @@
 -- Paths that are right, and their trees.
-use Rattle.std.proofs.Common.{◌≡◌, ◌≢◌, ◌∙◌, ℕ, ◌+◌, ◌<◌, ◌&&◌, ◌||◌, not, Bool, true, false, cond, eqb, ltb, Option, Some, None, List, [], ◌∷◌, ◌++◌, length, get_or, drop, map, refl, sym, ap, subst, arith}
-use Rattle.std.proofs.lemmas.Bool.{false≢true, eqb-true, eq-eqb, and_parts, and_from, or_parts, or_left, or_right, or_from, not_from_false}
+use Rattle.std.proofs.Common.{◌≡◌, ◌≢◌, ◌∙◌, ℕ, ◌+◌, ◌<◌, ◌&&◌, ◌||◌, not, Bool, true, false, cond, eqb, ltb, Option, Some, None, List, [], ◌∷◌, length, get_or, drop, map, refl, sym, ap, subst, arith}
+use Rattle.std.proofs.lemmas.Bool.{false≢true, eqb-true, eq-eqb, and_from, or_parts, or_left, or_right, or_from, not_from_false}
 use Rattle.std.proofs.lemmas.List.{at_drop_more, get_or_default}
 use Rattle.std.proofs.lemmas.List.Folds.{list_any_at, Any-from_list_any}
 use Rattle.std.specs.Borrow.{Bor}
@@ -10,6 +10,7 @@ use Rattle.std.specs.Prelude.{slice_index}
 use Rattle.ptree.specs.Tree.{Forest, Tree}
 use Rattle.ptree_trees.specs.Parts.{begins_with}
 use Rattle.ptree_trees.specs.Paths.{names, next_names, texts_below}
+use Rattle.ptree_trees.proofs.PartTexts.{begins}
 use Rattle.ptree_trees.proofs.PathTrees.{names_have}
 use Rattle.trees.specs.declared.command.Paths.{Paths}
 use Rattle.trees.specs.declared.source.Source.{Source}
@@ -18,15 +19,6 @@ use Rattle.trees.proofs.PathNames.{own_count}
 use Rattle.trees.specs.ListingParts.{own_names, is_first_absolute, beside, is_unlike, is_wrong_line}
 
 -- ## Texts
-
--- a text that begins with a part is the part and a rest
-pub begins : (part text : List ℕ) → begins_with part text ≡ true → (rest : List ℕ) × (text ≡ part ++ rest)
-begins [] text h = (text, refl)
-begins (c ∷ part) [] h = absurd (false≢true h)
-begins (c ∷ part) (d ∷ text) h =
-    let s = and_parts (eqb c d) (begins_with part text) h in
-    let q = begins part text s.1 in
-    (q.0, ap (λ (e : ℕ). e ∷ text) (sym (eqb-true c d s.0)) ∙ ap (λ (z : List ℕ). c ∷ z) q.1)
 
 -- a text that begins with no byte order mark is unmarked
 pub unmarked_bare : (text : List ℕ) → ((rest : List ℕ) → text ≢ 239 ∷ 187 ∷ 191 ∷ rest) → text ≡ unmarked text

@@ -1,7 +1,7 @@
 -- Drawings of merges, which are refusals.
-use Rattle.std.proofs.Common.{◌≡◌, ℕ, Bool, false, inl, inr, Option, Some, None, List, [], Result, Ok, Err, sym, subst, append-nil}
+use Rattle.std.proofs.Common.{◌≡◌, ℕ, Bool, false, inl, inr, Option, List, Result, Ok, Err, subst}
+use Rattle.std.proofs.KnownBytes.{Appends-nil}
 use Rattle.std.proofs.lemmas.Bool.{false≢true}
-use Rattle.std.specs.Io.KnownBytes.{Appends}
 use Rattle.std.specs.Prelude.{IsErr, IfErr}
 use Rattle.ptree.specs.declared.print_config.OutputKind.TheVariants.{Unknown}
 use Rattle.ptree.specs.Config.{ConfigValue}
@@ -29,19 +29,14 @@ merge_drawing config is_terminal look t u s bytes same shows drawn = (
   subst (λ (x : Shape). IsDrawing (look_by config Unknown false) x config.depth bytes) (shape_of_item s) drawn,
 )
 
--- nothing is appended to what is the same
-appends_none : (old : Option (List ℕ)) → Appends old old []
-appends_none None = tt
-appends_none (Some bytes) = sym (append-nil bytes)
-
 -- a call that fails before it writes has appended nothing
 pub refuses_early : {A : Type 0} (old : Option (List ℕ)) (r : Result A Failure) (Is : List ℕ → Type 0) (Fails : Failure → Type 0) → (Fails Said → ⊥) → IsErr r → IfErr r Fails → WritesRefusal old old r Is Fails
 refuses_early old (Ok x) Is Fails none err says = absurd (false≢true err)
-refuses_early old (Err (Usage wrong)) Is Fails none err says = inl (says, appends_none old)
-refuses_early old (Err (Input wrong)) Is Fails none err says = inl (says, appends_none old)
+refuses_early old (Err (Usage wrong)) Is Fails none err says = inl (says, Appends-nil old)
+refuses_early old (Err (Input wrong)) Is Fails none err says = inl (says, Appends-nil old)
 refuses_early old (Err Said) Is Fails none err says = absurd (none says)
-refuses_early old (Err (Output kind)) Is Fails none err says = inl (says, appends_none old)
-refuses_early old (Err Memory) Is Fails none err says = inl (says, appends_none old)
+refuses_early old (Err (Output kind)) Is Fails none err says = inl (says, Appends-nil old)
+refuses_early old (Err Memory) Is Fails none err says = inl (says, Appends-nil old)
 
 -- what is written is also what follows of it
 pub refusal_weaker : {A : Type 0} (old new : Option (List ℕ)) (r : Result A Failure) (Is Js : List ℕ → Type 0) (Fails Gives : Failure → Type 0)

@@ -8,10 +8,10 @@ use Rattle.std.specs.Prelude.{option_map}
 use Rattle.std.specs.declared.cmp.Ordering.TheVariants.{Equal}
 use Rattle.std.proofs.Common.{◌≡◌, ◌∙◌, ℕ, ◌<◌, ◌≤◌, ◌⊎◌, false, Result, Ok, Err, List, length, get_or, Some, ap, refl, sym, subst, arith, inl, inr, string_bytes}
 use Rattle.std.proofs.lemmas.Bool.{cases_lt}
-use Rattle.std.proofs.lemmas.Bool.Decides.{nat_tests}
 use Rattle.std.proofs.lemmas.Cmp.{nat_list_cmp_total, nat_cmp_total, on_total, then_total, tied_itself}
 use Rattle.std.proofs.lemmas.List.Elements.{All-get_or}
 use Rattle.std.proofs.lemmas.List.Sorted.{searchable_from_sorted}
+use Rattle.std.proofs.lemmas.Map.Keys.{ge_from_not_lt}
 use Rattle.std.proofs.lemmas.Option.{slice_get_read, slice_get_past}
 use Rattle.ptree.specs.declared.item.StringItem.{StringItem, out-StringItem}
 use Rattle.ptree.specs.Tree.{tree_of}
@@ -34,10 +34,6 @@ not_before places p (Err i) at found up here e within is =
     let last : i ≤ at = omega arith in
     ap (λ q. is_lt (place_cmp q p)) is ∙ ap is_lt (point.1 at found last within)
 
--- a number that is not less is as large
-not_less : (a b : ℕ) → is_lt (nat_cmp a b) ≡ false → b ≤ a
-not_less a b e = grind (arith, nat_tests)
-
 -- a text at a position is that of an item
 at_within : (items : List StringItem) (i : ℕ) (text : List ℕ) → text_at items i ≡ Some text → i < length items
 at_within items i text e = elim (cases_lt i (length items)) [
@@ -59,7 +55,7 @@ found_place items places from text r at found are searched one within is same =
     let later : is_lt (place_cmp found (text, from)) ≡ false = not_before places (text, from) r at found are.ascending searched one within is in
     let tied : slice_cmp nat_cmp found.0.now text.now ≡ Equal = ap (λ t. slice_cmp nat_cmp t text.now) same ∙ tied_itself nat_list_cmp_total text.now in
     record {
-      behind = not_less found.1 from (sym (ap (λ r. is_lt (ordering_then r (nat_cmp found.1 from))) tied) ∙ later);
+      behind = ge_from_not_lt found.1 from (sym (ap (λ r. is_lt (ordering_then r (nat_cmp found.1 from))) tied) ∙ later);
       within = at_within items found.1 text.now there;
       same = there;
     }

@@ -3,7 +3,7 @@ use Rattle.std.specs.List.{slice_range}
 use Rattle.std.specs.Prelude.{option_map}
 use Rattle.std.specs.Str.{bytes_eq}
 use Rattle.std.proofs.Common.{◌≡◌, ◌∙◌, ℕ, ◌+◌, ◌<◌, ◌≤◌, ◌++◌, true, List, [], ◌∷◌, length, get_or, map, take, drop, Option, Some, None, string_bytes, ap, refl, sym, subst, append_assoc, append-nil}
-use Rattle.std.proofs.lemmas.List.{take_more, take_all, at_drop_more, map-append}
+use Rattle.std.proofs.lemmas.List.{take_more, take_all, map-append}
 use Rattle.std.proofs.lemmas.List.Folds.{drop_split}
 use Rattle.std.proofs.lemmas.Option.{slice_get_read}
 use Rattle.std.proofs.lemmas.Slice.Eq.{bytes_eq-Decides}
@@ -12,6 +12,7 @@ use Rattle.ptree.specs.declared.style.Style.{Style}
 use Rattle.ptree.specs.declared.item.StringItem.{StringItem, out-StringItem}
 use Rattle.ptree.specs.Tree.{Forest, Tree, item, tree_of, forest}
 use Rattle.ptree.proofs.Trees.ItemTrees.{tree_of_item}
+use Rattle.ptree.proofs.Trees.OutlineItems.{left_more}
 use Rattle.ptree_trees.specs.Styled.{HasParts}
 use Rattle.ptree_trees.specs.declared.styled.StyledItem.{StyledItem}
 use Rattle.trees.specs.declared.compare.Look.{Look}
@@ -53,23 +54,15 @@ whole_marked look side root s text own made xs i e l parts marks style kids =
 
 -- ## Items
 
--- the text of an item's tree
-pub text_of_item : (s : StringItem) → (tree_of s).text ≡ string_bytes (out-StringItem s).text
-text_of_item s = ap (λ t. t.text) (tree_of_item s)
-
 -- the forest of an item's children
 pub forest_below : (s : StringItem) (xs : List StringItem) → xs ≡ (out-StringItem s).children.items → forest (map tree_of xs) ≡ (tree_of s).children
 forest_below s xs e = ap (λ (ys : List StringItem). forest (map tree_of ys)) e ∙ sym (ap (λ t. t.children) (tree_of_item s))
-
--- an item is the first of those that are left
-pub items_left : (xs : List StringItem) (i : ℕ) (x : StringItem) → i < length xs → x ≡ get_or xs i x → map tree_of (drop i xs) ≡ tree_of x ∷ map tree_of (drop (i + 1) xs)
-items_left xs i x l is = ap (map tree_of) (rw (← is) at (at_drop_more (λ ys. ys) xs i x l))
 
 -- an item is the first of those that are left behind others
 pub items_passed : (ys : List StringItem) (from at : ℕ) (y : StringItem) → from ≤ at → at < length ys → y ≡ get_or ys at y
     → map tree_of (drop from ys) ≡ map tree_of (slice_range ys from at) ++ tree_of y ∷ map tree_of (drop (at + 1) ys)
 items_passed ys from at y in_order l is =
-    ap (map tree_of) (drop_split ys from at in_order) ∙ map-append tree_of (slice_range ys from at) (drop at ys) ∙ ap (λ ts. map tree_of (slice_range ys from at) ++ ts) (items_left ys at y l is)
+    ap (map tree_of) (drop_split ys from at in_order) ∙ map-append tree_of (slice_range ys from at) (drop at ys) ∙ ap (λ ts. map tree_of (slice_range ys from at) ++ ts) (left_more tree_of ys at y l is)
 
 -- an item at a position has the text there
 pub text_found : (ys : List StringItem) (at : ℕ) (y : StringItem) (text : List ℕ) → at < length ys → y ≡ get_or ys at y → text_at ys at ≡ Some text → text ≡ (tree_of y).text

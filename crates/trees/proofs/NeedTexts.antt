@@ -1,5 +1,6 @@
 -- What texts say of the packages that are needed.
 use Rattle.std.proofs.Common.{◌≡◌, ◌≢◌, ◌∙◌, ℕ, ◌+◌, ◌<◌, List, [], ◌∷◌, ◌++◌, length, get_or, drop, codes, refl, sym, ap, subst, append_assoc, length-append, arith}
+use Rattle.std.proofs.Math.Seq.{drop-append_seam}
 use Rattle.std.proofs.lemmas.List.{append-nil}
 use Rattle.std.specs.Prelude.{Option, Some, None, IfSome, IsSome}
 use Rattle.std.specs.Str.Pattern.{LacksTextAt}
@@ -13,10 +14,6 @@ pub at_front : (xs ys : List ℕ) (c : ℕ) → get_or (xs ++ c ∷ ys) (length 
 at_front [] ys c = refl
 at_front (x ∷ xs) ys c = at_front xs ys c
 
-pub behind_front : (xs ys : List ℕ) → drop (length xs) (xs ++ ys) ≡ ys
-behind_front [] ys = refl
-behind_front (x ∷ xs) ys = behind_front xs ys
-
 -- a text without a byte
 pub lacks_byte : (c : ℕ) (text : List ℕ) → ((i : ℕ) → i < length text → get_or text i 0 ≢ c) → Lacks (c ∷ []) text
 lacks_byte c text none = λ before after e.
@@ -29,7 +26,7 @@ lacks_before part text front back is some first = λ before after e.
     let size : length front ≡ length before + (length part + length after) = ap length e ∙ (length-append before (part ++ after) ∙ ap (λ (n : ℕ). length before + n) (length-append part after)) in
     first (length before) (omega arith) (after ++ (part ++ back))
     (ap (drop (length before)) (is ∙ ap (λ (t : List ℕ). t ++ (part ++ back)) e ∙ append_assoc before (part ++ after) (part ++ back))
-    ∙ (behind_front before ((part ++ after) ++ (part ++ back)) ∙ append_assoc part after (part ++ back)))
+    ∙ (drop-append_seam before ((part ++ after) ++ (part ++ back)) ∙ append_assoc part after (part ++ back)))
 
 -- ## Needs
 

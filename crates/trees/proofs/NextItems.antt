@@ -1,6 +1,6 @@
 -- The item with which a drawing goes on after whole lines, and what their last line shows of the one
 -- before it.
-use Rattle.std.proofs.Common.{◌≡◌, ◌≢◌, ℕ, suc, ◌<◌, ◌≤◌, ◌⊎◌, inl, inr, List, [], ◌∷◌, ◌++◌, length, length-append, refl, sym, ap, ◌∙◌, subst, append_assoc, arith}
+use Rattle.std.proofs.Common.{◌≡◌, ◌≢◌, ℕ, suc, ◌<◌, ◌≤◌, ◌⊎◌, inl, inr, List, [], ◌∷◌, ◌++◌, refl, sym, ap, ◌∙◌, subst, append_assoc}
 use Rattle.std.proofs.lemmas.List.Elements.{All-append}
 use Rattle.ptree.specs.Drawing.{Look, with_inserted, continued_prefix}
 use Rattle.ptree.specs.Flags.{last_flags, pieces_by, passing_by}
@@ -15,6 +15,7 @@ use Rattle.ptree.proofs.Reading.NextLines.{line_split}
 use Rattle.ptree.proofs.Reading.OwnBytes.{holds_line_feed}
 use Rattle.ptree.proofs.Reading.SpelledForms.{passing_at}
 use Rattle.ptree.proofs.Styles.PaintedTexts.{no_line_feed_start}
+use Rattle.ptree.proofs.Drawing.Inserted.{feed_not_empty}
 use Rattle.trees.specs.Expected.{IsLastLine}
 use Rattle.trees.proofs.LineCuts.{cut_either, last_once, behind_feed, EndsLine, last_inserted}
 
@@ -70,15 +71,11 @@ pub record GoesOnAt (k : Look) (first : Line) (a b : List ℕ) : Type 0 where
   pub rest_is : b ≡ lines_text k (next ∷ after)
   pub drawn : ((a ≡ item_text k item (next ∷ after)) × (item.level ≡ first.level)) ⊎ ((x : List ℕ) × (a ≡ x ++ 10 ∷ item_text k item (next ∷ after)) × (0 < item.level))
 
--- a text is not empty
-not_nothing : (z b : List ℕ) → [] ≡ z ++ 10 ∷ b → ⊥
-not_nothing z b e = let long = ap length e in omega (arith, simp length-append at long)
-
 -- so whole lines of a drawing do
 pub next_item : (k : Look) → IsReadableWith k.pieces k.marker → (a b : List ℕ) → ContinuesNone k b → b ≢ [] → (l : Line) (o : List Line) → Steps l.level o → a ++ 10 ∷ b ≡ lines_text k (l ∷ o) → GoesOnAt k l a b
 next_item k r a b stop some l [] steps e = elim (item_passed k r a b stop l [] e) [
   | inl c ↦ absurd (some c.1)
-  | inr c ↦ absurd (not_nothing c.0 b c.2)
+  | inr c ↦ absurd (feed_not_empty c.0 b c.2)
 ]
 next_item k r a b stop some l (m ∷ o) steps e = elim (item_passed k r a b stop l (m ∷ o) e) [
   | inl c ↦ record { item = l; next = m; after = o; low = steps.0; high = steps.1; rest_is = c.1; drawn = inl (c.0, refl) }

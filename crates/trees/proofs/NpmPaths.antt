@@ -1,5 +1,6 @@
 -- Paths of packages of npm.
 use Rattle.std.proofs.Common.{◌≡◌, ◌≢◌, ◌∙◌, ℕ, ◌+◌, ◌-◌, ◌<◌, ◌||◌, Bool, true, false, eqb, List, [], ◌∷◌, ◌++◌, length, get_or, take, drop, codes, refl, sym, ap, subst, append_assoc, length-append, arith}
+use Rattle.std.proofs.Math.Seq.{drop-append_seam}
 use Rattle.std.proofs.lemmas.Bool.{false≢true}
 use Rattle.std.proofs.lemmas.List.{append_cancel_right, take-append-drop, take_all}
 use Rattle.std.proofs.lemmas.Str.{IsCharBoundary-before_ascii, IsCharBoundary-end}
@@ -11,7 +12,7 @@ use Rattle.std.specs.Str.Pattern.{HasCharAt, RFindsChar, SplitsAroundMatch, Find
 use Rattle.trees.specs.Documents.{IsLastPart}
 use Rattle.trees.specs.Locking.{Lacks}
 use Rattle.trees.specs.Npm.{IsScoped, home, path_in}
-use Rattle.trees.proofs.NeedTexts.{lacks_byte, at_front, behind_front}
+use Rattle.trees.proofs.NeedTexts.{lacks_byte, at_front}
 
 -- ## Slashes
 
@@ -111,7 +112,7 @@ module _ (path above name scope folder own : List ℕ) (is : path ≡ above ++ 4
       start = omega (arith, begins, size)
 
       behind : drop i path ≡ own
-      behind = ap (λ (n : ℕ). drop n path) start ∙ (ap (drop (length (home folder ++ 47 ∷ []))) front ∙ behind_front (home folder ++ 47 ∷ []) own)
+      behind = ap (λ (n : ℕ). drop n path) start ∙ (ap (drop (length (home folder ++ 47 ∷ []))) front ∙ drop-append_seam (home folder ++ 47 ∷ []) own)
 
       fits : length path ≡ i + length own
       fits = ap length front ∙ (length-append (home folder ++ 47 ∷ []) own ∙ ap (λ (n : ℕ). n + length own) (sym start))

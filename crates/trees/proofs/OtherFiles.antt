@@ -1,5 +1,5 @@
 -- Sources that are no lines of two words.
-use Rattle.std.proofs.Common.{◌≡◌, ◌∙◌, ℕ, ◌<◌, ◌&&◌, Bool, true, eq-eqb, List, [], ◌∷◌, ◌++◌, length, get_or, drop, refl, sym, ap, subst}
+use Rattle.std.proofs.Common.{◌≡◌, ◌∙◌, ℕ, ◌<◌, true, List, [], length, get_or, drop, sym, ap, subst}
 use Rattle.std.proofs.lemmas.Bool.{false≢true}
 use Rattle.std.proofs.lemmas.List.Folds.{list_any_at}
 use Rattle.std.specs.List.{list_any}
@@ -8,18 +8,14 @@ use Rattle.std.specs.Str.{bytes_eq}
 use Rattle.std.specs.Str.Lines.{lines}
 use Rattle.std.specs.Str.Pattern.{FindsTextPrefix, HasPrefixMatch}
 use Rattle.ptree_trees.specs.Parts.{begins_with, has_part}
+use Rattle.ptree_trees.proofs.PartTexts.{begun}
 use Rattle.trees.specs.declared.source.Source.{Source}
 use Rattle.trees.specs.Depending.{source_text, other_names, other_starts, is_other_line, IsPairFile}
 use Rattle.trees.specs.Documents.{IsLastPart}
 
--- a text begins with what it is made of
-pub begins_so : (part rest : List ℕ) → begins_with part (part ++ rest) ≡ true
-begins_so [] rest = refl
-begins_so (c ∷ part) rest = ap (λ (b : Bool). b && begins_with part (part ++ rest)) (eq-eqb c c refl) ∙ begins_so part rest
-
 -- a test for the beginning of a text
 pub begins_by_test : (part text : List ℕ) → HasPrefixMatch (FindsTextPrefix part) text → begins_with part text ≡ true
-begins_by_test part text m = subst (λ (t : List ℕ). begins_with part t ≡ true) (sym m.1.1) (begins_so part (drop m.0 text))
+begins_by_test part text m = subst (λ (t : List ℕ). begins_with part t ≡ true) (sym m.1.1) (begun part (drop m.0 text))
 
 -- a file with another name
 pub other_named : (source : Source) (label : List ℕ) → IsLastPart (string_bytes source.name) label → list_any (bytes_eq label) other_names ≡ true → IsPairFile source → ⊥

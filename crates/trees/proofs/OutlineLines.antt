@@ -17,10 +17,10 @@ use Rattle.ptree_trees.specs.Indented.{is_blank, begins_blank, indent, indented_
 use Rattle.ptree_trees.specs.declared.indented.Form.{Form}
 use Rattle.ptree_trees.specs.Parts.{begins_with}
 use Rattle.ptree_trees.proofs.IndentedLines.{line_parts, own, whole}
+use Rattle.ptree_trees.proofs.PartTexts.{begins}
 use Rattle.trees.specs.Outlining.{is_filled, filled_lines, text_of_lines, EndsInReturn, IsKeptText}
 use Rattle.trees.specs.Listing.{byte_order_mark, unmarked}
 use Rattle.trees.proofs.Outlines.{parts_of_form}
-use Rattle.trees.proofs.Listings.{begins}
 
 -- ## Ends of lines
 

@@ -9,12 +9,14 @@ use Rattle.std.specs.Borrow.{Bor}
 use Rattle.std.specs.Prelude.{unwrap_or}
 use Rattle.std.specs.List.{All, Any, filter, slice_split}
 use Rattle.ptree.specs.Outline.{Line, outline}
+use Rattle.ptree.specs.Reached.{AreWithin}
 use Rattle.ptree.specs.Texts.{HasNoLineFeed}
 use Rattle.ptree.specs.Tree.{Tree, height}
-use Rattle.ptree.proofs.Reading.SpelledForms.{Low, low_height, height_low}
+use Rattle.ptree.proofs.Reading.SpelledForms.{low_height, height_low}
 use Rattle.ptree_trees.specs.Indented.{begins_blank, indent, indented_line, indented_lines, IsUnit, IsLineText, AreLineTexts, IsIndentedForm}
 use Rattle.ptree_trees.specs.declared.indented.Form.{Form}
 use Rattle.ptree_trees.proofs.IndentedLines.{line_parts, no_feed_join, own, whole}
+use Rattle.ptree_trees.proofs.IndentedTexts.{blank_unit}
 use Rattle.trees.specs.declared.command.Outline.{Outline}
 use Rattle.trees.specs.declared.failure.Failure.{Failure}
 use Rattle.trees.specs.declared.source.Source.{Source}
@@ -25,11 +27,6 @@ use Rattle.trees.proofs.OutlineTexts.{text_or_is}
 use Rattle.trees.proofs.Readings.{fails_by_usage, fails_wider, fails_more}
 
 -- ## Indents
-
--- what begins with a unit begins with a blank or a tab
-blank_unit : (unit : List ℕ) → IsUnit unit → (x : List ℕ) → begins_blank (unit ++ x) ≡ true
-blank_unit [] u x = absurd (u.0 refl)
-blank_unit (b ∷ unit) u x = u.1.0
 
 -- if a line begins with more units than one indent has, there is a unit behind that
 unit_behind : (unit : List ℕ) (n m : ℕ) (t s : List ℕ) → n < m → indent unit n ++ t ≡ indent unit m ++ s → (rest : List ℕ) × (t ≡ unit ++ rest)
@@ -80,7 +77,7 @@ abbrev IsShallow : ℕ → Form → List ℕ → Type 0
 IsShallow d form l = IsDeep d form.unit.now l → ⊥
 
 -- if no line is deep, all levels are low
-shallow_low : (d : ℕ) (form : Form) → IsUnit form.unit.now → (o : List Line) → All (IsShallow d form) (map (whole form) o ++ [] ∷ []) → Low d o
+shallow_low : (d : ℕ) (form : Form) → IsUnit form.unit.now → (o : List Line) → All (IsShallow d form) (map (whole form) o ++ [] ∷ []) → AreWithin d o
 shallow_low d form u [] none = tt
 shallow_low d form u (l ∷ o) none = (least (cases_lt d l.level), shallow_low d form u o (All-tail (IsShallow d form) (whole form l) (map (whole form) o ++ [] ∷ []) none)) where
   least : (d < l.level) ⊎ (l.level ≤ d) → l.level ≤ d
@@ -88,7 +85,7 @@ shallow_low d form u (l ∷ o) none = (least (cases_lt d l.level), shallow_low d
   least (inr low) = low
 
 -- and the reverse
-low_shallow : (d : ℕ) (form : Form) → IsUnit form.unit.now → (o : List Line) → AreLineTexts form o → Low d o → All (IsShallow d form) (map (whole form) o ++ [] ∷ [])
+low_shallow : (d : ℕ) (form : Form) → IsUnit form.unit.now → (o : List Line) → AreLineTexts form o → AreWithin d o → All (IsShallow d form) (map (whole form) o ++ [] ∷ [])
 low_shallow d form u [] h low = All-cons (IsShallow d form) [] [] (λ deep. deep_level d form.unit.now u 0 [] refl deep (omega arith)) (All-nil (IsShallow d form))
 low_shallow d form u (l ∷ o) h low =
     All-cons (IsShallow d form) (whole form l) (map (whole form) o ++ [] ∷ []) (λ deep. deep_level d form.unit.now u l.level (own form l.text) h.0.1 deep low.0)

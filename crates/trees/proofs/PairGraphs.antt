@@ -1,7 +1,7 @@
 -- Graphs of pairs of words.
 use Rattle.std.proofs.Common.{◌≡◌, ◌∙◌, ℕ, zero, suc, ◌+◌, ◌<◌, ◌≤◌, not, Bool, true, false, cond, List, [], ◌∷◌, ◌++◌, length, get_or, map, reverse, take, Option, Some, None, inl, inr, refl, sym, ap, subst, arith}
 use Rattle.std.proofs.Math.ListN.{get_or-map}
-use Rattle.std.proofs.lemmas.List.{length-map, map-append, reverse-append, take_all, take_more}
+use Rattle.std.proofs.lemmas.List.{length-map, map-append, reverse-append, take_all, take_more, length_push}
 use Rattle.std.proofs.lemmas.List.Elements.{All-nil, All-cons, All-head, All-tail, All-append, All-filter, All-map, All-weaker, All-contains, Contains-append_right}
 use Rattle.std.proofs.lemmas.List.Sorted.{All-permutation, IsPermutation-reverse}
 use Rattle.std.proofs.lemmas.Map.Keys.{IsDistinct-from_sorted, IsDistinct-from_apart, apart_from_distinct}
@@ -15,6 +15,7 @@ use Rattle.std.specs.declared.alloc.Global.{Global}
 use Rattle.std.specs.Str.{bytes_eq}
 use Rattle.ptree.specs.declared.graph.NodeIndex.{NodeIndex}
 use Rattle.ptree.specs.Graph.{edges_of, numbers_of, turned, weights_of, LacksNode}
+use Rattle.ptree.proofs.Config.FieldLists.{Contains-map}
 use Rattle.trees.specs.declared.deps.Dependencies.{Dependencies}
 use Rattle.trees.specs.declared.deps.Network.{Network}
 use Rattle.trees.specs.declared.failure.Failure.{Failure}
@@ -23,7 +24,6 @@ use Rattle.trees.specs.Depending.{pair_words, number, is_need, directed, edge_of
 use Rattle.trees.specs.DependingParts.{texts_of, labels_of, needs_of, AreApart, HasRoot, HoldsNone, IsNetworkOf, IsWhole, IsWithin}
 use Rattle.trees.specs.Reading.{FailsFor}
 use Rattle.trees.specs.Shown.{shown_text}
-use Rattle.trees.proofs.SortedWords.{contains_mapped}
 use Rattle.trees.proofs.Pairs.{pairs_unique}
 use Rattle.trees.proofs.Readings.{fails_weaker}
 
@@ -102,14 +102,10 @@ more_within : (n : ℕ) (edges : List (ℕ × ℕ)) (tops : List ℕ) → All (I
 more_within n edges tops all low =
     All-append (IsWithin (n + 1)) edges (map (λ t. (n, t)) tops) (All-weaker (IsWithin n) (IsWithin (n + 1)) (λ e h. let a = h.0 in let b = h.1 in (omega arith, omega arith)) edges all) (tops_within n tops low)
 
-length_more : (names : List (List ℕ)) (label : List ℕ) → length (names ++ label ∷ []) ≡ length names + 1
-length_more [] label = refl
-length_more (x ∷ names) label = let rest = length_more names label in omega (arith, rest)
-
 above_within : (names : List (List ℕ)) (label : List ℕ) (edges : List (ℕ × ℕ)) (tops : List ℕ) (texts : List (List ℕ)) (all : List (ℕ × ℕ)) → All (IsWithin (length names)) edges → All (λ t. t < length names) tops
     → texts ≡ names ++ label ∷ [] → all ≡ edges ++ map (λ t. (length names, t)) tops → All (IsWithin (length texts)) all
 above_within names label edges tops texts all within low labels is =
-    subst (λ (n : ℕ). All (IsWithin n) all) (sym (ap length labels ∙ length_more names label)) (subst (All (IsWithin (length names + 1))) (sym is) (more_within (length names) edges tops within low))
+    subst (λ (n : ℕ). All (IsWithin n) all) (sym (ap length labels ∙ length_push names label)) (subst (All (IsWithin (length names + 1))) (sym is) (more_within (length names) edges tops within low))
 
 same_within : (names : List (List ℕ)) (edges : List (ℕ × ℕ)) (texts : List (List ℕ)) (all : List (ℕ × ℕ)) → All (IsWithin (length names)) edges → texts ≡ names → all ≡ edges → All (IsWithin (length texts)) all
 same_within names edges texts all within labels is = subst (λ ts. All (IsWithin (length ts)) all) (sym labels) (subst (All (IsWithin (length names))) (sym is) within)
@@ -130,7 +126,7 @@ rooted_within source None names edges texts all root within h = stands_within h.
 pub none_lacks : (n : ℕ) (edges : List (NodeIndex × NodeIndex)) → All (IsWithin n) (map numbers_of edges) → Any (LacksNode n) edges → ⊥
 none_lacks n edges all any =
     let e = any.1 in
-    let at = contains_mapped numbers_of edges e (any.0, any.2, any.3) in
+    let at = Contains-map numbers_of edges e (any.0, any.2, any.3) in
     let within = All-contains (IsWithin n) (map numbers_of edges) (numbers_of e) all at in
     let a = within.0 in
     let b = within.1 in

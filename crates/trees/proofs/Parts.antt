@@ -1,5 +1,5 @@
 -- Parts of documents: there is one at most where some steps lead.
-use Rattle.std.proofs.Common.{◌≡◌, ◌∙◌, ◌<◌, ◌+◌, ◌-◌, ◌^◌, ◌==◌, [], ◌∷◌, ℕ, List, Option, Some, None, Result, Ok, Err, false, Bor, length, option_map, subst, sym, ap, refl, arith}
+use Rattle.std.proofs.Common.{◌≡◌, ◌∙◌, ◌<◌, ◌+◌, ◌-◌, ◌^◌, ◌==◌, [], ◌∷◌, ℕ, List, Option, Some, None, Result, Ok, Err, false, Bor, length, subst, sym, ap, arith}
 use Rattle.std.proofs.lemmas.List.{length-drop}
 use Rattle.std.proofs.lemmas.List.Elements.{All-from_get_or}
 use Rattle.std.proofs.lemmas.List.Splits.{slice_split_first, slice_split_none}
@@ -72,11 +72,6 @@ pub at_its_position : (whole : FileNode) (text : List ℕ) (n : ℕ) (part : Opt
     → node_at (at_position n) whole ≡ part → FindsPart whole text part
 at_its_position whole text n None is no_key at = no_step whole text n is no_key at
 at_its_position whole text n (Some part) is no_key at = (at_position n, is, at)
-
--- two maps are one
-pub mapped_twice : {X Y Z : Type 0} (f : Y → Z) (g : X → Y) (o : Option X) → option_map f (option_map g o) ≡ option_map (λ (x : X). f (g x)) o
-mapped_twice f g None = refl
-mapped_twice f g (Some x) = refl
 
 -- a text with a full stop is the step before it, and those after
 pub first_step : (keys key rest : List ℕ) → key ≡ before_first (λ b. b == 46) keys → rest ≡ after_first (λ b. b == 46) keys → position_or_len (λ b. b == 46) keys < length keys

@@ -12,10 +12,10 @@ use Rattle.std.specs.Prelude.{All, Contains, count_by, filter}
 use Rattle.std.specs.declared.cmp.Ordering.{Ordering}
 use Rattle.std.specs.declared.cmp.Ordering.TheVariants.{Less, Equal, Greater}
 use Rattle.std.specs.declared.ops.Bound.TheVariants.{Included}
+use Rattle.ptree.proofs.Config.FieldLists.{Contains-map}
 use Rattle.trees.specs.Depending.{IsClosed, HasEach}
 use Rattle.trees.specs.DependingParts.{edge_cmp, is_marked, HasMarked, IsClosedBut, MarksNeeds}
 use Rattle.trees.proofs.Marks.{front_of, marked_counts, MarksAll}
-use Rattle.trees.proofs.SortedWords.{contains_mapped}
 
 -- ## Edges in a range
 
@@ -76,7 +76,7 @@ module _ (edges : List (ℕ × ℕ)) (node most : ℕ) where
     added = so.added;
     needs = λ e c same low.
         All-contains (λ n. n < length old → is_marked new n ≡ true) (map (λ (d : ℕ × ℕ). d.1) (edges_from edges node most)) e.1 so.each
-        (contains_mapped (λ (d : ℕ × ℕ). d.1) (edges_from edges node most) e (contains_from e c same (omega arith))) low;
+        (Contains-map (λ (d : ℕ × ℕ). d.1) (edges_from edges node most) e (contains_from e c same (omega arith))) low;
     found = λ has closed is.
         so.found has
         (All-map (λ n. has n ≡ true) (λ (e : ℕ × ℕ). e.1) (edges_from edges node most)

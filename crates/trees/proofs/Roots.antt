@@ -2,7 +2,7 @@
 use Rattle.std.proofs.Common.{◌≡◌, ◌≢◌, ◌∙◌, ℕ, zero, suc, ◌+◌, ◌<◌, ◌≤◌, Bool, true, false, cond, List, [], ◌∷◌, ◌++◌, length, get_or, map, take, Some, refl, sym, ap, subst, arith}
 use Rattle.std.proofs.lemmas.Bool.{false≢true}
 use Rattle.std.proofs.Math.ListN.{get_or-map}
-use Rattle.std.proofs.lemmas.List.{append-nil, length-map, length-take, map-append, take_all, take_more}
+use Rattle.std.proofs.lemmas.List.{append-nil, length-map, length-take, map-append, take_all, take_more, nil_from_length}
 use Rattle.std.proofs.lemmas.List.Elements.{All-head, All-push, filter-append}
 use Rattle.std.proofs.lemmas.Result.{IfOk-weaker, IfErr-weaker}
 use Rattle.std.proofs.lemmas.Map.Keys.{IsDistinct-head, IsDistinct-tail}
@@ -170,10 +170,7 @@ module _ (names : List (List ℕ)) (name : List ℕ) (whole : List NodeIndex) (i
 
   module _ (none : length whole ≡ 0) where
     without : places_of names name ≡ []
-    without = sym is ∙ ap (map (λ (n : NodeIndex). n.0)) (empty whole none) where
-      empty : (xs : List NodeIndex) → length xs ≡ 0 → xs ≡ []
-      empty [] e = refl
-      empty (x ∷ xs) e = absurd (omega arith)
+    without = sym is ∙ ap (map (λ (n : NodeIndex). n.0)) (nil_from_length whole none)
 
     -- the only one of those with a part that is the name
     pub named_parts : (found parts : List NodeIndex) → found ≡ parts → All (λ n. n.0 < length names) parts → IfOk r (λ n. found ≡ n ∷ []) → IfOk r (λ n. IsNamed names name n.0)

@@ -21,13 +21,11 @@ use Rattle.std.specs.Prelude.{Contains, flat_map}
 use Rattle.std.specs.Str.{bytes_eq}
 use Rattle.std.specs.declared.cmp.Ordering.{Ordering}
 use Rattle.std.specs.declared.cmp.Ordering.TheVariants.{Less, Equal, Greater}
+use Rattle.ptree.proofs.Config.FieldLists.{Contains-map}
 use Rattle.trees.specs.Depending.{pair_words, number, AreNames}
 use Rattle.trees.specs.DependingParts.{texts_of}
 
 -- ## Elements of mapped lists
-
-pub contains_mapped : {X Y : Type 0} (f : X → Y) (xs : List X) (x : X) → Contains xs x → Contains (map f xs) (f x)
-contains_mapped f xs x c = (c.0, rw length-map c.1, get_or-map f xs c.0 x ∙ ap f c.2)
 
 mapped_at : {X Y : Type 0} (f : X → Y) (xs : List X) (y : Y) (k : ℕ) → k < length (map f xs) → get_or (map f xs) k y ≡ y → (x : X) × Contains xs x × (f x ≡ y)
 mapped_at f [] y k low is = absurd (omega arith)
@@ -82,13 +80,13 @@ names_are ps found sorted names words moved up once =
         (λ in'.
             let y = from_mapped own names w in' in
             let sort : Contains sorted y.0 = Contains-from_dedup text_eq sorted y.0 (subst (λ ns. Contains ns y.0) is y.1) in
-            subst (λ ws. Contains ws w) all (subst (Contains (map own found)) y.2 (contains_mapped own found y.0 (Contains-permutation sorted found y.0 (IsPermutation-sym found sorted moved) sort)))),
+            subst (λ ws. Contains ws w) all (subst (Contains (map own found)) y.2 (Contains-map own found y.0 (Contains-permutation sorted found y.0 (IsPermutation-sym found sorted moved) sort)))),
         (λ in'.
             let x = from_mapped own found w (subst (λ ws. Contains ws w) (sym all) in') in
             let y = Any-dedup (on_texts_equal own) sorted x.0 (Contains-permutation found sorted x.0 moved x.1) in
             let same : x.0.now ≡ y.1.now = (bytes_eq-Decides x.0.now y.1.now).0 y.4 in
             let kept : Contains names y.1 = subst (λ ns. Contains ns y.1) (sym is) (y.0, y.2, y.3) in
-            subst (Contains (map own names)) (sym same ∙ x.2) (contains_mapped own names y.1 kept)),
+            subst (Contains (map own names)) (sym same ∙ x.2) (Contains-map own names y.1 kept)),
       );
     }
 

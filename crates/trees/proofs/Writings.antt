@@ -1,5 +1,6 @@
 -- What is written.
 use Rattle.std.proofs.Common.{◌≡◌, ◌≢◌, ℕ, inl, inr, Option, Some, None, List, Result, Ok, Err, refl, sym, append-nil}
+use Rattle.std.proofs.KnownBytes.{Appends-nil}
 use Rattle.std.proofs.lemmas.Bool.{false≢true}
 use Rattle.std.specs.Prelude.{IsErr, IfErr, ⊤}
 use Rattle.ptree.specs.declared.value.document.DocFormat.TheVariants.{Toml, Json}
@@ -14,7 +15,6 @@ use Rattle.trees.specs.Documents.{IsPartTree}
 use Rattle.trees.specs.Listing.{IsWrongList}
 use Rattle.trees.specs.Outlining.{outline_lines, IsFormOf, IsRightForm, HoldsOutline}
 use Rattle.trees.specs.Writing.{Writes, WritesSaid, FailsToGive}
-use Rattle.ptree.proofs.Sinks.Written.{appends_nothing}
 use Rattle.trees.proofs.Readings.{fails_by_memory}
 
 -- what is written is also what follows of it
@@ -51,7 +51,7 @@ said_weaker {A} old new (Err Memory) Is Js more h = writes_weaker {A = A} old ne
 pub said_nothing : {A : Type 0} (old : Option (List ℕ)) (r : Result A Failure) (Is : List ℕ → Type 0) → IsErr r → IfErr r (λ e. e ≢ Said) → WritesSaid old old r Is
 said_nothing old (Ok x) Is err unsaid = absurd (false≢true err)
 said_nothing old (Err Said) Is err unsaid = absurd (unsaid refl)
-said_nothing old (Err (Usage wrong)) Is err unsaid = inl (tt, appends_nothing old)
-said_nothing old (Err (Input wrong)) Is err unsaid = inl (tt, appends_nothing old)
-said_nothing old (Err (Output kind)) Is err unsaid = inl (tt, appends_nothing old)
-said_nothing old (Err Memory) Is err unsaid = inl (tt, appends_nothing old)
+said_nothing old (Err (Usage wrong)) Is err unsaid = inl (tt, Appends-nil old)
+said_nothing old (Err (Input wrong)) Is err unsaid = inl (tt, Appends-nil old)
+said_nothing old (Err (Output kind)) Is err unsaid = inl (tt, Appends-nil old)
+said_nothing old (Err Memory) Is err unsaid = inl (tt, Appends-nil old)

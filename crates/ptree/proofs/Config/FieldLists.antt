@@ -17,7 +17,7 @@ at : {A : Type 0} (list : List A) (value : A) (place : ℕ) → ltb place (lengt
 at list value place within found = (place, ltb-true place (length list) within, found)
 
 -- the mapped list contains what a member is mapped to
-Contains-map : {A B : Type 0} (f : A → B) (list : List A) (value : A) → Contains list value → Contains (map f list) (f value)
+pub Contains-map : {A B : Type 0} (f : A → B) (list : List A) (value : A) → Contains list value → Contains (map f list) (f value)
 Contains-map f list value (place, within, found) =
     (place, rw (length-map list f) within, get_or-map f list place value (f value) within ∙ ap f found)
 

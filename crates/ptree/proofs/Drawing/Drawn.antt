@@ -1,6 +1,7 @@
 -- Calls that draw.
 use Rattle.std.specs.Prelude.{IsErrAnd}
 use Rattle.std.proofs.Common.{◌≡◌, ℕ, List, Option, Result, Err, subst}
+use Rattle.std.proofs.KnownBytes.{Appends-nil}
 use Rattle.std.specs.Io.KnownBytes.{Appends}
 use Rattle.std.specs.List.{concat}
 use Rattle.ptree.specs.declared.sink.DrawError.{DrawError}
@@ -12,7 +13,7 @@ use Rattle.ptree.specs.Writing.{AppendsFirst, IsDrawn, IsWritten, LeavesWholeEnt
 use Rattle.ptree.proofs.Drawing.Addresses.{walk, walk_is_list}
 use Rattle.ptree.proofs.Drawing.Engine.{nothing_yet}
 use Rattle.ptree.proofs.Drawing.Join.{drawn_is_drawing, join_first}
-use Rattle.ptree.proofs.Sinks.Written.{appends_nothing, written_err}
+use Rattle.ptree.proofs.Sinks.Written.{written_err}
 
 -- a call that fails before the first byte
 pub drawn_nothing : {A E : Type 0} (Q : E → Type 0) (look : Look) (x : Shape) (depth : ℕ) (a : Option (List ℕ)) (r : Result A E) → IsErrAnd r Q → IsDrawn look x depth a a r
@@ -37,4 +38,4 @@ whole_under look other x depth a b r same h = subst (λ (l : Look). LeavesWholeE
 
 -- if nothing was drawn, the first entries were, namely none
 pub whole_nothing : {A : Type 0} (look : Look) (x : Shape) (depth : ℕ) (a : Option (List ℕ)) (r : Result A DrawError) → LeavesWholeEntries look x depth a a r
-whole_nothing look x depth a r = whole_entries look x depth a a r (λ m. (0, appends_nothing a))
+whole_nothing look x depth a r = whole_entries look x depth a a r (λ m. (0, Appends-nil a))

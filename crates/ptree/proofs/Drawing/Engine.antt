@@ -1,5 +1,6 @@
 -- The steps of the engine, over plain variables.
 use Rattle.std.proofs.Common.{◌<◌, ◌≡◌, ℕ, zero, suc, ◌-◌, ◌≤◌, min, Bool, true, false, eqb, List, [], ◌∷◌, ◌++◌, Option, None, Result, Err, ◌+◌, length, sym, ◌∙◌, ap, subst, refl, append_assoc, map, take, drop, arith}
+use Rattle.std.proofs.KnownBytes.{Appends-nil}
 use Rattle.std.proofs.Math.Seq.{take-append_seam, drop-append_seam}
 use Rattle.std.proofs.lemmas.Bool.Decides.{nat_tests}
 use Rattle.std.proofs.lemmas.List.{length-take, take-append-le, take_all}
@@ -15,11 +16,11 @@ use Rattle.ptree.specs.Pieces.{turning_piece, passing_piece}
 use Rattle.ptree.specs.Shape.{Shape, kids}
 use Rattle.ptree.specs.Style.{start_codes, end_codes, painted_text}
 use Rattle.ptree.specs.Writing.{AppendsPart, AppendsEntries, AreWritten, result_faults, HasErrorCause}
-use Rattle.ptree.proofs.Sinks.Written.{appends_nothing, appends_entries, entries_then, entries_done, entries_more, entry_then}
+use Rattle.ptree.proofs.Sinks.Written.{appends_entries, entries_then, entries_done, entries_more, entry_then}
 
 -- nothing appended is a prefix
 pub nothing_yet : (a : Option (List ℕ)) (x : List ℕ) → AppendsPart a a x
-nothing_yet a x = ([], (x, refl), appends_nothing a)
+nothing_yet a x = ([], (x, refl), Appends-nil a)
 
 -- the entries below an item, with some levels left, are those of its children with one level less
 entries_down : (look : Look) (left : ℕ) (outer : List ℕ) (x : Shape) → (left ≡ 0 → ⊥) → entries_below look left outer x ≡ kid_entries look (entries_below look (left - 1)) outer (kids x)
@@ -42,7 +43,7 @@ AreBegun look below outer all rest a b = (done : List (List ℕ)) × (done ++ ki
 
 -- no child was drawn yet
 pub begun_none : (look : Look) (below : List ℕ → Shape → List (List ℕ)) (outer : List ℕ) (all rest : List Shape) (a : Option (List ℕ)) → all ≡ rest → AreBegun look below outer all rest a a
-begun_none look below outer all rest a is = ([], ap (kid_entries look below outer) (sym is), appends_nothing a)
+begun_none look below outer all rest a is = ([], ap (kid_entries look below outer) (sym is), Appends-nil a)
 
 -- what was appended so far is a prefix
 pub begun_part : (look : Look) (below : List ℕ → Shape → List (List ℕ)) (outer : List ℕ) (all rest : List Shape) (a b : Option (List ℕ)) (e : DrawError)
@@ -90,7 +91,7 @@ empty_list (x ∷ xs) b h k =
 pub none_below : {D : Type 0} (look : Look) (below : List ℕ → Shape → List (List ℕ)) (outer : List ℕ) (x : Shape) (a : Option (List ℕ)) (shape : D → Shape) (ks : List D) (empty : Bool)
     → empty ≡ true → empty ≡ eqb (length ks) 0 → map shape ks ≡ kids x → Appends a a (concat (kid_entries look below outer (kids x)))
 none_below look below outer x a shape ks empty e1 e2 ek =
-    subst (λ (xs : List Shape). Appends a a (concat (kid_entries look below outer xs))) (ap (map shape) (sym (empty_list ks empty e1 e2)) ∙ ek) (appends_nothing a)
+    subst (λ (xs : List Shape). Appends a a (concat (kid_entries look below outer xs))) (ap (map shape) (sym (empty_list ks empty e1 e2)) ∙ ek) (Appends-nil a)
 
 -- the entries of an item's children are those below it
 pub all_below : {D A E : Type 0} (look : Look) (below : List ℕ → Shape → List (List ℕ)) (outer : List ℕ) (x : Shape) (a b : Option (List ℕ)) (r : Result A E) (e : DrawError) (shape : D → Shape) (ks : List D)

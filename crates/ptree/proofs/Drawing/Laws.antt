@@ -23,7 +23,7 @@ same_functions : {A B : Type 0} (f g : A → B) → ((x : A) → f x ≡ g x) �
 same_functions f g h = λ i x. h x i
 
 -- a comparison of successors
-less_suc : (m d : ℕ) → nat_lt (suc m) (suc d) ≡ nat_lt m d
+pub less_suc : (m d : ℕ) → nat_lt (suc m) (suc d) ≡ nat_lt m d
 less_suc m d = grind (arith, nat_tests)
 
 -- zero is below each successor

@@ -11,8 +11,8 @@ use Rattle.ptree.specs.Entries.{shape_entry, kid_entries, entries_below, drawn_e
 use Rattle.ptree.specs.Graph.{weights_of, edges_of, neighbors_of, node_own, node_shape}
 use Rattle.ptree.specs.Occurrence.{OccurrenceTree, occurrence_kids, StandsAt, IsExpandedOnce, NoneRepeated, mark_text, occurrence_own, occurrence_shape}
 use Rattle.ptree.specs.Style.{StyleValue, painted_text}
-use Rattle.ptree.proofs.Graphs.ExpandedRows.{one_level_deeper, stands_cons}
-use Rattle.ptree.proofs.Drawing.Laws.{same_drawings}
+use Rattle.ptree.proofs.Graphs.ExpandedRows.{stands_cons}
+use Rattle.ptree.proofs.Drawing.Laws.{same_drawings, less_suc}
 use Rattle.ptree.proofs.Trees.ItemTrees.{map_twice}
 use Rattle.ptree.proofs.Graphs.Walks.{kid_entries_alike}
 use Rattle.ptree.proofs.Trees.Shapes.{kids_of_unfold}
@@ -36,7 +36,7 @@ module _ {N : Type 0} (text : N → List ℕ) (g : Graph N) (mark : List ℕ) wh
   full_below : (d : ℕ) (t c : OccurrenceTree) (i : ℕ) → IsFull (suc d) t → slice_get (occurrence_kids t) i ≡ Some c → IsFull d c
   full_below d t c i h e = record {
     none_repeated = λ a p s. h.none_repeated (i ∷ a) p (stands_cons t c p i a e s);
-    children = λ a p s. h.children (i ∷ a) p (stands_cons t c p i a e s) ∙ ap (λ b. if b then under p.node else []) (one_level_deeper (length a) d);
+    children = λ a p s. h.children (i ∷ a) p (stands_cons t c p i a e s) ∙ ap (λ b. if b then under p.node else []) (less_suc (length a) d);
   }
 
   -- without a mark the text is the label's

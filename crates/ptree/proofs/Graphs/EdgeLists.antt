@@ -2,21 +2,14 @@
 use Rattle.std.specs.Prelude.{reverse, filter, slice_get, All}
 use Rattle.std.proofs.Common.{◌≡◌, ◌≢◌, ℕ, zero, suc, ◌<◌, ◌≤◌, inl, inr, true, false, cond, List, [], ◌∷◌, ◌++◌, map, length, get_or, take, Some, sym, ◌∙◌, ap, subst, refl, eqb, append_assoc, arith}
 use Rattle.std.proofs.Math.Seq.{take-suc, take-length}
+use Rattle.std.proofs.lemmas.Bool.{eq-eqb, ne_eqb}
 use Rattle.std.proofs.lemmas.Bool.Decides.{eqb_tells}
-use Rattle.std.proofs.lemmas.List.{map-append, reverse-append, length-reverse, length-take}
+use Rattle.std.proofs.lemmas.List.{map-append, reverse-append, length-reverse, length-take, length-take-le}
 use Rattle.std.proofs.lemmas.List.Elements.{All-head, All-tail}
 use Rattle.std.proofs.lemmas.List.Sorted.{All-permutation, IsPermutation-reverse}
 use Rattle.std.proofs.lemmas.Option.{slice_get_within, slice_get-get_or, get_or_from_slice_get}
 use Rattle.ptree.specs.Graph.{neighbors_of}
 use Rattle.ptree.specs.GraphLinks.{first_from, newest_from}
-
--- the test of equal numbers is true
-eqb-same : (a b : ℕ) → a ≡ b → eqb a b ≡ true
-eqb-same a b h = elim (eqb_tells a b) [ inl t ↦ t.0 | inr t ↦ absurd (t.1 h) ]
-
--- the test of other numbers is false
-eqb-other : (a b : ℕ) → a ≢ b → eqb a b ≡ false
-eqb-other a b h = elim (eqb_tells a b) [ inl t ↦ absurd (h t.1) | inr t ↦ t.0 ]
 
 -- what is pushed comes first in the reversed list
 reverse-push : {X : Type 0} (xs : List X) (x : X) → reverse (xs ++ x ∷ []) ≡ x ∷ reverse xs
@@ -39,7 +32,7 @@ newest_from-le-length edges v = omega (arith, first_from-le-length (reverse edge
 first_from-none : (edges : List (ℕ × ℕ)) (v : ℕ) → All (λ e. e.0 ≢ v) edges → first_from edges v ≡ 0
 first_from-none [] v h = refl
 first_from-none (e ∷ older) v h =
-    ap (λ b. cond b (suc (length older)) (first_from older v)) (eqb-other e.0 v (All-head (λ x. x.0 ≢ v) e older h))
+    ap (λ b. cond b (suc (length older)) (first_from older v)) (ne_eqb e.0 v (All-head (λ x. x.0 ≢ v) e older h))
     ∙ first_from-none older v (All-tail (λ x. x.0 ≢ v) e older h)
 
 -- no edge is from v
@@ -51,14 +44,14 @@ newest_from-none edges v h =
 pub newest_from-push_same : (edges : List (ℕ × ℕ)) (e : ℕ × ℕ) (v : ℕ) → e.0 ≡ v → newest_from (edges ++ e ∷ []) v ≡ suc (length edges)
 newest_from-push_same edges e v h =
     ap (λ r. first_from r v) (reverse-push edges e)
-    ∙ ap (λ b. cond b (suc (length (reverse edges))) (first_from (reverse edges) v)) (eqb-same e.0 v h)
+    ∙ ap (λ b. cond b (suc (length (reverse edges))) (first_from (reverse edges) v)) (eq-eqb e.0 v h)
     ∙ ap suc (length-reverse edges)
 
 -- one more edge, from another node
 pub newest_from-push_other : (edges : List (ℕ × ℕ)) (e : ℕ × ℕ) (v : ℕ) → e.0 ≢ v → newest_from (edges ++ e ∷ []) v ≡ newest_from edges v
 newest_from-push_other edges e v h =
     ap (λ r. first_from r v) (reverse-push edges e)
-    ∙ ap (λ b. cond b (suc (length (reverse edges))) (first_from (reverse edges) v)) (eqb-other e.0 v h)
+    ∙ ap (λ b. cond b (suc (length (reverse edges))) (first_from (reverse edges) v)) (ne_eqb e.0 v h)
 
 -- the edges from a node
 abbrev from : ℕ → List (ℕ × ℕ) → List (ℕ × ℕ)
@@ -68,17 +61,13 @@ from v edges = filter (λ e. eqb e.0 v) edges
 neighbors_of-push_same : (edges : List (ℕ × ℕ)) (e : ℕ × ℕ) (v : ℕ) → e.0 ≡ v → neighbors_of (edges ++ e ∷ []) v ≡ e.1 ∷ neighbors_of edges v
 neighbors_of-push_same edges e v h =
     ap (λ r. map (λ x. x.1) (from v r)) (reverse-push edges e)
-    ∙ ap (λ b. map (λ x. x.1) (cond b (e ∷ from v (reverse edges)) (from v (reverse edges)))) (eqb-same e.0 v h)
+    ∙ ap (λ b. map (λ x. x.1) (cond b (e ∷ from v (reverse edges)) (from v (reverse edges)))) (eq-eqb e.0 v h)
 
 -- an edge from another node adds none
 neighbors_of-push_other : (edges : List (ℕ × ℕ)) (e : ℕ × ℕ) (v : ℕ) → e.0 ≢ v → neighbors_of (edges ++ e ∷ []) v ≡ neighbors_of edges v
 neighbors_of-push_other edges e v h =
     ap (λ r. map (λ x. x.1) (from v r)) (reverse-push edges e)
-    ∙ ap (λ b. map (λ x. x.1) (cond b (e ∷ from v (reverse edges)) (from v (reverse edges)))) (eqb-other e.0 v h)
-
--- the first n elements are n, if there are so many
-length-take-within : {X : Type 0} (n : ℕ) (xs : List X) → n ≤ length xs → length (take n xs) ≡ n
-length-take-within n xs h = omega (arith, length-take n xs)
+    ∙ ap (λ b. map (λ x. x.1) (cond b (e ∷ from v (reverse edges)) (from v (reverse edges)))) (ne_eqb e.0 v h)
 
 -- m is the number of the newest of the first n edges from v: no later one of them is from v
 pub newest_settles : (edges : List (ℕ × ℕ)) (v n m : ℕ) → n ≤ length edges → m ≡ newest_from (take n edges) v
@@ -91,7 +80,7 @@ newest_settles edges v (suc n) m h k =
     elim (eqb_tells e.0 v) [
       | inl t ↦
           let at_end : newest_from (take (suc n) edges) v ≡ suc n =
-          ap (λ l. newest_from l v) more ∙ newest_from-push_same (take n edges) e v t.1 ∙ ap suc (length-take-within n edges (omega arith)) in
+          ap (λ l. newest_from l v) more ∙ newest_from-push_same (take n edges) e v t.1 ∙ ap suc (length-take-le n edges (omega arith)) in
           subst (λ (j : ℕ). (neighbors_of (take j edges) v ≡ neighbors_of (take (suc n) edges) v) × (j ≡ newest_from (take j edges) v)) (sym (k ∙ at_end)) (refl, sym at_end)
       | inr t ↦
           let before = newest_settles edges v n m (omega arith) (k ∙ ap (λ l. newest_from l v) more ∙ newest_from-push_other (take n edges) e v t.1) in (
@@ -111,7 +100,7 @@ newest_splits edges v i e h k =
       | inl t ↦ (t.1, ap (λ l. neighbors_of l v) more ∙ neighbors_of-push_same (take i edges) e v t.1)
       | inr t ↦
           let fewer : suc i ≡ newest_from (take i edges) v = k ∙ ap (λ l. newest_from l v) more ∙ newest_from-push_other (take i edges) e v t.1 in
-          absurd (omega (arith, newest_from-le-length (take i edges) v, length-take-within i edges (omega arith)))
+          absurd (omega (arith, newest_from-le-length (take i edges) v, length-take-le i edges (omega arith)))
     ]
 
 -- a number that is that of the newest edge among the edges up to it is an edge's, or 0

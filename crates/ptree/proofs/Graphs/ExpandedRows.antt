@@ -2,8 +2,8 @@
 -- root is.
 use Rattle.std.specs.Prelude.{slice_get, option_and_then, ◌↔◌, ◌≢◌, IsTrue, if◌then◌else◌, nat_lt}
 use Rattle.std.proofs.Common.{◌≡◌, ℕ, zero, suc, ◌<◌, ◌⊎◌, inl, inr, Bool, List, [], ◌∷◌, map, Option, Some, None, length, refl, sym, ap, subst, ◌∙◌, arith}
-use Rattle.std.proofs.lemmas.Bool.Decides.{nat_tests}
 use Rattle.ptree.specs.Address.{Address, at}
+use Rattle.ptree.proofs.Drawing.Laws.{less_suc}
 use Rattle.ptree.proofs.Graphs.Occurrences.{row_of_occurrences}
 use Rattle.ptree.specs.Occurrence.{OccurrenceTree, occurrence, row, occurrence_kids, StandsAt, IsExpandedBefore, IsExpanded}
 
@@ -84,10 +84,6 @@ later_from P c cs i w (inl y) = inl (inl y)
 later_from P c cs i w (inr (zero, z, l, f, y)) = let same : c ≡ z = cc in inl (inr (subst (λ (q : OccurrenceTree). IsExpanded q w) (sym same) y))
 later_from P c cs i w (inr (suc j, z, l, f, y)) = inr (j, z, omega (arith, l), f, y)
 
--- both sides one level deeper
-pub one_level_deeper : (n d : ℕ) → nat_lt (suc n) (suc d) ≡ nat_lt n d
-one_level_deeper n d = grind (arith, nat_tests)
-
 module _ (below : ℕ → List ℕ) where
   -- the nodes that may be below an occurrence at a level
   abbrev pub allowed : ℕ → OccurrenceTree → ℕ → List ℕ
@@ -144,7 +140,7 @@ module _ (below : ℕ → List ℕ) where
   down P d t o i c e = record {
     repeated = λ a p s. let m = o.repeated (i ∷ a) p (stands_cons t c p i a e s) in
         (λ x. split_to P t c i a p.node e (m.0 x), λ x. m.1 (split_from P t c i a p.node e x));
-    children = λ a p s. o.children (i ∷ a) p (stands_cons t c p i a e s) ∙ ap (λ b. if p.repeated then [] else (if b then below p.node else [])) (one_level_deeper (length a) d);
+    children = λ a p s. o.children (i ∷ a) p (stands_cons t c p i a e s) ∙ ap (λ b. if p.repeated then [] else (if b then below p.node else [])) (less_suc (length a) d);
   }
 
   -- an occurrence over a row
@@ -163,7 +159,7 @@ module _ (below : ℕ → List ℕ) where
     kids [] p s = subst (λ (z : OccurrenceTree). nodes_of (occurrence_kids z) ≡ allowed (suc d) z 0) (stands_root t p s) k
     kids (i ∷ a) p s =
         let (c, e, u) = stands_step t p i a s in
-        (r i c e).children a p u ∙ ap (λ b. if p.repeated then [] else (if b then below p.node else [])) (sym (one_level_deeper (length a) d))
+        (r i c e).children a p u ∙ ap (λ b. if p.repeated then [] else (if b then below p.node else [])) (sym (less_suc (length a) d))
 
   -- an occurrence with nothing below it
   pub alone : (P : ℕ → Type 0) (d : ℕ) (t : OccurrenceTree) → occurrence_kids t ≡ [] → IsTrue t.repeated ↔ P t.node → allowed d t 0 ≡ [] → OnceFrom P d t

@@ -1,11 +1,12 @@
 -- Rows of occurrences, and what is written for a repeated one.
 use Rattle.std.proofs.Common.{◌≡◌, ℕ, List, [], ◌∷◌, ◌++◌, Option, Result, ap, refl, sym, subst, ◌∙◌}
+use Rattle.std.proofs.KnownBytes.{Appends-trans}
 use Rattle.std.specs.Io.KnownBytes.{Appends}
 use Rattle.ptree.specs.Occurrence.{OccurrenceRow, none, item, OccurrenceTree, occurrences, row}
 use Rattle.ptree.specs.Style.{StyleValue, plain_value, style_codes, painted_text}
 use Rattle.ptree.specs.Writing.{AppendsPart, IsWritten}
 use Rattle.ptree.proofs.Styles.PaintedTexts.{plain_codes, painted_plain}
-use Rattle.ptree.proofs.Sinks.Written.{appends_then, part_then, part_more, written_then}
+use Rattle.ptree.proofs.Sinks.Written.{part_then, part_more, written_then}
 
 -- the occurrences of a row that is made of occurrences
 pub occurrences_of_row : (ps : List OccurrenceTree) → occurrences (row ps) ≡ ps
@@ -65,4 +66,4 @@ module _ (start text mark end : List ℕ) where
       let t = subst (λ (w : List ℕ). Appends b c w) (plain_text plain text u) k in
       let m = subst (λ (w : List ℕ). Appends c d w) q l in
       let w = subst (λ (w : List ℕ). IsWritten d e r w) s n in
-      written_then a d e r (start ++ (text ++ mark)) end (appends_then a b d start (text ++ mark) f (appends_then b c d text mark t m)) w
+      written_then a d e r (start ++ (text ++ mark)) end (Appends-trans a b d start (text ++ mark) f (Appends-trans b c d text mark t m)) w

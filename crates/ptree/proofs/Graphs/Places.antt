@@ -2,7 +2,7 @@
 use Rattle.std.specs.Prelude.{slice_set, ◌^◌, min}
 use Rattle.std.proofs.Common.{◌≡◌, ℕ, zero, suc, ◌+◌, ◌-◌, ◌<◌, ◌≤◌, inl, inr, Bool, true, false, List, [], ◌∷◌, ◌++◌, length, length-append, drop, ap, refl, sym, ◌∙◌, append_assoc, arith}
 use Rattle.std.proofs.lemmas.Bool.{cases_lt}
-use Rattle.std.proofs.lemmas.List.{append-nil, length-drop, drop_all, drop_at}
+use Rattle.std.proofs.lemmas.List.{append-nil, length-drop, drop_all, drop_at, drop-drop}
 use Rattle.ptree.specs.declared.graph.places.Place.{Place}
 use Rattle.ptree.specs.Growing.{place_of, place_at, leaf_size, ArePlaces, AppendsPlaces, IsNextPlace}
 use Rattle.ptree.specs.Occurrence.{OccurrenceRow, none, item, OccurrenceTree, occurrence, occurrence_kids, row, row_size, occurrence_count, its_place, row_places, tree_places, is_repeated_size, size_below, trees_by, trees_in, first_tree}
@@ -166,17 +166,11 @@ tree_at_place [] (suc i) = refl
 tree_at_place (p ∷ ps) zero = refl
 tree_at_place (p ∷ ps) (suc i) = tree_at_place ps i
 
--- after some places, and then some more
-drop_further : (i b : ℕ) (ps : List Place) → drop b (drop i ps) ≡ drop (i + b) ps
-drop_further zero b ps = let e : b ≡ 0 + b = omega arith in ap (λ n. drop n ps) e
-drop_further (suc i) b [] = drop_all b [] (omega arith) ∙ sym (drop_all (suc i + b) [] (omega arith))
-drop_further (suc i) b (p ∷ ps) = let e : suc (i + b) ≡ suc i + b = omega arith in drop_further i b ps ∙ ap (λ n. drop n (p ∷ ps)) e
-
 -- after a place and what is below it, by an index that stops at the greatest number
 pub next_index : (ps : List Place) (i b next after : ℕ) → length ps < 2 ^ 64 → next ≡ min (i + 1) (2 ^ 64 - 1) → after ≡ min (next + b) (2 ^ 64 - 1) → drop after ps ≡ drop b (drop (suc i) ps)
 next_index ps i b next after h e f = elim (cases_lt (suc i + b) (2 ^ 64)) [
-  | inl x ↦ (let same : after ≡ suc i + b = omega arith in ap (λ n. drop n ps) same ∙ sym (drop_further (suc i) b ps))
-  | inr x ↦ drop_all after ps (omega arith) ∙ (sym (drop_all (suc i + b) ps (omega arith)) ∙ sym (drop_further (suc i) b ps))
+  | inl x ↦ (let same : after ≡ suc i + b = omega arith in ap (λ n. drop n ps) same ∙ sym (drop-drop b (suc i) ps))
+  | inr x ↦ drop_all after ps (omega arith) ∙ (sym (drop_all (suc i + b) ps (omega arith)) ∙ sym (drop-drop b (suc i) ps))
 ]
 
 -- after a place, by an index that stops at the greatest number

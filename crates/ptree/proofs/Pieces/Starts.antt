@@ -1,7 +1,7 @@
 -- Pieces that are readable because they begin with distinguishable texts.
 use Rattle.std.proofs.Common.{◌≡◌, ◌≢◌, ℕ, zero, suc, ◌⊎◌, Bool, true, false, cond, ◌&&◌, List, [], ◌∷◌, ◌++◌, eqb, inl, inr, refl, ap}
 use Rattle.std.specs.List.{repeat}
-use Rattle.std.proofs.lemmas.Bool.{eqb-false, false≢true}
+use Rattle.std.proofs.lemmas.Bool.{eqb-false, false≢true, and_parts}
 use Rattle.std.proofs.lemmas.List.Elements.{All-nil, All-cons, All-append}
 use Rattle.ptree.specs.Pieces.{Pieces, turning_piece, passing_piece}
 use Rattle.ptree.specs.Readable.{ArePrefixFree, AreEqualOrPrefixFree, IsReadable}
@@ -72,11 +72,6 @@ pub record AreTold (f : Starts) : Type 0 where
   pub turnings : (f.regular ≡ f.last_regular) ⊎ (differ f.regular f.last_regular ≡ true)
   pub passings : differ f.child f.last_child ≡ true
 
--- both parts of a conjunction are true
-pub both_true : (a b : Bool) → (a && b) ≡ true → (a ≡ true) × (b ≡ true)
-both_true true b h = (refl, h)
-both_true false b h = absurd (false≢true h)
-
 -- pieces with such starts are readable
 pub readable_from_starts : (f : Starts) → AreTold f → (x y : List ℕ) → HasNoLineFeed x → HasNoLineFeed y → IsReadable (pieces_on f x y)
 readable_from_starts f h x y hx hy = record {
@@ -86,16 +81,16 @@ readable_from_starts f h x y hx hy = record {
   passings = inr (apart_when_differ f.child f.last_child y y h.passings);
 } where
   turning : (one_line f.regular ≡ true) × (one_line f.last_regular ≡ true)
-  turning = both_true (one_line f.regular) (one_line f.last_regular) h.turning_lines
+  turning = and_parts (one_line f.regular) (one_line f.last_regular) h.turning_lines
 
   passing : (one_line f.child ≡ true) × (one_line f.last_child ≡ true)
-  passing = both_true (one_line f.child) (one_line f.last_child) h.passing_lines
+  passing = and_parts (one_line f.child) (one_line f.last_child) h.passing_lines
 
   regular : (differ f.regular f.child ≡ true) × (differ f.regular f.last_child ≡ true)
-  regular = both_true (differ f.regular f.child) (differ f.regular f.last_child) h.regular
+  regular = and_parts (differ f.regular f.child) (differ f.regular f.last_child) h.regular
 
   last_regular : (differ f.last_regular f.child ≡ true) × (differ f.last_regular f.last_child ≡ true)
-  last_regular = both_true (differ f.last_regular f.child) (differ f.last_regular f.last_child) h.last_regular
+  last_regular = and_parts (differ f.last_regular f.child) (differ f.last_regular f.last_child) h.last_regular
 
   line : (a z : List ℕ) → one_line a ≡ true → HasNoLineFeed z → HasNoLineFeed (a ++ z)
   line a z e hz = All-append (λ b. b ≢ 10) a z (no_line_feed_when a e) hz

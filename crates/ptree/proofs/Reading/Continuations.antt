@@ -7,12 +7,13 @@ use Rattle.ptree.specs.DrawnForm.{IsDrawnForm}
 use Rattle.ptree.specs.Flags.{spelled_by, HaveLastFlags}
 use Rattle.ptree.specs.Outline.{Line, Steps}
 use Rattle.ptree.specs.Pieces.{Pieces}
+use Rattle.ptree.specs.Reached.{AreWithin}
 use Rattle.ptree.specs.Readable.{IsReadableWith}
 use Rattle.ptree.specs.Spelled.{SpelledItem, lines_of_items, IsSpelled, text_entry, spelled_text}
 use Rattle.ptree.specs.Tree.{Tree, tree}
 use Rattle.ptree.proofs.Reading.LaterLines.{have_spelled}
 use Rattle.ptree.proofs.Reading.Markers.{items_do_not_continue}
-use Rattle.ptree.proofs.Reading.SpelledForms.{Shows, Low, lines_by, are_spelled_by, within_by, shows_form}
+use Rattle.ptree.proofs.Reading.SpelledForms.{Shows, lines_by, are_spelled_by, within_by, shows_form}
 use Rattle.ptree.proofs.Trees.LineTrees.{tree_of_lines}
 
 -- the text of two lists of items is that of the first and that of the second
@@ -22,7 +23,7 @@ spelled_text-append k (i ∷ a) b = ap (λ z. text_entry k i.pieces i.passing i.
 
 -- a root and items whose pieces later lines give are continued by the text of these lines
 pub goes_on : (k : Look) → IsReadableWith k.pieces k.marker → (depth : ℕ) (root x body : List ℕ) (items : List SpelledItem) (o : List Line) → x ≡ text_entry k [] [] root ++ body → body ≡ spelled_text k items
-    → HaveLastFlags k.pieces items o → Steps 0 (lines_of_items items ++ o) → Low depth (lines_of_items items ++ o) → HasContinuation k depth x
+    → HaveLastFlags k.pieces items o → Steps 0 (lines_of_items items ++ o) → AreWithin depth (lines_of_items items ++ o) → HasContinuation k depth x
 goes_on k readable depth root x body items o is text right steps low =
     let p : Pieces = k.pieces in
     let all : List Line = lines_of_items items ++ o in

@@ -22,7 +22,7 @@ count_feed : (b : ℕ) (x : List ℕ) → b ≡ 10 → line_count (b ∷ x) ≡ 
 count_feed b x e = ap (λ c. cond c (1 + line_count x) (line_count x)) (eq-eqb b 10 e)
 
 -- any other byte does not
-count_other : (b : ℕ) (x : List ℕ) → b ≢ 10 → line_count (b ∷ x) ≡ line_count x
+pub count_other : (b : ℕ) (x : List ℕ) → b ≢ 10 → line_count (b ∷ x) ≡ line_count x
 count_other b x e = ap (λ c. cond c (1 + line_count x) (line_count x)) (ne_eqb b 10 e)
 
 -- a text without a line feed has no whole line

@@ -1,7 +1,7 @@
 -- The passing pieces at the start of a line restrict the flags of the open items.
-use Rattle.std.proofs.Common.{◌≡◌, ◌≢◌, ℕ, suc, ◌+◌, ◌<◌, ◌≤◌, ◌⊎◌, inl, inr, Bool, true, false, not, List, ◌++◌, length, set, get_or, length-set, get_or-set_same, get_or-set_other, refl, sym, ap, ◌∙◌, subst, append_assoc, arith}
+use Rattle.std.proofs.Common.{◌≡◌, ◌≢◌, ℕ, suc, ◌+◌, ◌<◌, ◌≤◌, inl, inr, Bool, true, false, not, List, ◌++◌, length, set, get_or, length-set, get_or-set_same, get_or-set_other, refl, sym, ap, ◌∙◌, subst, append_assoc, arith}
 use Rattle.std.specs.Prelude.{◌↔◌}
-use Rattle.std.proofs.lemmas.Bool.{cases_lt}
+use Rattle.std.proofs.lemmas.Bool.{cases_lt, cases_eq}
 use Rattle.std.proofs.lemmas.List.{append_cancel_left, append_cancel_right}
 use Rattle.ptree.specs.declared.read.lines.Flags.{Flags}
 use Rattle.ptree.specs.Flags.{has_later, last_flags, passing_by}
@@ -94,7 +94,7 @@ found_more p fs fs' count text shown shown' rest rest' new path h low cut e set_
     let piece : List ℕ = passing_piece p cut.last in
     let is : (o : List Line) → Allows fs o → shown' ≡ passing_by p o count ++ piece = λ o a.
     append_cancel_right shown' (passing_by p o count ++ piece) rest' (sym e ∙ (h.passed o a ∙ (ap (λ z. passing_by p o count ++ z) cut.text_is ∙ sym (append_assoc (passing_by p o count) piece rest')))) in
-    let some : AreSome fs' = λ m l. elim (same_place m count) [
+    let some : AreSome fs' = λ m l. elim (cases_eq m count) [
       | inl s ↦ ap (λ z. allows (get_or fs' z any_flags) (get_or fs' z any_flags).last) s ∙ (ap (λ z. allows z z.last) here ∙ new_some)
       | inr ne ↦ ap (λ z. allows z z.last) (other m ne) ∙ path.some m (omega (arith, l, size))
     ] in
@@ -102,7 +102,7 @@ found_more p fs fs' count text shown shown' rest rest' new path h low cut e set_
       λ a.
           let kept : allows new (not (has_later o (suc count))) ≡ true = ap (λ z. allows z (not (has_later o (suc count)))) (sym here) ∙ a count (omega (arith, low, size)) in
           let both = (cut.kept (not (has_later o (suc count)))).0 kept in
-          let old : Allows fs o = λ m l. elim (same_place m count) [
+          let old : Allows fs o = λ m l. elim (cases_eq m count) [
             | inl s ↦ ap (λ z. allows (get_or fs z any_flags) (not (has_later o (suc z)))) s ∙ both.0
             | inr ne ↦ ap (λ z. allows z (not (has_later o (suc m)))) (sym (other m ne)) ∙ a m (omega (arith, l, size))
           ] in
@@ -111,7 +111,7 @@ found_more p fs fs' count text shown shown' rest rest' new path h low cut e set_
           let pieces : passing_piece p (not (has_later o (suc count))) ≡ piece =
           append_cancel_left (passing_by p o count) _ _ (sym (passing_push p o count) ∙ (both.1 ∙ is o both.0)) in
           let kept : allows new (not (has_later o (suc count))) ≡ true = (cut.kept (not (has_later o (suc count)))).1 (both.0 count low, pieces) in
-          λ m l. elim (same_place m count) [
+          λ m l. elim (cases_eq m count) [
             | inl s ↦ ap (λ z. allows (get_or fs' z any_flags) (not (has_later o (suc z)))) s ∙ (ap (λ z. allows z (not (has_later o (suc count)))) here ∙ kept)
             | inr ne ↦ ap (λ z. allows z (not (has_later o (suc m)))) (other m ne) ∙ both.0 m (omega (arith, l, size))
           ],
@@ -122,7 +122,7 @@ found_more p fs fs' count text shown shown' rest rest' new path h low cut e set_
       count = size;
       enough = omega (arith, level);
       some = some;
-      same = λ m l r t. elim (same_place m count) [
+      same = λ m l r t. elim (cases_eq m count) [
         | inl s ↦
             let flag : get_or fs' m any_flags ≡ new = ap (λ z. get_or fs' z any_flags) s ∙ here in
             equal (ap (λ (f : Flags). f.regular) (sym flag) ∙ r) (ap (λ (f : Flags). f.last) (sym flag) ∙ t)
@@ -133,12 +133,6 @@ found_more p fs fs' count text shown shown' rest rest' new path h low cut e set_
       cut = cuts;
       no_more = λ l. absurd (omega (arith, l, level));
     }
-  where
-    same_place : (m n : ℕ) → (m ≡ n) ⊎ (m ≢ n)
-    same_place m n = elim (cases_lt m n) [
-      | inl less ↦ inr (λ e. omega (arith, less, e))
-      | inr more ↦ elim (cases_lt n m) [ inl less ↦ inr (λ e. omega (arith, less, e)) | inr most ↦ inl (omega arith) ]
-    ]
 
 -- one piece more after those that were passed
 pub found_next : (p : Pieces) (fs fs' : List Flags) (count passed : ℕ) (text shown shown' rest rest' : List ℕ) (flags new : Flags) → ArePath p fs count shown → ArePassed p fs count text passed rest → count ≤ passed → passed < length fs

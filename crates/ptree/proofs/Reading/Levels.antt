@@ -4,18 +4,15 @@ use Rattle.std.proofs.Math.Bool.{not-not}
 use Rattle.std.proofs.lemmas.Bool.{lt-ltb, le-ltb, eq-eqb, ne_eqb}
 use Rattle.std.proofs.lemmas.List.{append-nil}
 use Rattle.ptree.specs.Drawing.{Look}
-use Rattle.ptree.specs.Flags.{has_later, last_flags, pieces_by, passing_by, shown_by, spelled_by}
+use Rattle.ptree.specs.Flags.{has_later, last_flags, pieces_by, passing_by, shown_by}
 use Rattle.ptree.specs.Outline.{Line, line, outline_at}
 use Rattle.ptree.specs.Pieces.{turning_piece, passing_all}
-use Rattle.ptree.specs.Spelled.{has_line_feed, text_entry, spelled_text}
+use Rattle.ptree.specs.Reached.{lines_text}
+use Rattle.ptree.specs.Spelled.{has_line_feed, text_entry}
 use Rattle.ptree.specs.Style.{painted_text}
 use Rattle.ptree.specs.Tree.{none, item, Forest, Tree}
 use Rattle.ptree.proofs.Drawing.Inserted.{inserted_none, feed_painted, no_feed_when}
 use Rattle.ptree.proofs.Drawing.TreeDrawing.{is_bare, forest_drawing, tree_drawing}
-
--- the drawing of lines, by their levels and texts
-abbrev pub lines_drawing : Look → List Line → List ℕ
-lines_drawing k o = spelled_text k (spelled_by k.pieces o)
 
 -- a deeper line at the start does not decide about level m
 pub has_later_deeper : (l : Line) (o : List Line) (m : ℕ) → m < l.level → has_later (l ∷ o) m ≡ has_later o m
@@ -62,7 +59,7 @@ entry_shown k prefix passing text = at (has_line_feed text) refl where
 
 -- the drawing of a row of trees, by the levels of its lines
 forest_by_levels : (k : Look) → (above : List Bool) (n : ℕ) (f : Forest) (o : List Line) → above ≡ last_flags o n → ((m : ℕ) → n < m → has_later o m ≡ false)
-    → lines_drawing k (outline_at (suc n) f ++ o) ≡ forest_drawing k above f ++ lines_drawing k o
+    → lines_text k (outline_at (suc n) f ++ o) ≡ forest_drawing k above f ++ lines_text k o
 forest_by_levels k above n none o e h = refl
 forest_by_levels k above n (item t c r) o e h =
     let later : List Line = outline_at (suc n) r ++ o in
@@ -80,21 +77,21 @@ forest_by_levels k above n (item t c r) o e h =
     let after = forest_by_levels k above n r o e h in
     let prefix : pieces_by k.pieces tail (suc n) ≡ passing_all k.pieces above ++ turning_piece k.pieces (is_bare r) =
     ap (λ z. passing_all k.pieces z ++ turning_piece k.pieces (not (has_later tail (suc n)))) over_tail ∙ ap (λ z. passing_all k.pieces above ++ turning_piece k.pieces z) last in
-    let rest : lines_drawing k tail ≡ forest_drawing k (above ++ is_bare r ∷ []) c ++ (forest_drawing k above r ++ lines_drawing k o) =
-    ap (λ z. lines_drawing k z) regrouped ∙ (below ∙ ap (λ z. forest_drawing k (above ++ is_bare r ∷ []) c ++ z) after) in
+    let rest : lines_text k tail ≡ forest_drawing k (above ++ is_bare r ∷ []) c ++ (forest_drawing k above r ++ lines_text k o) =
+    ap (λ z. lines_text k z) regrouped ∙ (below ∙ ap (λ z. forest_drawing k (above ++ is_bare r ∷ []) c ++ z) after) in
     let deep : List Bool = above ++ is_bare r ∷ [] in
     let passing : passing_by k.pieces tail (suc n) ≡ passing_all k.pieces deep =
     ap (λ z. passing_all k.pieces (z ++ not (has_later tail (suc n)) ∷ [])) over_tail ∙ ap (λ z. passing_all k.pieces (above ++ z ∷ [])) last in
     let turned : List ℕ = passing_all k.pieces above ++ turning_piece k.pieces (is_bare r) in
-    ap (λ z. text_entry k z (shown_by k.pieces tail (line (suc n) t)) t ++ lines_drawing k tail) prefix
-    ∙ (ap (λ z. z ++ lines_drawing k tail) (entry_shown k turned (passing_by k.pieces tail (suc n)) t)
-    ∙ (ap (λ z. text_entry k turned z t ++ lines_drawing k tail) passing
+    ap (λ z. text_entry k z (shown_by k.pieces tail (line (suc n) t)) t ++ lines_text k tail) prefix
+    ∙ (ap (λ z. z ++ lines_text k tail) (entry_shown k turned (passing_by k.pieces tail (suc n)) t)
+    ∙ (ap (λ z. text_entry k turned z t ++ lines_text k tail) passing
     ∙ (ap (λ z. text_entry k turned (passing_all k.pieces deep) t ++ z) rest
-    ∙ sym (append_assoc (text_entry k turned (passing_all k.pieces deep) t) _ _ ∙ ap (λ z. text_entry k turned (passing_all k.pieces deep) t ++ z) (append_assoc (forest_drawing k deep c) (forest_drawing k above r) (lines_drawing k o))))))
+    ∙ sym (append_assoc (text_entry k turned (passing_all k.pieces deep) t) _ _ ∙ ap (λ z. text_entry k turned (passing_all k.pieces deep) t ++ z) (append_assoc (forest_drawing k deep c) (forest_drawing k above r) (lines_text k o))))))
 
 -- a tree's drawing is that of the levels and the texts of its outline
-pub tree_by_levels : (k : Look) → (t : Tree) → tree_drawing k t ≡ text_entry k [] [] t.text ++ lines_drawing k (outline_at 1 t.children)
+pub tree_by_levels : (k : Look) → (t : Tree) → tree_drawing k t ≡ text_entry k [] [] t.text ++ lines_text k (outline_at 1 t.children)
 tree_by_levels k t =
     let below = forest_by_levels k [] 0 t.children [] refl (λ m l. refl) in
     ap (λ z. text_entry k [] [] t.text ++ z)
-    (sym (append-nil (forest_drawing k [] t.children)) ∙ (sym below ∙ ap (λ z. lines_drawing k z) (append-nil (outline_at 1 t.children))))
+    (sym (append-nil (forest_drawing k [] t.children)) ∙ (sym below ∙ ap (λ z. lines_text k z) (append-nil (outline_at 1 t.children))))

@@ -12,9 +12,9 @@ use Rattle.ptree.specs.Style.{start_codes, end_codes, painted_text}
 use Rattle.ptree.specs.Texts.{HasNoLineFeed}
 use Rattle.ptree.specs.Tree.{Tree, tree, height}
 use Rattle.ptree.proofs.Drawing.Inserted.{is_feed, inserted_feed, inserted_other, inserted-append, inserted_none, inserted_line}
-use Rattle.ptree.proofs.Reading.Levels.{lines_drawing, entry_shown, tree_by_levels}
+use Rattle.ptree.proofs.Reading.Levels.{entry_shown, tree_by_levels}
 use Rattle.ptree.proofs.Trees.LineTrees.{tree_of_lines}
-use Rattle.ptree.proofs.Reading.SpelledForms.{tree_steps, Low, low_height, height_low}
+use Rattle.ptree.proofs.Reading.SpelledForms.{tree_steps, low_height, height_low, low_split, low_both}
 use Rattle.ptree.proofs.Styles.PaintedTexts.{no_line_feed_start}
 use Rattle.ptree.proofs.Drawing.TreeDrawing.{drawing_of_tree}
 
@@ -81,11 +81,13 @@ line_split k l below =
 abbrev pub own_line : Look → List ℕ → List ℕ → List ℕ
 own_line k pieces own = own_prefix k pieces ++ own ++ 10 ∷ []
 
+-- a line and its line feed, regrouped
+pub moved_assoc : (a line more : List ℕ) → (a ++ line ++ 10 ∷ []) ++ more ≡ a ++ (line ++ 10 ∷ more)
+moved_assoc a line more = simp append_assoc
+
 -- an item's own line and the rest, by parts
 pub own_line_more : (k : Look) (pieces own more : List ℕ) → own_line k pieces own ++ more ≡ own_prefix k pieces ++ (own ++ 10 ∷ more)
-own_line_more k pieces own more = at (own_prefix k pieces) where
-  at : (a : List ℕ) → (a ++ own ++ 10 ∷ []) ++ more ≡ a ++ (own ++ 10 ∷ more)
-  at a = simp append_assoc
+own_line_more k pieces own more = moved_assoc (own_prefix k pieces) own more
 
 -- an item's own line is a prefix of the drawing of the item and of the lines below it
 pub own_line_is_prefix : (k : Look) (n : ℕ) (pieces own more text : List ℕ) (below : List Line) → HasNoLineFeed own → pieces ≡ pieces_by k.pieces below n
@@ -111,30 +113,22 @@ steps_below : (n : ℕ) (lines : List Line) (l : Line) (below : List Line) → S
 steps_below n [] l below s = s
 steps_below n (x ∷ lines) l below s = steps_below x.level lines l below s.2
 
--- the lines from a line on are within the depth
-within_below : (depth : ℕ) (lines : List Line) (l : Line) (below : List Line) → AreWithin depth (lines ++ l ∷ below) → (l.level ≤ depth) × AreWithin depth below
-within_below depth [] l below h = h
-within_below depth (x ∷ lines) l below h = within_below depth lines l below h.1
-
 -- the lines below the last line of an outline are valid
 pub valid_below : (depth : ℕ) (lines : List Line) (l : Line) (below : List Line) → IsOutlineWithin depth (lines ++ l ∷ below) → Steps l.level below × AreWithin depth below
 valid_below depth [] l below h = (subst (λ z. Steps z below) (sym h.0) h.1, h.2)
-valid_below depth (x ∷ lines) l below h = ((steps_below 0 lines l below h.1).2, (within_below depth lines l below h.2).1)
+valid_below depth (x ∷ lines) l below h = ((steps_below 0 lines l below h.1).2, (low_split depth lines (l ∷ below) h.2).1.1)
 
 -- steps up to a line, and from it on
 steps_more : (n : ℕ) (lines : List Line) (l : Line) (below : List Line) → Steps n (lines ++ l ∷ []) → Steps l.level below → Steps n (lines ++ l ∷ below)
 steps_more n [] l below s r = (s.0, s.1, r)
 steps_more n (x ∷ lines) l below s r = (s.0, s.1, steps_more x.level lines l below s.2 r)
 
--- lines within the depth up to a line, and from it on
-within_more : (depth : ℕ) (lines : List Line) (l : Line) (below : List Line) → AreWithin depth (lines ++ l ∷ []) → AreWithin depth below → AreWithin depth (lines ++ l ∷ below)
-within_more depth [] l below h r = (h.0, r)
-within_more depth (x ∷ lines) l below h r = (h.0, within_more depth lines l below h.1 r)
-
 -- lines below the last line of an outline make a longer outline
 pub valid_more : (depth : ℕ) (lines : List Line) (l : Line) (below : List Line) → IsOutlineWithin depth (lines ++ l ∷ []) → Steps l.level below → AreWithin depth below → IsOutlineWithin depth (lines ++ l ∷ below)
 valid_more depth [] l below h s w = (h.0, subst (λ z. Steps z below) h.0 s, w)
-valid_more depth (x ∷ lines) l below h s w = (h.0, steps_more 0 lines l below h.1 s, within_more depth lines l below h.2 w)
+valid_more depth (x ∷ lines) l below h s w =
+    let parts = low_split depth lines (l ∷ []) h.2 in
+    (h.0, steps_more 0 lines l below h.1 s, low_both depth lines (l ∷ below) parts.0 (parts.1.0, w))
 
 -- lines after one more line
 pub push_assoc : (lines : List Line) (l : Line) (below : List Line) → (lines ++ l ∷ []) ++ below ≡ lines ++ l ∷ below
@@ -142,31 +136,21 @@ push_assoc lines l below = append_assoc lines (l ∷ []) below
 
 -- ## Trees
 
--- lines within a depth are low
-pub within_low : (depth : ℕ) (o : List Line) → AreWithin depth o → Low depth o
-within_low depth [] h = tt
-within_low depth (l ∷ o) h = (h.0, within_low depth o h.1)
-
--- low lines are within the depth
-pub low_within : (depth : ℕ) (o : List Line) → Low depth o → AreWithin depth o
-low_within depth [] h = tt
-low_within depth (l ∷ o) h = (h.0, low_within depth o h.1)
-
 -- the text of an outline is the root's entry, and the lines below it
-root_text : (k : Look) (t : Tree) → lines_text k (outline t) ≡ text_entry k [] [] t.text ++ lines_drawing k (outline_at 1 t.children)
-root_text k t = ap (λ z. z ++ lines_drawing k (outline_at 1 t.children)) (entry_shown k [] [] t.text)
+root_text : (k : Look) (t : Tree) → lines_text k (outline t) ≡ text_entry k [] [] t.text ++ lines_text k (outline_at 1 t.children)
+root_text k t = ap (λ z. z ++ lines_text k (outline_at 1 t.children)) (entry_shown k [] [] t.text)
 
 -- a drawing is that of its tree's outline
 pub form_outline : (k : Look) (depth : ℕ) (x : List ℕ) (t : Tree) → IsDrawnForm k depth x t → (x ≡ lines_text k (outline t)) × IsOutlineWithin depth (outline t)
 form_outline k depth x t h = (
   (drawing_of_tree k depth t x h.within).0 h.drawn ∙ (tree_by_levels k t ∙ sym (root_text k t)),
-  (refl, tree_steps t.children, low_within depth (outline_at 1 t.children) (low_height depth 0 t.children (let within = h.within in omega (arith, within)))),
+  (refl, tree_steps t.children, low_height depth 0 t.children (let within = h.within in omega (arith, within))),
 )
 
 -- the drawing of a tree's outline is the tree's drawing
 pub outline_form : (k : Look) (depth : ℕ) (x : List ℕ) (t : Tree) → IsOutlineWithin depth (outline t) → x ≡ lines_text k (outline t) → IsDrawnForm k depth x t
 outline_form k depth x t h e =
-    let low = height_low depth 0 t.children (omega arith) (within_low depth (outline_at 1 t.children) h.2) in
+    let low = height_low depth 0 t.children (omega arith) h.2 in
     let within : height t.children ≤ depth = omega (arith, low) in
     record { drawn = (drawing_of_tree k depth t x within).1 (e ∙ (root_text k t ∙ sym (tree_by_levels k t))); within = within }
 

@@ -17,15 +17,12 @@ use Rattle.ptree.specs.Tree.{Tree}
 use Rattle.ptree.proofs.Reading.LineEnds.{first_feed_after_prefix, no_feed_painted, no_feed_continued, no_feed_pieces}
 use Rattle.ptree.proofs.Drawing.Inserted.{feed_not_empty}
 use Rattle.ptree.proofs.Reading.LaterLines.{closings, closings_later, closings_steps}
-use Rattle.ptree.proofs.Reading.NextLines.{line_split, valid_below, valid_more, form_outline, outline_form, tree_of_outline}
+use Rattle.ptree.proofs.Reading.NextLines.{line_split, valid_below, valid_more, form_outline, outline_form, tree_of_outline, moved_assoc}
 use Rattle.ptree.proofs.Styles.PaintedTexts.{no_line_feed_start}
 use Rattle.ptree.proofs.Reading.ReachedLines.{whole_lines_not_empty}
+use Rattle.ptree.proofs.Reading.SpelledForms.{low_split}
 
 -- ## A wrong line
-
--- a line and its line feed, regrouped
-moved_assoc : (a line more : List ℕ) → (a ++ line ++ 10 ∷ []) ++ more ≡ a ++ (line ++ 10 ∷ more)
-moved_assoc a line more = simp append_assoc
 
 -- a line that is neither an own line nor a further one is wrong
 pub wrong_line : (k : Look) → IsReadableWith k.pieces k.marker → (depth : ℕ) (prefix : List ℕ) (lines : List Line) (level : ℕ) (own : List ℕ) (fs : List Flags) (x new rest : List ℕ)
@@ -69,10 +66,7 @@ closings_within f depth (suc n) l = at (f (suc n)) (closings_within f depth n (o
 -- the level of the last line is within the depth
 level_within : (depth : ℕ) (lines : List Line) (l : Line) → IsOutlineWithin depth (lines ++ l ∷ []) → l.level ≤ depth
 level_within depth [] l h = let root = h.0 in omega (arith, root)
-level_within depth (x ∷ lines) l h = deeper lines h.2 where
-  deeper : (lines : List Line) → AreWithin depth (lines ++ l ∷ []) → l.level ≤ depth
-  deeper [] h = h.0
-  deeper (y ∷ lines) h = deeper lines h.1
+level_within depth (x ∷ lines) l h = (low_split depth lines (l ∷ []) h.2).1.0
 
 -- some drawing continues the whole lines that were read
 pub reached_goes_on : (k : Look) (depth : ℕ) (prefix : List ℕ) (lines : List Line) (level : ℕ) (own : List ℕ) (fs : List Flags) → Reached k depth prefix lines level own fs → HasContinuation k depth prefix

@@ -12,7 +12,7 @@ use Rattle.ptree.specs.Spelled.{ArePiecesAt, ArePassing}
 use Rattle.ptree.specs.Style.{start_codes, end_codes}
 use Rattle.ptree.specs.Texts.{HasNoLineFeed}
 use Rattle.ptree.proofs.Reading.Markers.{continued_prefix_parts, own_prefix_split, further_prefix_once, turning_is_no_marker, items_do_not_continue}
-use Rattle.ptree.proofs.Reading.NextLines.{first_line_of_inserted, inserted_from_first_line, line_split, own_line, own_line_more, own_line_is_prefix, own_line_then_rest, valid_below, valid_more, push_assoc}
+use Rattle.ptree.proofs.Reading.NextLines.{first_line_of_inserted, inserted_from_first_line, line_split, own_line, own_line_more, own_line_is_prefix, own_line_then_rest, valid_below, valid_more, push_assoc, moved_assoc}
 use Rattle.ptree.proofs.Pieces.Prefixes.{same_pieces}
 use Rattle.ptree.proofs.Reading.SpelledForms.{are_spelled_by, pieces_at, passing_at}
 
@@ -37,9 +37,7 @@ root_reached k depth own h = record {
 
 -- a further line and its line feed, regrouped
 further_more : (k : Look) (passing own more : List ℕ) → (continued_prefix k passing ++ own ++ 10 ∷ []) ++ more ≡ continued_prefix k passing ++ (own ++ 10 ∷ more)
-further_more k passing own more = at (continued_prefix k passing) where
-  at : (a : List ℕ) → (a ++ own ++ 10 ∷ []) ++ more ≡ a ++ (own ++ 10 ∷ more)
-  at a = simp append_assoc
+further_more k passing own more = moved_assoc (continued_prefix k passing) own more
 
 -- what is known after a further line
 pub further_reached : (k : Look) → IsReadableWith k.pieces k.marker → (depth : ℕ) (prefix : List ℕ) (lines : List Line) (level : ℕ) (own more_own passing : List ℕ) (fs fs' : List Flags)

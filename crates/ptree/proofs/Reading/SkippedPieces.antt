@@ -4,7 +4,7 @@ use Rattle.std.proofs.Math.Seq.{take-append_seam}
 use Rattle.std.specs.Str.{IsUtf8, IsCharBoundary}
 use Rattle.std.proofs.lemmas.Str.{IsUtf8-nil, IsUtf8-append, IsCharBoundary-from_take}
 use Rattle.std.proofs.lemmas.Bool.{cases_lt}
-use Rattle.std.proofs.lemmas.List.{append-nil, append_cancel_right, get_or_default, take-append-drop}
+use Rattle.std.proofs.lemmas.List.{append-nil, append_cancel_right, get_or_default, take-append-drop, take-take}
 use Rattle.ptree.specs.declared.read.lines.Flags.{Flags}
 use Rattle.ptree.specs.Flags.{has_later, last_flags, passing_by}
 use Rattle.ptree.specs.Outline.{Line}
@@ -106,17 +106,8 @@ skip_end p fs count width n end shown text rest path h low common rest_is = reco
       let (t, is) = prefix o a n h.few in
       let size = h.wide o a in
       let start : take end text ≡ passing_by p o n =
-      sym (take_take end width text low) ∙ (ap (take end) common.same ∙ (take_take end width shown low ∙ (ap (λ z. take end z) is ∙ (ap (λ z. take z (passing_by p o n ++ t)) (sym size) ∙ take-append_seam (passing_by p o n) t)))) in
+      sym (take-take end width text low) ∙ (ap (take end) common.same ∙ (take-take end width shown low ∙ (ap (λ z. take end z) is ∙ (ap (λ z. take z (passing_by p o n ++ t)) (sym size) ∙ take-append_seam (passing_by p o n) t)))) in
       sym (take-append-drop end text) ∙ (ap (λ z. z ++ drop end text) start ∙ ap (λ z. passing_by p o n ++ z) (sym rest_is))
-    where
-      take_take : (n m : ℕ) (xs : List ℕ) → n ≤ m → take n (take m xs) ≡ take n xs
-      take_take zero m xs l = none (take m xs) ∙ sym (none xs) where
-        none : (ys : List ℕ) → take 0 ys ≡ []
-        none [] = refl
-        none (y ∷ ys) = refl
-      take_take (suc n) zero xs l = absurd (omega arith)
-      take_take (suc n) (suc m) [] l = refl
-      take_take (suc n) (suc m) (y ∷ xs) l = ap (λ z. y ∷ z) (take_take n m xs (omega arith))
 
 -- one level less
 pub skip_step : (p : Pieces) (fs : List Flags) (count width n end w : ℕ) (shown : List ℕ) (flags : Flags) → ArePath p fs count shown → SkipSo p fs count width n end → width < end → flags ≡ get_or fs (n - 1) flags

@@ -9,6 +9,7 @@ use Rattle.ptree.specs.DrawnForm.{IsDrawnForm, ReadsOneWay}
 use Rattle.ptree.specs.Flags.{has_later, last_flags, pieces_by, passing_by, shown_by, spelled_by}
 use Rattle.ptree.specs.Outline.{Line, line, outline_at, Steps}
 use Rattle.ptree.specs.Pieces.{Pieces}
+use Rattle.ptree.specs.Reached.{AreWithin}
 use Rattle.ptree.specs.Readable.{IsReadableWith}
 use Rattle.ptree.specs.Spelled.{has_line_feed, SpelledItem, lines_of_items, ArePiecesAt, ArePassing, IsShown, IsSpelled, text_entry, spelled_text, Spells, HasRoot}
 use Rattle.ptree.specs.Tree.{none, item, Forest, Tree, height}
@@ -38,23 +39,18 @@ forest_steps n previous (item t c r) o l s =
 pub tree_steps : (f : Forest) → Steps 0 (outline_at 1 f)
 tree_steps f = subst (λ z. Steps 0 z) (append-nil (outline_at 1 f)) (forest_steps 0 0 f [] (omega arith) (λ later l. tt))
 
--- no level of the lines exceeds depth
-abbrev pub Low : ℕ → List Line → Type 0
-Low depth [] = Unit {0}
-Low depth (l ∷ o) = (l.level ≤ depth) × Low depth o
-
 -- both parts of low lines are low
-pub low_split : (depth : ℕ) (a b : List Line) → Low depth (a ++ b) → Low depth a × Low depth b
+pub low_split : (depth : ℕ) (a b : List Line) → AreWithin depth (a ++ b) → AreWithin depth a × AreWithin depth b
 low_split depth [] b h = (tt, h)
 low_split depth (l ∷ a) b h = let rest = low_split depth a b h.1 in ((h.0, rest.0), rest.1)
 
 -- low lines after low lines are low
-pub low_both : (depth : ℕ) (a b : List Line) → Low depth a → Low depth b → Low depth (a ++ b)
+pub low_both : (depth : ℕ) (a b : List Line) → AreWithin depth a → AreWithin depth b → AreWithin depth (a ++ b)
 low_both depth [] b h g = g
 low_both depth (l ∷ a) b h g = (h.0, low_both depth a b h.1 g)
 
 -- a forest with a low outline is not too high
-pub height_low : (depth n : ℕ) (f : Forest) → n ≤ depth → Low depth (outline_at (suc n) f) → n + height f ≤ depth
+pub height_low : (depth n : ℕ) (f : Forest) → n ≤ depth → AreWithin depth (outline_at (suc n) f) → n + height f ≤ depth
 height_low depth n none l h = omega arith
 height_low depth n (item t c r) l h =
     let parts = low_split depth (outline_at (suc (suc n)) c) (outline_at (suc n) r) h.1 in
@@ -64,13 +60,13 @@ height_low depth n (item t c r) l h =
     omega arith
 
 -- the outline of a forest that is not too high is low
-pub low_height : (depth n : ℕ) (f : Forest) → n + height f ≤ depth → Low depth (outline_at (suc n) f)
+pub low_height : (depth n : ℕ) (f : Forest) → n + height f ≤ depth → AreWithin depth (outline_at (suc n) f)
 low_height depth n none h = tt
 low_height depth n (item t c r) h =
     (omega arith, low_both depth (outline_at (suc (suc n)) c) (outline_at (suc n) r) (low_height depth (suc n) c (omega arith)) (low_height depth n r (omega arith)))
 
 -- items within the depth have low lines
-pub low_lines : (depth : ℕ) (lines : List SpelledItem) → All (λ l. l.level ≤ depth) lines → Low depth (lines_of_items lines)
+pub low_lines : (depth : ℕ) (lines : List SpelledItem) → All (λ l. l.level ≤ depth) lines → AreWithin depth (lines_of_items lines)
 low_lines depth [] h = tt
 low_lines depth (l ∷ lines) h = (All-head (λ m. m.level ≤ depth) l lines h, low_lines depth lines (All-tail (λ m. m.level ≤ depth) l lines h))
 
@@ -102,7 +98,7 @@ are_spelled_by p previous (l ∷ o) s =
     All-cons (IsSpelled p) _ (spelled_by p o) (pieces_at p o l.level s.0, shown_at p o l) (are_spelled_by p l.level o s.2)
 
 -- the items of a low outline are within the depth
-pub within_by : (p : Pieces) (depth : ℕ) (o : List Line) → Low depth o → All (λ l. l.level ≤ depth) (spelled_by p o)
+pub within_by : (p : Pieces) (depth : ℕ) (o : List Line) → AreWithin depth o → All (λ l. l.level ≤ depth) (spelled_by p o)
 within_by p depth [] h = All-nil (λ l. l.level ≤ depth)
 within_by p depth (l ∷ o) h = All-cons (λ m. m.level ≤ depth) _ (spelled_by p o) h.0 (within_by p depth o h.1)
 
@@ -133,7 +129,7 @@ pub shows_form : (look : Look) (depth : ℕ) (x : List ℕ) (t : Tree) → Shows
 shows_form look depth x t h =
     let k : Look = look in
     let o : List Line = outline_at 1 t.children in
-    let low = height_low depth 0 t.children (omega arith) (subst (Low depth) (lines_by k.pieces o) (low_lines depth (spelled_by k.pieces o) h.spells.within)) in
+    let low = height_low depth 0 t.children (omega arith) (subst (AreWithin depth) (lines_by k.pieces o) (low_lines depth (spelled_by k.pieces o) h.spells.within)) in
     let within : height t.children ≤ depth = omega (arith, low) in
     record {
       drawn = (drawing_of_tree look depth t x within).1 (h.has_root.0 ∙ (ap (λ z. text_entry k [] [] t.text ++ z) h.spells.text_is ∙ sym (tree_by_levels k t)));

@@ -1,6 +1,7 @@
 -- What several writes append together.
 use Rattle.std.specs.Prelude.{IsErrAnd}
 use Rattle.std.proofs.Common.{◌≡◌, ℕ, zero, suc, ◌-◌, ◌≤◌, List, [], ◌∷◌, ◌++◌, Option, Some, None, Ok, Err, Result, ◌+◌, take, drop, length, sym, ◌∙◌, ap, subst, refl, append_assoc, arith, length-drop}
+use Rattle.std.proofs.KnownBytes.{Appends-nil, Appends-trans}
 use Rattle.std.proofs.Math.Seq.{take-append-add}
 use Rattle.std.proofs.lemmas.List.{append-nil, take-append-drop, take_all}
 use Rattle.std.proofs.lemmas.List.Folds.{concat-append}
@@ -10,28 +11,16 @@ use Rattle.ptree.specs.declared.sink.DrawError.{DrawError}
 use Rattle.ptree.specs.declared.sink.DrawError.TheVariants.{Memory}
 use Rattle.ptree.specs.Writing.{AppendsPart, AppendsEntries, IsWritten, AreWritten, put_faults}
 
--- nothing is appended to unchanged bytes
-pub appends_nothing : (a : Option (List ℕ)) → Appends a a []
-appends_nothing None = tt
-appends_nothing (Some xs) = sym (append-nil xs)
-
 -- if bytes are kept, nothing is appended
 pub appends_kept : (a b : Option (List ℕ)) → Keeps a b → Appends a b []
 appends_kept None b h = tt
 appends_kept (Some xs) None h = absurd h
 appends_kept (Some xs) (Some ys) h = h ∙ sym (append-nil xs)
 
--- two texts appended one after the other are appended joined
-pub appends_then : (a b c : Option (List ℕ)) (x y : List ℕ) → Appends a b x → Appends b c y → Appends a c (x ++ y)
-appends_then None b c x y h k = tt
-appends_then (Some xs) None c x y h k = absurd h
-appends_then (Some xs) (Some ys) None x y h k = absurd k
-appends_then (Some xs) (Some ys) (Some zs) x y h k = k ∙ ap (λ w. w ++ y) h ∙ append_assoc xs x y
-
 -- what was written before, and the part that the last call wrote
 pub part_then : (a b c : Option (List ℕ)) (x y : List ℕ) → Appends a b x → AppendsPart b c y → AppendsPart a c (x ++ y)
 part_then a b c x y h k =
-    (x ++ k.0, (k.1.0, ap (λ w. x ++ w) k.1.1 ∙ sym (append_assoc x k.0 k.1.0)), appends_then a b c x k.0 h k.2)
+    (x ++ k.0, (k.1.0, ap (λ w. x ++ w) k.1.1 ∙ sym (append_assoc x k.0 k.1.0)), Appends-trans a b c x k.0 h k.2)
 
 -- a part of a prefix is a part of the whole
 pub part_more : (a b : Option (List ℕ)) (x y : List ℕ) → AppendsPart a b x → AppendsPart a b (x ++ y)
@@ -50,12 +39,12 @@ write_step a b c prefix rest bytes n le e h k = (
   append_assoc prefix (take n rest) (take (length rest - n) (drop n rest))
       ∙ ap (λ w. prefix ++ (take n rest ++ w)) (take_all (length rest - n) (drop n rest) (simp length-drop (omega arith)))
       ∙ ap (λ w. prefix ++ w) (take-append-drop n rest) ∙ e,
-  appends_then a b c prefix (take n rest) h k,
+  Appends-trans a b c prefix (take n rest) h k,
 )
 
 -- what was written before, and then the call whose result is returned
 pub written_then : {A E : Type 0} (a b c : Option (List ℕ)) (r : Result A E) (x y : List ℕ) → Appends a b x → IsWritten b c r y → IsWritten a c r (x ++ y)
-written_then a b c (Ok v) x y h k = appends_then a b c x y h k
+written_then a b c (Ok v) x y h k = Appends-trans a b c x y h k
 written_then a b c (Err e) x y h k = part_then a b c x y h k
 
 -- the first bytes of a text, and then the call that writes the rest of it
@@ -71,11 +60,11 @@ written_err Q a b (Err e) x q k = k
 
 -- nothing yet is a prefix
 pub entries_none : (a : Option (List ℕ)) (e : DrawError) (es : List (List ℕ)) → AppendsEntries a a e es
-entries_none a e es = (([], (concat es, refl), appends_nothing a), λ m. (0, appends_nothing a))
+entries_none a e es = (([], (concat es, refl), Appends-nil a), λ m. (0, Appends-nil a))
 
 -- two lists of entries appended one after the other are appended joined
 pub appends_entries : (a b c : Option (List ℕ)) (xs ys : List (List ℕ)) → Appends a b (concat xs) → Appends b c (concat ys) → Appends a c (concat (xs ++ ys))
-appends_entries a b c xs ys h k = subst (λ (z : List ℕ). Appends a c z) (sym (concat-append xs ys)) (appends_then a b c (concat xs) (concat ys) h k)
+appends_entries a b c xs ys h k = subst (λ (z : List ℕ). Appends a c z) (sym (concat-append xs ys)) (Appends-trans a b c (concat xs) (concat ys) h k)
 
 -- the entries so far, and a prefix of the others
 pub entries_then : (a b c : Option (List ℕ)) (e : DrawError) (xs ys : List (List ℕ)) → Appends a b (concat xs) → AppendsEntries b c e ys → AppendsEntries a c e (xs ++ ys)
@@ -114,7 +103,7 @@ entries_written a b c (Err f) e xs ys h k = entries_then a b c e xs ys h k
 
 -- a part of the first entry is a prefix
 pub entry_part : (a b : Option (List ℕ)) (e : DrawError) (x : List ℕ) (ys : List (List ℕ)) → AppendsPart a b x → (e ≡ Memory → b ≡ a) → AppendsEntries a b e (x ∷ ys)
-entry_part a b e x ys h k = (part_more a b x (concat ys) h, λ m. (0, subst (λ (z : Option (List ℕ)). Appends a z []) (sym (k m)) (appends_nothing a)))
+entry_part a b e x ys h k = (part_more a b x (concat ys) h, λ m. (0, subst (λ (z : Option (List ℕ)). Appends a z []) (sym (k m)) (Appends-nil a)))
 
 -- the first entry, and then the call whose result is returned
 pub entry_then : {A E : Type 0} (a b c : Option (List ℕ)) (r : Result A E) (e : DrawError) (x : List ℕ) (ys : List (List ℕ)) → Appends a b x → AreWritten b c r e ys → AreWritten a c r e (x ∷ ys)

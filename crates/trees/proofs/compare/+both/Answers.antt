@@ -5,11 +5,12 @@ use Rattle.std.proofs.lemmas.List.{drop_all, take_all, length-drop}
 use Rattle.std.proofs.lemmas.Result.{IfOk-weaker}
 use Rattle.ptree.specs.declared.item.StringItem.{StringItem, out-StringItem}
 use Rattle.ptree.specs.Tree.{Forest, tree_of, forest}
+use Rattle.ptree.proofs.Trees.OutlineItems.{item_text, left_more}
 use Rattle.ptree_trees.specs.Styled.{HasParts}
 use Rattle.trees.specs.declared.compare.Side.TheVariants.{Left, Right}
 use Rattle.trees.specs.MergingParts.{IsFoundAt}
 use Rattle.trees.specs.Merging.{styled_tree_of, marked_tree, styled_forest, roots_text, ShowsBoth, ShowsMerge}
-use Rattle.trees.proofs.Merges.{text_of_item, forest_below, pushed_shown, whole_both, items_left, items_passed, text_found, step_both, step_left, step_end}
+use Rattle.trees.proofs.Merges.{forest_below, pushed_shown, whole_both, items_passed, text_found, step_both, step_left, step_end}
 use Rattle.trees.proofs.compare.+both.Goals.{both_children-in-Some+in_ok-push_right-in-Some+in_ok-both-in-Some+in_ok-push-in-Some, both_children-in-None+in_ok-marked-in-None+in_ok-push-in-None}
 use Rattle.trees.proofs.compare.+both.Goals as goal
 
@@ -21,7 +22,7 @@ both-returns t c =
     let text = c.as_str-3.result.now in
     let children = c.in_ok-children.children.items in
     let own : text ≡ roots_text look (string_bytes (out-StringItem c.args.left.now).text) (string_bytes (out-StringItem c.args.right.now).text) = search rules in
-    let texts : text ≡ roots_text look left.text right.text = rw (text_of_item c.args.left.now, text_of_item c.args.right.now) own in
+    let texts : text ≡ roots_text look left.text right.text = rw (item_text c.args.left.now, item_text c.args.right.now) own in
     let parts : IfOk c.new.result (HasParts text None children) = search rules in
     IfOk-weaker c.new.result (HasParts text None children) (λ s. ShowsBoth look left right (styled_tree_of s))
     (λ s has. whole_both look left right s text children has texts c.in_ok-children.ensures) parts
@@ -39,7 +40,7 @@ both_children-loop-child-preserved t c =
     let new = map styled_tree_of c.match-branch-2.made.items in
     let before = c.loop-child.invariant in
     let kept : c.next_with.new.self.items.now ≡ ys = c.in_ok-at.ensures.kept ∙ before.items in
-    let first = items_left xs i x c.loop-child-test.true c.child-item.is in
+    let first = left_more tree_of xs i x c.loop-child-test.true c.child-item.is in
     elim c.match-branch-2.branch [
       | both_children-in-Some+in_ok-push_right-in-Some+in_ok-both-in-Some+in_ok-push-in-Some w ↦
           let at = w.in-Some.at in
@@ -52,7 +53,7 @@ both_children-loop-child-preserved t c =
           let pushed : c.match-branch-2.made.items ≡ w.push_right.new.made.items ++ s ∷ [] = ap (λ v. v.items) w.made-is ∙ w.in_ok-push-in-Some.ensures.items in
           let is : y ≡ get_or ys at y = w.index-others-at.is in
           let next : c.match-branch-2.taken ≡ at + 1 = search rules in
-          let texts = text_of_item x ∙ sym c.as_str.ensures.value ∙ text_found ys at y text found.within is found.same in
+          let texts = item_text x ∙ sym c.as_str.ensures.value ∙ text_found ys at y text found.within is found.same in
           rw next (record {
             within = omega (arith, found.within);
             items = kept;
