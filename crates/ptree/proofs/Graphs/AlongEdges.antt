@@ -17,7 +17,6 @@ use Rattle.ptree.specs.Occurrence.{OccurrenceTree, none, occurrence, row, occurr
 use Rattle.ptree.specs.Pieces.{turning_piece, passing_piece}
 use Rattle.ptree.specs.Shape.{Shape, kids}
 use Rattle.ptree.specs.Style.{start_codes}
-use Rattle.ptree.specs.Writing.{AppendsPart}
 use Rattle.ptree.proofs.Graphs.EdgeLists.{newest_within, newest_splits}
 use Rattle.ptree.proofs.Drawing.Engine.{AreBegun, start_kept}
 use Rattle.ptree.proofs.Graphs.Growth.{grow_next, without}
@@ -79,26 +78,15 @@ module _ {N : Type 0} (text : N → List ℕ) (g : Graph N) (mark : List ℕ) wh
       ap (λ w. own_entry look outer last (leaf_shape text w mark repeated)) e
       ∙ ap (λ b. own_entry look outer last (leaf_shape text (slice_get (weights_of g) t.node) mark b)) m
 
-  -- so also where a graph is drawn
-  own_grown : (look : Look) (outer : List ℕ) (last : Option Bool) (levels : ℕ) (items : List Bool) (v : ℕ) (weight : Option N) (repeated : Bool) → weight ≡ slice_get (weights_of g) v → repeated ≡ is_seen items v
-      → own_entry look outer last (leaf_shape text weight mark repeated) ≡ own_entry look outer last (shape_of (grow (neighbors_of (edges_of g)) levels (flags_of g items) v).occurrence)
-  own_grown look outer last levels items v weight repeated e flag =
+  -- so what holds of the one holds of the other, also where a graph is drawn
+  pub own_drawn : (P : List ℕ → Type 0) (look : Look) (outer : List ℕ) (last : Option Bool) (levels : ℕ) (items : List Bool) (v : ℕ) (weight : Option N) (repeated : Bool)
+      → P (own_entry look outer last (leaf_shape text weight mark repeated)) → weight ≡ slice_get (weights_of g) v → repeated ≡ is_seen items v
+      → P (own_entry look outer last (shape_of (grow (neighbors_of (edges_of g)) levels (flags_of g items) v).occurrence))
+  own_drawn P look outer last levels items v weight repeated h e flag =
       let below = neighbors_of (edges_of g) in
       let seen = flags_of g items in
-      own_alike look outer last weight repeated (grow below levels seen v).occurrence (e ∙ ap (slice_get (weights_of g)) (sym (grown_node below levels seen v)))
-      (flag ∙ (sym (seen_all (length (weights_of g)) items v) ∙ sym (grown_mark below levels seen v)))
-
-  -- of which a part is written
-  pub own_part : (a b : Option (List ℕ)) (look : Look) (outer : List ℕ) (last : Option Bool) (levels : ℕ) (items : List Bool) (v : ℕ) (weight : Option N) (repeated : Bool)
-      → AppendsPart a b (own_entry look outer last (leaf_shape text weight mark repeated)) → weight ≡ slice_get (weights_of g) v → repeated ≡ is_seen items v
-      → AppendsPart a b (own_entry look outer last (shape_of (grow (neighbors_of (edges_of g)) levels (flags_of g items) v).occurrence))
-  own_part a b look outer last levels items v weight repeated h e flag = subst (λ (z : List ℕ). AppendsPart a b z) (own_grown look outer last levels items v weight repeated e flag) h
-
-  -- or all of it
-  pub own_whole : (a b : Option (List ℕ)) (look : Look) (outer : List ℕ) (last : Option Bool) (levels : ℕ) (items : List Bool) (v : ℕ) (weight : Option N) (repeated : Bool)
-      → Appends a b (own_entry look outer last (leaf_shape text weight mark repeated)) → weight ≡ slice_get (weights_of g) v → repeated ≡ is_seen items v
-      → Appends a b (own_entry look outer last (shape_of (grow (neighbors_of (edges_of g)) levels (flags_of g items) v).occurrence))
-  own_whole a b look outer last levels items v weight repeated h e flag = subst (λ (z : List ℕ). Appends a b z) (own_grown look outer last levels items v weight repeated e flag) h
+      let marked : repeated ≡ (grow below levels seen v).occurrence.repeated = flag ∙ (sym (seen_all (length (weights_of g)) items v) ∙ sym (grown_mark below levels seen v)) in
+      subst P (own_alike look outer last weight repeated (grow below levels seen v).occurrence (e ∙ ap (slice_get (weights_of g)) (sym (grown_node below levels seen v))) marked) h
 
   -- the shape of what is drawn from a node on
   abbrev pub drawn_from : ℕ → ℕ → Shape
@@ -110,7 +98,7 @@ module _ {N : Type 0} (text : N → List ℕ) (g : Graph N) (mark : List ℕ) wh
       → Appends a b (own_entry look [] None (drawn_from depth v))
   start_written a b look depth v width old buffer end wide is start h =
       let held = start_kept width old buffer end wide is ∙ start ∙ sym (append-nil (start_codes look.branch)) in
-      own_whole a b look [] None depth [] v (slice_get (weights_of g) v) false (h [] held) refl refl
+      own_drawn (λ z. Appends a b z) look [] None depth [] v (slice_get (weights_of g) v) false (h [] held) refl refl
 
   -- what is below it
   pub kids_from : (depth v : ℕ) (items : List Bool) → depth ≢ 0 → items ≡ [] → map shape_of (kids_grown (neighbors_of (edges_of g)) (depth - 1) (flags_of g items) v) ≡ kids (drawn_from depth v)

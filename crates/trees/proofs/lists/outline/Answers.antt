@@ -2,10 +2,9 @@ use Rattle.std.proofs.Common.{◌≡◌, ◌∙◌, ℕ, List, map, sym, rules}
 use Rattle.std.proofs.lemmas.Bool.{false≢true}
 use Rattle.std.proofs.lemmas.Result.{IfOk-weaker, IfErr-weaker}
 use Rattle.std.specs.Borrow.{Bor}
-use Rattle.std.specs.Prelude.{unwrap_or}
 use Rattle.ptree.specs.Tree.{Tree, tree_of}
 use Rattle.ptree_trees.specs.declared.indented.Form.{Form}
-use Rattle.trees.specs.Outlining.{outline_lines, text_of_lines, first_indent, first_bullet, labelled_lines, IsFormWithin, HoldsOutline, HoldsNoOtherOutline, FailsToOutline}
+use Rattle.trees.specs.Outlining.{text_of_lines, labelled_lines, IsFormWithin, HoldsOutline, HoldsNoOtherOutline, FailsToOutline}
 use Rattle.trees.specs.Reading.{FailsToMake}
 use Rattle.trees.proofs.Outlines.{form_is, IsTextOf, text_is, within_held, held_within, outline_fails, form_fails}
 use Rattle.trees.proofs.lists.outline.Goals.{After-drop-text}
@@ -24,24 +23,16 @@ text_read : (c : After-drop-text) → IsMade c → IsTextOf c.args.source.now c.
 text_read c is =
     let outline = c.args.outline in
     let ls : List (List ℕ) = map (λ (l : Bor (List ℕ)). l.now) c.in_ok-lines.lines.items in
-    let same : ls ≡ outline_lines c.args.source.now = search rules in
-    let indent : c.first_indent.result.now ≡ first_indent ls = search rules in
-    let first : c.first_bullet.result.now ≡ first_bullet ls = search rules in
-    let unit : c.unwrap_or.result ≡ unwrap_or outline.unit c.first_indent.result = search rules in
-    let bullet : c.unwrap_or-2.result ≡ unwrap_or outline.bullet c.first_bullet.result = search rules in
-    text_is c.args.source.now outline (made_form c) ls c.as_str.result.now same (form_is outline ls c.unwrap_or.result c.unwrap_or-2.result c.first_indent.result c.first_bullet.result unit bullet indent first) is
+    text_is c.args.source.now outline (made_form c) ls c.as_str.result.now (search rules)
+    (form_is outline ls c.unwrap_or.result c.unwrap_or-2.result c.first_indent.result c.first_bullet.result (search rules) (search rules) (search rules) (search rules)) is
 
 pub returns-then-not-is_right-clause-failed : goal.returns-then-not-is_right-clause-failed
 returns-then-not-is_right-clause-failed c =
     let outline = c.args.outline in
     let form : Form = record { unit = c.unwrap_or.result; bullet = c.unwrap_or-2.result } in
     let ls : List (List ℕ) = map (λ (l : Bor (List ℕ)). l.now) c.in_ok-lines.lines.items in
-    let same : ls ≡ outline_lines c.args.source.now = search rules in
-    let indent : c.first_indent.result.now ≡ first_indent ls = search rules in
-    let first : c.first_bullet.result.now ≡ first_bullet ls = search rules in
-    let unit : c.unwrap_or.result ≡ unwrap_or outline.unit c.first_indent.result = search rules in
-    let bullet : c.unwrap_or-2.result ≡ unwrap_or outline.bullet c.first_bullet.result = search rules in
-    form_fails c.args.source.now outline form ls c.in_ok-failure.field-0 same (form_is outline ls c.unwrap_or.result c.unwrap_or-2.result c.first_indent.result c.first_bullet.result unit bullet indent first)
+    form_fails c.args.source.now outline form ls c.in_ok-failure.field-0 (search rules)
+    (form_is outline ls c.unwrap_or.result c.unwrap_or-2.result c.first_indent.result c.first_bullet.result (search rules) (search rules) (search rules) (search rules))
     (λ right. false≢true (sym c.if-not-is_right.true ∙ c.is_right.ensures.1 right)) c.in_ok-failure.ensures
 
 pub returns-clause-some : goal.returns-clause-some

@@ -2,6 +2,7 @@ use Rattle.std.proofs.lemmas.List.{take_all, length-map}
 use Rattle.std.proofs.lemmas.Bool.{false≢true}
 use Rattle.std.proofs.lemmas.Grind.{common_steps}
 use Rattle.std.proofs.Common.{Some, ◌≡◌, ◌++◌, ◌∷◌, ◌-◌, ◌∙◌, [], inl, inr, eqb, ap, sym, map, take, length, refl, arith, rules, append_assoc}
+use Rattle.std.specs.Io.KnownBytes.{Appends}
 use Rattle.ptree.specs.Graph.{weights_of, edges_of, neighbors_of}
 use Rattle.ptree.specs.GraphLinks.{ends_of}
 use Rattle.ptree.specs.Growing.{flags_of, is_seen, enter, grow, row_occurrences, row_seen, kids_grown}
@@ -11,7 +12,8 @@ use Rattle.ptree.specs.Entries.{kid_entries, entries_below}
 use Rattle.ptree.specs.Occurrence.{OccurrenceTree, occurrence_shape}
 use Rattle.ptree.specs.Pieces.{passing_piece}
 use Rattle.ptree.specs.Shape.{Shape}
-use Rattle.ptree.proofs.Graphs.AlongEdges.{last_tells, length_row, kids_below, seen_below, no_kids, kids_are, own_part, own_whole, leaf_written, all_begun, flags_after_ok}
+use Rattle.ptree.specs.Writing.{AppendsPart}
+use Rattle.ptree.proofs.Graphs.AlongEdges.{last_tells, length_row, kids_below, seen_below, no_kids, kids_are, own_drawn, leaf_written, all_begun, flags_after_ok}
 use Rattle.ptree.proofs.Graphs.EdgeLists.{newest_starts, newest_within, newest_has}
 use Rattle.ptree.proofs.Drawing.Engine.{item_written, all_below, begun_none, begun_part, begun_then, begun_err, not_last, still_turned, long_enough, take_again, memory_is_no_fault}
 use Rattle.ptree.proofs.Graphs.Growth.{stopped, without, entered, seen_made}
@@ -25,9 +27,8 @@ pub draw_row-returns-in_err-set_flag-clause-bytes : goal.draw_row-returns-in_err
 draw_row-returns-in_err-set_flag-clause-bytes g t c = λ outer e.
     let look = look_of c.args.brush.now.look.now in
     let graph = c.args.marked.now.graph.now in
-    let shape : OccurrenceTree → Shape = occurrence_shape g.N.Label.text graph c.args.marked.now.mark.now in
     entries_err _ _ _ _ _ _ c.from_residual.ensures.1
-    (entries_none _ c.args.pen.now.error (kid_entries look (entries_below look c.args.levels_left) outer (map shape (kids_grown (neighbors_of (edges_of graph)) c.args.levels_left (flags_of graph c.args.seen.now.items) c.args.node.0))))
+    (entries_none _ c.args.pen.now.error (kid_entries look (entries_below look c.args.levels_left) outer (map (occurrence_shape g.N.Label.text graph c.args.marked.now.mark.now) (kids_grown (neighbors_of (edges_of graph)) c.args.levels_left (flags_of graph c.args.seen.now.items) c.args.node.0))))
 
 pub draw_row-loop-number-init : goal.draw_row-loop-number-init
 draw_row-loop-number-init g t c =
@@ -155,13 +156,11 @@ pub draw_node-returns-in_err-draw_entry-clause-bytes : goal.draw_node-returns-in
 draw_node-returns-in_err-draw_entry-clause-bytes g t c = λ outer e.
     let look = look_of c.args.brush.now.look.now in
     let graph = c.args.marked.now.graph.now in
-    let shape : OccurrenceTree → Shape = occurrence_shape g.N.Label.text graph c.args.marked.now.mark.now in
     let v = c.args.node.0 in
-    let seen = flags_of graph c.args.seen.now.items in
-    let tree = (grow (neighbors_of (edges_of graph)) c.args.levels_left seen v).occurrence in
+    let tree = (grow (neighbors_of (edges_of graph)) c.args.levels_left (flags_of graph c.args.seen.now.items) v).occurrence in
     let node = node_at graph v c.index-record.result.now c.requires.node c.index-record.ensures in
     entries_err _ _ _ _ _ _ c.from_residual.ensures.1
-    (entry_part _ _ _ _ (entries_below look c.args.levels_left (outer ++ passing_piece look.pieces c.args.is_last) (shape tree)) (own_part g.N.Label.text graph c.args.marked.now.mark.now _ _ look outer (Some c.args.is_last) c.args.levels_left c.args.seen.now.items v _ _ (c.in_err-draw_entry.ensures.bytes outer e) node.0 (c.is_flagged-repeated.ensures ∙ ap (λ l. is_seen l v) c.deref.ensures.value)) c.in_err-draw_entry.ensures.memory)
+    (entry_part _ _ _ _ (entries_below look c.args.levels_left (outer ++ passing_piece look.pieces c.args.is_last) (occurrence_shape g.N.Label.text graph c.args.marked.now.mark.now tree)) (own_drawn g.N.Label.text graph c.args.marked.now.mark.now (λ z. AppendsPart (g.W.Sink.contents c.args.f.now) (g.W.Sink.contents c.draw_entry.new.f) z) look outer (Some c.args.is_last) c.args.levels_left c.args.seen.now.items v _ _ (c.in_err-draw_entry.ensures.bytes outer e) node.0 (c.is_flagged-repeated.ensures ∙ ap (λ l. is_seen l v) c.deref.ensures.value)) c.in_err-draw_entry.ensures.memory)
 
 pub draw_node-returns-clause-bytes : goal.draw_node-returns-clause-bytes
 draw_node-returns-clause-bytes g t c = λ outer e.
@@ -176,7 +175,7 @@ draw_node-returns-clause-bytes g t c = λ outer e.
     let node = node_at graph v c.index-record.result.now c.requires.node c.index-record.ensures in
     let kids_in = kids_are g.N.Label.text graph c.args.marked.now.mark.now tree _ (kids_below below c.args.levels_left seen v c.if-levels_left-eq0.false (sym flag ∙ c.if-repeated.false)) in
     item_written look c.args.levels_left outer c.args.is_last (shape tree) _ _ _ _ _ (λ z. c.if-levels_left-eq0.false z)
-    (own_whole g.N.Label.text graph c.args.marked.now.mark.now _ _ look outer (Some c.args.is_last) c.args.levels_left c.args.seen.now.items v _ _ (c.in_ok-draw_entry.ensures.bytes outer e) node.0 (c.is_flagged-repeated.ensures ∙ ap (λ l. is_seen l v) c.deref.ensures.value))
+    (own_drawn g.N.Label.text graph c.args.marked.now.mark.now (λ z. Appends (g.W.Sink.contents c.args.f.now) (g.W.Sink.contents c.draw_entry.new.f) z) look outer (Some c.args.is_last) c.args.levels_left c.args.seen.now.items v _ _ (c.in_ok-draw_entry.ensures.bytes outer e) node.0 (c.is_flagged-repeated.ensures ∙ ap (λ l. is_seen l v) c.deref.ensures.value))
     (all_below look (entries_below look (c.args.levels_left - 1)) (outer ++ passing_piece look.pieces c.args.is_last) (shape tree) _ _ _ _ shape (kids_grown below (c.args.levels_left - 1) seen v) kids_in
     (c.draw_below.ensures.bytes outer (ap (take c.args.width) c.in_ok-draw_entry.ensures.kept ∙ e)))
 
@@ -198,7 +197,7 @@ draw_node-returns-then-repeated-clause-bytes g t c = λ outer e.
     let stop = stopped below c.args.levels_left seen v
     (elim c.then-repeated.branch [ draw_node-then-repeated-via-then-repeated w ↦ inl (sym flag ∙ w.if-repeated.true) | draw_node-then-repeated-via-else-repeated+then-levels_left-eq0 w ↦ inr w.if-levels_left-eq0.true ]) in
     leaf_written look c.args.levels_left outer c.args.is_last (shape tree) _ _ (sym (kids_are g.N.Label.text graph c.args.marked.now.mark.now tree [] (no_kids _ v _ seen stop)))
-    (own_whole g.N.Label.text graph c.args.marked.now.mark.now _ _ look outer (Some c.args.is_last) c.args.levels_left c.args.seen.now.items v _ _ (c.in_ok-draw_entry.ensures.bytes outer e) node.0 (c.is_flagged-repeated.ensures ∙ ap (λ l. is_seen l v) c.deref.ensures.value))
+    (own_drawn g.N.Label.text graph c.args.marked.now.mark.now (λ z. Appends (g.W.Sink.contents c.args.f.now) (g.W.Sink.contents c.draw_entry.new.f) z) look outer (Some c.args.is_last) c.args.levels_left c.args.seen.now.items v _ _ (c.in_ok-draw_entry.ensures.bytes outer e) node.0 (c.is_flagged-repeated.ensures ∙ ap (λ l. is_seen l v) c.deref.ensures.value))
 
 pub draw_node-returns-then-repeated-clause-seen : goal.draw_node-returns-then-repeated-clause-seen
 draw_node-returns-then-repeated-clause-seen g t c =
@@ -223,7 +222,7 @@ draw_node-returns-then-newest-eq0-clause-bytes g t c = λ outer e.
     let none : below v ≡ [] = sym (newest_starts (edges_of graph) v c.index-record.result.now.newest node.1).0 ∙ ap (λ k. neighbors_of (take k (edges_of graph)) v) c.if-newest-eq0.true in
     leaf_written look c.args.levels_left outer c.args.is_last (shape tree) _ _
     (sym (kids_are g.N.Label.text graph c.args.marked.now.mark.now tree [] (no_kids _ v _ seen (without below c.args.levels_left seen v c.if-levels_left-eq0.false (sym flag ∙ c.if-repeated.false) none))))
-    (own_whole g.N.Label.text graph c.args.marked.now.mark.now _ _ look outer (Some c.args.is_last) c.args.levels_left c.args.seen.now.items v _ _ (c.in_ok-draw_entry.ensures.bytes outer e) node.0 (c.is_flagged-repeated.ensures ∙ ap (λ l. is_seen l v) c.deref.ensures.value))
+    (own_drawn g.N.Label.text graph c.args.marked.now.mark.now (λ z. Appends (g.W.Sink.contents c.args.f.now) (g.W.Sink.contents c.draw_entry.new.f) z) look outer (Some c.args.is_last) c.args.levels_left c.args.seen.now.items v _ _ (c.in_ok-draw_entry.ensures.bytes outer e) node.0 (c.is_flagged-repeated.ensures ∙ ap (λ l. is_seen l v) c.deref.ensures.value))
 
 pub draw_node-returns-then-newest-eq0-clause-seen : goal.draw_node-returns-then-newest-eq0-clause-seen
 draw_node-returns-then-newest-eq0-clause-seen g t c =
@@ -246,9 +245,8 @@ pub draw_below-returns-in_err-pass-clause-bytes : goal.draw_below-returns-in_err
 draw_below-returns-in_err-pass-clause-bytes g t c = λ outer e.
     let look = look_of c.args.brush.now.look.now in
     let graph = c.args.marked.now.graph.now in
-    let shape : OccurrenceTree → Shape = occurrence_shape g.N.Label.text graph c.args.marked.now.mark.now in
     entries_err _ _ _ _ _ _ c.from_residual.ensures.1
-    (entries_none _ c.pass.new.self.error (kid_entries look (entries_below look c.args.levels_left) (outer ++ passing_piece look.pieces c.args.is_last) (map shape (kids_grown (neighbors_of (edges_of graph)) c.args.levels_left (flags_of graph c.args.seen.now.items) c.args.node.0))))
+    (entries_none _ c.pass.new.self.error (kid_entries look (entries_below look c.args.levels_left) (outer ++ passing_piece look.pieces c.args.is_last) (map (occurrence_shape g.N.Label.text graph c.args.marked.now.mark.now) (kids_grown (neighbors_of (edges_of graph)) c.args.levels_left (flags_of graph c.args.seen.now.items) c.args.node.0))))
 
 pub draw_below-returns-clause-bytes : goal.draw_below-returns-clause-bytes
 draw_below-returns-clause-bytes g t c = λ outer e.

@@ -8,7 +8,8 @@ use Rattle.ptree.specs.Graph.{weights_of, edges_of, neighbors_of}
 use Rattle.ptree.specs.Line.{line_bytes}
 use Rattle.ptree.specs.Looks.{look_of}
 use Rattle.ptree.specs.Style.{start_codes}
-use Rattle.ptree.proofs.Graphs.AlongEdges.{drawn_from, kids_from, leaf_root, no_kids_from, own_part, start_written}
+use Rattle.ptree.specs.Writing.{AppendsPart}
+use Rattle.ptree.proofs.Graphs.AlongEdges.{drawn_from, kids_from, leaf_root, no_kids_from, own_drawn, start_written}
 use Rattle.ptree.proofs.Graphs.EdgeLists.{newest_starts}
 use Rattle.ptree.proofs.Drawing.Engine.{cut_back, start_kept, root_turned}
 use Rattle.ptree.proofs.Drawing.Join.{root_written, root_alone}
@@ -41,7 +42,7 @@ returns-in_err-draw_start-clause-bytes g c =
     let mark = c.args.marked.now.mark.now in
     entries_err _ _ _ _ _ _ c.from_residual-in_err-draw_start.ensures.1
     (entry_part _ _ _ _ (entries_below look c.args.depth [] (drawn_from g.N.Label.text graph mark c.args.depth c.args.start.0))
-    (own_part g.N.Label.text graph mark _ _ look [] None c.args.depth [] c.args.start.0 _ false (c.in_err-draw_start.ensures.bytes [] outer) refl refl) c.in_err-draw_start.ensures.memory)
+    (own_drawn g.N.Label.text graph mark (λ z. AppendsPart (g.W.Sink.contents c.args.f.now) (g.W.Sink.contents c.draw_start.new.f) z) look [] None c.args.depth [] c.args.start.0 _ false (c.in_err-draw_start.ensures.bytes [] outer) refl refl) c.in_err-draw_start.ensures.memory)
 
 pub returns-clause-bytes : goal.returns-clause-bytes
 returns-clause-bytes g c =
