@@ -1,6 +1,6 @@
 -- What texts say of the packages that are needed.
 use Rattle.std.proofs.Common.{◌≡◌, ◌≢◌, ◌∙◌, ℕ, ◌+◌, ◌<◌, List, [], ◌∷◌, ◌++◌, length, get_or, drop, codes, refl, sym, ap, subst, append_assoc, length-append, arith}
-use Rattle.std.proofs.Math.Seq.{drop-append_seam}
+use Rattle.std.proofs.Math.Seq.{drop-append_seam, get_or-append_seam}
 use Rattle.std.proofs.lemmas.List.{append-nil}
 use Rattle.std.specs.Prelude.{Option, Some, None, IfSome, IsSome}
 use Rattle.std.specs.Str.Pattern.{LacksTextAt}
@@ -10,15 +10,11 @@ use Rattle.trees.specs.LockingParts.{known_of, IsWhole, IsBehind}
 
 -- ## Parts of texts
 
-pub at_front : (xs ys : List ℕ) (c : ℕ) → get_or (xs ++ c ∷ ys) (length xs) 0 ≡ c
-at_front [] ys c = refl
-at_front (x ∷ xs) ys c = at_front xs ys c
-
 -- a text without a byte
 pub lacks_byte : (c : ℕ) (text : List ℕ) → ((i : ℕ) → i < length text → get_or text i 0 ≢ c) → Lacks (c ∷ []) text
 lacks_byte c text none = λ before after e.
     none (length before) (subst (λ (t : List ℕ). length before < length t) (sym e) (omega (arith, length-append before (c ∷ after))))
-    (ap (λ (t : List ℕ). get_or t (length before) 0) e ∙ at_front before after c)
+    (ap (λ (t : List ℕ). get_or t (length before) 0) e ∙ get_or-append_seam before c after 0)
 
 -- what stands before the first part of a kind
 pub lacks_before : (part text front back : List ℕ) → text ≡ front ++ (part ++ back) → 0 < length part → ((i : ℕ) → i < length front → LacksTextAt part text i) → Lacks part front

@@ -1,6 +1,6 @@
 -- Paths of packages of npm.
 use Rattle.std.proofs.Common.{◌≡◌, ◌≢◌, ◌∙◌, ℕ, ◌+◌, ◌-◌, ◌<◌, ◌||◌, Bool, true, false, eqb, List, [], ◌∷◌, ◌++◌, length, get_or, take, drop, codes, refl, sym, ap, subst, append_assoc, length-append, arith}
-use Rattle.std.proofs.Math.Seq.{drop-append_seam}
+use Rattle.std.proofs.Math.Seq.{drop-append_seam, get_or-append_seam}
 use Rattle.std.proofs.lemmas.Bool.{false≢true}
 use Rattle.std.proofs.lemmas.List.{append_cancel_right, take-append-drop, take_all}
 use Rattle.std.proofs.lemmas.Str.{IsCharBoundary-before_ascii, IsCharBoundary-end}
@@ -12,7 +12,7 @@ use Rattle.std.specs.Str.Pattern.{HasCharAt, RFindsChar, SplitsAroundMatch, Find
 use Rattle.trees.specs.Documents.{IsLastPart}
 use Rattle.trees.specs.Locking.{Lacks}
 use Rattle.trees.specs.Npm.{IsScoped, home, path_in}
-use Rattle.trees.proofs.NeedTexts.{lacks_byte, at_front}
+use Rattle.trees.proofs.NeedTexts.{lacks_byte}
 
 -- ## Slashes
 
@@ -123,7 +123,7 @@ module _ (path above name scope folder own : List ℕ) (is : path ≡ above ++ 4
       first : get_or path i 0 ≡ 64
       first =
           ap (λ (n : ℕ). get_or path n 0) start
-          ∙ (ap (λ (t : List ℕ). get_or t (length (home folder ++ 47 ∷ [])) 0) (front ∙ ap (λ (t : List ℕ). (home folder ++ 47 ∷ []) ++ t) s.is) ∙ at_front (home folder ++ 47 ∷ []) (s.scope ++ 47 ∷ s.own) 64)
+          ∙ (ap (λ (t : List ℕ). get_or t (length (home folder ++ 47 ∷ [])) 0) (front ∙ ap (λ (t : List ℕ). (home folder ++ 47 ∷ []) ++ t) s.is) ∙ get_or-append_seam (home folder ++ 47 ∷ []) 64 (s.scope ++ 47 ∷ s.own) 0)
 
       go : (r : Option (Bor (List ℕ))) → GetsRange path i (length path) r → (unwrap_or r d).now ≡ own
       go None none = absurd (none (omega (arith, fits)) (IsCharBoundary-before_ascii path i (omega (arith, fits, some)) (omega (arith, first))) (IsCharBoundary-end path))

@@ -2,7 +2,7 @@
 -- else does.
 use Rattle.std.specs.Prelude.{slice_set, ◌↔◌, IsTrue, if◌then◌else◌, nat_lt}
 use Rattle.std.proofs.Common.{◌≡◌, ℕ, zero, suc, ◌<◌, ◌≤◌, ◌⊎◌, inl, inr, Bool, true, false, List, [], ◌∷◌, length, refl, sym, ap, subst, ◌∙◌, arith}
-use Rattle.std.proofs.lemmas.Bool.{false≢true, lt-ltb, cases_lt}
+use Rattle.std.proofs.lemmas.Bool.{false≢true, lt-ltb, cases_lt, cond_both}
 use Rattle.ptree.specs.Growing.{Grown, grown, is_seen, row_occurrences, row_seen, expand, grow}
 use Rattle.ptree.specs.Occurrence.{none, OccurrenceTree, occurrence, row, occurrence_kids, IsExpandedBefore, IsExpanded, IsExpandedOnce, HasOneTree}
 use Rattle.ptree.proofs.Graphs.ExpandedRows.{nodes_of, no_nodes, rebuilt, none_within, IsExpandedAmong, shown_to, shown_from, allowed, OnceFrom, RowFrom, transfer_row, down, up, alone, row_cons, row_head, row_tail}
@@ -177,16 +177,6 @@ module _ (below : ℕ → List ℕ) where
         only = only;
       }
 
-    -- nothing is below in either case
-    nothing_either : (b : Bool) (xs : List ℕ) → xs ≡ [] → (if b then [] else xs) ≡ []
-    nothing_either true xs e = refl
-    nothing_either false xs e = e
-
-    -- nothing is below a node without neighbours
-    nothing_below : (b : Bool) (xs : List ℕ) → xs ≡ [] → (if b then xs else []) ≡ []
-    nothing_below true xs h = h
-    nothing_below false xs h = refl
-
     -- one level more
     module _ (d : ℕ) (h : AreRight d (grow below d)) (seen : List Bool) (v : ℕ) (e : length seen ≡ n) where
       -- what the recursion gives, by the node's flag
@@ -197,7 +187,8 @@ module _ (below : ℕ → List ℕ) where
       by_list : (us : List ℕ) → below v ≡ us → is_seen seen v ≡ false → IsRight seen (suc d) v (expand (grow below d) us seen v)
       by_list [] q fresh =
           subst (λ (b : Bool). IsRight seen (suc d) v (grown (occurrence v b none) seen)) fresh
-          (leaf_right seen (suc d) v e (λ p i m. nothing_either p.repeated (if nat_lt 0 (suc d) then below p.node else []) (nothing_below (nat_lt 0 (suc d)) (below p.node) (ap below i ∙ q))))
+          (leaf_right seen (suc d) v e (λ p i m. cond_both p.repeated [] (if nat_lt 0 (suc d) then below p.node else []) (λ (us : List ℕ). us ≡ []) (λ _. refl)
+          (λ _. cond_both (nat_lt 0 (suc d)) (below p.node) [] (λ (us : List ℕ). us ≡ []) (λ _. ap below i ∙ q) (λ _. refl))))
       by_list (u ∷ us) q fresh = branch_right seen d v u us (grow below d) h e fresh q
 
       -- of any node
@@ -213,7 +204,7 @@ module _ (below : ℕ → List ℕ) where
 
     -- and at each depth
     pub all_right : (d : ℕ) → AreRight d (grow below d)
-    all_right zero seen v e = leaf_right seen 0 v e (λ p q m. nothing_either p.repeated [] refl)
+    all_right zero seen v e = leaf_right seen 0 v e (λ p q m. cond_both p.repeated [] [] (λ (us : List ℕ). us ≡ []) (λ _. refl) (λ _. refl))
     all_right (suc d) seen v e = step_right d (all_right d) seen v e
 
 -- ## The definition by addresses

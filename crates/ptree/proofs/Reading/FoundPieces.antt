@@ -73,14 +73,6 @@ found_same p fs count n text shown shown' rest path h e none =
       ];
     }
 
--- the element at the place that was set
-flag_set : (fs : List Flags) (i : ℕ) (x : Flags) → i < length fs → get_or (set fs i x) i any_flags ≡ x
-flag_set fs i x low = rw get_or-set_same refl
-
--- the element at any other place
-flag_other : (fs : List Flags) (i m : ℕ) (x : Flags) → m ≢ i → get_or (set fs i x) m any_flags ≡ get_or fs m any_flags
-flag_other fs i m x ne = rw get_or-set_other refl
-
 -- one piece more was found, that of the last item
 pub found_more : (p : Pieces) (fs fs' : List Flags) (count : ℕ) (text shown shown' rest rest' : List ℕ) (new : Flags) → ArePath p fs count shown → ArePassed p fs count text count rest → count < length fs
     → IsCutTo (passing_piece p) (get_or fs count any_flags) rest new rest' → text ≡ shown' ++ rest' → fs' ≡ set fs count new → IsFound p fs fs' text shown' rest' (suc count)
@@ -88,8 +80,8 @@ found_more p fs fs' count text shown shown' rest rest' new path h low cut e set_
     let near = path.near in
     let size : length fs' ≡ length fs = ap length set_is ∙ length-set fs count new in
     let level : suc count ≡ length fs = omega (arith, near, low) in
-    let here : get_or fs' count any_flags ≡ new = ap (λ z. get_or z count any_flags) set_is ∙ flag_set fs count new low in
-    let other : (m : ℕ) → m ≢ count → get_or fs' m any_flags ≡ get_or fs m any_flags = λ m ne. ap (λ z. get_or z m any_flags) set_is ∙ flag_other fs count m new ne in
+    let here : get_or fs' count any_flags ≡ new = ap (λ z. get_or z count any_flags) set_is ∙ get_or-set_same fs count new any_flags low in
+    let other : (m : ℕ) → m ≢ count → get_or fs' m any_flags ≡ get_or fs m any_flags = λ m ne. ap (λ z. get_or z m any_flags) set_is ∙ get_or-set_other fs count m new any_flags ne in
     let new_some : allows new new.last ≡ true = some_flag new cut.last ((cut.kept cut.last).1 (cut.allowed, refl)) in
     let piece : List ℕ = passing_piece p cut.last in
     let is : (o : List Line) → Allows fs o → shown' ≡ passing_by p o count ++ piece = λ o a.

@@ -1,7 +1,8 @@
 -- An item's own line continues the open items.
-use Rattle.std.proofs.Common.{◌≡◌, ℕ, zero, suc, ◌<◌, inl, inr, not, List, [], ◌∷◌, ◌++◌, length, take, get_or, refl, sym, ap, ◌∙◌, subst, append_assoc, add-one, arith}
+use Rattle.std.proofs.Common.{◌≡◌, ℕ, suc, ◌<◌, inl, inr, not, List, [], ◌∷◌, ◌++◌, length, take, get_or, refl, sym, ap, ◌∙◌, subst, append_assoc, add-one, arith}
+use Rattle.std.proofs.Math.Seq.{get_or-append_seam}
 use Rattle.std.proofs.lemmas.Bool.{cases_lt, eq-eqb, ne_eqb}
-use Rattle.std.proofs.lemmas.List.{length_push, get_or-take, length-take-le}
+use Rattle.std.proofs.lemmas.List.{length_push, get_or-take, length-take-le, get_or_append_left}
 use Rattle.ptree.specs.declared.read.lines.Flags.{Flags}
 use Rattle.ptree.specs.Drawing.{Look}
 use Rattle.ptree.specs.Flags.{has_later, last_flags, pieces_by, passing_by}
@@ -16,17 +17,6 @@ use Rattle.ptree.proofs.Reading.LastFlags.{length-last_flags}
 use Rattle.ptree.proofs.Reading.Levels.{has_later_deeper, has_later_here}
 use Rattle.ptree.proofs.Reading.Markers.{passings_once, own_prefix_split}
 use Rattle.ptree.proofs.Reading.OpenItems.{some_flag, allows_any, passing_deeper}
-
--- an element of the first list
-get_left : (xs ys : List Flags) (m : ℕ) → m < length xs → get_or (xs ++ ys) m any_flags ≡ get_or xs m any_flags
-get_left [] ys m l = absurd (omega arith)
-get_left (x ∷ xs) ys zero l = refl
-get_left (x ∷ xs) ys (suc m) l = get_left xs ys m (omega arith)
-
--- the last element
-get_last : (xs : List Flags) (x : Flags) → get_or (xs ++ x ∷ []) (length xs) any_flags ≡ x
-get_last [] x = refl
-get_last (y ∷ xs) x = get_last xs x
 
 -- the parts of an item's own line
 pub record OwnParts (k : Look) (x text rest turned own more : List ℕ) (flags : Flags) : Type 0 where
@@ -57,10 +47,10 @@ module _ (k : Look) (readable : IsReadableWith k.pieces k.marker) (depth : ℕ) 
   size = ap length fs_is ∙ (length_push (take n new) flags ∙ (add-one (length (take n new)) ∙ ap suc short))
 
   left : (m : ℕ) → m < n → get_or fs' m any_flags ≡ get_or new m any_flags
-  left m l = ap (λ z. get_or z m any_flags) fs_is ∙ (get_left (take n new) (flags ∷ []) m (omega (arith, l, short)) ∙ get_or-take n new m any_flags l)
+  left m l = ap (λ z. get_or z m any_flags) fs_is ∙ (get_or_append_left (take n new) (flags ∷ []) any_flags m (omega (arith, l, short)) ∙ get_or-take n new m any_flags l)
 
   last : get_or fs' n any_flags ≡ flags
-  last = ap (λ z. get_or z n any_flags) fs_is ∙ (ap (λ z. get_or (take n new ++ flags ∷ []) z any_flags) (sym short) ∙ get_last (take n new) flags)
+  last = ap (λ z. get_or z n any_flags) fs_is ∙ (ap (λ z. get_or (take n new ++ flags ∷ []) z any_flags) (sym short) ∙ get_or-append_seam (take n new) flags [] any_flags)
 
   -- what has the pieces of the line has its passing pieces and its turning piece
   same_parts : (o : List Line) → pieces_by p o (suc n) ≡ shown ++ turn → (passing_by p o n ≡ shown) × (turning_piece p (not (has_later o (suc n))) ≡ turn)
