@@ -71,32 +71,39 @@ scan_start k depth x own more one e =
     scan_next k depth x x (own_prefix k [] ++ own) more 0 [] 0 own [] refl (let z : line_count x ≡ 0 + line_count x = omega arith in z) (omega arith)
     (All-append (λ c. c ≢ 10) (own_prefix k []) own (feedless_root k) one) (e ∙ one_feed (own_prefix k []) own more) (root_reached k depth own one)
 
--- a further line was read
-pub scan_further : (k : Look) → IsReadableWith k.pieces k.marker → (depth : ℕ) (x rest own new more : List ℕ) (n m : ℕ) (done : List Line) (level : ℕ) (fs fs' : List Flags) (shown : List ℕ) → ScanSo k depth x rest n done level own fs
-    → IsFurtherLine k fs rest new more fs' → ArePath k.pieces fs' m shown → ScanSo k depth x more (n + 1) done level (own ++ 10 ∷ new) fs'
-scan_further k readable depth x rest own new more n m done level fs fs' shown h f path =
-    let passing = f.passing in
-    let (above, len, is) = f.are_passing in
-    let cp : List ℕ = continued_prefix k passing in
-    let level_is : length fs ≡ level = h.reached.count in
-    let feedless : HasNoLineFeed cp = subst (λ z. HasNoLineFeed (continued_prefix k z)) (sym is) (no_feed_continued k readable above) in
-    let reached = further_reached k readable depth (first_lines n x) done level own new passing fs fs' h.reached f.one (subst (λ z. ArePassing k.pieces z passing) level_is f.are_passing)
-    (λ o. let both = f.cuts o in (λ a. let c = both.0 a in (c.0, ap (passing_by k.pieces o) (sym level_is) ∙ c.1), λ c. both.1 (c.0, ap (passing_by k.pieces o) level_is ∙ c.1))) (open_lines fs' path.some) (f.count ∙ level_is) in
-    scan_next k depth x rest (cp ++ new) more n done level (own ++ 10 ∷ new) fs' h.text_is h.count h.room (All-append (λ c. c ≢ 10) cp new feedless f.one) (f.text_is ∙ one_feed cp new more)
-    (subst (λ z. Reached k depth z done level (own ++ 10 ∷ new) fs') (sym (prefix_feed (first_lines n x) cp new)) reached)
+-- what follows from the lines that were read
+module _ {k : Look} {depth : ℕ} {x rest own : List ℕ} {n : ℕ} {done : List Line} {level : ℕ} {fs : List Flags} (h : ScanSo k depth x rest n done level own fs) where
+  -- a further line was read
+  pub scan_further : {new more shown : List ℕ} {m : ℕ} {fs' : List Flags} → IsReadableWith k.pieces k.marker → IsFurtherLine k fs rest new more fs' → ArePath k.pieces fs' m shown
+      → ScanSo k depth x more (n + 1) done level (own ++ 10 ∷ new) fs'
+  scan_further {new} {more} {shown} {m} {fs'} readable f path =
+      let passing = f.passing in
+      let (above, len, is) = f.are_passing in
+      let cp : List ℕ = continued_prefix k passing in
+      let level_is : length fs ≡ level = h.reached.count in
+      let feedless : HasNoLineFeed cp = subst (λ z. HasNoLineFeed (continued_prefix k z)) (sym is) (no_feed_continued k readable above) in
+      let reached = further_reached k readable depth (first_lines n x) done level own new passing fs fs' h.reached f.one (subst (λ z. ArePassing k.pieces z passing) level_is f.are_passing)
+      (λ o. let both = f.cuts o in (λ a. let c = both.0 a in (c.0, ap (passing_by k.pieces o) (sym level_is) ∙ c.1), λ c. both.1 (c.0, ap (passing_by k.pieces o) level_is ∙ c.1))) (open_lines fs' path.some) (f.count ∙ level_is) in
+      scan_next k depth x rest (cp ++ new) more n done level (own ++ 10 ∷ new) fs' h.text_is h.count h.room (All-append (λ c. c ≢ 10) cp new feedless f.one) (f.text_is ∙ one_feed cp new more)
+      (subst (λ z. Reached k depth z done level (own ++ 10 ∷ new) fs') (sym (prefix_feed (first_lines n x) cp new)) reached)
 
--- an item's own line was read
-pub scan_own : (k : Look) → IsReadableWith k.pieces k.marker → (depth : ℕ) (x rest own text new more : List ℕ) (n m : ℕ) (done : List Line) (level : ℕ) (fs fs' : List Flags) (shown : List ℕ) → ScanSo k depth x rest n done level own fs
-    → IsOwnLine k depth fs rest new more fs' → ArePath k.pieces fs' m shown → own ≡ text ++ end_codes k.leaf → ScanSo k depth x more (n + 1) (done ++ line level text ∷ []) (length fs') new fs'
-scan_own k readable depth x rest own text new more n m done level fs fs' shown h f path closed =
-    let pieces = f.pieces in
-    let level_is = h.reached.count in
-    let high = f.high in
-    let prefix : List ℕ = own_prefix k pieces in
-    let feedless : HasNoLineFeed prefix = feedless_own k readable (length fs') pieces f.are_pieces in
-    let reached = own_reached k readable depth (first_lines n x) done level own text pieces new (length fs') fs fs' h.reached closed f.one f.low (omega (arith, high, level_is)) f.deep f.are_pieces f.cuts (open_lines fs' path.some) refl in
-    scan_next k depth x rest (prefix ++ new) more n (done ++ line level text ∷ []) (length fs') new fs' h.text_is h.count h.room (All-append (λ c. c ≢ 10) prefix new feedless f.one) (f.text_is ∙ one_feed prefix new more)
-    (subst (λ z. Reached k depth z (done ++ line level text ∷ []) (length fs') new fs') (sym (prefix_feed (first_lines n x) prefix new)) reached)
+  -- an item's own line was read
+  pub scan_own : {new more shown : List ℕ} {m : ℕ} {fs' : List Flags} (text : List ℕ) → IsReadableWith k.pieces k.marker → IsOwnLine k depth fs rest new more fs' → ArePath k.pieces fs' m shown
+      → own ≡ text ++ end_codes k.leaf → ScanSo k depth x more (n + 1) (done ++ line level text ∷ []) (length fs') new fs'
+  scan_own {new} {more} {shown} {m} {fs'} text readable f path closed =
+      let pieces = f.pieces in
+      let level_is = h.reached.count in
+      let high = f.high in
+      let prefix : List ℕ = own_prefix k pieces in
+      let feedless : HasNoLineFeed prefix = feedless_own k readable (length fs') pieces f.are_pieces in
+      let reached = own_reached k readable depth (first_lines n x) done level own text pieces new (length fs') fs fs' h.reached closed f.one f.low (omega (arith, high, level_is)) f.deep f.are_pieces f.cuts (open_lines fs' path.some) refl in
+      scan_next k depth x rest (prefix ++ new) more n (done ++ line level text ∷ []) (length fs') new fs' h.text_is h.count h.room (All-append (λ c. c ≢ 10) prefix new feedless f.one) (f.text_is ∙ one_feed prefix new more)
+      (subst (λ z. Reached k depth z (done ++ line level text ∷ []) (length fs') new fs') (sym (prefix_feed (first_lines n x) prefix new)) reached)
+
+  -- what was read, under equal names
+  pub scan_moved : {done' : List Line} {level' : ℕ} {own' : List ℕ} → done' ≡ done → level' ≡ level → own' ≡ own → ScanSo k depth x rest n done' level' own' fs
+  scan_moved {done'} {level'} {own'} d l o =
+      subst (λ z. ScanSo k depth x rest n z level' own' fs) (sym d) (subst (λ z. ScanSo k depth x rest n done z own' fs) (sym l) (subst (λ z. ScanSo k depth x rest n done level z fs) (sym o) h))
 
 -- ## Wrong lines
 
@@ -104,31 +111,30 @@ scan_own k readable depth x rest own text new more n m done level fs fs' shown h
 abbrev pub NoneWith : Look → ℕ → List ℕ → List ℕ → ℕ → Type 0
 NoneWith k depth x rest n = (new more : List ℕ) → HasNoLineFeed new → rest ≡ new ++ 10 ∷ more → HasContinuation k depth (first_lines n x ++ new ++ 10 ∷ []) → ⊥
 
--- a line that is neither an own line nor a further one cannot continue the drawing
-pub scan_wrong : (k : Look) → IsReadableWith k.pieces k.marker → (depth : ℕ) (x rest own : List ℕ) (n : ℕ) (done : List Line) (level : ℕ) (fs : List Flags) → ScanSo k depth x rest n done level own fs → NoLine k depth fs rest → NoneWith k depth x rest n
-scan_wrong k readable depth x rest own n done level fs h (inl none) new more one e goes = feedless_ends_no_line new more rest none e
-scan_wrong k readable depth x rest own n done level fs h (inr wrong) new more one e goes =
-    let level_is = h.reached.count in
-    wrong_line k readable depth (first_lines n x) done level own fs rest new more h.reached e
-    (λ o z a f. wrong.no_further o z a (f ∙ ap (λ y. continued_prefix k (passing_by k.pieces o y) ++ z) (sym level_is)))
-    (λ text m o z closed low high deep a f. wrong.no_own m o z low (omega (arith, high, level_is)) deep a f) goes
+module _ {k : Look} {depth : ℕ} {x rest own : List ℕ} {n : ℕ} {done : List Line} {level : ℕ} {fs : List Flags} (h : ScanSo k depth x rest n done level own fs) where
+  -- a line that is neither an own line nor a further one cannot continue the drawing
+  pub scan_wrong : IsReadableWith k.pieces k.marker → NoLine k depth fs rest → NoneWith k depth x rest n
+  scan_wrong readable (inl none) new more one e goes = feedless_ends_no_line new more rest none e
+  scan_wrong readable (inr wrong) new more one e goes =
+      let level_is = h.reached.count in
+      wrong_line k readable depth (first_lines n x) done level own fs rest new more h.reached e
+      (λ o z a f. wrong.no_further o z a (f ∙ ap (λ y. continued_prefix k (passing_by k.pieces o y) ++ z) (sym level_is)))
+      (λ text m o z closed low high deep a f. wrong.no_own m o z low (omega (arith, high, level_is)) deep a f) goes
 
--- an item's own line cannot continue a text that is not closed
-pub scan_open : (k : Look) → IsReadableWith k.pieces k.marker → (depth : ℕ) (x rest own next behind : List ℕ) (n : ℕ) (done : List Line) (level : ℕ) (fs fs' : List Flags) → ScanSo k depth x rest n done level own fs
-    → IsOwnLine k depth fs rest next behind fs' → ((text : List ℕ) → own ≢ text ++ end_codes k.leaf) → NoneWith k depth x rest n
-scan_open k readable depth x rest own next behind n done level fs fs' h f never new more one e goes =
-    wrong_line k readable depth (first_lines n x) done level own fs rest new more h.reached e
-    (λ o z a g. own_is_not_further k readable level (length fs') f.pieces (passing_by k.pieces o level) (next ++ 10 ∷ behind) z f.are_pieces (passing_at k.pieces o level) (sym f.text_is ∙ g))
-    (λ text m o z closed low high deep a g. never text closed) goes
+  -- an item's own line cannot continue a text that is not closed
+  pub scan_open : {next behind : List ℕ} {fs' : List Flags} → IsReadableWith k.pieces k.marker → IsOwnLine k depth fs rest next behind fs' → ((text : List ℕ) → own ≢ text ++ end_codes k.leaf) → NoneWith k depth x rest n
+  scan_open {next} {behind} {fs'} readable f never new more one e goes =
+      wrong_line k readable depth (first_lines n x) done level own fs rest new more h.reached e
+      (λ o z a g. own_is_not_further k readable level (length fs') f.pieces (passing_by k.pieces o level) (next ++ 10 ∷ behind) z f.are_pieces (passing_at k.pieces o level) (sym f.text_is ∙ g))
+      (λ text m o z closed low high deep a g. never text closed) goes
 
--- a text that ends within a line is no drawing
-pub scan_short : (k : Look) (depth : ℕ) (x rest own : List ℕ) (n : ℕ) (done : List Line) (level : ℕ) (fs : List Flags) → ScanSo k depth x rest n done level own fs → (rest ≡ [] → ⊥) → HasNoLineFeed rest → (t : Tree) → IsDrawnForm k depth x t → ⊥
-scan_short k depth x rest own n done level fs h some one t form =
-    reached_short k depth (first_lines n x) done level own fs rest h.reached one some t (subst (λ z. IsDrawnForm k depth z t) h.text_is form)
+  -- a text that ends within a line is no drawing
+  pub scan_short : (rest ≡ [] → ⊥) → HasNoLineFeed rest → (t : Tree) → IsDrawnForm k depth x t → ⊥
+  scan_short some one t form = reached_short k depth (first_lines n x) done level own fs rest h.reached one some t (subst (λ z. IsDrawnForm k depth z t) h.text_is form)
 
--- some drawing continues the lines that were read
-pub scan_before : (k : Look) (depth : ℕ) (x rest own : List ℕ) (n : ℕ) (done : List Line) (level : ℕ) (fs : List Flags) → ScanSo k depth x rest n done level own fs → HasContinuation k depth (first_lines n x)
-scan_before k depth x rest own n done level fs h = reached_goes_on k depth (first_lines n x) done level own fs h.reached
+  -- some drawing continues the lines that were read
+  pub scan_before : HasContinuation k depth (first_lines n x)
+  scan_before = reached_goes_on k depth (first_lines n x) done level own fs h.reached
 
 -- ## Without a root
 
@@ -181,25 +187,23 @@ stop_end k depth x rest n count before short one =
     let all : n ≡ line_count x = omega (arith, count, none) in
     record { lines = subst (λ m. HasContinuation k depth (first_lines m x)) all before; wrong = short one }
 
--- if nothing is left, the text is its first lines
-whole_text : (k : Look) (depth : ℕ) (x rest own : List ℕ) (n : ℕ) (done : List Line) (level : ℕ) (fs : List Flags) → ScanSo k depth x rest n done level own fs → rest ≡ [] → x ≡ first_lines n x
-whole_text k depth x rest own n done level fs h e = h.text_is ∙ (ap (λ z. first_lines n x ++ z) e ∙ append-nil (first_lines n x))
+-- if nothing is left
+module _ {k : Look} {depth : ℕ} {x rest own : List ℕ} {n : ℕ} {done : List Line} {level : ℕ} {fs : List Flags} (h : ScanSo k depth x rest n done level own fs) (e : rest ≡ []) where
+  -- the text is its first lines
+  whole_text : x ≡ first_lines n x
+  whole_text = h.text_is ∙ (ap (λ z. first_lines n x ++ z) e ∙ append-nil (first_lines n x))
 
--- a text that ends after a line that cannot be the last one ends too early
-pub scan_ends_wrong : (k : Look) (depth : ℕ) (x rest own : List ℕ) (n : ℕ) (done : List Line) (level : ℕ) (fs : List Flags) → ScanSo k depth x rest n done level own fs → rest ≡ []
-    → ((text : List ℕ) → own ≡ text ++ end_codes k.leaf → Allows fs [] → ⊥) → EndsWrong k depth x
-scan_ends_wrong k depth x rest own n done level fs h e never =
-    stop_end k depth x rest n h.count (scan_before k depth x rest own n done level fs h)
-    (λ one t form. reached_none k depth (first_lines n x) done level own fs h.reached never t (subst (λ z. IsDrawnForm k depth z t) (whole_text k depth x rest own n done level fs h e) form))
-    (subst HasNoLineFeed (sym e) (All-nil (λ c. c ≢ 10)))
+  -- it ends too early after a line that cannot be the last one
+  pub scan_ends_wrong : ((text : List ℕ) → own ≡ text ++ end_codes k.leaf → Allows fs [] → ⊥) → EndsWrong k depth x
+  scan_ends_wrong never =
+      stop_end k depth x rest n h.count (scan_before h)
+      (λ one t form. reached_none k depth (first_lines n x) done level own fs h.reached never t (subst (λ z. IsDrawnForm k depth z t) whole_text form))
+      (subst HasNoLineFeed (sym e) (All-nil (λ c. c ≢ 10)))
 
--- a text that ends after a line that can be the last one is a drawing
-pub scan_end : (k : Look) (depth : ℕ) (x rest own text : List ℕ) (n : ℕ) (done : List Line) (level : ℕ) (fs : List Flags) → ScanSo k depth x rest n done level own fs → rest ≡ [] → own ≡ text ++ end_codes k.leaf → Allows fs []
-    → IsOutlineWithin depth (done ++ line level text ∷ []) × ((t : Tree) → outline t ≡ done ++ line level text ∷ [] → IsDrawnForm k depth x t)
-scan_end k depth x rest own text n done level fs h e closed allowed = (
-  h.reached.valid text,
-  λ t is. subst (λ z. IsDrawnForm k depth z t) (sym (whole_text k depth x rest own n done level fs h e)) (reached_end k depth (first_lines n x) done level own text fs t h.reached closed allowed is),
-)
+  -- it is a drawing after one that can be the last
+  pub scan_end : (text : List ℕ) → own ≡ text ++ end_codes k.leaf → Allows fs [] → IsOutlineWithin depth (done ++ line level text ∷ []) × ((t : Tree) → outline t ≡ done ++ line level text ∷ [] → IsDrawnForm k depth x t)
+  scan_end text closed allowed =
+      (h.reached.valid text, λ t is. subst (λ z. IsDrawnForm k depth z t) (sym whole_text) (reached_end k depth (first_lines n x) done level own text fs t h.reached closed allowed is))
 
 -- a text with a wrong line is no drawing
 pub wrong_line_no_drawing : (k : Look) (depth : ℕ) (x : List ℕ) (n : ℕ) → IsFirstWrongLine k depth x n → (t : Tree) → IsDrawnForm k depth x t → ⊥
@@ -213,12 +217,6 @@ feedless_start k x text closed start e f g h =
     let third : HasNoLineFeed closed = subst HasNoLineFeed (sym g) (All-append (λ c. c ≢ 10) (start_codes k.leaf) start (no_line_feed_start k.leaf) h) in
     let second : HasNoLineFeed text = subst HasNoLineFeed (sym f) (All-append (λ c. c ≢ 10) (end_codes k.branch) closed (no_line_feed_end k.branch) third) in
     subst HasNoLineFeed (sym e) (All-append (λ c. c ≢ 10) (start_codes k.branch) text (no_line_feed_start k.branch) second)
-
--- what was read, under equal names
-pub scan_moved : (k : Look) (depth : ℕ) (x rest : List ℕ) (n : ℕ) (done done' : List Line) (level level' : ℕ) (own own' : List ℕ) (fs : List Flags) → ScanSo k depth x rest n done level own fs → done' ≡ done → level' ≡ level → own' ≡ own
-    → ScanSo k depth x rest n done' level' own' fs
-scan_moved k depth x rest n done done' level level' own own' fs h d l o =
-    subst (λ z. ScanSo k depth x rest n z level' own' fs) (sym d) (subst (λ z. ScanSo k depth x rest n done z own' fs) (sym l) (subst (λ z. ScanSo k depth x rest n done level z fs) (sym o) h))
 
 -- the rest after a line is shorter
 pub rest_is_shorter : (a b more rest : List ℕ) → rest ≡ a ++ (b ++ 10 ∷ more) → length more < length rest

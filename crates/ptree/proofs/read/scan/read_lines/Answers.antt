@@ -1,4 +1,4 @@
-use Rattle.std.proofs.Common.{◌+◌, ◌∷◌, ◌++◌, [], length, rules, refl, sym, ap, ◌∙◌, subst}
+use Rattle.std.proofs.Common.{◌∷◌, ◌++◌, [], length, rules, refl, sym, ap, ◌∙◌, subst}
 use Rattle.std.proofs.lemmas.Bool.{eqb-true, eqb-false, false≢true}
 use Rattle.std.proofs.lemmas.List.{nil_from_length}
 use Rattle.ptree.specs.Looks.{look_of}
@@ -32,41 +32,30 @@ loop-rest-init c =
     let start = scan_start k c.args.frame.now.depth x own more c.in-Some.ensures.0 c.in-Some.ensures.1 in (
       search rules,
       none_partial tree.parents.items tree.closed.items none.parents none.closed,
-      scan_moved k c.args.frame.now.depth x more 1 [] (partial_lines tree) 0 (length tree.parents.items) own own c.new-path.result.flags.items (subst (ScanSo k c.args.frame.now.depth x more 1 [] 0 own) (sym c.new-path.ensures.flags) start)
-          (none_lines tree.parents.items tree.closed.items none.parents none.closed) (ap length none.parents) refl,
+      scan_moved (subst (ScanSo k c.args.frame.now.depth x more 1 [] 0 own) (sym c.new-path.ensures.flags) start) (none_lines tree.parents.items tree.closed.items none.parents none.closed) (ap length none.parents) refl,
       c.new-path.ensures.path (pieces_of c.args.frame.now.look.now.pieces),
     )
 
 pub stop-requires-in_default-2-clause-before : goal.stop-requires-in_default-2-clause-before
-stop-requires-in_default-2-clause-before c =
-    let k = look_of c.args.frame.now.look.now in
-    scan_before k c.args.frame.now.depth c.args.text.now c.loop-rest.rest.now (read_text_of c.loop-rest.shown) c.loop-rest.lines (partial_lines c.loop-rest.tree) (length c.loop-rest.tree.parents.items) c.loop-rest.path.flags.items c.loop-rest.invariant.2
+stop-requires-in_default-2-clause-before c = scan_before c.loop-rest.invariant.2
 
 pub stop-requires-in_default-2-clause-wrong : goal.stop-requires-in_default-2-clause-wrong
-stop-requires-in_default-2-clause-wrong c =
-    let k = look_of c.args.frame.now.look.now in
-    scan_wrong k c.requires c.args.frame.now.depth c.args.text.now c.loop-rest.rest.now (read_text_of c.loop-rest.shown) c.loop-rest.lines (partial_lines c.loop-rest.tree) (length c.loop-rest.tree.parents.items) c.loop-rest.path.flags.items c.loop-rest.invariant.2 (rw c.in_default-2.is at c.in_ok-line.ensures.line)
+stop-requires-in_default-2-clause-wrong c = scan_wrong c.loop-rest.invariant.2 c.requires (rw c.in_default-2.is at c.in_ok-line.ensures.line)
 
 pub stop-requires-in_default-2-clause-short : goal.stop-requires-in_default-2-clause-short
-stop-requires-in_default-2-clause-short c =
-    let k = look_of c.args.frame.now.look.now in
-    scan_short k c.args.frame.now.depth c.args.text.now c.loop-rest.rest.now (read_text_of c.loop-rest.shown) c.loop-rest.lines (partial_lines c.loop-rest.tree) (length c.loop-rest.tree.parents.items) c.loop-rest.path.flags.items c.loop-rest.invariant.2 (λ e. eqb-false (length c.loop-rest.rest.now) 0 (sym c.is_empty.ensures ∙ c.loop-rest-test.true) (ap length e))
+stop-requires-in_default-2-clause-short c = scan_short c.loop-rest.invariant.2 (λ e. eqb-false (length c.loop-rest.rest.now) 0 (sym c.is_empty.ensures ∙ c.loop-rest-test.true) (ap length e))
 
 pub stop-requires-in_default-drop_leaf_end-clause-before : goal.stop-requires-in_default-drop_leaf_end-clause-before
-stop-requires-in_default-drop_leaf_end-clause-before c =
-    let k = look_of c.args.frame.now.look.now in
-    scan_before k c.args.frame.now.depth c.args.text.now c.loop-rest.rest.now (read_text_of c.loop-rest.shown) c.loop-rest.lines (partial_lines c.loop-rest.tree) (length c.loop-rest.tree.parents.items) c.loop-rest.path.flags.items c.loop-rest.invariant.2
+stop-requires-in_default-drop_leaf_end-clause-before c = scan_before c.loop-rest.invariant.2
 
 pub stop-requires-in_default-drop_leaf_end-clause-wrong : goal.stop-requires-in_default-drop_leaf_end-clause-wrong
 stop-requires-in_default-drop_leaf_end-clause-wrong c =
     let k = look_of c.args.frame.now.look.now in
-    let own_line : IsOwnLine k c.args.frame.now.depth c.loop-rest.path.flags.items c.loop-rest.rest.now c.in-Own.own.now c.in-Some-2.more.now c.go_on.new.self.flags.items = rw c.in-Own.is at (rw c.in-Some-2.is at c.in_ok-line.ensures.line) in
-    scan_open k c.requires c.args.frame.now.depth c.args.text.now c.loop-rest.rest.now (read_text_of c.loop-rest.shown) c.in-Own.own.now c.in-Some-2.more.now c.loop-rest.lines (partial_lines c.loop-rest.tree) (length c.loop-rest.tree.parents.items) c.loop-rest.path.flags.items c.go_on.new.self.flags.items c.loop-rest.invariant.2 own_line c.in_default-drop_leaf_end.ensures
+    let l : IsOwnLine k c.args.frame.now.depth c.loop-rest.path.flags.items c.loop-rest.rest.now c.in-Own.own.now c.in-Some-2.more.now c.go_on.new.self.flags.items = rw c.in-Own.is at (rw c.in-Some-2.is at c.in_ok-line.ensures.line) in
+    scan_open c.loop-rest.invariant.2 c.requires l c.in_default-drop_leaf_end.ensures
 
 pub stop-requires-in_default-drop_leaf_end-clause-short : goal.stop-requires-in_default-drop_leaf_end-clause-short
-stop-requires-in_default-drop_leaf_end-clause-short c =
-    let k = look_of c.args.frame.now.look.now in
-    scan_short k c.args.frame.now.depth c.args.text.now c.loop-rest.rest.now (read_text_of c.loop-rest.shown) c.loop-rest.lines (partial_lines c.loop-rest.tree) (length c.loop-rest.tree.parents.items) c.loop-rest.path.flags.items c.loop-rest.invariant.2 (λ e. eqb-false (length c.loop-rest.rest.now) 0 (sym c.is_empty.ensures ∙ c.loop-rest-test.true) (ap length e))
+stop-requires-in_default-drop_leaf_end-clause-short c = scan_short c.loop-rest.invariant.2 (λ e. eqb-false (length c.loop-rest.rest.now) 0 (sym c.is_empty.ensures ∙ c.loop-rest-test.true) (ap length e))
 
 pub loop-rest-smaller : goal.loop-rest-smaller
 loop-rest-smaller c =
@@ -81,50 +70,38 @@ loop-rest-preserved c =
     let k = look_of c.args.frame.now.look.now in
     let new = c.go_on.new.self in
     let was = c.loop-rest.tree in
-    let level = length was.parents.items in
-    let done = partial_lines was in
     let path : ArePath (pieces_of c.args.frame.now.look.now.pieces) new.flags.items new.count new.shown.now = rw c.in-Some-2.is at c.in_ok-line.ensures.path in
     elim c.match-line.branch [
       | in-Own+in-Some-drop_leaf_end+in_ok-into_string-in-Own+in_ok-add-in-Own w ↦
           let l : IsOwnLine k c.args.frame.now.depth c.loop-rest.path.flags.items c.loop-rest.rest.now w.in-Own.own.now c.in-Some-2.more.now c.go_on.new.self.flags.items = rw w.in-Own.is at (rw c.in-Some-2.is at c.in_ok-line.ensures.line) in
-          let text = read_text_of w.in-Some-drop_leaf_end.closed in
-          let scanned = scan_own k c.requires c.args.frame.now.depth c.args.text.now c.loop-rest.rest.now (read_text_of c.loop-rest.shown) text w.in-Own.own.now c.in-Some-2.more.now c.loop-rest.lines new.count done level c.loop-rest.path.flags.items new.flags.items new.shown.now
-          c.loop-rest.invariant.2 l path w.in-Some-drop_leaf_end.ensures in (
+          let text = read_text_of w.in-Some-drop_leaf_end.closed in (
             search rules,
             subst (λ t. IsPartial t) (sym w.tree-is) w.in_ok-add-in-Own.ensures.partial,
-            scan_moved k c.args.frame.now.depth c.args.text.now c.in-Some-2.more.now (c.loop-rest.lines + 1) (done ++ line level text ∷ []) (partial_lines c.match-line.tree) (length new.flags.items) (length c.match-line.tree.parents.items) w.in-Own.own.now (read_text_of c.match-line.shown) new.flags.items scanned
-                (ap partial_lines w.tree-is ∙ (w.in_ok-add-in-Own.ensures.lines ∙ ap (λ z. done ++ line level z ∷ []) w.in_ok-into_string-in-Own.ensures)) (ap (λ t. length t.parents.items) w.tree-is ∙ (w.in_ok-add-in-Own.ensures.level ∙ w.level.ensures)) (ap read_text_of w.shown-is),
+            scan_moved (scan_own c.loop-rest.invariant.2 text c.requires l path w.in-Some-drop_leaf_end.ensures)
+                (ap partial_lines w.tree-is ∙ (w.in_ok-add-in-Own.ensures.lines ∙ ap (λ z. partial_lines was ++ line (length was.parents.items) z ∷ []) w.in_ok-into_string-in-Own.ensures)) (ap (λ t. length t.parents.items) w.tree-is ∙ (w.in_ok-add-in-Own.ensures.level ∙ w.level.ensures)) (ap read_text_of w.shown-is),
             path,
           )
       | in-Further+in_ok-shown-in-Further w ↦
-          let l : IsFurtherLine k c.loop-rest.path.flags.items c.loop-rest.rest.now w.in-Further.own.now c.in-Some-2.more.now c.go_on.new.self.flags.items = rw w.in-Further.is at (rw c.in-Some-2.is at c.in_ok-line.ensures.line) in
-          let scanned = scan_further k c.requires c.args.frame.now.depth c.args.text.now c.loop-rest.rest.now (read_text_of c.loop-rest.shown) w.in-Further.own.now c.in-Some-2.more.now c.loop-rest.lines new.count done level c.loop-rest.path.flags.items new.flags.items new.shown.now
-          c.loop-rest.invariant.2 l path in (
+          let l : IsFurtherLine k c.loop-rest.path.flags.items c.loop-rest.rest.now w.in-Further.own.now c.in-Some-2.more.now c.go_on.new.self.flags.items = rw w.in-Further.is at (rw c.in-Some-2.is at c.in_ok-line.ensures.line) in (
             search rules,
             subst (λ t. IsPartial t) (sym w.tree-is) c.loop-rest.invariant.1,
-            scan_moved k c.args.frame.now.depth c.args.text.now c.in-Some-2.more.now (c.loop-rest.lines + 1) done (partial_lines c.match-line.tree) level (length c.match-line.tree.parents.items) (read_text_of c.loop-rest.shown ++ 10 ∷ w.in-Further.own.now) (read_text_of c.match-line.shown) new.flags.items scanned
-                (ap partial_lines w.tree-is) (ap (λ t. length t.parents.items) w.tree-is) (ap read_text_of w.shown-is ∙ w.in_ok-shown-in-Further.ensures),
+            scan_moved (scan_further c.loop-rest.invariant.2 c.requires l path) (ap partial_lines w.tree-is) (ap (λ t. length t.parents.items) w.tree-is) (ap read_text_of w.shown-is ∙ w.in_ok-shown-in-Further.ensures),
             path,
           )
     ]
 
 pub returns-in_default-drop_leaf_end-2 : goal.returns-in_default-drop_leaf_end-2
 returns-in_default-drop_leaf_end-2 c =
-    let k = look_of c.args.frame.now.look.now in
-    scan_ends_wrong k c.args.frame.now.depth c.args.text.now c.loop-rest.rest.now (read_text_of c.loop-rest.shown) c.loop-rest.lines (partial_lines c.loop-rest.tree) (length c.loop-rest.tree.parents.items) c.loop-rest.path.flags.items c.loop-rest.invariant.2 (nil_from_length c.loop-rest.rest.now (eqb-true (length c.loop-rest.rest.now) 0 (sym c.is_empty.ensures ∙ c.loop-rest-test.false))) (λ text closed allowed. c.in_default-drop_leaf_end-2.ensures text closed)
+    scan_ends_wrong c.loop-rest.invariant.2 (nil_from_length c.loop-rest.rest.now (eqb-true (length c.loop-rest.rest.now) 0 (sym c.is_empty.ensures ∙ c.loop-rest-test.false)))
+    (λ text closed allowed. c.in_default-drop_leaf_end-2.ensures text closed)
 
 pub returns-then-not-may_end : goal.returns-then-not-may_end
 returns-then-not-may_end c =
-    let k = look_of c.args.frame.now.look.now in
-    scan_ends_wrong k c.args.frame.now.depth c.args.text.now c.loop-rest.rest.now (read_text_of c.loop-rest.shown) c.loop-rest.lines (partial_lines c.loop-rest.tree) (length c.loop-rest.tree.parents.items) c.loop-rest.path.flags.items c.loop-rest.invariant.2 (nil_from_length c.loop-rest.rest.now (eqb-true (length c.loop-rest.rest.now) 0 (sym c.is_empty.ensures ∙ c.loop-rest-test.false)))
+    scan_ends_wrong c.loop-rest.invariant.2 (nil_from_length c.loop-rest.rest.now (eqb-true (length c.loop-rest.rest.now) 0 (sym c.is_empty.ensures ∙ c.loop-rest-test.false)))
     (λ text closed allowed. let yes = c.may_end.ensures.1 allowed in let other = c.if-not-may_end.true in false≢true (sym other ∙ yes))
 
 pub returns : goal.returns
 returns c =
-    let k = look_of c.args.frame.now.look.now in
-    let text = read_text_of c.in-Some-drop_leaf_end-2.closed in
-    let done = partial_lines c.loop-rest.tree in
-    let level = length c.loop-rest.tree.parents.items in
-    let ended = scan_end k c.args.frame.now.depth c.args.text.now c.loop-rest.rest.now (read_text_of c.loop-rest.shown) text c.loop-rest.lines done level c.loop-rest.path.flags.items c.loop-rest.invariant.2 (nil_from_length c.loop-rest.rest.now (eqb-true (length c.loop-rest.rest.now) 0 (sym c.is_empty.ensures ∙ c.loop-rest-test.false)))
-    c.in-Some-drop_leaf_end-2.ensures (c.may_end.ensures.0 c.if-not-may_end.false) in
-    ended.1 _ (c.in_ok-finish.ensures ∙ ap (λ z. done ++ line level z ∷ []) c.in_ok-text.ensures)
+    let ended = scan_end c.loop-rest.invariant.2 (nil_from_length c.loop-rest.rest.now (eqb-true (length c.loop-rest.rest.now) 0 (sym c.is_empty.ensures ∙ c.loop-rest-test.false)))
+    (read_text_of c.in-Some-drop_leaf_end-2.closed) c.in-Some-drop_leaf_end-2.ensures (c.may_end.ensures.0 c.if-not-may_end.false) in
+    ended.1 _ (c.in_ok-finish.ensures ∙ ap (λ z. partial_lines c.loop-rest.tree ++ line (length c.loop-rest.tree.parents.items) z ∷ []) c.in_ok-text.ensures)
