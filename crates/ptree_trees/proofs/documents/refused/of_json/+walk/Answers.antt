@@ -10,31 +10,23 @@ use Rattle.ptree_trees.proofs.RefusedSteps.{first_in_json_list, first_in_json_me
 use Rattle.ptree_trees.proofs.documents.refused.of_json.+walk.Goals as goal
 
 pub float_path-returns-in-Null : goal.float_path-returns-in-Null
-float_path-returns-in-Null t c =
-    let e : view c.args.value.now ≡ j.null = search (rules, the_lemmas) in
-    none_in_leaf json_at_step IsFloat _ j.null e (λ is. is) (λ k. refl) (λ n. refl)
+float_path-returns-in-Null t c = none_in_leaf json_at_step IsFloat (view c.args.value.now) j.null (search (rules, the_lemmas)) (λ is. is) (λ k. refl) (λ n. refl)
 
 pub float_path-returns-in-Bool : goal.float_path-returns-in-Bool
-float_path-returns-in-Bool t c =
-    let e : view c.args.value.now ≡ j.boolean c.in-Bool.field-0 = search (rules, the_lemmas) in
-    none_in_leaf json_at_step IsFloat _ (j.boolean c.in-Bool.field-0) e (λ is. is) (λ k. refl) (λ n. refl)
+float_path-returns-in-Bool t c = none_in_leaf json_at_step IsFloat (view c.args.value.now) (j.boolean c.in-Bool.field-0) (search (rules, the_lemmas)) (λ is. is) (λ k. refl) (λ n. refl)
 
 pub float_path-returns-in-String : goal.float_path-returns-in-String
-float_path-returns-in-String t c =
-    let e : view c.args.value.now ≡ j.string (string_bytes c.in-String.field-0) = search (rules, the_lemmas) in
-    none_in_leaf json_at_step IsFloat _ (j.string (string_bytes c.in-String.field-0)) e (λ is. is) (λ k. refl) (λ n. refl)
+float_path-returns-in-String t c = none_in_leaf json_at_step IsFloat (view c.args.value.now) (j.string (string_bytes c.in-String.field-0)) (search (rules, the_lemmas)) (λ is. is) (λ k. refl) (λ n. refl)
 
 pub float_path-returns-then-is_f64 : goal.float_path-returns-then-is_f64
 float_path-returns-then-is_f64 t c =
     let n = number_view c.in-Number.n in
-    let e : view c.args.value.now ≡ j.number n = search (rules, the_lemmas) in
-    first_of_kind json_at_step IsFloat _ (j.number n) _ e (ap (λ z. map step_of (reverse z)) c.new.ensures.items) (float_here n (sym c.is_f64.ensures ∙ c.if-is_f64.true)) (λ k. refl) (λ n. refl)
+    first_of_kind json_at_step IsFloat (view c.args.value.now) (j.number n) _ (search (rules, the_lemmas)) (ap (λ z. map step_of (reverse z)) c.new.ensures.items) (float_here n (sym c.is_f64.ensures ∙ c.if-is_f64.true)) (λ k. refl) (λ n. refl)
 
 pub float_path-returns-else-is_f64 : goal.float_path-returns-else-is_f64
 float_path-returns-else-is_f64 t c =
     let n = number_view c.in-Number.n in
-    let e : view c.args.value.now ≡ j.number n = search (rules, the_lemmas) in
-    none_in_leaf json_at_step IsFloat _ (j.number n) e (no_float_here n (sym c.is_f64.ensures ∙ c.if-is_f64.false)) (λ k. refl) (λ n. refl)
+    none_in_leaf json_at_step IsFloat (view c.args.value.now) (j.number n) (search (rules, the_lemmas)) (no_float_here n (sym c.is_f64.ensures ∙ c.if-is_f64.false)) (λ k. refl) (λ n. refl)
 
 pub float_path-returns-in-Array : goal.float_path-returns-in-Array
 float_path-returns-in-Array t c =

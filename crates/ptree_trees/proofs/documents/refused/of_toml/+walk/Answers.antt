@@ -10,29 +10,19 @@ use Rattle.ptree_trees.proofs.RefusedSteps.{first_in_toml_list, first_in_toml_me
 use Rattle.ptree_trees.proofs.documents.refused.of_toml.+walk.Goals as goal
 
 pub fault_path-returns-in-String : goal.fault_path-returns-in-String
-fault_path-returns-in-String n c =
-    let e : view c.args.value.now ≡ t.string (string_bytes c.in-String.field-0) = search (rules, the_lemmas) in
-    none_in_leaf toml_at_step IsFloatOrDate _ (t.string (string_bytes c.in-String.field-0)) e (λ is. is) (λ k. refl) (λ n. refl)
+fault_path-returns-in-String n c = none_in_leaf toml_at_step IsFloatOrDate (view c.args.value.now) (t.string (string_bytes c.in-String.field-0)) (search (rules, the_lemmas)) (λ is. is) (λ k. refl) (λ n. refl)
 
 pub fault_path-returns-in-Integer : goal.fault_path-returns-in-Integer
-fault_path-returns-in-Integer n c =
-    let e : view c.args.value.now ≡ t.integer c.in-Integer.field-0 = search (rules, the_lemmas) in
-    none_in_leaf toml_at_step IsFloatOrDate _ (t.integer c.in-Integer.field-0) e (λ is. is) (λ k. refl) (λ n. refl)
+fault_path-returns-in-Integer n c = none_in_leaf toml_at_step IsFloatOrDate (view c.args.value.now) (t.integer c.in-Integer.field-0) (search (rules, the_lemmas)) (λ is. is) (λ k. refl) (λ n. refl)
 
 pub fault_path-returns-in-Boolean : goal.fault_path-returns-in-Boolean
-fault_path-returns-in-Boolean n c =
-    let e : view c.args.value.now ≡ t.boolean c.in-Boolean.field-0 = search (rules, the_lemmas) in
-    none_in_leaf toml_at_step IsFloatOrDate _ (t.boolean c.in-Boolean.field-0) e (λ is. is) (λ k. refl) (λ n. refl)
+fault_path-returns-in-Boolean n c = none_in_leaf toml_at_step IsFloatOrDate (view c.args.value.now) (t.boolean c.in-Boolean.field-0) (search (rules, the_lemmas)) (λ is. is) (λ k. refl) (λ n. refl)
 
 pub fault_path-returns-in-Float : goal.fault_path-returns-in-Float
-fault_path-returns-in-Float n c =
-    let e : view c.args.value.now ≡ t.float c.in-Float.field-0 = search (rules, the_lemmas) in
-    first_of_kind toml_at_step IsFloatOrDate _ (t.float c.in-Float.field-0) _ e (ap (λ z. map step_of (reverse z)) c.new.ensures.items) tt (λ k. refl) (λ n. refl)
+fault_path-returns-in-Float n c = first_of_kind toml_at_step IsFloatOrDate (view c.args.value.now) (t.float c.in-Float.field-0) _ (search (rules, the_lemmas)) (ap (λ z. map step_of (reverse z)) c.new.ensures.items) tt (λ k. refl) (λ n. refl)
 
 pub fault_path-returns-in-Datetime : goal.fault_path-returns-in-Datetime
-fault_path-returns-in-Datetime n c =
-    let e : view c.args.value.now ≡ t.datetime c.in-Datetime.field-0 = search (rules, the_lemmas) in
-    first_of_kind toml_at_step IsFloatOrDate _ (t.datetime c.in-Datetime.field-0) _ e (ap (λ z. map step_of (reverse z)) c.new-in-Datetime.ensures.items) tt (λ k. refl) (λ n. refl)
+fault_path-returns-in-Datetime n c = first_of_kind toml_at_step IsFloatOrDate (view c.args.value.now) (t.datetime c.in-Datetime.field-0) _ (search (rules, the_lemmas)) (ap (λ z. map step_of (reverse z)) c.new-in-Datetime.ensures.items) tt (λ k. refl) (λ n. refl)
 
 pub fault_path-returns-in-Array : goal.fault_path-returns-in-Array
 fault_path-returns-in-Array n c =
