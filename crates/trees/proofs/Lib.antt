@@ -12,13 +12,17 @@ pub mod Listings
 pub mod Marks
 pub mod LockedEdges
 pub mod LockedEntries
+pub mod LockedFailures
 pub mod LockedGraphs
 pub mod LockedLabels
+pub mod LockedLed
+pub mod LockedNeeds
 pub mod LockedNetworks
 pub mod LockedPackages
 pub mod LockedTables
 pub mod LockedTuples
 pub mod LockedTwins
+pub mod Meanings
 pub mod Merges
 pub mod MergeDrawings
 pub mod MergePlaces
@@ -26,6 +30,8 @@ pub mod OtherFiles
 pub mod OutlineTexts
 pub mod OutlineLines
 pub mod NeedTexts
+pub mod NeedCuts
+pub mod LockExamples
 pub mod Networks
 pub mod NextFronts
 pub mod NextItems

@@ -43,7 +43,7 @@ grouped_lists (datetime dt) ms e = cc
 grouped_lists (array ds) ms e = cc
 grouped_lists (table own) ms e = (let same : ms ≡ own = cc in ap (λ x. flat_map entries_of (values_of x)) (sym same))
 
-values_seen : (es : List (String Global × Value)) → values_of (members_view es) ≡ map view (map (λ e. e.1) es)
+pub values_seen : (es : List (String Global × Value)) → values_of (members_view es) ≡ map view (map (λ e. e.1) es)
 values_seen [] = refl
 values_seen (e ∷ es) = ap (λ ds. view e.1 ∷ ds) (values_seen es)
 

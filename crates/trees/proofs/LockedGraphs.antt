@@ -1,21 +1,17 @@
 -- The edges of all packages.
-use Rattle.std.proofs.Common.{◌≡◌, ◌∙◌, ℕ, ◌+◌, ◌<◌, ◌≤◌, List, [], ◌∷◌, ◌++◌, length, get_or, map, take, suc, refl, sym, ap, subst, append_assoc, arith}
+use Rattle.std.proofs.Common.{◌≡◌, ◌∙◌, ℕ, ◌+◌, ◌<◌, ◌≤◌, List, [], ◌∷◌, ◌++◌, length, get_or, map, take, sym, ap, subst, append_assoc, arith}
 use Rattle.std.proofs.lemmas.List.{append-nil, length-map, length-take-le, map-append, take_all, take_more}
+use Rattle.std.proofs.lemmas.Slice.Zip.{AllZip-long}
 use Rattle.std.specs.List.{AllZip}
 use Rattle.toml.specs.Data.{Data}
 use Rattle.trees.specs.declared.deps.Network.{Network}
 use Rattle.trees.specs.DependingParts.{IsIndexed}
 use Rattle.trees.specs.Locking.{edges_from}
-use Rattle.trees.specs.LockingParts.{package_of, table_of, AddsEdges, AddsNeeds, AddsAll, NeedPlaces}
+use Rattle.trees.specs.LockingParts.{package_of, table_of, AddsEdges, AddsNeeds, AddsAll}
+use Rattle.trees.specs.Meaning.{NeedPlaces}
 use Rattle.trees.proofs.LockedEdges.{edges_none, edges_both}
 use Rattle.trees.proofs.LockedTuples.{Tuple}
 use Rattle.trees.proofs.Reports.{zip_push}
-
-length_zip : {X Y : Type 0} (R : X → Y → Type 0) (xs : List X) (ys : List Y) → AllZip R xs ys → length ys ≡ length xs
-length_zip R [] [] all = refl
-length_zip R [] (y ∷ ys) all = absurd all
-length_zip R (x ∷ xs) [] all = absurd all
-length_zip R (x ∷ xs) (y ∷ ys) all = ap suc (length_zip R xs ys all.1)
 
 edges_push : (k : ℕ) (all : List (List ℕ)) (places : List ℕ) (n : ℕ) → n ≡ k + length all → edges_from k (all ++ places ∷ []) ≡ edges_from k all ++ map (λ at. (n, at)) places
 edges_push k [] places n e =
@@ -33,7 +29,7 @@ module _ (tables : List Data) (ps : List Tuple) where
 
   pub first_more : (node : ℕ) (p : Tuple) (old n m : Network) → node < length ps → p ≡ get_or ps node p → AddsFirst node old n → AddsNeeds node (NeedPlaces (map package_of ps) (table_of tables p)) n m → AddsFirst (node + 1) old m
   first_more node p old n m low is so adds =
-      let count : length so.0 ≡ node = length_zip (NeedPlaces (map package_of ps)) (map (table_of tables) (take node ps)) so.0 so.1 ∙ (length-map (take node ps) (table_of tables) ∙ length-take-le node ps (omega arith)) in
+      let count : length so.0 ≡ node = AllZip-long (NeedPlaces (map package_of ps)) (map (table_of tables) (take node ps)) so.0 so.1 ∙ (length-map (take node ps) (table_of tables) ∙ length-take-le node ps (omega arith)) in
       let next : map (table_of tables) (take (node + 1) ps) ≡ map (table_of tables) (take node ps) ++ table_of tables p ∷ [] =
       ap (map (table_of tables)) (take_more ps node p low ∙ ap (λ (q : Tuple). take node ps ++ q ∷ []) (sym is)) ∙ map-append (table_of tables) (take node ps) (p ∷ []) in (
         so.0 ++ adds.0 ∷ [],

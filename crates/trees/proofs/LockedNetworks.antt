@@ -12,7 +12,8 @@ use Rattle.trees.specs.declared.deps.Network.{Network}
 use Rattle.trees.specs.Depending.{directed, same_edge}
 use Rattle.trees.specs.DependingParts.{added, IsEmpty, IsIndexed}
 use Rattle.trees.specs.Locking.{Package, package_cmp, edges_from, IsLabel, IsPackage}
-use Rattle.trees.specs.LockingParts.{locked_of, package_of, table_of, AddsAll, AddsLabels, AreLocked, HasLocked, NeedPlaces}
+use Rattle.trees.specs.LockingParts.{locked_of, package_of, table_of, AddsAll, AddsLabels, AreLocked, HasLocked}
+use Rattle.trees.specs.Meaning.{NeedPlaces}
 use Rattle.trees.proofs.LockedEdges.{first_edges}
 use Rattle.trees.proofs.LockedTuples.{Tuple, no_tuple}
 use Rattle.trees.proofs.Networks.{indexed_none}
@@ -39,12 +40,18 @@ module _ (tables : List Data) (ps : List Tuple) (old : Network) (labels : Vec (S
       let shown : map string_bytes new.labels.items ≡ texts.0 =
       ap (λ (v : Vec (String Global) Global). map string_bytes v.items) edges.2.nodes.labels ∙ (texts.2 ∙ ap (λ (ls : List (String Global)). map string_bytes ls ++ texts.0) empty.labels) in
       record {
-        locked = locked;
-        all = subst (IsPermutation tables) own are.all;
-        each = λ k d low. (let within : k < length ps = omega (arith, length-map ps (locked_of tables)) in subst (λ l. IsPackage l.0 l.1) (sym (get_or-map (locked_of tables) ps k no_tuple d within)) (are.each k no_tuple within).1);
-        ascending = subst (IsStrictlySortedBy package_cmp) packages are.ascending;
-        labels = subst (λ xs. AllZip (IsLabel (map (λ l. l.1) locked)) locked xs) (sym shown) (subst (λ qs. AllZip (IsLabel qs) locked texts.0) packages texts.1);
-        places = edges.0;
-        leads = subst (λ qs. AllZip (λ l. NeedPlaces qs l.0) locked edges.0) packages (zip_with_tables (map package_of ps) tables ps edges.0 edges.1);
-        edges = edges.2.edges ∙ (ap (λ es. fold (added same_edge) (map numbers_of es) (map (directed old.is_inverse) (edges_from 0 edges.0))) empty.edges ∙ first_edges (map (directed old.is_inverse) (edges_from 0 edges.0)));
+        means = record {
+          locked = locked;
+          are = record {
+            all = subst (IsPermutation tables) own are.all;
+            each = λ k d low. (let within : k < length ps = omega (arith, length-map ps (locked_of tables)) in subst (λ l. IsPackage l.0 l.1) (sym (get_or-map (locked_of tables) ps k no_tuple d within)) (are.each k no_tuple within).1);
+            ascending = subst (IsStrictlySortedBy package_cmp) packages are.ascending;
+          };
+          labels = subst (λ xs. AllZip (IsLabel (map (λ l. l.1) locked)) locked xs) (sym shown) (subst (λ qs. AllZip (IsLabel qs) locked texts.0) packages texts.1);
+          places = edges.0;
+          leads = subst (λ qs. AllZip (λ l. NeedPlaces qs l.0) locked edges.0) packages (zip_with_tables (map package_of ps) tables ps edges.0 edges.1);
+          edges = edges.2.edges ∙ (ap (λ es. fold (added same_edge) (map numbers_of es) (map (directed old.is_inverse) (edges_from 0 edges.0))) empty.edges ∙ first_edges (map (directed old.is_inverse) (edges_from 0 edges.0)));
+        };
+        paths = ap (λ (v : Vec (String Global) Global). v.items) edges.2.nodes.paths ∙ empty.paths;
+        indexed = edges.2.indexed;
       }

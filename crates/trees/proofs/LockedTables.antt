@@ -7,14 +7,14 @@ use Rattle.std.proofs.lemmas.List.Sorted.{All-permutation, IsPermutation-map}
 use Rattle.std.proofs.lemmas.Map.Keys.{sorted_from_all_adjacent}
 use Rattle.std.proofs.lemmas.Map.Lookups.{exact_bytes}
 use Rattle.std.specs.Cmp.Lexicographic.{slice_cmp}
-use Rattle.std.specs.List.{All, AllAdjacentBelow}
+use Rattle.std.specs.List.{All}
 use Rattle.std.specs.List.Sorted.{IsPermutation, IsSorted, IsStrictlySortedBy}
 use Rattle.std.specs.Ordering.{is_lt, nat_cmp, ordering_reverse, ordering_then}
 use Rattle.std.specs.declared.cmp.Ordering.{Ordering}
 use Rattle.std.specs.declared.cmp.Ordering.TheVariants.{Less, Equal, Greater}
 use Rattle.toml.specs.Data.{Data, boolean}
 use Rattle.trees.specs.Locking.{Package, package_cmp, IsPackage}
-use Rattle.trees.specs.LockingParts.{package_of, table_of, AreLocked}
+use Rattle.trees.specs.LockingParts.{package_of, table_of, AreLocked, StandOnce}
 use Rattle.trees.proofs.LockedPackages.{nothing, package_total}
 use Rattle.trees.proofs.LockedTuples.{Tuple, no_tuple}
 
@@ -70,7 +70,7 @@ risen p q Less e is other = absurd (false≢true (sym is))
 risen p q Equal e is other = absurd (other (sym (one_package q p e)))
 risen p q Greater e is other = package_total.antisymm p q ∙ ap ordering_reverse e
 
-strictly : (ps : List Tuple) → IsSorted tuple_cmp ps → AllAdjacentBelow (λ p q. package_of p ≢ package_of q) ps (length ps) → IsStrictlySortedBy package_cmp (map package_of ps)
+strictly : (ps : List Tuple) → IsSorted tuple_cmp ps → StandOnce ps → IsStrictlySortedBy package_cmp (map package_of ps)
 strictly ps up apart = sorted_from_all_adjacent package_total (map package_of ps) nothing (λ k low.
     let within : k + 1 < length ps = omega (arith, length-map ps package_of) in
     let p = get_or ps k no_tuple in
@@ -80,10 +80,18 @@ strictly ps up apart = sorted_from_all_adjacent package_total (map package_of ps
     ∙ risen (package_of p) (package_of q) (package_cmp (package_of q) (package_of p)) refl
     (without_last (slice_cmp nat_cmp q.0.now p.0.now) (slice_cmp nat_cmp q.1.now p.1.now) (slice_cmp nat_cmp q.2.now p.2.now) (nat_cmp q.3 p.3) (up k no_tuple (omega arith) within)) (apart k no_tuple within)))
 
+-- all tables, moved
+module _ (tables : List Data) (n : ℕ) (found ps : List Tuple) (so : AreRead tables n found) (moved : IsPermutation found ps) where
+  pub each_moved : All (λ p. (p.3 < length tables) × IsPackage (table_of tables p) (package_of p)) ps
+  each_moved = All-permutation (λ p. (p.3 < length tables) × IsPackage (table_of tables p) (package_of p)) found ps moved so.each
+
+  pub all_moved : length tables ≤ n → IsPermutation tables (map (table_of tables) ps)
+  all_moved end = subst (λ ds. IsPermutation ds (map (table_of tables) ps)) (so.all ∙ take_all n tables end) (IsPermutation-map (table_of tables) found ps moved)
+
 -- all tables, sorted
-pub all_locked : (tables : List Data) (n : ℕ) (found ps : List Tuple) → AreRead tables n found → length tables ≤ n → IsPermutation found ps → IsSorted tuple_cmp ps → AllAdjacentBelow (λ p q. package_of p ≢ package_of q) ps (length ps) → AreLocked tables ps
+pub all_locked : (tables : List Data) (n : ℕ) (found ps : List Tuple) → AreRead tables n found → length tables ≤ n → IsPermutation found ps → IsSorted tuple_cmp ps → StandOnce ps → AreLocked tables ps
 all_locked tables n found ps so end moved up apart = record {
   ascending = strictly ps up apart;
-  each = All-permutation (λ p. (p.3 < length tables) × IsPackage (table_of tables p) (package_of p)) found ps moved so.each;
-  all = subst (λ ds. IsPermutation ds (map (table_of tables) ps)) (so.all ∙ take_all n tables end) (IsPermutation-map (table_of tables) found ps moved);
+  each = each_moved tables n found ps so moved;
+  all = all_moved tables n found ps so moved end;
 }

@@ -10,7 +10,7 @@ use Rattle.std.specs.Str.Pattern.{FindsTextPrefix, HasPrefixMatch}
 use Rattle.ptree_trees.specs.Parts.{begins_with, has_part}
 use Rattle.ptree_trees.proofs.PartTexts.{begun}
 use Rattle.trees.specs.declared.source.Source.{Source}
-use Rattle.trees.specs.Depending.{source_text, other_names, other_starts, is_other_line, IsPairFile}
+use Rattle.trees.specs.Depending.{source_text, other_names, other_starts, is_other_line, IsPairFile, IsTextFile}
 use Rattle.trees.specs.Documents.{IsLastPart}
 
 -- a test for the beginning of a text
@@ -18,12 +18,12 @@ pub begins_by_test : (part text : List ℕ) → HasPrefixMatch (FindsTextPrefix 
 begins_by_test part text m = subst (λ (t : List ℕ). begins_with part t ≡ true) (sym m.1.1) (begun part (drop m.0 text))
 
 -- a file with another name
-pub other_named : (source : Source) (label : List ℕ) → IsLastPart (string_bytes source.name) label → list_any (bytes_eq label) other_names ≡ true → IsPairFile source → ⊥
-other_named source label last other is = false≢true (sym (is.name label last) ∙ other)
+pub other_named : (source : Source) (label : List ℕ) → IsLastPart (string_bytes source.name) label → list_any (bytes_eq label) other_names ≡ true → (has_tables : Bool) → IsTextFile has_tables source → ⊥
+other_named source label last other has_tables is = false≢true (sym (is.name label last) ∙ other)
 
 -- one with a line of another
-pub other_lined : (source : Source) (k : ℕ) (line : List ℕ) → k < length (lines (source_text source)) → line ≡ get_or (lines (source_text source)) k line → is_other_line line ≡ true → IsPairFile source → ⊥
-other_lined source k line low at other is =
+pub other_lined : (source : Source) (k : ℕ) (line : List ℕ) → k < length (lines (source_text source)) → line ≡ get_or (lines (source_text source)) k line → is_other_line line ≡ true → (has_tables : Bool) → IsTextFile has_tables source → ⊥
+other_lined source k line low at other has_tables is =
     false≢true (sym is.lines ∙ list_any_at is_other_line (lines (source_text source)) k line low (ap is_other_line (sym at) ∙ other))
 
 -- one with a part of TOML

@@ -20,8 +20,9 @@ use Rattle.trees.specs.declared.deps.Dependencies.{Dependencies}
 use Rattle.trees.specs.declared.deps.Network.{Network}
 use Rattle.trees.specs.declared.failure.Failure.{Failure}
 use Rattle.trees.specs.declared.source.Source.{Source}
-use Rattle.trees.specs.Depending.{pair_words, number, is_need, directed, edge_of, same_edge, firsts, edges_between, HoldsPairs, AreNames, StandsAbove, IsRooted, IsGraphOfPairs, IsNoName, HoldsNoGraph}
-use Rattle.trees.specs.DependingParts.{texts_of, labels_of, needs_of, AreApart, HasRoot, HoldsNone, IsNetworkOf, IsWhole, IsWithin}
+use Rattle.trees.specs.Depending.{pair_words, number, is_need, directed, edge_of, same_edge, firsts, edges_between, HoldsPairs, AreNames, StandsAbove, IsRooted, IsNoName, HoldsNoGraph}
+use Rattle.trees.specs.DependingParts.{texts_of, labels_of, needs_of, AreApart, HasRoot, HoldsNone, IsNetworkOf, IsNetworkOfPairs, IsWhole, IsWithin}
+use Rattle.trees.specs.Meaning.{MeansPairs, IsGraphOf}
 use Rattle.trees.specs.Reading.{FailsFor}
 use Rattle.trees.specs.Shown.{shown_text}
 use Rattle.trees.proofs.Pairs.{pairs_unique}
@@ -67,11 +68,11 @@ known_at (x ∷ names) w (suc k) low is = test (bytes_eq w x) refl (known_at nam
 pub number_known : (names : List (List ℕ)) (w : List ℕ) → Contains names w → number names w < length names
 number_known names w c = known_at names w c.0 c.1 c.2
 
-directed_within : (b : Bool) (n : ℕ) (e : ℕ × ℕ) → IsWithin n e → IsWithin n (directed b e)
+pub directed_within : (b : Bool) (n : ℕ) (e : ℕ × ℕ) → IsWithin n e → IsWithin n (directed b e)
 directed_within true n e h = (h.1, h.0)
 directed_within false n e h = h
 
-all_firsts : {X : Type 0} (P : X → Type 0) (same : X → X → Bool) (xs : List X) → All P xs → All P (firsts same xs)
+pub all_firsts : {X : Type 0} (P : X → Type 0) (same : X → X → Bool) (xs : List X) → All P xs → All P (firsts same xs)
 all_firsts P same [] h = h
 all_firsts P same (x ∷ xs) h =
     All-cons P x (filter (λ y. not (same x y)) (firsts same xs)) (All-head P x xs h) (All-filter (λ y. not (same x y)) P (firsts same xs) (all_firsts P same xs (All-tail P x xs h)))
@@ -86,7 +87,7 @@ edges_within is_inverse pairs names are =
     (All-weaker (HasWords names) (λ p. IsWithin n (edge_of is_inverse names p)) (λ p h. directed_within is_inverse n (number names p.0, number names p.1) (number_known names p.0 h.0, number_known names p.1 h.1)) pairs (names_known pairs names are))))
 
 -- the edges of a network of pairs are
-pub network_whole : (source : Source) (is_inverse : Bool) (n : Network) → IsNetworkOf source is_inverse n → IsWhole n
+pub network_whole : (source : Source) (is_inverse : Bool) (n : Network) → IsNetworkOfPairs source is_inverse n → IsWhole n
 network_whole source is_inverse n is = record {
   indexed = is.has.needs.indexed;
   within = subst (All (IsWithin (length (labels_of n)))) (sym is.has.needs.edges) (edges_within is_inverse is.pairs (labels_of n) is.has.names);
@@ -164,16 +165,14 @@ same_count is_terminal ws labels i end so =
 -- what is drawn of a network
 pub graph_held : (source : Source) (name : Option (Bor (List ℕ))) (is_inverse is_terminal : Bool) (read rooted drawn : Network) (d : Dependencies) → IsNetworkOf source is_inverse read → HasRoot source name read rooted d.root.0
     → drawn.labels ≡ rooted.labels → drawn.edges.items ≡ reverse rooted.edges.items → map string_bytes (weights_of d.graph) ≡ map (shown_text is_terminal) (labels_of drawn) → edges_of d.graph ≡ needs_of drawn
-    → IsGraphOfPairs source name is_inverse is_terminal d
+    → IsGraphOf source name is_inverse is_terminal d
 graph_held source name is_inverse is_terminal read rooted drawn d is root labels turned texts edges = record {
-  pairs = is.pairs;
-  held = is.held;
-  some = is.some;
   names = labels_of read;
-  are = is.has.names;
+  needs = needs_of read;
+  means = is.means;
   texts = labels_of rooted;
   edges = needs_of rooted;
-  rooted = subst (λ es. IsRooted source name (labels_of read) es (labels_of rooted) (needs_of rooted) d.root.0) is.has.needs.edges root;
+  rooted = root;
   graph = record {
     weights = texts ∙ ap (λ v. map (shown_text is_terminal) (map string_bytes v.items)) labels;
     edges = edges ∙ (ap (map numbers_of) turned ∙ map_reversed numbers_of rooted.edges.items);
@@ -181,10 +180,10 @@ graph_held source name is_inverse is_terminal read rooted drawn d is root labels
 }
 
 -- it has no edge without a node
-pub graph_whole : (source : Source) (name : Option (Bor (List ℕ))) (is_inverse : Bool) (read rooted drawn : Network) (root : ℕ) → IsNetworkOf source is_inverse read → HasRoot source name read rooted root
+pub graph_whole : (source : Source) (name : Option (Bor (List ℕ))) (read rooted drawn : Network) (root : ℕ) → IsWhole read → HasRoot source name read rooted root
     → drawn.labels ≡ rooted.labels → drawn.edges.items ≡ reverse rooted.edges.items → Any (LacksNode (length (labels_of drawn))) drawn.edges.items → ⊥
-graph_whole source name is_inverse read rooted drawn root is has labels turned =
-    let within = rooted_within source name (labels_of read) (needs_of read) (labels_of rooted) (needs_of rooted) root (network_whole source is_inverse read is).within has in
+graph_whole source name read rooted drawn root whole has labels turned =
+    let within = rooted_within source name (labels_of read) (needs_of read) (labels_of rooted) (needs_of rooted) root whole.within has in
     none_lacks (length (labels_of drawn)) drawn.edges.items
     (subst (λ v. All (IsWithin (length (map string_bytes v.items))) (needs_of drawn)) (sym labels)
     (subst (All (IsWithin (length (labels_of rooted)))) (sym (ap (map numbers_of) turned ∙ map_reversed numbers_of rooted.edges.items)) (All-permutation (IsWithin (length (labels_of rooted))) (needs_of rooted) (reverse (needs_of rooted)) (IsPermutation-reverse (needs_of rooted)) within)))
@@ -200,10 +199,10 @@ no_word : (name : Option (Bor (List ℕ))) (names : List (List ℕ)) (pairs : Li
 no_word None names pairs are none = none
 no_word (Some name) names pairs are none = λ c. none ((are.words name.now).1 c)
 
-pub fails_unnamed : (source : Source) (name : Option (Bor (List ℕ))) (is_inverse : Bool) (n : Network) (e : Failure) → IsNetworkOf source is_inverse n → FailsFor (IsNoName name (labels_of n)) ⊥ e → FailsFor (HoldsNoGraph source name) ⊥ e
-fails_unnamed source name is_inverse n e is says =
-    fails_weaker (IsNoName name (labels_of n)) (HoldsNoGraph source name) ⊥ e
-    (λ none pairs held. inr (subst (λ ps. IsNoName name (flat_map pair_words ps)) (pairs_unique is.pairs pairs (sym is.held ∙ held)) (no_word name (labels_of n) is.pairs is.has.names none))) says
+pub fails_unnamed : (source : Source) (name : Option (Bor (List ℕ))) (is_inverse : Bool) (names : List (List ℕ)) (needs : List (ℕ × ℕ)) (e : Failure) → MeansPairs source is_inverse names needs → FailsFor (IsNoName name names) ⊥ e → FailsFor (HoldsNoGraph source name) ⊥ e
+fails_unnamed source name is_inverse names needs e is says =
+    fails_weaker (IsNoName name names) (HoldsNoGraph source name) ⊥ e
+    (λ none pairs held. inr (subst (λ ps. IsNoName name (flat_map pair_words ps)) (pairs_unique is.pairs pairs (sym is.held ∙ held)) (no_word name names is.pairs is.are none))) says
 
 -- a source without lines of words has no pairs
 pub none_held : (source : Source) (found : List (Bor (List ℕ) × Bor (List ℕ))) → length found ≡ 0 → HoldsPairs source (map texts_of found) → HoldsNone source

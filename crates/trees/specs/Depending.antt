@@ -1,6 +1,6 @@
 -- Which graph is drawn of lines of two words.
 use Rattle.std.specs.Borrow.{Bor}
-use Rattle.std.specs.Prelude.{◌≡◌, ◌≢◌, ◌<◌, ◌↔◌, ◌⊎◌, ℕ, ◌==◌, ◌&&◌, not, Bool, true, false, if◌then◌else◌, List, [], ◌∷◌, ◌++◌, filter, flat_map, length, map, reverse, slice_get, All, AllPairs, Contains, Option, Some, None, codes, string_bytes}
+use Rattle.std.specs.Prelude.{◌≡◌, ◌<◌, ◌↔◌, ◌⊎◌, ℕ, ◌==◌, ◌&&◌, not, Bool, true, false, if◌then◌else◌, List, [], ◌∷◌, ◌++◌, filter, flat_map, length, map, reverse, slice_get, All, AllPairs, Contains, Option, Some, None, codes, string_bytes}
 use Rattle.std.specs.Char.{is_whitespace}
 use Rattle.std.specs.Cmp.Lexicographic.{slice_cmp}
 use Rattle.std.specs.List.{list_any, position_or_len, slice_split}
@@ -34,12 +34,16 @@ other_starts = codes "lockfileVersion:" ∷ codes "# yarn lockfile " ∷ codes "
 abbrev pub is_other_line : List ℕ → Bool
 is_other_line line = list_any (λ start. begins_with start line) other_starts
 
--- a source is read as lines of two words: nothing says that it is a lock file
-pub record IsPairFile (source : Source) : Type 0 where
+-- a source is no list of another program and no JSON, and it has tables of packages or not
+pub record IsTextFile (has_tables : Bool) (source : Source) : Type 0 where
   pub name : (label : List ℕ) → IsLastPart (string_bytes source.name) label → list_any (bytes_eq label) other_names ≡ false
   pub lines : list_any is_other_line (lines (source_text source)) ≡ false
   pub json : begins_with (codes "{") (trim_start (source_text source)) ≡ false
-  pub toml : has_part (codes "[[package]]") (source_text source) ≡ false
+  pub toml : has_part (codes "[[package]]") (source_text source) ≡ has_tables
+
+-- it is read as lines of two words: nothing says that it is a lock file
+abbrev pub IsPairFile : Source → Type 0
+IsPairFile source = IsTextFile false source
 
 -- ## Lines
 
@@ -143,18 +147,6 @@ IsRooted source None names edges texts all root =
 pub record IsGraphFrom (is_terminal : Bool) (texts : List (List ℕ)) (all : List (ℕ × ℕ)) (d : Dependencies) : Type 0 where
   pub weights : map string_bytes (weights_of d.graph) ≡ map (shown_text is_terminal) texts
   pub edges : edges_of d.graph ≡ reverse all
-
--- d is the graph of the pairs in a source, from the root that is asked for on
-pub record IsGraphOfPairs (source : Source) (root : Option (Bor (List ℕ))) (is_inverse is_terminal : Bool) (d : Dependencies) : Type 0 where
-  pub pairs : List (List ℕ × List ℕ)
-  pub held : HoldsPairs source pairs
-  pub some : pairs ≢ []
-  pub names : List (List ℕ)
-  pub are : AreNames pairs names
-  pub texts : List (List ℕ)
-  pub edges : List (ℕ × ℕ)
-  pub rooted : IsRooted source root names (edges_between is_inverse names pairs) texts edges d.root.0
-  pub graph : IsGraphFrom is_terminal texts edges d
 
 -- a name is asked for that is none of these
 abbrev pub IsNoName : Option (Bor (List ℕ)) → List (List ℕ) → Type 0

@@ -10,6 +10,7 @@ use Rattle.ptree.specs.Graph.{numbers_of}
 use Rattle.trees.specs.declared.deps.Network.{Network}
 use Rattle.trees.specs.declared.source.Source.{Source}
 use Rattle.trees.specs.Depending.{pair_words, same_edge, edges_between, HoldsPairs, AreNames, IsClosed, HasEach, IsUnreached, AreTops, StandsAbove, IsRooted}
+use Rattle.trees.specs.Meaning.{Means}
 
 -- ## Lines
 
@@ -88,7 +89,7 @@ abbrev pub HoldsNone : Source → Type 0
 HoldsNone source = (pairs : List (List ℕ × List ℕ)) → HoldsPairs source pairs → pairs ≡ []
 
 -- a network has the nodes and edges of the pairs in a source
-pub record IsNetworkOf (source : Source) (is_inverse : Bool) (n : Network) : Type 0 where
+pub record IsNetworkOfPairs (source : Source) (is_inverse : Bool) (n : Network) : Type 0 where
   pub pairs : List (List ℕ × List ℕ)
   pub held : HoldsPairs source pairs
   pub some : pairs ≢ []
@@ -162,6 +163,12 @@ AreTopsOf n tops = IsWhole n → AreTops (needs_of n) (length (labels_of n)) top
 -- a root stands for these nodes
 abbrev pub IsTopped : List ℕ → Network → Network → ℕ → Type 0
 IsTopped label old new root = (tops : List ℕ) × All (λ t. t < length (labels_of old)) tops × AreTopsOf old tops × StandsAbove label (labels_of old) (needs_of old) tops (labels_of new) (needs_of new) root
+
+-- a network has the nodes and edges that a source means
+pub record IsNetworkOf (source : Source) (is_inverse : Bool) (n : Network) : Type 0 where
+  pub means : Means source is_inverse (labels_of n) (needs_of n)
+  pub paths : n.paths.items ≡ []
+  pub whole : IsWhole n
 
 -- the root of a network is the one that is asked for
 abbrev pub HasRoot : Source → Option (Bor (List ℕ)) → Network → Network → ℕ → Type 0

@@ -26,6 +26,8 @@ pub mod Depending
 pub mod DependingParts
 -- which packages a lock file has, and what its entries need
 pub mod Locking
+-- which graph is drawn of either
+pub mod Meaning
 -- what the parts of reading lock files do
 pub mod LockingParts
 -- which packages a package-lock.json has, and their labels

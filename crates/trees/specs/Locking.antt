@@ -1,12 +1,13 @@
 -- Which packages a lock file with tables `[[package]]` has, their labels, and which of them an entry needs.
 use Rattle.std.specs.Cmp.Lexicographic.{slice_cmp}
 use Rattle.std.specs.List.{before_first}
+use Rattle.std.specs.List.Sorted.{IsPermutation, IsStrictlySortedBy}
 use Rattle.std.specs.Option.{option_and, option_and_then, option_or}
 use Rattle.std.specs.Ordering.{nat_cmp, ordering_then}
-use Rattle.std.specs.Prelude.{◌≡◌, ◌≢◌, ◌+◌, ◌<◌, ◌⊎◌, ◌==◌, ◌&&◌, ℕ, Bool, true, false, is_some, List, [], ◌∷◌, ◌++◌, codes, flat_map, length, map, All, Contains, HoldsAt, Option, Some, None, IfSome, IsSome, MatchOption, option_map, unwrap_or}
+use Rattle.std.specs.Prelude.{◌≡◌, ◌≢◌, ◌+◌, ◌<◌, ◌⊎◌, ◌==◌, ◌&&◌, ◌||◌, ℕ, Bool, not, true, false, is_some, List, [], ◌∷◌, ◌++◌, codes, flat_map, length, map, All, Contains, HoldsAt, Option, Some, None, IfSome, IsSome, MatchOption, option_map, unwrap_or}
 use Rattle.std.specs.Str.{bytes_eq}
 use Rattle.std.specs.declared.cmp.Ordering.{Ordering}
-use Rattle.toml.specs.Data.{Data, string, array, table, Items, no_items, item, Members, no_members, member, get, get_member, as_str, as_table}
+use Rattle.toml.specs.Data.{Data, string, array, table, Items, no_items, item, Members, no_members, member, get, get_member, as_array, as_str, as_table}
 use Rattle.trees.specs.Listing.{is_empty}
 
 -- ## Packages
@@ -106,11 +107,20 @@ source_of d = unwrap_or (option_map source_text (get (codes "source") d)) []
 abbrev pub IsVersion : Data → List ℕ → Type 0
 IsVersion d version = (text_at (codes "version") d ≡ Some version) ⊎ ((get (codes "version") d ≡ None) × IsSome (option_and_then as_table (get (codes "source") d)) × (version ≡ []))
 
+-- whether a value is the source of a package: a text or a table
+abbrev pub is_source : Data → Bool
+is_source d = is_some (as_str d) || is_some (as_table d)
+
+-- whether a table has another source
+abbrev pub has_wrong_source : Data → Bool
+has_wrong_source d = unwrap_or (option_map (λ s. not (is_source s)) (get (codes "source") d)) false
+
 -- the package of a table, which no other one replaces
 pub record IsPackage (d : Data) (p : Package) : Type 0 where
   pub name : text_at (codes "name") d ≡ Some p.name
   pub version : IsVersion d p.version
   pub source : p.source ≡ without_revision (source_of d)
+  pub kind : has_wrong_source d ≡ false
   pub whole : get (codes "replace") d ≡ None
 
 -- a table says what is known: its name and, if they are there, its version and with that its source
@@ -181,6 +191,40 @@ pub record IsPlain (d : Data) : Type 0 where
   pub root : get (codes "root") d ≡ None
   pub hash : has_hash d ≡ false
   pub listed : All IsListed (tables_in d)
+
+-- a lock file has a list of the tables of packages
+abbrev pub HasTables : Data → Type 0
+HasTables d = IsSome (option_and_then as_array (get (codes "package") d))
+
+-- tables and their packages: each table once, the packages in ascending order, and no two the same
+pub record ArePackages (tables : List Data) (locked : List (Data × Package)) : Type 0 where
+  pub all : IsPermutation tables (map (λ l. l.0) locked)
+  pub each : All (λ l. IsPackage l.0 l.1) locked
+  pub ascending : IsStrictlySortedBy package_cmp (map (λ l. l.1) locked)
+
+-- a value is a list of entries, each of which leads to a package
+pub record IsLed (packages : List Package) (d : Data) : Type 0 where
+  pub list : IsSome (as_array d)
+  pub each : All (λ entry. (at : ℕ) × Leads packages entry at) (entries_of d)
+
+-- a value is a table of such lists
+abbrev pub AreLed : List Package → Data → Type 0
+AreLed packages d = (groups : Members) × (as_table d ≡ Some groups) × All (IsLed packages) (values_of groups)
+
+-- what a package's table needs leads to packages
+pub record NeedsLead (packages : List Package) (d : Data) : Type 0 where
+  pub own : IfSome (get (codes "dependencies") d) (IsLed packages)
+  pub optional : IfSome (get (codes "optional-dependencies") d) (AreLed packages)
+  pub dev : IfSome (get (codes "dev-dependencies") d) (AreLed packages)
+
+-- a document is a plain lock file: of its tables no two have the same package, and all needs lead to
+-- packages of these
+pub record IsLock (d : Data) : Type 0 where
+  pub plain : IsPlain d
+  pub tables : HasTables d
+  pub locked : List (Data × Package)
+  pub are : ArePackages (tables_in d) locked
+  pub needs : All (NeedsLead (map (λ l. l.1) locked)) (tables_in d)
 
 -- ## Labels
 

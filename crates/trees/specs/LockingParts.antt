@@ -1,6 +1,6 @@
 -- What the parts of reading lock files do. What `perform` ensures doesn't cite this.
 use Rattle.std.specs.Borrow.{Bor}
-use Rattle.std.specs.List.{AllWithin, AllZip}
+use Rattle.std.specs.List.{AllAdjacentBelow, AllWithin, AllZip}
 use Rattle.std.specs.List.Sorted.{IsPermutation, IsStrictlySortedBy}
 use Rattle.std.specs.Ordering.{is_lt}
 use Rattle.std.specs.Prelude.{◌≡◌, ◌≢◌, ◌<◌, ℕ, Bool, true, false, List, [], ◌++◌, codes, fold, length, map, slice_index_or, string_bytes, String, All, Any, HoldsAt, Option, Some, None, IfSome, unwrap_or, option_copied}
@@ -13,11 +13,14 @@ use Rattle.trees.specs.declared.deps.packages.Need.{Need}
 use Rattle.trees.specs.declared.deps.packages.Needing.{Needing}
 use Rattle.ptree.specs.File.{toml}
 use Rattle.ptree.specs.declared.value.document.DocFormat.TheVariants.{Toml}
+use Rattle.trees.specs.declared.failure.Failure.{Failure}
 use Rattle.trees.specs.declared.source.Source.{Source}
 use Rattle.trees.specs.Documents.{IsDocumentOf}
-use Rattle.trees.specs.Depending.{directed, firsts, same_edge}
+use Rattle.trees.specs.Depending.{directed, same_edge}
 use Rattle.trees.specs.DependingParts.{labels_of, needs_of, added, KeepsNodes, IsIndexed}
-use Rattle.trees.specs.Locking.{Package, Known, is_as, package_cmp, IsPackage, between, unrevised, Lacks, IsLabel, IsNeeded, IsPlain, tables_in, entries_in, edges_from, Leads}
+use Rattle.trees.specs.Reading.{FailsFor}
+use Rattle.trees.specs.Locking.{Package, Known, is_as, package_cmp, IsPackage, between, unrevised, Lacks, IsLabel, IsLock, IsNeeded, IsPlain, tables_in, edges_from, Leads}
+use Rattle.trees.specs.Meaning.{MeansTables, NeedPlaces}
 
 -- ## Packages
 
@@ -72,6 +75,32 @@ IsWhole name version source need = (version ≢ []) × IfSome source (λ s. s �
 abbrev pub IsBehind : List ℕ → List ℕ → Need → Type 0
 IsBehind name rest need = (version : List ℕ) × (source : Option (List ℕ)) × (rest ≡ version ++ between (codes " (") source (codes ")")) × Lacks (codes " (") version × IsWhole name version source need
 
+-- what is behind a name is this version and, if there is one, this source, none of them empty
+pub record IsRest (rest version : List ℕ) (source : Option (List ℕ)) : Type 0 where
+  pub is : rest ≡ version ++ between (codes " (") source (codes ")")
+  pub lacks : Lacks (codes " (") version
+  pub some : version ≢ []
+  pub given : IfSome source (λ s. s ≢ [])
+
+-- what is known of a name with a version and a source, without a revision
+abbrev pub known_whole : List ℕ → List ℕ → Option (List ℕ) → Known
+known_whole name version source = unrevised (record { name = name; version = Some version; source = source })
+
+-- a need was read, and this is known of it
+abbrev pub IsFound : Option Need → Known → Type 0
+IsFound None known = ⊥
+IsFound (Some need) known = known_of need ≡ known
+
+-- ## Failures
+
+-- what a failure says where something does not hold, or memory ran out
+abbrev pub FailsUnless : Type 0 → Failure → Type 0
+FailsUnless Is = FailsFor (Is → ⊥) ⊥
+
+-- no package stands before its like
+abbrev pub StandOnce : List (Bor (List ℕ) × Bor (List ℕ) × Bor (List ℕ) × ℕ) → Type 0
+StandOnce ps = AllAdjacentBelow (λ p q. package_of p ≢ package_of q) ps (length ps)
+
 -- ## Networks
 
 -- a network gets edges, each unless it is there
@@ -91,10 +120,6 @@ packages_of needing = map package_of needing.packages.now
 -- it gets edges from that one to the packages that entries need
 abbrev pub AddsEntries : Needing → List Data → Network → Network → Type 0
 AddsEntries needing entries old new = IsIndexed old → AddsNeeds needing.node (AllZip (Leads (packages_of needing)) entries) old new
-
--- the entries of a package's table lead to these places
-abbrev pub NeedPlaces : List Package → Data → List ℕ → Type 0
-NeedPlaces packages d places = AllZip (Leads packages) (entries_in d) places
 
 -- a network gets the edges of all packages
 abbrev pub AddsAll : List Data → List (Bor (List ℕ) × Bor (List ℕ) × Bor (List ℕ) × ℕ) → Network → Network → Type 0
@@ -118,18 +143,16 @@ AddsLabels tables ps old new = (texts : List (List ℕ)) × AllZip (IsLabel (map
 
 -- ## Lock files
 
--- a network has the packages of tables in ascending order, with their labels, and the edges of their
--- entries, each once, in the order in which they first stand
+-- a network has the packages of tables, and the edges of their entries
 pub record HasLocked (is_inverse : Bool) (tables : List Data) (n : Network) : Type 0 where
-  pub locked : List (Data × Package)
-  pub all : IsPermutation tables (map (λ l. l.0) locked)
-  pub each : All (λ l. IsPackage l.0 l.1) locked
-  pub ascending : IsStrictlySortedBy package_cmp (map (λ l. l.1) locked)
-  pub labels : AllZip (IsLabel (map (λ l. l.1) locked)) locked (labels_of n)
-  pub places : List (List ℕ)
-  pub leads : AllZip (λ l. NeedPlaces (map (λ l. l.1) locked) l.0) locked places
-  pub edges : needs_of n ≡ firsts same_edge (map (directed is_inverse) (edges_from 0 places))
+  pub means : MeansTables is_inverse tables (labels_of n) (needs_of n)
+  pub paths : n.paths.items ≡ []
+  pub indexed : IsIndexed n
 
 -- a source is the document of a lock file; of a plain one the network has the packages
 abbrev pub HoldsLocked : Source → Bool → Network → Type 0
 HoldsLocked source is_inverse n = (d : Data) × IsDocumentOf Toml source (toml d) × (IsPlain d → HasLocked is_inverse (tables_in d) n)
+
+-- its document, if it is one that is plain, is a lock file
+abbrev pub HoldsOnlyLock : Source → Type 0
+HoldsOnlyLock source = (d : Data) → IsDocumentOf Toml source (toml d) → IsPlain d → IsLock d

@@ -32,9 +32,10 @@ use Rattle.trees.specs.declared.pieces.Pieces.{Pieces}
 use Rattle.trees.specs.declared.source.Source.{Source}
 use Rattle.trees.specs.Asked.{drawing_value, reading_value}
 use Rattle.trees.specs.Changing.{IsConverted, FailsToConvert}
-use Rattle.trees.specs.Depending.{IsPairFile, IsGraphOfPairs, HoldsNoGraph}
+use Rattle.trees.specs.Depending.{IsPairFile, IsTextFile, HoldsNoGraph}
 use Rattle.trees.specs.Documents.{IsPartTree}
 use Rattle.trees.specs.Listing.{IsListed, FailsToList}
+use Rattle.trees.specs.Meaning.{HoldsNoLock, IsGraphOf, IsPairOrLockFile}
 use Rattle.trees.specs.Merging.{IsMergeDrawing, IsMergeCode}
 use Rattle.trees.specs.Outlining.{text_or, HoldsOutline, FailsToOutline, IsReadBack, LosesText}
 use Rattle.trees.specs.Reading.{IsWriting, HoldsDrawing, IsReadableValue, FailsFor, FailsToMake, FailsToRead, IsReport, Adds}
@@ -146,19 +147,20 @@ FailsToGive source (given.Outline outline) e = FailsToOutline source outline e
 abbrev pub Draws : {A : Type 0} → Sources → Source → Given → Drawing → Option (List ℕ) → Option (List ℕ) → Result A Failure → Type 0
 Draws sources source tree drawing old new result = Writes old new result (IsDrawingOf sources drawing (IsGiven source tree)) (FailsToGive source tree)
 
--- the bytes are the drawing, as it is asked for, of the graph of the pairs in a source
-abbrev pub IsPairDrawing : Sources → Source → Deps → Drawing → List ℕ → Type 0
-IsPairDrawing sources source deps drawing bytes =
-    (d : Dependencies) × IsGraphOfPairs source deps.root deps.is_inverse drawing.screen.is_terminal d × IsGraphDrawing (drawing_value sources drawing) d deps.walks bytes
+-- the bytes are the drawing, as it is asked for, of the graph that a source means
+abbrev pub IsNeedsDrawing : Sources → Source → Deps → Drawing → List ℕ → Type 0
+IsNeedsDrawing sources source deps drawing bytes =
+    (d : Dependencies) × IsGraphOf source deps.root deps.is_inverse drawing.screen.is_terminal d × IsGraphDrawing (drawing_value sources drawing) d deps.walks bytes
 
--- what each failure before anything is written says: the source holds no such graph, or more than
--- 5,000 levels are asked for, or memory ran out
-abbrev pub FailsToDepend : Sources → Source → Deps → Drawing → Failure → Type 0
-FailsToDepend sources source deps drawing = FailsFor (HoldsNoGraph source deps.root ⊎ (5000 < (drawing_value sources drawing).depth)) ⊥
+-- what each failure before anything is written says: the source holds no such graph, or no such lock
+-- file, of which no root is asked for, or more than 5,000 levels are asked for, or memory ran out
+pub record FailsToDepend (sources : Sources) (source : Source) (deps : Deps) (drawing : Drawing) (e : Failure) : Type 0 where
+  pub pairs : IsPairFile source → FailsFor (HoldsNoGraph source deps.root ⊎ (5000 < (drawing_value sources drawing).depth)) ⊥ e
+  pub lock : IsTextFile true source → deps.root ≡ None → FailsFor (HoldsNoLock source ⊎ (5000 < (drawing_value sources drawing).depth)) ⊥ e
 
--- of a source that is read as lines of two words, the drawing of their graph is written
-abbrev pub DrawsPairs : {A : Type 0} → Sources → Source → Deps → Drawing → Option (List ℕ) → Option (List ℕ) → Result A Failure → Type 0
-DrawsPairs sources source deps drawing old new result = IsPairFile source → Writes old new result (IsPairDrawing sources source deps drawing) (FailsToDepend sources source deps drawing)
+-- of a source that is read as lines of two words, or is a lock file, the drawing of its graph is written
+abbrev pub DrawsNeeds : {A : Type 0} → Sources → Source → Deps → Drawing → Option (List ℕ) → Option (List ℕ) → Result A Failure → Type 0
+DrawsNeeds sources source deps drawing old new result = IsPairOrLockFile source → Writes old new result (IsNeedsDrawing sources source deps drawing) (FailsToDepend sources source deps drawing)
 
 -- the bytes are what `convert` writes of a source
 abbrev pub IsConversion : Sources → Source → Convert → List ℕ → Type 0
@@ -208,12 +210,12 @@ abbrev pub AreReports : Sources → List Source → Option Pieces → Bool → L
 AreReports sources inputs pieces is_terminal bytes = (said : List ℕ) × Adds (IsReport (reading_value sources pieces)) inputs [] said × (bytes ≡ shown_on is_terminal said)
 
 -- what a command writes: those that draw an input, the drawing of its tree; `deps`, of lines of two
--- words that of their graph; `indented`, the indented text; `convert`, the conversion, which can be
--- turned back; `diff`, all differences
+-- words and of lock files that of their graph; `indented`, the indented text; `convert`, the
+-- conversion, which can be turned back; `diff`, all differences
 abbrev pub WritesOfCommand : {A : Type 0} → Sources → Command → Option (List ℕ) → Option (List ℕ) → Result A Failure → Type 0
 WritesOfCommand sources (command.Convert source convert) old new result = Converts sources source.now convert old new result × ConvertsBack sources source.now convert old new result
 WritesOfCommand sources (command.Draw source tree drawing) old new result = Draws sources source.now tree drawing old new result
-WritesOfCommand sources (command.Deps source deps drawing) old new result = DrawsPairs sources source.now deps drawing old new result
+WritesOfCommand sources (command.Deps source deps drawing) old new result = DrawsNeeds sources source.now deps drawing old new result
 WritesOfCommand sources (command.Indented source indented) old new result = Writes old new result (IsIndentation sources source.now indented) (FailsToIndent sources source.now indented)
 WritesOfCommand sources (command.Check inputs pieces screen) old new result = WritesSaid old new result (AreReports sources inputs.now pieces screen.is_terminal)
 WritesOfCommand sources (command.Diff left right diff) old new result = Compares sources left.now right.now diff old new result

@@ -1,10 +1,11 @@
 //! Dependencies of lock files and of lists of pairs.
-ghost use Rattle.std.specs.Prelude.{◌≡◌, ⊤, true, [], length, map, Any, IfSome, IfOk, IfErr, OnOk, string_bytes};
+ghost use Rattle.std.specs.Prelude.{◌≡◌, ⊤, Bool, true, None, [], length, map, Any, IfSome, IfOk, IfErr, OnOk, string_bytes};
 ghost use Rattle.std.specs.Str.{NoCharPasses};
 ghost use Rattle.ptree.specs.Graph.{weights_of, edges_of, LacksNode};
 ghost use Rattle.ptree_trees.specs.Escape.{is_hidden};
-ghost use Rattle.trees.specs.Depending.{IsPairFile, IsGraphOfPairs, IsNoName, HoldsNoGraph};
+ghost use Rattle.trees.specs.Depending.{IsPairFile, IsTextFile, IsNoName, HoldsNoGraph};
 ghost use Rattle.trees.specs.DependingParts.{labels_of, needs_of, AreApart, HasRoot, HoldsNone, IsEmpty, IsNetworkOf, IsTopped, IsWhole};
+ghost use Rattle.trees.specs.Meaning.{HoldsNoLock, IsGraphOf, IsPairOrLockFile};
 ghost use Rattle.trees.specs.Reading.{IsInput, FailsFor};
 ghost use Rattle.trees.specs.Shown.{shown_text, AreShownLabels};
 
@@ -96,10 +97,12 @@ pub fn read_dependencies(
     is_terminal: bool,
 ) -> Result<Dependencies, Failure>
     ensures labels { IfOk result (λ d. is_terminal ≡ true → AreShownLabels d.graph) }
-    ensures pairs { IsPairFile source.now → IfOk result
-        (IsGraphOfPairs source.now deps.entry.root deps.entry.is_inverse is_terminal) }
+    ensures graph { IsPairOrLockFile source.now → IfOk result
+        (IsGraphOf source.now deps.entry.root deps.entry.is_inverse is_terminal) }
     ensures failed { IsPairFile source.now
         → IfErr result (FailsFor (HoldsNoGraph source.now deps.entry.root) ⊥) }
+    ensures refused { IsTextFile true source.now → deps.entry.root ≡ None
+        → IfErr result (FailsFor (HoldsNoLock source.now) ⊥) }
 {
     let mut network = Network {
         labels: Vec::new(alloc),
@@ -123,10 +126,12 @@ fn drawn(
     is_terminal: bool,
 ) -> Result<Dependencies, Failure>
     ensures labels { IfOk result (λ d. is_terminal ≡ true → AreShownLabels d.graph) }
-    ensures pairs { IsPairFile source.now → IsEmpty network.old → IfOk result
-        (IsGraphOfPairs source.now name.entry network.old.is_inverse is_terminal) }
+    ensures graph { IsPairOrLockFile source.now → IsEmpty network.old → IfOk result
+        (IsGraphOf source.now name.entry network.old.is_inverse is_terminal) }
     ensures failed { IsPairFile source.now → IsEmpty network.old
         → IfErr result (FailsFor (HoldsNoGraph source.now name.entry) ⊥) }
+    ensures refused { IsTextFile true source.now → name.entry ≡ None → IsEmpty network.old
+        → IfErr result (FailsFor (HoldsNoLock source.now) ⊥) }
 {
     read_network(alloc, source, network)?;
     let root = root_of(alloc, source, network, name)?;
@@ -138,9 +143,11 @@ fn drawn(
 
 // Reads the dependencies of an input in one of the forms.
 fn read_network(alloc: Global, source: &Source, network: &mut Network) -> Result<(), Failure>
-    ensures held { IsPairFile source.now → IsEmpty network.old → OnOk result
+    ensures held { IsPairOrLockFile source.now → IsEmpty network.old → OnOk result
         (IsNetworkOf source.now network.old.is_inverse network.new) }
     ensures failed { IsPairFile source.now → IfErr result (FailsFor (HoldsNone source.now) ⊥) }
+    ensures refused { IsTextFile true source.now
+        → IfErr result (FailsFor (HoldsNoLock source.now) ⊥) }
 {
     let text = source.unmarked();
     if let Some(wrong) = form_not_read(source) {
@@ -156,7 +163,7 @@ fn read_network(alloc: Global, source: &Source, network: &mut Network) -> Result
 
 // Says of a file that is no lock file, or looks like pairs of words, that it is not read.
 fn form_not_read(source: &Source) -> Option<&'static str>
-    ensures { IfSome result (λ _. IsPairFile source.now → ⊥) }
+    ensures { IfSome result (λ _. (has_tables : Bool) → IsTextFile has_tables source.now → ⊥) }
 {
     match source.label() {
         "pnpm-lock.yaml" => return Some(PNPM),
@@ -187,6 +194,7 @@ fn root_of(
         (λ r. HasRoot source.now name.entry network.old network.new r.0) }
     ensures failed { network.old.paths.items ≡ [] → AreApart (labels_of network.old)
         → IfErr result (FailsFor (IsNoName name.entry (labels_of network.old)) ⊥) }
+    ensures memory { name.entry ≡ None → IfErr result (FailsFor ⊥ ⊥) }
 {
     match name {
         Some(name) => root::named(alloc, source, network, name),

@@ -1,12 +1,13 @@
 //! Lock files with tables `[[package]]`: `Cargo.lock`, `poetry.lock` and `uv.lock`.
 ghost use Rattle.std.specs.List.Sorted.{IsStrictlySortedBy};
-ghost use Rattle.std.specs.List.{AllAdjacentBelow};
-ghost use Rattle.std.specs.Prelude.{◌≡◌, ◌≢◌, ◌<◌, ◌++◌, false, length, map, option_copied, All, Decides, IfSome, IfNone, IfOk, None, OnOk, codes, string_bytes};
+ghost use Rattle.std.specs.Prelude.{◌≡◌, ◌<◌, ◌++◌, ℕ, false, length, map, option_copied, All, Decides, IfOk, IfErr, List, MatchOption, None, OnOk, codes, string_bytes};
 ghost use Rattle.toml.specs.Data.{get};
 ghost use Rattle.toml.specs.View.{view};
-ghost use Rattle.trees.specs.Locking.{between, label_text, non_empty, package_cmp, same_version, tables_in, has_hash, HasTwin, IsLabel, IsListed, IsPlain, IsPackage, IsVersion, text_at, source_of, source_text, without_revision};
+ghost use Rattle.trees.specs.Locking.{between, has_wrong_source, label_text, non_empty, package_cmp, same_version, tables_in, has_hash, ArePackages, HasTables, HasTwin, IsLabel, IsListed, IsLock, IsPlain, IsPackage, IsVersion, NeedsLead, text_at, source_of, source_text, without_revision};
 ghost use Rattle.trees.specs.DependingParts.{IsEmpty, IsIndexed};
-ghost use Rattle.trees.specs.LockingParts.{locked_at, package_at, package_of, AddsAll, AddsLabels, AreLocked, HasLocked, HoldsLocked};
+ghost use Rattle.trees.specs.LockingParts.{locked_at, package_at, package_of, AddsAll, AddsLabels, AreLocked, FailsUnless, HasLocked, HoldsLocked, HoldsOnlyLock, StandOnce};
+ghost use Rattle.trees.specs.Meaning.{HoldsLock};
+ghost use Rattle.trees.specs.Reading.{FailsFor, FailsToMake};
 
 use crate::deps::{Network, wrong};
 use crate::document::toml_value;
@@ -26,8 +27,10 @@ const REPLACED: &str = " is replaced, which is not supported";
 ///
 /// `Input` if the text is no such file, and `Memory`.
 pub fn toml_lock(alloc: Global, input: &Source, network: &mut Network) -> Result<(), Failure>
-    ensures { IsEmpty network.old → OnOk result
+    ensures held { IsEmpty network.old → OnOk result
         (HoldsLocked input.now network.old.is_inverse network.new) }
+    ensures only { OnOk result (HoldsOnlyLock input.now) }
+    ensures failed { IfErr result (FailsToMake ⊥ (HoldsLock input.now)) }
 {
     let mut lock = toml_value(alloc, input)?;
     read(alloc, input, &mut lock, network)
@@ -40,8 +43,10 @@ fn read(
     lock: &mut Value,
     network: &mut Network,
 ) -> Result<(), Failure>
-    ensures { IsPlain (view lock.old) → IsEmpty network.old → OnOk result
+    ensures held { IsPlain (view lock.old) → IsEmpty network.old → OnOk result
         (HasLocked network.old.is_inverse (tables_in (view lock.old)) network.new) }
+    ensures only { IsPlain (view lock.old) → OnOk result (IsLock (view lock.old)) }
+    ensures failed { IfErr result (FailsUnless (IsLock (view lock.old))) }
 {
     let tables = tables(alloc, input, lock)?;
     let packages = packages(alloc, input, tables)?;
@@ -51,8 +56,11 @@ fn read(
 // Returns the tables of packages. The first versions of Cargo.lock have one of them as `[root]`. In
 // a poetry.lock their names get the form that names are compared in.
 fn tables<'a>(alloc: Global, input: &Source, lock: &'a mut Value) -> Result<&'a [Value], Failure>
-    ensures { IsPlain (view lock.old) → IfOk result
+    ensures tables { IsPlain (view lock.old) → IfOk result
         (λ tables. map view tables.now ≡ tables_in (view lock.old)) }
+    ensures has { IsPlain (view lock.old) → IfOk result (λ _. HasTables (view lock.old)) }
+    ensures failed { IfErr result
+        (FailsUnless (IsPlain (view lock.old) × HasTables (view lock.old))) }
 {
     let root = take_root(lock);
     let has_hash = has_hash(lock);
@@ -85,8 +93,9 @@ fn complete(
     has_hash: bool,
     tables: &mut Vec<Value>,
 ) -> Result<(), Failure>
-    ensures { root ≡ None → has_hash ≡ false → All IsListed (map view tables.old.items)
+    ensures kept { root ≡ None → has_hash ≡ false → All IsListed (map view tables.old.items)
         → OnOk result (tables.new.items ≡ tables.old.items) }
+    ensures failed { IfErr result (FailsFor ⊥ ⊥) }
 {
     if let Some(root) = root {
         tables.insert(0, root)?;
@@ -163,7 +172,8 @@ fn packages<'a>(
     input: &Source,
     tables: &'a [Value],
 ) -> Result<Vec<Package<'a>>, Failure>
-    ensures { IfOk result (λ ps. AreLocked (map view tables.now) ps.items) }
+    ensures locked { IfOk result (λ ps. AreLocked (map view tables.now) ps.items) }
+    ensures failed { IfErr result (FailsToMake ⊥ (ArePackages (map view tables.now))) }
 {
     let mut packages = Vec::new(alloc);
     for (at, table) in tables.iter().enumerate() {
@@ -178,8 +188,7 @@ fn packages<'a>(
 
 // Returns a package that stands twice in a row, if there is one.
 fn twice<'p, 'a>(packages: &'p [Package<'a>]) -> Option<&'p Package<'a>>
-    ensures { IfNone result (AllAdjacentBelow (λ p q. package_of p ≢ package_of q)
-        packages.now (length packages.now)) }
+    ensures { MatchOption result (StandOnce packages.now) (λ _. StandOnce packages.now → ⊥) }
 {
     for i in 1..packages.len() {
         if is_one(&packages[i - 1], &packages[i]) {
@@ -203,7 +212,9 @@ fn package<'a>(
     table: &'a Value,
     at: usize,
 ) -> Result<Package<'a>, Failure>
-    ensures { IfOk result (λ p. IsPackage (view table.now) (package_of p) × (p.3 ≡ at)) }
+    ensures package { IfOk result
+        (λ p. IsPackage (view table.now) (package_of p) × (p.3 ≡ at)) }
+    ensures failed { IfErr result (FailsToMake ⊥ (IsPackage (view table.now))) }
 {
     let Some(name) = word(table, "name") else {
         return Err(wrong(alloc, input, &["a package has no name"]));
@@ -211,15 +222,22 @@ fn package<'a>(
     if table.get("replace").is_some() {
         return Err(wrong(alloc, input, &[name, REPLACED]));
     }
-    if !matches!(
-        table.get("source"),
-        None | Some(Value::String(_) | Value::Table(_))
-    ) {
+    if has_wrong_source(table) {
         return Err(wrong(alloc, input, &["invalid source of ", name]));
     }
     match version(table) {
         Some(version) => Ok((name, version, without_revision(source_of(table)), at)),
         None => Err(wrong(alloc, input, &[name, " has no version"])),
+    }
+}
+
+// Whether a table has a source that is neither a text nor a table.
+fn has_wrong_source(table: &Value) -> bool
+    ensures { result ≡ has_wrong_source (view table.now) }
+{
+    match table.get("source") {
+        Some(source) => !(source.is_str() || source.is_table()),
+        None => false,
     }
 }
 
@@ -239,7 +257,8 @@ fn word<'a>(table: &'a Value, key: &str) -> Option<&'a str>
 
 // Returns the version of a package. In uv.lock one whose source is a folder may have none.
 fn version(table: &Value) -> Option<&str>
-    ensures { IfSome result (λ v. IsVersion (view table.now) v.now) }
+    ensures { MatchOption result ((v : List ℕ) → IsVersion (view table.now) v → ⊥)
+        (λ v. IsVersion (view table.now) v.now) }
 {
     match table.get("version") {
         Some(version) => version.as_str(),
@@ -299,8 +318,12 @@ fn push_packages<'p>(
     network: &mut Network,
 ) -> Result<(), Failure>
     requires { AreLocked (map view tables.now) packages.now }
-    ensures { All IsListed (map view tables.now) → IsEmpty network.old → OnOk result
+    ensures held { All IsListed (map view tables.now) → IsEmpty network.old → OnOk result
         (HasLocked network.old.is_inverse (map view tables.now) network.new) }
+    ensures led { All IsListed (map view tables.now) → OnOk result
+        (All (NeedsLead (map package_of packages.now)) (map view tables.now)) }
+    ensures failed { IfErr result
+        (FailsUnless (All (NeedsLead (map package_of packages.now)) (map view tables.now))) }
 {
     push_labels(alloc, tables, packages, &mut network.labels)?;
     push_edges(alloc, input, tables, packages, network)
@@ -315,8 +338,12 @@ fn push_edges<'p>(
     network: &mut Network,
 ) -> Result<(), Failure>
     requires { AreLocked (map view tables.now) packages.now }
-    ensures { All IsListed (map view tables.now) → IsIndexed network.old → OnOk result
+    ensures added { All IsListed (map view tables.now) → IsIndexed network.old → OnOk result
         (AddsAll (map view tables.now) packages.now network.old network.new) }
+    ensures led { All IsListed (map view tables.now) → OnOk result
+        (All (NeedsLead (map package_of packages.now)) (map view tables.now)) }
+    ensures failed { IfErr result
+        (FailsUnless (All (NeedsLead (map package_of packages.now)) (map view tables.now))) }
 {
     for (node, locked) in packages.iter().enumerate() {
         let needing = Needing {
@@ -416,16 +443,22 @@ struct Needing<'p> {
 
 impl<'p> Needing<'p> {
     ghost use Rattle.std.specs.List.Sorted.{IsStrictlySortedBy};
-    ghost use Rattle.std.specs.Prelude.{codes, IfOk, OnOk};
+    ghost use Rattle.std.specs.Prelude.{codes, IfOk, IfErr, IfSome, OnOk, ⊤};
+    ghost use Rattle.toml.specs.Data.{get};
     ghost use Rattle.toml.specs.View.{view};
-    ghost use Rattle.trees.specs.Locking.{package_cmp, entries_in, entries_at, entries_of, grouped, IsListed, Leads};
-    ghost use Rattle.trees.specs.LockingParts.{packages_of, AddsEntries};
+    ghost use Rattle.trees.specs.Locking.{package_cmp, entries_in, entries_at, entries_of, grouped, AreLed, IsLed, IsListed, Leads, NeedsLead};
+    ghost use Rattle.trees.specs.LockingParts.{packages_of, AddsEntries, FailsUnless};
+    ghost use Rattle.trees.specs.Reading.{FailsFor, FailsToMake};
 
     // Adds the needs of its table.
     fn push_needs(&self, alloc: Global, table: &Value, network: &mut Network) -> Result<(), Failure>
         requires { IsStrictlySortedBy package_cmp (packages_of self.now) }
-        ensures { IsListed (view table.now) → OnOk result
+        ensures added { IsListed (view table.now) → OnOk result
             (AddsEntries self.now (entries_in (view table.now)) network.old network.new) }
+        ensures led { IsListed (view table.now) → OnOk result
+            (NeedsLead (packages_of self.now) (view table.now)) }
+        ensures failed { IfErr result
+            (FailsUnless (NeedsLead (packages_of self.now) (view table.now))) }
     {
         self.push_own(alloc, table, network)?;
         self.push_groups(alloc, table, "optional-dependencies", network)?;
@@ -435,9 +468,13 @@ impl<'p> Needing<'p> {
     // Adds the needs that are in no group.
     fn push_own(&self, alloc: Global, table: &Value, network: &mut Network) -> Result<(), Failure>
         requires { IsStrictlySortedBy package_cmp (packages_of self.now) }
-        ensures { IsListed (view table.now) → OnOk result (AddsEntries self.now
+        ensures added { IsListed (view table.now) → OnOk result (AddsEntries self.now
             (entries_at entries_of (codes "dependencies") (view table.now))
             network.old network.new) }
+        ensures led { IsListed (view table.now) → OnOk result (IfSome
+            (get (codes "dependencies") (view table.now)) (IsLed (packages_of self.now))) }
+        ensures failed { IfErr result (FailsUnless (IfSome
+            (get (codes "dependencies") (view table.now)) (IsLed (packages_of self.now)))) }
     {
         match table.get("dependencies") {
             Some(Value::Table(needs)) => self.push_python_needs(alloc, needs, network),
@@ -455,8 +492,12 @@ impl<'p> Needing<'p> {
         network: &mut Network,
     ) -> Result<(), Failure>
         requires { IsStrictlySortedBy package_cmp (packages_of self.now) }
-        ensures { OnOk result (AddsEntries self.now (entries_at grouped key.now (view table.now))
-            network.old network.new) }
+        ensures added { OnOk result (AddsEntries self.now
+            (entries_at grouped key.now (view table.now)) network.old network.new) }
+        ensures led { OnOk result
+            (IfSome (get key.now (view table.now)) (AreLed (packages_of self.now))) }
+        ensures failed { IfErr result (FailsUnless
+            (IfSome (get key.now (view table.now)) (AreLed (packages_of self.now)))) }
     {
         match table.get(key) {
             Some(groups) => self.push_lists(alloc, key, groups, network),
@@ -473,8 +514,11 @@ impl<'p> Needing<'p> {
         network: &mut Network,
     ) -> Result<(), Failure>
         requires { IsStrictlySortedBy package_cmp (packages_of self.now) }
-        ensures { OnOk result (AddsEntries self.now (grouped (view groups.now))
+        ensures added { OnOk result (AddsEntries self.now (grouped (view groups.now))
             network.old network.new) }
+        ensures led { OnOk result (AreLed (packages_of self.now) (view groups.now)) }
+        ensures failed { IfErr result
+            (FailsUnless (AreLed (packages_of self.now) (view groups.now))) }
     {
         let Some(groups) = groups.as_table() else {
             let parts = [self.name, " has ", key, " that are not a table"];
@@ -489,8 +533,11 @@ impl<'p> Needing<'p> {
     // Adds the needs of a list.
     fn push_list(&self, alloc: Global, needs: &Value, network: &mut Network) -> Result<(), Failure>
         requires { IsStrictlySortedBy package_cmp (packages_of self.now) }
-        ensures { OnOk result (AddsEntries self.now (entries_of (view needs.now))
+        ensures added { OnOk result (AddsEntries self.now (entries_of (view needs.now))
             network.old network.new) }
+        ensures led { OnOk result (IsLed (packages_of self.now) (view needs.now)) }
+        ensures failed { IfErr result
+            (FailsUnless (IsLed (packages_of self.now) (view needs.now))) }
     {
         let Some(needs) = needs.as_array() else {
             let parts = [self.name, " has dependencies that are not a list"];
@@ -506,7 +553,9 @@ impl<'p> Needing<'p> {
     // Returns the place of the package that an entry needs.
     fn place(&self, alloc: Global, entry: &Value) -> Result<usize, Failure>
         requires { IsStrictlySortedBy package_cmp (packages_of self.now) }
-        ensures { IfOk result (Leads (packages_of self.now) (view entry.now)) }
+        ensures leads { IfOk result (Leads (packages_of self.now) (view entry.now)) }
+        ensures failed { IfErr result
+            (FailsToMake ⊥ (Leads (packages_of self.now) (view entry.now))) }
     {
         let Some(need) = Need::read(entry) else {
             let parts = [self.name, " has an invalid dependency"];
@@ -526,6 +575,7 @@ impl<'p> Needing<'p> {
         network: &mut Network,
     ) -> Result<(), Failure>
         requires { IsStrictlySortedBy package_cmp (packages_of self.now) }
+        ensures { IfErr result (FailsFor ⊤ ⊥) }
     {
         for (name, need) in needs.iter() {
             if !matches!(need, Value::String(_) | Value::Table(_) | Value::Array(_)) {
@@ -542,6 +592,7 @@ impl<'p> Needing<'p> {
     // Returns the place of the package with a name in a table of `poetry.lock`, if it is locked.
     fn locked_place(&self, alloc: Global, name: &str) -> Result<Option<usize>, Failure>
         requires { IsStrictlySortedBy package_cmp (packages_of self.now) }
+        ensures { IfErr result (FailsFor ⊤ ⊥) }
     {
         let normal = normalized(alloc, name)?;
         match Need::of(normal.as_str()).find(self.packages) {
@@ -552,7 +603,9 @@ impl<'p> Needing<'p> {
     }
 
     // Says that it needs what is not there, or what is there several times.
-    fn faulty(&self, alloc: Global, need: &str, why: Fault) -> Failure {
+    fn faulty(&self, alloc: Global, need: &str, why: Fault) -> Failure
+        ensures { FailsFor ⊤ ⊥ result }
+    {
         let why = match why {
             Fault::Missing => ", which is missing",
             Fault::Several => ", of which there are several",
@@ -580,10 +633,10 @@ impl<'a> Need<'a> {
     ghost use Rattle.std.specs.List.{HoldsAt};
     ghost use Rattle.std.specs.List.Sorted.{IsStrictlySortedBy};
     ghost use Rattle.std.specs.Ordering.{is_lt};
-    ghost use Rattle.std.specs.Prelude.{◌≡◌, ◌<◌, ◌^◌, length, map, None, IfSome, IfOk, IfErr, MatchOption};
+    ghost use Rattle.std.specs.Prelude.{◌≡◌, ◌≢◌, ◌<◌, ◌^◌, ℕ, [], length, map, List, Option, Some, None, IfSome, IfOk, IfErr, MatchOption};
     ghost use Rattle.toml.specs.View.{view};
     ghost use Rattle.trees.specs.Locking.{Known, package_cmp, is_as, unrevised, IsNeed, IsNeedTable, IsNeedText, IsNeeded};
-    ghost use Rattle.trees.specs.LockingParts.{package_of, known_of, least, IsNamed, IsAt, IsFaulty, IsStart, IsWhole, IsBehind};
+    ghost use Rattle.trees.specs.LockingParts.{package_of, known_of, known_whole, least, IsNamed, IsAt, IsFaulty, IsFound, IsRest, IsStart, IsWhole, IsBehind};
 
     // Returns a need of which only the name is known.
     fn of(name: &'a str) -> Need<'a>
@@ -600,6 +653,7 @@ impl<'a> Need<'a> {
     fn read(entry: &'a Value) -> Option<Need<'a>>
         ensures need { IfSome result (λ need. IsNeed (view entry.now) (known_of need)) }
         ensures named { IfSome result (λ need. IsNamed (known_of need)) }
+        ensures only { (known : Known) → IsNeed (view entry.now) known → IsFound result known }
     {
         match entry.as_str() {
             Some(text) => Need::of_text(text),
@@ -610,6 +664,8 @@ impl<'a> Need<'a> {
     // Returns the need of a table.
     fn of_table(table: &'a Value) -> Option<Need<'a>>
         ensures need { IfSome result (λ need. IsNeedTable (view table.now) (known_of need)) }
+        ensures only { (known : Known) → IsNeedTable (view table.now) known
+            → IsFound result known }
     {
         let name = word(table, "name")?;
         match table.get("version") {
@@ -626,6 +682,8 @@ impl<'a> Need<'a> {
     fn of_text(text: &'a str) -> Option<Need<'a>>
         ensures need { IfSome result (λ need. (whole : Known)
             × IsNeedText text.now whole × (known_of need ≡ unrevised whole)) }
+        ensures only { (whole : Known) → IsNeedText text.now whole
+            → IsFound result (unrevised whole) }
     {
         match text.split_once(' ') {
             Some((name, rest)) => Need::with_version(name, rest),
@@ -635,7 +693,10 @@ impl<'a> Need<'a> {
 
     // Returns the need of a name and what is behind it: `version` or `version (source)`.
     fn with_version(name: &'a str, rest: &'a str) -> Option<Need<'a>>
-        ensures { IfSome result (IsBehind name.now rest.now) }
+        ensures behind { IfSome result (IsBehind name.now rest.now) }
+        ensures only { (version : List ℕ) (source : Option (List ℕ))
+            → IsRest rest.now version source
+            → IsFound result (known_whole name.now version source) }
     {
         match rest.split_once(" (") {
             Some((version, source)) => Need::whole(name, version, Some(source.strip_suffix(')')?)),
@@ -645,7 +706,10 @@ impl<'a> Need<'a> {
 
     // Returns the need of these parts, if none is empty.
     fn whole(name: &'a str, version: &'a str, source: Option<&'a str>) -> Option<Need<'a>>
-        ensures { IfSome result (IsWhole name.now version.now (option_copied source.entry)) }
+        ensures whole { IfSome result
+            (IsWhole name.now version.now (option_copied source.entry)) }
+        ensures only { version.now ≢ [] → IfSome (option_copied source.entry) (λ s. s ≢ [])
+            → IsFound result (known_whole name.now version.now (option_copied source.entry)) }
     {
         if version.is_empty() || source == Some("") {
             return None;

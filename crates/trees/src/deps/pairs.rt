@@ -4,7 +4,7 @@ ghost use Rattle.std.specs.List.Sorted.{IsStrictlySortedBy};
 ghost use Rattle.std.specs.Ordering.{nat_cmp};
 ghost use Rattle.std.specs.Prelude.{◌≡◌, true, map, Contains, IfOk, IfErr, OnOk, OnErr};
 ghost use Rattle.trees.specs.Depending.{words_of, number, AreNames, HoldsPairs};
-ghost use Rattle.trees.specs.DependingParts.{texts_of, found_words, are_no_pair, HasPairs, HoldsNone, IsEmpty, IsNetworkOf};
+ghost use Rattle.trees.specs.DependingParts.{texts_of, found_words, are_no_pair, HasPairs, HoldsNone, IsEmpty, IsNetworkOfPairs};
 ghost use Rattle.trees.specs.Reading.{FailsFor, FailsToMake};
 
 use crate::deps::Network;
@@ -19,7 +19,7 @@ use std::alloc::{AllocError, Global};
 /// `Input` with the line that has another number of words, or if there is none, and `Memory`.
 pub fn pairs(alloc: Global, source: &Source, network: &mut Network) -> Result<(), Failure>
     ensures held { IsEmpty network.old → OnOk result
-        (IsNetworkOf source.now network.old.is_inverse network.new) }
+        (IsNetworkOfPairs source.now network.old.is_inverse network.new) }
     ensures failed { IfErr result (FailsFor (HoldsNone source.now) ⊥) }
 {
     let pairs = line_pairs(alloc, source)?;

@@ -2,14 +2,15 @@ use Rattle.std.proofs.Common.{◌<◌, inl, inr, rules}
 use Rattle.std.specs.Prelude.{◌⊎◌, IsErr, IfErr}
 use Rattle.trees.specs.Asked.{drawing_value}
 use Rattle.trees.specs.Depending.{HoldsNoGraph}
+use Rattle.trees.specs.Meaning.{HoldsNoLock}
 use Rattle.trees.specs.Reading.{FailsFor}
-use Rattle.trees.specs.Writing.{Writes, IsGraphDrawing, IsPairDrawing, FailsToDepend}
+use Rattle.trees.specs.Writing.{Writes, IsGraphDrawing, IsNeedsDrawing, FailsToDepend}
 use Rattle.trees.proofs.Readings.{fails_weaker}
 use Rattle.trees.proofs.Shown.{dependencies_shown, drawing_nothing}
 use Rattle.trees.proofs.Writings.{writes_weaker, nothing_written}
 use Rattle.trees.proofs.perform.draw_deps.Goals as goal
 
--- the graph that is drawn is that of the pairs
+-- the graph that is drawn is what the source means
 pub returns-clause-written : goal.returns-clause-written
 returns-clause-written g c = λ is.
     let sources = c.args.found.now.sources in
@@ -21,8 +22,8 @@ returns-clause-written g c = λ is.
     let old = g.W.Sink.contents c.args.out.now in
     let new = g.W.Sink.contents c.draw-drawn.new.out in
     let drawn : Writes old new c.draw-drawn.result (IsGraphDrawing config found deps.walks) (FailsFor (5000 < config.depth) ⊥) = search rules in
-    writes_weaker old new c.draw-drawn.result (IsGraphDrawing config found deps.walks) (IsPairDrawing sources source deps drawing) (FailsFor (5000 < config.depth) ⊥) (FailsToDepend sources source deps drawing)
-    (λ bytes drawing'. (found, c.in_ok-dependencies.ensures.pairs is, drawing')) (λ e. fails_weaker (5000 < config.depth) (HoldsNoGraph source deps.root ⊎ (5000 < config.depth)) ⊥ e inr) drawn
+    writes_weaker old new c.draw-drawn.result (IsGraphDrawing config found deps.walks) (IsNeedsDrawing sources source deps drawing) (FailsFor (5000 < config.depth) ⊥) (FailsToDepend sources source deps drawing)
+    (λ bytes drawing'. (found, c.in_ok-dependencies.ensures.graph is, drawing')) (λ e says. record { pairs = λ is. fails_weaker (5000 < config.depth) (HoldsNoGraph source deps.root ⊎ (5000 < config.depth)) ⊥ e inr says; lock = λ is none. fails_weaker (5000 < config.depth) (HoldsNoLock source ⊎ (5000 < config.depth)) ⊥ e inr says }) drawn
 
 pub returns-in_err-dependencies-clause-written : goal.returns-in_err-dependencies-clause-written
 returns-in_err-dependencies-clause-written g c = λ is.
@@ -31,11 +32,15 @@ returns-in_err-dependencies-clause-written g c = λ is.
     let deps = c.args.deps in
     let drawing = c.args.drawing in
     let r = c.from_residual.result in
-    let fails : FailsToDepend sources source deps drawing c.in_err-dependencies.field-0.0 =
-    fails_weaker (HoldsNoGraph source deps.root) (HoldsNoGraph source deps.root ⊎ (5000 < (drawing_value sources drawing).depth)) ⊥ c.in_err-dependencies.field-0.0 inl (c.in_err-dependencies.ensures.failed is) in
+    let deep : Type 0 = 5000 < (drawing_value sources drawing).depth in
+    let e = c.in_err-dependencies.field-0.0 in
+    let fails : FailsToDepend sources source deps drawing e = record {
+      pairs = λ is. fails_weaker (HoldsNoGraph source deps.root) (HoldsNoGraph source deps.root ⊎ deep) ⊥ e inl (c.in_err-dependencies.ensures.failed is);
+      lock = λ is none. fails_weaker (HoldsNoLock source) (HoldsNoLock source ⊎ deep) ⊥ e inl (c.in_err-dependencies.ensures.refused is none);
+    } in
     let says : IfErr r (FailsToDepend sources source deps drawing) = search (rules, fails) in
     let err : IsErr r = search rules in
-    nothing_written (g.W.Sink.contents c.args.out.now) r (IsPairDrawing sources source deps drawing) (FailsToDepend sources source deps drawing) err says
+    nothing_written (g.W.Sink.contents c.args.out.now) r (IsNeedsDrawing sources source deps drawing) (FailsToDepend sources source deps drawing) err says
 
 -- the labels are as a terminal may get them
 pub returns-clause-shown : goal.returns-clause-shown

@@ -1,20 +1,55 @@
-use Rattle.std.proofs.Common.{◌∙◌, map, sym, subst}
-use Rattle.std.proofs.lemmas.Map.Iter.{iter_end}
+use Rattle.std.proofs.Common.{◌∙◌, length, map, sym, subst, rules}
+use Rattle.std.proofs.lemmas.Map.Iter.{iter_end, iter_turn}
+use Rattle.std.proofs.lemmas.List.Elements.{All-nil, All-push}
+use Rattle.std.specs.Borrow.{Bor}
 use Rattle.std.specs.Map.Iter.{deref}
 use Rattle.toml.specs.View.{view, members_view}
-use Rattle.trees.specs.LockingParts.{AddsEntries}
+use Rattle.toml.specs.declared.value.Value.{Value}
+use Rattle.trees.specs.Locking.{AreLed, IsLed}
+use Rattle.trees.specs.LockingParts.{packages_of, AddsEntries}
 use Rattle.trees.proofs.LockedEntries.{no_entries, more_lists, all_lists, grouped_lists}
+use Rattle.trees.proofs.LockedFailures.{fails_never, fails_unless}
+use Rattle.trees.proofs.LockedLed.{all_led}
+use Rattle.trees.proofs.LockedNeeds.{list_led, no_groups}
 use Rattle.trees.proofs.deps.packages.Needing.push_lists.Goals as goal
 
 pub loop-needs-init : goal.loop-needs-init
-loop-needs-init c = no_entries c.args.self.now c.args.network.now
+loop-needs-init c = (no_entries c.args.self.now c.args.network.now, All-nil (λ (v : Bor Value). IsLed (packages_of c.args.self.now) (view v.now)))
 
 pub loop-needs-preserved : goal.loop-needs-preserved
-loop-needs-preserved c = more_lists c.args.self.now c.loop-needs.yielded c.in-Some-needs.needs c.args.network.now c.loop-needs.network c.push_list.new.network c.loop-needs.invariant c.in_ok-push_list.ensures
+loop-needs-preserved c = (
+  more_lists c.args.self.now c.loop-needs.yielded c.in-Some-needs.needs c.args.network.now c.loop-needs.network c.push_list.new.network c.loop-needs.invariant.0 c.in_ok-push_list.ensures.added,
+  All-push (λ (v : Bor Value). IsLed (packages_of c.args.self.now) (view v.now)) c.loop-needs.yielded c.in-Some-needs.needs c.loop-needs.invariant.1 c.in_ok-push_list.ensures.led,
+)
 
-pub returns : goal.returns
-returns c =
+pub returns-in_default-clause-failed : goal.returns-in_default-clause-failed
+returns-in_default-clause-failed c =
+    let packages = packages_of c.args.self.now in
+    let d = view c.args.groups.now in
+    fails_never (AreLed packages d) c.wrong.result (no_groups packages d c.in_default.ensures) c.wrong.ensures
+
+pub returns-in_err-push_list-clause-failed : goal.returns-in_err-push_list-clause-failed
+returns-in_err-push_list-clause-failed c =
+    let packages = packages_of c.args.self.now in
+    let d = view c.args.groups.now in
+    let entries = c.in-Some.groups.now.entries in
+    let needs = c.in-Some-needs.needs in
+    let start = c.into_iter-needs-iterator.ensures.into_iter_gives ∙ c.values-needs-items.ensures.rest in
+    let turn = iter_turn deref (map (λ e. e.1) entries) c.loop-needs.yielded c.into_iter-needs-iterator.result c.loop-needs.needs-iterator c.next.new.self c.next.result start c.loop-needs.yielded_by needs c.in-Some-needs.is c.next.ensures.steps in
+    let says = fails_unless (IsLed packages (view needs.now)) (AreLed packages d) c.in_err-push_list.field-0.0
+    (list_led packages d entries (length c.loop-needs.yielded) needs.now c.in-Some.ensures turn.1) c.in_err-push_list.ensures.failed in
+    search (rules, says)
+
+pub returns-clause-added : goal.returns-clause-added
+returns-clause-added c =
     let entries = c.in-Some.groups.now.entries in
     let start = c.into_iter-needs-iterator.ensures.into_iter_gives ∙ c.values-needs-items.ensures.rest in
     let end = iter_end deref (map (λ e. e.1) entries) c.loop-needs.yielded c.into_iter-needs-iterator.result c.loop-needs.needs-iterator c.next.new.self c.next.result start c.loop-needs.yielded_by c.in-None.is c.next.ensures.steps in
-    subst (λ es. AddsEntries c.args.self.now es c.args.network.now c.loop-needs.network) (all_lists c.loop-needs.yielded entries end.0 ∙ sym (grouped_lists (view c.args.groups.now) (members_view entries) c.in-Some.ensures)) c.loop-needs.invariant
+    subst (λ es. AddsEntries c.args.self.now es c.args.network.now c.loop-needs.network) (all_lists c.loop-needs.yielded entries end.0 ∙ sym (grouped_lists (view c.args.groups.now) (members_view entries) c.in-Some.ensures)) c.loop-needs.invariant.0
+
+pub returns-clause-led : goal.returns-clause-led
+returns-clause-led c =
+    let entries = c.in-Some.groups.now.entries in
+    let start = c.into_iter-needs-iterator.ensures.into_iter_gives ∙ c.values-needs-items.ensures.rest in
+    let end = iter_end deref (map (λ e. e.1) entries) c.loop-needs.yielded c.into_iter-needs-iterator.result c.loop-needs.needs-iterator c.next.new.self c.next.result start c.loop-needs.yielded_by c.in-None.is c.next.ensures.steps in
+    all_led (packages_of c.args.self.now) (view c.args.groups.now) c.loop-needs.yielded entries c.in-Some.ensures end.0 c.loop-needs.invariant.1

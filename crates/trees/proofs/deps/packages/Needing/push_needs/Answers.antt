@@ -1,12 +1,37 @@
-use Rattle.std.proofs.Common.{◌++◌, codes}
+use Rattle.std.proofs.Common.{◌++◌, codes, rules}
+use Rattle.std.proofs.lemmas.Result.{IfErr-weaker}
+use Rattle.std.specs.Prelude.{IfSome}
+use Rattle.toml.specs.Data.{get}
 use Rattle.toml.specs.View.{view}
-use Rattle.trees.specs.Locking.{entries_at, entries_of, grouped, entries_in}
-use Rattle.trees.specs.LockingParts.{AddsEntries}
+use Rattle.trees.specs.Locking.{entries_at, entries_of, grouped, entries_in, AreLed, IsLed, NeedsLead}
+use Rattle.trees.specs.LockingParts.{packages_of, AddsEntries, FailsUnless}
 use Rattle.trees.proofs.LockedEntries.{both_entries, ok_more}
+use Rattle.trees.proofs.LockedFailures.{fails_unless}
 use Rattle.trees.proofs.deps.packages.Needing.push_needs.Goals as goal
 
-pub returns : goal.returns
-returns c = λ listed.
+pub returns-in_err-push_own-clause-failed : goal.returns-in_err-push_own-clause-failed
+returns-in_err-push_own-clause-failed c =
+    let d = view c.args.table.now in
+    let packages = packages_of c.args.self.now in
+    let says = fails_unless (IfSome (get (codes "dependencies") d) (IsLed packages)) (NeedsLead packages d) c.in_err-push_own.field-0.0 (λ all. all.own) c.in_err-push_own.ensures.failed in
+    search (rules, says)
+
+pub returns-in_err-push_groups-clause-failed : goal.returns-in_err-push_groups-clause-failed
+returns-in_err-push_groups-clause-failed c =
+    let d = view c.args.table.now in
+    let packages = packages_of c.args.self.now in
+    let says = fails_unless (IfSome (get (codes "optional-dependencies") d) (AreLed packages)) (NeedsLead packages d) c.in_err-push_groups.field-0.0 (λ all. all.optional) c.in_err-push_groups.ensures.failed in
+    search (rules, says)
+
+pub returns-clause-failed : goal.returns-clause-failed
+returns-clause-failed c =
+    let d = view c.args.table.now in
+    let packages = packages_of c.args.self.now in
+    IfErr-weaker c.push_groups-2.result (FailsUnless (IfSome (get (codes "dev-dependencies") d) (AreLed packages))) (FailsUnless (NeedsLead packages d))
+    (λ f says. fails_unless (IfSome (get (codes "dev-dependencies") d) (AreLed packages)) (NeedsLead packages d) f (λ all. all.dev) says) c.push_groups-2.ensures.failed
+
+pub returns-clause-added : goal.returns-clause-added
+returns-clause-added c = λ listed.
     let self = c.args.self.now in
     let d = view c.args.table.now in
     let old = c.args.network.now in
@@ -17,4 +42,11 @@ returns c = λ listed.
     let optional = entries_at grouped (codes "optional-dependencies") d in
     let dev = entries_at grouped (codes "dev-dependencies") d in
     ok_more c.push_groups-2.result (AddsEntries self dev m o) (AddsEntries self (entries_in d) old o)
-    (λ last. both_entries self (own ++ optional) dev old m o (both_entries self own optional old n m (c.in_ok-push_own.ensures listed) c.in_ok-push_groups.ensures) last) c.push_groups-2.ensures
+    (λ last. both_entries self (own ++ optional) dev old m o (both_entries self own optional old n m (c.in_ok-push_own.ensures.added listed) c.in_ok-push_groups.ensures.added) last) c.push_groups-2.ensures.added
+
+pub returns-clause-led : goal.returns-clause-led
+returns-clause-led c = λ listed.
+    let d = view c.args.table.now in
+    let packages = packages_of c.args.self.now in
+    ok_more c.push_groups-2.result (IfSome (get (codes "dev-dependencies") d) (AreLed packages)) (NeedsLead packages d)
+    (λ last. record { own = c.in_ok-push_own.ensures.led listed; optional = c.in_ok-push_groups.ensures.led; dev = last }) c.push_groups-2.ensures.led

@@ -1,0 +1,57 @@
+-- A lock file by computation.
+use Rattle.std.proofs.Common.{◌≡◌, ℕ, zero, suc, ◌<◌, true, false, List, [], ◌∷◌, codes, length, get_or, inl, inr, refl, arith}
+use Rattle.std.proofs.lemmas.Bool.{false≢true}
+use Rattle.std.proofs.lemmas.List.Elements.{All-cons, All-nil}
+use Rattle.std.proofs.lemmas.List.Sorted.{IsPermutation-refl}
+use Rattle.std.specs.List.Sorted.{IsStrictlySortedBy}
+use Rattle.std.specs.Prelude.{None}
+use Rattle.toml.specs.Data.{Data, string, array, table, no_items, item, no_members, member}
+use Rattle.trees.specs.Locking.{Package, Known, is_as, Leads, IsListed, IsLock, IsPackage, NeedsLead}
+use Rattle.trees.proofs.NeedTexts.{lacks_byte, text_alone}
+
+-- two packages, of which the first needs the second
+abbrev first : Data
+first = table (member (codes "dependencies") (array (item (string (codes "b")) no_items)) (member (codes "name") (string (codes "a")) (member (codes "version") (string (codes "1")) no_members)))
+
+abbrev second : Data
+second = table (member (codes "name") (string (codes "b")) (member (codes "version") (string (codes "2")) no_members))
+
+abbrev a : Package
+a = record { name = codes "a"; version = codes "1"; source = [] }
+
+abbrev b : Package
+b = record { name = codes "b"; version = codes "2"; source = [] }
+
+abbrev packages : List Package
+packages = a ∷ b ∷ []
+
+leads : Leads packages (string (codes "b")) 1
+leads = (known, (known, text_alone (codes "b") (lacks_byte 32 (codes "b") blank), refl), record { below = omega arith; is = λ d. refl; only = inr only }) where
+  known : Known
+  known = record { name = codes "b"; version = None; source = None }
+
+  blank : (i : ℕ) → i < length (codes "b") → get_or (codes "b") i 0 ≡ 32 → ⊥
+  blank zero low e = omega (arith, e)
+  blank (suc i) low e = omega arith
+
+  only : (k : ℕ) → k < 2 → ((d : Package) → is_as known (get_or packages k d) ≡ true) → k ≡ 1
+  only zero low is = absurd (false≢true (is a))
+  only (suc zero) low is = refl
+  only (suc (suc k)) low is = absurd (omega arith)
+
+lock : IsLock (table (member (codes "package") (array (item first (item second no_items))) no_members))
+unfolding IsStrictlySortedBy
+lock = record {
+  plain = record { root = refl; hash = refl; listed = All-cons IsListed first (second ∷ []) (λ needs e. cc) (All-cons IsListed second [] (λ needs e. cc) (All-nil IsListed)) };
+  tables = refl;
+  locked = (first, a) ∷ (second, b) ∷ [];
+  are = record {
+    all = IsPermutation-refl (first ∷ second ∷ []);
+    each = All-cons (λ l. IsPackage l.0 l.1) (first, a) ((second, b) ∷ []) (record { name = refl; version = inl refl; source = refl; kind = refl; whole = refl })
+        (All-cons (λ l. IsPackage l.0 l.1) (second, b) [] (record { name = refl; version = inl refl; source = refl; kind = refl; whole = refl }) (All-nil (λ l. IsPackage l.0 l.1)));
+    ascending = ((refl, tt), (tt, tt));
+  };
+  needs = All-cons (NeedsLead packages) first (second ∷ [])
+      (record { own = record { list = refl; each = All-cons (λ entry. (at : ℕ) × Leads packages entry at) (string (codes "b")) [] (1, leads) (All-nil (λ entry. (at : ℕ) × Leads packages entry at)) }; optional = tt; dev = tt })
+      (All-cons (NeedsLead packages) second [] (record { own = tt; optional = tt; dev = tt }) (All-nil (NeedsLead packages)));
+}

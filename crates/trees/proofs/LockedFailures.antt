@@ -1,0 +1,203 @@
+-- Which tables are no lock file.
+use Rattle.std.proofs.Common.{◌≡◌, ◌∙◌, ℕ, zero, suc, ◌+◌, ◌-◌, ◌<◌, ◌≤◌, true, false, List, [], ◌∷◌, length, get_or, map, inl, inr, refl, sym, ap, subst, arith}
+use Rattle.std.proofs.lemmas.Bool.{false≢true}
+use Rattle.std.proofs.lemmas.Cmp.{eq_by_cmp_equiv, tied_itself}
+use Rattle.std.proofs.lemmas.List.{get_or_default, get_or-map, length-map}
+use Rattle.std.proofs.lemmas.List.Elements.{All-head, All-tail, All-contains, All-map, All-weaker}
+use Rattle.std.proofs.lemmas.List.Sorted.{All-permutation, Contains-permutation, IsPermutation-map, IsPermutation-sym, IsPermutation-trans}
+use Rattle.std.proofs.lemmas.Map.Keys.{sorted_tail, apart_from_distinct, IsDistinct-from_sorted, IsDistinct-IsPermutation}
+use Rattle.std.proofs.lemmas.Map.Views.{All-after_first}
+use Rattle.std.specs.Borrow.{Bor}
+use Rattle.std.specs.List.{All, Contains}
+use Rattle.std.specs.List.Sorted.{IsPermutation, IsStrictlySortedBy}
+use Rattle.std.specs.Option.{option_and_then}
+use Rattle.std.specs.Ordering.{eq_by_cmp, is_eq}
+use Rattle.std.specs.Prelude.{◌⊎◌, ⊤, Option, Some, None, is_some, unwrap_or, codes}
+use Rattle.std.specs.declared.cmp.Ordering.TheVariants.{Less, Equal}
+use Rattle.toml.specs.Data.{Data, get, as_array, as_str}
+use Rattle.toml.specs.View.{view}
+use Rattle.toml.specs.declared.value.Value.{Value}
+use Rattle.ptree.specs.File.{FileNode, toml}
+use Rattle.ptree.specs.declared.value.document.DocFormat.TheVariants.{Toml}
+use Rattle.trees.specs.declared.failure.Failure.{Failure}
+use Rattle.trees.specs.declared.source.Source.{Source}
+use Rattle.trees.specs.Documents.{IsDocumentOf}
+use Rattle.trees.specs.Locking.{Package, has_wrong_source, package_cmp, source_of, tables_in, text_at, without_revision, ArePackages, HasTables, IsLock, IsPackage, IsPlain, NeedsLead}
+use Rattle.trees.specs.LockingParts.{package_of, table_of, AreLocked, FailsUnless, StandOnce}
+use Rattle.trees.specs.Meaning.{HoldsLock}
+use Rattle.trees.specs.Reading.{FailsFor, FailsToMake}
+use Rattle.trees.proofs.LockedPackages.{nothing, package_total}
+use Rattle.trees.proofs.LockedTables.{AreRead, all_moved, each_moved}
+use Rattle.trees.proofs.LockedTuples.{Tuple, no_tuple}
+use Rattle.trees.proofs.Readings.{fails_weaker}
+use Rattle.trees.proofs.SourceTexts.{seen}
+
+-- ## Failures
+
+-- what fails to hold fails in what has it
+pub fails_unless : (P Q : Type 0) (f : Failure) → (Q → P) → FailsUnless P f → FailsUnless Q f
+fails_unless P Q f has says = fails_weaker (P → ⊥) (Q → ⊥) ⊥ f (λ none q. none (has q)) says
+
+-- what is known not to hold
+pub fails_never : (Q : Type 0) (f : Failure) → (Q → ⊥) → FailsFor ⊤ ⊥ f → FailsUnless Q f
+fails_never Q f none says = fails_weaker ⊤ (Q → ⊥) ⊥ f (λ _. none) says
+
+-- nothing is known to be it
+pub fails_none : {X : Type 0} (Is : X → Type 0) (f : Failure) → ((x : X) → Is x → ⊥) → FailsFor ⊤ ⊥ f → FailsToMake ⊥ Is f
+fails_none {X} Is f none says = fails_weaker ⊤ ((x : X) → Is x → ⊥) ⊥ f (λ _. none) says
+
+-- ## Tables
+
+module _ (d : Data) where
+  pub no_package_name : None ≡ text_at (codes "name") d → (p : Package) → IsPackage d p → ⊥
+  no_package_name none p is = (let no : None ≡ Some p.name = none ∙ is.name in cc)
+
+  pub no_package_whole : (r : Option (Bor Value)) → seen r ≡ get (codes "replace") d → is_some r ≡ true → (p : Package) → IsPackage d p → ⊥
+  no_package_whole None at some p is = false≢true some
+  no_package_whole (Some v) at some p is = (let no : Some (view v.now) ≡ None = at ∙ is.whole in cc)
+
+  pub no_package_source : has_wrong_source d ≡ true → (p : Package) → IsPackage d p → ⊥
+  no_package_source wrong p is = false≢true (sym is.kind ∙ wrong)
+
+  -- the package of a table, if it has one
+  abbrev package_in : Package
+  package_in = record { name = unwrap_or (text_at (codes "name") d) []; version = unwrap_or (text_at (codes "version") d) []; source = without_revision (source_of d) }
+
+  is_package_in : (p : Package) → IsPackage d p → p ≡ package_in
+  is_package_in p is =
+      let name : p.name ≡ package_in.name = sym (ap (λ (o : Option (List ℕ)). unwrap_or o []) is.name) in
+      let version : p.version ≡ package_in.version = elim is.version [
+        | inl at ↦ sym (ap (λ (o : Option (List ℕ)). unwrap_or o []) at)
+        | inr other ↦ other.2 ∙ sym (ap (λ (o : Option Data). unwrap_or (option_and_then as_str o) []) other.0)
+      ] in
+      ap (λ (n : List ℕ). record p { name = n }) name ∙ (ap (λ (v : List ℕ). record p { name = package_in.name; version = v }) version ∙ ap (λ (s : List ℕ). record package_in { source = s }) is.source)
+
+-- ## Packages
+
+own_packages : (locked : List (Data × Package)) → All (λ l. IsPackage l.0 l.1) locked → map (λ l. l.1) locked ≡ map package_in (map (λ l. l.0) locked)
+own_packages [] all = refl
+own_packages (l ∷ locked) all =
+    ap (λ (p : Package). p ∷ map (λ (m : Data × Package). m.1) locked) (is_package_in l.0 l.1 (All-head (λ l. IsPackage l.0 l.1) l locked all))
+    ∙ ap (λ (ps : List Package). package_in l.0 ∷ ps) (own_packages locked (All-tail (λ l. IsPackage l.0 l.1) l locked all))
+
+module _ (tables : List Data) where
+  -- a package is that of its table
+  abbrev pub IsOf : Tuple → Type 0
+  IsOf p = (p.3 < length tables) × IsPackage (table_of tables p) (package_of p)
+
+  read_packages : (ps : List Tuple) → All IsOf ps → map package_of ps ≡ map package_in (map (table_of tables) ps)
+  read_packages [] all = refl
+  read_packages (p ∷ ps) all =
+      ap (λ (q : Package). q ∷ map package_of ps) (is_package_in (table_of tables p) (package_of p) (All-head IsOf p ps all).1)
+      ∙ ap (λ (qs : List Package). package_in (table_of tables p) ∷ qs) (read_packages ps (All-tail IsOf p ps all))
+
+  module _ (ps : List Tuple) (each : All IsOf ps) (all : IsPermutation tables (map (table_of tables) ps)) (locked : List (Data × Package)) (are : ArePackages tables locked) where
+    abbrev own : List Data
+    own = map (λ l. l.0) locked
+
+    -- the packages are the same ones
+    moved : IsPermutation (map (λ l. l.1) locked) (map package_of ps)
+    moved =
+        let back = IsPermutation-sym (map package_in tables) (map package_in own) (IsPermutation-map package_in tables own are.all) in
+        let on = IsPermutation-map package_in tables (map (table_of tables) ps) all in
+        let both = IsPermutation-trans (map package_in own) (map package_in tables) (map package_in (map (table_of tables) ps)) back on in
+        subst (λ qs. IsPermutation qs (map package_of ps)) (sym (own_packages locked are.each)) (subst (IsPermutation (map package_in own)) (sym (read_packages ps each)) both)
+
+    pub stand_once : StandOnce ps
+    stand_once = λ k d low same.
+        let qs = map package_of ps in
+        let distinct = IsDistinct-IsPermutation (eq_by_cmp package_cmp) (λ x y. (eq_by_cmp_equiv package_total).symm x y) (map (λ l. l.1) locked) qs moved (IsDistinct-from_sorted package_cmp (map (λ l. l.1) locked) are.ascending) in
+        let apart = apart_from_distinct (eq_by_cmp package_cmp) qs k (k + 1) nothing distinct (omega arith) (omega (arith, length-map ps package_of)) in
+        let one : get_or qs k nothing ≡ get_or qs (k + 1) nothing = get_or-map package_of ps k d nothing (omega arith) ∙ (same ∙ sym (get_or-map package_of ps (k + 1) d nothing low)) in
+        false≢true (sym apart ∙ (ap (eq_by_cmp package_cmp (get_or qs k nothing)) (sym one) ∙ ap is_eq (tied_itself package_total (get_or qs k nothing))))
+
+-- ## Order
+
+first_or : (x y : Package) (ys : List Package) → Contains (y ∷ ys) x → (y ≡ x) ⊎ Contains ys x
+first_or x y ys c = by c.0 c.1 c.2 where
+  by : (k : ℕ) → k < length (y ∷ ys) → get_or (y ∷ ys) k x ≡ x → (y ≡ x) ⊎ Contains ys x
+  by zero low is = inl is
+  by (suc k) low is = inr (k, omega arith, is)
+
+behind_first : (x y : Package) (ys : List Package) → Contains ys x → Contains (y ∷ ys) x
+behind_first x y ys c = (suc c.0, omega (arith, c.1), c.2)
+
+above : (p : Package) (ps : List Package) → IsStrictlySortedBy package_cmp (p ∷ ps) → (x : Package) → Contains ps x → package_cmp p x ≡ Less
+above p ps up x c = All-contains (λ q. package_cmp p q ≡ Less) ps x (All-after_first package_cmp p ps up) c
+
+not_itself : (p q : Package) → p ≡ q → package_cmp p q ≡ Less → ⊥
+not_itself p q e less = (let no : Less ≡ Equal = sym less ∙ (ap (λ (r : Package). package_cmp r q) e ∙ tied_itself package_total q) in cc)
+
+not_both : (p q : Package) → package_cmp p q ≡ Less → package_cmp q p ≡ Less → ⊥
+not_both p q less more = not_itself p p refl (package_total.trans p q p less more)
+
+-- packages in order that have the same elements
+sorted_same : (ps qs : List Package) → IsStrictlySortedBy package_cmp ps → IsStrictlySortedBy package_cmp qs → ((x : Package) → Contains ps x → Contains qs x) → ((x : Package) → Contains qs x → Contains ps x) → ps ≡ qs
+sorted_same [] [] a b to from = refl
+sorted_same [] (q ∷ qs) a b to from = absurd (omega (arith, (from q (0, omega arith, refl)).1))
+sorted_same (p ∷ ps) [] a b to from = absurd (omega (arith, (to p (0, omega arith, refl)).1))
+sorted_same (p ∷ ps) (q ∷ qs) a b to from =
+    ap (λ (x : Package). x ∷ ps) first
+    ∙ ap (λ (xs : List Package). q ∷ xs) (sorted_same ps qs (sorted_tail package_cmp p ps a) (sorted_tail package_cmp q qs b)
+    (λ x c. elim (first_or x q qs (to x (behind_first x p ps c))) [ inl e ↦ absurd (not_itself p x (first ∙ e) (above p ps a x c)) | inr behind ↦ behind ])
+    (λ x c. elim (first_or x p ps (from x (behind_first x q qs c))) [ inl e ↦ absurd (not_itself q x (sym first ∙ e) (above q qs b x c)) | inr behind ↦ behind ])) where
+      first : p ≡ q
+      first = elim (first_or p q qs (to p (0, omega arith, refl))) [
+        | inl same ↦ sym same
+        | inr behind ↦ elim (first_or q p ps (from q (0, omega arith, refl))) [ inl same ↦ same | inr other ↦ absurd (not_both p q (above p ps a q other) (above q qs b p behind)) ]
+      ]
+
+-- the packages of tables are determined
+pub same_packages : (tables : List Data) (ps : List Tuple) (locked : List (Data × Package)) → AreLocked tables ps → ArePackages tables locked → map (λ l. l.1) locked ≡ map package_of ps
+same_packages tables ps locked found are =
+    let same = moved tables ps found.each found.all locked are in
+    let qs = map (λ (l : Data × Package). l.1) locked in
+    sorted_same qs (map package_of ps) are.ascending found.ascending (λ x. Contains-permutation qs (map package_of ps) x same) (λ x. Contains-permutation (map package_of ps) qs x (IsPermutation-sym qs (map package_of ps) same))
+
+-- ## Lock files
+
+-- a table that has no package
+pub fails_packages : (tables : List Data) (i : ℕ) (d : Data) (f : Failure) → i < length tables → d ≡ get_or tables i d → FailsToMake ⊥ (IsPackage d) f → FailsToMake ⊥ (ArePackages tables) f
+fails_packages tables i d f low is says =
+    let HasOne : Data → Type 0 = λ e. (p : Package) × IsPackage e p in
+    let each : (locked : List (Data × Package)) → ArePackages tables locked → All HasOne tables = λ locked are.
+    All-permutation HasOne (map (λ l. l.0) locked) tables (IsPermutation-sym tables (map (λ l. l.0) locked) are.all)
+    (All-map HasOne (λ (l : Data × Package). l.0) locked (All-weaker (λ l. IsPackage l.0 l.1) (λ l. HasOne l.0) (λ l one. (l.1, one)) locked are.each)) in
+    fails_weaker ((p : Package) → IsPackage d p → ⊥) ((locked : List (Data × Package)) → ArePackages tables locked → ⊥) ⊥ f
+    (λ none locked are. (let one = subst HasOne (sym is) (each locked are i d low) in none one.0 one.1)) says
+
+-- two packages in a row that are one
+pub near : (ps : List Tuple) (i : ℕ) (d e : Tuple) → 1 ≤ i → i < length ps → package_of (get_or ps (i - 1) d) ≡ package_of (get_or ps i e) → StandOnce ps → ⊥
+near ps i d e some low same once =
+    once (i - 1) no_tuple (omega arith)
+    (ap package_of (get_or_default ps (i - 1) no_tuple d (omega arith)) ∙ (same ∙ ap package_of (get_or_default ps i e no_tuple low ∙ ap (λ (k : ℕ). get_or ps k no_tuple) (let next : i ≡ i - 1 + 1 = omega arith in next))))
+
+-- a package that stands twice
+pub none_apart : (tables : List Data) (n : ℕ) (found ps qs : List Tuple) → qs ≡ ps → AreRead tables n found → length tables ≤ n → IsPermutation found ps → (StandOnce qs → ⊥) → (locked : List (Data × Package)) → ArePackages tables locked → ⊥
+none_apart tables n found ps qs same so end moved none locked are =
+    none (subst StandOnce (sym same) (stand_once tables ps (each_moved tables n found ps so moved) (all_moved tables n found ps so moved end) locked are))
+
+module _ (d : Data) where
+  pub no_tables : (e : Data) → e ≡ d → is_some (option_and_then as_array (get (codes "package") e)) ≡ false → HasTables d → ⊥
+  no_tables e same none some = false≢true (sym none ∙ (ap (λ (x : Data). is_some (option_and_then as_array (get (codes "package") x))) same ∙ some))
+
+  module _ (tables : List Data) (all : IsPlain d → tables ≡ tables_in d) (f : Failure) where
+    are_of : (lock : IsLock d) → ArePackages tables lock.locked
+    are_of lock = subst (λ ts. ArePackages ts lock.locked) (sym (all lock.plain)) lock.are
+
+    pub fails_unread : FailsToMake ⊥ (ArePackages tables) f → FailsUnless (IsLock d) f
+    fails_unread says = fails_weaker ((locked : List (Data × Package)) → ArePackages tables locked → ⊥) (IsLock d → ⊥) ⊥ f (λ none lock. none lock.locked (are_of lock)) says
+
+    pub fails_leading : (ps : List Tuple) → AreLocked tables ps → FailsUnless (All (NeedsLead (map package_of ps)) tables) f → FailsUnless (IsLock d) f
+    fails_leading ps found says = fails_unless (All (NeedsLead (map package_of ps)) tables) (IsLock d) f
+        (λ lock. subst (λ qs. All (NeedsLead qs) tables) (same_packages tables ps lock.locked found (are_of lock)) (subst (All (NeedsLead (map (λ l. l.1) lock.locked))) (sym (all lock.plain)) lock.needs)) says
+
+-- ## Sources
+
+module _ (source : Source) (f : Failure) where
+  pub fails_document : FailsToMake ⊥ (IsDocumentOf Toml source) f → FailsToMake ⊥ (HoldsLock source) f
+  fails_document says = fails_weaker ((node : FileNode) → IsDocumentOf Toml source node → ⊥) ((d : Data) → HoldsLock source d → ⊥) ⊥ f (λ none d holds. none (toml d) holds.0) says
+
+  pub fails_lock : (d : Data) → IsDocumentOf Toml source (toml d) → FailsUnless (IsLock d) f → FailsToMake ⊥ (HoldsLock source) f
+  fails_lock d is says = fails_weaker (IsLock d → ⊥) ((e : Data) → HoldsLock source e → ⊥) ⊥ f
+      (λ none e holds. none (subst IsLock (let both : Some (toml e) ≡ Some (toml d) = sym holds.0 ∙ is in let same : e ≡ d = cc in same) holds.1)) says

@@ -1,0 +1,42 @@
+use Rattle.std.proofs.Common.{List, map, sym, subst, rules}
+use Rattle.std.proofs.lemmas.Result.{IfErr-weaker}
+use Rattle.std.specs.List.{All}
+use Rattle.std.specs.Prelude.{IfErr, OnOk}
+use Rattle.toml.specs.View.{view}
+use Rattle.trees.specs.Locking.{HasTables, IsListed, IsLock, IsPlain, NeedsLead}
+use Rattle.trees.specs.LockingParts.{package_of, FailsUnless}
+use Rattle.trees.proofs.LockedEntries.{ok_more}
+use Rattle.trees.proofs.LockedFailures.{fails_leading, fails_unless, fails_unread}
+use Rattle.trees.proofs.LockedLed.{lock_of}
+use Rattle.trees.proofs.LockedTuples.{Tuple}
+use Rattle.trees.proofs.deps.packages.read.Goals as goal
+
+pub returns-in_err-tables-clause-failed : goal.returns-in_err-tables-clause-failed
+returns-in_err-tables-clause-failed c =
+    let d = view c.args.lock.now in
+    let says = fails_unless (IsPlain d × HasTables d) (IsLock d) c.in_err-tables.field-0.0 (λ lock. (lock.plain, lock.tables)) c.in_err-tables.ensures.failed in
+    search (rules, says)
+
+pub returns-in_err-packages-clause-failed : goal.returns-in_err-packages-clause-failed
+returns-in_err-packages-clause-failed c =
+    let tables = map view c.in_ok-tables.tables.now in
+    let says = fails_unread (view c.args.lock.now) tables c.in_ok-tables.ensures.tables c.in_err-packages.field-0.0 c.in_err-packages.ensures.failed in
+    search (rules, says)
+
+pub returns-clause-failed : goal.returns-clause-failed
+returns-clause-failed c =
+    let d = view c.args.lock.now in
+    let tables = map view c.in_ok-tables.tables.now in
+    let ps = c.in_ok-packages.packages.items in
+    IfErr-weaker c.push_packages.result (FailsUnless (All (NeedsLead (map package_of ps)) tables)) (FailsUnless (IsLock d))
+    (λ f says. fails_leading d tables c.in_ok-tables.ensures.tables f ps c.in_ok-packages.ensures.locked says)
+    (subst (λ (qs : List Tuple). IfErr c.push_packages.result (FailsUnless (All (NeedsLead (map package_of qs)) tables))) c.deref.ensures.value c.push_packages.ensures.failed)
+
+pub returns-clause-only : goal.returns-clause-only
+returns-clause-only c = λ plain.
+    let d = view c.args.lock.now in
+    let tables = map view c.in_ok-tables.tables.now in
+    let ps = c.in_ok-packages.packages.items in
+    let all = c.in_ok-tables.ensures.tables plain in
+    ok_more c.push_packages.result (All (NeedsLead (map package_of ps)) tables) (IsLock d) (λ led. lock_of d tables ps plain (c.in_ok-tables.ensures.has plain) all c.in_ok-packages.ensures.locked led)
+    (subst (λ (qs : List Tuple). OnOk c.push_packages.result (All (NeedsLead (map package_of qs)) tables)) c.deref.ensures.value (c.push_packages.ensures.led (subst (All IsListed) (sym all) plain.listed)))

@@ -1,0 +1,73 @@
+-- Which graph a source means: its lines are pairs of words, or it is a lock file with tables of packages.
+use Rattle.std.specs.Borrow.{Bor}
+use Rattle.std.specs.List.{AllZip}
+use Rattle.std.specs.Prelude.{◌≡◌, ◌≢◌, ◌⊎◌, ℕ, Bool, true, List, [], map, Option}
+use Rattle.toml.specs.Data.{Data}
+use Rattle.ptree.specs.File.{toml}
+use Rattle.ptree.specs.declared.value.document.DocFormat.TheVariants.{Toml}
+use Rattle.trees.specs.declared.deps.Dependencies.{Dependencies}
+use Rattle.trees.specs.declared.source.Source.{Source}
+use Rattle.trees.specs.Depending.{directed, edges_between, firsts, same_edge, AreNames, HoldsPairs, IsGraphFrom, IsPairFile, IsRooted, IsTextFile}
+use Rattle.trees.specs.Documents.{IsDocumentOf}
+use Rattle.trees.specs.Locking.{Package, edges_from, entries_in, tables_in, ArePackages, IsLabel, IsLock, IsPlain, Leads}
+
+-- ## Sources
+
+-- a source is a lock file with this document
+pub record IsLockFile (source : Source) (d : Data) : Type 0 where
+  pub file : IsTextFile true source
+  pub document : IsDocumentOf Toml source (toml d)
+  pub plain : IsPlain d
+
+-- a source is read as lines of two words, or is a lock file
+abbrev pub IsPairOrLockFile : Source → Type 0
+IsPairOrLockFile source = IsPairFile source ⊎ ((d : Data) × IsLockFile source d)
+
+-- a source is the document of a plain lock file, all of whose needs lead to packages
+abbrev pub HoldsLock : Source → Data → Type 0
+HoldsLock source d = IsDocumentOf Toml source (toml d) × IsLock d
+
+-- it is the document of none
+abbrev pub HoldsNoLock : Source → Type 0
+HoldsNoLock source = (d : Data) → HoldsLock source d → ⊥
+
+-- ## Names and edges
+
+-- they are those of the pairs in a source
+pub record MeansPairs (source : Source) (is_inverse : Bool) (names : List (List ℕ)) (needs : List (ℕ × ℕ)) : Type 0 where
+  pub pairs : List (List ℕ × List ℕ)
+  pub held : HoldsPairs source pairs
+  pub some : pairs ≢ []
+  pub are : AreNames pairs names
+  pub edges : needs ≡ edges_between is_inverse names pairs
+
+-- the entries of a package's table lead to these places
+abbrev pub NeedPlaces : List Package → Data → List ℕ → Type 0
+NeedPlaces packages d places = AllZip (Leads packages) (entries_in d) places
+
+-- they are those of tables: the labels of the packages in ascending order, and the edges of their entries,
+-- each once, in the order in which they first stand
+pub record MeansTables (is_inverse : Bool) (tables : List Data) (names : List (List ℕ)) (needs : List (ℕ × ℕ)) : Type 0 where
+  pub locked : List (Data × Package)
+  pub are : ArePackages tables locked
+  pub labels : AllZip (IsLabel (map (λ l. l.1) locked)) locked names
+  pub places : List (List ℕ)
+  pub leads : AllZip (λ l. NeedPlaces (map (λ l. l.1) locked) l.0) locked places
+  pub edges : needs ≡ firsts same_edge (map (directed is_inverse) (edges_from 0 places))
+
+-- they are those that a source means
+pub record Means (source : Source) (is_inverse : Bool) (names : List (List ℕ)) (needs : List (ℕ × ℕ)) : Type 0 where
+  pub pairs : IsPairFile source → MeansPairs source is_inverse names needs
+  pub tables : (d : Data) → IsLockFile source d → MeansTables is_inverse (tables_in d) names needs
+
+-- ## Graphs
+
+-- d is the graph that a source means, from the root that is asked for on
+pub record IsGraphOf (source : Source) (root : Option (Bor (List ℕ))) (is_inverse is_terminal : Bool) (d : Dependencies) : Type 0 where
+  pub names : List (List ℕ)
+  pub needs : List (ℕ × ℕ)
+  pub means : Means source is_inverse names needs
+  pub texts : List (List ℕ)
+  pub edges : List (ℕ × ℕ)
+  pub rooted : IsRooted source root names needs texts edges d.root.0
+  pub graph : IsGraphFrom is_terminal texts edges d
