@@ -192,7 +192,9 @@ fn links<'a>(alloc: Global, packages: &'a Packages) -> Result<Vec<(&'a str, bool
     for (path, package) in packages.iter() {
         if is_link(package) {
             let meant = target(path.as_str(), package);
-            links.push((meant, is_alias(packages, path.as_str(), meant)))?;
+            // (a package in `node_modules` has a node whatever links mean it)
+            let is_other = place(meant).is_none() && is_alias(packages, path.as_str(), meant);
+            links.push((meant, is_other))?;
         }
     }
     Ok(links)
@@ -242,8 +244,16 @@ fn is_name(part: &str) -> bool {
 // Whether what is at a path is a link with another name than the package that it means.
 fn is_alias(packages: &Packages, path: &str, meant: &str) -> bool {
     match (place(path), packages.get(meant)) {
-        (Some((_, name)), Some(package)) if path != meant => name != name_of(meant, package),
+        (Some((_, name)), Some(package)) if path != meant => name != drawn_name(meant, package),
         _ => false,
+    }
+}
+
+// Returns the name by which a package is drawn: that of its place, or else its own.
+fn drawn_name<'a>(path: &'a str, package: &'a Value) -> &'a str {
+    match place(path) {
+        Some((_, name)) => name,
+        None => name_of(path, package),
     }
 }
 
