@@ -24,9 +24,9 @@ use Rattle.trees.specs.declared.source.Source.{Source}
 use Rattle.trees.specs.Depending.{directed, same_edge}
 use Rattle.trees.specs.DependingParts.{labels_of, needs_of, added, AddsEdge, IsEmpty, IsIndexed}
 use Rattle.trees.specs.LockingParts.{AddsEdges}
-use Rattle.trees.specs.Npm.{text_at, listed, packages_in, is_link, behind, other_name, label_text, IsLabel, IsRootName, AreAscending, HasNoLinks, HasPackages}
+use Rattle.trees.specs.Npm.{text_at, listed, with_project, packages_in, is_link, behind, other_name, label_text, IsLabel, IsRootName, AreAscending, HasNoLinks, HasPackages}
 use Rattle.trees.specs.NpmParts.{edge_of, AddsPackages, AddsInOrder}
-use Rattle.trees.proofs.LockedEdges.{edges_both, edges_one, first_edges}
+use Rattle.trees.proofs.LockedEdges.{edges_none, edges_both, edges_one, first_edges}
 use Rattle.trees.proofs.LockedPackages.{then_first}
 use Rattle.trees.proofs.Networks.{indexed_none}
 
@@ -71,11 +71,11 @@ ascending [] up = tt
 ascending (e ∷ es) up = (above_all e.0 es up.0, ascending es up.1)
 
 -- the packages of a file
-pub packages_found : (o : Option Data) (d : Data) (r : Option (Bor (BTreeMap (String Global) Value))) → Some d ≡ o → option_map (λ m. members_view m.now.entries) r ≡ as_object d
-    → IfSome r (λ m. unwrap_or (option_map listed (option_and_then as_object o)) [] ≡ listed (members_view m.now.entries))
-packages_found o d None is found = tt
-packages_found o d (Some m) is found =
-    ap (λ x. unwrap_or (option_map listed (option_and_then as_object x)) []) (sym is) ∙ ap (λ x. unwrap_or (option_map listed x) []) (sym found)
+pub packages_found : (lock : Data) (o : Option Data) (d : Data) (r : Option (Bor (BTreeMap (String Global) Value))) → Some d ≡ o → option_map (λ m. members_view m.now.entries) r ≡ as_object d
+    → IfSome r (λ m. with_project lock (unwrap_or (option_map listed (option_and_then as_object o)) []) ≡ with_project lock (listed (members_view m.now.entries)))
+packages_found lock o d None is found = tt
+packages_found lock o d (Some m) is found =
+    ap (with_project lock) (ap (λ x. unwrap_or (option_map listed (option_and_then as_object x)) []) (sym is) ∙ ap (λ x. unwrap_or (option_map listed x) []) (sym found))
 
 -- ## Labels
 
@@ -184,3 +184,18 @@ edges_turn needs i d old n m low so adds =
 pub search_nothing : (hidden : List (Bor (List ℕ))) (r : Result ℕ ℕ) → hidden ≡ [] → IsSearchInRange r (length hidden) → is_err r ≡ true
 search_nothing hidden (Ok i) none below = absurd (omega (arith, below, ap length none))
 search_nothing hidden (Err i) none below = refl
+
+-- ## The project alone
+
+pub project_left_out : (lock : Data) (es : List Entry) → es ≡ [] → with_project lock (listed (members_view es)) ≡ ([], lock) ∷ []
+project_left_out lock [] none = refl
+project_left_out lock (e ∷ es) none = absurd (omega (arith, ap length none))
+
+pub project_there : (lock : Data) (es : List Entry) → (es ≡ [] → ⊥) → with_project lock (listed (members_view es)) ≡ listed (members_view es)
+project_there lock [] some = absurd (some refl)
+project_there lock (e ∷ es) some = refl
+
+pub project_held : (root : List ℕ) (source : Source) (lock : Data) (old new : Network) → packages_in lock ≡ ([], lock) ∷ [] → IsEmpty old → IsRootName source lock root → AddsPackages root (([], lock) ∷ []) old new → HasPackages old.is_inverse source lock new
+unfolding IsStrictlySortedBy
+project_held root source lock old new is empty called adds =
+    packages_held root source lock (([], lock) ∷ []) old new new is empty (tt, tt) called adds ([], λ k d low within. absurd (omega (arith, within)), edges_none new (packages_indexed root (([], lock) ∷ []) old new empty adds))

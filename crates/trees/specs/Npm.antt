@@ -49,9 +49,14 @@ abbrev pub listed : Members → List (List ℕ × Data)
 listed no_members = []
 listed (member path d members) = (path, d) ∷ listed members
 
+-- packages, or else the project alone: npm leaves it out if it has nothing but its name
+abbrev pub with_project : Data → List (List ℕ × Data) → List (List ℕ × Data)
+with_project lock [] = ([], lock) ∷ []
+with_project lock (p ∷ ps) = p ∷ ps
+
 -- the packages of a lock file
 abbrev pub packages_in : Data → List (List ℕ × Data)
-packages_in lock = unwrap_or (option_map listed (option_and_then as_object (get (codes "packages") lock))) []
+packages_in lock = with_project lock (unwrap_or (option_map listed (option_and_then as_object (get (codes "packages") lock))) [])
 
 -- whether a package is a link to another one
 abbrev pub is_link : Data → Bool

@@ -4,7 +4,7 @@ ghost use Rattle.serde_json.specs.View.{view, members_view};
 ghost use Rattle.trees.specs.DependingParts.{IsEmpty, IsIndexed};
 ghost use Rattle.trees.specs.Documents.{IsLastPart};
 ghost use Rattle.trees.specs.LockingParts.{AddsEdges};
-ghost use Rattle.trees.specs.Npm.{path_in, packages_in, listed, text_at, is_link, other_name, behind, IsName, IsRootName, IsCalled, IsLabel, AreAscending, HasNoLinks, HasPackages, HoldsPackages};
+ghost use Rattle.trees.specs.Npm.{path_in, packages_in, with_project, listed, text_at, is_link, other_name, behind, IsName, IsRootName, IsCalled, IsLabel, AreAscending, HasNoLinks, HasPackages, HoldsPackages};
 ghost use Rattle.trees.specs.NpmParts.{AddsPackages, AddsInOrder, edge_of};
 
 use crate::deps::{Network, wrong};
@@ -62,7 +62,12 @@ fn read(alloc: Global, source: &Source, lock: &Value, network: &mut Network) -> 
     if !matches!(version(lock), Some(2 | 3)) {
         return Err(wrong(alloc, source, &[OTHER]));
     }
-    push_nodes(alloc, source, root_name(source, lock), packages, network)?;
+    let root = root_name(source, lock);
+    if packages.is_empty() {
+        // npm leaves out a project of which it has nothing but the name.
+        return Ok(push_node(alloc, root, packages, "", lock, network)?);
+    }
+    push_nodes(alloc, source, root, packages, network)?;
     let steps = steps(alloc, source, packages, &network.paths)?;
     push_needs(alloc, source, packages, &steps, network)
 }
@@ -70,7 +75,8 @@ fn read(alloc: Global, source: &Source, lock: &Value, network: &mut Network) -> 
 // Returns the packages of a file, if it has some.
 fn packages_of(lock: &Value) -> Option<&Packages>
     ensures { IfSome result
-        (λ m. packages_in (view lock.now) ≡ listed (members_view m.now.entries)) }
+        (λ m. packages_in (view lock.now)
+        ≡ with_project (view lock.now) (listed (members_view m.now.entries))) }
 {
     lock.get("packages")?.as_object()
 }
