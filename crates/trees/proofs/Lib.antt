@@ -29,6 +29,7 @@ pub mod MergePlaces
 pub mod OtherFiles
 pub mod OutlineTexts
 pub mod OutlineLines
+pub mod Named
 pub mod NeedTexts
 pub mod NeedCuts
 pub mod LockExamples

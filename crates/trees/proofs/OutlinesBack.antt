@@ -31,7 +31,8 @@ use Rattle.trees.specs.declared.source.Source.{Source}
 use Rattle.trees.specs.Asked.{reading_value}
 use Rattle.trees.specs.Listing.{byte_order_mark, unmarked}
 use Rattle.trees.specs.Outlining.{filled_lines, outline_lines, text_of_lines, first_indent, line_bullet, first_bullet, text_or, IsRightForm, labelled_lines, HoldsOutline, HoldsNoOtherOutline, FailsToOutline, EndsInReturn, IsKeptText, IsKeptRoot, AreKeptTexts, LosesText, MakesOnly, IsReadBack}
-use Rattle.trees.specs.Reading.{HoldsDrawing, HoldsNoOther, IsReadableValue, FailsFor, FailsToRead}
+use Rattle.trees.specs.Named.{IsReadableValue}
+use Rattle.trees.specs.Reading.{HoldsDrawing, HoldsNoOther, FailsFor, FailsToRead}
 use Rattle.trees.specs.Writing.{IsShownForm, IsIndented, IsIndentation, FailsToIndent}
 use Rattle.trees.proofs.Conversions.{held_text}
 use Rattle.trees.proofs.Outlines.{held_within}

@@ -1,5 +1,6 @@
 -- How a reading fails.
-use Rattle.std.proofs.Common.{◌≡◌, ℕ, List, string_bytes, subst, sym}
+use Rattle.std.proofs.Common.{◌≡◌, ℕ, List, Result, Ok, Err, string_bytes, subst, sym}
+use Rattle.std.specs.Prelude.{IfErr}
 use Rattle.ptree.specs.declared.print_config.PrintConfig.{PrintConfig}
 use Rattle.ptree.specs.Config.{config_of}
 use Rattle.ptree.specs.Drawing.{written_look}
@@ -8,7 +9,8 @@ use Rattle.ptree.specs.Tree.{Tree}
 use Rattle.trees.specs.declared.failure.Failure.{Failure}
 use Rattle.trees.specs.declared.failure.Failure.TheVariants.{Usage, Input, Said, Output, Memory}
 use Rattle.trees.specs.declared.source.Source.{Source}
-use Rattle.trees.specs.Reading.{HoldsDrawing, IsReadableValue, IsInput, IsUsage, FailsFor, FailsToMake, FailsToRead}
+use Rattle.trees.specs.Named.{IsReadableValue}
+use Rattle.trees.specs.Reading.{HoldsDrawing, IsInput, IsUsage, FailsFor, FailsToMake, FailsToRead}
 
 -- an input error says what is known to be wrong
 pub fails_by_input : (W P : Type 0) (f : Failure) → IsInput f → W → FailsFor W P f
@@ -49,6 +51,11 @@ fails_by_memory W P f is = subst (λ (e : Failure). FailsFor W P e) (sym is) tt
 -- what fails to make one thing fails to make another that has one
 pub fails_more : {X Y : Type 0} (P : Type 0) (Is : X → Type 0) (Js : Y → Type 0) (f : Failure) → ((y : Y) → Js y → (x : X) × Is x) → FailsToMake P Is f → FailsToMake P Js f
 fails_more {X} {Y} P Is Js f has h = fails_weaker ((x : X) → Is x → ⊥) ((y : Y) → Js y → ⊥) P f (λ none y is. none (has y is).0 (has y is).1) h
+
+-- an error says both of what it says twice
+pub both_err : {A E : Type 0} (r : Result A E) (P Q : E → Type 0) → IfErr r P → IfErr r Q → IfErr r (λ e. P e × Q e)
+both_err (Ok x) P Q p q = tt
+both_err (Err e) P Q p q = (p, q)
 
 -- an input error says that the source holds no drawing, if what was read of it is none
 pub fails_by_text : (config : PrintConfig) (source : Source) (x : List ℕ) (f : Failure) → x ≡ string_bytes source.text → IsInput f

@@ -1,5 +1,5 @@
 -- What is written.
-use Rattle.std.proofs.Common.{◌≡◌, ◌≢◌, ℕ, inl, inr, Option, Some, None, List, Result, Ok, Err, refl, sym, append-nil}
+use Rattle.std.proofs.Common.{◌≡◌, ◌≢◌, ℕ, inl, inr, Option, Some, None, List, Result, Ok, Err, refl, sym, subst, append-nil}
 use Rattle.std.proofs.KnownBytes.{Appends-nil}
 use Rattle.std.proofs.lemmas.Bool.{false≢true}
 use Rattle.std.specs.Prelude.{IsErr, IfErr, ⊤}
@@ -14,6 +14,7 @@ use Rattle.trees.specs.declared.source.Source.{Source}
 use Rattle.trees.specs.Documents.{IsPartTree}
 use Rattle.trees.specs.Listing.{IsWrongList}
 use Rattle.trees.specs.Outlining.{outline_lines, IsFormOf, IsRightForm, HoldsOutline}
+use Rattle.trees.specs.Reading.{IsInput}
 use Rattle.trees.specs.Writing.{Writes, WritesSaid, FailsToGive}
 use Rattle.trees.proofs.Readings.{fails_by_memory}
 
@@ -32,8 +33,8 @@ nothing_written (Some bytes) (Err e) Is Fails err says = inl (says, sym (append-
 
 -- out of memory says nothing of an input
 pub gives_memory : (source : Source) (tree : Given) (e : Failure) → e ≡ Memory → FailsToGive source tree e
-gives_memory source (given.Json document) e is = fails_by_memory ((t : Tree) → IsPartTree Json source document t → ⊥) ⊥ e is
-gives_memory source (given.Toml document) e is = fails_by_memory ((t : Tree) → IsPartTree Toml source document t → ⊥) ⊥ e is
+gives_memory source (given.Json document) e is = (fails_by_memory ((t : Tree) → IsPartTree Json source document t → ⊥) ⊥ e is, λ input. absurd (subst (λ (f : Failure). IsInput f) is input))
+gives_memory source (given.Toml document) e is = (fails_by_memory ((t : Tree) → IsPartTree Toml source document t → ⊥) ⊥ e is, λ input. absurd (subst (λ (f : Failure). IsInput f) is input))
 gives_memory source (given.Paths paths) e is = fails_by_memory (IsWrongList source paths) ⊥ e is
 gives_memory source (given.Outline outline) e is =
     fails_by_memory ((t : Tree) → HoldsOutline source outline t → ⊥) ((form : Form) → IsFormOf outline (outline_lines source) form → IsRightForm form → ⊥) e is

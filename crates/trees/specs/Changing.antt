@@ -10,7 +10,8 @@ use Rattle.trees.specs.declared.command.Convert.{Convert}
 use Rattle.trees.specs.declared.failure.Failure.{Failure}
 use Rattle.trees.specs.declared.source.Source.{Source}
 use Rattle.trees.specs.Asked.{reading_value}
-use Rattle.trees.specs.Reading.{HoldsDrawing, IsReadableValue, FailsToMake}
+use Rattle.trees.specs.Named.{IsReadableValue}
+use Rattle.trees.specs.Reading.{HoldsDrawing, FailsToMake}
 
 -- u is what contains a text in t, with the items above
 abbrev pub IsPart : List ℕ → Tree → Tree → Type 0

@@ -132,14 +132,32 @@ refused_kind Toml = codes "a float, a date or a time"
 abbrev pub NamesRefused : DocFormat → Source → Option (Bor (List ℕ)) → FileNode → Failure → Type 0
 NamesRefused format source at part e = (path : Path) × IsFirstRefused part (Some path) × Says source (refused_kind format ++ (codes " is at " ++ place_text at path)) e
 
+-- of steps from a value this is the first that leads to nothing: those before it lead to a part in
+-- which nothing stands at it
+abbrev pub IsFirstMissing : List (List ℕ) → FileNode → List ℕ → Type 0
+IsFirstMissing steps whole key =
+    (front : List (List ℕ)) × (behind : List (List ℕ)) × (part : FileNode) × (steps ≡ front ++ key ∷ behind) × LeadsBy front whole part × FindsPart part key None
+
+-- the failure says that nothing is at some keys, and which of these steps is the first that leads to
+-- nothing
+abbrev pub SaysMissing : Source → List ℕ → List (List ℕ) → FileNode → Failure → Type 0
+SaysMissing source at steps whole e =
+    (key : List ℕ) × IsFirstMissing steps whole key × Says source (codes "nothing at " ++ (at ++ (codes ": there is no " ++ key))) e
+
+-- the same of the keys asked for
+abbrev pub NamesMissing : Source → Option (Bor (List ℕ)) → FileNode → Failure → Type 0
+NamesMissing source None whole e = ⊥
+NamesMissing source (Some at) whole e = SaysMissing source at.now (steps_in at.now) whole e
+
 -- the failure names a line
 abbrev pub NamesLine : Source → Failure → Type 0
 NamesLine source e = IsInput e → (line : ℕ) × (wrong : List ℕ) × SaysAt source line wrong e
 
--- of a value, it says that nothing is at the keys asked for, or names what a strict call refuses
+-- of a value, it says that nothing is at the keys asked for, and which is the first that leads to
+-- nothing, or names what a strict call refuses
 abbrev pub NamesWrongIn : DocFormat → Source → Document → FileNode → Failure → Type 0
 NamesWrongIn format source document whole e = IsInput e →
-    ((part : FileNode) → IsPartAsked document.at whole part → ⊥)
+    (((part : FileNode) → IsPartAsked document.at whole part → ⊥) × NamesMissing source document.at whole e)
     ⊎ ((part : FileNode) × IsPartAsked document.at whole part × NamesRefused format source document.at part e)
 
 -- of a source, it names the line at which the text is no document, or what is wrong in its value

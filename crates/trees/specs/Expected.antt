@@ -8,6 +8,7 @@ use Rattle.ptree.specs.Pieces.{Pieces, turning_piece, passing_piece, passing_all
 use Rattle.ptree.specs.Spelled.{ArePiecesAt, ArePassing}
 use Rattle.ptree.specs.Texts.{line_feed, HasNoLineFeed, IsPrefixOf}
 use Rattle.ptree_trees.specs.Escape.{escaped_text}
+use Rattle.trees.specs.Named.{IsReadWithNone, NamesOther, AddsOther}
 
 -- some drawing within the depth begins with these lines, and then one with this before the text `x`
 abbrev pub CanFollow : ConfigValue → List ℕ → List ℕ → Type 0
@@ -57,18 +58,14 @@ IsWholeLine text n = (1 ≤ n) × (n ≤ line_count text)
 abbrev pub IsLineAt : List ℕ → ℕ → List ℕ → Type 0
 IsLineAt text n line = HasNoLineFeed line × ((rest : List ℕ) × (text ≡ first_lines (n - 1) text ++ (line ++ line_feed ∷ rest)))
 
--- the name of other pieces is added, or nothing
-abbrev pub AddsOther : Bool → List ℕ → List ℕ → Type 0
-AddsOther true old new = (name : List ℕ) × (new ≡ old ++ (codes "\nit is a drawing with --as " ++ name))
-AddsOther false old new = new ≡ old
-
--- what is said behind a wrong line: the name of other pieces, or a list of the beginnings that could
--- stand there, or nothing if that is empty
-abbrev pub IsHint : ConfigValue → List ℕ → List ℕ → Type 0
-IsHint config lines hint =
-    ((hint ≡ []) × ListsBeginnings config lines [])
-    ⊎ (((name : List ℕ) × (hint ≡ codes "\nit is a drawing with --as " ++ name))
-    ⊎ ((listed : List ℕ) × (hint ≡ codes "\nexpected one of:" ++ listed) × ListsBeginnings config lines listed))
+-- what is said behind a wrong line: the name of pieces with which the text is read or, if there are
+-- none, a list of the beginnings that could stand there, or nothing if that is empty
+abbrev pub IsHint : ConfigValue → List ℕ → List ℕ → List ℕ → Type 0
+IsHint config text lines hint =
+    NamesOther config text hint
+    ⊎ (IsReadWithNone config text
+    × (((hint ≡ []) × ListsBeginnings config lines [])
+    ⊎ ((listed : List ℕ) × (hint ≡ codes "\nexpected one of:" ++ listed) × ListsBeginnings config lines listed)))
 
 -- a line begins with the pieces of an item below level 5,000
 abbrev pub IsTooDeep : Pieces → List ℕ → Type 0
@@ -79,7 +76,18 @@ abbrev pub TellsLine : ConfigValue → List ℕ → ℕ → List ℕ → Type 0
 TellsLine config text n said =
     (line : List ℕ) × IsLineAt text n line
     × (((said ≡ codes "more than 5,000 levels") × IsTooDeep (pieces_from config.characters config.indent config.padding) line)
-    ⊎ ((hint : List ℕ) × IsHint config (first_lines (n - 1) text) hint × (said ≡ codes "cannot continue the drawing:\n  " ++ (escaped_text line ++ hint))))
+    ⊎ ((hint : List ℕ) × IsHint config text (first_lines (n - 1) text) hint × (said ≡ codes "cannot continue the drawing:\n  " ++ (escaped_text line ++ hint))))
+
+-- why a text that ends too early is no drawing
+abbrev pub IsWhyEnd : List ℕ → List ℕ → Type 0
+IsWhyEnd text why =
+    ((text ≡ []) × (why ≡ codes "not a drawing: empty"))
+    ⊎ ((AreWholeLines text × (why ≡ codes "the drawing is incomplete: an item is missing below the last line"))
+    ⊎ ((text ≢ []) × (AreWholeLines text → ⊥) × (why ≡ codes "the drawing is incomplete: its last line does not end in a line feed")))
+
+-- what is said of it: why, and the name of pieces with which it is read, if there are some
+abbrev pub TellsEnd : ConfigValue → List ℕ → List ℕ → Type 0
+TellsEnd config text said = (why : List ℕ) × (is_read : Bool) × IsWhyEnd text why × AddsOther config text is_read why said
 
 -- ## Parts
 

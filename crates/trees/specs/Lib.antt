@@ -4,6 +4,8 @@ pub mod Reading
 pub mod Expected
 -- what options ask for
 pub mod Asked
+-- the names of pieces, and with which a text is read
+pub mod Named
 -- what a terminal may get
 pub mod Shown
 -- what the end of a call tells

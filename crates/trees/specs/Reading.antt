@@ -8,17 +8,12 @@ use Rattle.ptree.specs.Continuation.{IsFirstWrongLine, EndsWrong}
 use Rattle.ptree.specs.Drawing.{look_by, IsDrawing}
 use Rattle.ptree.specs.DrawnForm.{IsDrawnForm}
 use Rattle.ptree.specs.Outline.{subtrees}
-use Rattle.ptree.specs.Pieces.{pieces_from}
-use Rattle.ptree.specs.Readable.{IsReadableWith}
 use Rattle.ptree.specs.Tree.{Tree, shape_of_tree}
 use Rattle.trees.specs.declared.failure.Failure.{Failure}
 use Rattle.trees.specs.declared.failure.Failure.TheVariants.{Usage, Input, Said, Output, Memory}
 use Rattle.trees.specs.declared.source.Source.{Source}
-use Rattle.trees.specs.Expected.{TellsLine}
-
--- the pieces and the marker of a configuration are readable
-abbrev pub IsReadableValue : ConfigValue → Type 0
-IsReadableValue config = IsReadableWith (pieces_from config.characters config.indent config.padding) config.continued
+use Rattle.trees.specs.Expected.{TellsLine, TellsEnd}
+use Rattle.trees.specs.Named.{IsReadableValue}
 
 -- the source could be read, and its text is the drawing of t, whose levels are within the depth
 pub record HoldsDrawing (config : ConfigValue) (source : Source) (t : Tree) : Type 0 where
@@ -98,13 +93,13 @@ abbrev pub SaysAt : Source → ℕ → List ℕ → Failure → Type 0
 SaysAt source line wrong = IsInputOf (string_bytes source.name ++ codes ":" ++ decimal line ++ codes ": " ++ wrong)
 
 -- of a text that is no drawing, it names the first line that cannot continue one, and says what could; or
--- it names none, and the text ends too early
+-- it names none, and says why the text ends too early
 abbrev pub NamesPlace : ConfigValue → Source → Failure → Type 0
 NamesPlace config source e =
     let look = look_by config Unknown false in
     let text = string_bytes source.text in
     source.fault ≡ None → IsInput e
-    → (wrong : List ℕ) × (((line : ℕ) × IsFirstWrongLine look config.depth text line × TellsLine config text line wrong × SaysAt source line wrong e) ⊎ (EndsWrong look config.depth text × Says source wrong e))
+    → (wrong : List ℕ) × (((line : ℕ) × IsFirstWrongLine look config.depth text line × TellsLine config text line wrong × SaysAt source line wrong e) ⊎ (EndsWrong look config.depth text × TellsEnd config text wrong × Says source wrong e))
 
 -- ## Reports
 

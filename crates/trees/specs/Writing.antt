@@ -33,12 +33,13 @@ use Rattle.trees.specs.declared.source.Source.{Source}
 use Rattle.trees.specs.Asked.{drawing_value, reading_value}
 use Rattle.trees.specs.Changing.{IsConverted, FailsToConvert}
 use Rattle.trees.specs.Depending.{IsPairFile, IsTextFile, HoldsNoGraph}
-use Rattle.trees.specs.Documents.{IsPartTree}
+use Rattle.trees.specs.Documents.{IsPartTree, NamesWrong}
 use Rattle.trees.specs.Listing.{IsListed, FailsToList}
 use Rattle.trees.specs.Meaning.{HoldsNoLock, IsGraphOf, IsPairOrLockFile}
 use Rattle.trees.specs.Merging.{IsMergeDrawing, IsMergeCode}
 use Rattle.trees.specs.Outlining.{text_or, HoldsOutline, FailsToOutline, IsReadBack, LosesText}
-use Rattle.trees.specs.Reading.{IsWriting, HoldsDrawing, IsReadableValue, FailsFor, FailsToMake, FailsToRead, IsReport, Adds}
+use Rattle.trees.specs.Named.{IsReadableValue}
+use Rattle.trees.specs.Reading.{IsWriting, HoldsDrawing, FailsFor, FailsToMake, FailsToRead, IsReport, Adds}
 use Rattle.trees.specs.Shown.{shown_on, shown_text, IsNone, ShowsOnly, IsLookCode}
 
 -- A call that succeeds has appended bytes of which Is holds. One that fails has appended nothing, and
@@ -136,10 +137,10 @@ IsGiven source (given.Toml document) t = IsPartTree Toml source document t
 IsGiven source (given.Paths paths) t = IsListed source paths t
 IsGiven source (given.Outline outline) t = HoldsOutline source outline t
 
--- what each failure before anything is drawn says
+-- what each failure before anything is drawn says; an error of a document names what is wrong with it
 abbrev pub FailsToGive : Source → Given → Failure → Type 0
-FailsToGive source (given.Json document) e = FailsToMake ⊥ (IsPartTree Json source document) e
-FailsToGive source (given.Toml document) e = FailsToMake ⊥ (IsPartTree Toml source document) e
+FailsToGive source (given.Json document) e = FailsToMake ⊥ (IsPartTree Json source document) e × NamesWrong Json source document e
+FailsToGive source (given.Toml document) e = FailsToMake ⊥ (IsPartTree Toml source document) e × NamesWrong Toml source document e
 FailsToGive source (given.Paths paths) e = FailsToList source paths e
 FailsToGive source (given.Outline outline) e = FailsToOutline source outline e
 

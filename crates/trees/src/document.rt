@@ -7,7 +7,7 @@ ghost use Rattle.ptree.specs.declared.value.document.DocFormat.TheVariants.{Json
 ghost use Rattle.ptree.specs.File.{FileNode, json, toml};
 ghost use Rattle.ptree.specs.Tree.{tree_of};
 ghost use Rattle.ptree_trees.specs.RefusedPath.{Path, step_of, path_of};
-ghost use Rattle.trees.specs.Documents.{IsDocumentOf, FindsPart, steps_in, LeadsBy, IsPartAsked, IsFirstRefused, IsAllowed, IsNodeTree, IsRootText, IsTreeIn, IsPartTree, refused_kind, step_text, steps_text, path_text, place_text, NamesRefused, NamesLine, NamesWrongIn, NamesWrong};
+ghost use Rattle.trees.specs.Documents.{IsDocumentOf, FindsPart, steps_in, LeadsBy, IsPartAsked, IsFirstRefused, IsAllowed, IsNodeTree, IsRootText, IsTreeIn, IsPartTree, refused_kind, step_text, steps_text, path_text, place_text, NamesRefused, NamesLine, SaysMissing, NamesMissing, NamesWrongIn, NamesWrong};
 ghost use Rattle.trees.specs.Reading.{IsInput, Says, FailsToMake};
 
 use crate::command::Document;
@@ -135,7 +135,8 @@ pub fn tree<V: Value>(
         (λ t. IsPartTree V.format source.now document.entry (tree_of t)) }
     ensures failed { IfErr result
         (FailsToMake ⊥ (IsPartTree V.format source.now document.entry)) }
-    // And `Input` names the line, or the first value that a strict call refuses.
+    // And `Input` names the line, the first key that leads to nothing, or the first value that a
+    // strict call refuses.
     ensures place { IfErr result
         (NamesWrong V.format source.now document.entry) }
 {
@@ -193,6 +194,8 @@ fn part_at<'a, V: Value>(
 ) -> Result<&'a V, Failure>
     ensures part { IfOk result (λ part. IsPartAsked at.entry (V.node value.now) (V.node part.now)) }
     ensures failed { IfErr result (FailsToMake ⊥ (IsPartAsked at.entry (V.node value.now))) }
+    ensures missing { IfErr result (λ e. IsInput e
+        → NamesMissing source.now at.entry (V.node value.now) e) }
 {
     match at {
         Some(at) => part_below(alloc, source, value, at, at),
@@ -213,6 +216,8 @@ fn part_below<'a, V: Value>(
         (λ part. LeadsBy (steps_in last.now) (V.node value.now) (V.node part.now)) }
     ensures failed { IfErr result
         (FailsToMake ⊥ (LeadsBy (steps_in last.now) (V.node value.now))) }
+    ensures missing { IfErr result (λ e. IsInput e
+        → SaysMissing source.now at.now (steps_in last.now) (V.node value.now) e) }
 {
     let (key, rest) = split_step(last);
     let Some(part) = value.part(key) else {
@@ -310,7 +315,9 @@ fn root_label<'a>(source: &'a Source, document: Document<'a>) -> &'a str
 
 // Says that a document has no such key.
 fn missing(alloc: Global, source: &Source, at: &str, key: &str) -> Result<Failure, AllocError>
-    ensures { IfOk result IsInput }
+    ensures input { IfOk result IsInput }
+    ensures says { IfOk result (Says source.now
+        (codes "nothing at " ++ (at.now ++ (codes ": there is no " ++ key.now)))) }
 {
     let wrong = format!(in alloc; "nothing at {at}: there is no {key}")?;
     source.wrong(alloc, wrong.as_str())

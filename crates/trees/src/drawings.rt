@@ -6,13 +6,14 @@ ghost use Rattle.ptree.specs.Outline.{subtrees};
 ghost use Rattle.ptree.specs.Readable.{HasReadablePieces};
 ghost use Rattle.ptree.specs.Texts.{line_feed, HasNoLineFeed};
 ghost use Rattle.ptree.specs.Tree.{tree_of};
-ghost use Rattle.trees.specs.Expected.{IsWholeLine, IsLineAt, AddsOther, IsHint, TellsLine};
+ghost use Rattle.trees.specs.Expected.{IsWholeLine, IsLineAt, IsHint, TellsLine, IsWhyEnd, TellsEnd};
+ghost use Rattle.trees.specs.Named.{AddsOther};
 ghost use Rattle.trees.specs.Reading.{HoldsDrawing, HoldsNoOther, IsRedrawn, FailsToRead, NamesPlace};
 
 use crate::expected::{beginnings, is_too_deep};
 use crate::failure::Failure;
 use crate::levels::TOO_DEEP;
-use crate::pieces;
+use crate::pieces::reading;
 use crate::source::Source;
 use crate::usage::Usage;
 use ptree::item::StringItem;
@@ -52,7 +53,7 @@ pub fn read(alloc: Global, source: &Source, config: &PrintConfig) -> Result<Stri
             Err(source.wrong_at(alloc, line, wrong.as_str())?)
         }
         Err(ReadError::End) => {
-            let wrong = wrong_end(alloc, text)?;
+            let wrong = wrong_end(alloc, text, config)?;
             Err(source.wrong(alloc, wrong.as_str())?)
         }
     }
@@ -84,10 +85,11 @@ fn wrong_line(
 // lines before the wrong one.
 fn hint(alloc: Global, text: &str, before: &str, config: &PrintConfig) -> Result<String, AllocError>
     requires { HasReadablePieces config.now }
-    ensures { IfOk result (λ hint. IsHint (config_of config.now) before.now (string_bytes hint)) }
+    ensures { IfOk result (λ hint.
+        IsHint (config_of config.now) text.now before.now (string_bytes hint)) }
 {
     let mut hint = String::new(alloc);
-    if push_other(alloc, &mut hint, text)? {
+    if push_other(alloc, &mut hint, text, config)? {
         return Ok(hint);
     }
     let could = beginnings(alloc, before, config)?;
@@ -123,29 +125,43 @@ fn split_line(text: &str) -> (&str, &str)
     }
 }
 
-// Says why a text is incomplete.
-fn wrong_end(alloc: Global, text: &str) -> Result<String, AllocError> {
-    let why = if text.is_empty() {
+// Says why a text that ends too early is no drawing, and with which pieces it is one.
+fn wrong_end(alloc: Global, text: &str, config: &PrintConfig) -> Result<String, AllocError>
+    ensures { IfOk result (λ said. TellsEnd (config_of config.now) text.now (string_bytes said)) }
+{
+    let mut said = String::from_str(alloc, why_end(text))?;
+    push_other(alloc, &mut said, text, config)?;
+    Ok(said)
+}
+
+// Says why a text that ends too early is no drawing.
+fn why_end(text: &str) -> &'static str
+    ensures { IsWhyEnd text.now result.now }
+{
+    if text.is_empty() {
         "not a drawing: empty"
     } else if text.ends_with('\n') {
         "the drawing is incomplete: an item is missing below the last line"
     } else {
         "the drawing is incomplete: its last line does not end in a line feed"
-    };
-    let mut said = String::from_str(alloc, why)?;
-    push_other(alloc, &mut said, text)?;
-    Ok(said)
+    }
 }
 
 // Adds the name of pieces with which the text is a drawing, if there are some.
-fn push_other(alloc: Global, said: &mut String, text: &str) -> Result<bool, AllocError>
-    ensures { IfOk result (λ b. AddsOther b (string_bytes said.old) (string_bytes said.new)) }
+fn push_other(
+    alloc: Global,
+    said: &mut String,
+    text: &str,
+    config: &PrintConfig,
+) -> Result<bool, AllocError>
+    ensures { IfOk result (λ b. AddsOther (config_of config.now) text.now b
+        (string_bytes said.old) (string_bytes said.new)) }
 {
-    let Some(name) = pieces::reading(alloc, text)? else {
+    let Some(pieces) = reading(alloc, text, config)? else {
         return Ok(false);
     };
     said.push_str("\nit is a drawing with --as ")?;
-    said.push_str(name)?;
+    said.push_str(pieces.name())?;
     Ok(true)
 }
 

@@ -1,11 +1,12 @@
 //! The pieces that drawings are made with, by name.
-ghost use Rattle.std.specs.Prelude.{◌≡◌, IfOk};
+ghost use Rattle.std.specs.Prelude.{◌≡◌, ◌≢◌, ◌↔◌, All, IsTrue, IfOk, MatchOption};
 ghost use Rattle.ptree.specs.Characters.{static_characters_of};
 ghost use Rattle.ptree.specs.Config.{config_of};
 ghost use Rattle.ptree.specs.Preset.{drawn_with};
 ghost use Rattle.trees.specs.Asked.{pieces_value, with_own};
+ghost use Rattle.trees.specs.declared.pieces.Pieces.{Pieces};
+ghost use Rattle.trees.specs.Named.{piece_name, program_name, IsNamed, IsReadBy, IsReadWith, IsReadWithNone};
 
-use crate::levels::LEVELS;
 use ptree::presets::Preset;
 use ptree::print_config::{
     ASCII_CHARS_PLUS, ASCII_CHARS_TICK, IndentChars, PrintConfig, StaticIndentChars, UTF_CHARS,
@@ -14,26 +15,6 @@ use ptree::print_config::{
 use ptree::read::{pieces_readable, read_tree};
 use std::alloc::{AllocError, Global};
 use std::mem;
-
-/// The names: the library's sets of characters, and the programs whose drawings it knows.
-pub const NAMES: [&str; 16] = [
-    "utf",
-    "utf-bold",
-    "utf-dashed",
-    "utf-double",
-    "ascii",
-    "ascii-plus",
-    "tree",
-    "tree-ascii",
-    "cargo-tree",
-    "cargo-tree-ascii",
-    "findmnt",
-    "findmnt-ascii",
-    "sqlite",
-    "maven",
-    "clang",
-    "ps",
-];
 
 /// Pieces that drawings are made with.
 #[derive(Clone, Copy)]
@@ -49,29 +30,51 @@ pub enum Pieces {
     Program(Preset),
 }
 
+/// All pieces that have a name: the library's sets of characters, and those of the programs whose
+/// drawings it knows.
+pub const ALL: [Pieces; 16] = [
+    Pieces::Utf,
+    Pieces::UtfBold,
+    Pieces::UtfDashed,
+    Pieces::UtfDouble,
+    Pieces::Ascii,
+    Pieces::AsciiPlus,
+    Pieces::Program(Preset::Tree),
+    Pieces::Program(Preset::TreeAscii),
+    Pieces::Program(Preset::CargoTree),
+    Pieces::Program(Preset::CargoTreeAscii),
+    Pieces::Program(Preset::Findmnt),
+    Pieces::Program(Preset::FindmntAscii),
+    Pieces::Program(Preset::Sqlite),
+    Pieces::Program(Preset::Maven),
+    Pieces::Program(Preset::Clang),
+    Pieces::Program(Preset::Ps),
+];
+
 impl Pieces {
     /// Returns the pieces of a name.
-    pub fn named(name: &str) -> Option<Pieces> {
-        let pieces = match name {
-            "utf" => Pieces::Utf,
-            "utf-bold" => Pieces::UtfBold,
-            "utf-dashed" => Pieces::UtfDashed,
-            "utf-double" => Pieces::UtfDouble,
-            "ascii" | "ascii-tick" => Pieces::Ascii,
-            "ascii-plus" => Pieces::AsciiPlus,
-            "tree" => Pieces::Program(Preset::Tree),
-            "tree-ascii" => Pieces::Program(Preset::TreeAscii),
-            "cargo-tree" => Pieces::Program(Preset::CargoTree),
-            "cargo-tree-ascii" => Pieces::Program(Preset::CargoTreeAscii),
-            "findmnt" => Pieces::Program(Preset::Findmnt),
-            "findmnt-ascii" => Pieces::Program(Preset::FindmntAscii),
-            "sqlite" => Pieces::Program(Preset::Sqlite),
-            "maven" => Pieces::Program(Preset::Maven),
-            "clang" => Pieces::Program(Preset::Clang),
-            "ps" => Pieces::Program(Preset::Ps),
-            _ => return None,
-        };
-        Some(pieces)
+    pub fn named(name: &str) -> Option<Pieces>
+        ensures { MatchOption result ((p : Pieces) → name.now ≢ piece_name p) (IsNamed name.now) }
+    {
+        if name == "ascii-tick" {
+            return Some(Pieces::Ascii);
+        }
+        first_named(name, &ALL)
+    }
+
+    /// Returns the name.
+    pub fn name(self) -> &'static str
+        ensures { result.now ≡ piece_name self }
+    {
+        match self {
+            Pieces::Utf => "utf",
+            Pieces::UtfBold => "utf-bold",
+            Pieces::UtfDashed => "utf-dashed",
+            Pieces::UtfDouble => "utf-double",
+            Pieces::Ascii => "ascii",
+            Pieces::AsciiPlus => "ascii-plus",
+            Pieces::Program(program) => program_name(program),
+        }
     }
 
     /// Sets the characters, the indent and the padding of a configuration to these pieces.
@@ -117,30 +120,95 @@ fn with_characters(alloc: Global, characters: StaticIndentChars) -> Result<Print
     Ok(config)
 }
 
-/// Returns the name of the first pieces under which a text is a drawing.
+// Returns the first of some pieces that has a name.
+fn first_named(name: &str, all: &[Pieces]) -> Option<Pieces>
+    ensures { MatchOption result (All (λ p. name.now ≢ piece_name p) all.now)
+        (λ p. name.now ≡ piece_name p) }
+{
+    for pieces in all {
+        if pieces.name() == name {
+            return Some(*pieces);
+        }
+    }
+    None
+}
+
+// Returns the name of the pieces of a program.
+fn program_name(program: Preset) -> &'static str
+    ensures { result.now ≡ program_name program }
+{
+    match program {
+        Preset::Tree => "tree",
+        Preset::TreeAscii => "tree-ascii",
+        Preset::CargoTree => "cargo-tree",
+        Preset::CargoTreeAscii => "cargo-tree-ascii",
+        Preset::Findmnt => "findmnt",
+        Preset::FindmntAscii => "findmnt-ascii",
+        Preset::Sqlite => "sqlite",
+        Preset::Maven => "maven",
+        Preset::Clang => "clang",
+        Preset::Ps => "ps",
+    }
+}
+
+/// Returns the first pieces with which a text is a drawing, all else being as in a configuration.
 ///
 /// # Errors
 ///
 /// Memory ran out.
-pub fn reading(alloc: Global, text: &str) -> Result<Option<&'static str>, AllocError> {
-    for name in NAMES {
-        if let Some(pieces) = Pieces::named(name) {
-            if is_read_with(alloc, text, pieces)? {
-                return Ok(Some(name));
-            }
+pub fn reading(
+    alloc: Global,
+    text: &str,
+    config: &PrintConfig,
+) -> Result<Option<Pieces>, AllocError>
+    ensures { IfOk result (λ found. MatchOption found
+        (IsReadWithNone (config_of config.now) text.now)
+        (IsReadWith (config_of config.now) text.now)) }
+{
+    first_reading(alloc, text, config, &ALL)
+}
+
+// Returns the first of some pieces with which a text is a drawing.
+fn first_reading(
+    alloc: Global,
+    text: &str,
+    config: &PrintConfig,
+    all: &[Pieces],
+) -> Result<Option<Pieces>, AllocError>
+    ensures { IfOk result (λ found. MatchOption found
+        (All (λ p. IsReadWith (config_of config.now) text.now p → ⊥) all.now)
+        (IsReadWith (config_of config.now) text.now)) }
+{
+    for pieces in all {
+        if is_read_with(alloc, text, config, *pieces)? {
+            return Ok(Some(*pieces));
         }
     }
     Ok(None)
 }
 
-// Whether a text is a drawing with these pieces.
-fn is_read_with(alloc: Global, text: &str, pieces: Pieces) -> Result<bool, AllocError> {
-    let mut config = pieces.config(alloc)?;
-    config.depth = LEVELS;
-    is_read(alloc, text, &config)
+// Whether a text is a drawing with these pieces in place of a configuration's.
+fn is_read_with(
+    alloc: Global,
+    text: &str,
+    config: &PrintConfig,
+    pieces: Pieces,
+) -> Result<bool, AllocError>
+    ensures { IfOk result (λ b. IsTrue b ↔ IsReadWith (config_of config.now) text.now pieces) }
+{
+    let mut own = config.clone()?;
+    pieces.set(alloc, &mut own)?;
+    let is_drawing = is_read(alloc, text, &own);
+    drop(own);
+    is_drawing
 }
 
 // Whether a text is a drawing by a configuration that can be read.
-fn is_read(alloc: Global, text: &str, config: &PrintConfig) -> Result<bool, AllocError> {
-    Ok(pieces_readable(alloc, config)? && read_tree(alloc, text, config)?.is_some())
+fn is_read(alloc: Global, text: &str, config: &PrintConfig) -> Result<bool, AllocError>
+    ensures { IfOk result (λ b. IsTrue b ↔ IsReadBy (config_of config.now) text.now) }
+{
+    if !pieces_readable(alloc, config)? {
+        return Ok(false);
+    }
+    Ok(read_tree(alloc, text, config)?.is_some())
 }

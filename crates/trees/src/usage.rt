@@ -4,7 +4,7 @@ ghost use Rattle.trees.specs.Reading.{IsUsage};
 
 use crate::failure::Failure;
 use crate::names::{COMMANDS, CommandName, OPTIONS, Opt};
-use crate::pieces::NAMES;
+use crate::pieces::ALL;
 use crate::suggest::Nearest;
 use std::alloc::{AllocError, AllocFailed, Global};
 use std::fmt;
@@ -150,8 +150,8 @@ impl<'a> Usage<'a> {
             }
             Usage::Option(command, _) => try_options(&mut nearest, command),
             _ => {
-                for name in NAMES {
-                    nearest.try_word(name);
+                for pieces in ALL {
+                    nearest.try_word(pieces.name());
                 }
             }
         }

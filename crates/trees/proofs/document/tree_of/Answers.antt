@@ -3,7 +3,7 @@ use Rattle.std.specs.Prelude.{⊤}
 use Rattle.ptree.specs.File.{FileNode}
 use Rattle.ptree.specs.Tree.{Tree}
 use Rattle.trees.specs.Documents.{IsAllowed, IsTreeIn}
-use Rattle.trees.proofs.Parts.{one_asked}
+use Rattle.trees.proofs.Parts.{one_asked, wrong_at}
 use Rattle.trees.proofs.Readings.{fails_more}
 use Rattle.trees.proofs.document.tree_of.Goals as goal
 
@@ -17,3 +17,11 @@ returns-in_err-refuse-clause-failed g c =
     (λ t is. (tt, subst (λ (n : FileNode). IsAllowed document.is_strict n) (one_asked document.at whole is.part part is.found c.in_ok-part.ensures.part) is.allowed)) in
     let none = fails_more ⊥ (λ (_ : ⊤). IsAllowed document.is_strict part) (IsTreeIn c.args.source.now document whole) _ allowed c.in_err-refuse.ensures.failed in
     search (rules, none)
+
+-- of keys that lead to nothing, the first such is said
+pub returns-in_err-part-clause-place : goal.returns-in_err-part-clause-place
+returns-in_err-part-clause-place g c =
+    let document = c.args.document in
+    let whole : FileNode = g.V.Value.node c.args.value.now in
+    let wrong = wrong_at g.V.Value.format c.args.source.now document whole _ c.in_err-part.ensures.failed c.in_err-part.ensures.missing in
+    search (rules, wrong)

@@ -1,8 +1,14 @@
-use Rattle.std.proofs.Common.{◌≡◌, ◌++◌, [], false, inr, ap, ◌∙◌, codes, string_bytes, subst}
-use Rattle.trees.specs.Expected.{AddsOther}
+use Rattle.std.proofs.Common.{arith}
+use Rattle.std.proofs.lemmas.Grind.{common_steps}
+use Rattle.ptree.specs.Config.{config_of}
+use Rattle.trees.proofs.Named.{hint_named, hint_nothing, hint_listed}
 use Rattle.trees.proofs.drawings.hint.Goals as goal
 
+pub returns-then-branch : goal.returns-then-branch
+returns-then-branch c = hint_named (config_of c.args.config.now) c.args.text.now c.args.before.now _ _ _ c.new-hint.ensures.bytes c.if-branch.true c.in_ok-push_other.ensures
+
+pub returns-then-is_empty : goal.returns-then-is_empty
+returns-then-is_empty c = hint_nothing (config_of c.args.config.now) c.args.text.now c.args.before.now _ _ _ _ c.new-hint.ensures.bytes c.if-branch.false c.in_ok-push_other.ensures c.in_ok-could.ensures (grind (arith, common_steps))
+
 pub returns : goal.returns
-returns c =
-    let empty : string_bytes c.push_other.new.said ≡ [] = let h = c.in_ok-push_other.ensures in let no : AddsOther false (string_bytes c.new-hint.result) (string_bytes c.push_other.new.said) = subst (λ b. AddsOther b (string_bytes c.new-hint.result) (string_bytes c.push_other.new.said)) c.if-branch.false h in no ∙ c.new-hint.ensures.bytes in
-    inr (inr (string_bytes c.in_ok-could.could, c.in_ok-write.ensures.bytes ∙ ap (λ z. z ++ (codes "\nexpected one of:" ++ string_bytes c.in_ok-could.could)) empty, c.in_ok-could.ensures))
+returns c = hint_listed (config_of c.args.config.now) c.args.text.now c.args.before.now _ _ _ _ _ c.new-hint.ensures.bytes c.if-branch.false c.in_ok-push_other.ensures c.in_ok-could.ensures c.in_ok-write.ensures.bytes

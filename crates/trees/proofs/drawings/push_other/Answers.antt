@@ -1,7 +1,11 @@
-use Rattle.std.proofs.Common.{◌++◌, codes, string_bytes, ap, ◌∙◌, append_assoc}
+use Rattle.std.proofs.Common.{string_bytes, rules}
+use Rattle.ptree.specs.Config.{config_of}
+use Rattle.trees.specs.Named.{IsReadWith}
+use Rattle.trees.proofs.Named.{adds_name}
 use Rattle.trees.proofs.drawings.push_other.Goals as goal
 
 pub returns : goal.returns
 returns c =
-    let name = c.in-Some.name.now in
-    (name, c.in_ok-push_str-2.ensures.bytes ∙ (ap (λ z. z ++ name) c.in_ok-push_str.ensures.bytes ∙ append_assoc (string_bytes c.args.said.now) (codes "\nit is a drawing with --as ") name))
+    let p = c.in-Some.pieces in
+    let read : IsReadWith (config_of c.args.config.now) c.args.text.now p = search rules in
+    adds_name (config_of c.args.config.now) c.args.text.now p _ _ _ c.name.result.now read c.name.ensures c.in_ok-push_str.ensures.bytes c.in_ok-push_str-2.ensures.bytes

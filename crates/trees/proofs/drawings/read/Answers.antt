@@ -3,7 +3,7 @@ use Rattle.ptree.specs.declared.print_config.OutputKind.TheVariants.{Unknown}
 use Rattle.ptree.specs.Config.{config_of}
 use Rattle.ptree.specs.Continuation.{IsFirstWrongLine, EndsWrong}
 use Rattle.ptree.specs.Drawing.{look_by}
-use Rattle.trees.specs.Expected.{TellsLine}
+use Rattle.trees.specs.Expected.{TellsLine, TellsEnd}
 use Rattle.trees.specs.Reading.{SaysAt}
 use Rattle.trees.proofs.Readings.{fails_by_text}
 use Rattle.trees.proofs.drawings.read.Goals as goal
@@ -35,6 +35,9 @@ returns-in_ok-wrong_at-in-Err-Line-clause-place c = λ unread input.
 
 pub returns-in_ok-wrong-in-Err-End-2-clause-place : goal.returns-in_ok-wrong-in-Err-End-2-clause-place
 returns-in_ok-wrong-in-Err-End-2-clause-place c = λ unread input.
-    let look = look_by (config_of c.args.config.now) Unknown false in
-    let end = subst (λ text. EndsWrong look c.args.config.now.depth text) c.as_str-text.ensures.value (c.in-Err-End.ensures.end (search rules)) in
-    (_, inr (end, c.in_ok-wrong-in-Err-End-2.ensures.says))
+    let config = config_of c.args.config.now in
+    let end = subst (λ text. EndsWrong (look_by config Unknown false) c.args.config.now.depth text) c.as_str-text.ensures.value (c.in-Err-End.ensures.end (search rules)) in
+    let tells : TellsEnd config (string_bytes c.args.source.now.text) c.as_str-in-Err-End.result.now =
+    subst (λ said. TellsEnd config (string_bytes c.args.source.now.text) said) (sym c.as_str-in-Err-End.ensures.value)
+    (subst (λ text. TellsEnd config text (string_bytes c.in_ok-wrong-in-Err-End.wrong)) c.as_str-text.ensures.value c.in_ok-wrong-in-Err-End.ensures) in
+    (_, inr (end, tells, c.in_ok-wrong-in-Err-End-2.ensures.says))

@@ -14,7 +14,7 @@ returns c =
       c.split_at_line.ensures.line,
       inr (
         hint,
-        subst (λ z. IsHint (config_of c.args.config.now) z hint) c.split_at_line.ensures.before c.in_ok-hint.ensures,
+        subst (λ z. IsHint (config_of c.args.config.now) c.args.text.now z hint) c.split_at_line.ensures.before c.in_ok-hint.ensures,
         said ∙ ap (λ z. codes "cannot continue the drawing:\n  " ++ (z ++ hint)) shown,
       ),
     )

@@ -3,7 +3,8 @@ use Rattle.ptree.specs.Tree.{Tree, tree_of}
 use Rattle.trees.specs.declared.failure.Failure.TheVariants.{Memory}
 use Rattle.trees.specs.Asked.{drawing_value, reading_value}
 use Rattle.trees.specs.Merging.{IsMergeDrawing}
-use Rattle.trees.specs.Reading.{HoldsDrawing, IsReadableValue}
+use Rattle.trees.specs.Named.{IsReadableValue}
+use Rattle.trees.specs.Reading.{HoldsDrawing}
 use Rattle.trees.specs.Telling.{TellsWhether}
 use Rattle.trees.specs.Writing.{WritesRefusal, IsMergeOf, FailsToCompare}
 use Rattle.trees.proofs.MergeDrawings.{refusal_weaker}

@@ -2,7 +2,8 @@ use Rattle.std.proofs.Common.{◌≡◌, subst, sym, rules}
 use Rattle.std.specs.Prelude.{IsErr, IfErr}
 use Rattle.trees.specs.declared.failure.Failure.TheVariants.{Memory}
 use Rattle.trees.specs.Asked.{reading_value}
-use Rattle.trees.specs.Reading.{HoldsDrawing, IsReadableValue}
+use Rattle.trees.specs.Named.{IsReadableValue}
+use Rattle.trees.specs.Reading.{HoldsDrawing}
 use Rattle.ptree.specs.Tree.{Tree}
 use Rattle.trees.specs.Outlining.{LosesText}
 use Rattle.trees.specs.Writing.{Writes, IsIndentation, FailsToIndent}
