@@ -187,11 +187,11 @@ search_nothing hidden (Err i) none below = refl
 
 -- ## The project alone
 
-pub project_left_out : (lock : Data) (es : List Entry) → es ≡ [] → with_project lock (listed (members_view es)) ≡ ([], lock) ∷ []
+pub project_left_out : (lock : Data) (es : List Entry) → length es ≡ 0 → with_project lock (listed (members_view es)) ≡ ([], lock) ∷ []
 project_left_out lock [] none = refl
-project_left_out lock (e ∷ es) none = absurd (omega (arith, ap length none))
+project_left_out lock (e ∷ es) none = absurd (omega (arith, none))
 
-pub project_there : (lock : Data) (es : List Entry) → (es ≡ [] → ⊥) → with_project lock (listed (members_view es)) ≡ listed (members_view es)
+pub project_there : (lock : Data) (es : List Entry) → (length es ≡ 0 → ⊥) → with_project lock (listed (members_view es)) ≡ listed (members_view es)
 project_there lock [] some = absurd (some refl)
 project_there lock (e ∷ es) some = refl
 

@@ -1,5 +1,5 @@
 -- Parts of documents: there is one at most where some steps lead.
-use Rattle.std.proofs.Common.{◌≡◌, ◌∙◌, ◌<◌, ◌+◌, ◌-◌, ◌^◌, ◌==◌, inl, [], ◌∷◌, ◌++◌, ℕ, List, Option, Some, None, Result, Ok, Err, Bool, true, false, Bor, length, option_map, subst, sym, ap, refl, arith}
+use Rattle.std.proofs.Common.{◌≡◌, ◌∙◌, ◌<◌, ◌+◌, ◌-◌, ◌^◌, ◌==◌, inl, [], ◌∷◌, ℕ, List, Option, Some, None, Result, Ok, Err, Bool, true, false, Bor, length, option_map, subst, sym, ap, refl, arith}
 use Rattle.std.proofs.lemmas.List.{length-drop}
 use Rattle.std.proofs.lemmas.List.Elements.{All-from_get_or}
 use Rattle.std.proofs.lemmas.List.Splits.{slice_split_first, slice_split_none}
@@ -17,7 +17,7 @@ use Rattle.trees.specs.declared.failure.Failure.{Failure}
 use Rattle.trees.specs.declared.failure.Failure.TheVariants.{Usage, Input, Said, Output, Memory}
 use Rattle.trees.specs.declared.source.Source.{Source}
 use Rattle.trees.specs.Documents.{IsDocumentOf, node_at, IsStep, FindsPart, steps_in, LeadsBy, IsPartAsked, IsFirstRefused, IsAllowed, IsFirstMissing, SaysMissing, NamesMissing, NamesWrongIn}
-use Rattle.trees.specs.Reading.{IsInput, Says, FailsToMake}
+use Rattle.trees.specs.Reading.{IsInput, FailsToMake}
 
 -- nothing has both keys and positions
 key_or_position : (node : FileNode) (key : List ℕ) (n : ℕ) (x y : FileNode) → node_at (at_key key) node ≡ Some x → node_at (at_position n) node ≡ Some y → ⊥
@@ -57,28 +57,6 @@ pub one_asked : (at : Option (Bor (List ℕ))) (whole a b : FileNode) → IsPart
 one_asked None whole a b is_a is_b = is_a ∙ sym is_b
 one_asked (Some at) whole a b is_a is_b = one_part (steps_in at.now) whole a b is_a is_b
 
--- where nothing stands at the first step, the steps lead to nothing
-pub leads_nowhere : (keys text : List ℕ) (texts : List (List ℕ)) (whole : FileNode) → steps_in keys ≡ text ∷ texts → FindsPart whole text None
-    → (part : FileNode) → LeadsBy (steps_in keys) whole part → ⊥
-leads_nowhere keys text texts whole is none part leads =
-    let way : LeadsBy (text ∷ texts) whole part = subst (λ (ts : List (List ℕ)). LeadsBy ts whole part) is leads in
-    let at : node_at way.0 whole ≡ Some way.1 = way.3 in
-    let nothing : node_at way.0 whole ≡ None = none way.0 way.2 in
-    cc
-
--- steps lead on from what stands at the first one
-pub leads_on : (keys text : List ℕ) (texts : List (List ℕ)) (whole next part : FileNode) → steps_in keys ≡ text ∷ texts → FindsPart whole text (Some next)
-    → LeadsBy texts next part → LeadsBy (steps_in keys) whole part
-leads_on keys text texts whole next part is found leads =
-    subst (λ (ts : List (List ℕ)). LeadsBy ts whole part) (sym is) (found.0, next, found.1, found.2, leads)
-
--- and where these lead to nothing, all do
-pub leads_from : (keys text : List ℕ) (texts : List (List ℕ)) (whole next part : FileNode) → steps_in keys ≡ text ∷ texts → FindsPart whole text (Some next)
-    → LeadsBy (steps_in keys) whole part → LeadsBy texts next part
-leads_from keys text texts whole next part is found leads =
-    let way : LeadsBy (text ∷ texts) whole part = subst (λ (ts : List (List ℕ)). LeadsBy ts whole part) is leads in
-    subst (λ (w : FileNode). LeadsBy texts w part) (one_step whole text way.0 found.0 way.1 next way.2 found.1 way.3 found.2) way.4
-
 -- where nothing stands at the first step, that one is missing
 pub missing_first : (keys text : List ℕ) (r : Option (Bor (List ℕ))) (whole : FileNode) → MatchOption r (steps_in keys ≡ text ∷ []) (λ rest. (steps_in keys ≡ text ∷ steps_in rest.now) × (length rest.now < length keys))
     → FindsPart whole text None → IsFirstMissing (steps_in keys) whole text
@@ -104,12 +82,6 @@ wrong_at format source document whole (Usage wrong) none missing input = absurd 
 wrong_at format source document whole Said none missing input = absurd input
 wrong_at format source document whole (Output kind) none missing input = absurd input
 wrong_at format source document whole Memory none missing input = absurd input
-
--- a value that is refused is not allowed
-pub not_allowed : (is_strict : Bool) (part : FileNode) (path : Path) → is_strict ≡ true → IsFirstRefused part (Some path) → IsAllowed is_strict part → ⊥
-not_allowed false part path is first allowed = cc
-not_allowed true (json d) path is first allowed = allowed path first.0
-not_allowed true (toml d) path is first allowed = allowed path first.0
 
 -- ## Steps
 

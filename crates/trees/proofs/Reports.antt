@@ -1,9 +1,9 @@
--- Reports on several sources.
+-- Reports on several sources, or lines of several fields.
 use Rattle.std.specs.List.{concat, AllZip}
-use Rattle.std.proofs.Common.{◌≡◌, ℕ, ◌+◌, ◌<◌, ◌++◌, List, [], ◌∷◌, length, take, get_or, sym, ap, ◌∙◌, subst, append_assoc}
+use Rattle.std.specs.Prelude.{OnOk, is_ok, if◌then◌else◌}
+use Rattle.std.proofs.Common.{◌≡◌, ℕ, ◌+◌, ◌<◌, ◌++◌, Result, Ok, Err, List, [], ◌∷◌, length, take, get_or, sym, ap, ◌∙◌, subst, append_assoc}
 use Rattle.std.proofs.lemmas.List.{append-nil, take_more}
 use Rattle.std.proofs.lemmas.List.Folds.{concat-append}
-use Rattle.trees.specs.declared.source.Source.{Source}
 use Rattle.trees.specs.Reading.{Adds}
 
 -- one pair more
@@ -13,12 +13,22 @@ zip_push R [] (w ∷ ys) x y h r = absurd h
 zip_push R (v ∷ xs) [] x y h r = absurd h
 zip_push R (v ∷ xs) (w ∷ ys) x y h r = (h.0, zip_push R xs ys x y h.1 r)
 
--- nothing is said of no source
-pub adds_nothing : (R : Source → List ℕ → Type 0) (a : List ℕ) → Adds R [] a a
+-- nothing is added of none
+pub adds_nothing : {X : Type 0} (R : X → List ℕ → Type 0) (a : List ℕ) → Adds R [] a a
 adds_nothing R a = ([], sym (append-nil a), tt)
 
+-- what a call has done is also what follows of it
+pub on_ok_more : {A E : Type 0} (r : Result A E) (P Q : Type 0) → (P → Q) → OnOk r P → OnOk r Q
+on_ok_more (Ok x) P Q more h = more h
+on_ok_more (Err e) P Q more h = tt
+
+-- what a call leaves on success
+pub on_ok_is : {A E X : Type 0} (r : Result A E) (new a b : X) → new ≡ (if is_ok r then a else b) → OnOk r (new ≡ a)
+on_ok_is (Ok x) new a b h = h
+on_ok_is (Err e) new a b h = tt
+
 -- one report more
-pub adds_next : (R : Source → List ℕ → Type 0) (sources : List Source) (i : ℕ) (source : Source) (a b c more : List ℕ) → i < length sources → source ≡ get_or sources i source
+pub adds_next : {X : Type 0} (R : X → List ℕ → Type 0) (sources : List X) (i : ℕ) (source : X) (a b c more : List ℕ) → i < length sources → source ≡ get_or sources i source
     → Adds R (take i sources) a b → c ≡ b ++ more → R source more → Adds R (take (i + 1) sources) a c
 adds_next R sources i source a b c more low is before added r =
     let parts : c ≡ a ++ concat (before.0 ++ more ∷ []) =

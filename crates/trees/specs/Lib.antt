@@ -36,6 +36,8 @@ pub mod LockingParts
 pub mod Npm
 -- what the parts of reading it do
 pub mod NpmParts
+-- what is said of the settings
+pub mod Settings
 -- what calls write
 pub mod Writing
 -- documents, their parts and trees

@@ -117,6 +117,6 @@ IsReport config source said =
     ((t : Tree) × HoldsDrawing config source t × (said ≡ count_line source (length (subtrees t))))
     ⊎ ((wrong : String Global) × (HoldsSome config source → ⊥) × NamesPlace config source (Input wrong) × (said ≡ string_bytes wrong ++ codes "\n"))
 
--- a text grows by one report on each source, in their order
-abbrev pub Adds : (Source → List ℕ → Type 0) → List Source → List ℕ → List ℕ → Type 0
-Adds R sources old new = (more : List (List ℕ)) × (new ≡ old ++ concat more) × AllZip R sources more
+-- a text grows by one text of each of these, in their order
+abbrev pub Adds : {X : Type 0} → (X → List ℕ → Type 0) → List X → List ℕ → List ℕ → Type 0
+Adds R xs old new = (more : List (List ℕ)) × (new ≡ old ++ concat more) × AllZip R xs more

@@ -8,6 +8,7 @@ use Rattle.ptree.specs.declared.value.document.DocFormat.TheVariants.{Toml, Json
 use Rattle.ptree.specs.Config.{ConfigValue}
 use Rattle.ptree.specs.Drawing.{look_by, IsDrawing}
 use Rattle.ptree.specs.Graph.{edges_of, neighbors_of, node_shape}
+use Rattle.ptree.specs.Loading.{effective_config}
 use Rattle.ptree.specs.Occurrence.{OccurrenceTree, IsExpandedOnce, occurrence_shape}
 use Rattle.ptree.specs.Tree.{Tree, tree_of, shape_of_tree}
 use Rattle.ptree.specs.Writing.{AppendsPart}
@@ -40,7 +41,8 @@ use Rattle.trees.specs.Merging.{IsMergeDrawing, IsMergeCode}
 use Rattle.trees.specs.Outlining.{text_or, HoldsOutline, FailsToOutline, IsReadBack, LosesText}
 use Rattle.trees.specs.Named.{IsReadableValue}
 use Rattle.trees.specs.Reading.{IsWriting, HoldsDrawing, FailsFor, FailsToMake, FailsToRead, IsReport, Adds}
-use Rattle.trees.specs.Shown.{shown_on, shown_text, IsNone, ShowsOnly, IsLookCode}
+use Rattle.trees.specs.Settings.{SaysSettings}
+use Rattle.trees.specs.Shown.{shown_lines, shown_on, shown_text, IsNone, ShowsOnly, IsLookCode}
 
 -- A call that succeeds has appended bytes of which Is holds. One that fails has appended nothing, and
 -- Fails holds of the failure; or it failed in writing, and has appended a prefix of such bytes.
@@ -210,9 +212,13 @@ Compares sources left right diff old new result =
 abbrev pub AreReports : Sources → List Source → Option Pieces → Bool → List ℕ → Type 0
 AreReports sources inputs pieces is_terminal bytes = (said : List ℕ) × Adds (IsReport (reading_value sources pieces)) inputs [] said × (bytes ≡ shown_on is_terminal said)
 
+-- the bytes are what `config` writes: at the end the settings that hold, escaped
+abbrev pub AreSettings : Sources → List ℕ → Type 0
+AreSettings sources bytes = (said : List ℕ) × SaysSettings (effective_config sources) said × (bytes ≡ shown_lines said)
+
 -- what a command writes: those that draw an input, the drawing of its tree; `deps`, of lines of two
 -- words and of lock files that of their graph; `indented`, the indented text; `convert`, the
--- conversion, which can be turned back; `diff`, all differences
+-- conversion, which can be turned back; `diff`, all differences; `config`, the settings
 abbrev pub WritesOfCommand : {A : Type 0} → Sources → Command → Option (List ℕ) → Option (List ℕ) → Result A Failure → Type 0
 WritesOfCommand sources (command.Convert source convert) old new result = Converts sources source.now convert old new result × ConvertsBack sources source.now convert old new result
 WritesOfCommand sources (command.Draw source tree drawing) old new result = Draws sources source.now tree drawing old new result
@@ -220,7 +226,7 @@ WritesOfCommand sources (command.Deps source deps drawing) old new result = Draw
 WritesOfCommand sources (command.Indented source indented) old new result = Writes old new result (IsIndentation sources source.now indented) (FailsToIndent sources source.now indented)
 WritesOfCommand sources (command.Check inputs pieces screen) old new result = WritesSaid old new result (AreReports sources inputs.now pieces screen.is_terminal)
 WritesOfCommand sources (command.Diff left right diff) old new result = Compares sources left.now right.now diff old new result
-WritesOfCommand sources command.Config old new result = ⊤
+WritesOfCommand sources command.Config old new result = WritesSaid old new result (AreSettings sources)
 
 -- on a terminal a drawing writes nothing that it acts on, but line feeds and the codes of its styles
 abbrev pub ShowsDrawing : Sources → Drawing → Option (List ℕ) → Option (List ℕ) → Type 0

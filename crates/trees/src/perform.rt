@@ -17,7 +17,7 @@ ghost use Rattle.trees.specs.Merging.{IsMergeDrawing};
 ghost use Rattle.trees.specs.Reading.{HoldsDrawing, HoldsNoOther, HoldsSome, IsRedrawn, FailsFor, FailsToRead, FailsToMake, NamesPlace, IsReport, Adds, item_word, count_line};
 ghost use Rattle.trees.specs.Shown.{IsNone, ShowsOnly};
 ghost use Rattle.trees.specs.Telling.{TellsWhether, TellsOfCommand};
-ghost use Rattle.trees.specs.Writing.{WritesSaid, AreReports, Writes, IsTreeDrawing, IsGraphDrawing, WritesDrawn, IsIndentation, FailsToIndent, IsGiven, FailsToGive, Draws, DrawsNeeds, Converts, ConvertsBack, WritesOfCommand, ShowsOfCommand, ShowsDrawing, ShowsMerged, LeavesIfWrong, WritesRefusal, Compares};
+ghost use Rattle.trees.specs.Writing.{WritesSaid, AreReports, AreSettings, Writes, IsTreeDrawing, IsGraphDrawing, WritesDrawn, IsIndentation, FailsToIndent, IsGiven, FailsToGive, Draws, DrawsNeeds, Converts, ConvertsBack, WritesOfCommand, ShowsOfCommand, ShowsDrawing, ShowsMerged, LeavesIfWrong, WritesRefusal, Compares};
 
 use crate::command::{Command, Convert, Deps, Diff, Drawing, Indented, Paths, Tree};
 use crate::compare::{self, Look};
@@ -656,6 +656,8 @@ fn write_both<W: Sink>(
 // Says which settings hold.
 fn show_settings<W: Sink>(alloc: Global, out: &mut W, found: &Surroundings) -> Result<(), Failure>
     ensures told { TellsWhether result (first_fault found.now.sources ≡ None) }
+    ensures written { WritesSaid (W.contents out.old) (W.contents out.new) result
+        (AreSettings found.now.sources) }
     ensures quiet { LeavesIfWrong out.old out.new result }
     // In a file too.
     ensures shown { ShowsOnly true IsNone (W.contents out.old) (W.contents out.new) }

@@ -1,6 +1,12 @@
 //! Says which settings hold, where each comes from, and what is wrong with the sources.
-ghost use Rattle.std.specs.Prelude.{◌≡◌, is_some, IfOk};
-ghost use Rattle.ptree.specs.Loading.{first_fault};
+ghost use Rattle.std.specs.Prelude.{◌≡◌, ◌++◌, ℕ, List, codes, is_some, option_map, IfOk, OnOk, string_bytes};
+ghost use Rattle.ptree.specs.Color.{color_of};
+ghost use Rattle.ptree.specs.Config.{config_of};
+ghost use Rattle.ptree.specs.Fields.{all_fields};
+ghost use Rattle.ptree.specs.Loading.{first_fault, effective_config};
+ghost use Rattle.ptree.specs.Style.{style_of};
+ghost use Rattle.trees.specs.Reading.{Adds};
+ghost use Rattle.trees.specs.Settings.{setting_name, when_word, quoted, IsColorText, IsStyleText, IsValueText, IsSettingLine, SaysSettings};
 
 use crate::suggest::Nearest;
 use ptree::print_config::{
@@ -28,8 +34,10 @@ pub struct Report {
 ///
 /// Memory ran out.
 pub fn describe(alloc: Global, found: &Surroundings) -> Result<Report, AllocError>
-    ensures { IfOk result (λ report.
+    ensures faults { IfOk result (λ report.
         report.has_faults ≡ is_some (first_fault found.now.sources)) }
+    ensures settings { IfOk result (λ report.
+        SaysSettings (effective_config found.now.sources) (string_bytes report.text)) }
 {
     let mut text = String::new(alloc);
     match &found.path {
@@ -104,26 +112,62 @@ fn push_settings(
     text: &mut String,
     found: &Surroundings,
     has_faults: bool,
-) -> Result<(), AllocError> {
+) -> Result<(), AllocError>
+    ensures { OnOk result (Adds (IsSettingLine (effective_config found.now.sources)) all_fields
+        (string_bytes text.old) (string_bytes text.new)) }
+{
     let config = PrintConfig::from_env(alloc, &found.sources)?;
-    push_settings_of(alloc, text, &config, found, has_faults)
+    let entries = entries(alloc, &found.sources.file)?;
+    let known = Known {
+        found,
+        entries: entries.as_slice(),
+        has_faults,
+    };
+    push_fields(alloc, text, &config, known, &FIELDS)
 }
 
-// Adds each setting of a configuration, and where it comes from.
-fn push_settings_of(
+// What says where settings come from.
+#[derive(Clone, Copy)]
+struct Known<'a> {
+    found: &'a Surroundings,
+    entries: &'a [Entry],
+    has_faults: bool,
+}
+
+// Adds the settings of some fields.
+fn push_fields(
     alloc: Global,
     text: &mut String,
     config: &PrintConfig,
-    found: &Surroundings,
-    has_faults: bool,
-) -> Result<(), AllocError> {
-    let entries = entries(alloc, &found.sources.file)?;
-    for field in FIELDS {
-        if field != Field::Characters {
-            push_setting(alloc, text, config, field)?;
-            push_origin(text, field, found, entries.as_slice(), has_faults)?;
-        }
+    known: Known<'_>,
+    fields: &[Field],
+) -> Result<(), AllocError>
+    ensures { OnOk result (Adds (IsSettingLine (config_of config.now)) fields.now
+        (string_bytes text.old) (string_bytes text.new)) }
+{
+    for field in fields {
+        push_field(alloc, text, config, known, *field)?;
     }
+    Ok(())
+}
+
+// Adds the setting of a field. The set of characters has none, since they have theirs.
+fn push_field(
+    alloc: Global,
+    text: &mut String,
+    config: &PrintConfig,
+    known: Known<'_>,
+    field: Field,
+) -> Result<(), AllocError>
+    ensures { OnOk result ((line : List ℕ)
+        × (string_bytes text.new ≡ string_bytes text.old ++ line)
+        × IsSettingLine (config_of config.now) field line) }
+{
+    if field == Field::Characters {
+        return Ok(());
+    }
+    push_setting(alloc, text, config, field)?;
+    push_origin(text, field, known)?;
     Ok(())
 }
 
@@ -133,32 +177,35 @@ fn push_setting(
     text: &mut String,
     config: &PrintConfig,
     field: Field,
-) -> Result<(), AllocError> {
-    if let Some(table) = field.table() {
-        write!(text, "{table}.")?;
+) -> Result<(), AllocError>
+    ensures { OnOk result ((value : List ℕ) × IsValueText (config_of config.now) field value
+        × (string_bytes text.new ≡ string_bytes text.old
+        ++ (setting_name field ++ (codes ": " ++ value)))) }
+{
+    push_name(text, field)?;
+    let value = value_text(alloc, config, field)?;
+    write!(text, ": {value}")?;
+    Ok(())
+}
+
+// Adds the name of a setting.
+fn push_name(text: &mut String, field: Field) -> Result<(), AllocError>
+    ensures { OnOk result
+        (string_bytes text.new ≡ string_bytes text.old ++ setting_name field) }
+{
+    let key = field.key();
+    match field.table() {
+        Some(table) => write!(text, "{table}.{key}"),
+        None => text.push_str(key),
     }
-    write!(
-        text,
-        "{}: {}",
-        field.key(),
-        value_text(alloc, config, field)?
-    )
 }
 
 // Adds where a setting comes from.
-fn push_origin(
-    text: &mut String,
-    field: Field,
-    found: &Surroundings,
-    entries: &[Entry],
-    has_faults: bool,
-) -> Result<(), AllocError> {
-    let origin = if has_faults {
-        Origin::Default
-    } else {
-        origin_of(field, found, entries)
-    };
-    match origin {
+fn push_origin(text: &mut String, field: Field, known: Known<'_>) -> Result<(), AllocError>
+    ensures { OnOk result ((origin : List ℕ) × (string_bytes text.new
+        ≡ string_bytes text.old ++ (codes " (" ++ (origin ++ codes ")\n")))) }
+{
+    match origin_of(field, known) {
         Origin::Variable(name) => writeln!(text, " (variable {name})"),
         Origin::File => text.push_str(" (file)\n"),
         Origin::Default => text.push_str(" (default)\n"),
@@ -173,20 +220,23 @@ enum Origin {
     Default,
 }
 
-// Returns where the setting of a field comes from, if no source has a fault.
-fn origin_of(field: Field, found: &Surroundings, entries: &[Entry]) -> Origin {
-    if has_variable(field, found) {
+// Returns where the setting of a field comes from: if a source has a fault, from none.
+fn origin_of(field: Field, known: Known<'_>) -> Origin {
+    if known.has_faults {
+        return Origin::Default;
+    }
+    if has_variable(field, known.found) {
         return Origin::Variable(field.variable());
     }
     if field.table() == Some("characters") {
-        if has_variable(Field::Characters, found) {
+        if has_variable(Field::Characters, known.found) {
             return Origin::Variable(Field::Characters.variable());
         }
-        if has_key(Field::Characters, entries) {
+        if has_key(Field::Characters, known.entries) {
             return Origin::File;
         }
     }
-    if has_key(field, entries) {
+    if has_key(field, known.entries) {
         return Origin::File;
     }
     Origin::Default
@@ -217,7 +267,10 @@ fn has_key(field: Field, entries: &[Entry]) -> bool {
 }
 
 // Returns the text of a setting.
-fn value_text(alloc: Global, config: &PrintConfig, field: Field) -> Result<String, AllocError> {
+fn value_text(alloc: Global, config: &PrintConfig, field: Field) -> Result<String, AllocError>
+    ensures { IfOk result (λ value.
+        IsValueText (config_of config.now) field (string_bytes value)) }
+{
     match field {
         Field::Depth => format!(in alloc; "{}", config.depth),
         Field::Indent => format!(in alloc; "{}", config.indent),
@@ -236,7 +289,9 @@ fn value_text(alloc: Global, config: &PrintConfig, field: Field) -> Result<Strin
 }
 
 // Returns the word for when output is styled.
-fn when_word(when: StyleWhen) -> &'static str {
+fn when_word(when: StyleWhen) -> &'static str
+    ensures { result.now ≡ when_word when }
+{
     match when {
         StyleWhen::Never => "never",
         StyleWhen::Always => "always",
@@ -245,13 +300,18 @@ fn when_word(when: StyleWhen) -> &'static str {
 }
 
 // Returns a text between quotes, escaped.
-fn quoted(alloc: Global, text: &String) -> Result<String, AllocError> {
+fn quoted(alloc: Global, text: &String) -> Result<String, AllocError>
+    ensures { IfOk result (λ said. string_bytes said ≡ quoted (string_bytes text.now)) }
+{
     let text = escaped(alloc, text.as_str())?;
     format!(in alloc; "\"{text}\"")
 }
 
 // Returns the text of a field of a style.
-fn style_text(alloc: Global, style: &Style, field: StyleField) -> Result<String, AllocError> {
+fn style_text(alloc: Global, style: &Style, field: StyleField) -> Result<String, AllocError>
+    ensures { IfOk result (λ value.
+        IsStyleText (style_of style.now) field (string_bytes value)) }
+{
     let flag = match field {
         StyleField::Foreground => return color_text(alloc, &style.foreground),
         StyleField::Background => return color_text(alloc, &style.background),
@@ -268,7 +328,10 @@ fn style_text(alloc: Global, style: &Style, field: StyleField) -> Result<String,
 }
 
 // Returns the text of a colour.
-fn color_text(alloc: Global, color: &Option<Color>) -> Result<String, AllocError> {
+fn color_text(alloc: Global, color: &Option<Color>) -> Result<String, AllocError>
+    ensures { IfOk result (λ value.
+        IsColorText (option_map color_of color.now) (string_bytes value)) }
+{
     match color {
         None => String::from_str(alloc, "none"),
         Some(Color::Fixed(n)) => format!(in alloc; "{n}"),

@@ -1,4 +1,4 @@
-use Rattle.std.proofs.Common.{string_bytes, rules}
+use Rattle.std.proofs.Common.{rules}
 use Rattle.ptree.specs.Config.{config_of}
 use Rattle.trees.specs.Named.{IsReadWith}
 use Rattle.trees.proofs.Named.{adds_name}

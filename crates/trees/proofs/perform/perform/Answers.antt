@@ -66,3 +66,8 @@ returns-in-Check-clause-written g c =
 pub returns-in-Config-clause-shown : goal.returns-in-Config-clause-shown
 returns-in-Config-clause-shown g c =
     subst (λ command. ShowsOfCommand c.args.found.now.sources command (g.W.Sink.contents c.args.out.now) (g.W.Sink.contents c.show_settings.new.out)) (sym c.in-Config.is) c.show_settings.ensures.shown
+
+pub returns-in-Config-clause-written : goal.returns-in-Config-clause-written
+returns-in-Config-clause-written g c =
+    subst (λ command. WritesOfCommand c.args.found.now.sources command (g.W.Sink.contents c.args.out.now) (g.W.Sink.contents c.show_settings.new.out) c.show_settings.result) (sym c.in-Config.is)
+    c.show_settings.ensures.written

@@ -3,6 +3,8 @@ use Rattle.ptree.specs.Loading.{first_fault}
 use Rattle.trees.specs.Telling.{TellsWhether}
 use Rattle.trees.specs.Shown.{IsNone, shown_lines}
 use Rattle.trees.proofs.Shown.{lines_part_shown, nothing_shown}
+use Rattle.trees.specs.Writing.{AreSettings}
+use Rattle.trees.proofs.Writings.{said_nothing, said_weaker}
 use Rattle.trees.proofs.Told.{tells_same, none_or_some}
 use Rattle.trees.proofs.perform.show_settings.Goals as goal
 
@@ -12,7 +14,7 @@ returns-clause-told g c =
     let both = none_or_some fault in
     let report = c.in_ok-report.report in
     let told : TellsWhether c.say.result (report.has_faults ≡ false) = search rules in
-    tells_same c.say.result (report.has_faults ≡ false) (fault ≡ None) (λ none. both.0 (sym c.in_ok-report.ensures ∙ none)) (λ none. c.in_ok-report.ensures ∙ both.1 none) told
+    tells_same c.say.result (report.has_faults ≡ false) (fault ≡ None) (λ none. both.0 (sym c.in_ok-report.ensures.faults ∙ none)) (λ none. c.in_ok-report.ensures.faults ∙ both.1 none) told
 
 -- what is said is as a terminal may get it
 pub returns-clause-shown : goal.returns-clause-shown
@@ -25,3 +27,18 @@ returns-in_err-report-clause-shown g c = nothing_shown true IsNone (g.W.Sink.con
 
 pub returns-in_err-said-clause-shown : goal.returns-in_err-said-clause-shown
 returns-in_err-said-clause-shown g c = nothing_shown true IsNone (g.W.Sink.contents c.args.out.now)
+
+-- what is written is what is said
+pub returns-clause-written : goal.returns-clause-written
+returns-clause-written g c =
+    let sources = c.args.found.now.sources in
+    let text = c.as_str-2.result.now in
+    let shown : text ≡ shown_lines (string_bytes c.in_ok-report.report.text) = search rules in
+    said_weaker (g.W.Sink.contents c.args.out.now) (g.W.Sink.contents c.say.new.out) c.say.result (λ bytes. bytes ≡ text) (AreSettings sources)
+    (λ bytes is. (string_bytes c.in_ok-report.report.text, c.in_ok-report.ensures.settings, is ∙ shown)) c.say.ensures.written
+
+pub returns-in_err-report-clause-written : goal.returns-in_err-report-clause-written
+returns-in_err-report-clause-written g c = said_nothing (g.W.Sink.contents c.args.out.now) c.from_residual.result (AreSettings c.args.found.now.sources) (search rules) (search rules)
+
+pub returns-in_err-said-clause-written : goal.returns-in_err-said-clause-written
+returns-in_err-said-clause-written g c = said_nothing (g.W.Sink.contents c.args.out.now) c.from_residual-in_err-said.result (AreSettings c.args.found.now.sources) (search rules) (search rules)

@@ -2,7 +2,6 @@ use Rattle.std.proofs.Common.{All, ◌∙◌, sym, subst, take_all}
 use Rattle.std.proofs.lemmas.Bool.{false≢true}
 use Rattle.std.proofs.lemmas.List.Elements.{All-more}
 use Rattle.ptree.specs.Config.{config_of}
-use Rattle.trees.specs.declared.pieces.Pieces.{Pieces}
 use Rattle.trees.specs.declared.pieces.Pieces.TheVariants.{Utf}
 use Rattle.trees.specs.Named.{IsReadWith}
 use Rattle.trees.proofs.pieces.first_reading.Goals as goal

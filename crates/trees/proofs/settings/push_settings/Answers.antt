@@ -1,0 +1,14 @@
+use Rattle.std.proofs.Common.{◌≡◌, string_bytes, subst, rules}
+use Rattle.std.specs.Prelude.{OnOk}
+use Rattle.ptree.specs.Config.{ConfigValue, config_of}
+use Rattle.ptree.specs.Fields.{all_fields}
+use Rattle.ptree.specs.Loading.{effective_config}
+use Rattle.trees.specs.Reading.{Adds}
+use Rattle.trees.specs.Settings.{IsSettingLine}
+use Rattle.trees.proofs.settings.push_settings.Goals as goal
+
+pub returns : goal.returns
+returns c =
+    let value : config_of c.in_ok-config.config ≡ effective_config c.args.found.now.sources = search rules in
+    let lines : OnOk c.push_fields.result (Adds (IsSettingLine (config_of c.in_ok-config.config)) all_fields (string_bytes c.args.text.now) (string_bytes c.push_fields.new.text)) = search rules in
+    subst (λ (v : ConfigValue). OnOk c.push_fields.result (Adds (IsSettingLine v) all_fields (string_bytes c.args.text.now) (string_bytes c.push_fields.new.text))) value lines
