@@ -8,13 +8,15 @@ use Rattle.std.specs.List.Sorted.{IsSearchInRange, IsSorted, IsStrictlySortedBy}
 use Rattle.std.specs.Map.{keys_of}
 use Rattle.std.specs.Map.Iter.{deref_pair}
 use Rattle.std.specs.Ordering.{is_lt, nat_cmp, ordering_then}
-use Rattle.std.specs.Prelude.{Option, Some, None, Result, Ok, Err, IfSome, String, string_bytes, string_cmp, option_and_then, option_map, unwrap_or, fold}
+use Rattle.std.specs.Prelude.{Option, Some, None, Result, Ok, Err, IfSome, OnOk, String, string_bytes, string_cmp, option_and_then, option_map, unwrap_or, fold}
 use Rattle.std.specs.BTreeMap.{BTreeMap}
 use Rattle.std.specs.declared.alloc.Global.{Global}
 use Rattle.std.specs.declared.cmp.Ordering.{Ordering}
 use Rattle.std.specs.declared.cmp.Ordering.TheVariants.{Less}
 use Rattle.ptree.proofs.Trees.ItemTrees.{map_twice}
+use Rattle.ptree.specs.File.{json}
 use Rattle.ptree.specs.Graph.{numbers_of}
+use Rattle.ptree.specs.declared.value.document.DocFormat.TheVariants.{Json}
 use Rattle.serde_json.specs.Data.{Data}
 use Rattle.serde_json.specs.Find.{as_object}
 use Rattle.serde_json.specs.View.{view, members_view}
@@ -23,8 +25,9 @@ use Rattle.trees.specs.declared.deps.Network.{Network}
 use Rattle.trees.specs.declared.source.Source.{Source}
 use Rattle.trees.specs.Depending.{directed, same_edge}
 use Rattle.trees.specs.DependingParts.{labels_of, needs_of, added, AddsEdge, IsEmpty, IsIndexed}
+use Rattle.trees.specs.Documents.{IsDocumentOf}
 use Rattle.trees.specs.LockingParts.{AddsEdges}
-use Rattle.trees.specs.Npm.{text_at, listed, with_project, packages_in, is_link, behind, other_name, label_text, IsLabel, IsRootName, AreAscending, HasNoLinks, HasPackages}
+use Rattle.trees.specs.Npm.{text_at, listed, with_project, packages_in, is_link, behind, other_name, label_text, IsLabel, IsRootName, AreAscending, HasNoLinks, HasPackages, HoldsPackages}
 use Rattle.trees.specs.NpmParts.{edge_of, AddsPackages, AddsInOrder}
 use Rattle.trees.proofs.LockedEdges.{edges_none, edges_both, edges_one, first_edges}
 use Rattle.trees.proofs.LockedPackages.{then_first}
@@ -199,3 +202,10 @@ pub project_held : (root : List ℕ) (source : Source) (lock : Data) (old new : 
 unfolding IsStrictlySortedBy
 project_held root source lock old new is empty called adds =
     packages_held root source lock (([], lock) ∷ []) old new new is empty (tt, tt) called adds ([], λ k d low within. absurd (omega (arith, within)), edges_none new (packages_indexed root (([], lock) ∷ []) old new empty adds))
+
+-- ## Files
+
+-- what is held if no package is a link
+pub held_read : {X E : Type 0} (r : Result X E) (source : Source) (lock : Data) (is_inverse : Bool) (n : Network) → IsDocumentOf Json source (json lock) → (HasNoLinks (packages_in lock) → OnOk r (HasPackages is_inverse source lock n)) → OnOk r (HoldsPackages source is_inverse n)
+held_read (Ok x) source lock is_inverse n is held = (lock, is, held)
+held_read (Err e) source lock is_inverse n is held = tt
