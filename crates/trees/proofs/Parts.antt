@@ -1,5 +1,5 @@
 -- Parts of documents: there is one at most where some steps lead.
-use Rattle.std.proofs.Common.{◌≡◌, ◌∙◌, ◌<◌, ◌+◌, ◌-◌, ◌^◌, ◌==◌, inl, [], ◌∷◌, ℕ, List, Option, Some, None, Result, Ok, Err, Bool, true, false, Bor, length, option_map, subst, sym, ap, refl, arith}
+use Rattle.std.proofs.Common.{◌≡◌, ◌∙◌, ◌<◌, ◌+◌, ◌-◌, ◌^◌, ◌==◌, inl, [], ◌∷◌, ℕ, List, Option, Some, None, Result, Ok, Err, false, Bor, length, subst, sym, ap, refl, arith}
 use Rattle.std.proofs.lemmas.List.{length-drop}
 use Rattle.std.proofs.lemmas.List.Elements.{All-from_get_or}
 use Rattle.std.proofs.lemmas.List.Splits.{slice_split_first, slice_split_none}
@@ -11,12 +11,12 @@ use Rattle.serde_json.specs.Data as j
 use Rattle.toml.specs.Data as t
 use Rattle.ptree.specs.declared.value.document.DocFormat.{DocFormat}
 use Rattle.ptree.specs.File.{FileNode, json, toml}
-use Rattle.ptree_trees.specs.RefusedPath.{StepValue, at_key, at_position, Path}
+use Rattle.ptree_trees.specs.RefusedPath.{StepValue, at_key, at_position}
 use Rattle.trees.specs.declared.command.Document.{Document}
 use Rattle.trees.specs.declared.failure.Failure.{Failure}
 use Rattle.trees.specs.declared.failure.Failure.TheVariants.{Usage, Input, Said, Output, Memory}
 use Rattle.trees.specs.declared.source.Source.{Source}
-use Rattle.trees.specs.Documents.{IsDocumentOf, node_at, IsStep, FindsPart, steps_in, LeadsBy, IsPartAsked, IsFirstRefused, IsAllowed, IsFirstMissing, SaysMissing, NamesMissing, NamesWrongIn}
+use Rattle.trees.specs.Documents.{IsDocumentOf, node_at, IsStep, FindsPart, steps_in, LeadsBy, IsPartAsked, IsFirstMissing, SaysMissing, NamesMissing, NamesWrongIn}
 use Rattle.trees.specs.Reading.{IsInput, FailsToMake}
 
 -- nothing has both keys and positions

@@ -1,4 +1,4 @@
-use Rattle.std.proofs.Common.{◌≡◌, ◌∙◌, [], ◌∷◌, refl, subst, arith}
+use Rattle.std.proofs.Common.{◌∙◌, [], ◌∷◌, refl, subst, arith}
 use Rattle.std.proofs.lemmas.Bool.{false≢true}
 use Rattle.serde_json.specs.View.{view, members_view}
 use Rattle.trees.specs.Npm.{listed, HasNoLinks, HasPackages}
