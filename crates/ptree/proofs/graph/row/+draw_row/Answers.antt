@@ -48,13 +48,11 @@ draw_row-loop-number-init g t c =
     let first = ap (λ s. row_occurrences one s (neighbors_of (take number edges) v)) begun ∙ ap (row_occurrences one (enter (below v) seen v)) start.0 in
     record {
       begun = λ outer e. begun_none look (entries_below look c.args.levels_left) outer _ _ _ (ap (map shape) (sym first));
-      no_fault = refl;
-      error = c.requires.error;
+      no_fault = refl; error = c.requires.error;
       kept = take_all c.len-width.result _ (omega (arith, wide));
       turned = λ held. absurd (false≢true (sym c.requires.turned ∙ held));
       seen = ap (λ s. row_seen one s (neighbors_of (take number edges) v)) begun ∙ ap (row_seen one (enter (below v) seen v)) start.0;
-      length = set.1;
-      newest = start.1;
+      length = set.1; newest = start.1;
     }
 
 pub draw_row-index-edge-requires : goal.draw_row-index-edge-requires
@@ -71,10 +69,8 @@ draw_row-returns-in_err-turn-clause-bytes g t c = λ outer e.
     entries_err _ _ _ _ _ _ c.from_residual-in_err-turn.ensures.1 (begun_part look (entries_below look c.args.levels_left) outer _ _ _ _ c.turn.new.self.error (c.loop-number.invariant.begun outer e))
 
 pub draw_row-turn-requires : goal.draw_row-turn-requires
-draw_row-turn-requires g t c = record {
-  width = long_enough _ _ _ c.loop-number.invariant.kept c.len-width.ensures;
-  turned = λ held last. c.loop-number.invariant.turned held (omega arith);
-}
+draw_row-turn-requires g t c =
+    record { width = long_enough _ _ _ c.loop-number.invariant.kept c.len-width.ensures; turned = λ held last. c.loop-number.invariant.turned held (omega arith) }
 
 pub draw_row-cut-requires : goal.draw_row-cut-requires
 draw_row-cut-requires g t c = long_enough _ _ _ c.loop-number.invariant.kept c.len-width.ensures
