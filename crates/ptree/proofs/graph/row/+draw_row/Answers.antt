@@ -48,11 +48,13 @@ draw_row-loop-number-init g t c =
     let first = ap (λ s. row_occurrences one s (neighbors_of (take number edges) v)) begun ∙ ap (row_occurrences one (enter (below v) seen v)) start.0 in
     record {
       begun = λ outer e. begun_none look (entries_below look c.args.levels_left) outer _ _ _ (ap (map shape) (sym first));
-      no_fault = refl; error = c.requires.error;
+      no_fault = refl;
+      error = c.requires.error;
       kept = take_all c.len-width.result _ (omega (arith, wide));
       turned = λ held. absurd (false≢true (sym c.requires.turned ∙ held));
       seen = ap (λ s. row_seen one s (neighbors_of (take number edges) v)) begun ∙ ap (row_seen one (enter (below v) seen v)) start.0;
-      length = set.1; newest = start.1;
+      length = set.1;
+      newest = start.1;
     }
 
 pub draw_row-index-edge-requires : goal.draw_row-index-edge-requires
