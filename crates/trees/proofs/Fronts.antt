@@ -1,9 +1,8 @@
 -- The passing pieces behind which an item could follow a line.
-use Rattle.std.proofs.Common.{◌≡◌, ◌≢◌, ℕ, suc, ◌<◌, ◌≤◌, ◌⊎◌, inl, inr, Bool, true, false, List, [], ◌∷◌, ◌++◌, length, length-append, get_or, map, refl, sym, ap, ◌∙◌, subst, string_bytes, arith}
+use Rattle.std.proofs.Common.{◌≡◌, ◌≢◌, ℕ, suc, ◌<◌, ◌≤◌, ◌⊎◌, inl, inr, Bool, true, false, List, [], ◌∷◌, ◌++◌, length, length-append, get_or, refl, sym, ap, ◌∙◌, subst, arith}
 use Rattle.std.proofs.lemmas.List.{append_cancel_left}
 use Rattle.std.proofs.lemmas.List.Elements.{All-nil, All-cons, All-append}
-use Rattle.std.specs.Prelude.{All, String}
-use Rattle.std.specs.declared.alloc.Global.{Global}
+use Rattle.std.specs.Prelude.{All}
 use Rattle.ptree.specs.Pieces.{Pieces, turning_piece, passing_piece}
 use Rattle.ptree.specs.Readable.{IsReadable}
 use Rattle.ptree.specs.Spelled.{ArePassing}
@@ -52,10 +51,9 @@ pub record AreFrontsTo (p : Pieces) (fronts : List (List ℕ)) (front : List ℕ
   pub short : All (λ f. length f ≤ length front) fronts
 
 -- all or none of them are left
-pub fronts_forgotten : (p : Pieces) (old new : List (String Global)) (front rest : List ℕ) → (new ≡ old) ⊎ ((new ≡ []) × ShowsSibling p rest)
-    → AreFrontsBelow p (map string_bytes old) front → AreFrontsBelow p (map string_bytes new) front
-fronts_forgotten p old new front rest (inl same) h = subst (λ z. AreFrontsBelow p (map string_bytes z) front) (sym same) h
-fronts_forgotten p old new front rest (inr (none, shows)) h = subst (λ z. AreFrontsBelow p (map string_bytes z) front) (sym none) record { are = (All-nil (PassesSome p), tt); next = h.next; shorter = All-nil (λ f. length f < length front) }
+pub fronts_forgotten : (p : Pieces) (old new : List (List ℕ)) (front rest : List ℕ) → (new ≡ old) ⊎ ((new ≡ []) × ShowsSibling p rest) → AreFrontsBelow p old front → AreFrontsBelow p new front
+fronts_forgotten p old new front rest (inl same) h = subst (λ z. AreFrontsBelow p z front) (sym same) h
+fronts_forgotten p old new front rest (inr (none, shows)) h = subst (λ z. AreFrontsBelow p z front) (sym none) record { are = (All-nil (PassesSome p), tt); next = h.next; shorter = All-nil (λ f. length f < length front) }
 
 -- texts that are shorter and longer are different
 apart_by_length : (n : ℕ) (xs ys : List (List ℕ)) → All (λ f. length f ≤ n) xs → All (λ f. n < length f) ys → All (λ x. All (λ y. x ≢ y) ys) xs
@@ -71,6 +69,10 @@ front_added p fronts new front is h = subst (λ z. AreFrontsTo p z front) (sym i
   last = h.next;
   short = All-append (λ f. length f ≤ length front) fronts (front ∷ []) (λ k d low. let less = h.shorter k d low in omega arith) (All-cons (λ f. length f ≤ length front) front [] (omega arith) (All-nil (λ f. length f ≤ length front)));
 }
+
+-- or they are passed over
+pub front_passed : (p : Pieces) (fronts new : List (List ℕ)) (front : List ℕ) → new ≡ fronts → AreFrontsBelow p fronts front → AreFrontsTo p new front
+front_passed p fronts new front is h = subst (λ z. AreFrontsTo p z front) (sym is) record { are = h.are; last = h.next; short = λ k d low. let less = h.shorter k d low in omega arith }
 
 -- those of the next level are longer
 pub front_longer : (p : Pieces) → IsReadable p → (fronts : List (List ℕ)) (front text : List ℕ) → EndsPassing p front text → AreFrontsTo p fronts front → AreFrontsBelow p fronts text

@@ -1,5 +1,5 @@
 -- Behind which passing pieces an item can follow whole lines.
-use Rattle.std.proofs.Common.{◌≡◌, ◌≢◌, ℕ, zero, suc, ◌<◌, ◌≤◌, ◌⊎◌, inl, inr, Bool, true, not, List, [], ◌∷◌, ◌++◌, length, length-append, refl, sym, ap, ◌∙◌, subst, append_assoc, arith}
+use Rattle.std.proofs.Common.{◌≡◌, ◌≢◌, ℕ, zero, suc, ◌<◌, ◌≤◌, ◌⊎◌, inl, inr, Bool, true, false, not, List, [], ◌∷◌, ◌++◌, length, length-append, refl, sym, ap, ◌∙◌, subst, append_assoc, arith}
 use Rattle.std.proofs.lemmas.Bool.{cases_lt}
 use Rattle.std.proofs.lemmas.List.{append-nil}
 use Rattle.std.specs.Prelude.{Contains, flat_map}
@@ -20,10 +20,10 @@ use Rattle.ptree.proofs.Reading.NextLines.{line_split, form_outline}
 use Rattle.ptree.proofs.Reading.Paths.{passing_all-push}
 use Rattle.ptree.proofs.Reading.SpelledForms.{pieces_at}
 use Rattle.ptree.proofs.Styles.PaintedTexts.{painted_plain}
-use Rattle.trees.specs.Expected.{IsLastLine, EndsPieces, LeavesOpen, HasFronts}
+use Rattle.trees.specs.Expected.{IsLastLine, EndsPieces, ShowsLast, LeavesOpen, HasFronts}
 use Rattle.trees.proofs.Fronts.{passing_some}
 use Rattle.trees.proofs.NextItems.{further, before, ContinuesNone, GoesOnAt, next_item, ShowsItem, last_shows}
-use Rattle.trees.proofs.OpenLevels.{NonePasses, IsClosed, turning_passes_none, turning_closed, marker_closed, open_here, open_above, passing_all-append, flags_split, flags_above, closed_below}
+use Rattle.trees.proofs.OpenLevels.{NonePasses, IsClosed, turning_passes_none, turning_closed, marker_closed, regular_is_not_last, marker_is_not_last, nothing_is_not_last, open_here, open_above, passing_all-append, flags_split, flags_above, comes_later, closed_below}
 
 -- passing pieces behind which a line lets an item follow: beside one that it is below, or below its own
 abbrev pub Lets : Pieces → List ℕ → ℕ → List ℕ → Type 0
@@ -70,17 +70,17 @@ regrouped p flags ts c tail =
 
 -- an item that is beside one that the line is below
 beside_front : (p : Pieces) → IsReadable p → (next : Line) (after : List Line) (n m : ℕ) → next.level ≡ suc n → n ≤ m → (line tail : List ℕ) → NonePasses p tail → (n < m → IsClosed p tail)
-    → line ≡ passing_all p (last_flags (next ∷ after) m) ++ tail → Lets p line n (passing_all p (last_flags after n))
-beside_front p h next after n m is low line tail none closed e = elim (cases_lt n m) [
+    → (m ≡ n → ShowsLast p tail → ⊥) → line ≡ passing_all p (last_flags (next ∷ after) m) ++ tail → Lets p line n (passing_all p (last_flags after n))
+beside_front p h next after n m is low line tail none closed first e = elim (cases_lt n m) [
   | inl less ↦
       let (ts, are, split) = flags_split below (suc n) m (omega arith) (λ l a b. closed_below next after n l is a) in
       let c : Bool = not (has_later below (suc n)) in
       let shown : line ≡ passing_all p flags ++ (passing_piece p c ++ (passing_all p ts ++ tail)) = e ∙ (ap (λ f. passing_all p f ++ tail) split ∙ regrouped p flags ts c tail) in
-      inl (flags, length-last_flags below n, subst (λ z. LeavesOpen p z flags) (sym shown) (open_above p h flags ts c tail are (closed less)), front)
+      inl (flags, length-last_flags below n, subst (λ z. LeavesOpen p z flags) (sym shown) (open_above p h flags ts c tail (ap not (comes_later next after n is)) are (closed less)), front)
   | inr more ↦
       let same : m ≡ n = omega arith in
       let shown : line ≡ passing_all p flags ++ tail = e ∙ ap (λ l. passing_all p (last_flags below l) ++ tail) same in
-      inl (flags, length-last_flags below n, subst (λ z. LeavesOpen p z flags) (sym shown) (open_here p flags tail none), front)
+      inl (flags, length-last_flags below n, subst (λ z. LeavesOpen p z flags) (sym shown) (open_here p flags tail none (first same)), front)
 ] where
   below : List Line
   below = next ∷ after
@@ -108,6 +108,9 @@ own_front p h next after n (suc m) is high low line v e =
           (λ less.
           let last : turning_piece p b ≡ turning_piece p true = ap (turning_piece p) (ap not (closed_below next after n (suc m) is (omega arith))) in
           subst (λ z. IsClosed p (z ++ v)) (sym last) (turning_closed p h v))
+          (λ same.
+          let first : turning_piece p b ≡ turning_piece p false = ap (turning_piece p) (ap not (ap (has_later below) (ap suc same) ∙ comes_later next after n is)) in
+          subst (λ z. ShowsLast p (z ++ v) → ⊥) (sym first) (regular_is_not_last p h v))
           (e ∙ append_assoc (passing_all p (last_flags below m)) (turning_piece p b) v)
     ]
 
@@ -117,7 +120,7 @@ next_front : (k : Look) → IsReadableWith k.pieces k.marker → IsPlainLook k �
 next_front k r plain item next after n line is high (inl (root, none)) =
     let p : Pieces = k.pieces in
     let top : n ≡ 0 = omega (arith, root, high) in
-    let shows : LeavesOpen p line [] = subst (λ z. LeavesOpen p z []) (sym none) (open_here p [] [] (λ b z e. let long = ap length e in omega (arith, passing_some p r.pieces b, simp length-append at long))) in
+    let shows : LeavesOpen p line [] = subst (λ z. LeavesOpen p z []) (sym none) (open_here p [] [] (λ b z e. let long = ap length e in omega (arith, passing_some p r.pieces b, simp length-append at long)) (nothing_is_not_last p r.pieces)) in
     subst (λ m. Lets p line m (passing_all p (last_flags after m))) (sym top) (inl ([], refl, shows, refl))
 next_front k r plain item next after n line is high (inr (inl (v, low, own))) =
     own_front k.pieces r.pieces next after n item.level is high low line v (own ∙ ap (λ z. z ++ v) (plain_before k plain item (next ∷ after)))
@@ -125,7 +128,7 @@ next_front k r plain item next after n line is high (inr (inr (v, other))) =
     let p : Pieces = k.pieces in
     let passing : List ℕ = passing_by p (next ∷ after) item.level in
     let closed : IsClosed p (k.marker ++ v) = marker_closed p k.marker r v in
-    beside_front p r.pieces next after n item.level is high line (k.marker ++ v) closed.0 (λ less. closed)
+    beside_front p r.pieces next after n item.level is high line (k.marker ++ v) closed.0 (λ less. closed) (λ same. marker_is_not_last p k.marker r v)
     (other ∙ (ap (λ z. z ++ v) (plain_further k plain passing) ∙ append_assoc passing k.marker v))
 
 -- ## Beginnings

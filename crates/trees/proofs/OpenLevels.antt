@@ -1,6 +1,6 @@
 -- At which levels an item can follow a line, by the pieces that the line shows.
 use Rattle.std.proofs.Common.{◌≡◌, ◌≢◌, ℕ, zero, suc, ◌<◌, ◌≤◌, inl, inr, Bool, true, false, not, List, [], ◌∷◌, ◌++◌, refl, sym, ap, ◌∙◌, subst, append_assoc, arith}
-use Rattle.std.proofs.lemmas.Bool.{cases_lt, ne_eqb}
+use Rattle.std.proofs.lemmas.Bool.{cases_lt, eq-eqb, ne_eqb}
 use Rattle.std.proofs.lemmas.List.{append-nil}
 use Rattle.std.proofs.lemmas.List.Elements.{All-nil, All-head, All-tail, All-push}
 use Rattle.std.specs.Prelude.{All}
@@ -10,7 +10,7 @@ use Rattle.ptree.specs.Pieces.{Pieces, turning_piece, passing_piece, passing_all
 use Rattle.ptree.specs.Readable.{IsReadable, IsReadableWith}
 use Rattle.ptree.proofs.Pieces.Prefixes.{apart_not_both_starts, same_kind, same_prefix}
 use Rattle.ptree.proofs.Reading.Levels.{has_later_deeper, has_later_here, last_flags_same}
-use Rattle.trees.specs.Expected.{ShowsSibling, LeavesOpen}
+use Rattle.trees.specs.Expected.{ShowsSibling, ShowsLast, LeavesOpen}
 
 -- ## Pieces that show no sibling
 
@@ -65,21 +65,51 @@ none_below p h (t ∷ ts) (c ∷ more) tail left are closed e shows =
     let same = same_prefix (passing_piece p t) (passing_piece p c) (passing_all p ts ++ tail) (passing_all p more ++ left) (same_kind p.child p.last_child h.passings t c) moved in
     none_below p h ts more tail left (All-tail (λ t. t ≡ true) t ts are) closed same.1 shows
 
+-- ## Pieces that show no last child
+
+-- the passing piece of an item that is none
+child_is_not_last : (p : Pieces) → IsReadable p → (z : List ℕ) → ShowsLast p (passing_piece p false ++ z) → ⊥
+child_is_not_last p h z (inl (differ, (rest, e))) = elim h.passings [
+  | inl same ↦ differ (sym same)
+  | inr apart ↦ apart_not_both_starts p.child p.last_child z rest apart e
+]
+child_is_not_last p h z (inr (differ, (rest, e))) = apart_not_both_starts p.last_regular p.child rest z (h.turning_passing true false) (sym e)
+
+-- its turning piece
+pub regular_is_not_last : (p : Pieces) → IsReadable p → (z : List ℕ) → ShowsLast p (turning_piece p false ++ z) → ⊥
+regular_is_not_last p h z (inl (differ, (rest, e))) = apart_not_both_starts p.regular p.last_child z rest (h.turning_passing false true) e
+regular_is_not_last p h z (inr (differ, (rest, e))) = elim h.turnings [
+  | inl same ↦ differ (sym same)
+  | inr apart ↦ apart_not_both_starts p.regular p.last_regular z rest apart e
+]
+
+-- the marker
+pub marker_is_not_last : (p : Pieces) (marker : List ℕ) → IsReadableWith p marker → (z : List ℕ) → ShowsLast p (marker ++ z) → ⊥
+marker_is_not_last p marker h z (inl (differ, (rest, e))) = apart_not_both_starts marker p.last_child z rest (h.apart true).1 e
+marker_is_not_last p marker h z (inr (differ, (rest, e))) = apart_not_both_starts marker p.last_regular z rest (h.apart true).0 e
+
+-- nothing
+pub nothing_is_not_last : (p : Pieces) → IsReadable p → ShowsLast p [] → ⊥
+nothing_is_not_last p h (inl (differ, (rest, e))) = (h.turning_passing true true).1 (rest ++ p.last_regular, ap (λ z. z ++ p.last_regular) e ∙ append_assoc p.last_child rest p.last_regular)
+nothing_is_not_last p h (inr (differ, (rest, e))) = (h.turning_passing true true).0 (rest ++ p.last_child, ap (λ z. z ++ p.last_child) e ∙ append_assoc p.last_regular rest p.last_child)
+
 -- ## Lines that leave a level open
 
 -- a line leaves the level open at which its passing pieces end
-pub open_here : (p : Pieces) (above : List Bool) (tail : List ℕ) → NonePasses p tail → LeavesOpen p (passing_all p above ++ tail) above
-open_here p above tail none = (tail, refl, λ last more left e shows. none last (passing_all p more ++ left) (e ∙ append_assoc (passing_piece p last) (passing_all p more) left))
+pub open_here : (p : Pieces) (above : List Bool) (tail : List ℕ) → NonePasses p tail → (ShowsLast p tail → ⊥) → LeavesOpen p (passing_all p above ++ tail) above
+open_here p above tail none first = (tail, refl, (λ last more left e shows. none last (passing_all p more ++ left) (e ∙ append_assoc (passing_piece p last) (passing_all p more) left)), first)
 
 -- and one below which it shows last children alone
-pub open_above : (p : Pieces) → IsReadable p → (above ts : List Bool) (b : Bool) (tail : List ℕ) → All (λ t. t ≡ true) ts → IsClosed p tail
+pub open_above : (p : Pieces) → IsReadable p → (above ts : List Bool) (b : Bool) (tail : List ℕ) → b ≡ false → All (λ t. t ≡ true) ts → IsClosed p tail
     → LeavesOpen p (passing_all p above ++ (passing_piece p b ++ (passing_all p ts ++ tail))) above
-open_above p h above ts b tail are closed = (passing_piece p b ++ (passing_all p ts ++ tail), refl, none) where
-  none : (last : Bool) (more : List Bool) (left : List ℕ) → passing_piece p b ++ (passing_all p ts ++ tail) ≡ passing_all p (last ∷ more) ++ left → ShowsSibling p left → ⊥
-  none last more left e shows =
-      let same = same_prefix (passing_piece p b) (passing_piece p last) (passing_all p ts ++ tail) (passing_all p more ++ left) (same_kind p.child p.last_child h.passings b last)
-      (e ∙ append_assoc (passing_piece p last) (passing_all p more) left) in
-      none_below p h ts more tail left are closed same.1 shows
+open_above p h above ts b tail first are closed =
+    (passing_piece p b ++ (passing_all p ts ++ tail), refl, none, subst (λ c. ShowsLast p (passing_piece p c ++ (passing_all p ts ++ tail)) → ⊥) (sym first) (child_is_not_last p h (passing_all p ts ++ tail)))
+  where
+    none : (last : Bool) (more : List Bool) (left : List ℕ) → passing_piece p b ++ (passing_all p ts ++ tail) ≡ passing_all p (last ∷ more) ++ left → ShowsSibling p left → ⊥
+    none last more left e shows =
+        let same = same_prefix (passing_piece p b) (passing_piece p last) (passing_all p ts ++ tail) (passing_all p more ++ left) (same_kind p.child p.last_child h.passings b last)
+        (e ∙ append_assoc (passing_piece p last) (passing_all p more) left) in
+        none_below p h ts more tail left are closed same.1 shows
 
 -- ## Flags
 
@@ -109,6 +139,10 @@ flags_split o n (suc m) low none = elim (cases_lt n (suc m)) [
 -- an item leaves the flags above it as they are
 pub flags_above : (next : Line) (after : List Line) (n : ℕ) → next.level ≡ suc n → last_flags (next ∷ after) n ≡ last_flags after n
 flags_above next after n is = last_flags_same (next ∷ after) after n (λ m low. has_later_deeper next after m (omega (arith, is)))
+
+-- it comes later there
+pub comes_later : (next : Line) (after : List Line) (n : ℕ) → next.level ≡ suc n → has_later (next ∷ after) (suc n) ≡ true
+comes_later next after n is = has_later_here next after (suc n) (omega (arith, is)) ∙ eq-eqb (suc n) next.level (sym is)
 
 -- what it closes are last children
 pub closed_below : (next : Line) (after : List Line) (n l : ℕ) → next.level ≡ suc n → suc n < l → has_later (next ∷ after) l ≡ false

@@ -1,6 +1,6 @@
 -- How a reading fails.
 use Rattle.std.proofs.Common.{◌≡◌, ℕ, List, Result, Ok, Err, string_bytes, subst, sym}
-use Rattle.std.specs.Prelude.{IfErr}
+use Rattle.std.specs.Prelude.{IfErr, None, MatchOption}
 use Rattle.ptree.specs.declared.print_config.PrintConfig.{PrintConfig}
 use Rattle.ptree.specs.Config.{config_of}
 use Rattle.ptree.specs.Drawing.{written_look}
@@ -10,7 +10,7 @@ use Rattle.trees.specs.declared.failure.Failure.{Failure}
 use Rattle.trees.specs.declared.failure.Failure.TheVariants.{Usage, Input, Said, Output, Memory}
 use Rattle.trees.specs.declared.source.Source.{Source}
 use Rattle.trees.specs.Named.{IsReadableValue}
-use Rattle.trees.specs.Reading.{HoldsDrawing, IsInput, IsUsage, FailsFor, FailsToMake, FailsToRead}
+use Rattle.trees.specs.Reading.{HoldsDrawing, IsInput, IsUsage, IsInputOf, FailsFor, FailsToMake, FailsToRead}
 
 -- an input error says what is known to be wrong
 pub fails_by_input : (W P : Type 0) (f : Failure) → IsInput f → W → FailsFor W P f
@@ -63,3 +63,7 @@ pub fails_by_text : (config : PrintConfig) (source : Source) (x : List ℕ) (f :
 fails_by_text config source x f same input none =
     let none_of : (y : List ℕ) → Type 0 = λ y. (t : Tree) → IsDrawnForm (written_look config) config.depth y t → ⊥ in
     fails_by_input ((t : Tree) → HoldsDrawing (config_of config) source t → ⊥) (IsReadableValue (config_of config) → ⊥) f input (λ t holds. subst none_of same none t holds.form)
+
+-- of a source that could be read, the place is named
+pub names_read : (source : Source) (e : Failure) (P : Type 0) → source.fault ≡ None → P → MatchOption source.fault P (λ fault. IsInputOf (string_bytes fault) e)
+names_read source e P read is = subst (λ f. MatchOption f P (λ fault. IsInputOf (string_bytes fault) e)) (sym read) is

@@ -1,5 +1,5 @@
 -- Which texts are drawings, and how a reading fails.
-use Rattle.std.specs.Prelude.{◌≡◌, ◌⊎◌, ℕ, false, ◌==◌, if◌then◌else◌, List, ◌++◌, length, None, codes, decimal, String, string_bytes, ⊤}
+use Rattle.std.specs.Prelude.{◌≡◌, ◌⊎◌, ℕ, false, ◌==◌, if◌then◌else◌, List, ◌++◌, length, None, MatchOption, codes, decimal, String, string_bytes, ⊤}
 use Rattle.std.specs.declared.alloc.Global.{Global}
 use Rattle.std.specs.List.{concat, AllZip}
 use Rattle.ptree.specs.declared.print_config.OutputKind.TheVariants.{Unknown}
@@ -92,14 +92,15 @@ Says source wrong = IsInputOf (string_bytes source.name ++ codes ": " ++ wrong)
 abbrev pub SaysAt : Source → ℕ → List ℕ → Failure → Type 0
 SaysAt source line wrong = IsInputOf (string_bytes source.name ++ codes ":" ++ decimal line ++ codes ": " ++ wrong)
 
--- of a text that is no drawing, it names the first line that cannot continue one, and says what could; or
--- it names none, and says why the text ends too early
+-- of a source that could not be read, it says why; of a text that is no drawing, it names the first line that
+-- cannot continue one, and says what could; or it names none, and says why the text ends too early
 abbrev pub NamesPlace : ConfigValue → Source → Failure → Type 0
 NamesPlace config source e =
     let look = look_by config Unknown false in
     let text = string_bytes source.text in
-    source.fault ≡ None → IsInput e
-    → (wrong : List ℕ) × (((line : ℕ) × IsFirstWrongLine look config.depth text line × TellsLine config text line wrong × SaysAt source line wrong e) ⊎ (EndsWrong look config.depth text × TellsEnd config text wrong × Says source wrong e))
+    IsInput e → MatchOption source.fault
+    ((wrong : List ℕ) × (((line : ℕ) × IsFirstWrongLine look config.depth text line × TellsLine config text line wrong × SaysAt source line wrong e) ⊎ (EndsWrong look config.depth text × TellsEnd config text wrong × Says source wrong e)))
+    (λ fault. IsInputOf (string_bytes fault) e)
 
 -- ## Reports
 

@@ -4,7 +4,7 @@ ghost use Rattle.ptree.specs.Config.{config_of};
 ghost use Rattle.ptree.specs.Pieces.{passing_piece, config_pieces, pieces_of};
 ghost use Rattle.ptree.specs.Readable.{IsReadable, HasReadablePieces};
 ghost use Rattle.ptree.specs.Texts.{line_feed, IsPrefixOf};
-ghost use Rattle.trees.specs.Expected.{CanFollow, ListsBeginnings, IsTooDeep, IsLastLine, AddsListed, EndsPieces, EndsBelow, ShowsSibling, AreFronts, HasFronts, AddsTexts};
+ghost use Rattle.trees.specs.Expected.{CanFollow, ListsBeginnings, IsTooDeep, IsLastLine, AddsListed, EndsPieces, EndsBelow, ShowsLast, ShowsSibling, AddsBeside, AreFronts, HasFronts, AddsTexts};
 
 use crate::levels;
 use crate::source::behind;
@@ -50,8 +50,7 @@ fn fronts(alloc: Global, line: &str, indent: &Indent) -> Result<Vec<String>, All
     let mut front = String::new(alloc);
     let mut rest = line;
     for passed in 0..LEVELS {
-        forget_closed(&mut fronts, rest, indent);
-        fronts.push(front.clone()?)?;
+        push_beside(alloc, &mut fronts, front.as_str(), rest, indent)?;
         let Some((piece, left)) = passing(indent, rest) else {
             if passed + 1 < LEVELS {
                 push_below(alloc, &mut fronts, front.as_str(), rest, indent)?;
@@ -64,19 +63,47 @@ fn fronts(alloc: Global, line: &str, indent: &Indent) -> Result<Vec<String>, All
     Ok(fronts)
 }
 
-// Forgets all passing pieces if a line goes on with a piece of an item that is no last child: its
-// sibling has to follow before anything above.
-fn forget_closed(fronts: &mut Vec<String>, rest: &str, indent: &Indent)
-    ensures { (fronts.new.items ≡ fronts.old.items)
-        ⊎ ((fronts.new.items ≡ []) × ShowsSibling (pieces_of indent.now) rest.now) }
+// Adds the passing pieces behind which a line goes on so. If it goes on with an item that is no last
+// child, its sibling has to follow before anything above, so all others are forgotten. A last child
+// has no sibling.
+fn push_beside(
+    alloc: Global,
+    fronts: &mut Vec<String>,
+    front: &str,
+    rest: &str,
+    indent: &Indent,
+) -> Result<(), AllocError>
+    ensures { OnOk result (AddsBeside (pieces_of indent.now) rest.now front.now
+        (map string_bytes fronts.old.items) (map string_bytes fronts.new.items)) }
+{
+    if shows_last(rest, indent) {
+        return Ok(());
+    }
+    if shows_sibling(rest, indent) {
+        fronts.clear();
+    }
+    Ok(fronts.push(String::from_str(alloc, front)?)?)
+}
+
+// Whether a line goes on with the piece of a last child, and that of another child is another.
+fn shows_last(rest: &str, indent: &Indent) -> bool
+    ensures { IsTrue result → ShowsLast (pieces_of indent.now) rest.now }
 {
     let (child, last) = (&indent.child_prefix, &indent.last_child_prefix);
     let (regular, last_regular) = (&indent.regular_prefix, &indent.last_regular_prefix);
-    if begins_apart(rest, child.as_str(), last.as_str())
+    begins_apart(rest, last.as_str(), child.as_str())
+        || begins_apart(rest, last_regular.as_str(), regular.as_str())
+}
+
+// Whether a line goes on with the piece of a child that a sibling follows, and that of a last child
+// is another.
+fn shows_sibling(rest: &str, indent: &Indent) -> bool
+    ensures { IsTrue result → ShowsSibling (pieces_of indent.now) rest.now }
+{
+    let (child, last) = (&indent.child_prefix, &indent.last_child_prefix);
+    let (regular, last_regular) = (&indent.regular_prefix, &indent.last_regular_prefix);
+    begins_apart(rest, child.as_str(), last.as_str())
         || begins_apart(rest, regular.as_str(), last_regular.as_str())
-    {
-        fronts.clear();
-    }
 }
 
 // Whether a text begins with a piece, and another piece differs from it.

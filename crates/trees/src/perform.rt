@@ -569,8 +569,11 @@ fn compare_drawings<W: Sink>(
     ensures shown { ShowsMerged found.now.sources diff.drawing
         (W.contents out.old) (W.contents out.new) }
 {
-    let left = read_drawing(alloc, left, diff.drawing.pieces, found)?;
-    compare_with(alloc, &left, right, diff, out, found)
+    let tree = read_drawing(alloc, left, diff.drawing.pieces, found)?;
+    if left.text == right.text {
+        return Ok(());
+    }
+    compare_with(alloc, &tree, right, diff, out, found)
 }
 
 // Compares a tree with a drawing.

@@ -1,6 +1,6 @@
 use Rattle.std.proofs.Common.{◌≡◌, ◌++◌, ◌+◌, ℕ, suc, List, map, sym, ap, ◌∙◌, string_bytes, subst, arith, rules}
 use Rattle.ptree.specs.Pieces.{Pieces, pieces_of}
-use Rattle.trees.specs.Expected.{AreFronts, HasFronts, EndsBelow, AddsTexts}
+use Rattle.trees.specs.Expected.{AreFronts, HasFronts, EndsBelow, AddsBeside, AddsTexts}
 use Rattle.trees.proofs.Fronts.{front_longer, fronts_below}
 use Rattle.trees.proofs.FrontsTried.{HasTried, AreNext, next_added, tried_deeper, found_below, found_last, found_all}
 use Rattle.trees.proofs.expected.fronts.Goals as goal
@@ -13,15 +13,14 @@ returns-in_default c =
     let n : ℕ = c.loop-passed.passed in
     let front : List ℕ = string_bytes c.loop-passed.front in
     let rest : List ℕ = c.loop-passed.rest.now in
-    let new : List (List ℕ) = map string_bytes c.push.new.self.items in
-    let same : string_bytes c.in_ok-clone.field-0 ≡ front = search rules in
-    let next : AreNext p line n new front rest =
-    next_added p c.requires line n c.loop-passed.fronts.items c.forget_closed.new.fronts.items c.push.new.self.items c.in_ok-clone.field-0 front rest c.forget_closed.ensures c.in_ok-push.ensures.items same
-    c.loop-passed.invariant.1 c.loop-passed.invariant.2 in
+    let old : List (List ℕ) = map string_bytes c.loop-passed.fronts.items in
+    let new : List (List ℕ) = map string_bytes c.push_beside.new.fronts.items in
+    let added : AddsBeside p rest front old new = subst (λ z. AddsBeside p rest z old new) c.as_str.ensures.value c.in_ok-push_beside.ensures in
+    let next : AreNext p line n new front rest = next_added p c.requires line n old new front rest added c.loop-passed.invariant.1 c.loop-passed.invariant.2 in
     elim c.if-passed-lt-LEVELS.branch [
       | then-passed-lt-LEVELS+in_ok-push_below w ↦
           let all : List (List ℕ) = map string_bytes w.push_below.new.fronts.items in
-          let more : AddsTexts (EndsBelow p front rest) new all = subst (λ z. AddsTexts (EndsBelow p z rest) new all) w.as_str.ensures.value w.in_ok-push_below.ensures in
+          let more : AddsTexts (EndsBelow p front rest) new all = subst (λ z. AddsTexts (EndsBelow p z rest) new all) w.as_str-then-passed-lt-LEVELS.ensures.value w.in_ok-push_below.ensures in
           subst (λ v. AreFronts p (map string_bytes v.items) × HasFronts p line (map string_bytes v.items)) (sym w.fronts-is)
           (fronts_below p c.requires new all front rest next.are more, found_below p c.requires line n new all front rest next.have c.in_default.ensures more)
       | else-passed-lt-LEVELS w ↦
@@ -36,11 +35,10 @@ loop-passed-preserved c =
     let n : ℕ = c.loop-passed.passed in
     let front : List ℕ = string_bytes c.loop-passed.front in
     let rest : List ℕ = c.loop-passed.rest.now in
-    let new : List (List ℕ) = map string_bytes c.push.new.self.items in
-    let same : string_bytes c.in_ok-clone.field-0 ≡ front = search rules in
-    let next : AreNext p line n new front rest =
-    next_added p c.requires line n c.loop-passed.fronts.items c.forget_closed.new.fronts.items c.push.new.self.items c.in_ok-clone.field-0 front rest c.forget_closed.ensures c.in_ok-push.ensures.items same
-    c.loop-passed.invariant.1 c.loop-passed.invariant.2 in
+    let old : List (List ℕ) = map string_bytes c.loop-passed.fronts.items in
+    let new : List (List ℕ) = map string_bytes c.push_beside.new.fronts.items in
+    let added : AddsBeside p rest front old new = subst (λ z. AddsBeside p rest z old new) c.as_str.ensures.value c.in_ok-push_beside.ensures in
+    let next : AreNext p line n new front rest = next_added p c.requires line n old new front rest added c.loop-passed.invariant.1 c.loop-passed.invariant.2 in
     let longer : List ℕ = string_bytes c.push_str.new.self in
     let more : longer ≡ front ++ c.in-Some.piece.now = search rules in
     let (last, piece, goes) = c.in-Some.ensures in

@@ -3,10 +3,10 @@ use Rattle.trees.proofs.Shown.{merged_nothing}
 use Rattle.trees.proofs.perform.compare_drawings.Goals as goal
 
 pub returns-clause-told : goal.returns-clause-told
-returns-clause-told g c = c.compare_with.ensures.told (string_bytes c.args.left.now.text) c.in_ok-left.ensures.some.form
+returns-clause-told g c = c.compare_with.ensures.told (string_bytes c.args.left.now.text) c.in_ok-tree.ensures.some.form
 
 pub returns-clause-written : goal.returns-clause-written
-returns-clause-written g c = c.compare_with.ensures.written c.args.left.now c.in_ok-left.ensures.some
+returns-clause-written g c = c.compare_with.ensures.written c.args.left.now c.in_ok-tree.ensures.some
 
-pub returns-in_err-left-clause-shown : goal.returns-in_err-left-clause-shown
-returns-in_err-left-clause-shown g c = merged_nothing c.args.found.now.sources c.args.diff.drawing (g.W.Sink.contents c.args.out.now)
+pub returns-in_err-tree-clause-shown : goal.returns-in_err-tree-clause-shown
+returns-in_err-tree-clause-shown g c = merged_nothing c.args.found.now.sources c.args.diff.drawing (g.W.Sink.contents c.args.out.now)
