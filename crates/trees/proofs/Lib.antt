@@ -36,8 +36,15 @@ pub mod LockExamples
 pub mod Networks
 pub mod NextFronts
 pub mod NextItems
+pub mod NpmEntered
+pub mod NpmFolders
+pub mod NpmNearest
+pub mod NpmNeeds
 pub mod NpmPackages
 pub mod NpmPaths
+pub mod NpmReady
+pub mod NpmSteps
+pub mod NpmWalks
 pub mod OpenLevels
 pub mod Outlines
 pub mod OutlinesBack

@@ -1,6 +1,7 @@
 -- Packages of lock files of npm, and networks that get them.
-use Rattle.std.proofs.Common.{◌≡◌, ◌∙◌, ℕ, ◌+◌, ◌<◌, Bool, true, false, List, [], ◌∷◌, ◌++◌, length, get_or, take, map, codes, is_err, refl, sym, ap, subst, append_assoc, arith}
+use Rattle.std.proofs.Common.{◌≡◌, ◌∙◌, ℕ, zero, suc, ◌+◌, ◌<◌, Bool, true, false, List, [], ◌∷◌, ◌++◌, length, get_or, take, map, slice_get, codes, is_err, refl, sym, ap, subst, append_assoc, arith}
 use Rattle.std.proofs.lemmas.List.{append-nil, get_or-map, length-map, map-append, take_more}
+use Rattle.std.proofs.lemmas.Option.{slice_get-map, some_pair_parts}
 use Rattle.std.specs.Borrow.{Bor}
 use Rattle.std.specs.Cmp.Lexicographic.{slice_cmp}
 use Rattle.std.specs.List.{All, AllByRecursion, AllZip}
@@ -27,11 +28,12 @@ use Rattle.trees.specs.Depending.{directed, same_edge}
 use Rattle.trees.specs.DependingParts.{labels_of, needs_of, added, AddsEdge, IsEmpty, IsIndexed}
 use Rattle.trees.specs.Documents.{IsDocumentOf}
 use Rattle.trees.specs.LockingParts.{AddsEdges}
-use Rattle.trees.specs.Npm.{text_at, listed, with_project, packages_in, is_link, behind, other_name, label_text, IsLabel, IsRootName, AreAscending, HasNoLinks, HasPackages, HoldsPackages}
-use Rattle.trees.specs.NpmParts.{edge_of, AddsPackages, AddsInOrder}
+use Rattle.trees.specs.Npm.{text_at, listed, with_project, packages_in, path_in, is_link, behind, other_name, label_text, IsIn, IsLabel, IsRootName, AreAscending, HasNoLinks, HasNoWorkspaces, HasPackages, HoldsPackages}
+use Rattle.trees.specs.NpmParts.{edge_of, AddsPackages, AddsInOrder, AreNeeds}
 use Rattle.trees.proofs.LockedEdges.{edges_none, edges_both, edges_one, first_edges}
 use Rattle.trees.proofs.LockedPackages.{then_first}
 use Rattle.trees.proofs.Networks.{indexed_none}
+use Rattle.trees.proofs.NpmPaths.{path_some}
 
 -- ## Entries
 
@@ -144,20 +146,21 @@ module _ (root : List ℕ) where
   packages_indexed ps old new empty adds = indexed_none new (ap (λ v. v.items) adds.edges ∙ empty.edges) (ap (λ s. s.keys) adds.sorted ∙ empty.sorted)
 
   -- and then edges
-  pub packages_held : (source : Source) (lock : Data) (ps : List (List ℕ × Data)) (old n new : Network) → packages_in lock ≡ ps → IsEmpty old → AreAscending ps → IsRootName source lock root → AddsPackages root ps old n → AddsInOrder n new → HasPackages old.is_inverse source lock new
-  packages_held source lock ps old n new is empty up called adds more = record {
+  pub packages_held : (source : Source) (lock : Data) (ps : List (List ℕ × Data)) (old n new : Network) → packages_in lock ≡ ps → IsEmpty old → AreAscending ps → IsRootName source lock root → AddsPackages root ps old n → (es : List (ℕ × ℕ)) → AddsInOrder n new es → (HasNoWorkspaces ps → AreNeeds ps es) → HasPackages old.is_inverse source lock new
+  packages_held source lock ps old n new is empty up called adds es more are = record {
     ascending = subst AreAscending (sym is) up;
-    paths = ap (λ v. map string_bytes v.items) more.2.nodes.paths
+    paths = ap (λ v. map string_bytes v.items) more.1.nodes.paths
         ∙ (adds.paths ∙ (ap (λ v. map string_bytes v ++ map (λ p. p.0) ps) empty.paths ∙ ap (map (λ p. p.0)) (sym is)));
     root = root;
     called = called;
     labels = subst (λ qs. AllZip (IsLabel root) qs (labels_of new)) (sym is)
-        (subst (AllZip (IsLabel root) ps) (sym (ap (λ v. map string_bytes v.items) more.2.nodes.labels ∙ (adds.labels ∙ ap (λ v. map string_bytes v ++ adds.texts) empty.labels))) adds.are);
-    needs = more.0;
-    in_order = more.1;
-    edges = more.2.edges
-        ∙ (ap (λ (b : Bool). fold (added same_edge) (needs_of n) (map (directed b) more.0)) adds.is_inverse
-        ∙ (ap (λ es. fold (added same_edge) (map numbers_of es) (map (directed old.is_inverse) more.0)) (ap (λ v. v.items) adds.edges ∙ empty.edges) ∙ first_edges (map (directed old.is_inverse) more.0)));
+        (subst (AllZip (IsLabel root) ps) (sym (ap (λ v. map string_bytes v.items) more.1.nodes.labels ∙ (adds.labels ∙ ap (λ v. map string_bytes v ++ adds.texts) empty.labels))) adds.are);
+    needs = es;
+    in_order = more.0;
+    edges = more.1.edges
+        ∙ (ap (λ (b : Bool). fold (added same_edge) (needs_of n) (map (directed b) es)) adds.is_inverse
+        ∙ (ap (λ ds. fold (added same_edge) (map numbers_of ds) (map (directed old.is_inverse) es)) (ap (λ v. v.items) adds.edges ∙ empty.edges) ∙ first_edges (map (directed old.is_inverse) es)));
+    are = subst (λ qs. HasNoWorkspaces qs → AreNeeds qs es) (sym is) are;
   }
 
 -- ## Edges
@@ -198,10 +201,19 @@ pub project_there : (lock : Data) (es : List Entry) → (length es ≡ 0 → ⊥
 project_there lock [] some = absurd (some refl)
 project_there lock (e ∷ es) some = refl
 
+-- it needs nothing
+alone_needs : (lock : Data) → AreNeeds (([], lock) ∷ []) []
+alone_needs lock = λ i j. (λ c. absurd (omega (arith, c.1)), λ needs. absurd (nowhere j needs.nearest.folder needs.nearest.name needs.nearest.seen.is_in)) where
+  nowhere : (j : ℕ) (folder name : List ℕ) → IsIn (([], lock) ∷ []) j folder name → ⊥
+  nowhere zero folder name in' =
+      let both : ◌≡◌ {A = Option (List ℕ × Data)} (Some ([], lock)) (Some (path_in folder name, in'.1.0)) = in'.1.1 in
+      omega (arith, path_some [] folder name (some_pair_parts [] (path_in folder name) lock in'.1.0 both).0)
+  nowhere (suc j) folder name in' = (let no : ◌≡◌ {A = Option (List ℕ × Data)} None (Some (path_in folder name, in'.1.0)) = in'.1.1 in cc)
+
 pub project_held : (root : List ℕ) (source : Source) (lock : Data) (old new : Network) → packages_in lock ≡ ([], lock) ∷ [] → IsEmpty old → IsRootName source lock root → AddsPackages root (([], lock) ∷ []) old new → HasPackages old.is_inverse source lock new
 unfolding IsStrictlySortedBy
 project_held root source lock old new is empty called adds =
-    packages_held root source lock (([], lock) ∷ []) old new new is empty (tt, tt) called adds ([], λ k d low within. absurd (omega (arith, within)), edges_none new (packages_indexed root (([], lock) ∷ []) old new empty adds))
+    packages_held root source lock (([], lock) ∷ []) old new new is empty (tt, tt) called adds [] (λ k d low within. absurd (omega (arith, within)), edges_none new (packages_indexed root (([], lock) ∷ []) old new empty adds)) (λ none. alone_needs lock)
 
 -- ## Files
 
@@ -209,3 +221,22 @@ project_held root source lock old new is empty called adds =
 pub held_read : {X E : Type 0} (r : Result X E) (source : Source) (lock : Data) (is_inverse : Bool) (n : Network) → IsDocumentOf Json source (json lock) → (HasNoLinks (packages_in lock) → OnOk r (HasPackages is_inverse source lock n)) → OnOk r (HoldsPackages source is_inverse n)
 held_read (Ok x) source lock is_inverse n is held = (lock, is, held)
 held_read (Err e) source lock is_inverse n is held = tt
+
+-- ## Keys
+
+keys_seen : (es : List Entry) → map (λ e. string_bytes e.0) es ≡ map (λ p. p.0) (listed (members_view es))
+keys_seen [] = refl
+keys_seen (e ∷ es) = ap (λ (ts : List (List ℕ)). string_bytes e.0 ∷ ts) (keys_seen es)
+
+-- all keys of a map
+pub all_keys : (ks : List (Bor (String Global))) (es : List Entry) → map (λ k. k.now) ks ≡ map (λ e. e.0) es → map (λ k. string_bytes k.now) ks ≡ map (λ p. p.0) (listed (members_view es))
+all_keys ks es all = map_twice (λ (k : Bor (String Global)). k.now) string_bytes ks ∙ (ap (map string_bytes) all ∙ (sym (map_twice (λ (e : Entry). e.0) string_bytes es) ∙ keys_seen es))
+
+-- ## Places
+
+-- the package of a turn
+pub package_turn : (es : List Entry) (n : ℕ) (x : Item) → slice_get es n ≡ Some (deref_pair x) → slice_get (listed (members_view es)) n ≡ Some (item_seen x)
+package_turn es n x at = ap (λ (ps : List (List ℕ × Data)). slice_get ps n) (listed_entries es) ∙ (slice_get-map entry_seen es n ∙ ap (option_map entry_seen) at)
+
+pub packages_size : (es : List Entry) → length (listed (members_view es)) ≡ length es
+packages_size es = ap length (listed_entries es) ∙ length-map es entry_seen

@@ -1,5 +1,5 @@
 -- Paths of packages of npm.
-use Rattle.std.proofs.Common.{◌≡◌, ◌≢◌, ◌∙◌, ℕ, ◌+◌, ◌-◌, ◌<◌, ◌||◌, Bool, true, false, eqb, List, [], ◌∷◌, ◌++◌, length, get_or, take, drop, codes, refl, sym, ap, subst, append_assoc, length-append, arith}
+use Rattle.std.proofs.Common.{◌≡◌, ◌≢◌, ◌∙◌, ℕ, ◌+◌, ◌-◌, ◌<◌, ◌||◌, Bool, true, false, eqb, List, [], ◌∷◌, ◌++◌, length, get_or, take, drop, codes, inl, inr, refl, sym, ap, subst, append_assoc, length-append, arith}
 use Rattle.std.proofs.Math.Seq.{drop-append_seam, get_or-append_seam}
 use Rattle.std.proofs.lemmas.Bool.{false≢true}
 use Rattle.std.proofs.lemmas.List.{append_cancel_right, take-append-drop, take_all}
@@ -11,7 +11,7 @@ use Rattle.std.specs.Prelude.{Option, Some, None, MatchOption, unwrap_or}
 use Rattle.std.specs.Str.Pattern.{HasCharAt, RFindsChar, SplitsAroundMatch, FindsTextSuffix, StripsSuffix, GetsRange}
 use Rattle.trees.specs.Documents.{IsLastPart}
 use Rattle.trees.specs.Locking.{Lacks}
-use Rattle.trees.specs.Npm.{IsScoped, home, path_in}
+use Rattle.trees.specs.Npm.{IsName, IsScoped, home, path_in}
 use Rattle.trees.proofs.NeedTexts.{lacks_byte}
 
 -- ## Slashes
@@ -165,3 +165,50 @@ pub path_some : (path folder own : List ℕ) → path ≡ path_in folder own →
 path_some path folder own e =
     let size : length path ≡ length (home folder) + length (47 ∷ own) = ap length e ∙ length-append (home folder) (47 ∷ own) in
     omega (arith, size)
+
+-- what `strip_suffix` leaves
+pub text_left : (n s x : List ℕ) → StripsSuffix (FindsTextSuffix n) s x → s ≡ x ++ n
+text_left n s x cut = cut.1.1 ∙ ap (λ (t : List ℕ). t ++ n) (sym cut.2)
+
+pub before_some : (folder text : List ℕ) → text ≡ folder ++ codes "/" → folder ≢ [] → text ≡ before folder
+before_some [] text is some = absurd (some refl)
+before_some (b ∷ folder) text is some = is
+
+-- a name behind `node_modules/`
+pub placed_at : (path start text folder name : List ℕ) → path ≡ start ++ name → start ≡ text ++ codes "node_modules/" → text ≡ before folder → path ≡ path_in folder name
+placed_at path start text folder name is node same =
+    is
+    ∙ (ap (λ (t : List ℕ). t ++ name) (node ∙ ap (λ (t : List ℕ). t ++ codes "node_modules/") same)
+    ∙ sym (front_name (path_in folder name) folder name name refl refl))
+
+-- ## Last names
+
+last_cut : (path text : List ℕ) → IsLastPart path text → (front : List ℕ) × (path ≡ front ++ text) × Lacks (47 ∷ []) text
+last_cut path text part = go part.0 part.1 part.2 where
+  go : (r : Option (ℕ × ℕ)) → RFindsChar 47 path r → MatchOption r (text ≡ path) (λ found. text ≡ drop found.1 path) → (front : List ℕ) × (path ≡ front ++ text) × Lacks (47 ∷ []) text
+  go None none same = ([], sym same, subst (Lacks (47 ∷ [])) (sym same) (lacks_byte 47 path (λ i low. NoCharPasses-char 47 path i none (omega arith) low)))
+  go (Some p) found same = (
+    take p.1 path,
+    sym (take-append-drop p.1 path) ∙ ap (λ (t : List ℕ). take p.1 path ++ t) (sym same),
+    subst (Lacks (47 ∷ [])) (sym same) (lacks_byte 47 (drop p.1 path) (λ i low. NoCharPasses-char 47 (drop p.1 path) i found.0 (omega arith) low)),
+  )
+
+lacks_more : (b : ℕ) (text : List ℕ) → Lacks (47 ∷ []) (b ∷ text) → Lacks (47 ∷ []) text
+lacks_more b text lacks = λ before after e. lacks (b ∷ before) after (ap (λ (t : List ℕ). b ∷ t) e)
+
+scoped_name : (scope name : List ℕ) → get_or scope 0 0 ≡ 64 → Lacks (47 ∷ []) scope → Lacks (47 ∷ []) name → IsScoped (scope ++ 47 ∷ name)
+scoped_name [] name first one two = absurd (omega (arith, first))
+scoped_name (b ∷ scope) name first one two = record { scope = scope; own = name; is = ap (λ (c : ℕ). c ∷ (scope ++ 47 ∷ name)) first; first = lacks_more b scope one; last = two }
+
+-- the last two parts of a path, where the first begins with `@`, or the last one alone
+pub some_name : (path above name scope : List ℕ) → path ≡ above ++ 47 ∷ name → Lacks (47 ∷ []) name → IsLastPart above scope → get_or scope 0 0 ≡ 64 → (i : ℕ) (r : Option (Bor (List ℕ))) (d : Bor (List ℕ)) → d.now ≡ name → i ≡ length above - length scope → GetsRange path i (length path) r
+    → IsName (unwrap_or r d).now
+some_name path above name scope is lacks part first i None d same at gets = inl (subst (Lacks (47 ∷ [])) (sym same) lacks)
+some_name path above name scope is lacks part first i (Some x) d same at gets =
+    let cut = last_cut above scope part in
+    let size : i ≡ length cut.0 = omega (arith, at, ap length cut.1, length-append cut.0 scope) in
+    let whole : path ≡ cut.0 ++ (scope ++ 47 ∷ name) = is ∙ (ap (λ (t : List ℕ). t ++ 47 ∷ name) cut.1 ∙ append_assoc cut.0 scope (47 ∷ name)) in
+    let behind : drop i path ≡ scope ++ 47 ∷ name = ap (λ (n : ℕ). drop n path) size ∙ (ap (drop (length cut.0)) whole ∙ drop-append_seam cut.0 (scope ++ 47 ∷ name)) in
+    let fits : length path ≡ i + length (scope ++ 47 ∷ name) = ap length whole ∙ (length-append cut.0 (scope ++ 47 ∷ name) ∙ ap (λ (n : ℕ). n + length (scope ++ 47 ∷ name)) (sym size)) in
+    let text : x.now ≡ scope ++ 47 ∷ name = gets.0 ∙ (take_all (length path - i) (drop i path) (omega (arith, ap length behind, fits)) ∙ behind) in
+    inr (subst IsScoped (sym text) (scoped_name scope name first cut.2 lacks))

@@ -1,10 +1,11 @@
--- Which packages a package-lock.json has, and their labels.
+-- Which packages a package-lock.json has, their labels, and what they need.
 use Rattle.std.specs.Cmp.Lexicographic.{slice_cmp}
-use Rattle.std.specs.List.{AllZip}
+use Rattle.std.specs.List.{AllZip, slice_split, starts_with}
 use Rattle.std.specs.List.Sorted.{IsSorted, IsStrictlySortedBy}
-use Rattle.std.specs.Ordering.{nat_cmp}
-use Rattle.std.specs.Prelude.{◌≡◌, ◌⊎◌, ℕ, Bool, false, if◌then◌else◌, List, [], ◌∷◌, ◌++◌, codes, map, All, Option, Some, None, MatchOption, option_and_then, option_map, unwrap_or, string_bytes}
+use Rattle.std.specs.Ordering.{is_lt, nat_cmp}
+use Rattle.std.specs.Prelude.{◌≡◌, ◌≢◌, ◌==◌, ◌||◌, ◌⊎◌, ◌↔◌, ℕ, nat_eq, Bool, false, if◌then◌else◌, List, [], ◌∷◌, ◌++◌, codes, map, slice_get, All, Contains, Option, Some, None, MatchOption, option_and_then, option_map, unwrap_or, string_bytes}
 use Rattle.std.specs.Str.{bytes_eq}
+use Rattle.std.specs.StrCase.Lower.{str_to_lowercase}
 use Rattle.serde_json.specs.Data.{Data, Members, no_members, member}
 use Rattle.serde_json.specs.Find.{get, as_bool, as_object, as_str}
 use Rattle.ptree.specs.File.{json}
@@ -70,6 +71,77 @@ AreAscending packages = IsStrictlySortedBy (slice_cmp nat_cmp) (map (λ p. p.0) 
 abbrev pub HasNoLinks : List (List ℕ × Data) → Type 0
 HasNoLinks packages = All (λ p. is_link p.1 ≡ false) packages
 
+-- ## Folders
+
+-- what is around a path: the project, or what that is in
+abbrev pub around : List ℕ → List ℕ
+around path = if bytes_eq path (codes "..") || starts_with nat_eq path (codes "../") then codes ".." else codes "."
+
+-- the parts of a path
+abbrev pub parts : List ℕ → List (List ℕ)
+parts [] = []
+parts (b ∷ path) = slice_split (λ c. c == 47) (b ∷ path)
+
+-- the folders of a path from the outermost on
+abbrev pub folders : List ℕ → List (List ℕ)
+folders path = around path ∷ parts path
+
+-- a folder is that of a path, or one above it
+abbrev pub IsAbove : List ℕ → List ℕ → Type 0
+IsAbove folder path = (rest : List (List ℕ)) × (folders path ≡ folders folder ++ rest)
+
+-- a path is that of something in a `node_modules`
+abbrev pub IsPlaced : List ℕ → Type 0
+IsPlaced path = (folder : List ℕ) × (name : List ℕ) × IsName name × (path ≡ path_in folder name)
+
+-- the package with a number is in the `node_modules` of a folder under a name
+abbrev pub IsIn : List (List ℕ × Data) → ℕ → List ℕ → List ℕ → Type 0
+IsIn packages i folder name = IsName name × ((d : Data) × (slice_get packages i ≡ Some (path_in folder name, d)))
+
+-- ## Needs
+
+-- the names in a list of a package
+abbrev pub names_at : List ℕ → Data → List (List ℕ)
+names_at key d = map (λ p. p.0) (unwrap_or (option_map listed (option_and_then as_object (get key d))) [])
+
+-- the names in its lists
+abbrev pub names_in : Data → List (List ℕ)
+names_in d = names_at (codes "dependencies") d ++ (names_at (codes "optionalDependencies") d ++ names_at (codes "peerDependencies") d)
+
+-- the package at a path names another, maybe as what it is developed with, if it is in no `node_modules`
+abbrev pub Names : List ℕ → Data → List ℕ → Type 0
+Names path d name = Contains (names_in d) name ⊎ ((IsPlaced path → ⊥) × Contains (names_at (codes "devDependencies") d) name)
+
+-- seen from a path, the package with a number is in the `node_modules` of a folder, which is that of the path or one above it, under a name that is the wanted one but for the case
+pub record IsSeen (packages : List (List ℕ × Data)) (path wanted : List ℕ) (i : ℕ) (folder name : List ℕ) : Type 0 where
+  pub is_in : IsIn packages i folder name
+  pub above : IsAbove folder path
+  pub alike : str_to_lowercase name ≡ str_to_lowercase wanted
+
+-- of two names in one folder the first is meant: it is the wanted one, or the other is not and does not come after it
+abbrev pub IsMeant : List ℕ → List ℕ → List ℕ → Type 0
+IsMeant wanted name other = (name ≡ wanted) ⊎ ((other ≢ wanted) × (is_lt (slice_cmp nat_cmp name other) ≡ false))
+
+-- and no such package is in a nearer folder, nor meant rather than it in this one
+pub record IsNearest (packages : List (List ℕ × Data)) (path wanted : List ℕ) (i : ℕ) : Type 0 where
+  pub folder : List ℕ
+  pub name : List ℕ
+  pub seen : IsSeen packages path wanted i folder name
+  pub nearest : (j : ℕ) (above other : List ℕ) → IsSeen packages path wanted j above other → IsAbove above folder × (above ≡ folder → IsMeant wanted name other)
+
+-- a package needs another: that is the nearest one, seen from its path, for a name that it names
+pub record Needs (packages : List (List ℕ × Data)) (i j : ℕ) : Type 0 where
+  pub path : List ℕ
+  pub value : Data
+  pub is : slice_get packages i ≡ Some (path, value)
+  pub name : List ℕ
+  pub named : Names path value name
+  pub nearest : IsNearest packages path name j
+
+-- the project has no workspaces
+abbrev pub HasNoWorkspaces : List (List ℕ × Data) → Type 0
+HasNoWorkspaces packages = All (λ p. p.0 ≡ [] → get (codes "workspaces") p.1 ≡ None) packages
+
 -- ## Labels
 
 -- what the project is called: its name in the file, or the last part of the file's path
@@ -101,7 +173,7 @@ IsLabel root p text = (name : List ℕ) → IsCalled root p.0 (text_at (codes "n
 -- ## Networks
 
 -- a network has the packages of a lock file in ascending order of their paths, with their labels, and
--- edges in the order of those that need something, each once
+-- edges in the order of those that need something, each once: what they need, unless the project has workspaces
 pub record HasPackages (is_inverse : Bool) (source : Source) (lock : Data) (n : Network) : Type 0 where
   pub ascending : AreAscending (packages_in lock)
   pub paths : map string_bytes n.paths.items ≡ map (λ p. p.0) (packages_in lock)
@@ -111,6 +183,7 @@ pub record HasPackages (is_inverse : Bool) (source : Source) (lock : Data) (n : 
   pub needs : List (ℕ × ℕ)
   pub in_order : IsSorted nat_cmp (map (λ e. e.0) needs)
   pub edges : needs_of n ≡ firsts same_edge (map (directed is_inverse) needs)
+  pub are : HasNoWorkspaces (packages_in lock) → (i j : ℕ) → Contains needs (i, j) ↔ Needs (packages_in lock) i j
 
 -- a source is the document of a lock file; of one without links the network has the packages
 abbrev pub HoldsPackages : Source → Bool → Network → Type 0

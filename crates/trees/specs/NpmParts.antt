@@ -1,14 +1,25 @@
 -- What the parts of reading package-lock.json do. What `perform` ensures doesn't cite this.
+use Rattle.std.specs.BTreeMap.{BTreeMap, get_by, get_by_text}
 use Rattle.std.specs.Borrow.{Bor}
+use Rattle.std.specs.Bool.{⊤}
+use Rattle.std.specs.Cmp.Lexicographic.{slice_cmp}
 use Rattle.std.specs.List.{AllZip}
 use Rattle.std.specs.List.Sorted.{IsSorted}
-use Rattle.std.specs.Ordering.{nat_cmp}
-use Rattle.std.specs.Prelude.{◌≡◌, ℕ, List, ◌++◌, map, string_bytes}
+use Rattle.std.specs.Option.{option_flatten, option_or}
+use Rattle.std.specs.Ordering.{bool_cmp, is_lt, nat_cmp, ordering_then}
+use Rattle.std.specs.Prelude.{◌≡◌, ◌<◌, ◌≤◌, ◌==◌, ◌⊎◌, ◌↔◌, ℕ, Bool, true, false, if◌then◌else◌, List, [], ◌∷◌, ◌++◌, codes, flat_map, length, map, slice_get, string_bytes, All, AllPairs, Contains, Option, Some, None, option_map, option_to_list, String, Vec}
+use Rattle.std.specs.Str.{bytes_eq}
+use Rattle.std.specs.StrCase.Lower.{str_to_lowercase}
+use Rattle.std.specs.declared.alloc.Global.{Global}
+use Rattle.std.specs.declared.cmp.Ordering.{Ordering}
 use Rattle.serde_json.specs.Data.{Data}
+use Rattle.serde_json.specs.View.{members_view}
+use Rattle.serde_json.specs.declared.value.Value.{Value}
 use Rattle.trees.specs.declared.deps.Network.{Network}
+use Rattle.trees.specs.declared.deps.npm.Walk.{Walk}
 use Rattle.trees.specs.DependingParts.{labels_of}
 use Rattle.trees.specs.LockingParts.{AddsEdges}
-use Rattle.trees.specs.Npm.{IsLabel}
+use Rattle.trees.specs.Npm.{listed, path_in, folders, names_at, AreAscending, HasNoWorkspaces, IsIn, IsLabel, IsName, IsNearest, IsPlaced, Names, Needs}
 
 -- a network gets packages: their paths and labels
 pub record AddsPackages (root : List ℕ) (packages : List (List ℕ × Data)) (old new : Network) : Type 0 where
@@ -21,9 +32,214 @@ pub record AddsPackages (root : List ℕ) (packages : List (List ℕ × Data)) (
   pub sorted : new.sorted ≡ old.sorted
 
 -- it gets edges, in the order of the nodes that they begin at
-abbrev pub AddsInOrder : Network → Network → Type 0
-AddsInOrder old new = (es : List (ℕ × ℕ)) × IsSorted nat_cmp (map (λ e. e.0) es) × AddsEdges old new es
+abbrev pub AddsInOrder : Network → Network → List (ℕ × ℕ) → Type 0
+AddsInOrder old new es = IsSorted nat_cmp (map (λ e. e.0) es) × AddsEdges old new es
 
 -- the edge of a need
 abbrev pub edge_of : ℕ × Bor (List ℕ) × ℕ → ℕ × ℕ
 edge_of need = (need.0, need.2)
+
+-- the packages of a map
+abbrev pub packages_of : BTreeMap (String Global) Value → List (List ℕ × Data)
+packages_of m = listed (members_view m.entries)
+
+-- nodes have these paths
+abbrev pub ArePaths : List (List ℕ × Data) → List (String Global) → Type 0
+ArePaths packages paths = map string_bytes paths ≡ map (λ p. p.0) packages
+
+-- ## Steps
+
+-- a step of a walk through folders
+abbrev pub Step : Type 0
+Step = Vec (Bor (List ℕ)) Global × Bool × Bor (List ℕ) × ℕ
+
+abbrev pub texts_of : List (Bor (List ℕ)) → List (List ℕ)
+texts_of texts = map (λ t. t.now) texts
+
+-- the folders of a step, its name and that in lower case
+abbrev pub folders_of : Step → List (List ℕ)
+folders_of s = texts_of s.0.items
+
+abbrev pub name_of : Step → List ℕ
+name_of s = s.2.now
+
+abbrev pub lower_of : Step → List ℕ
+lower_of s = str_to_lowercase s.2.now
+
+-- the order of steps
+abbrev pub step_cmp : Step → Step → Ordering
+step_cmp s t = ordering_then (ordering_then (ordering_then (slice_cmp (λ x y. slice_cmp nat_cmp x.now y.now) s.0.items t.0.items) (bool_cmp s.1 t.1)) (slice_cmp nat_cmp s.2.now t.2.now)) (nat_cmp s.3 t.3)
+
+-- a step is at the package with a path and a number itself
+pub record IsOwnStep (path : List ℕ) (i : ℕ) (s : Step) : Type 0 where
+  pub own : s.1 ≡ true
+  pub called : name_of s ≡ path
+  pub around : folders_of s ≡ folders path
+  pub node : s.3 ≡ i
+
+-- it enters a folder with the package that has a name in the `node_modules` there, and a number
+pub record IsStepIn (folder name : List ℕ) (i : ℕ) (s : Step) : Type 0 where
+  pub other : s.1 ≡ false
+  pub called : name_of s ≡ name
+  pub around : folders_of s ≡ folders folder
+  pub node : s.3 ≡ i
+
+-- one of some steps is so
+abbrev pub Has : List Step → (Step → Type 0) → Type 0
+Has steps Is = (s : Step) × Contains steps s × Is s
+
+-- steps get the one that enters a folder with what is at a path, if that is in a `node_modules`
+pub record AddsStepsIn (path : List ℕ) (i : ℕ) (old new : List Step) : Type 0 where
+  pub more : List Step
+  pub is : new ≡ old ++ more
+  pub each : All (λ s. (folder : List ℕ) × (name : List ℕ) × IsName name × (path ≡ path_in folder name) × IsStepIn folder name i s) more
+  pub all : (folder name : List ℕ) → IsName name → path ≡ path_in folder name → Has more (IsStepIn folder name i)
+
+-- and the one at the package itself
+pub record AddsSteps (path : List ℕ) (i : ℕ) (old new : List Step) : Type 0 where
+  pub between : List Step
+  pub others : AddsStepsIn path i old between
+  pub step : Step
+  pub is : new ≡ between ++ step ∷ []
+  pub own : IsOwnStep path i step
+
+-- a step is at a package itself, or enters a folder with one
+abbrev pub IsStep : List (List ℕ × Data) → Step → Type 0
+IsStep packages s =
+    ((path : List ℕ) × (d : Data) × (slice_get packages s.3 ≡ Some (path, d)) × IsOwnStep path s.3 s)
+    ⊎ ((folder : List ℕ) × (name : List ℕ) × IsIn packages s.3 folder name × IsStepIn folder name s.3 s)
+
+-- steps in order are those of packages
+pub record HasSteps (packages : List (List ℕ × Data)) (steps : List Step) : Type 0 where
+  pub ascending : AreAscending packages
+  pub sorted : IsSorted step_cmp steps
+  pub each : All (IsStep packages) steps
+  pub own : (i : ℕ) (path : List ℕ) (d : Data) → slice_get packages i ≡ Some (path, d) → Has steps (IsOwnStep path i)
+  pub others : (i : ℕ) (folder name : List ℕ) → IsIn packages i folder name → Has steps (IsStepIn folder name i)
+
+-- ## What is entered
+
+-- how many folders are around the package of a step, and its node
+abbrev pub found_of : Step → ℕ × ℕ
+found_of s = (length s.0.items, s.3)
+
+-- the last of some steps with a name
+abbrev pub latest : (Step → List ℕ) → List Step → List ℕ → Option (ℕ × ℕ)
+latest key [] name = None
+latest key (s ∷ steps) name = option_or (latest key steps name) (if bytes_eq (key s) name then Some (found_of s) else None)
+
+-- the node of the last one with a name in lower case, or of the last with the very name, if as many folders are around that
+abbrev pub chosen : Option (ℕ × ℕ) → Option (ℕ × ℕ) → Option ℕ
+chosen None same = None
+chosen (Some nearest) None = Some nearest.1
+chosen (Some nearest) (Some same) = if same.0 == nearest.0 then Some same.1 else Some nearest.1
+
+abbrev pub nearest_of : List Step → List ℕ → Option ℕ
+nearest_of steps name = chosen (latest lower_of steps (str_to_lowercase name)) (latest name_of steps name)
+
+-- the steps whose folders were entered and not left
+abbrev pub entered_of : Walk → List Step
+entered_of w = map (λ e. e.0.now) w.entered.items
+
+-- with each step stands what was the last one of its name before
+abbrev pub AreKept : List Step → List (Bor Step × Option (ℕ × ℕ) × Option (ℕ × ℕ)) → Type 0
+AreKept before [] = ⊤
+AreKept before (e ∷ es) = (e.1 ≡ latest name_of before (name_of e.0.now)) × (e.2 ≡ latest lower_of before (lower_of e.0.now)) × AreKept (before ++ e.0.now ∷ []) es
+
+-- the maps of a walk have the last step of each name
+pub record IsReady (w : Walk) : Type 0 where
+  pub same : (name : List ℕ) → option_flatten (get_by (λ k. slice_cmp nat_cmp name k.now) w.same) ≡ latest name_of (entered_of w) name
+  pub nearest : (name : List ℕ) → option_flatten (get_by_text w.nearest name) ≡ latest lower_of (entered_of w) name
+  pub kept : AreKept [] w.entered.items
+
+-- a walk enters with a step
+pub record Enters (s : Step) (old new : Walk) : Type 0 where
+  pub ready : IsReady new
+  pub entered : entered_of new ≡ entered_of old ++ s ∷ []
+  pub packages : new.packages ≡ old.packages
+  pub needs : new.needs ≡ old.needs
+
+-- some folders begin with the folders of a step
+abbrev pub IsWithin : List (List ℕ) → Step → Type 0
+IsWithin inner s = (rest : List (List ℕ)) × (inner ≡ folders_of s ++ rest)
+
+-- it leaves what is not above some folders: the last steps, and no more
+pub record Leaves (inner : List (List ℕ)) (old new : Walk) : Type 0 where
+  pub ready : IsReady new
+  pub left : List Step
+  pub entered : entered_of old ≡ entered_of new ++ left
+  pub each : All (λ s. IsWithin inner s → ⊥) left
+  pub stays : (entered_of new ≡ []) ⊎ ((front : List Step) × (s : Step) × (entered_of new ≡ front ++ s ∷ []) × IsWithin inner s)
+  pub packages : new.packages ≡ old.packages
+  pub needs : new.needs ≡ old.needs
+
+-- ## What is needed
+
+-- the edges of the needs so far
+abbrev pub needs_in : Walk → List (ℕ × ℕ)
+needs_in w = map edge_of w.needs.items
+
+-- the edge to the nearest package of a name
+abbrev pub edges_by : List Step → ℕ → List ℕ → List (ℕ × ℕ)
+edges_by steps node name = option_to_list (option_map (λ need. (node, need)) (nearest_of steps name))
+
+-- a walk gets the needs of names
+pub record AddsNamed (node : ℕ) (names : List (List ℕ)) (old new : Walk) : Type 0 where
+  pub ready : IsReady new
+  pub entered : entered_of new ≡ entered_of old
+  pub packages : new.packages ≡ old.packages
+  pub needs : needs_in new ≡ needs_in old ++ flat_map (edges_by (entered_of old) node) names
+
+-- those that a package is developed with
+abbrev pub AddsDeveloped : List ℕ → Data → ℕ → Walk → Walk → Type 0
+AddsDeveloped path d node old new =
+    (IsPlaced path × AddsNamed node [] old new)
+    ⊎ ((IsPlaced path → ⊥) × AddsNamed node (names_at (codes "devDependencies") d) old new)
+
+-- and all that a package names
+abbrev pub AddsLists : List ℕ → Data → ℕ → Walk → Walk → Type 0
+AddsLists path d node old new = (names : List (List ℕ)) × ((name : List ℕ) → Contains names name ↔ Names path d name) × AddsNamed node names old new
+
+-- ## Walks
+
+-- the packages of a walk
+abbrev pub walked : Walk → List (List ℕ × Data)
+walked w = packages_of w.packages.now
+
+-- a walk has gone no step
+pub record IsFresh (w : Walk) : Type 0 where
+  pub same : w.same.entries ≡ []
+  pub nearest : w.nearest.entries ≡ []
+  pub entered : w.entered.items ≡ []
+  pub needs : w.needs.items ≡ []
+
+-- a step is before a place
+abbrev pub IsBefore : List Step → ℕ → Step → Type 0
+IsBefore steps k s = (m : ℕ) × (m < k) × (slice_get steps m ≡ Some s)
+
+-- a step can follow another where folders are entered
+abbrev pub Follows : Step → Step → Type 0
+Follows s t = IsWithin (folders_of t) s × (is_lt (step_cmp t s) ≡ false)
+
+-- before a place those steps are entered that enter a folder around a later one, in order
+pub record AreEntered (steps : List Step) (k : ℕ) (entered : List Step) : Type 0 where
+  pub each : All (λ s. (s.1 ≡ false) × IsBefore steps k s) entered
+  pub chain : AllPairs Follows entered
+  pub all : (s t : Step) (m : ℕ) → IsBefore steps k s → s.1 ≡ false → k ≤ m → slice_get steps m ≡ Some t → IsWithin (folders_of t) s → Contains entered s
+
+-- a walk is at a place of the steps of packages: it has the needs of those before
+pub record IsAtStep (packages : List (List ℕ × Data)) (steps : List Step) (k : ℕ) (w : Walk) : Type 0 where
+  pub walks : walked w ≡ packages
+  pub ready : IsReady w
+  pub entered : AreEntered steps k (entered_of w)
+  pub each : (i j : ℕ) → Contains (needs_in w) (i, j) → Needs packages i j
+  pub all : (s : Step) (d : Data) (name : List ℕ) (j : ℕ) → IsBefore steps k s → s.1 ≡ true → slice_get packages s.3 ≡ Some (name_of s, d) → Names (name_of s) d name → IsNearest packages (name_of s) name j
+      → Contains (needs_in w) (s.3, j)
+
+-- edges are the needs of packages
+abbrev pub AreNeeds : List (List ℕ × Data) → List (ℕ × ℕ) → Type 0
+AreNeeds packages es = (i j : ℕ) → Contains es (i, j) ↔ Needs packages i j
+
+-- a network gets the needs of packages, in the order of the nodes that they begin at
+abbrev pub AddsNearest : List (List ℕ × Data) → List Step → Network → Network → Type 0
+AddsNearest packages steps old new = (es : List (ℕ × ℕ)) × AddsInOrder old new es × (HasSteps packages steps → HasNoWorkspaces packages → AreNeeds packages es)

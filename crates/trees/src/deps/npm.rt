@@ -1,11 +1,14 @@
 //! Lock files of npm.
-ghost use Rattle.std.specs.Prelude.{◌≡◌, ℕ, false, true, [], ◌∷◌, ◌++◌, codes, map, List, MatchOption, option_copied, IfSome, IfOk, OnOk, string_bytes};
+ghost use Rattle.std.specs.Cmp.Lexicographic.{slice_cmp};
+ghost use Rattle.std.specs.List.Sorted.{IsStrictlySortedBy};
+ghost use Rattle.std.specs.Ordering.{nat_cmp};
+ghost use Rattle.std.specs.Prelude.{◌≡◌, ℕ, false, true, [], ◌∷◌, ◌++◌, codes, map, List, slice_get, Some, MatchOption, option_copied, IfSome, IfOk, OnOk, string_bytes};
 ghost use Rattle.serde_json.specs.View.{view, members_view};
 ghost use Rattle.trees.specs.DependingParts.{IsEmpty, IsIndexed};
 ghost use Rattle.trees.specs.Documents.{IsLastPart};
 ghost use Rattle.trees.specs.LockingParts.{AddsEdges};
-ghost use Rattle.trees.specs.Npm.{path_in, packages_in, with_project, listed, text_at, is_link, other_name, behind, IsName, IsRootName, IsCalled, IsLabel, AreAscending, HasNoLinks, HasPackages, HoldsPackages};
-ghost use Rattle.trees.specs.NpmParts.{AddsPackages, AddsInOrder, edge_of};
+ghost use Rattle.trees.specs.Npm.{path_in, packages_in, with_project, listed, text_at, is_link, other_name, behind, around, folders, IsName, IsRootName, IsCalled, IsLabel, AreAscending, HasNoLinks, HasPackages, HoldsPackages};
+ghost use Rattle.trees.specs.NpmParts.{AddsPackages, AddsNearest, AddsSteps, AddsStepsIn, ArePaths, HasSteps, chosen, edge_of, packages_of, texts_of};
 
 use crate::deps::{Network, wrong};
 use crate::document::json_value;
@@ -24,14 +27,6 @@ type Found = (usize, usize);
 // What stands in folders: whether it is the package that is the last one itself, which comes behind
 // those in its `node_modules`, its path or else its name there, and the node.
 type Step<'a> = (Vec<&'a str>, bool, &'a str, usize);
-
-// The lists of what a package needs.
-const LISTS: [&str; 4] = [
-    "dependencies",
-    "devDependencies",
-    "optionalDependencies",
-    "peerDependencies",
-];
 
 const OLD: &str = "lockfileVersion 1 is not supported; npm 7 and later write newer ones";
 
@@ -354,8 +349,9 @@ fn push_behind(label: &mut String, before: &str, text: Option<&str>) -> Result<(
 
 // Returns the last name of a path, with the scope before it.
 fn last_name(path: &str) -> &str
-    ensures { (folder name : List ℕ) → IsName name → path.now ≡ path_in folder name
+    ensures last { (folder name : List ℕ) → IsName name → path.now ≡ path_in folder name
         → result.now ≡ name }
+    ensures name { IsName result.now }
 {
     let Some((above, name)) = path.rsplit_once('/') else {
         return path;
@@ -381,15 +377,21 @@ fn last_part(path: &str) -> &str
 
 // Returns the folder in whose `node_modules` a package is, and its name there.
 fn place(path: &str) -> Option<(&str, &str)>
-    ensures { (folder name : List ℕ) → IsName name → path.now ≡ path_in folder name
+    ensures found { (folder name : List ℕ) → IsName name → path.now ≡ path_in folder name
         → MatchOption result ⊥ (λ p. (p.0.now ≡ folder) × (p.1.now ≡ name)) }
+    ensures placed { IfSome result
+        (λ p. IsName p.1.now × (path.now ≡ path_in p.0.now p.1.now)) }
 {
     let name = last_name(path);
-    let folder = path.strip_suffix(name)?.strip_suffix("node_modules/")?;
+    let inner = path.strip_suffix(name)?.strip_suffix("node_modules/")?;
+    if inner.is_empty() {
+        return Some(("", name));
+    }
+    let folder = inner.strip_suffix('/')?;
     if folder.is_empty() {
-        Some(("", name))
+        None
     } else {
-        Some((folder.strip_suffix('/')?, name))
+        Some((folder, name))
     }
 }
 
@@ -400,45 +402,97 @@ fn steps<'a>(
     source: &Source,
     packages: &'a Packages,
     paths: &[String],
-) -> Result<Vec<Step<'a>>, Failure> {
+) -> Result<Vec<Step<'a>>, Failure>
+    ensures { HasNoLinks (packages_of packages.now) → ArePaths (packages_of packages.now) paths.now
+        → IfOk result (λ all. HasSteps (packages_of packages.now) all.items) }
+{
     let mut steps = Vec::new(alloc);
     for (path, package) in packages.iter() {
-        let path = path.as_str();
-        let meant = target(path, package);
-        if !is_link(package) && find_node(paths, path).is_none() {
-            continue;
-        }
-        let Some(node) = node_of(packages, paths, path, meant) else {
-            let parts = [path, " links to ", meant, ", which is missing"];
-            return Err(wrong(alloc, source, &parts));
-        };
-        if let Some((folder, name)) = place(path) {
-            steps.push((folders(alloc, folder)?, false, name, node))?;
-        }
-        // A link that is a node needs what the package needs that it means.
-        if find_node(paths, path).is_some() {
-            steps.push((folders(alloc, meant)?, true, meant, node))?;
-        }
+        push_steps(
+            alloc,
+            source,
+            packages,
+            paths,
+            path.as_str(),
+            package,
+            &mut steps,
+        )?;
     }
     steps.sort_unstable();
     Ok(steps)
 }
 
-// Returns the node of a path: its own, or that of the package that it means, which is no link.
-fn node_of(packages: &Packages, paths: &[String], path: &str, meant: &str) -> Option<usize> {
-    if packages.get(meant).is_some_and(|package| is_link(package)) {
-        return None;
+// Adds what stands in folders of what is at a path, if that is a node or a link to one.
+fn push_steps<'a>(
+    alloc: Global,
+    source: &Source,
+    packages: &'a Packages,
+    paths: &[String],
+    path: &'a str,
+    package: &'a Value,
+    steps: &mut Vec<Step<'a>>,
+) -> Result<(), Failure>
+    ensures { HasNoLinks (packages_of packages.now) → AreAscending (packages_of packages.now)
+        → ArePaths (packages_of packages.now) paths.now → (i : ℕ)
+        → slice_get (packages_of packages.now) i ≡ Some (path.now, view «package».now)
+        → OnOk result (AddsSteps path.now i steps.old.items steps.new.items) }
+{
+    let meant = target(path, package);
+    let own = find_node(paths, path);
+    if own.is_none() && !is_link(package) {
+        return Ok(());
     }
-    find_node(paths, path).or(find_node(paths, meant))
+    let Some(node) = node_of(packages, paths, own, meant) else {
+        let parts = [path, " links to ", meant, ", which is missing"];
+        return Err(wrong(alloc, source, &parts));
+    };
+    push_step_in(alloc, path, node, steps)?;
+    if own.is_none() {
+        return Ok(());
+    }
+    // A link that is a node needs what the package needs that it means.
+    Ok(steps.push((folders(alloc, meant)?, true, meant, node))?)
+}
+
+// Adds that a package is in a `node_modules`, if it is.
+fn push_step_in<'a>(
+    alloc: Global,
+    path: &'a str,
+    node: usize,
+    steps: &mut Vec<Step<'a>>,
+) -> Result<(), AllocError>
+    ensures { OnOk result (AddsStepsIn path.now node steps.old.items steps.new.items) }
+{
+    match place(path) {
+        Some((folder, name)) => Ok(steps.push((folders(alloc, folder)?, false, name, node))?),
+        None => Ok(()),
+    }
+}
+
+// Returns the node of what is there, which has one of its own or else that of the package that it
+// means, which is no link.
+fn node_of(packages: &Packages, paths: &[String], own: Option<usize>, meant: &str) -> Option<usize>
+    ensures { HasNoLinks (packages_of packages.now) → (i : ℕ) → own ≡ Some i → result ≡ Some i }
+{
+    match packages.get(meant) {
+        Some(package) if is_link(package) => None,
+        _ => own.or(find_node(paths, meant)),
+    }
 }
 
 // Returns the node with a path.
-fn find_node(paths: &[String], path: &str) -> Option<usize> {
+fn find_node(paths: &[String], path: &str) -> Option<usize>
+    ensures { (i : ℕ)
+        → IsStrictlySortedBy (slice_cmp nat_cmp) (map string_bytes paths.now)
+        → slice_get (map string_bytes paths.now) i ≡ Some path.now → result ≡ Some i }
+{
     paths.binary_search_by(|p| p.as_str().cmp(path)).ok()
 }
 
 // Returns the path of a package, or that to which a link leads.
-fn target<'a>(path: &'a str, package: &'a Value) -> &'a str {
+fn target<'a>(path: &'a str, package: &'a Value) -> &'a str
+    ensures { is_link (view «package».now) ≡ false → result.now ≡ path.now }
+{
     if is_link(package) {
         word(package, "resolved").unwrap_or("")
     } else {
@@ -446,18 +500,30 @@ fn target<'a>(path: &'a str, package: &'a Value) -> &'a str {
     }
 }
 
-// Returns the folders of a path. Those of the project are below one more.
-fn folders<'a>(alloc: Global, path: &'a str) -> Result<Vec<&'a str>, AllocError> {
+// Returns the folders of a path from the outermost on. Those of the project are below one more.
+fn folders<'a>(alloc: Global, path: &'a str) -> Result<Vec<&'a str>, AllocError>
+    ensures { IfOk result (λ all. texts_of all.items ≡ folders path.now) }
+{
     let mut folders = Vec::new(alloc);
-    if path != ".." && !path.starts_with("../") {
-        folders.push(".")?;
+    folders.push(around(path))?;
+    if path.is_empty() {
+        return Ok(folders);
     }
     for folder in path.split('/') {
-        if !folder.is_empty() {
-            folders.push(folder)?;
-        }
+        folders.push(folder)?;
     }
     Ok(folders)
+}
+
+// Returns what is around a path: the project, or what that is in.
+fn around(path: &str) -> &'static str
+    ensures { result.now ≡ around path.now }
+{
+    if path == ".." || path.starts_with("../") {
+        ".."
+    } else {
+        "."
+    }
 }
 
 // Adds what packages need, in the order of the names: the one in the nearest `node_modules` of the
@@ -469,13 +535,14 @@ fn push_needs<'a>(
     steps: &[Step<'a>],
     network: &mut Network,
 ) -> Result<(), Failure>
-    ensures { IsIndexed network.old → OnOk result (AddsInOrder network.old network.new) }
+    ensures { IsIndexed network.old → OnOk result
+        (AddsNearest (packages_of packages.now) steps.now network.old network.new) }
 {
     let mut walk = Walk {
         packages,
         same: BTreeMap::new(alloc),
         nearest: BTreeMap::new(alloc),
-        open: Vec::new(alloc),
+        entered: Vec::new(alloc),
         needs: Vec::new(alloc),
     };
     let added = walk.add(alloc, source, steps, network);
@@ -505,18 +572,22 @@ struct Walk<'s, 'a> {
     // The same of each name in lower case.
     nearest: BTreeMap<String, Option<Found>>,
 
-    // The packages in `node_modules` of the folders above, the nearest last: folder, name, and the
-    // next ones of that name, and of it in lower case.
-    open: Vec<(&'s [&'a str], &'a str, Option<Found>, Option<Found>)>,
+    // The packages in `node_modules` of the folders above, the nearest last, each with the next
+    // ones of its name, and of it in lower case.
+    entered: Vec<(&'s Step<'a>, Option<Found>, Option<Found>)>,
 
     // The packages with what they need, and its name.
     needs: Vec<(usize, &'a str, usize)>,
 }
 
 impl<'s, 'a> Walk<'s, 'a> {
-    ghost use Rattle.std.specs.Prelude.{OnOk};
+    ghost use Rattle.std.specs.Prelude.{◌≡◌, ◌∷◌, ◌+◌, ℕ, [], List, map, Some, OnOk, slice_get};
+    ghost use Rattle.std.specs.StrCase.Lower.{str_to_lowercase};
+    ghost use Rattle.serde_json.specs.Data.{Data};
+    ghost use Rattle.serde_json.specs.View.{view};
     ghost use Rattle.trees.specs.DependingParts.{IsIndexed};
-    ghost use Rattle.trees.specs.NpmParts.{AddsInOrder};
+    ghost use Rattle.trees.specs.Npm.{names_at, AreAscending, HasNoWorkspaces};
+    ghost use Rattle.trees.specs.NpmParts.{Step, nearest_of, entered_of, texts_of, packages_of, walked, IsReady, IsFresh, HasSteps, IsAtStep, Enters, Leaves, AddsNamed, AddsDeveloped, AddsLists, AddsNearest};
 
     // Goes these steps, and adds what packages need.
     fn add(
@@ -526,73 +597,75 @@ impl<'s, 'a> Walk<'s, 'a> {
         steps: &'s [Step<'a>],
         network: &mut Network,
     ) -> Result<(), Failure>
-        ensures { IsIndexed network.old → OnOk result (AddsInOrder network.old network.new) }
+        ensures { IsFresh self.old → IsIndexed network.old → OnOk result
+            (AddsNearest (walked self.old) steps.now network.old network.new) }
     {
-        for (folder, is_package, name, node) in steps {
-            self.leave(alloc, folder)?;
-            if *is_package {
-                self.push_needs(alloc, source, *node, name)?;
-            } else {
-                self.enter(alloc, folder, name, *node)?;
-            }
+        for step in steps {
+            self.go(alloc, source, step)?;
         }
         self.needs.sort_unstable();
         Ok(push_edges(&self.needs, network)?)
     }
 
-    // Enters a folder with a package under a name.
-    fn enter(
-        &mut self,
-        alloc: Global,
-        folder: &'s [&'a str],
-        name: &'a str,
-        node: usize,
-    ) -> Result<(), AllocError> {
-        let found = Some((folder.len(), node));
-        let same = self.same.insert(name, found)?;
-        let next = self.nearest.insert(name.to_lowercase(alloc)?, found)?;
-        self.open
-            .push((folder, name, same.flatten(), next.flatten()))?;
+    // Goes a step.
+    fn go(&mut self, alloc: Global, source: &Source, step: &'s Step<'a>) -> Result<(), Failure>
+        ensures { (packages : List (List ℕ × Data)) (steps : List Step) (k : ℕ)
+            → HasSteps packages steps → HasNoWorkspaces packages
+            → slice_get steps k ≡ Some step.now → IsAtStep packages steps k self.old
+            → OnOk result (IsAtStep packages steps (k + 1) self.new) }
+    {
+        self.leave(alloc, &step.0)?;
+        if step.1 {
+            self.push_needs(alloc, source, step.3, step.2)
+        } else {
+            Ok(self.enter(alloc, step)?)
+        }
+    }
+
+    // Enters a folder with a package.
+    fn enter(&mut self, alloc: Global, step: &'s Step<'a>) -> Result<(), AllocError>
+        ensures { IsReady self.old → OnOk result (Enters step.now self.old self.new) }
+    {
+        let found = Some((step.0.len(), step.3));
+        let same = self.same.insert(step.2, found)?;
+        let next = self.nearest.insert(step.2.to_lowercase(alloc)?, found)?;
+        self.entered.push((step, same.flatten(), next.flatten()))?;
         Ok(())
     }
 
     // Leaves the folders that are not above a folder.
-    fn leave(&mut self, alloc: Global, folder: &'s [&'a str]) -> Result<(), AllocError> {
-        for _ in 0..self.open.len() {
-            let Some((above, name, same, next)) = self.open.last() else {
-                return Ok(());
-            };
-            if folder.starts_with(above) {
+    fn leave(&mut self, alloc: Global, folder: &[&'a str]) -> Result<(), AllocError>
+        ensures { IsReady self.old → OnOk result
+            (Leaves (texts_of folder.now) self.old self.new) }
+    {
+        while let Some((step, same, next)) = self.entered.last() {
+            if folder.starts_with(&step.0) {
                 return Ok(());
             }
-            self.same.insert(*name, *same)?;
-            self.nearest.insert(name.to_lowercase(alloc)?, *next)?;
-            let _ = self.open.pop();
+            self.same.insert(step.2, *same)?;
+            self.nearest.insert(step.2.to_lowercase(alloc)?, *next)?;
+            let _ = self.entered.pop();
         }
         Ok(())
     }
 
-    // Adds the needs of a package. Its lists may name the same: a name among `optionalDependencies`
-    // is often in another list too.
+    // Adds the needs of a package.
     fn push_needs(
         &mut self,
         alloc: Global,
         source: &Source,
         node: usize,
         path: &str,
-    ) -> Result<(), Failure> {
+    ) -> Result<(), Failure>
+        ensures { AreAscending (walked self.old) → HasNoWorkspaces (walked self.old)
+            → IsReady self.old → (i : ℕ) (d : Data)
+            → slice_get (walked self.old) i ≡ Some (path.now, d)
+            → OnOk result (AddsLists path.now d node self.old self.new) }
+    {
         let Some(package) = self.packages.get(path) else {
             return Ok(());
         };
-        for list in LISTS {
-            match package.get(list) {
-                // Only what is not in `node_modules` is developed.
-                Some(_) if list == "devDependencies" && place(path).is_some() => {}
-                Some(Value::Object(needs)) => self.push_list(alloc, node, needs)?,
-                Some(_) => return Err(wrong(alloc, source, &["invalid ", list, " of ", path])),
-                None => {}
-            }
-        }
+        self.push_lists(alloc, source, node, path, package)?;
         match package.get("workspaces") {
             Some(workspaces) if path.is_empty() => {
                 self.push_workspaces(alloc, source, node, workspaces)
@@ -601,13 +674,75 @@ impl<'s, 'a> Walk<'s, 'a> {
         }
     }
 
+    // Adds the needs of its lists. They may name the same: a name among `optionalDependencies` is
+    // often in another list too.
+    fn push_lists(
+        &mut self,
+        alloc: Global,
+        source: &Source,
+        node: usize,
+        path: &str,
+        package: &'a Value,
+    ) -> Result<(), Failure>
+        ensures { IsReady self.old → OnOk result
+            (AddsLists path.now (view «package».now) node self.old self.new) }
+    {
+        self.push_list(alloc, source, node, path, package, "dependencies")?;
+        self.push_developed(alloc, source, node, path, package)?;
+        self.push_list(alloc, source, node, path, package, "optionalDependencies")?;
+        self.push_list(alloc, source, node, path, package, "peerDependencies")
+    }
+
+    // Adds what it is developed with, if it is not in a `node_modules`.
+    fn push_developed(
+        &mut self,
+        alloc: Global,
+        source: &Source,
+        node: usize,
+        path: &str,
+        package: &'a Value,
+    ) -> Result<(), Failure>
+        ensures { IsReady self.old → OnOk result
+            (AddsDeveloped path.now (view «package».now) node self.old self.new) }
+    {
+        if place(path).is_some() {
+            return Ok(());
+        }
+        self.push_list(alloc, source, node, path, package, "devDependencies")
+    }
+
     // Adds the needs of a list.
     fn push_list(
         &mut self,
         alloc: Global,
+        source: &Source,
+        node: usize,
+        path: &str,
+        package: &'a Value,
+        list: &str,
+    ) -> Result<(), Failure>
+        ensures { IsReady self.old → OnOk result
+            (AddsNamed node (names_at list.now (view «package».now)) self.old self.new) }
+    {
+        let Some(needs) = package.get(list) else {
+            return Ok(());
+        };
+        match needs.as_object() {
+            Some(needs) => Ok(self.push_names(alloc, node, needs)?),
+            None => Err(wrong(alloc, source, &["invalid ", list, " of ", path])),
+        }
+    }
+
+    // Adds the needs of names.
+    fn push_names(
+        &mut self,
+        alloc: Global,
         node: usize,
         needs: &'a Packages,
-    ) -> Result<(), AllocError> {
+    ) -> Result<(), AllocError>
+        ensures { IsReady self.old → OnOk result
+            (AddsNamed node (map (λ p. p.0) (packages_of needs.now)) self.old self.new) }
+    {
         for name in needs.keys() {
             self.push_need(alloc, node, name.as_str())?;
         }
@@ -633,23 +768,35 @@ impl<'s, 'a> Walk<'s, 'a> {
     }
 
     // Adds the need of the nearest package of a name, if there is one.
-    fn push_need(&mut self, alloc: Global, node: usize, name: &'a str) -> Result<(), AllocError> {
+    fn push_need(&mut self, alloc: Global, node: usize, name: &'a str) -> Result<(), AllocError>
+        ensures { IsReady self.old → OnOk result
+            (AddsNamed node (name.now ∷ []) self.old self.new) }
+    {
         let lower = name.to_lowercase(alloc)?;
-        if let Some(need) = self.find(name, lower.as_str()) {
-            self.needs.push((node, name, need))?;
+        match self.find(name, lower.as_str()) {
+            Some(need) => Ok(self.needs.push((node, name, need))?),
+            None => Ok(()),
         }
-        Ok(())
     }
 
     // Returns the nearest package of a name: of several in that folder, the one with the very name.
-    fn find(&self, name: &str, lower: &str) -> Option<usize> {
-        let Some(Some(nearest)) = self.nearest.get(lower) else {
-            return None;
-        };
-        match self.same.get(name) {
-            Some(Some(same)) if same.0 == nearest.0 => Some(same.1),
-            _ => Some(nearest.1),
-        }
+    fn find(&self, name: &str, lower: &str) -> Option<usize>
+        ensures { IsReady self.now → lower.now ≡ str_to_lowercase name.now
+            → result ≡ nearest_of (entered_of self.now) name.now }
+    {
+        let nearest = self.nearest.get(lower).copied().flatten()?;
+        let same = self.same.get(name).copied().flatten();
+        Some(chosen(nearest, same))
+    }
+}
+
+// Returns the node of the package of the same name, if there is one in this folder, or of this one.
+fn chosen(nearest: Found, same: Option<Found>) -> usize
+    ensures { Some result ≡ chosen (Some nearest) same }
+{
+    match same {
+        Some(same) if same.0 == nearest.0 => same.1,
+        _ => nearest.1,
     }
 }
 

@@ -17,12 +17,12 @@ pub returns-in-Some : goal.returns-in-Some
 returns-in-Some c = λ name is.
     elim is [
       | inl root ↦ absurd (false≢true (sym c.if-is_empty.false ∙ (c.is_empty.ensures ∙ ap (λ (t : List ℕ). eqb (length t) 0) root.0)))
-      | inr in' ↦ (c.in-Some.ensures in'.0 name in'.2 in'.1).1
+      | inr in' ↦ (c.in-Some.ensures.found in'.0 name in'.2 in'.1).1
     ]
 
 pub returns-in-None : goal.returns-in-None
 returns-in-None c = λ name is.
     elim is [
       | inl root ↦ absurd (false≢true (sym c.if-is_empty.false ∙ (c.is_empty.ensures ∙ ap (λ (t : List ℕ). eqb (length t) 0) root.0)))
-      | inr in' ↦ absurd (c.in-None.ensures in'.0 name in'.2 in'.1)
+      | inr in' ↦ absurd (c.in-None.ensures.found in'.0 name in'.2 in'.1)
     ]

@@ -1,16 +1,17 @@
-use Rattle.std.proofs.Common.{◌≡◌, ◌∙◌, ℕ, List, get_or, inl, inr, sym, ap, arith}
+use Rattle.std.proofs.Common.{◌≡◌, ◌∙◌, ℕ, List, get_or, inl, inr, refl, sym, ap, subst, arith}
 use Rattle.std.proofs.lemmas.Bool.{false≢true}
 use Rattle.std.proofs.lemmas.Str.Pattern.{starts_char}
 use Rattle.std.specs.Prelude.{Some, None}
-use Rattle.trees.specs.Npm.{home}
-use Rattle.trees.proofs.NpmPaths.{cut_last, alone, scoped, whole}
+use Rattle.std.specs.Borrow.{Bor}
+use Rattle.trees.specs.Npm.{home, IsName}
+use Rattle.trees.proofs.NpmPaths.{cut_last, alone, scoped, some_name, whole}
 use Rattle.trees.proofs.deps.npm.last_name.Goals as goal
 
-pub returns-in_default : goal.returns-in_default
-returns-in_default c = λ folder own named at. absurd (cut_last c.args.path.now None c.in_default.ensures.cases (home folder) own at)
+pub returns-in_default-clause-last : goal.returns-in_default-clause-last
+returns-in_default-clause-last c = λ folder own named at. absurd (cut_last c.args.path.now None c.in_default.ensures.cases (home folder) own at)
 
-pub returns-then-starts_with : goal.returns-then-starts_with
-returns-then-starts_with c = λ folder own named at.
+pub returns-then-starts_with-clause-last : goal.returns-then-starts_with-clause-last
+returns-then-starts_with-clause-last c = λ folder own named at.
     let path = c.args.path.now in
     let above = c.in-Some.above.now in
     let name = c.in-Some.name.now in
@@ -23,8 +24,8 @@ returns-then-starts_with c = λ folder own named at.
       | inr s ↦ ap (λ t. t.now) c.unwrap_or.ensures ∙ whole path above name scope folder own cut.0 cut.1 part at s c.saturating_sub.result c.get.result c.in-Some.name (omega arith) c.get.ensures.cases
     ]
 
-pub returns-else-starts_with : goal.returns-else-starts_with
-returns-else-starts_with c = λ folder own named at.
+pub returns-else-starts_with-clause-last : goal.returns-else-starts_with-clause-last
+returns-else-starts_with-clause-last c = λ folder own named at.
     let path = c.args.path.now in
     let above = c.in-Some.above.now in
     let name = c.in-Some.name.now in
@@ -38,3 +39,18 @@ returns-else-starts_with c = λ folder own named at.
           let starts = (starts_char 64 scope c.starts_with.result c.starts_with.ensures.cases (omega arith) (omega arith)).1 first in
           absurd (false≢true (sym c.if-starts_with.false ∙ starts)))
     ]
+
+pub returns-in_default-clause-name : goal.returns-in_default-clause-name
+returns-in_default-clause-name c = inl (cut_last c.args.path.now None c.in_default.ensures.cases)
+
+pub returns-then-starts_with-clause-name : goal.returns-then-starts_with-clause-name
+returns-then-starts_with-clause-name c =
+    let path = c.args.path.now in
+    let scope = c.last_part-scope.result.now in
+    let cut = cut_last path (Some (c.in-Some.above, c.in-Some.name)) c.in-Some.ensures.cases in
+    let starts : get_or scope 0 0 ≡ 64 = (starts_char 64 scope c.starts_with.result c.starts_with.ensures.cases (omega arith) (omega arith)).0 c.if-starts_with.true in
+    subst (λ (t : Bor (List ℕ)). IsName t.now) (sym c.unwrap_or.ensures)
+    (some_name path c.in-Some.above.now c.in-Some.name.now scope cut.0 cut.1 c.last_part-scope.ensures starts c.saturating_sub.result c.get.result c.in-Some.name refl (omega arith) c.get.ensures.cases)
+
+pub returns-else-starts_with-clause-name : goal.returns-else-starts_with-clause-name
+returns-else-starts_with-clause-name c = inl (cut_last c.args.path.now (Some (c.in-Some.above, c.in-Some.name)) c.in-Some.ensures.cases).1

@@ -1,0 +1,14 @@
+use Rattle.std.proofs.Common.{◌∙◌, rules}
+use Rattle.std.proofs.lemmas.Fn.{always_returns_same}
+use Rattle.std.specs.Cmp.Lexicographic.{slice_cmp}
+use Rattle.std.specs.Ordering.{nat_cmp}
+use Rattle.std.specs.Prelude.{String, string_bytes}
+use Rattle.std.specs.declared.alloc.Global.{Global}
+use Rattle.trees.proofs.NpmSteps.{searched_path}
+use Rattle.trees.proofs.deps.npm.find_node.Goals as goal
+
+pub returns : goal.returns
+returns c = λ i up at.
+    let path = c.args.path.now in
+    c.ok.ensures.value ∙ searched_path c.args.paths.now path i up at c.binary_search_by.result c.binary_search_by.ensures.bound
+    (c.binary_search_by.ensures.position (λ (p : String Global). slice_cmp nat_cmp (string_bytes p) path) (always_returns_same _ _ _ (λ a r f called. search rules)))
