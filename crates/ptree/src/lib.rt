@@ -19,6 +19,7 @@
 #![tactic(auto)]
 
 pub mod builder;
+mod equality;
 pub mod errors;
 pub mod graph;
 pub mod item;

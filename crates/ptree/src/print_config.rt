@@ -1,5 +1,5 @@
 //! How trees are drawn: characters, the configuration, and its sources.
-ghost use Rattle.std.specs.Prelude.{◌≡◌, ◌↔◌, IfOk, IsTrue, true, string_bytes};
+ghost use Rattle.std.specs.Prelude.{◌≡◌, IfOk, true, string_bytes};
 ghost use Rattle.ptree.specs.Config.{IsDefault, is_styled, config_of, default_config};
 ghost use Rattle.ptree.specs.Loading.{SayNothing, effective_config};
 ghost use Rattle.ptree.specs.Style.{style_of, plain_style, painted_text};
@@ -40,30 +40,6 @@ pub enum StyleWhen {
     Tty,
 }
 
-impl PartialEq for StyleWhen {
-    ghost use Rattle.std.proofs.Common.{rules};
-    ghost use Rattle.std.specs.Cmp.Rules.{comparing};
-    ghost use denote.Enum.Bare.{sameb};
-    ghost use Rattle.ptree.specs.contracts.print_config.StyleWhen.{the_type};
-
-    ghost eq = { sameb the_type };
-
-    ghost laws = { Prim.search (comparing, rules) };
-
-    fn eq(&self, other: &StyleWhen) -> bool
-        ensures equality { IsTrue result ↔ (self.now ≡ other.now) }
-    {
-        *self as u8 == *other as u8
-    }
-}
-
-impl Eq for StyleWhen {
-    ghost use Rattle.std.proofs.Common.{rules};
-    ghost use Rattle.std.specs.Cmp.Rules.{comparing};
-
-    ghost laws = { Prim.search (comparing, rules) };
-}
-
 // The defaults of [`PrintConfig`].
 pub(crate) const DEFAULT_INDENT: usize = 3;
 
@@ -101,48 +77,6 @@ pub struct PrintConfig {
     pub continued: String,
 }
 
-impl PartialEq for PrintConfig {
-    ghost use Rattle.std.specs.Cmp.{partial_equiv_from_equiv};
-    ghost use Rattle.ptree.specs.Equivalence.{config_equivalence};
-    ghost use Rattle.ptree.specs.Equality.{same_config};
-
-    ghost eq = { same_config };
-
-    ghost laws = { partial_equiv_from_equiv config_equivalence };
-
-    #[tactic(auto, using(crate::specs::Equivalence::config_decided))]
-    fn eq(&self, other: &PrintConfig) -> bool
-        ensures value { result ≡ same_config self.now other.now }
-        ensures equality { IsTrue result ↔ (config_of self.now ≡ config_of other.now) }
-    {
-        (
-            &self.depth,
-            &self.indent,
-            &self.padding,
-            &self.styled,
-            &self.characters,
-            &self.branch,
-            &self.leaf,
-            &self.continued,
-        ) == (
-            &other.depth,
-            &other.indent,
-            &other.padding,
-            &other.styled,
-            &other.characters,
-            &other.branch,
-            &other.leaf,
-            &other.continued,
-        )
-    }
-}
-
-impl Eq for PrintConfig {
-    ghost use Rattle.ptree.specs.Equivalence.{config_equivalence};
-
-    ghost laws = { config_equivalence };
-}
-
 /// The kind of a writer. Standard output is a kind of its own, since one can ask whether it is a
 /// terminal.
 #[derive(Debug, Clone, Copy)]
@@ -152,30 +86,6 @@ pub enum OutputKind {
 
     /// Anything else, such as a file or a text.
     Unknown,
-}
-
-impl PartialEq for OutputKind {
-    ghost use Rattle.std.proofs.Common.{rules};
-    ghost use Rattle.std.specs.Cmp.Rules.{comparing};
-    ghost use denote.Enum.Bare.{sameb};
-    ghost use Rattle.ptree.specs.contracts.print_config.OutputKind.{the_type};
-
-    ghost eq = { sameb the_type };
-
-    ghost laws = { Prim.search (comparing, rules) };
-
-    fn eq(&self, other: &OutputKind) -> bool
-        ensures equality { IsTrue result ↔ (self.now ≡ other.now) }
-    {
-        *self as u8 == *other as u8
-    }
-}
-
-impl Eq for OutputKind {
-    ghost use Rattle.std.proofs.Common.{rules};
-    ghost use Rattle.std.specs.Cmp.Rules.{comparing};
-
-    ghost laws = { Prim.search (comparing, rules) };
 }
 
 impl PrintConfig {

@@ -1,5 +1,5 @@
 //! Styles and colours.
-ghost use Rattle.std.specs.Prelude.{◌≡◌, ◌≢◌, ◌↔◌, [], IfOk, OnOk, OnErr, IsTrue, string_bytes};
+ghost use Rattle.std.specs.Prelude.{◌≡◌, ◌≢◌, [], IfOk, OnOk, OnErr, IsTrue, string_bytes};
 ghost use Rattle.ptree.specs.declared.style.Style.{Style};
 ghost use Rattle.ptree.specs.Style.{style_of, IsPlain, plain_style, style_codes, painted_text, start_codes, end_codes};
 ghost use Rattle.ptree.specs.Writing.{IsWritten, HasCause, HasErrorCause, TakesNoMemory};
@@ -55,50 +55,6 @@ pub struct Style {
 
     /// Struck-through text.
     pub strikethrough: bool,
-}
-
-impl PartialEq for Style {
-    ghost use Rattle.std.specs.Cmp.{partial_equiv_from_equiv};
-    ghost use Rattle.ptree.specs.Equivalence.{style_equivalence};
-    ghost use Rattle.ptree.specs.Equality.{same_style};
-
-    ghost eq = { same_style };
-
-    ghost laws = { partial_equiv_from_equiv style_equivalence };
-
-    #[tactic(auto, using(crate::specs::Equivalence::style_decided))]
-    fn eq(&self, other: &Style) -> bool
-        ensures value { result ≡ same_style self.now other.now }
-        ensures equality { IsTrue result ↔ (style_of self.now ≡ style_of other.now) }
-    {
-        self.has_fields_of(other)
-    }
-}
-
-impl Eq for Style {
-    ghost use Rattle.ptree.specs.Equivalence.{style_equivalence};
-
-    ghost laws = { style_equivalence };
-}
-
-impl Style {
-    ghost use Rattle.ptree.specs.Equality.{same_style};
-
-    // Whether all fields are equal.
-    fn has_fields_of(&self, other: &Style) -> bool
-        ensures { result ≡ same_style self.now other.now }
-    {
-        self.foreground == other.foreground
-            && self.background == other.background
-            && self.bold == other.bold
-            && self.dimmed == other.dimmed
-            && self.italic == other.italic
-            && self.underline == other.underline
-            && self.blink == other.blink
-            && self.reverse == other.reverse
-            && self.hidden == other.hidden
-            && self.strikethrough == other.strikethrough
-    }
 }
 
 impl Style {

@@ -1,5 +1,5 @@
 //! The characters that branches are drawn with: the shipped sets, and others.
-ghost use Rattle.std.specs.Prelude.{◌≡◌, ◌↔◌, IfOk, IsTrue, IsErrOf, Some, None};
+ghost use Rattle.std.specs.Prelude.{◌≡◌, ◌↔◌, IfOk, IsErrOf, Some, None};
 ghost use Rattle.ptree.specs.Characters.{characters_of, static_characters_of, set_named};
 ghost use Rattle.ptree.specs.declared.print_config.characters.CharsError.{CharsError};
 ghost use Rattle.ptree.specs.declared.print_config.characters.IndentChars.{IndentChars};
@@ -27,34 +27,6 @@ pub struct IndentChars {
 
     /// A blank (` `).
     pub empty: String,
-}
-
-impl PartialEq for IndentChars {
-    ghost use Rattle.std.specs.Cmp.{partial_equiv_from_equiv};
-    ghost use Rattle.std.specs.Ordering.{on};
-    ghost use Rattle.ptree.specs.Equivalence.{characters_equivalence};
-    ghost use Rattle.ptree.specs.Equality.{same_characters};
-
-    ghost eq = { on characters_of same_characters };
-
-    ghost laws = { partial_equiv_from_equiv (characters_equivalence characters_of) };
-
-    fn eq(&self, other: &IndentChars) -> bool
-        ensures value { result ≡ on characters_of same_characters self.now other.now }
-        ensures equality { IsTrue result ↔ (characters_of self.now ≡ characters_of other.now) }
-    {
-        self.down_and_right == other.down_and_right
-            && self.down == other.down
-            && self.turn_right == other.turn_right
-            && self.right == other.right
-            && self.empty == other.empty
-    }
-}
-
-impl Eq for IndentChars {
-    ghost use Rattle.ptree.specs.Equivalence.{characters_equivalence};
-
-    ghost laws = { characters_equivalence characters_of };
 }
 
 impl IndentChars {
@@ -147,30 +119,6 @@ pub enum CharsError {
     Memory,
 }
 
-impl PartialEq for CharsError {
-    ghost use Rattle.std.proofs.Common.{rules};
-    ghost use Rattle.std.specs.Cmp.Rules.{comparing};
-    ghost use denote.Enum.Bare.{sameb};
-    ghost use Rattle.ptree.specs.contracts.print_config.characters.CharsError.{the_type};
-
-    ghost eq = { sameb the_type };
-
-    ghost laws = { Prim.search (comparing, rules) };
-
-    fn eq(&self, other: &CharsError) -> bool
-        ensures equality { IsTrue result ↔ (self.now ≡ other.now) }
-    {
-        *self as u8 == *other as u8
-    }
-}
-
-impl Eq for CharsError {
-    ghost use Rattle.std.proofs.Common.{rules};
-    ghost use Rattle.std.specs.Cmp.Rules.{comparing};
-
-    ghost laws = { Prim.search (comparing, rules) };
-}
-
 impl fmt::Display for CharsError {
     fn fmt<W: fmt::Write>(&self, f: &mut fmt::Formatter<W>) -> fmt::Result {
         f.write_str(match self {
@@ -199,35 +147,6 @@ pub struct StaticIndentChars {
 
     /// A blank (` `).
     pub empty: &'static str,
-}
-
-impl PartialEq for StaticIndentChars {
-    ghost use Rattle.std.specs.Cmp.{partial_equiv_from_equiv};
-    ghost use Rattle.std.specs.Ordering.{on};
-    ghost use Rattle.ptree.specs.Equivalence.{characters_equivalence};
-    ghost use Rattle.ptree.specs.Equality.{same_characters};
-
-    ghost eq = { on static_characters_of same_characters };
-
-    ghost laws = { partial_equiv_from_equiv (characters_equivalence static_characters_of) };
-
-    fn eq(&self, other: &StaticIndentChars) -> bool
-        ensures value { result ≡ on static_characters_of same_characters self.now other.now }
-        ensures equality { IsTrue result
-            ↔ (static_characters_of self.now ≡ static_characters_of other.now) }
-    {
-        self.down_and_right == other.down_and_right
-            && self.down == other.down
-            && self.turn_right == other.turn_right
-            && self.right == other.right
-            && self.empty == other.empty
-    }
-}
-
-impl Eq for StaticIndentChars {
-    ghost use Rattle.ptree.specs.Equivalence.{characters_equivalence};
-
-    ghost laws = { characters_equivalence static_characters_of };
 }
 
 /// ASCII characters, with a tick for turning right, as in `tree --charset=ascii`.

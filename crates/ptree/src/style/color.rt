@@ -1,5 +1,5 @@
 //! Colours.
-ghost use Rattle.std.specs.Prelude.{◌≡◌, ◌↔◌, IfOk, IsTrue};
+ghost use Rattle.std.specs.Prelude.{◌≡◌, IfOk};
 ghost use Rattle.ptree.specs.Color.{color_of};
 ghost use Rattle.ptree.specs.declared.style.color.Color.{Color};
 
@@ -57,42 +57,6 @@ pub enum Color {
     ///    the bytes that they stand for.
     /// 4. Any other name sets no colour, and has no code.
     Named(String),
-}
-
-impl PartialEq for Color {
-    ghost use Rattle.std.specs.Cmp.{partial_equiv_from_equiv};
-    ghost use Rattle.ptree.specs.Equivalence.{color_equivalence};
-    ghost use Rattle.ptree.specs.Equality.{same_color};
-
-    ghost eq = { same_color };
-
-    ghost laws = { partial_equiv_from_equiv color_equivalence };
-
-    fn eq(&self, other: &Color) -> bool
-        ensures value { result ≡ same_color self.now other.now }
-        ensures equality { IsTrue result ↔ (color_of self.now ≡ color_of other.now) }
-    {
-        match (self, other) {
-            (Color::Fixed(m), Color::Fixed(n)) => m == n,
-            (Color::RGB(r, g, b), Color::RGB(x, y, z)) => r == x && g == y && b == z,
-            (Color::Named(name), Color::Named(other)) => name == other,
-            (Color::Black, Color::Black)
-            | (Color::Red, Color::Red)
-            | (Color::Green, Color::Green)
-            | (Color::Yellow, Color::Yellow)
-            | (Color::Blue, Color::Blue)
-            | (Color::Purple, Color::Purple)
-            | (Color::Cyan, Color::Cyan)
-            | (Color::White, Color::White) => true,
-            _ => false,
-        }
-    }
-}
-
-impl Eq for Color {
-    ghost use Rattle.ptree.specs.Equivalence.{color_equivalence};
-
-    ghost laws = { color_equivalence };
 }
 
 impl Color {
