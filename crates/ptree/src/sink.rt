@@ -80,6 +80,9 @@ impl fmt::Display for DrawError {
 
 impl Error for DrawError {}
 
+/// What a call returns that writes.
+pub(crate) type DrawResult = Result<(), DrawError>;
+
 /// Writes all the bytes, and passes the sink again what it has not accepted. If there are no bytes,
 /// the sink is not called.
 ///

@@ -14,7 +14,7 @@ use super::{Graph, NodeIndex};
 use crate::item::{Children, Shaped, TreeItem};
 use crate::output::{print_tree, write_tree_with};
 use crate::print_config::{OutputKind, PrintConfig, Sources};
-use crate::sink::{DrawError, Sink};
+use crate::sink::{DrawError, DrawResult, Sink};
 use crate::style::Style;
 use std::alloc::{AllocError, Global};
 
@@ -41,12 +41,7 @@ impl Label for String {
 
     /// Writes the text itself, painted. It does not allocate.
     #[inline(always)]
-    fn write_label<W: Sink>(
-        &self,
-        _alloc: Global,
-        f: &mut W,
-        style: &Style,
-    ) -> Result<(), DrawError>
+    fn write_label<W: Sink>(&self, _alloc: Global, f: &mut W, style: &Style) -> DrawResult
         ensures bytes { IsWritten (W.contents f.old) (W.contents f.new) result
             (painted_text (style_of style.now) (string_bytes self.now)) }
         ensures cause { HasCause (W.faults f.old) (W.faults f.new) result }
@@ -61,12 +56,7 @@ impl Label for &str {
 
     /// Writes the text itself, painted. It does not allocate.
     #[inline(always)]
-    fn write_label<W: Sink>(
-        &self,
-        _alloc: Global,
-        f: &mut W,
-        style: &Style,
-    ) -> Result<(), DrawError>
+    fn write_label<W: Sink>(&self, _alloc: Global, f: &mut W, style: &Style) -> DrawResult
         ensures bytes { IsWritten (W.contents f.old) (W.contents f.new) result
             (painted_text (style_of style.now) self.now.now) }
         ensures cause { HasCause (W.faults f.old) (W.faults f.new) result }
@@ -82,12 +72,7 @@ impl Label for u64 {
     ghost text = { decimal };
 
     /// Writes the number in decimal, painted.
-    fn write_label<W: Sink>(
-        &self,
-        alloc: Global,
-        f: &mut W,
-        style: &Style,
-    ) -> Result<(), DrawError> {
+    fn write_label<W: Sink>(&self, alloc: Global, f: &mut W, style: &Style) -> DrawResult {
         let digits = self.to_string(alloc)?;
         style.write_painted(f, digits.as_str())
     }
@@ -128,12 +113,7 @@ impl<'a, N: Label> TreeItem for GraphNode<'a, N> {
     type Child = GraphNode<'a, N>;
 
     /// Writes the weight's text, painted, or nothing if there is no such node.
-    fn write_self<W: Sink>(
-        &self,
-        alloc: Global,
-        f: &mut W,
-        style: &Style,
-    ) -> Result<(), DrawError> {
+    fn write_self<W: Sink>(&self, alloc: Global, f: &mut W, style: &Style) -> DrawResult {
         match self.graph.node_weight(self.node) {
             Some(weight) => weight.write_label(alloc, f, style),
             None => Ok(()),

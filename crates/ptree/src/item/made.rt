@@ -4,7 +4,7 @@ ghost use Rattle.ptree.specs.Children.{children_of};
 ghost use Rattle.ptree.specs.Item.{bytes_of, text_shape};
 
 use crate::item::{Children, Shaped, TreeItem};
-use crate::sink::{DrawError, Sink};
+use crate::sink::{DrawResult, Sink};
 use crate::style::Style;
 use std::alloc::{AllocError, Global};
 
@@ -72,12 +72,7 @@ impl<T: MadeItem> Shaped for T {
 impl<T: MadeItem> TreeItem for T {
     type Child = T;
 
-    fn write_self<W: Sink>(
-        &self,
-        alloc: Global,
-        f: &mut W,
-        style: &Style,
-    ) -> Result<(), DrawError> {
+    fn write_self<W: Sink>(&self, alloc: Global, f: &mut W, style: &Style) -> DrawResult {
         let text = self.text(alloc)?;
         style.write_painted(f, text.as_str())
     }
