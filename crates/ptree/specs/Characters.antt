@@ -14,25 +14,20 @@ pub record Characters : Type 0 where
   pub right : List ℕ
   pub empty : List ℕ
 
+-- the characters of these texts
+abbrev pub characters_from : List ℕ → List ℕ → List ℕ → List ℕ → List ℕ → Characters
+characters_from down_and_right down turn_right right empty =
+    record { down_and_right = down_and_right; down = down; turn_right = turn_right; right = right; empty = empty }
+
 -- the characters of a set
 abbrev pub characters_of : IndentChars → Characters
-characters_of c = record {
-  down_and_right = string_bytes c.down_and_right;
-  down = string_bytes c.down;
-  turn_right = string_bytes c.turn_right;
-  right = string_bytes c.right;
-  empty = string_bytes c.empty;
-}
+characters_of c =
+    characters_from (string_bytes c.down_and_right) (string_bytes c.down) (string_bytes c.turn_right) (string_bytes c.right)
+    (string_bytes c.empty)
 
 -- the characters of a static set
 abbrev pub static_characters_of : StaticIndentChars → Characters
-static_characters_of s = record {
-  down_and_right = s.down_and_right.now;
-  down = s.down.now;
-  turn_right = s.turn_right.now;
-  right = s.right.now;
-  empty = s.empty.now;
-}
+static_characters_of s = characters_from s.down_and_right.now s.down.now s.turn_right.now s.right.now s.empty.now
 
 -- vertical bars and a backquote
 abbrev pub ascii_tick : Characters
@@ -46,13 +41,7 @@ ascii_tick = record {
 
 -- plus signs and a vertical bar
 abbrev pub ascii_plus : Characters
-ascii_plus = record {
-  down_and_right = codes "+";
-  down = codes "|";
-  turn_right = codes "+";
-  right = codes "-";
-  empty = codes " ";
-}
+ascii_plus = record ascii_tick { down_and_right = codes "+"; turn_right = codes "+" }
 
 -- ├ │ └ ─
 abbrev pub utf : Characters
@@ -86,13 +75,7 @@ utf_bold = record {
 
 -- ├ ┆ └ ╌
 abbrev pub utf_dashed : Characters
-utf_dashed = record {
-  down_and_right = 226 ∷ 148 ∷ 156 ∷ [];  -- ├
-  down = 226 ∷ 148 ∷ 134 ∷ [];  -- ┆
-  turn_right = 226 ∷ 148 ∷ 148 ∷ [];  -- └
-  right = 226 ∷ 149 ∷ 140 ∷ [];  -- ╌
-  empty = 32 ∷ [];
-}
+utf_dashed = record utf { down = 226 ∷ 148 ∷ 134 ∷ []; right = 226 ∷ 149 ∷ 140 ∷ [] }
 
 -- a shipped set other than the one with a backquote
 abbrev pub IsShippedWithoutTicks : Characters → Type 0

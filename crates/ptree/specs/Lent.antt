@@ -2,7 +2,7 @@
 use Rattle.std.specs.Prelude.{option_map}
 use Rattle.serde_json.specs.View as j
 use Rattle.toml.specs.View as t
-use Rattle.ptree.specs.Characters.{Characters}
+use Rattle.ptree.specs.Characters.{Characters, characters_from}
 use Rattle.ptree.specs.File.{FileNode, json, toml}
 use Rattle.ptree.specs.Sources.{Given, variables_of}
 use Rattle.ptree.specs.declared.parsed.Parsed.{Parsed}
@@ -28,10 +28,4 @@ given_of given = record { variables = variables_of given.variables.now; document
 
 -- the characters that it lends
 abbrev pub lent_characters_of : LentChars → Characters
-lent_characters_of c = record {
-  down_and_right = c.down_and_right.now;
-  down = c.down.now;
-  turn_right = c.turn_right.now;
-  right = c.right.now;
-  empty = c.empty.now;
-}
+lent_characters_of c = characters_from c.down_and_right.now c.down.now c.turn_right.now c.right.now c.empty.now

@@ -1,6 +1,6 @@
 //! The characters that branches are drawn with: the shipped sets, and others.
 ghost use Rattle.std.specs.Prelude.{◌≡◌, ◌↔◌, IfOk, IsErrOf, Some, None};
-ghost use Rattle.ptree.specs.Characters.{characters_of, static_characters_of, set_named};
+ghost use Rattle.ptree.specs.Characters.{characters_from, characters_of, static_characters_of, set_named};
 ghost use Rattle.ptree.specs.declared.print_config.characters.CharsError.{CharsError};
 ghost use Rattle.ptree.specs.declared.print_config.characters.IndentChars.{IndentChars};
 ghost use Rattle.ptree.specs.declared.print_config.characters.StaticIndentChars.{StaticIndentChars};
@@ -57,13 +57,8 @@ impl IndentChars {
         right: &str,
         empty: &str,
     ) -> Result<IndentChars, AllocError>
-        ensures { IfOk result (λ c. characters_of c ≡ record {
-          down_and_right = down_and_right.now;
-          down = down.now;
-          turn_right = turn_right.now;
-          right = right.now;
-          empty = empty.now;
-        }) }
+        ensures { IfOk result (λ c. characters_of c
+            ≡ characters_from down_and_right.now down.now turn_right.now right.now empty.now) }
     {
         Ok(IndentChars {
             down_and_right: String::from_str(alloc, down_and_right)?,
