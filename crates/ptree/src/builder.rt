@@ -4,6 +4,7 @@ ghost use Rattle.std.specs.Prelude.{false, if◌then◌else◌, ◌≡◌, ◌�
 ghost use Rattle.ptree.specs.Outline.{line, outline, IsOutline, Steps};
 ghost use Rattle.ptree.specs.PartialTree.{text_line};
 ghost use Rattle.ptree.specs.Tree.{Tree, tree_of};
+ghost use Rattle.ptree.specs.TreeBuilder.{AddsChild};
 
 pub(crate) mod partial;
 
@@ -104,9 +105,7 @@ impl TreeBuilder {
         requires { self.old.level < u32.MAX }
         ensures* kept { sem 𝓛 (HandsBack self.entry result) }
         ensures same_reference { IfOk result (λ b. b.ghost_name ≡ self.entry.ghost_name) }
-        ensures outline { IfOk result (λ b.
-            b.now.outline
-            ≡ self.old.outline ++ line (self.old.level + 1) (string_bytes text) ∷ []) }
+        ensures outline { IfOk result (λ b. AddsChild self.old b.now (string_bytes text)) }
         ensures level { IfOk result (λ b. b.now.level ≡ self.old.level + 1) }
     {
         self.add(text, true)
@@ -134,9 +133,7 @@ impl TreeBuilder {
         requires { self.old.level < u32.MAX }
         ensures* kept { sem 𝓛 (HandsBack self.entry result) }
         ensures same_reference { IfOk result (λ b. b.ghost_name ≡ self.entry.ghost_name) }
-        ensures outline { IfOk result (λ b.
-            b.now.outline
-            ≡ self.old.outline ++ line (self.old.level + 1) (string_bytes text) ∷ []) }
+        ensures outline { IfOk result (λ b. AddsChild self.old b.now (string_bytes text)) }
         ensures level { IfOk result (λ b. b.now.level ≡ self.old.level) }
     {
         self.add(text, false)
@@ -191,9 +188,7 @@ impl TreeBuilder {
         requires { self.old.level < u32.MAX }
         ensures* kept { sem 𝓛 (HandsBack self.entry result) }
         ensures same_reference { IfOk result (λ b. b.ghost_name ≡ self.entry.ghost_name) }
-        ensures outline { IfOk result (λ b.
-            b.now.outline
-            ≡ self.old.outline ++ line (self.old.level + 1) (string_bytes text) ∷ []) }
+        ensures outline { IfOk result (λ b. AddsChild self.old b.now (string_bytes text)) }
         ensures level { IfOk result (λ b.
             b.now.level ≡ (if is_begun then self.old.level + 1 else self.old.level)) }
     {
@@ -206,9 +201,7 @@ impl TreeBuilder {
     // Does what `add` does, and returns no reference. It allocates before it changes anything.
     fn add_line(&mut self, text: String, is_begun: bool) -> Result<(), AllocError>
         requires { self.old.level < u32.MAX }
-        ensures outline { OnOk result
-            (self.new.outline
-            ≡ self.old.outline ++ line (self.old.level + 1) (string_bytes text) ∷ []) }
+        ensures outline { OnOk result (AddsChild self.old self.new (string_bytes text)) }
         ensures level { OnOk result
             (self.new.level ≡ (if is_begun then self.old.level + 1 else self.old.level)) }
         ensures kept { OnErr result (self.new ≡ self.old) }

@@ -10,7 +10,7 @@ pub use base.Fraction.{full_share}
 pub use base.Logic.{SProp, ent, id⊢, emp}
 use base.Logic.{via, wand}
 pub use contract.Monad.{fact, fact_i}
-pub use contract.Running.{Running, tables}
+pub use contract.Running.{Running, MachineTables, tables}
 pub use denote.Builtin.{bool, unit}
 pub use denote.Exit.{yes, no}
 use denote.Exit.{left}
@@ -39,7 +39,7 @@ pub use mir.Val.{Val, WT, of_list, vbool, vstruct, vnil}
 use mir.Val.{has_ty, vptr}
 pub use prog.Model.{Model}
 pub use prog.Wired.{Wired}
-pub use prog.Wp.{Env, Calls, Loops, Wp, WpFn, after_seq, at_return}
+pub use prog.Wp.{Env, Wp, WpFn, after_seq, at_return}
 pub use seplogic.Ra.Ura.{Ura}
 pub use types.ByLocal.{alloc_all, pass_all, free_all, look_at, holding, get, get_in, get_tag, through, sets, sets_last, lands_as, env}
 pub use types.Kit.{Seq, Go, ⋆, lands, any_q, at_ret, Post, ‵, raw, ◌⊛◌, some, later, ◌$◌, ◌∵◌, !, qed, by, move, keep, drop, use0, use1, use2, use3, split, join, fsplit, fsplit3, fjoin, fjoin3, fpick, feq_l, feq_i, pick, await}

@@ -1,9 +1,8 @@
 -- The builder is lent to add_line, and then handed back or given up.
-use Rattle.ptree.proofs.Trees.BuilderWalks.{lit<, ◌≡◌, ℕ, ◌+◌, ◌<◌, Bool, Ok, Err, IfOk, OnOk, OnErr, if◌then◌else◌, string_bytes, List, [], ◌∷◌, ◌++◌, refl, sym, ap, ◌∙◌, subst, MutBor, proved_at, leaves, ok_of, after, head, arm_body, Lft, Share, ftrue, flft, fres, full_share, SProp, ent, id⊢, emp, fact, fact_i, Running, tables, bool, unit, yes, no, lends_again, comes_back, LentAgain, bool_vals, bool_Tells, RattleType, MutRef, mut_vals, mut_Tells, plain, mut_ref_to, only, nothing, heard, calls_at, Clauses, lasts, triple_of, framed, Stays, stay_dropped, walk_of, Goes-dropped, Goes-spent_ref, Body, named, place, Val, WT, of_list, vbool, vstruct, vnil, Model, Wired, Env, Calls, Loops, Wp, WpFn, after_seq, at_return, Ura, alloc_all, pass_all, free_all, look_at, holding, get, get_in, get_tag, through, sets, sets_last, lands_as, env, Seq, Go, ⋆, lands, any_q, at_ret, Post, ‵, raw, ◌⊛◌, some, later, ◌$◌, ◌∵◌, !, qed, by, move, keep, drop, use0, use1, use2, use3, split, join, fsplit, fsplit3, fjoin, fpick, feq_l, pick, await, Logic, live, vrt, in_variant, whole, agg, enter, of_opd, addr, lit, stop, fld, no_more, and_then, first, switches_on, exec, returns, lft_new, lft_end, B, Text, Refused, Back, place_of, Fits, one_value, text_goes, handed_on, given_up, refusal_of}
+use Rattle.ptree.proofs.Trees.BuilderWalks.{lit<, ◌≡◌, ℕ, ◌+◌, ◌<◌, Bool, Ok, Err, IfOk, OnOk, OnErr, if◌then◌else◌, string_bytes, List, [], ◌∷◌, ◌++◌, refl, sym, ap, ◌∙◌, subst, MutBor, proved_at, leaves, ok_of, after, head, arm_body, Lft, Share, ftrue, flft, fres, full_share, SProp, ent, id⊢, emp, fact, fact_i, Running, MachineTables, tables, bool, unit, yes, no, lends_again, comes_back, LentAgain, bool_vals, bool_Tells, RattleType, MutRef, mut_vals, mut_Tells, plain, mut_ref_to, only, nothing, heard, calls_at, Clauses, lasts, triple_of, framed, Stays, stay_dropped, walk_of, Goes-dropped, Goes-spent_ref, Body, named, place, Val, WT, of_list, vbool, vstruct, vnil, Model, Wired, Env, Wp, WpFn, after_seq, at_return, Ura, alloc_all, pass_all, free_all, look_at, holding, get, get_in, get_tag, through, sets, sets_last, lands_as, env, Seq, Go, ⋆, lands, any_q, at_ret, Post, ‵, raw, ◌⊛◌, some, later, ◌$◌, ◌∵◌, !, qed, by, move, keep, drop, use0, use1, use2, use3, split, join, fsplit, fsplit3, fjoin, fpick, feq_l, pick, await, Logic, live, vrt, in_variant, whole, agg, enter, of_opd, addr, lit, stop, fld, no_more, and_then, first, switches_on, exec, returns, lft_new, lft_end, B, Text, Refused, Back, place_of, Fits, one_value, text_goes, handed_on, given_up, refusal_of}
 use Rattle.std.specs.contracts.result.Result as result
 use Rattle.ptree.specs.HandedBack.{HandsBack}
-use Rattle.ptree.specs.Outline.{line}
-use Rattle.ptree.specs.TreeBuilder.{Building}
+use Rattle.ptree.specs.TreeBuilder.{Building, AddsChild}
 use Rattle.ptree.specs.contracts.builder.TreeBuilder.add as f
 use Rattle.ptree.specs.contracts.builder.TreeBuilder.add_line as g
 use Rattle.ptree.proofs.builder.TreeBuilder.add_line.Met.{met}
@@ -19,7 +18,7 @@ Res = result.the_row unit Refused
 
 -- what is known of the builder m that add_line left
 record IsAdded (r m : Building) (text : Text.Denot) (flag : Bool) (res : Res.Denot) : Type 0 where
-  outline : OnOk res (m.outline ≡ r.outline ++ line (r.level + 1) (string_bytes text) ∷ [])
+  outline : OnOk res (AddsChild r m (string_bytes text))
   level : OnOk res (m.level ≡ (if flag then r.level + 1 else r.level))
   kept : OnErr res (m ≡ r)
 
@@ -27,17 +26,11 @@ module _ {M : Type 1} (𝓤 : Ura M) (𝓛 : Logic 𝓤) (𝓜 : Model 𝓤 𝓛
   abbrev c : Clauses 𝓤 f.ended
   c = f.clauses 𝓛 𝓜.mem 𝓡.returns
 
-  abbrev Ghost : Type 0
-  Ghost = (walk_of 𝓛 f.ended stayed c).Ghost
-
-  abbrev C : Calls 𝓤 𝓛.H
-  C = (tables 𝓤 𝓛.H 𝓜 𝓡 𝓡.env).C
-
-  abbrev Λ : Loops 𝓤 𝓛.H
-  Λ = (tables 𝓤 𝓛.H 𝓜 𝓡 𝓡.env).Λ
+  abbrev 𝓣 : MachineTables 𝓤 𝓛.H 𝓜
+  𝓣 = tables 𝓤 𝓛.H 𝓜 𝓡 𝓡.env
 
   module _ (κ : Lft) (q : Share) (r : MutBor Building) (text : Text.Denot) (flag : Bool) (w : Val) (fits : Fits Text w) where
-    abbrev y : Ghost
+    abbrev y : (walk_of 𝓛 f.ended stayed c).Ghost
     y = (((κ, tt), (q, tt), tt, (r, (text, (flag, tt))), (mut_vals r, (w ∷ [], (bool_vals flag, tt)))), tt)
 
     abbrev Ends : Val → SProp 𝓤
@@ -50,7 +43,7 @@ module _ {M : Type 1} (𝓤 : Ura M) (𝓛 : Logic 𝓤) (𝓜 : Model 𝓤 𝓛
     Same x = IfOk x (λ b. b.ghost_name ≡ r.ghost_name)
 
     abbrev Added : (Back κ).Denot → Type 0
-    Added x = IfOk x (λ b. b.now.outline ≡ r.now.outline ++ line (r.now.level + 1) (string_bytes text) ∷ [])
+    Added x = IfOk x (λ b. AddsChild r.now b.now (string_bytes text))
 
     abbrev Stands : (Back κ).Denot → Type 0
     Stands x = IfOk x (λ b. b.now.level ≡ (if flag then r.now.level + 1 else r.now.level))
@@ -72,20 +65,20 @@ module _ {M : Type 1} (𝓤 : Ura M) (𝓛 : Logic 𝓤) (𝓜 : Model 𝓤 𝓛
       both = head (after 3 (code.function).body)
 
       abbrev Then : Post 𝓤 𝓛.H
-      Then = any_q (after_seq 𝓤 𝓛.H (Wp 𝓤 𝓛.H C Λ En (after 4 (code.function).body) (at_return 𝓤 𝓛.H En Ends)) (at_return 𝓤 𝓛.H En Ends))
+      Then = any_q (after_seq 𝓤 𝓛.H (Wp 𝓤 𝓛.H 𝓣.C 𝓣.Λ En (after 4 (code.function).body) (at_return 𝓤 𝓛.H En Ends)) (at_return 𝓤 𝓛.H En Ends))
 
       rest : (res : Res.Denot) → IsAdded r.now m text flag res
           → Seq (Go {0}) 𝓛 (‵ (Self κ (record r { now = m })) ∷ ‵ (flft κ q) ∷ ‵ (Res.own_val res (v ∷ [])) ∷ holding 𝓛 En ((7, w) ∷ (6, place_of r) ∷ (3, vbool flag) ∷ (2, w) ∷ (1, place_of r) ∷ []))
-          (lands C Λ En (place 5 []) v (after 3 (code.function).body) (at_ret En Ends))
+          (lands 𝓣.C 𝓣.Λ En (place 5 []) v (after 3 (code.function).body) (at_ret En Ends))
       rest (Ok u) told =
           let self : MutBor Building = record r { now = m } in
           let handed : WT (live 0 (of_list (place_of r ∷ []))) = (record { fits = lit< tt }, (tt, tt)) in
           move ! (2 ∷ []) $
           fpick ! (λ us. fsplit ! $ feq_l ! (λ e. fpick ! (λ vss. fsplit ! $ feq_l ! (λ e'. fsplit ! $ feq_l ! (λ e''. drop ! $
           lands_as ! (ap only e ∙ ap (λ (ws : List Val). live 0 (of_list ws)) (e' ∙ ap (λ (ws : List Val). ws ++ []) e'')) refl (tt, (record { fits = lit< tt }, (tt, tt))) $
-          first ! $ switches_on ! (get_tag ! (vrt ! refl (fld ! refl (stop !))) (whole !)) $ exec ! C Λ En (arm_body 0 both) Then $
+          first ! $ switches_on ! (get_tag ! (vrt ! refl (fld ! refl (stop !))) (whole !)) $ exec ! 𝓣.C 𝓣.Λ En (arm_body 0 both) Then $
           sets ! (addr ! (through ! refl (stop !))) refl (tt, tt) $ sets_last ! (agg ! (and_then ! (lit ! tt) (and_then ! (get ! refl) (no_more !)))) refl (tt, handed) $
-          exec ! C Λ En (after 4 (code.function).body) (at_ret En Ends) $ sets ! (of_opd ! (get ! refl)) refl (tt, handed) $
+          exec ! 𝓣.C 𝓣.Λ En (after 4 (code.function).body) (at_ret En Ends) $ sets ! (of_opd ! (get ! refl)) refl (tt, handed) $
           returns ! (look_at ! 0 refl) $ free_all ! refl $
           use1 𝓛 (‵ ((Back κ).own_val (Ok self) (live 0 (of_list (place_of r ∷ [])) ∷ []))) (ok_of 𝓛 (MutRef (named 0) κ B) Refused self (place_of r)) $
           use0 𝓛 (‵ (HandsBack {E = Refused.Denot} r (Ok self))) (handed_on 𝓛 r m) $ move ! (1 ∷ 2 ∷ 0 ∷ []) $
@@ -96,17 +89,17 @@ module _ {M : Type 1} (𝓤 : Ura M) (𝓛 : Logic 𝓤) (𝓜 : Model 𝓤 𝓛
           move ! (2 ∷ []) $
           fpick ! (λ us. fsplit ! $ feq_l ! (λ e. fpick ! (λ vss. fsplit ! $ feq_l ! (λ e'. fsplit ! $ fpick ! (λ none. fsplit ! $ feq_l ! (λ e''. drop ! $ drop ! $
           lands_as ! (ap only e ∙ ap (λ (ws : List Val). live 1 (of_list ws)) (e' ∙ ap (λ (ws : List Val). ws ++ []) e'')) refl (tt, handed) $
-          first ! $ switches_on ! (get_tag ! (vrt ! refl (fld ! refl (stop !))) (whole !)) $ exec ! C Λ En (arm_body 1 both) Then $
+          first ! $ switches_on ! (get_tag ! (vrt ! refl (fld ! refl (stop !))) (whole !)) $ exec ! 𝓣.C 𝓣.Λ En (arm_body 1 both) Then $
           sets ! (of_opd ! (get_in ! (vrt ! refl (fld ! refl (stop !))) (in_variant ! 1 0 refl refl (whole !)))) refl (tt, tt) $
           sets_last ! (agg ! (and_then ! (lit ! tt) (and_then ! (get ! refl) (no_more !)))) refl (tt, handed) $
-          exec ! C Λ En (after 4 (code.function).body) (at_ret En Ends) $ sets ! (of_opd ! (get ! refl)) refl (tt, handed) $
+          exec ! 𝓣.C 𝓣.Λ En (after 4 (code.function).body) (at_ret En Ends) $ sets ! (of_opd ! (get ! refl)) refl (tt, handed) $
           returns ! (look_at ! 0 refl) $ free_all ! refl $
           fsplit3 ! $ drop ! $ use1 𝓛 (‵ (fres r.ghost_name (B.coded.code m))) (𝓛.names.obs-res r.ghost_name (B.coded.code m)) $
           use1 𝓛 (‵ (HandsBack r (Err n))) (given_up 𝓛 r m n told.kept) $ keep ! (2 ∷ 0 ∷ []) $
           use0 𝓛 (‵ ((Back κ).own_val (Err n) (live 1 (of_list (refused ∷ [])) ∷ []))) (refusal_of 𝓛 κ n) $
           by ! (exits (Err n) (live 1 (of_list (refused ∷ []))) tt tt tt)))))))
 
-    walk : ent 𝓤 ((walk_of 𝓛 f.ended stayed c).pre y) (WpFn 𝓤 𝓛.H C Λ code.function ((walk_of 𝓛 f.ended stayed c).args y) Ends)
+    walk : ent 𝓤 ((walk_of 𝓛 f.ended stayed c).pre y) (WpFn 𝓤 𝓛.H 𝓣.C 𝓣.Λ code.function ((walk_of 𝓛 f.ended stayed c).args y) Ends)
     walk =
         let b = r.ref_ptr.0 in let o = r.ref_ptr.1 in let low : Type 0 = r.now.level < 4294967295 in
         qed 𝓛 (((‵ (flft κ q) ⊛ ‵ ftrue) ⊛ ‵ (Self κ r) ⊛ ‵ (Text.own_val text (w ∷ [])) ⊛ ‵ (bool.own_val flag (bool_vals flag)) ⊛ ‵ ftrue) ∷ raw (fact 𝓤 low) ∷ []) ∵
@@ -126,11 +119,11 @@ module _ {M : Type 1} (𝓤 : Ura M) (𝓛 : Logic 𝓤) (𝓜 : Model 𝓤 𝓛
         nothing ! $ move ! (5 ∷ 0 ∷ []) $ join ! $ move ! (4 ∷ 0 ∷ []) $ join ! $ move ! (1 ∷ 0 ∷ []) $ join ! $
         nothing ! $ move ! (3 ∷ 0 ∷ []) $ join ! $ join ! $
         use0 𝓛 (raw (fact 𝓤 low)) (fact_i 𝓤 low (emp 𝓤) is_low) $ move ! (1 ∷ 0 ∷ []) $ use2 𝓛 (raw (G.pre z)) (id⊢ 𝓤 _) $
-        calls_at ! (framed 𝓤 𝓛.H 𝓜 (tables 𝓤 𝓛.H 𝓜 𝓡 𝓡.env)) G (met 𝓤 𝓛 𝓜 𝓡 (code.calls-ptree::builder::TreeBuilder::add_line 𝓡.env wired)) z
+        calls_at ! (framed 𝓤 𝓛.H 𝓜 𝓣) G (met 𝓤 𝓛 𝓜 𝓡 (code.calls-ptree::builder::TreeBuilder::add_line 𝓡.env wired)) z
         (and_then ! (get ! refl) (and_then ! (get ! refl) (and_then ! (get ! refl) (no_more !)))) (λ v.
         use1 𝓛 (later (some (λ (res : Res.Denot). ((‵ (flft (α ∷ []) full_share) ⊛ ‵ ftrue) ⊛ ‵ (Res.own_val res (v ∷ []))) ⊛
         some (λ (ws : Building × ((Unit {0} × Unit {0}) × (Unit {0} × Unit {0}))). ‵ (lasts g.ended z.0.0 z.0.3 ws)
-        ⊛ raw (fact 𝓤 (OnOk res (ws.0.outline ≡ r.now.outline ++ line (r.now.level + 1) (string_bytes text) ∷ [])))
+        ⊛ raw (fact 𝓤 (OnOk res (AddsChild r.now ws.0 (string_bytes text))))
         ⊛ raw (fact 𝓤 (OnOk res (ws.0.level ≡ (if flag then r.now.level + 1 else r.now.level)))) ⊛ raw (fact 𝓤 (OnErr res (ws.0 ≡ r.now))))))) (id⊢ 𝓤 _) $
         await ! tt $ pick ! (λ res. split ! $ split ! $ split ! $ lft_end ! tt $
         move ! (3 ∷ []) $ pick ! (λ ws. split ! $ move ! (1 ∷ []) $ split ! $ heard ! _ (λ outline. split ! $ heard ! _ (λ level. heard ! _ (λ kept.

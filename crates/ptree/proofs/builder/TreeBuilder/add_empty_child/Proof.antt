@@ -1,8 +1,7 @@
 -- The builder is passed to add unchanged, and the result of add is returned.
-use Rattle.ptree.proofs.Trees.BuilderWalks.{lit<, ◌≡◌, ℕ, ◌+◌, ◌<◌, false, Ok, Err, IfOk, string_bytes, List, [], ◌∷◌, ◌++◌, refl, sym, ap, ◌∙◌, subst, MutBor, proved_at, leaves, ok_of, Lft, Share, ftrue, flft, SProp, ent, id⊢, emp, fact, fact_i, Running, tables, yes, no, MutRef, mut_vals, mut_Tells, plain, mut_ref_to, only, nothing, heard, calls_at, Clauses, lasts, triple_of, framed, Stays, stay_dropped, walk_of, Goes-spent_ref, named, place, Val, WT, of_list, vbool, vstruct, vnil, Model, Wired, Env, Calls, Loops, WpFn, Ura, alloc_all, pass_all, free_all, look_at, holding, get, through, sets, lands_as, env, Seq, Go, ⋆, lands, at_ret, ‵, raw, ◌⊛◌, some, later, ◌$◌, ◌∵◌, !, qed, by, move, keep, drop, use0, use1, use2, split, join, fsplit, fsplit3, fjoin, fjoin3, fpick, feq_l, feq_i, pick, await, Logic, live, enter, of_opd, addr, false_lit, stop, no_more, and_then, returns, B, Text, Refused, Back, place_of, Fits, one_value, text_goes, refusal_of}
+use Rattle.ptree.proofs.Trees.BuilderWalks.{lit<, ◌≡◌, ℕ, ◌+◌, ◌<◌, false, Ok, Err, IfOk, string_bytes, List, [], ◌∷◌, ◌++◌, refl, sym, ap, ◌∙◌, subst, MutBor, proved_at, leaves, ok_of, Lft, Share, ftrue, flft, SProp, ent, id⊢, emp, fact, fact_i, Running, MachineTables, tables, yes, no, MutRef, mut_vals, mut_Tells, plain, mut_ref_to, only, nothing, heard, calls_at, Clauses, lasts, triple_of, framed, Stays, stay_dropped, walk_of, Goes-spent_ref, named, place, Val, WT, of_list, vbool, vstruct, vnil, Model, Wired, Env, WpFn, Ura, alloc_all, pass_all, free_all, look_at, holding, get, through, sets, lands_as, env, Seq, Go, ⋆, lands, at_ret, ‵, raw, ◌⊛◌, some, later, ◌$◌, ◌∵◌, !, qed, by, move, keep, drop, use0, use1, use2, split, join, fsplit, fsplit3, fjoin, fjoin3, fpick, feq_l, feq_i, pick, await, Logic, live, enter, of_opd, addr, false_lit, stop, no_more, and_then, returns, B, Text, Refused, Back, place_of, Fits, one_value, text_goes, refusal_of}
 use Rattle.ptree.specs.HandedBack.{HandsBack}
-use Rattle.ptree.specs.Outline.{line}
-use Rattle.ptree.specs.TreeBuilder.{Building}
+use Rattle.ptree.specs.TreeBuilder.{Building, AddsChild}
 use Rattle.ptree.specs.contracts.builder.TreeBuilder.add_empty_child as f
 use Rattle.ptree.specs.contracts.builder.TreeBuilder.add as g
 use Rattle.ptree.proofs.builder.TreeBuilder.add.Met.{met}
@@ -16,17 +15,11 @@ module _ {M : Type 1} (𝓤 : Ura M) (𝓛 : Logic 𝓤) (𝓜 : Model 𝓤 𝓛
   abbrev c : Clauses 𝓤 f.ended
   c = f.clauses 𝓛 𝓜.mem 𝓡.returns
 
-  abbrev Ghost : Type 0
-  Ghost = (walk_of 𝓛 f.ended stayed c).Ghost
-
-  abbrev C : Calls 𝓤 𝓛.H
-  C = (tables 𝓤 𝓛.H 𝓜 𝓡 𝓡.env).C
-
-  abbrev Λ : Loops 𝓤 𝓛.H
-  Λ = (tables 𝓤 𝓛.H 𝓜 𝓡 𝓡.env).Λ
+  abbrev 𝓣 : MachineTables 𝓤 𝓛.H 𝓜
+  𝓣 = tables 𝓤 𝓛.H 𝓜 𝓡 𝓡.env
 
   module _ (κ : Lft) (q : Share) (r : MutBor Building) (text : Text.Denot) (w : Val) (fits : Fits Text w) where
-    abbrev y : Ghost
+    abbrev y : (walk_of 𝓛 f.ended stayed c).Ghost
     y = (((κ, tt), (q, tt), tt, (r, (text, tt)), (mut_vals r, (w ∷ [], tt))), tt)
 
     abbrev Ends : Val → SProp 𝓤
@@ -36,7 +29,7 @@ module _ {M : Type 1} (𝓤 : Ura M) (𝓛 : Logic 𝓤) (𝓜 : Model 𝓤 𝓛
     Same x = IfOk x (λ b. b.ghost_name ≡ r.ghost_name)
 
     abbrev Added : (Back κ).Denot → Type 0
-    Added x = IfOk x (λ b. b.now.outline ≡ r.now.outline ++ line (r.now.level + 1) (string_bytes text) ∷ [])
+    Added x = IfOk x (λ b. AddsChild r.now b.now (string_bytes text))
 
     abbrev Stands : (Back κ).Denot → Type 0
     Stands x = IfOk x (λ b. b.now.level ≡ r.now.level)
@@ -56,7 +49,7 @@ module _ {M : Type 1} (𝓤 : Ura M) (𝓛 : Logic 𝓤) (𝓜 : Model 𝓤 𝓛
 
       rest : (x : (Back κ).Denot) → Same x → Added x → Stands x
           → Seq (Go {0}) 𝓛 (‵ ((Back κ).own_val x (v ∷ [])) ∷ ‵ (flft κ q) ∷ ‵ (HandsBack r x) ∷ holding 𝓛 En ((4, w) ∷ (3, place_of r) ∷ (2, w) ∷ (1, place_of r) ∷ []))
-          (lands C Λ En (place 0 []) v (code.Mir.t-4) (at_ret En Ends))
+          (lands 𝓣.C 𝓣.Λ En (place 0 []) v (code.Mir.t-4) (at_ret En Ends))
       rest (Ok b) same added stands =
           let handed : WT (live 0 (of_list (place_of b ∷ []))) = (record { fits = lit< tt }, (tt, tt)) in
           fpick ! (λ us. fsplit ! $ feq_l ! (λ e. fpick ! (λ vss. fsplit ! $ feq_l ! (λ e'. fsplit ! $ fsplit3 ! $ feq_l ! (λ e''.
@@ -74,7 +67,7 @@ module _ {M : Type 1} (𝓤 : Ura M) (𝓛 : Logic 𝓤) (𝓜 : Model 𝓤 𝓛
           use0 𝓛 (‵ ((Back κ).own_val (Err n) (live 1 (of_list (refused ∷ [])) ∷ []))) (refusal_of 𝓛 κ n) $
           by ! (exits (Err n) (live 1 (of_list (refused ∷ []))) tt tt tt)))))))
 
-    walk : ent 𝓤 ((walk_of 𝓛 f.ended stayed c).pre y) (WpFn 𝓤 𝓛.H C Λ code.function ((walk_of 𝓛 f.ended stayed c).args y) Ends)
+    walk : ent 𝓤 ((walk_of 𝓛 f.ended stayed c).pre y) (WpFn 𝓤 𝓛.H 𝓣.C 𝓣.Λ code.function ((walk_of 𝓛 f.ended stayed c).args y) Ends)
     walk =
         let low : Type 0 = r.now.level < 4294967295 in
         qed 𝓛 (((‵ (flft κ q) ⊛ ‵ ftrue) ⊛ ‵ ((MutRef (named 0) κ B).own_val r (mut_vals r)) ⊛ ‵ (Text.own_val text (w ∷ [])) ⊛ ‵ ftrue) ∷ raw (fact 𝓤 low) ∷ []) ∵
@@ -90,7 +83,7 @@ module _ {M : Type 1} (𝓤 : Ura M) (𝓛 : Logic 𝓤) (𝓜 : Model 𝓤 𝓛
         nothing ! $ feq_i ! (List Val) (vbool false ∷ []) (vbool false ∷ []) refl $ join ! $ move ! (3 ∷ 0 ∷ []) $ join ! $ move ! (1 ∷ 0 ∷ []) $ join ! $
         nothing ! $ move ! (2 ∷ 0 ∷ []) $ join ! $ join ! $
         use0 𝓛 (raw (fact 𝓤 low)) (fact_i 𝓤 low (emp 𝓤) is_low) $ move ! (1 ∷ 0 ∷ []) $ use2 𝓛 (raw (G.pre z)) (id⊢ 𝓤 _) $
-        calls_at ! (framed 𝓤 𝓛.H 𝓜 (tables 𝓤 𝓛.H 𝓜 𝓡 𝓡.env)) G (met 𝓤 𝓛 𝓜 𝓡 (code.calls-ptree::builder::TreeBuilder::add 𝓡.env wired)) z
+        calls_at ! (framed 𝓤 𝓛.H 𝓜 𝓣) G (met 𝓤 𝓛 𝓜 𝓡 (code.calls-ptree::builder::TreeBuilder::add 𝓡.env wired)) z
         (and_then ! (get ! refl) (and_then ! (get ! refl) (and_then ! (false_lit !) (no_more !)))) (λ v.
         use1 𝓛 (later (some (λ (x : (Back κ).Denot). ((‵ (flft κ q) ⊛ ‵ ftrue) ⊛ ‵ ((Back κ).own_val x (v ∷ []))) ⊛
         some (λ (ws : Unit {0} × ((Unit {0} × Unit {0}) × (Unit {0} × Unit {0}))). ‵ (lasts g.ended z.0.0 z.0.3 ws)
