@@ -3,7 +3,7 @@
 use Rattle.std.specs.Prelude.{◌≡◌, ℕ, zero, suc, ◌+◌, ◌-◌, ◌^◌, ◌<◌, Bool, true, false, if◌then◌else◌, Option, List, [], ◌∷◌, ◌++◌, length, drop, replicate, unwrap_or, slice_get, slice_set}
 use Rattle.ptree.specs.declared.graph.Graph.{Graph}
 use Rattle.ptree.specs.declared.graph.places.Place.{Place}
-use Rattle.ptree.specs.Graph.{weights_of}
+use Rattle.ptree.specs.Graph.{weights_of, edges_of, neighbors_of}
 use Rattle.ptree.specs.Occurrence.{OccurrenceTree, occurrence, none, row, row_places, size_below, trees_in, weight_own}
 use Rattle.ptree.specs.Shape.{Shape, over_shape}
 
@@ -51,6 +51,10 @@ all_flags n seen = seen ++ replicate (n - length seen) false
 -- the flags of a graph's nodes
 abbrev pub flags_of : {N : Type 0} → Graph N → List Bool → List Bool
 flags_of g seen = all_flags (length (weights_of g)) seen
+
+-- the occurrence of a node in a graph, with at most so many levels below it
+abbrev pub grown_from : {N : Type 0} → Graph N → ℕ → List Bool → ℕ → Grown
+grown_from g levels seen v = grow (neighbors_of (edges_of g)) levels (flags_of g seen) v
 
 -- the occurrences of a node's neighbours, once the node is seen
 abbrev pub kids_grown : (ℕ → List ℕ) → ℕ → List Bool → ℕ → List OccurrenceTree

@@ -2,7 +2,7 @@
 ghost use Rattle.std.specs.Prelude.{◌≡◌, ◌≢◌, ◌∷◌, [], ◌≤◌, ◌<◌, ◌^◌, ℕ, true, false, length, slice_set, IfOk, OnOk};
 ghost use Rattle.ptree.specs.Graph.{weights_of, edges_of, neighbors_of};
 ghost use Rattle.ptree.specs.GraphLinks.{newest_from};
-ghost use Rattle.ptree.specs.Growing.{is_seen, grow, all_flags, place_of, leaf_size, AppendsPlaces};
+ghost use Rattle.ptree.specs.Growing.{is_seen, grown_from, all_flags, flags_of, place_of, leaf_size, AppendsPlaces};
 ghost use Rattle.ptree.specs.Occurrence.{IsExpandedOnce, LeavesUnrepeated, ExpandsFirst, HasOneTree, HasSize, occurrence_count, tree_places, is_repeated_size, size_below, occurrence_tree};
 
 use super::{Graph, NodeIndex};
@@ -113,11 +113,9 @@ impl<N> Graph<N> {
     ) -> Result<(), AllocError>
         requires { length seen.old.items ≤ length (weights_of self.now) }
         ensures places { OnOk result (AppendsPlaces places.old.items places.new.items
-            ((grow (neighbors_of (edges_of self.now)) levels
-            (all_flags (length (weights_of self.now)) seen.old.items) node.0).occurrence ∷ [])) }
-        ensures seen { OnOk result (all_flags (length (weights_of self.now)) seen.new.items
-            ≡ (grow (neighbors_of (edges_of self.now)) levels
-            (all_flags (length (weights_of self.now)) seen.old.items) node.0).seen) }
+            ((grown_from self.now levels seen.old.items node.0).occurrence ∷ [])) }
+        ensures seen { OnOk result (flags_of self.now seen.new.items
+            ≡ (grown_from self.now levels seen.old.items node.0).seen) }
         ensures length { OnOk result (length seen.new.items ≤ length (weights_of self.now)) }
     {
         let repeated = is_flagged(seen, node.0);
@@ -152,11 +150,9 @@ impl<N> Graph<N> {
         requires levels { levels ≢ 0 }
         requires unseen { is_seen seen.old.items node.0 ≡ false }
         ensures places { OnOk result (AppendsPlaces places.old.items places.new.items
-            ((grow (neighbors_of (edges_of self.now)) levels
-            (all_flags (length (weights_of self.now)) seen.old.items) node.0).occurrence ∷ [])) }
-        ensures seen { OnOk result (all_flags (length (weights_of self.now)) seen.new.items
-            ≡ (grow (neighbors_of (edges_of self.now)) levels
-            (all_flags (length (weights_of self.now)) seen.old.items) node.0).seen) }
+            ((grown_from self.now levels seen.old.items node.0).occurrence ∷ [])) }
+        ensures seen { OnOk result (flags_of self.now seen.new.items
+            ≡ (grown_from self.now levels seen.old.items node.0).seen) }
         ensures length { OnOk result (length seen.new.items ≤ length (weights_of self.now)) }
     {
         let index = places.len();

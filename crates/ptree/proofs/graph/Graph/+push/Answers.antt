@@ -4,7 +4,7 @@ use Rattle.std.proofs.lemmas.Grind.{common_steps}
 use Rattle.std.proofs.lemmas.List.{length-map}
 use Rattle.ptree.specs.Graph.{weights_of, edges_of, neighbors_of}
 use Rattle.ptree.specs.GraphLinks.{ends_of}
-use Rattle.ptree.specs.Growing.{is_seen, enter, grow, row_occurrences, row_seen, all_flags, place_of, leaf_size, AppendsPlaces}
+use Rattle.ptree.specs.Growing.{is_seen, enter, grow, grown_from, row_occurrences, row_seen, flags_of, place_of, leaf_size, AppendsPlaces}
 use Rattle.ptree.proofs.Graphs.EdgeLists.{newest_starts, newest_within, newest_has}
 use Rattle.ptree.proofs.Graphs.Growth.{stopped, without, grown_all, grown_more, leaf_made, row_made, seen_made, entered}
 use Rattle.ptree.proofs.Graphs.Links.{linked-step}
@@ -13,53 +13,41 @@ use Rattle.ptree.proofs.Graphs.Places.{appends_none, appends_more, appends_over}
 use Rattle.ptree.proofs.graph.Graph.+push.Goals as goal
 use Rattle.ptree.proofs.graph.Graph.+push.Goals.{push_places-then-repeated-via-then-repeated, push_places-then-repeated-via-else-repeated+then-levels-eq0}
 
-pub push_places-returns-then-repeated-clause-places : goal.push_places-returns-then-repeated-clause-places
-push_places-returns-then-repeated-clause-places g t c =
+pub push_places-returns-then-repeated : goal.push_places-returns-then-repeated
+push_places-returns-then-repeated g t c =
     let n = length (weights_of c.args.self.now) in
     let v = c.args.node.0 in
     let xs = c.args.places.now.items in
-    let seen = all_flags n c.args.seen.now.items in
+    let seen = flags_of c.args.self.now c.args.seen.now.items in
+    let all = grown_from c.args.self.now c.args.levels c.args.seen.now.items v in
     let flag : c.is_flagged-repeated.result ≡ is_seen seen v = flag_read n c.args.seen.now.items _ v _ c.is_flagged-repeated.ensures c.deref.ensures.value in
     let leaf : c.leaf.result ≡ place_of v (leaf_size c.is_flagged-repeated.result) = search c.leaf.ensures in
-    leaf_made (grow (neighbors_of (edges_of c.args.self.now)) c.args.levels seen v) xs c.push.new.self.items v (is_seen seen v) seen
-    (stopped (neighbors_of (edges_of c.args.self.now)) c.args.levels seen v
-    (elim c.then-repeated.branch [ push_places-then-repeated-via-then-repeated w ↦ inl (sym flag ∙ w.if-repeated.true) | push_places-then-repeated-via-else-repeated+then-levels-eq0 w ↦ inr w.if-levels-eq0.true ]))
-    (c.in_ok-push.ensures.items ∙ (ap (λ p. xs ++ p ∷ []) leaf ∙ ap (λ b. xs ++ place_of v (leaf_size b) ∷ []) flag))
+    let made = stopped (neighbors_of (edges_of c.args.self.now)) c.args.levels seen v
+    (elim c.then-repeated.branch [ push_places-then-repeated-via-then-repeated w ↦ inl (sym flag ∙ w.if-repeated.true) | push_places-then-repeated-via-else-repeated+then-levels-eq0 w ↦ inr w.if-levels-eq0.true ]) in
+    record {
+      places = leaf_made all xs c.push.new.self.items v (is_seen seen v) seen made
+          (c.in_ok-push.ensures.items ∙ (ap (λ p. xs ++ p ∷ []) leaf ∙ ap (λ b. xs ++ place_of v (leaf_size b) ∷ []) flag));
+      seen = seen_made all _ seen _ made (search rules);
+      length = c.requires;
+    }
 
-pub push_places-returns-then-repeated-clause-seen : goal.push_places-returns-then-repeated-clause-seen
-push_places-returns-then-repeated-clause-seen g t c =
-    let n = length (weights_of c.args.self.now) in
-    let v = c.args.node.0 in
-    let seen = all_flags n c.args.seen.now.items in
-    let flag : c.is_flagged-repeated.result ≡ is_seen seen v = flag_read n c.args.seen.now.items _ v _ c.is_flagged-repeated.ensures c.deref.ensures.value in
-    seen_made (grow (neighbors_of (edges_of c.args.self.now)) c.args.levels seen v) _ seen _
-    (stopped (neighbors_of (edges_of c.args.self.now)) c.args.levels seen v
-    (elim c.then-repeated.branch [ push_places-then-repeated-via-then-repeated w ↦ inl (sym flag ∙ w.if-repeated.true) | push_places-then-repeated-via-else-repeated+then-levels-eq0 w ↦ inr w.if-levels-eq0.true ])) (search rules)
-
-pub push_places-returns-then-newest-eq0-clause-places : goal.push_places-returns-then-newest-eq0-clause-places
-push_places-returns-then-newest-eq0-clause-places g t c =
+pub push_places-returns-then-newest-eq0 : goal.push_places-returns-then-newest-eq0
+push_places-returns-then-newest-eq0 g t c =
     let n = length (weights_of c.args.self.now) in
     let v = c.args.node.0 in
     let xs = c.args.places.now.items in
     let edges = edges_of c.args.self.now in
-    let seen = all_flags n c.args.seen.now.items in
+    let seen = flags_of c.args.self.now c.args.seen.now.items in
+    let all = grown_from c.args.self.now c.args.levels c.args.seen.now.items v in
     let flag : c.is_flagged-repeated.result ≡ is_seen seen v = flag_read n c.args.seen.now.items _ v _ c.is_flagged-repeated.ensures c.deref.ensures.value in
     let none : neighbors_of edges v ≡ [] = sym (newest_starts edges v c.newest-newest.result c.newest-newest.ensures.newest).0 ∙ ap (λ k. neighbors_of (take k edges) v) c.if-newest-eq0.true in
     let leaf : c.leaf-then-newest-eq0.result ≡ place_of v 1 = search c.leaf-then-newest-eq0.ensures in
-    leaf_made (grow (neighbors_of edges) c.args.levels seen v) xs c.push-then-newest-eq0.new.self.items v false seen
-    (without (neighbors_of edges) c.args.levels seen v c.if-levels-eq0.false (sym flag ∙ c.if-repeated.false) none)
-    (c.in_ok-push-2.ensures.items ∙ ap (λ p. xs ++ p ∷ []) leaf)
-
-pub push_places-returns-then-newest-eq0-clause-seen : goal.push_places-returns-then-newest-eq0-clause-seen
-push_places-returns-then-newest-eq0-clause-seen g t c =
-    let n = length (weights_of c.args.self.now) in
-    let v = c.args.node.0 in
-    let edges = edges_of c.args.self.now in
-    let seen = all_flags n c.args.seen.now.items in
-    let flag : c.is_flagged-repeated.result ≡ is_seen seen v = flag_read n c.args.seen.now.items _ v _ c.is_flagged-repeated.ensures c.deref.ensures.value in
-    let none : neighbors_of edges v ≡ [] = sym (newest_starts edges v c.newest-newest.result c.newest-newest.ensures.newest).0 ∙ ap (λ k. neighbors_of (take k edges) v) c.if-newest-eq0.true in
-    seen_made (grow (neighbors_of edges) c.args.levels seen v) _ seen _
-    (without (neighbors_of edges) c.args.levels seen v c.if-levels-eq0.false (sym flag ∙ c.if-repeated.false) none) (search rules)
+    let made = without (neighbors_of edges) c.args.levels seen v c.if-levels-eq0.false (sym flag ∙ c.if-repeated.false) none in
+    record {
+      places = leaf_made all xs c.push-then-newest-eq0.new.self.items v false seen made (c.in_ok-push-2.ensures.items ∙ ap (λ p. xs ++ p ∷ []) leaf);
+      seen = seen_made all _ seen _ made (search rules);
+      length = c.requires;
+    }
 
 pub push_places-push_expanded-requires : goal.push_places-push_expanded-requires
 push_places-push_expanded-requires g t c =
@@ -70,17 +58,16 @@ push_places-push_expanded-requires g t c =
 
 pub push_expanded-loop-number-init : goal.push_expanded-loop-number-init
 push_expanded-loop-number-init g t c =
-    let n = length (weights_of c.args.self.now) in
     let v = c.args.node.0 in
     let xs = c.args.places.now.items in
     let edges = edges_of c.args.self.now in
     let below = neighbors_of edges in
     let one = grow below (c.args.levels - 1) in
-    let seen = all_flags n c.args.seen.now.items in
+    let seen = flags_of c.args.self.now c.args.seen.now.items in
     let number = c.args.newest in
     let start = newest_starts edges v number c.requires.newest in
-    let set = c.in_ok-set_flag.ensures.flags n c.requires.node c.requires.length in
-    let begun : all_flags n c.set_flag.new.seen.items ≡ enter (below v) seen v = set.0 ∙ sym (entered (below v) seen v (newest_has edges v number c.requires.newest c.requires.some)) in
+    let set = c.in_ok-set_flag.ensures.flags (length (weights_of c.args.self.now)) c.requires.node c.requires.length in
+    let begun : flags_of c.args.self.now c.set_flag.new.seen.items ≡ enter (below v) seen v = set.0 ∙ sym (entered (below v) seen v (newest_has edges v number c.requires.newest c.requires.some)) in
     let leaf : c.leaf.result ≡ place_of v 1 = search c.leaf.ensures in
     record {
       places = (
@@ -103,23 +90,21 @@ push_expanded-loop-number-smaller g t c =
 
 pub push_expanded-loop-number-preserved : goal.push_expanded-loop-number-preserved
 push_expanded-loop-number-preserved g t c =
-    let n = length (weights_of c.args.self.now) in
     let v = c.args.node.0 in
-    let xs = c.args.places.now.items in
     let edges = edges_of c.args.self.now in
     let below = neighbors_of edges in
     let one = grow below (c.args.levels - 1) in
-    let last = all_flags n c.loop-number.seen.items in
+    let last = flags_of c.args.self.now c.loop-number.seen.items in
     let u = c.index-edge.result.now.target in
     let left = neighbors_of (take c.index-edge.result.now.next edges) v in
     let step = linked-step _ _ v c.loop-number.number c.index-edge.result.now c.args.self.now.linked (omega arith) c.loop-number.invariant.newest c.index-edge.ensures in
     let (ts, made, whole) = c.loop-number.invariant.places in
     let pushed : AppendsPlaces c.loop-number.places.items c.push_places.new.places.items ((one last u).occurrence ∷ []) = search c.in_ok-push_places.ensures.places in
-    let seen : all_flags n c.push_places.new.seen.items ≡ (one last u).seen = search c.in_ok-push_places.ensures.seen in
+    let seen : flags_of c.args.self.now c.push_places.new.seen.items ≡ (one last u).seen = search c.in_ok-push_places.ensures.seen in
     record {
       places = (
         ts ++ (one last u).occurrence ∷ [],
-        appends_more (xs ++ place_of v 1 ∷ []) c.loop-number.places.items c.push_places.new.places.items ts ((one last u).occurrence ∷ []) made pushed,
+        appends_more (c.args.places.now.items ++ place_of v 1 ∷ []) c.loop-number.places.items c.push_places.new.places.items ts ((one last u).occurrence ∷ []) made pushed,
         ap (λ s. (ts ++ (one last u).occurrence ∷ []) ++ row_occurrences one s left) seen
             ∙ grown_more below (c.args.levels - 1) last ts (neighbors_of (take c.loop-number.number edges) v) u left _ step.0 whole,
       );
@@ -128,30 +113,22 @@ push_expanded-loop-number-preserved g t c =
       newest = step.1;
     }
 
-pub push_expanded-returns-clause-places : goal.push_expanded-returns-clause-places
-push_expanded-returns-clause-places g t c =
-    let n = length (weights_of c.args.self.now) in
+pub push_expanded-returns : goal.push_expanded-returns
+push_expanded-returns g t c =
     let v = c.args.node.0 in
     let xs = c.args.places.now.items in
     let edges = edges_of c.args.self.now in
-    let seen = all_flags n c.args.seen.now.items in
-    let flag : is_seen seen v ≡ false = seen_all n c.args.seen.now.items v ∙ c.requires.unseen in
-    let (ts, made, whole) = c.loop-number.invariant.places in
+    let seen = flags_of c.args.self.now c.args.seen.now.items in
+    let last = flags_of c.args.self.now c.loop-number.seen.items in
+    let all = grown_from c.args.self.now c.args.levels c.args.seen.now.items v in
+    let flag : is_seen seen v ≡ false = seen_all (length (weights_of c.args.self.now)) c.args.seen.now.items v ∙ c.requires.unseen in
+    let (ts, pushed, whole) = c.loop-number.invariant.places in
     let ended : c.loop-number.number ≡ 0 = omega (arith, c.loop-number-test.false) in
-    row_made (grow (neighbors_of edges) c.args.levels seen v) xs _ v ts (all_flags n c.loop-number.seen.items)
-    (grown_all (neighbors_of edges) c.args.levels seen (all_flags n c.loop-number.seen.items) v ts (neighbors_of (take c.loop-number.number edges) v) c.requires.levels flag
-    (ap (λ k. neighbors_of (take k edges) v) ended) whole c.loop-number.invariant.seen)
-    (appends_over xs c.loop-number.places.items _ v c.len-index.result (c.len.result - c.len-index.result) ts made (omega (arith, c.len-index.ensures, c.args.places.now.ok.0)) (omega (arith, c.len.ensures, c.loop-number.places.ok.0)) (search rules))
-
-pub push_expanded-returns-clause-seen : goal.push_expanded-returns-clause-seen
-push_expanded-returns-clause-seen g t c =
-    let n = length (weights_of c.args.self.now) in
-    let v = c.args.node.0 in
-    let edges = edges_of c.args.self.now in
-    let seen = all_flags n c.args.seen.now.items in
-    let flag : is_seen seen v ≡ false = seen_all n c.args.seen.now.items v ∙ c.requires.unseen in
-    let (ts, made, whole) = c.loop-number.invariant.places in
-    let ended : c.loop-number.number ≡ 0 = omega (arith, c.loop-number-test.false) in
-    seen_made (grow (neighbors_of edges) c.args.levels seen v) _ (all_flags n c.loop-number.seen.items) (all_flags n c.loop-number.seen.items)
-    (grown_all (neighbors_of edges) c.args.levels seen (all_flags n c.loop-number.seen.items) v ts (neighbors_of (take c.loop-number.number edges) v) c.requires.levels flag
-    (ap (λ k. neighbors_of (take k edges) v) ended) whole c.loop-number.invariant.seen) refl
+    let made = grown_all (neighbors_of edges) c.args.levels seen last v ts (neighbors_of (take c.loop-number.number edges) v) c.requires.levels flag
+    (ap (λ k. neighbors_of (take k edges) v) ended) whole c.loop-number.invariant.seen in
+    record {
+      places = row_made all xs _ v ts last made
+          (appends_over xs c.loop-number.places.items _ v c.len-index.result (c.len.result - c.len-index.result) ts pushed (omega (arith, c.len-index.ensures, c.args.places.now.ok.0)) (omega (arith, c.len.ensures, c.loop-number.places.ok.0)) (search rules));
+      seen = seen_made all _ last last made refl;
+      length = c.loop-number.invariant.length;
+    }
