@@ -1,6 +1,5 @@
 //! The bytes of an entry, as they are gathered.
-ghost use Rattle.std.specs.Prelude.{◌≡◌, length, take, drop, ◌+◌, ◌≤◌, ◌++◌, ◌∷◌, [], OnOk, OnErr};
-ghost use Rattle.ptree.specs.Drawing.{with_inserted};
+ghost use Rattle.std.specs.Prelude.{◌≡◌, length, take, ◌+◌, ◌≤◌, ◌++◌, ◌∷◌, [], OnOk, OnErr};
 ghost use Rattle.ptree.specs.Texts.{line_feed};
 
 use crate::output::brush::Brush;
@@ -45,7 +44,7 @@ impl Sink for LineBuffer {
 
 impl LineBuffer {
     ghost use Rattle.ptree.specs.Looks.{further_text};
-    ghost use Rattle.ptree.specs.Line.{line_bytes};
+    ghost use Rattle.ptree.specs.Line.{line_bytes, spread_bytes};
     ghost use Rattle.ptree.specs.Pen.{brush_look};
 
     // Makes an empty buffer.
@@ -147,41 +146,29 @@ impl LineBuffer {
     ) -> Result<(), AllocError>
         requires within { width ≤ start }
         requires start { start ≤ length (line_bytes self.old) }
-        ensures { OnOk result (line_bytes self.new ≡ take start (line_bytes self.old)
-            ++ with_inserted
-            (take width (line_bytes self.old)
-            ++ further_text (brush_look brush.now) last)
-            (drop start (line_bytes self.old))) }
+        ensures { OnOk result (line_bytes self.new ≡ spread_bytes start width
+            (further_text (brush_look brush.now) last) (line_bytes self.old)) }
     {
         if may_hold_line_feed(self.as_slice(), start) {
-            self.spread(start, width, brush, last)
+            self.spread(start, width, brush.further(last).as_bytes())
         } else {
             Ok(())
         }
     }
 
-    // Does what `continue_lines` does, whether there is a line feed or not. It is a function of its
-    // own, since it is seldom called.
+    // Inserts a text after each line feed that is after the first `start` bytes: the first `width`
+    // bytes and `further`. It is a function of its own, since it is seldom called.
     #[inline(never)]
-    fn spread(
-        &mut self,
-        start: usize,
-        width: usize,
-        brush: &Brush<'_>,
-        last: Option<bool>,
-    ) -> Result<(), AllocError>
+    fn spread(&mut self, start: usize, width: usize, further: &[u8]) -> Result<(), AllocError>
         requires within { width ≤ start }
         requires start { start ≤ length (line_bytes self.old) }
-        ensures { OnOk result (line_bytes self.new ≡ take start (line_bytes self.old)
-            ++ with_inserted
-            (take width (line_bytes self.old)
-            ++ further_text (brush_look brush.now) last)
-            (drop start (line_bytes self.old))) }
+        ensures { OnOk result (line_bytes self.new
+            ≡ spread_bytes start width further.now (line_bytes self.old)) }
     {
-        let further = brush.further(last).as_bytes();
+        let alloc = *self.room.allocator();
         let used = mem::replace(&mut self.used, 0);
         mem::swap(&mut self.room, &mut self.other);
-        let held = mem::replace(&mut self.other, Vec::new(brush.alloc));
+        let held = mem::replace(&mut self.other, Vec::new(alloc));
         let spread = self.append_lines(&held[..used], start, width, further);
         self.other = held;
         spread
@@ -199,9 +186,8 @@ impl LineBuffer {
     ) -> Result<(), AllocError>
         requires within { width ≤ start }
         requires start { start ≤ length bytes.now }
-        ensures { OnOk result (line_bytes self.new ≡ line_bytes self.old
-            ++ (take start bytes.now
-            ++ with_inserted (take width bytes.now ++ further.now) (drop start bytes.now))) }
+        ensures { OnOk result (line_bytes self.new
+            ≡ line_bytes self.old ++ spread_bytes start width further.now bytes.now) }
     {
         self.append(&bytes[..start])?;
         let mut rest = &bytes[start..];
