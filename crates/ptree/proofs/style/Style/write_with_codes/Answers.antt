@@ -8,24 +8,19 @@ pub returns-in_err-put_codes-clause-bytes : goal.returns-in_err-put_codes-clause
 returns-in_err-put_codes-clause-bytes g c =
     written_err _ _ _ _ _ c.from_residual.ensures.1 (codes_part _ _ _ _ _ _ (c.as_bytes.ensures ∙ c.gather.ensures.front) c.in_err-put_codes.ensures.bytes)
 
-pub returns-in_err-put_or_stop-clause-bytes : goal.returns-in_err-put_or_stop-clause-bytes
-returns-in_err-put_or_stop-clause-bytes g c =
-    written_err _ _ _ _ _ c.from_residual-in_err-put_or_stop.ensures.1
-    (text_part _ _ _ _ _ _ _ _ (c.as_bytes.ensures ∙ c.gather.ensures.front) c.as_bytes-2.ensures.value c.in_ok-put_codes.ensures.bytes c.in_err-put_or_stop.ensures.bytes)
+pub returns-in_err-put_or_stop : goal.returns-in_err-put_or_stop
+returns-in_err-put_or_stop g c = record {
+  bytes = written_err _ _ _ _ _ c.from_residual-in_err-put_or_stop.ensures.1
+      (text_part _ _ _ _ _ _ _ _ (c.as_bytes.ensures ∙ c.gather.ensures.front) c.as_bytes-2.ensures.value c.in_ok-put_codes.ensures.bytes c.in_err-put_or_stop.ensures.bytes);
+  cause = grind (arith, common_steps);
+  error = grind (arith, common_steps);
+  memory = grind (arith, common_steps);
+}
 
 pub returns-clause-bytes : goal.returns-clause-bytes
 returns-clause-bytes g c =
     all_written _ _ _ _ _ _ _ _ _ _ _ (c.as_bytes.ensures ∙ c.gather.ensures.front) c.as_bytes-2.ensures.value (c.as_bytes-3.ensures.value ∙ c.reset.ensures ∙ c.gather.ensures.back)
     c.in_ok-put_codes.ensures.bytes c.in_ok-put_or_stop.ensures.bytes c.put_or_stop-2.ensures.bytes
-
-pub returns-in_err-put_or_stop-clause-cause : goal.returns-in_err-put_or_stop-clause-cause
-returns-in_err-put_or_stop-clause-cause g c = grind (arith, common_steps)
-
-pub returns-in_err-put_or_stop-clause-error : goal.returns-in_err-put_or_stop-clause-error
-returns-in_err-put_or_stop-clause-error g c = grind (arith, common_steps)
-
-pub returns-in_err-put_or_stop-clause-memory : goal.returns-in_err-put_or_stop-clause-memory
-returns-in_err-put_or_stop-clause-memory g c = grind (arith, common_steps)
 
 pub returns-clause-cause : goal.returns-clause-cause
 returns-clause-cause g c = grind (arith, common_steps)
