@@ -67,18 +67,7 @@ characters_decided a b = search rules
 pub style_decided : (a b : Style) → IsTrue (same_style a b) ↔ (style_of a ≡ style_of b)
 style_decided a b =
     let h = both (both (both (both (both (both (both (both (both (sides a.foreground b.foreground) (sides a.background b.background)) (bools a.bold b.bold)) (bools a.dimmed b.dimmed)) (bools a.italic b.italic)) (bools a.underline b.underline)) (bools a.blink b.blink)) (bools a.reverse b.reverse)) (bools a.hidden b.hidden)) (bools a.strikethrough b.strikethrough) in (
-      λ e. let p = h.0 e in λ i. record {
-        foreground = p.0.0.0.0.0.0.0.0.0 i;
-        background = p.0.0.0.0.0.0.0.0.1 i;
-        bold = p.0.0.0.0.0.0.0.1 i;
-        dimmed = p.0.0.0.0.0.0.1 i;
-        italic = p.0.0.0.0.0.1 i;
-        underline = p.0.0.0.0.1 i;
-        blink = p.0.0.0.1 i;
-        reverse = p.0.0.1 i;
-        hidden = p.0.1 i;
-        strikethrough = p.1 i;
-      },
+      λ e. let p = h.0 e in cc,
       λ e. h.1 (((((((((ap (λ v. v.foreground) e, ap (λ v. v.background) e), ap (λ v. v.bold) e), ap (λ v. v.dimmed) e), ap (λ v. v.italic) e), ap (λ v. v.underline) e), ap (λ v. v.blink) e), ap (λ v. v.reverse) e), ap (λ v. v.hidden) e), ap (λ v. v.strikethrough) e),
     )
 
@@ -86,16 +75,7 @@ style_decided a b =
 pub config_decided : (a b : PrintConfig) → IsTrue (same_config a b) ↔ (config_of a ≡ config_of b)
 config_decided a b =
     let h = both (both (both (both (both (both (both (numbers a.depth b.depth) (numbers a.indent b.indent)) (numbers a.padding b.padding)) (whens a.styled b.styled)) (characters_decided (characters_of a.characters) (characters_of b.characters))) (style_decided a.branch b.branch)) (style_decided a.leaf b.leaf)) (texts (marker_of a) (marker_of b)) in (
-      λ e. let p = h.0 e in λ i. record {
-        depth = p.0.0.0.0.0.0.0 i;
-        indent = p.0.0.0.0.0.0.1 i;
-        padding = p.0.0.0.0.0.1 i;
-        styled = p.0.0.0.0.1 i;
-        characters = p.0.0.0.1 i;
-        branch = p.0.0.1 i;
-        leaf = p.0.1 i;
-        continued = p.1 i;
-      },
+      λ e. let p = h.0 e in cc,
       λ e. h.1 (((((((ap (λ v. v.depth) e, ap (λ v. v.indent) e), ap (λ v. v.padding) e), ap (λ v. v.styled) e), ap (λ v. v.characters) e), ap (λ v. v.branch) e), ap (λ v. v.leaf) e), ap (λ v. v.continued) e),
     )
 
