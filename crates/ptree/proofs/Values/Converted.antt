@@ -5,7 +5,7 @@ use Rattle.std.specs.List.{AllByRecursion}
 use Rattle.std.specs.List.Sorted.{IsStrictlySortedBy}
 use Rattle.std.specs.Map.{keys_of}
 use Rattle.std.specs.String.{string_cmp}
-use Rattle.std.proofs.lemmas.List.{map-append}
+use Rattle.std.proofs.lemmas.List.{append-nil, map-append}
 use Rattle.ptree.specs.Data.{Data, Items, no_items, item, Entries, no_entries, entry, string, key_texts, item_pairs, entry_pair, entry_pairs, Pair}
 use Rattle.ptree.specs.Value.{items_from, entries_from}
 
@@ -31,6 +31,16 @@ made_more f all left rest x made more y h steps is e = (
     e ∙ ap (λ z. made ++ z ∷ []) is ∙ ap (λ ys. ys ++ f x ∷ []) h.1.1 ∙ sym (map-append f h.0 (x ∷ [])),
   ),
 )
+
+-- the same of what a list holds, to which one was added
+pub mapped_more : {A B C : Type 0} (f : A → B) (g : C → B) (all left rest : List A) (x : A) (held more : List C) (y : C)
+    → AreMade f all left (map g held) → left ≡ x ∷ rest → more ≡ held ++ y ∷ [] → g y ≡ f x → AreMade f all rest (map g more)
+mapped_more f g all left rest x held more y h steps e is =
+    made_more f all left rest x (map g held) (map g more) (g y) h steps is (ap (map g) e ∙ map-append g held (y ∷ []))
+
+-- none are left, so all were made
+pub all_made : {A B : Type 0} (f : A → B) (all left : List A) (made : List B) → AreMade f all left made → left ≡ [] → made ≡ map f all
+all_made f all left made h none = h.1.1 ∙ ap (map f) (sym (h.1.0 ∙ ap (λ xs. h.0 ++ xs) none ∙ append-nil h.0))
 
 -- the data of a list, value by value
 pub items_made : {V : Type 0} (meant : V → Data) (items : List V → Items) → items [] ≡ no_items → ((v : V) (vs : List V) → items (v ∷ vs) ≡ item (meant v) (items vs))

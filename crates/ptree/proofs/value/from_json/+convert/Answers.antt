@@ -7,7 +7,7 @@ use Rattle.serde_json.specs.Written.{members_have_float}
 use Rattle.ptree.specs.Convert.{json_data, json_items, json_entries}
 use Rattle.ptree.specs.Data.{string}
 use Rattle.ptree.specs.Value.{data_of, entry_of, items_from, entries_from}
-use Rattle.ptree.proofs.Values.Converted.{member_data, made_more, items_made, entries_made}
+use Rattle.ptree.proofs.Values.Converted.{member_data, made_more, all_made, items_made, entries_made}
 use Rattle.ptree.proofs.value.from_json.+convert.Goals as goal
 
 pub convert_values-returns : goal.convert_values-returns
@@ -29,8 +29,7 @@ convert_entries-loop-key-preserved t c =
 
 pub convert_entries-returns : goal.convert_entries-returns
 convert_entries-returns t c =
-    let all : map entry_of c.loop-key.entries.items ≡ map (member_data (λ v. json_data (view v))) c.args.members.now.entries = search rules in
-    ap entries_from all ∙ entries_made (λ v. json_data (view v)) (λ ms. json_entries (members_view ms)) refl (λ m ms. refl) c.args.members.now.entries
+    ap entries_from (all_made _ _ _ _ c.loop-key.invariant.3 c.in-None.ensures.steps.0) ∙ entries_made (λ v. json_data (view v)) (λ ms. json_entries (members_view ms)) refl (λ m ms. refl) c.args.members.now.entries
 
 pub convert_values-loop-item-preserved : goal.convert_values-loop-item-preserved
 convert_values-loop-item-preserved t c = (grind (arith, common_steps), grind (arith, common_steps))

@@ -8,7 +8,7 @@ use Rattle.toml.specs.View.{view, items_view, members_view}
 use Rattle.ptree.specs.Convert.{toml_item_fault, toml_member_fault, toml_data, toml_items, toml_entries}
 use Rattle.ptree.specs.Data.{string}
 use Rattle.ptree.specs.Value.{data_of, entry_of, items_from, entries_from}
-use Rattle.ptree.proofs.Values.Converted.{member_data, made_more, items_made, entries_made}
+use Rattle.ptree.proofs.Values.Converted.{member_data, made_more, all_made, items_made, entries_made}
 use Rattle.ptree.specs.declared.value.Value.{the_lemmas}
 use Rattle.ptree.proofs.value.from_toml.+convert.Goals as goal
 
@@ -31,8 +31,7 @@ convert_entries-loop-key-preserved t c =
 
 pub convert_entries-returns : goal.convert_entries-returns
 convert_entries-returns t c =
-    let all : map entry_of c.loop-key.entries.items ≡ map (member_data (λ v. toml_data (view v))) c.args.members.now.entries = search rules in
-    ap entries_from all ∙ entries_made (λ v. toml_data (view v)) (λ ms. toml_entries (members_view ms)) refl (λ m ms. refl) c.args.members.now.entries
+    ap entries_from (all_made _ _ _ _ c.loop-key.invariant.3 c.in-None.ensures.steps.0) ∙ entries_made (λ v. toml_data (view v)) (λ ms. toml_entries (members_view ms)) refl (λ m ms. refl) c.args.members.now.entries
 
 -- no fault in all is none in what is left
 rest_none : (a b : Option ConvertError) → option_or a b ≡ None → b ≡ None
