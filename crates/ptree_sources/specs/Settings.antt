@@ -1,6 +1,7 @@
 -- What the sources of a configuration say, for people: fields by their names, the keys of a file,
 -- and what a value that is wrong is.
-use Rattle.std.specs.Prelude.{◌≡◌, ⊤, ℕ, option_and_then, ◌||◌, ◌&&◌, Bool, true, false, if◌then◌else◌, List, [], ◌∷◌, ◌++◌, Option, Some, None, option_map, is_some, find, codes, string_bytes, String}
+use Rattle.std.specs.Prelude.{◌≡◌, ⊤, ℕ, option_and_then, ◌||◌, ◌&&◌, Bool, true, false, if◌then◌else◌, List, [], ◌∷◌, ◌++◌, map, flat_map, Option, Some, None, option_map, unwrap_or, is_some, find, codes, string_bytes, String}
+use Rattle.std.specs.Option.{option_map_or}
 use Rattle.std.specs.Str.{bytes_eq, str_eq_ignore_ascii_case}
 use Rattle.std.specs.declared.alloc.Global.{Global}
 use Rattle.serde_json.specs.Data as j
@@ -85,47 +86,38 @@ pub record KeyValue : Type 0 where
   pub key : List ℕ
   pub value : FileNode
 
+-- a key with its value, in the table of this key or at the top
+abbrev pub key_in : Option (List ℕ) → List ℕ × FileNode → KeyValue
+key_in table k = record { table = table; key = k.0; value = k.1 }
+
 -- whether fields stand in a table of this key
 abbrev pub has_fields : List ℕ → Bool
 has_fields key = (bytes_eq key (codes "characters") || bytes_eq key (part_key Branch)) || bytes_eq key (part_key Leaf)
 
--- the keys of an object of JSON, in order
-abbrev pub json_keys : Option (List ℕ) → j.Members → List KeyValue
-json_keys table j.no_members = []
-json_keys table (j.member k d ms) = record { table = table; key = k; value = json d } ∷ json_keys table ms
+-- the keys of an object of JSON with their values, in order
+abbrev pub json_keys : j.Members → List (List ℕ × FileNode)
+json_keys j.no_members = []
+json_keys (j.member k d ms) = (k, json d) ∷ json_keys ms
+
+-- the keys of a table of TOML with their values, in order
+abbrev pub toml_keys : t.Members → List (List ℕ × FileNode)
+toml_keys t.no_members = []
+toml_keys (t.member k d ms) = (k, toml d) ∷ toml_keys ms
+
+-- the keys of a value with their values, if it is an object or a table
+abbrev pub keys_of : FileNode → Option (List (List ℕ × FileNode))
+keys_of (json (j.object ms)) = Some (json_keys ms)
+keys_of (toml (t.table ms)) = Some (toml_keys ms)
+keys_of _ = None
 
 -- a key at the top, or in its place those in its table
-abbrev pub json_keys_at : List ℕ → j.Data → List KeyValue
-json_keys_at key (j.object ms) =
-    if has_fields key then json_keys (Some key) ms else record { table = None; key = key; value = json (j.object ms) } ∷ []
-json_keys_at key d = record { table = None; key = key; value = json d } ∷ []
-
--- the keys of a document in JSON
-abbrev pub json_file_keys : j.Members → List KeyValue
-json_file_keys j.no_members = []
-json_file_keys (j.member k d ms) = json_keys_at k d ++ json_file_keys ms
-
--- the keys of a table of TOML, in order
-abbrev pub toml_keys : Option (List ℕ) → t.Members → List KeyValue
-toml_keys table t.no_members = []
-toml_keys table (t.member k d ms) = record { table = table; key = k; value = toml d } ∷ toml_keys table ms
-
--- a key at the top, or in its place those in its table
-abbrev pub toml_keys_at : List ℕ → t.Data → List KeyValue
-toml_keys_at key (t.table ms) =
-    if has_fields key then toml_keys (Some key) ms else record { table = None; key = key; value = toml (t.table ms) } ∷ []
-toml_keys_at key d = record { table = None; key = key; value = toml d } ∷ []
-
--- the keys of a document in TOML
-abbrev pub toml_file_keys : t.Members → List KeyValue
-toml_file_keys t.no_members = []
-toml_file_keys (t.member k d ms) = toml_keys_at k d ++ toml_file_keys ms
+abbrev pub keys_at : List ℕ × FileNode → List KeyValue
+keys_at k =
+    option_map_or (λ keys. if has_fields k.0 then map (key_in (Some k.0)) keys else key_in None k ∷ []) (keys_of k.1) (key_in None k ∷ [])
 
 -- the keys of a file's document, those of the three tables with fields in the place of their tables
 abbrev pub file_keys : Option FileNode → List KeyValue
-file_keys (Some (json (j.object ms))) = json_file_keys ms
-file_keys (Some (toml (t.table ms))) = toml_file_keys ms
-file_keys _ = []
+file_keys document = flat_map keys_at (unwrap_or (option_and_then keys_of document) [])
 
 -- an entry says what a key is: its table, itself, its value as it is written, and its text
 pub record IsEntry (k : KeyValue) (entry : Entry) : Type 0 where

@@ -1,11 +1,11 @@
 //! The keys of a configuration file, with their values.
-ghost use Rattle.std.specs.Prelude.{◌≡◌, option_copied, option_map, IfOk, OnOk, Some, None, string_bytes};
+ghost use Rattle.std.specs.Prelude.{◌≡◌, map, flat_map, option_copied, option_map, IfOk, OnOk, Some, None, string_bytes};
 ghost use Rattle.serde_json.specs.View.{view as json_view, members_view as json_members};
 ghost use Rattle.toml.specs.View.{view as toml_view, members_view as toml_members};
 ghost use Rattle.ptree.specs.File.{json, toml};
 ghost use Rattle.ptree.specs.Matched.{AreMatched};
 ghost use Rattle.ptree.specs.Sources.{file_document};
-ghost use Rattle.ptree_sources.specs.Settings.{IsEntry, field_at, has_fields, is_known, json_keys, json_keys_at, json_file_keys, toml_keys, toml_keys_at, toml_file_keys, file_keys, key_name};
+ghost use Rattle.ptree_sources.specs.Settings.{IsEntry, field_at, has_fields, is_known, key_in, json_keys, toml_keys, keys_at, file_keys, key_name};
 ghost use Rattle.ptree_sources.specs.KeyLists.{AddsKeys};
 
 use super::names::{field_at, is_known};
@@ -103,8 +103,8 @@ fn has_fields(key: &str) -> bool
 
 // Returns the keys of a document in TOML.
 fn toml_file_entries(alloc: Global, top: &Table) -> Result<Vec<Entry>, AllocError>
-    ensures { IfOk result (λ found.
-        AreMatched IsEntry (toml_file_keys (toml_members top.now.entries)) found.items) }
+    ensures { IfOk result (λ found. AreMatched IsEntry
+        (flat_map keys_at (toml_keys (toml_members top.now.entries))) found.items) }
 {
     let mut found = Vec::new(alloc);
     for (key, value) in top.iter() {
@@ -121,7 +121,7 @@ fn push_toml_at(
     value: &toml::Value,
 ) -> Result<(), AllocError>
     ensures { OnOk result (AddsKeys found.old.items found.new.items
-        (toml_keys_at key.now (toml_view value.now))) }
+        (keys_at (key.now, toml (toml_view value.now)))) }
 {
     if let toml::Value::Table(table) = value {
         if has_fields(key) {
@@ -141,7 +141,7 @@ fn push_toml_table(
     table: &Table,
 ) -> Result<(), AllocError>
     ensures { OnOk result (AddsKeys found.old.items found.new.items
-        (toml_keys (Some key.now) (toml_members table.now.entries))) }
+        (map (key_in (Some key.now)) (toml_keys (toml_members table.now.entries)))) }
 {
     for (inner, value) in table.iter() {
         let entry = toml_entry(alloc, Some(key), inner.as_str(), value)?;
@@ -157,11 +157,8 @@ fn toml_entry(
     key: &str,
     value: &toml::Value,
 ) -> Result<Entry, AllocError>
-    ensures { IfOk result (IsEntry (record {
-      table = option_copied table.entry;
-      key = key.now;
-      value = toml (toml_view value.now);
-    })) }
+    ensures { IfOk result
+        (IsEntry (key_in (option_copied table.entry) (key.now, toml (toml_view value.now)))) }
 {
     let text = written_toml(alloc, value)?;
     new_entry(alloc, table, key, text, value.as_str())
@@ -183,8 +180,8 @@ fn json_file_entries(
     alloc: Global,
     top: &Map<String, serde_json::Value>,
 ) -> Result<Vec<Entry>, AllocError>
-    ensures { IfOk result (λ found.
-        AreMatched IsEntry (json_file_keys (json_members top.now.entries)) found.items) }
+    ensures { IfOk result (λ found. AreMatched IsEntry
+        (flat_map keys_at (json_keys (json_members top.now.entries))) found.items) }
 {
     let mut found = Vec::new(alloc);
     for (key, value) in top.iter() {
@@ -201,7 +198,7 @@ fn push_json_at(
     value: &serde_json::Value,
 ) -> Result<(), AllocError>
     ensures { OnOk result (AddsKeys found.old.items found.new.items
-        (json_keys_at key.now (json_view value.now))) }
+        (keys_at (key.now, json (json_view value.now)))) }
 {
     if let serde_json::Value::Object(table) = value {
         if has_fields(key) {
@@ -221,7 +218,7 @@ fn push_json_table(
     table: &Map<String, serde_json::Value>,
 ) -> Result<(), AllocError>
     ensures { OnOk result (AddsKeys found.old.items found.new.items
-        (json_keys (Some key.now) (json_members table.now.entries))) }
+        (map (key_in (Some key.now)) (json_keys (json_members table.now.entries)))) }
 {
     for (inner, value) in table.iter() {
         let entry = json_entry(alloc, Some(key), inner.as_str(), value)?;
@@ -237,11 +234,8 @@ fn json_entry(
     key: &str,
     value: &serde_json::Value,
 ) -> Result<Entry, AllocError>
-    ensures { IfOk result (IsEntry (record {
-      table = option_copied table.entry;
-      key = key.now;
-      value = json (json_view value.now);
-    })) }
+    ensures { IfOk result
+        (IsEntry (key_in (option_copied table.entry) (key.now, json (json_view value.now)))) }
 {
     let text = written_json(alloc, value)?;
     new_entry(alloc, table, key, text, value.as_str())

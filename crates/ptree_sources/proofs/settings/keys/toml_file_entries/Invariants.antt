@@ -1,10 +1,11 @@
+use Rattle.std.specs.Prelude.{flat_map}
 use Rattle.toml.specs.View.{members_view}
 use Rattle.ptree_sources.specs.KeyLists.{HasKeysBut}
-use Rattle.ptree_sources.specs.Settings.{toml_file_keys}
+use Rattle.ptree_sources.specs.Settings.{toml_keys, keys_at}
 use Rattle.ptree_sources.proofs.settings.keys.toml_file_entries.Given as goal
 
 abbrev pub invariant-loop-key : goal.invariant-loop-key
 invariant-loop-key l =
     (goal.iterator-loop-key).can_next l.key-iterator ×
     (goal.iterator-loop-key).is_finite l.key-iterator ×
-    HasKeysBut (toml_file_keys (members_view l.top.entries)) (toml_file_keys (members_view l.key-iterator)) l.found.items
+    HasKeysBut (flat_map keys_at (toml_keys (members_view l.top.entries))) (flat_map keys_at (toml_keys (members_view l.key-iterator))) l.found.items
