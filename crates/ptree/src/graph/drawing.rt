@@ -80,6 +80,7 @@ impl Label for u64 {
 
 /// A node of a graph as an item: its weight, and its neighbours below it. In a graph with a cycle
 /// the item is infinite.
+#[derive_where(Clone, Copy)]
 pub struct GraphNode<'a, N> {
     /// The graph.
     pub graph: &'a Graph<N>,
@@ -88,20 +89,6 @@ pub struct GraphNode<'a, N> {
     /// children.
     pub node: NodeIndex,
 }
-
-impl<N> Clone for GraphNode<'_, N> {
-    ghost use Rattle.std.specs.Prelude.{⊤};
-
-    ghost is_clone = { λ x y. y ≡ x };
-
-    ghost is_infallible = { λ _. ⊤ };
-
-    fn clone(&self) -> Result<Self, AllocError> {
-        Ok(*self)
-    }
-}
-
-impl<N> Copy for GraphNode<'_, N> {}
 
 impl<N: Label> Shaped for GraphNode<'_, N> {
     ghost use Rattle.ptree.specs.Graph.{node_shape};
