@@ -4,7 +4,7 @@ ghost use Rattle.ptree.specs.Drawing.{look_by, config_look, written_look, IsDraw
 ghost use Rattle.ptree.specs.Graph.{edges_of, neighbors_of, node_shape};
 ghost use Rattle.ptree.specs.Growing.{place_at, IsNextPlace};
 ghost use Rattle.ptree.specs.Loading.{effective_config};
-ghost use Rattle.ptree.specs.Occurrence.{OccurrenceTree, IsExpandedOnce, NoneRepeated, HasOneTree, trees_in, weight_own, occurrence_shape};
+ghost use Rattle.ptree.specs.Occurrence.{OccurrenceTree, IsExpandedOnce, NoneRepeated, HasOneTree, trees_in, mark_text, weight_own, occurrence_shape};
 ghost use Rattle.ptree.specs.Style.{style_of, plain_value, painted_text};
 ghost use Rattle.ptree.specs.Writing.{IsWritten, HasCause, IsDrawn, LeavesWholeEntries};
 ghost use Rattle.ptree.specs.declared.print_config.OutputKind.{OutputKind};
@@ -166,36 +166,41 @@ pub(super) fn write_weight<N: Label, W: Sink>(
     ensures cause { HasCause (W.faults f.old) (W.faults f.new) result }
 {
     match weight {
-        Some(weight) if repeated => write_repeated(alloc, f, style, weight, mark),
-        Some(weight) => weight.write_label(alloc, f, style),
+        Some(weight) => write_marked(alloc, f, style, weight, mark, repeated),
         None => Ok(()),
     }
 }
 
-// Writes a weight's text and a mark after it, painted as one.
+// Writes a weight's text, and a mark after it where it is repeated, painted as one. It holds one
+// copy of what writes a label: what would be very large is not inlined, whatever it is marked.
 #[inline(always)]
-fn write_repeated<N: Label, W: Sink>(
+fn write_marked<N: Label, W: Sink>(
     alloc: Global,
     f: &mut W,
     style: &Style,
     weight: &N,
     mark: &str,
+    repeated: bool,
 ) -> Result<(), DrawError>
     ensures bytes { IsWritten (W.contents f.old) (W.contents f.new) result
-        (painted_text (style_of style.now) (N.text weight.now ++ mark.now)) }
+        (painted_text (style_of style.now) (N.text weight.now ++ mark_text mark.now repeated)) }
     ensures cause { HasCause (W.faults f.old) (W.faults f.new) result }
 {
-    if mark.is_empty() {
-        return weight.write_label(alloc, f, style);
-    }
     if style.is_plain() {
         // A `?` would hold the error twice in the stack of each level.
         return match weight.write_label(alloc, f, style) {
-            Ok(()) => put_mark(f, mark.as_bytes()),
+            Ok(()) => put_mark(f, mark.as_bytes(), repeated),
             Err(e) => Err(e),
         };
     }
-    write_with_codes(alloc, f, style, weight, mark)
+    write_with_codes(alloc, f, style, weight, mark_after(mark, repeated))
+}
+
+// Returns what is after a label: the mark where it is repeated, and else nothing.
+fn mark_after(mark: &str, repeated: bool) -> &str
+    ensures { result.now ≡ mark_text mark.now repeated }
+{
+    if repeated { mark } else { "" }
 }
 
 // Writes a weight's text as it is.
@@ -210,21 +215,35 @@ fn write_plain<N: Label, W: Sink>(alloc: Global, f: &mut W, weight: &N) -> Resul
     written
 }
 
-// Writes a mark. One of four bytes, as [`REPEATED_MARK`] is, is copied at once, because their
-// number is known.
+// Writes a mark where it is repeated. One of four bytes, as [`REPEATED_MARK`] is, is copied at
+// once, because their number is known.
 #[inline(always)]
-fn put_mark<W: Sink>(f: &mut W, mark: &[u8]) -> Result<(), DrawError>
-    ensures bytes { IsWritten (W.contents f.old) (W.contents f.new) result mark.now }
+fn put_mark<W: Sink>(f: &mut W, mark: &[u8], repeated: bool) -> Result<(), DrawError>
+    ensures bytes { IsWritten (W.contents f.old) (W.contents f.new) result
+        (mark_text mark.now repeated) }
     ensures cause { HasCause (W.faults f.old) (W.faults f.new) result }
 {
+    if !repeated {
+        return Ok(());
+    }
     match mark {
         [a, b, c, d] => put_all(f, &[*a, *b, *c, *d]),
-        _ => put_all(f, mark),
+        _ => put_any_mark(f, mark),
     }
 }
 
-// Does what `write_repeated` does, in any style. It is a function of its own, since each call pays
-// for the buffer of the codes.
+// Writes a mark of any length. It is a function of its own, since it is seldom called.
+#[cold]
+#[inline(never)]
+fn put_any_mark<W: Sink>(f: &mut W, mark: &[u8]) -> Result<(), DrawError>
+    ensures bytes { IsWritten (W.contents f.old) (W.contents f.new) result mark.now }
+    ensures cause { HasCause (W.faults f.old) (W.faults f.new) result }
+{
+    put_all(f, mark)
+}
+
+// Writes a weight's text and a mark after it, painted as one, in any style. It is a function of its
+// own, since each call pays for the buffer of the codes.
 #[inline(never)]
 fn write_with_codes<N: Label, W: Sink>(
     alloc: Global,
@@ -237,6 +256,9 @@ fn write_with_codes<N: Label, W: Sink>(
         (painted_text (style_of style.now) (N.text weight.now ++ mark.now)) }
     ensures cause { HasCause (W.faults f.old) (W.faults f.new) result }
 {
+    if mark.is_empty() {
+        return weight.write_label(alloc, f, style);
+    }
     let codes = Codes::of(style);
     put_all(f, codes.as_bytes())?;
     write_plain(alloc, f, weight)?;
