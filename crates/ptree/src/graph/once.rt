@@ -1,12 +1,13 @@
 //! Graphs drawn with each node expanded once.
-ghost use Rattle.std.specs.Prelude.{◌≡◌, ◌↔◌, ◌++◌, [], ◌<◌, ℕ, List, drop, IfSome, IfNone, option_copied};
+ghost use Rattle.std.specs.Prelude.{◌≡◌, ◌↔◌, ◌++◌, [], ◌<◌, ℕ, List, drop, IfSome, IfNone, OnOk, option_copied};
 ghost use Rattle.ptree.specs.Drawing.{look_by, config_look, written_look, IsDrawing};
 ghost use Rattle.ptree.specs.Graph.{edges_of, neighbors_of, node_shape};
 ghost use Rattle.ptree.specs.Growing.{place_at, IsNextPlace};
 ghost use Rattle.ptree.specs.Loading.{effective_config};
 ghost use Rattle.ptree.specs.Occurrence.{OccurrenceTree, IsExpandedOnce, NoneRepeated, HasOneTree, trees_in, mark_text, weight_own, occurrence_shape};
 ghost use Rattle.ptree.specs.Style.{style_of, plain_value, painted_text};
-ghost use Rattle.ptree.specs.Writing.{IsWritten, HasCause, IsDrawn, LeavesWholeEntries};
+ghost use Rattle.ptree.specs.Writing.{IsWritten, HasCause, HasErrorCause, IsDrawn, LeavesWholeEntries};
+ghost use Rattle.ptree.specs.declared.sink.DrawError.TheVariants.{Memory};
 ghost use Rattle.ptree.specs.declared.print_config.OutputKind.{OutputKind};
 
 use super::places::{Occurrences, Place};
@@ -14,7 +15,7 @@ use super::row::{Marked, draw_marked};
 use super::{Graph, Label, NodeIndex};
 use crate::item::{Children, Shaped, TreeItem};
 use crate::print_config::{OutputKind, PrintConfig, Sources};
-use crate::sink::{DrawError, Sink, put_all};
+use crate::sink::{DrawError, Sink, Stop, put_all, put_or_stop};
 use crate::style::Style;
 use crate::style::codes::Codes;
 use std::alloc::{AllocError, Global};
@@ -193,7 +194,54 @@ fn write_marked<N: Label, W: Sink>(
             Err(e) => Err(e),
         };
     }
-    write_with_codes(alloc, f, style, weight, mark_after(mark, repeated))
+    write_styled(alloc, f, style, weight, mark_after(mark, repeated))
+}
+
+// Writes a weight's text and a mark after it, painted as one, in any style. A result of that size
+// would be cleared at each place if what returns it were not inlined; so is that of `put_any_mark`.
+#[inline(always)]
+fn write_styled<N: Label, W: Sink>(
+    alloc: Global,
+    f: &mut W,
+    style: &Style,
+    weight: &N,
+    mark: &str,
+) -> Result<(), DrawError>
+    ensures bytes { IsWritten (W.contents f.old) (W.contents f.new) result
+        (painted_text (style_of style.now) (N.text weight.now ++ mark.now)) }
+    ensures cause { HasCause (W.faults f.old) (W.faults f.new) result }
+{
+    let mut error = DrawError::Memory;
+    match write_or_stop(alloc, f, style, weight, mark, &mut error) {
+        Ok(()) => Ok(()),
+        Err(_) => Err(error),
+    }
+}
+
+// Does what `write_with_codes` does, and stores a failure in `error`. It is a function of its own,
+// since each call pays for the buffer of the codes.
+#[inline(never)]
+fn write_or_stop<N: Label, W: Sink>(
+    alloc: Global,
+    f: &mut W,
+    style: &Style,
+    weight: &N,
+    mark: &str,
+    error: &mut DrawError,
+) -> Result<(), Stop>
+    requires { error.old ≡ Memory }
+    ensures bytes { IsWritten (W.contents f.old) (W.contents f.new) result
+        (painted_text (style_of style.now) (N.text weight.now ++ mark.now)) }
+    ensures cause { HasErrorCause (W.faults f.old) (W.faults f.new) error.new }
+    ensures error { OnOk result (error.new ≡ Memory) }
+{
+    match write_with_codes(alloc, f, style, weight, mark) {
+        Ok(()) => Ok(()),
+        Err(e) => {
+            *error = e;
+            Err(Stop)
+        }
+    }
 }
 
 // Returns what is after a label: the mark where it is repeated, and else nothing.
@@ -232,19 +280,32 @@ fn put_mark<W: Sink>(f: &mut W, mark: &[u8], repeated: bool) -> Result<(), DrawE
     }
 }
 
-// Writes a mark of any length. It is a function of its own, since it is seldom called.
-#[cold]
-#[inline(never)]
+// Writes a mark of any length.
+#[inline(always)]
 fn put_any_mark<W: Sink>(f: &mut W, mark: &[u8]) -> Result<(), DrawError>
     ensures bytes { IsWritten (W.contents f.old) (W.contents f.new) result mark.now }
     ensures cause { HasCause (W.faults f.old) (W.faults f.new) result }
 {
-    put_all(f, mark)
+    let mut error = DrawError::Memory;
+    match put_or_stop_called(f, mark, &mut error) {
+        Ok(()) => Ok(()),
+        Err(_) => Err(error),
+    }
 }
 
-// Writes a weight's text and a mark after it, painted as one, in any style. It is a function of its
-// own, since each call pays for the buffer of the codes.
+// Does what `put_or_stop` does. It is a function of its own, since it is seldom called.
+#[cold]
 #[inline(never)]
+fn put_or_stop_called<W: Sink>(f: &mut W, bytes: &[u8], error: &mut DrawError) -> Result<(), Stop>
+    requires { error.old ≡ Memory }
+    ensures bytes { IsWritten (W.contents f.old) (W.contents f.new) result bytes.now }
+    ensures cause { HasErrorCause (W.faults f.old) (W.faults f.new) error.new }
+    ensures error { OnOk result (error.new ≡ Memory) }
+{
+    put_or_stop(f, bytes, error)
+}
+
+// Writes a weight's text and a mark after it, painted as one, in any style.
 fn write_with_codes<N: Label, W: Sink>(
     alloc: Global,
     f: &mut W,
