@@ -133,6 +133,10 @@ pub memory_is_no_fault : (a b : ℕ) (e : DrawError) → HasErrorCause a b e →
 memory_is_no_fault a b e h k =
     let none : a + 0 ≡ a = omega arith in h ∙ ap (λ (x : DrawError). a + result_faults {A = Unit {0}} (Err x)) k ∙ none
 
+-- an error that is reported as out of memory is that
+pub memory_is : (a b : DrawError) (r s : Result (Unit {0}) DrawError) → a ≡ b → r ≡ Err a → s ≡ Err Memory → r ≡ s → b ≡ Memory
+memory_is a b r s e h k same = cc
+
 -- a child with others after it is not the last
 pub not_last : (n : ℕ) (last : Bool) → last ≡ eqb n 0 → 0 < n → last ≡ false
 not_last n last e h = let some : eqb n 0 ≡ false = grind (arith, nat_tests) in e ∙ some

@@ -2,7 +2,6 @@
 //! is made for an occurrence.
 ghost use Rattle.std.specs.Prelude.{◌≡◌, ℕ, true, false, Some, None, slice_get, length, take, map, ◌≤◌, ◌<◌, ◌≢◌, ◌++◌, [], OnOk, OnErr, Err, List, eqb};
 ghost use Rattle.std.specs.List.{concat};
-ghost use Rattle.ptree.specs.Drawing.{config_look};
 ghost use Rattle.ptree.specs.Entries.{item_entries, kid_entries, entries_below, drawn_entries};
 ghost use Rattle.ptree.specs.Graph.{weights_of, edges_of, neighbors_of};
 ghost use Rattle.ptree.specs.GraphLinks.{newest_from};
@@ -12,7 +11,7 @@ ghost use Rattle.ptree.specs.Occurrence.{occurrence_shape};
 ghost use Rattle.ptree.specs.Pen.{brush_look, buffer_of, HoldsPassing, HoldsOwnText};
 ghost use Rattle.ptree.specs.Pieces.{passing_piece};
 ghost use Rattle.ptree.specs.Style.{start_codes};
-ghost use Rattle.ptree.specs.Writing.{AppendsFirst, IsWritten, AreWritten, HasCause, HasErrorCause, IsDrawn, LeavesWholeEntries};
+ghost use Rattle.ptree.specs.Writing.{AppendsFirst, IsWritten, AreWritten, HasCause, HasErrorCause};
 ghost use Rattle.ptree.specs.declared.sink.DrawError.TheVariants.{Memory};
 
 use super::once::write_weight;
@@ -23,7 +22,6 @@ use crate::output::brush::Brush;
 use crate::output::engine::draw_entry;
 use crate::output::look::Look;
 use crate::output::pen::Pen;
-use crate::print_config::{OutputKind, PrintConfig};
 use crate::sink::{DrawError, Sink, Stop};
 use crate::style::Style;
 use std::alloc::{AllocError, Global};
@@ -321,7 +319,7 @@ fn draw_root<N: Label, W: Sink>(
 }
 
 // Draws a graph with each node expanded once in a look, down to a depth.
-fn draw<N: Label, W: Sink>(
+pub(super) fn draw_marked<N: Label, W: Sink>(
     alloc: Global,
     marked: &Marked<'_, N>,
     start: NodeIndex,
@@ -342,65 +340,12 @@ fn draw<N: Label, W: Sink>(
         (flags_of marked.now.graph.now []) start.0).occurrence)) }
     ensures cause { HasCause (W.faults f.old) (W.faults f.new) result }
 {
+    let mut pen = Pen::new(alloc, &look.branch)?;
     let brush = Brush::new(alloc, look)?;
-    let drawn = draw_with(marked, start, f, &brush, depth);
+    let drawn = draw_root(marked, start, f, &mut pen, &brush, depth);
     drop(brush);
-    drawn
-}
-
-// Draws a graph with each node expanded once with a brush, down to a depth.
-fn draw_with<N: Label, W: Sink>(
-    marked: &Marked<'_, N>,
-    start: NodeIndex,
-    f: &mut W,
-    brush: &Brush<'_>,
-    depth: u32,
-) -> Result<(), DrawError>
-    ensures bytes { IsWritten (W.contents f.old) (W.contents f.new) result
-        (concat (drawn_entries (brush_look brush.now) depth
-        (occurrence_shape N.text marked.now.graph.now marked.now.mark.now
-        (grow (neighbors_of (edges_of marked.now.graph.now)) depth
-        (flags_of marked.now.graph.now []) start.0).occurrence))) }
-    ensures whole { result ≡ Err Memory
-        → AppendsFirst (W.contents f.old) (W.contents f.new)
-        (drawn_entries (brush_look brush.now) depth
-        (occurrence_shape N.text marked.now.graph.now marked.now.mark.now
-        (grow (neighbors_of (edges_of marked.now.graph.now)) depth
-        (flags_of marked.now.graph.now []) start.0).occurrence)) }
-    ensures cause { HasCause (W.faults f.old) (W.faults f.new) result }
-{
-    let mut pen = Pen::new(brush.alloc, &brush.look.branch)?;
-    match draw_root(marked, start, f, &mut pen, brush, depth) {
+    match drawn {
         Ok(()) => Ok(()),
         Err(_) => Err(pen.into_error()),
     }
-}
-
-// Draws a graph with each node expanded once to output of a kind, down to the configuration's
-// depth. `terminal` says whether standard output is a terminal.
-pub(super) fn draw_marked<N: Label, W: Sink>(
-    alloc: Global,
-    marked: &Marked<'_, N>,
-    start: NodeIndex,
-    f: &mut W,
-    output_kind: OutputKind,
-    terminal: bool,
-    config: &PrintConfig,
-) -> Result<(), DrawError>
-    ensures bytes { IsDrawn (config_look config.now output_kind terminal)
-        (occurrence_shape N.text marked.now.graph.now marked.now.mark.now
-        (grow (neighbors_of (edges_of marked.now.graph.now)) config.now.depth
-        (flags_of marked.now.graph.now []) start.0).occurrence) config.now.depth (W.contents f.old)
-        (W.contents f.new) result }
-    ensures whole { LeavesWholeEntries (config_look config.now output_kind terminal)
-        (occurrence_shape N.text marked.now.graph.now marked.now.mark.now
-        (grow (neighbors_of (edges_of marked.now.graph.now)) config.now.depth
-        (flags_of marked.now.graph.now []) start.0).occurrence) config.now.depth (W.contents f.old)
-        (W.contents f.new) result }
-    ensures cause { HasCause (W.faults f.old) (W.faults f.new) result }
-{
-    let look = Look::of_config(alloc, config, output_kind, terminal)?;
-    let drawn = draw(alloc, marked, start, f, &look, config.depth);
-    drop(look);
-    drawn
 }

@@ -247,27 +247,11 @@ where
         (drawn_entries (look_of look.now) depth (T.shape item.now)) }
     ensures cause { HasCause (W.faults f.old) (W.faults f.new) result }
 {
+    let mut pen = Pen::new(alloc, &look.branch)?;
     let brush = Brush::new(alloc, look)?;
-    let drawn = draw_with(item, f, &brush, depth);
+    let drawn = draw_root(item, f, &mut pen, &brush, depth);
     drop(brush);
-    drawn
-}
-
-// Draws an item and what is below it with a brush.
-fn draw_with<T, W>(item: &T, f: &mut W, brush: &Brush<'_>, depth: u32) -> Result<(), DrawError>
-where
-    T: TreeItem,
-    T::Child: TreeItem<Child = T::Child> + Drop,
-    W: Sink,
-    ensures bytes { IsWritten (W.contents f.old) (W.contents f.new) result
-        (concat (drawn_entries (brush_look brush.now) depth (T.shape item.now))) }
-    ensures whole { result ≡ Err Memory
-        → AppendsFirst (W.contents f.old) (W.contents f.new)
-        (drawn_entries (brush_look brush.now) depth (T.shape item.now)) }
-    ensures cause { HasCause (W.faults f.old) (W.faults f.new) result }
-{
-    let mut pen = Pen::new(brush.alloc, &brush.look.branch)?;
-    match draw_root(item, f, &mut pen, brush, depth) {
+    match drawn {
         Ok(()) => Ok(()),
         Err(_) => Err(pen.into_error()),
     }

@@ -1,24 +1,33 @@
-use Rattle.std.proofs.Common.{[]}
-use Rattle.ptree.specs.Drawing.{config_look}
+use Rattle.std.proofs.Common.{[], refl, subst}
+use Rattle.std.specs.Io.KnownBytes.{Appends}
+use Rattle.std.specs.List.{concat}
+use Rattle.ptree.specs.declared.output.look.Look.{Look as HeldLook}
+use Rattle.ptree.specs.Entries.{drawn_entries}
 use Rattle.ptree.specs.Looks.{look_of}
-use Rattle.ptree.specs.Graph.{edges_of, neighbors_of}
-use Rattle.ptree.specs.Growing.{flags_of, grow}
-use Rattle.ptree.specs.Occurrence.{occurrence_shape}
-use Rattle.ptree.proofs.Drawing.Drawn.{drawn_nothing, drawn_under, whole_nothing, whole_under}
+use Rattle.ptree.specs.Writing.{AppendsEntries}
+use Rattle.ptree.proofs.Drawing.Engine.{nothing_yet, memory_is}
+use Rattle.ptree.proofs.Graphs.AlongEdges.{drawn_from}
+use Rattle.ptree.proofs.Sinks.Written.{written_err}
 use Rattle.ptree.proofs.graph.row.draw_marked.Goals as goal
 
-pub returns-in_err-look-clause-bytes : goal.returns-in_err-look-clause-bytes
-returns-in_err-look-clause-bytes g c = drawn_nothing _ (config_look c.args.config.now c.args.output_kind c.args.terminal) _ _ _ _ c.from_residual.ensures.1
+pub returns-in_err-pen-clause-bytes : goal.returns-in_err-pen-clause-bytes
+returns-in_err-pen-clause-bytes g c = written_err _ _ _ _ _ c.from_residual.ensures.1 (nothing_yet _ _)
 
-pub returns-clause-bytes : goal.returns-clause-bytes
-returns-clause-bytes g c =
-    drawn_under (look_of c.in_ok-look.look) _ _ c.args.config.now.depth
-    (g.W.Sink.contents c.args.f.now) (g.W.Sink.contents c.draw-drawn.new.f) c.draw-drawn.result c.in_ok-look.ensures c.draw-drawn.ensures.bytes
+pub returns-in_err-brush-clause-bytes : goal.returns-in_err-brush-clause-bytes
+returns-in_err-brush-clause-bytes g c = written_err _ _ _ _ _ c.from_residual-in_err-brush.ensures.1 (nothing_yet _ _)
 
-pub returns-in_err-look-clause-whole : goal.returns-in_err-look-clause-whole
-returns-in_err-look-clause-whole g c = whole_nothing (config_look c.args.config.now c.args.output_kind c.args.terminal) (occurrence_shape g.N.Label.text c.args.marked.now.graph.now c.args.marked.now.mark.now ((grow (neighbors_of (edges_of c.args.marked.now.graph.now)) c.args.config.now.depth (flags_of c.args.marked.now.graph.now []) c.args.start.0).occurrence)) c.args.config.now.depth _ _
+pub returns-in-Ok-clause-bytes : goal.returns-in-Ok-clause-bytes
+returns-in-Ok-clause-bytes g c =
+    let x = drawn_from g.N.Label.text c.args.marked.now.graph.now c.args.marked.now.mark.now c.args.depth c.args.start.0 in
+    subst (λ (l : HeldLook). Appends (g.W.Sink.contents c.args.f.now) (g.W.Sink.contents c.draw_root-drawn.new.f) (concat (drawn_entries (look_of l) c.args.depth x))) c.in_ok-brush.ensures c.in-Ok.ensures.bytes
 
-pub returns-clause-whole : goal.returns-clause-whole
-returns-clause-whole g c =
-    whole_under (look_of c.in_ok-look.look) _ _ c.args.config.now.depth
-    (g.W.Sink.contents c.args.f.now) (g.W.Sink.contents c.draw-drawn.new.f) c.draw-drawn.result c.in_ok-look.ensures c.draw-drawn.ensures.whole
+pub returns-in-Err-clause-bytes : goal.returns-in-Err-clause-bytes
+returns-in-Err-clause-bytes g c =
+    let x = drawn_from g.N.Label.text c.args.marked.now.graph.now c.args.marked.now.mark.now c.args.depth c.args.start.0 in
+    (subst (λ (l : HeldLook). AppendsEntries (g.W.Sink.contents c.args.f.now) (g.W.Sink.contents c.draw_root-drawn.new.f) c.draw_root-drawn.new.pen.error (drawn_entries (look_of l) c.args.depth x)) c.in_ok-brush.ensures c.in-Err.ensures.bytes).0
+
+pub returns-in-Err-clause-whole : goal.returns-in-Err-clause-whole
+returns-in-Err-clause-whole g c = λ is.
+    let x = drawn_from g.N.Label.text c.args.marked.now.graph.now c.args.marked.now.mark.now c.args.depth c.args.start.0 in
+    (subst (λ (l : HeldLook). AppendsEntries (g.W.Sink.contents c.args.f.now) (g.W.Sink.contents c.draw_root-drawn.new.f) c.draw_root-drawn.new.pen.error (drawn_entries (look_of l) c.args.depth x)) c.in_ok-brush.ensures c.in-Err.ensures.bytes).1
+    (memory_is _ _ _ _ c.into_error.ensures refl refl is)
