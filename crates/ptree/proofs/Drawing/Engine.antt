@@ -3,7 +3,7 @@ use Rattle.std.proofs.Common.{◌<◌, ◌≡◌, ℕ, zero, suc, ◌-◌, ◌�
 use Rattle.std.proofs.KnownBytes.{Appends-nil}
 use Rattle.std.proofs.Math.Seq.{take-append_seam, drop-append_seam}
 use Rattle.std.proofs.lemmas.Bool.Decides.{nat_tests}
-use Rattle.std.proofs.lemmas.List.{length-take, take-append-le, take_all}
+use Rattle.std.proofs.lemmas.List.{append-nil, length-take, take-append-le, take_all}
 use Rattle.std.specs.Io.KnownBytes.{Appends}
 use Rattle.std.specs.List.{concat}
 use Rattle.ptree.specs.declared.sink.DrawError.{DrawError}
@@ -87,11 +87,23 @@ empty_list [] b h k = refl
 empty_list (x ∷ xs) b h k =
     let some : eqb (length (x ∷ xs)) 0 ≡ false = grind (arith, nat_tests) in absurd (cc)
 
--- an item without children has nothing below it
-pub none_below : {D : Type 0} (look : Look) (below : List ℕ → Shape → List (List ℕ)) (outer : List ℕ) (x : Shape) (a : Option (List ℕ)) (shape : D → Shape) (ks : List D) (empty : Bool)
-    → empty ≡ true → empty ≡ eqb (length ks) 0 → map shape ks ≡ kids x → Appends a a (concat (kid_entries look below outer (kids x)))
-none_below look below outer x a shape ks empty e1 e2 ek =
-    subst (λ (xs : List Shape). Appends a a (concat (kid_entries look below outer xs))) (ap (map shape) (sym (empty_list ks empty e1 e2)) ∙ ek) (Appends-nil a)
+-- an item whose list of children is empty has none
+pub none_below : {D : Type 0} (x : Shape) (shape : D → Shape) (ks : List D) (empty : Bool) → empty ≡ true → empty ≡ eqb (length ks) 0 → map shape ks ≡ kids x → kids x ≡ []
+none_below x shape ks empty e1 e2 ek = sym ek ∙ ap (map shape) (empty_list ks empty e1 e2)
+
+-- so there is nothing below it
+pub none_under : (look : Look) (left : ℕ) (outer : List ℕ) (x : Shape) → kids x ≡ [] → entries_below look left outer x ≡ []
+none_under look zero outer x h = refl
+none_under look (suc left) outer x h = ap (kid_entries look (entries_below look left) outer) h
+
+-- an entry alone
+pub alone_written : (a b : Option (List ℕ)) (e : List ℕ) (es : List (List ℕ)) → es ≡ [] → Appends a b e → Appends a b (concat (e ∷ es))
+alone_written a b e es h w = subst (λ (z : List (List ℕ)). Appends a b (concat (e ∷ z))) (sym h) (subst (λ (y : List ℕ). Appends a b y) (sym (append-nil e)) w)
+
+-- and it is written with its own entry
+pub leaf_written : (look : Look) (left : ℕ) (outer : List ℕ) (last : Bool) (x : Shape) (a b : Option (List ℕ)) → kids x ≡ []
+    → Appends a b (shape_entry look (outer ++ turning_piece look.pieces last) (outer ++ passing_piece look.pieces last) x) → Appends a b (concat (item_entries look left outer last x))
+leaf_written look left outer last x a b h w = alone_written a b _ (entries_below look left (outer ++ passing_piece look.pieces last) x) (none_under look left (outer ++ passing_piece look.pieces last) x h) w
 
 -- the entries of an item's children are those below it
 pub all_below : {D A E : Type 0} (look : Look) (below : List ℕ → Shape → List (List ℕ)) (outer : List ℕ) (x : Shape) (a b : Option (List ℕ)) (r : Result A E) (e : DrawError) (shape : D → Shape) (ks : List D)
@@ -127,6 +139,10 @@ pub take_again : (n : ℕ) (xs ys zs : List ℕ) → n ≤ length xs → zs ≡ 
 take_again n xs ys zs h e =
     let same : length (take n xs) ≡ min n (length xs) = length-take n xs in
     ap (take n) e ∙ take-append-le n (take n xs) ys (omega (arith, same)) ∙ take_all n (take n xs) (omega (arith, same))
+
+-- an item's passing piece is put after the passing text of its parent
+pub passes_on : (n : ℕ) (old mid new start outer piece : List ℕ) → mid ≡ old → new ≡ take n mid ++ piece → take n old ≡ start ++ outer → new ≡ start ++ (outer ++ piece)
+passes_on n old mid new start outer piece k is e = is ∙ (ap (λ xs. take n xs ++ piece) k ∙ (ap (λ xs. xs ++ piece) e ∙ append_assoc start outer piece))
 
 -- out of memory reports no fault
 pub memory_is_no_fault : (a b : ℕ) (e : DrawError) → HasErrorCause a b e → e ≡ Memory → b ≡ a

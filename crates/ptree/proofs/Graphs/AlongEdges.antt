@@ -3,9 +3,10 @@ use Rattle.std.specs.Prelude.{if◌then◌else◌, ◌≢◌, OnOk, slice_get}
 use Rattle.std.specs.Io.KnownBytes.{Appends}
 use Rattle.std.proofs.lemmas.Bool.Decides.{nat_tests}
 use Rattle.std.specs.List.{concat}
-use Rattle.std.proofs.Common.{◌≡◌, ℕ, zero, suc, ◌-◌, Bool, true, false, Option, None, Result, Ok, Err, List, [], ◌∷◌, ◌++◌, length, map, take, ap, refl, sym, subst, ◌∙◌, eqb, get_or, arith}
+use Rattle.std.proofs.Common.{◌≡◌, ℕ, zero, suc, ◌-◌, Bool, true, false, Option, Some, None, Result, Ok, Err, List, [], ◌∷◌, ◌++◌, length, map, take, ap, refl, sym, subst, ◌∙◌, eqb, get_or, arith}
 use Rattle.std.proofs.lemmas.List.{append-nil}
 use Rattle.std.proofs.lemmas.Option.{slice_get-get_or}
+use Rattle.ptree.specs.declared.sink.DrawError.{DrawError}
 use Rattle.ptree.specs.declared.graph.Graph.{Graph}
 use Rattle.ptree.specs.Drawing.{Look}
 use Rattle.ptree.specs.Entries.{shape_entry, kid_entries, entries_below, item_entries, drawn_entries}
@@ -17,8 +18,9 @@ use Rattle.ptree.specs.Occurrence.{OccurrenceTree, none, occurrence, row, occurr
 use Rattle.ptree.specs.Pieces.{turning_piece, passing_piece}
 use Rattle.ptree.specs.Shape.{Shape, kids}
 use Rattle.ptree.specs.Style.{start_codes}
+use Rattle.ptree.specs.Writing.{AreWritten}
 use Rattle.ptree.proofs.Graphs.EdgeLists.{newest_within, newest_splits}
-use Rattle.ptree.proofs.Drawing.Engine.{AreBegun, start_kept}
+use Rattle.ptree.proofs.Drawing.Engine.{AreBegun, item_written, all_below, none_under, alone_written, leaf_written, start_kept}
 use Rattle.ptree.proofs.Graphs.Growth.{grow_next, without}
 use Rattle.ptree.proofs.Graphs.NodeFlags.{seen_all}
 use Rattle.ptree.proofs.Graphs.Occurrences.{occurrences_of_row}
@@ -51,7 +53,7 @@ module _ (below : ℕ → List ℕ) where
   grown_mark (suc levels) seen v = elim (is_seen seen v) as (λ b. (if b then grown (occurrence v true none) seen else grown (occurrence v false (row (kids_grown below levels seen v))) (kids_seen below levels seen v)).occurrence.repeated ≡ b) [ true ↦ refl | false ↦ refl ]
 
   -- what is below one that is expanded here
-  pub kids_below : (levels : ℕ) (seen : List Bool) (v : ℕ) → levels ≢ 0 → is_seen seen v ≡ false → occurrence_kids (grow below levels seen v).occurrence ≡ kids_grown below (levels - 1) seen v
+  kids_below : (levels : ℕ) (seen : List Bool) (v : ℕ) → levels ≢ 0 → is_seen seen v ≡ false → occurrence_kids (grow below levels seen v).occurrence ≡ kids_grown below (levels - 1) seen v
   kids_below levels seen v h s = ap (λ (g : Grown). occurrence_kids g.occurrence) (grow_next below levels seen v h s) ∙ occurrences_of_row (kids_grown below (levels - 1) seen v)
 
   -- which nodes are seen after it
@@ -59,7 +61,7 @@ module _ (below : ℕ → List ℕ) where
   seen_below levels seen v h s = ap (λ (g : Grown). g.seen) (grow_next below levels seen v h s)
 
 -- nothing is below an occurrence that is one with nothing below it
-pub no_kids : (g : Grown) (v : ℕ) (m : Bool) (seen : List Bool) → g ≡ grown (occurrence v m none) seen → occurrence_kids g.occurrence ≡ []
+no_kids : (g : Grown) (v : ℕ) (m : Bool) (seen : List Bool) → g ≡ grown (occurrence v m none) seen → occurrence_kids g.occurrence ≡ []
 no_kids g v m seen e = ap (λ (z : Grown). occurrence_kids z.occurrence) e
 
 module _ {N : Type 0} (text : N → List ℕ) (g : Graph N) (mark : List ℕ) where
@@ -88,6 +90,31 @@ module _ {N : Type 0} (text : N → List ℕ) (g : Graph N) (mark : List ℕ) wh
       let marked : repeated ≡ (grow below levels seen v).occurrence.repeated = flag ∙ (sym (seen_all (length (weights_of g)) items v) ∙ sym (grown_mark below levels seen v)) in
       subst P (own_alike look outer last weight repeated (grow below levels seen v).occurrence (e ∙ ap (slice_get (weights_of g)) (sym (grown_node below levels seen v))) marked) h
 
+  -- a node with nothing below it is written with its own entry
+  pub leaf_drawn : (a b : Option (List ℕ)) (look : Look) (outer : List ℕ) (last : Bool) (levels : ℕ) (items : List Bool) (v : ℕ) (weight : Option N) (repeated m : Bool) (after : List Bool)
+      → grow (neighbors_of (edges_of g)) levels (flags_of g items) v ≡ grown (occurrence v m none) after → weight ≡ slice_get (weights_of g) v → repeated ≡ is_seen items v
+      → Appends a b (own_entry look outer (Some last) (leaf_shape text weight mark repeated))
+      → Appends a b (concat (item_entries look levels outer last (shape_of (grow (neighbors_of (edges_of g)) levels (flags_of g items) v).occurrence)))
+  leaf_drawn a b look outer last levels items v weight repeated m after stop w flag own =
+      let tree = (grow (neighbors_of (edges_of g)) levels (flags_of g items) v).occurrence in
+      leaf_written look levels outer last (shape_of tree) a b (sym (kids_are tree [] (no_kids _ v m after stop)))
+      (own_drawn (λ z. Appends a b z) look outer (Some last) levels items v weight repeated own w flag)
+
+  -- one that is expanded is written: its own entry, and then those below it
+  pub expanded_written : {A E : Type 0} (a b c : Option (List ℕ)) (r : Result A E) (e : DrawError) (look : Look) (outer : List ℕ) (last : Bool) (levels : ℕ) (items : List Bool) (v : ℕ) (weight : Option N) (repeated : Bool)
+      → levels ≢ 0 → repeated ≡ false → weight ≡ slice_get (weights_of g) v → repeated ≡ is_seen items v
+      → Appends a b (own_entry look outer (Some last) (leaf_shape text weight mark repeated))
+      → AreWritten b c r e (kid_entries look (entries_below look (levels - 1)) (outer ++ passing_piece look.pieces last) (map shape_of (kids_grown (neighbors_of (edges_of g)) (levels - 1) (flags_of g items) v)))
+      → AreWritten a c r e (item_entries look levels outer last (shape_of (grow (neighbors_of (edges_of g)) levels (flags_of g items) v).occurrence))
+  expanded_written a b c r e look outer last levels items v weight repeated some new w flag own under =
+      let below = neighbors_of (edges_of g) in
+      let seen = flags_of g items in
+      let tree = (grow below levels seen v).occurrence in
+      let unseen : is_seen seen v ≡ false = seen_all (length (weights_of g)) items v ∙ sym flag ∙ new in
+      item_written look levels outer last (shape_of tree) a b c r e some
+      (own_drawn (λ z. Appends a b z) look outer (Some last) levels items v weight repeated own w flag)
+      (all_below look (entries_below look (levels - 1)) (outer ++ passing_piece look.pieces last) (shape_of tree) b c r e shape_of (kids_grown below (levels - 1) seen v) (kids_are tree _ (kids_below below levels seen v some unseen)) under)
+
   -- the shape of what is drawn from a node on
   abbrev pub drawn_from : ℕ → ℕ → Shape
   drawn_from depth v = shape_of (grow (neighbors_of (edges_of g)) depth (flags_of g []) v).occurrence
@@ -114,20 +141,6 @@ module _ {N : Type 0} (text : N → List ℕ) (g : Graph N) (mark : List ℕ) wh
       let below = neighbors_of (edges_of g) in
       let seen = flags_of g [] in
       sym (kids_are (grow below depth seen v).occurrence [] (no_kids _ v _ seen (without below depth seen v some (seen_all (length (weights_of g)) [] v) alone)))
-
--- nothing is below a shape without children
-none_under : (look : Look) (left : ℕ) (outer : List ℕ) (x : Shape) → kids x ≡ [] → entries_below look left outer x ≡ []
-none_under look zero outer x h = refl
-none_under look (suc left) outer x h = ap (kid_entries look (entries_below look left) outer) h
-
--- an entry alone
-alone_written : (a b : Option (List ℕ)) (e : List ℕ) (es : List (List ℕ)) → es ≡ [] → Appends a b e → Appends a b (concat (e ∷ es))
-alone_written a b e es h w = subst (λ (z : List (List ℕ)). Appends a b (concat (e ∷ z))) (sym h) (subst (λ (y : List ℕ). Appends a b y) (sym (append-nil e)) w)
-
--- an item without children is written with its own entry
-pub leaf_written : (look : Look) (left : ℕ) (outer : List ℕ) (last : Bool) (x : Shape) (a b : Option (List ℕ)) → kids x ≡ []
-    → Appends a b (shape_entry look (outer ++ turning_piece look.pieces last) (outer ++ passing_piece look.pieces last) x) → Appends a b (concat (item_entries look left outer last x))
-leaf_written look left outer last x a b h w = alone_written a b _ (entries_below look left (outer ++ passing_piece look.pieces last) x) (none_under look left (outer ++ passing_piece look.pieces last) x h) w
 
 -- and so is a root
 pub leaf_root : (look : Look) (depth : ℕ) (x : Shape) (a b : Option (List ℕ)) → kids x ≡ [] → Appends a b (shape_entry look [] [] x) → Appends a b (concat (drawn_entries look depth x))

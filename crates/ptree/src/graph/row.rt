@@ -129,64 +129,8 @@ fn draw_node<N: Label, W: Sink>(
     if newest == 0 {
         return Ok(());
     }
-    draw_below(
-        marked,
-        node,
-        newest,
-        seen,
-        f,
-        pen,
-        brush,
-        width,
-        is_last,
-        levels_left - 1,
-    )
-}
-
-// Draws what is below a node that is expanded here: one level, and as many more as are left. The
-// newest edge from it is given.
-#[cycle(draw_row)]
-#[inline(always)]
-fn draw_below<N: Label, W: Sink>(
-    marked: &Marked<'_, N>,
-    node: NodeIndex,
-    newest: usize,
-    seen: &mut Vec<bool>,
-    f: &mut W,
-    pen: &mut Pen,
-    brush: &Brush<'_>,
-    width: usize,
-    is_last: bool,
-    levels_left: u32,
-) -> Result<(), Stop>
-    requires error { pen.old.error ≡ Memory }
-    requires width { width ≤ length (buffer_of pen.old) }
-    requires length { length seen.old.items ≤ length (weights_of marked.now.graph.now) }
-    requires node { node.0 < length (weights_of marked.now.graph.now) }
-    requires newest { newest ≡ newest_from (edges_of marked.now.graph.now) node.0 }
-    requires some { newest ≢ 0 }
-    ensures bytes { (outer : List ℕ)
-        → HoldsPassing brush.now pen.old width outer
-        → AreWritten (W.contents f.old) (W.contents f.new) result pen.new.error
-        (let look = brush_look brush.now in kid_entries look
-        (entries_below look levels_left) (outer ++ passing_piece look.pieces is_last)
-        (map (occurrence_shape N.text marked.now.graph.now marked.now.mark.now)
-        (kids_grown (neighbors_of (edges_of marked.now.graph.now)) levels_left
-        (flags_of marked.now.graph.now seen.old.items) node.0))) }
-    ensures seen { OnOk result (flags_of marked.now.graph.now seen.new.items
-        ≡ kids_seen (neighbors_of (edges_of marked.now.graph.now)) levels_left
-        (flags_of marked.now.graph.now seen.old.items) node.0) }
-    ensures length { OnOk result
-        (length seen.new.items ≤ length (weights_of marked.now.graph.now)) }
-    ensures cause { HasErrorCause (W.faults f.old) (W.faults f.new) pen.new.error }
-    ensures error { OnOk result (pen.new.error ≡ Memory) }
-    ensures kept { OnOk result
-        (take width (buffer_of pen.new) ≡ take width (buffer_of pen.old)) }
-    ensures turned { OnOk result
-        (pen.new.turned ≡ true → buffer_of pen.new ≡ buffer_of pen.old) }
-{
     pen.pass(width, brush, is_last)?;
-    draw_row(marked, node, newest, seen, f, pen, brush, levels_left)
+    draw_row(marked, node, newest, seen, f, pen, brush, levels_left - 1)
 }
 
 // Draws a node's neighbours, side by side, and what is below them. The node is seen from now on,

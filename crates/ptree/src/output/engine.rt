@@ -123,43 +123,12 @@ fn draw_item<C: TreeItem<Child = C> + Drop, W: Sink>(
     if levels_left == 0 {
         return Ok(());
     }
-    draw_below(item, f, pen, brush, width, is_last, levels_left - 1)
-}
-
-// Draws what is below an item: one level, and as many more as are left. It takes and leaves the
-// buffer as `draw_item` does.
-#[cycle(draw)]
-#[inline(always)]
-fn draw_below<C: TreeItem<Child = C> + Drop, W: Sink>(
-    item: &C,
-    f: &mut W,
-    pen: &mut Pen,
-    brush: &Brush<'_>,
-    width: usize,
-    is_last: bool,
-    levels_left: u32,
-) -> Result<(), Stop>
-    requires error { pen.old.error ≡ Memory }
-    requires width { width ≤ length (buffer_of pen.old) }
-    ensures bytes { (outer : List ℕ)
-        → HoldsPassing brush.now pen.old width outer
-        → AreWritten (W.contents f.old) (W.contents f.new) result pen.new.error
-        (let look = brush_look brush.now in kid_entries look
-        (entries_below look levels_left) (outer ++ passing_piece look.pieces is_last)
-        (kids (C.shape item.now))) }
-    ensures cause { HasErrorCause (W.faults f.old) (W.faults f.new) pen.new.error }
-    ensures error { OnOk result (pen.new.error ≡ Memory) }
-    ensures kept { OnOk result
-        (take width (buffer_of pen.new) ≡ take width (buffer_of pen.old)) }
-    ensures turned { OnOk result
-        (pen.new.turned ≡ true → buffer_of pen.new ≡ buffer_of pen.old) }
-{
     let children = item.children(brush.alloc)?;
     if children.as_slice().is_empty() {
         return Ok(());
     }
     pen.pass(width, brush, is_last)?;
-    draw_children(children.as_slice(), f, pen, brush, levels_left)
+    draw_children(children.as_slice(), f, pen, brush, levels_left - 1)
 }
 
 // Draws the children of one item, and what is below them. The buffer holds the branch's start codes

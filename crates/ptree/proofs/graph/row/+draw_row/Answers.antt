@@ -1,8 +1,7 @@
 use Rattle.std.proofs.lemmas.List.{take_all, length-map}
 use Rattle.std.proofs.lemmas.Bool.{false≢true}
 use Rattle.std.proofs.lemmas.Grind.{common_steps}
-use Rattle.std.proofs.Common.{Some, ◌≡◌, ◌++◌, ◌∷◌, ◌-◌, ◌∙◌, [], inl, inr, eqb, ap, sym, map, take, length, refl, arith, rules, append_assoc}
-use Rattle.std.specs.Io.KnownBytes.{Appends}
+use Rattle.std.proofs.Common.{Some, ◌≡◌, ◌++◌, ◌∷◌, ◌-◌, ◌∙◌, [], inl, inr, eqb, ap, sym, map, take, length, refl, arith, rules}
 use Rattle.ptree.specs.Graph.{weights_of, edges_of, neighbors_of}
 use Rattle.ptree.specs.GraphLinks.{ends_of}
 use Rattle.ptree.specs.Growing.{flags_of, is_seen, enter, grow, row_occurrences, row_seen, kids_grown}
@@ -13,9 +12,9 @@ use Rattle.ptree.specs.Occurrence.{OccurrenceTree, occurrence_shape}
 use Rattle.ptree.specs.Pieces.{passing_piece}
 use Rattle.ptree.specs.Shape.{Shape}
 use Rattle.ptree.specs.Writing.{AppendsPart}
-use Rattle.ptree.proofs.Graphs.AlongEdges.{last_tells, length_row, kids_below, seen_below, no_kids, kids_are, own_drawn, leaf_written, all_begun, flags_after_ok}
+use Rattle.ptree.proofs.Graphs.AlongEdges.{last_tells, length_row, seen_below, own_drawn, leaf_drawn, expanded_written, all_begun, flags_after_ok}
 use Rattle.ptree.proofs.Graphs.EdgeLists.{newest_starts, newest_within, newest_has}
-use Rattle.ptree.proofs.Drawing.Engine.{item_written, all_below, begun_none, begun_part, begun_then, begun_err, not_last, still_turned, long_enough, take_again, memory_is_no_fault}
+use Rattle.ptree.proofs.Drawing.Engine.{begun_none, begun_part, begun_then, begun_err, not_last, still_turned, long_enough, take_again, passes_on, memory_is_no_fault}
 use Rattle.ptree.proofs.Graphs.Growth.{stopped, without, entered, seen_made}
 use Rattle.ptree.proofs.Graphs.Links.{node_at, target_at, linked-step}
 use Rattle.ptree.proofs.Graphs.NodeFlags.{flag_read}
@@ -160,42 +159,40 @@ draw_node-returns-in_err-draw_entry-clause-bytes g t c = λ outer e.
     entries_err _ _ _ _ _ _ c.from_residual.ensures.1
     (entry_part _ _ _ _ (entries_below look c.args.levels_left (outer ++ passing_piece look.pieces c.args.is_last) (occurrence_shape g.N.Label.text graph c.args.marked.now.mark.now tree)) (own_drawn g.N.Label.text graph c.args.marked.now.mark.now (λ z. AppendsPart (g.W.Sink.contents c.args.f.now) (g.W.Sink.contents c.draw_entry.new.f) z) look outer (Some c.args.is_last) c.args.levels_left c.args.seen.now.items v _ _ (c.in_err-draw_entry.ensures.bytes outer e) node.0 (c.is_flagged-repeated.ensures ∙ ap (λ l. is_seen l v) c.deref.ensures.value)) c.in_err-draw_entry.ensures.memory)
 
+pub draw_node-returns-in_err-pass-clause-bytes : goal.draw_node-returns-in_err-pass-clause-bytes
+draw_node-returns-in_err-pass-clause-bytes g t c = λ outer e.
+    let look = look_of c.args.brush.now.look.now in
+    let graph = c.args.marked.now.graph.now in
+    let v = c.args.node.0 in
+    let shape : OccurrenceTree → Shape = occurrence_shape g.N.Label.text graph c.args.marked.now.mark.now in
+    let below = kid_entries look (entries_below look (c.args.levels_left - 1)) (outer ++ passing_piece look.pieces c.args.is_last) (map shape (kids_grown (neighbors_of (edges_of graph)) (c.args.levels_left - 1) (flags_of graph c.args.seen.now.items) v)) in
+    expanded_written g.N.Label.text graph c.args.marked.now.mark.now _ _ _ _ _ look outer c.args.is_last c.args.levels_left c.args.seen.now.items v _ _ (λ z. c.if-levels_left-eq0.false z) c.if-repeated.false
+    (node_at graph v c.index-record.result.now c.requires.node c.index-record.ensures).0 (c.is_flagged-repeated.ensures ∙ ap (λ l. is_seen l v) c.deref.ensures.value) (c.in_ok-draw_entry.ensures.bytes outer e)
+    (entries_err _ _ _ _ _ _ c.from_residual-in_err-pass.ensures.1 (entries_none _ c.pass.new.self.error below))
+
 pub draw_node-returns-clause-bytes : goal.draw_node-returns-clause-bytes
 draw_node-returns-clause-bytes g t c = λ outer e.
     let look = look_of c.args.brush.now.look.now in
     let graph = c.args.marked.now.graph.now in
-    let below = neighbors_of (edges_of graph) in
-    let shape : OccurrenceTree → Shape = occurrence_shape g.N.Label.text graph c.args.marked.now.mark.now in
     let v = c.args.node.0 in
-    let seen = flags_of graph c.args.seen.now.items in
-    let tree = (grow below c.args.levels_left seen v).occurrence in
-    let flag : c.is_flagged-repeated.result ≡ is_seen seen v = flag_read (length (weights_of graph)) c.args.seen.now.items _ v _ c.is_flagged-repeated.ensures c.deref.ensures.value in
-    let node = node_at graph v c.index-record.result.now c.requires.node c.index-record.ensures in
-    let kids_in = kids_are g.N.Label.text graph c.args.marked.now.mark.now tree _ (kids_below below c.args.levels_left seen v c.if-levels_left-eq0.false (sym flag ∙ c.if-repeated.false)) in
-    item_written look c.args.levels_left outer c.args.is_last (shape tree) _ _ _ _ _ (λ z. c.if-levels_left-eq0.false z)
-    (own_drawn g.N.Label.text graph c.args.marked.now.mark.now (λ z. Appends (g.W.Sink.contents c.args.f.now) (g.W.Sink.contents c.draw_entry.new.f) z) look outer (Some c.args.is_last) c.args.levels_left c.args.seen.now.items v _ _ (c.in_ok-draw_entry.ensures.bytes outer e) node.0 (c.is_flagged-repeated.ensures ∙ ap (λ l. is_seen l v) c.deref.ensures.value))
-    (all_below look (entries_below look (c.args.levels_left - 1)) (outer ++ passing_piece look.pieces c.args.is_last) (shape tree) _ _ _ _ shape (kids_grown below (c.args.levels_left - 1) seen v) kids_in
-    (c.draw_below.ensures.bytes outer (ap (take c.args.width) c.in_ok-draw_entry.ensures.kept ∙ e)))
+    expanded_written g.N.Label.text graph c.args.marked.now.mark.now _ _ _ _ _ look outer c.args.is_last c.args.levels_left c.args.seen.now.items v _ _ (λ z. c.if-levels_left-eq0.false z) c.if-repeated.false
+    (node_at graph v c.index-record.result.now c.requires.node c.index-record.ensures).0 (c.is_flagged-repeated.ensures ∙ ap (λ l. is_seen l v) c.deref.ensures.value) (c.in_ok-draw_entry.ensures.bytes outer e)
+    (c.draw_row.ensures.bytes (outer ++ passing_piece look.pieces c.args.is_last) (passes_on c.args.width _ _ _ _ outer _ c.in_ok-draw_entry.ensures.kept c.in_ok-pass.ensures.line e))
 
 pub draw_node-returns-clause-seen : goal.draw_node-returns-clause-seen
-draw_node-returns-clause-seen g t c = flags_after_ok _ _ _ c.draw_below.result (sym (seen_below (neighbors_of (edges_of c.args.marked.now.graph.now)) c.args.levels_left (flags_of c.args.marked.now.graph.now c.args.seen.now.items) c.args.node.0 c.if-levels_left-eq0.false
-    (sym (flag_read (length (weights_of c.args.marked.now.graph.now)) c.args.seen.now.items _ c.args.node.0 _ c.is_flagged-repeated.ensures c.deref.ensures.value) ∙ c.if-repeated.false))) c.draw_below.ensures.seen
+draw_node-returns-clause-seen g t c = flags_after_ok _ _ _ c.draw_row.result (sym (seen_below (neighbors_of (edges_of c.args.marked.now.graph.now)) c.args.levels_left (flags_of c.args.marked.now.graph.now c.args.seen.now.items) c.args.node.0 c.if-levels_left-eq0.false
+    (sym (flag_read (length (weights_of c.args.marked.now.graph.now)) c.args.seen.now.items _ c.args.node.0 _ c.is_flagged-repeated.ensures c.deref.ensures.value) ∙ c.if-repeated.false))) (search rules)
 
 pub draw_node-returns-then-repeated-clause-bytes : goal.draw_node-returns-then-repeated-clause-bytes
 draw_node-returns-then-repeated-clause-bytes g t c = λ outer e.
-    let look = look_of c.args.brush.now.look.now in
     let graph = c.args.marked.now.graph.now in
-    let below = neighbors_of (edges_of graph) in
-    let shape : OccurrenceTree → Shape = occurrence_shape g.N.Label.text graph c.args.marked.now.mark.now in
     let v = c.args.node.0 in
     let seen = flags_of graph c.args.seen.now.items in
-    let tree = (grow below c.args.levels_left seen v).occurrence in
     let flag : c.is_flagged-repeated.result ≡ is_seen seen v = flag_read (length (weights_of graph)) c.args.seen.now.items _ v _ c.is_flagged-repeated.ensures c.deref.ensures.value in
-    let node = node_at graph v c.index-record.result.now c.requires.node c.index-record.ensures in
-    let stop = stopped below c.args.levels_left seen v
+    let stop = stopped (neighbors_of (edges_of graph)) c.args.levels_left seen v
     (elim c.then-repeated.branch [ draw_node-then-repeated-via-then-repeated w ↦ inl (sym flag ∙ w.if-repeated.true) | draw_node-then-repeated-via-else-repeated+then-levels_left-eq0 w ↦ inr w.if-levels_left-eq0.true ]) in
-    leaf_written look c.args.levels_left outer c.args.is_last (shape tree) _ _ (sym (kids_are g.N.Label.text graph c.args.marked.now.mark.now tree [] (no_kids _ v _ seen stop)))
-    (own_drawn g.N.Label.text graph c.args.marked.now.mark.now (λ z. Appends (g.W.Sink.contents c.args.f.now) (g.W.Sink.contents c.draw_entry.new.f) z) look outer (Some c.args.is_last) c.args.levels_left c.args.seen.now.items v _ _ (c.in_ok-draw_entry.ensures.bytes outer e) node.0 (c.is_flagged-repeated.ensures ∙ ap (λ l. is_seen l v) c.deref.ensures.value))
+    leaf_drawn g.N.Label.text graph c.args.marked.now.mark.now _ _ (look_of c.args.brush.now.look.now) outer c.args.is_last c.args.levels_left c.args.seen.now.items v _ _ _ _ stop
+    (node_at graph v c.index-record.result.now c.requires.node c.index-record.ensures).0 (c.is_flagged-repeated.ensures ∙ ap (λ l. is_seen l v) c.deref.ensures.value) (c.in_ok-draw_entry.ensures.bytes outer e)
 
 pub draw_node-returns-then-repeated-clause-seen : goal.draw_node-returns-then-repeated-clause-seen
 draw_node-returns-then-repeated-clause-seen g t c =
@@ -208,19 +205,15 @@ draw_node-returns-then-repeated-clause-seen g t c =
 
 pub draw_node-returns-then-newest-eq0-clause-bytes : goal.draw_node-returns-then-newest-eq0-clause-bytes
 draw_node-returns-then-newest-eq0-clause-bytes g t c = λ outer e.
-    let look = look_of c.args.brush.now.look.now in
     let graph = c.args.marked.now.graph.now in
     let below = neighbors_of (edges_of graph) in
-    let shape : OccurrenceTree → Shape = occurrence_shape g.N.Label.text graph c.args.marked.now.mark.now in
     let v = c.args.node.0 in
     let seen = flags_of graph c.args.seen.now.items in
-    let tree = (grow below c.args.levels_left seen v).occurrence in
     let flag : c.is_flagged-repeated.result ≡ is_seen seen v = flag_read (length (weights_of graph)) c.args.seen.now.items _ v _ c.is_flagged-repeated.ensures c.deref.ensures.value in
     let node = node_at graph v c.index-record.result.now c.requires.node c.index-record.ensures in
     let none : below v ≡ [] = sym (newest_starts (edges_of graph) v c.index-record.result.now.newest node.1).0 ∙ ap (λ k. neighbors_of (take k (edges_of graph)) v) c.if-newest-eq0.true in
-    leaf_written look c.args.levels_left outer c.args.is_last (shape tree) _ _
-    (sym (kids_are g.N.Label.text graph c.args.marked.now.mark.now tree [] (no_kids _ v _ seen (without below c.args.levels_left seen v c.if-levels_left-eq0.false (sym flag ∙ c.if-repeated.false) none))))
-    (own_drawn g.N.Label.text graph c.args.marked.now.mark.now (λ z. Appends (g.W.Sink.contents c.args.f.now) (g.W.Sink.contents c.draw_entry.new.f) z) look outer (Some c.args.is_last) c.args.levels_left c.args.seen.now.items v _ _ (c.in_ok-draw_entry.ensures.bytes outer e) node.0 (c.is_flagged-repeated.ensures ∙ ap (λ l. is_seen l v) c.deref.ensures.value))
+    leaf_drawn g.N.Label.text graph c.args.marked.now.mark.now _ _ (look_of c.args.brush.now.look.now) outer c.args.is_last c.args.levels_left c.args.seen.now.items v _ _ _ _
+    (without below c.args.levels_left seen v c.if-levels_left-eq0.false (sym flag ∙ c.if-repeated.false) none) node.0 (c.is_flagged-repeated.ensures ∙ ap (λ l. is_seen l v) c.deref.ensures.value) (c.in_ok-draw_entry.ensures.bytes outer e)
 
 pub draw_node-returns-then-newest-eq0-clause-seen : goal.draw_node-returns-then-newest-eq0-clause-seen
 draw_node-returns-then-newest-eq0-clause-seen g t c =
@@ -235,18 +228,6 @@ draw_node-returns-then-newest-eq0-clause-seen g t c =
 pub draw_node-index-record-requires : goal.draw_node-index-record-requires
 draw_node-index-record-requires g t c = omega (arith, c.requires.node, length-map c.args.marked.now.graph.now.nodes.items (λ n. n.weight))
 
-pub draw_node-draw_below-requires : goal.draw_node-draw_below-requires
-draw_node-draw_below-requires g t c =
+pub draw_node-draw_row-requires : goal.draw_node-draw_row-requires
+draw_node-draw_row-requires g t c =
     grind (arith, common_steps, (node_at c.args.marked.now.graph.now c.args.node.0 c.index-record.result.now c.requires.node c.index-record.ensures).1)
-
-pub draw_below-returns-in_err-pass-clause-bytes : goal.draw_below-returns-in_err-pass-clause-bytes
-draw_below-returns-in_err-pass-clause-bytes g t c = λ outer e.
-    let look = look_of c.args.brush.now.look.now in
-    let graph = c.args.marked.now.graph.now in
-    entries_err _ _ _ _ _ _ c.from_residual.ensures.1
-    (entries_none _ c.pass.new.self.error (kid_entries look (entries_below look c.args.levels_left) (outer ++ passing_piece look.pieces c.args.is_last) (map (occurrence_shape g.N.Label.text graph c.args.marked.now.mark.now) (kids_grown (neighbors_of (edges_of graph)) c.args.levels_left (flags_of graph c.args.seen.now.items) c.args.node.0))))
-
-pub draw_below-returns-clause-bytes : goal.draw_below-returns-clause-bytes
-draw_below-returns-clause-bytes g t c = λ outer e.
-    let look = look_of c.args.brush.now.look.now in
-    c.draw_row.ensures.bytes (outer ++ passing_piece look.pieces c.args.is_last) (c.in_ok-pass.ensures.line ∙ ap (λ xs. xs ++ passing_piece look.pieces c.args.is_last) e ∙ append_assoc _ outer _)

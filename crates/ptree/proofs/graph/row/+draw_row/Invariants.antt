@@ -11,15 +11,12 @@ use Rattle.ptree.specs.declared.sink.DrawError.TheVariants.{Memory}
 use Rattle.ptree.proofs.Drawing.Engine.{AreBegun}
 use Rattle.ptree.proofs.graph.row.+draw_row.Given as goal
 
--- a node takes a step more than what is below it, and that one more than its row
+-- a row takes a step more than each of its nodes
 abbrev pub decreases-draw_row : goal.decreases-draw_row
-decreases-draw_row g l = 3 * l.levels_left + 1
+decreases-draw_row g l = 2 * l.levels_left + 1
 
 abbrev pub decreases-draw_node : goal.decreases-draw_node
-decreases-draw_node g l = 3 * l.levels_left
-
-abbrev pub decreases-draw_below : goal.decreases-draw_below
-decreases-draw_below g l = 3 * l.levels_left + 2
+decreases-draw_node g l = 2 * l.levels_left
 
 -- the entries so far, and the neighbours that are left
 abbrev pub invariant-draw_row-loop-number : goal.invariant-draw_row-loop-number

@@ -1,12 +1,12 @@
 use Rattle.std.proofs.lemmas.List.{take_all}
 use Rattle.std.proofs.lemmas.Bool.{false≢true}
-use Rattle.std.proofs.Common.{Some, ◌≡◌, ◌++◌, ◌∙◌, ap, sym, map, take, length, refl, arith, append_assoc}
+use Rattle.std.proofs.Common.{Some, ◌≡◌, ◌++◌, ◌-◌, ◌∙◌, ap, sym, map, take, length, refl, arith}
 use Rattle.ptree.specs.Line.{line_bytes}
 use Rattle.ptree.specs.Looks.{look_of, own_text}
 use Rattle.ptree.specs.Entries.{kid_entries, entries_below}
 use Rattle.ptree.specs.Pieces.{passing_piece}
 use Rattle.ptree.specs.Shape.{kids}
-use Rattle.ptree.proofs.Drawing.Engine.{item_written, none_below, all_below, begun_none, begun_part, begun_then, begun_err, not_last, still_turned, long_enough, take_again, memory_is_no_fault}
+use Rattle.ptree.proofs.Drawing.Engine.{item_written, none_below, leaf_written, all_below, begun_none, begun_part, begun_then, begun_err, not_last, still_turned, long_enough, take_again, passes_on, memory_is_no_fault}
 use Rattle.ptree.proofs.Sinks.Written.{entries_none, entries_err, entry_part}
 use Rattle.std.proofs.lemmas.Grind.{common_steps}
 use Rattle.ptree.proofs.output.engine.+draw.Goals as goal
@@ -65,39 +65,38 @@ draw_item-returns-in_err-draw_entry-clause-bytes g t c = λ outer e.
     entries_err _ _ _ _ _ _ c.from_residual.ensures.1
     (entry_part _ _ _ _ (entries_below look c.args.levels_left (outer ++ passing_piece look.pieces c.args.is_last) (g.C.Shaped.shape c.args.item.now)) (c.in_err-draw_entry.ensures.bytes outer e) c.in_err-draw_entry.ensures.memory)
 
+pub draw_item-returns-in_err-children-clause-bytes : goal.draw_item-returns-in_err-children-clause-bytes
+draw_item-returns-in_err-children-clause-bytes g t c = λ outer e.
+    let look = look_of c.args.brush.now.look.now in
+    let below = kid_entries look (entries_below look (c.args.levels_left - 1)) (outer ++ passing_piece look.pieces c.args.is_last) (kids (g.C.Shaped.shape c.args.item.now)) in
+    item_written look c.args.levels_left outer c.args.is_last (g.C.Shaped.shape c.args.item.now) _ _ _ _ _ (λ z. c.if-levels_left-eq0.false z)
+    (c.in_ok-draw_entry.ensures.bytes outer e) (entries_err _ _ _ _ _ _ c.from_residual-in_err-children.ensures.1 (entries_none _ c.draw_entry.new.pen.error below))
+
+pub draw_item-returns-in_err-pass-clause-bytes : goal.draw_item-returns-in_err-pass-clause-bytes
+draw_item-returns-in_err-pass-clause-bytes g t c = λ outer e.
+    let look = look_of c.args.brush.now.look.now in
+    let below = kid_entries look (entries_below look (c.args.levels_left - 1)) (outer ++ passing_piece look.pieces c.args.is_last) (kids (g.C.Shaped.shape c.args.item.now)) in
+    item_written look c.args.levels_left outer c.args.is_last (g.C.Shaped.shape c.args.item.now) _ _ _ _ _ (λ z. c.if-levels_left-eq0.false z)
+    (c.in_ok-draw_entry.ensures.bytes outer e) (entries_err _ _ _ _ _ _ c.from_residual-in_err-pass.ensures.1 (entries_none _ c.pass.new.self.error below))
+
 pub draw_item-returns-clause-bytes : goal.draw_item-returns-clause-bytes
 draw_item-returns-clause-bytes g t c = λ outer e.
-    item_written (look_of c.args.brush.now.look.now) c.args.levels_left outer c.args.is_last (g.C.Shaped.shape c.args.item.now) _ _ _ _ _ (λ z. c.if-levels_left-eq0.false z)
-    (c.in_ok-draw_entry.ensures.bytes outer e) (c.draw_below.ensures.bytes outer (ap (take c.args.width) c.in_ok-draw_entry.ensures.kept ∙ e))
-
-pub draw_below-returns-in_err-children-clause-bytes : goal.draw_below-returns-in_err-children-clause-bytes
-draw_below-returns-in_err-children-clause-bytes g t c = λ outer e.
-    let look = look_of c.args.brush.now.look.now in
-    let below = kid_entries look (entries_below look c.args.levels_left) (outer ++ passing_piece look.pieces c.args.is_last) (kids (g.C.Shaped.shape c.args.item.now)) in
-    entries_err _ _ _ _ _ _ c.from_residual.ensures.1 (entries_none _ c.args.pen.now.error below)
-
-pub draw_below-returns-in_err-pass-clause-bytes : goal.draw_below-returns-in_err-pass-clause-bytes
-draw_below-returns-in_err-pass-clause-bytes g t c = λ outer e.
-    let look = look_of c.args.brush.now.look.now in
-    let below = kid_entries look (entries_below look c.args.levels_left) (outer ++ passing_piece look.pieces c.args.is_last) (kids (g.C.Shaped.shape c.args.item.now)) in
-    entries_err _ _ _ _ _ _ c.from_residual-in_err-pass.ensures.1 (entries_none _ c.pass.new.self.error below)
-
-pub draw_below-returns-clause-bytes : goal.draw_below-returns-clause-bytes
-draw_below-returns-clause-bytes g t c = λ outer e.
     let look = look_of c.args.brush.now.look.now in
     let passing = outer ++ passing_piece look.pieces c.args.is_last in
-    all_below look (entries_below look c.args.levels_left) passing (g.C.Shaped.shape c.args.item.now) _ _ _ _ g.C.Shaped.shape c.as_slice-2.result.now
+    item_written look c.args.levels_left outer c.args.is_last (g.C.Shaped.shape c.args.item.now) _ _ _ _ _ (λ z. c.if-levels_left-eq0.false z)
+    (c.in_ok-draw_entry.ensures.bytes outer e)
+    (all_below look (entries_below look (c.args.levels_left - 1)) passing (g.C.Shaped.shape c.args.item.now) _ _ _ _ g.C.Shaped.shape c.as_slice-2.result.now
     (ap (map g.C.Shaped.shape) c.as_slice-2.ensures ∙ c.in_ok-children.ensures)
-    (c.draw_children.ensures.bytes passing (c.in_ok-pass.ensures.line ∙ ap (λ xs. xs ++ passing_piece look.pieces c.args.is_last) e ∙ append_assoc _ outer _))
+    (c.draw_children.ensures.bytes passing (passes_on c.args.width _ _ _ _ outer _ c.in_ok-draw_entry.ensures.kept c.in_ok-pass.ensures.line e)))
 
-pub draw_below-returns-then-is_empty-clause-bytes : goal.draw_below-returns-then-is_empty-clause-bytes
-draw_below-returns-then-is_empty-clause-bytes g t c = λ outer e.
-    let look = look_of c.args.brush.now.look.now in
-    none_below look (entries_below look c.args.levels_left) (outer ++ passing_piece look.pieces c.args.is_last) (g.C.Shaped.shape c.args.item.now) _ g.C.Shaped.shape c.as_slice.result.now c.is_empty.result
-    c.if-is_empty.true c.is_empty.ensures (ap (map g.C.Shaped.shape) c.as_slice.ensures ∙ c.in_ok-children.ensures)
+pub draw_item-returns-then-is_empty-clause-bytes : goal.draw_item-returns-then-is_empty-clause-bytes
+draw_item-returns-then-is_empty-clause-bytes g t c = λ outer e.
+    leaf_written (look_of c.args.brush.now.look.now) c.args.levels_left outer c.args.is_last (g.C.Shaped.shape c.args.item.now) _ _
+    (none_below (g.C.Shaped.shape c.args.item.now) g.C.Shaped.shape c.as_slice.result.now c.is_empty.result c.if-is_empty.true c.is_empty.ensures (ap (map g.C.Shaped.shape) c.as_slice.ensures ∙ c.in_ok-children.ensures))
+    (c.in_ok-draw_entry.ensures.bytes outer e)
 
-pub draw_below-returns-clause-kept : goal.draw_below-returns-clause-kept
-draw_below-returns-clause-kept g t c = grind (arith, common_steps)
+pub draw_item-returns-clause-kept : goal.draw_item-returns-clause-kept
+draw_item-returns-clause-kept g t c = grind (arith, common_steps)
 
 pub draw_children-draw_item-requires : goal.draw_children-draw_item-requires
 draw_children-draw_item-requires g t c = grind (arith, common_steps)

@@ -7,15 +7,12 @@ use Rattle.ptree.specs.declared.sink.DrawError.TheVariants.{Memory}
 use Rattle.ptree.proofs.Drawing.Engine.{AreBegun}
 use Rattle.ptree.proofs.output.engine.+draw.Given as goal
 
--- an item takes a step more than what is below it, and that one more than its list
+-- a list takes a step more than each of its items
 abbrev pub decreases-draw_children : goal.decreases-draw_children
-decreases-draw_children g l = 3 * l.levels_left + 1
+decreases-draw_children g l = 2 * l.levels_left + 1
 
 abbrev pub decreases-draw_item : goal.decreases-draw_item
-decreases-draw_item g l = 3 * l.levels_left
-
-abbrev pub decreases-draw_below : goal.decreases-draw_below
-decreases-draw_below g l = 3 * l.levels_left + 2
+decreases-draw_item g l = 2 * l.levels_left
 
 -- the entries so far
 abbrev pub invariant-draw_children-loop-item : goal.invariant-draw_children-loop-item
