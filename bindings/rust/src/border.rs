@@ -1,7 +1,4 @@
-//! The calls of the static library, and what is passed to them. All `unsafe` code of this crate is here.
-//!
-//! Every pointer comes from a slice or a reference, so it is aligned and never null, and each length is that of its slice. What a call
-//! writes to is borrowed mutably, so it overlaps nothing else. The library keeps no pointer, calls nothing back and has no state.
+//! What is passed to the calls of the static library, and what is made of what they write.
 mod calls;
 mod fields;
 mod steps;
@@ -82,44 +79,16 @@ pub(crate) fn draw_graph(
     is_styled: bool,
 ) -> io::Result<Vec<u8>> {
     let (fields, names) = fields_for(config, is_styled, &config.leaf);
-    let guess = nodes.texts.len() + 16 * (nodes.ends.len() + nodes.edges.len());
+    let Nodes { ends, edges, texts } = nodes;
+    let guess = texts.len() + 16 * (ends.len() + edges.len());
     bytes_of(guess, |out, found| match expansion {
-        Expansion::Walks => unsafe {
-            ptree_draw_walks(
-                nodes.ends.as_ptr(),
-                nodes.ends.len(),
-                nodes.texts.as_ptr(),
-                nodes.texts.len(),
-                nodes.edges.as_ptr(),
-                nodes.edges.len(),
-                start,
-                &fields,
-                names.as_ptr(),
-                names.len(),
-                out.as_mut_ptr(),
-                out.len(),
-                found,
-            )
-        },
-        Expansion::Once(mark) => unsafe {
-            ptree_draw_once(
-                nodes.ends.as_ptr(),
-                nodes.ends.len(),
-                nodes.texts.as_ptr(),
-                nodes.texts.len(),
-                nodes.edges.as_ptr(),
-                nodes.edges.len(),
-                start,
-                mark.as_ptr(),
-                mark.len(),
-                &fields,
-                names.as_ptr(),
-                names.len(),
-                out.as_mut_ptr(),
-                out.len(),
-                found,
-            )
-        },
+        Expansion::Walks => {
+            ptree_draw_walks(ends, texts, edges, start, &fields, &names, out, found)
+        }
+        Expansion::Once(mark) => {
+            let mark = mark.as_bytes();
+            ptree_draw_once(ends, texts, edges, start, mark, &fields, &names, out, found)
+        }
     })
 }
 
@@ -133,20 +102,14 @@ pub(crate) fn read(text: &str, config: &PrintConfig) -> io::Result<Outline> {
         texts: room(text.len())?,
     };
     let mut found = Found::default();
-    let refusal = unsafe {
-        ptree_read_with(
-            text.as_ptr(),
-            text.len(),
-            &fields,
-            names.as_ptr(),
-            names.len(),
-            outline.items.as_mut_ptr(),
-            outline.items.len(),
-            outline.texts.as_mut_ptr(),
-            outline.texts.len(),
-            &mut found,
-        )
-    };
+    let refusal = ptree_read_with(
+        text.as_bytes(),
+        &fields,
+        &names,
+        &mut outline.items,
+        &mut outline.texts,
+        &mut found,
+    );
     if refusal != DONE {
         return Err(error_of(refusal, found.place));
     }
@@ -164,18 +127,15 @@ pub(crate) fn draw_document(
     is_styled: bool,
 ) -> io::Result<Vec<u8>> {
     let (fields, names) = fields_for(config, is_styled, &config.leaf);
-    bytes_of(4 * text.len() + label.len() + 1, |out, found| unsafe {
+    bytes_of(4 * text.len() + label.len() + 1, |out, found| {
+        let (text, label) = (text.as_bytes(), label.as_bytes());
         ptree_draw_document_with(
-            text.as_ptr(),
-            text.len(),
-            label.as_ptr(),
-            label.len(),
+            text,
+            label,
             format_number(format),
             &fields,
-            names.as_ptr(),
-            names.len(),
-            out.as_mut_ptr(),
-            out.len(),
+            &names,
+            out,
             found,
         )
     })
@@ -186,26 +146,15 @@ pub(crate) fn paint(style: &Style, text: &str) -> io::Result<String> {
     let mut names = Vec::new();
     let fields = style_fields(&mut names, style);
     // The codes of two colours and eight flags take at most 82 bytes.
-    let painted = bytes_of(text.len() + 96, |out, found| unsafe {
-        ptree_paint(
-            text.as_ptr(),
-            text.len(),
-            &fields,
-            names.as_ptr(),
-            names.len(),
-            out.as_mut_ptr(),
-            out.len(),
-            found,
-        )
+    let painted = bytes_of(text.len() + 96, |out, found| {
+        ptree_paint(text.as_bytes(), &fields, &names, out, found)
     })?;
     text_of(&painted)
 }
 
 /// The configuration of a preset's number.
 pub(crate) fn preset(number: u32) -> io::Result<PrintConfig> {
-    config_from(|config, names, found| unsafe {
-        ptree_config(number, config, names.as_mut_ptr(), names.len(), found)
-    })
+    config_from(|config, names, found| ptree_config(number, config, names, found))
 }
 
 /// The configuration of a file and of variables, or none if any of them is invalid.
@@ -215,20 +164,8 @@ pub(crate) fn load(
 ) -> io::Result<Option<PrintConfig>> {
     let (format, text) = file_of(file);
     let (fields, texts) = variables_for(variables);
-    let loaded = config_from(|config, names, found| unsafe {
-        ptree_load(
-            text.as_ptr(),
-            text.len(),
-            format,
-            fields.as_ptr(),
-            fields.len(),
-            texts.as_ptr(),
-            texts.len(),
-            config,
-            names.as_mut_ptr(),
-            names.len(),
-            found,
-        )
+    let loaded = config_from(|config, names, found| {
+        ptree_load(text, format, &fields, &texts, config, names, found)
     });
     match loaded {
         Ok(config) => Ok(Some(config)),
@@ -241,29 +178,18 @@ pub(crate) fn load(
 pub(crate) fn faults(file: &FileSource, variables: &[(String, String)]) -> io::Result<Vec<String>> {
     let (format, text) = file_of(file);
     let (fields, texts) = variables_for(variables);
-    let lines = bytes_of(256, |out, found| unsafe {
-        ptree_faults(
-            text.as_ptr(),
-            text.len(),
-            format,
-            fields.as_ptr(),
-            fields.len(),
-            texts.as_ptr(),
-            texts.len(),
-            out.as_mut_ptr(),
-            out.len(),
-            found,
-        )
+    let lines = bytes_of(256, |out, found| {
+        ptree_faults(text, format, &fields, &texts, out, found)
     })?;
     Ok(text_of(&lines)?.lines().map(String::from).collect())
 }
 
 // The number of a file's format, and its text.
-fn file_of(file: &FileSource) -> (u32, &str) {
+fn file_of(file: &FileSource) -> (u32, &[u8]) {
     match file {
-        FileSource::Text(format, text) => (format_number(*format), text),
-        FileSource::Absent => (2, ""),
-        FileSource::Unreadable => (3, ""),
+        FileSource::Text(format, text) => (format_number(*format), text.as_bytes()),
+        FileSource::Absent => (2, &[]),
+        FileSource::Unreadable => (3, &[]),
     }
 }
 
@@ -345,7 +271,7 @@ fn error_of(refusal: u32, place: usize) -> Error {
 // The text of an error code.
 fn refusal_text(refusal: u32) -> String {
     let mut out = [0; 100];
-    let length = unsafe { ptree_refusal_text(refusal, out.as_mut_ptr(), out.len()) };
+    let length = ptree_refusal_text(refusal, &mut out);
     String::from_utf8_lossy(&out[..length.min(out.len())]).into_owned()
 }
 

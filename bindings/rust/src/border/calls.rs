@@ -1,219 +1,102 @@
-//! The structs and calls of `ptree.h`.
+//! The structs and calls of `ptree.h`, and all `unsafe` code of this crate.
+//!
+//! A call takes slices and references, and gives the library their pointers and lengths. So every pointer is aligned and never null, each
+//! length is that of its slice, and what a call writes to overlaps nothing else. The library keeps no pointer, calls nothing back and has
+//! no state.
 
-#[repr(C)]
-#[derive(Clone, Copy, Default)]
-pub(super) struct Item {
-    pub(super) end: usize,
-    pub(super) level: u32,
+// Structs as C lays them out.
+macro_rules! structs {
+    ($($name:ident { $($field:ident: $type:ty),* $(,)? })*) => {
+        $(
+            #[repr(C)]
+            #[derive(Clone, Copy, Default)]
+            pub(super) struct $name {
+                $(pub(super) $field: $type,)*
+            }
+        )*
+    };
 }
 
-#[repr(C)]
-#[derive(Clone, Copy, Default)]
-pub(super) struct Found {
-    pub(super) bytes: usize,
-    pub(super) items: usize,
-    pub(super) place: usize,
+// Calls by what they take.
+macro_rules! calls {
+    ($(fn $name:ident($($parameters:tt)*) -> $result:ty;)*) => {
+        $(call! { $name -> $result; [$($parameters)*,] [] [] [] })*
+    };
 }
 
-#[repr(C)]
-#[derive(Clone, Copy, Default)]
-pub(super) struct Part {
-    pub(super) start: usize,
-    pub(super) end: usize,
+// A call: the parameters that are left, those so far, what C takes for them, and what it is given.
+macro_rules! call {
+    ($name:ident -> $result:ty; [$(,)?] [$($own:tt)*] [$($c:tt)*] [$($given:tt)*]) => {
+        #[allow(clippy::too_many_arguments)]
+        pub(super) fn $name($($own)*) -> $result {
+            extern "C" {
+                fn $name($($c)*) -> $result;
+            }
+            unsafe { $name($($given)*) }
+        }
+    };
+    ($name:ident -> $result:ty; [$p:ident: &mut [$type:ty], $($left:tt)*] [$($own:tt)*] [$($c:tt)*] [$($given:tt)*]) => {
+        call! { $name -> $result; [$($left)*] [$($own)* $p: &mut [$type],] [$($c)* _: *mut $type, _: usize,] [$($given)* $p.as_mut_ptr(), $p.len(),] }
+    };
+    ($name:ident -> $result:ty; [$p:ident: &[$type:ty], $($left:tt)*] [$($own:tt)*] [$($c:tt)*] [$($given:tt)*]) => {
+        call! { $name -> $result; [$($left)*] [$($own)* $p: &[$type],] [$($c)* _: *const $type, _: usize,] [$($given)* $p.as_ptr(), $p.len(),] }
+    };
+    ($name:ident -> $result:ty; [$p:ident: &mut $type:ty, $($left:tt)*] [$($own:tt)*] [$($c:tt)*] [$($given:tt)*]) => {
+        call! { $name -> $result; [$($left)*] [$($own)* $p: &mut $type,] [$($c)* _: *mut $type,] [$($given)* $p,] }
+    };
+    ($name:ident -> $result:ty; [$p:ident: &$type:ty, $($left:tt)*] [$($own:tt)*] [$($c:tt)*] [$($given:tt)*]) => {
+        call! { $name -> $result; [$($left)*] [$($own)* $p: &$type,] [$($c)* _: *const $type,] [$($given)* $p,] }
+    };
+    ($name:ident -> $result:ty; [$p:ident: $type:ty, $($left:tt)*] [$($own:tt)*] [$($c:tt)*] [$($given:tt)*]) => {
+        call! { $name -> $result; [$($left)*] [$($own)* $p: $type,] [$($c)* _: $type,] [$($given)* $p,] }
+    };
 }
 
-#[repr(C)]
-#[derive(Clone, Copy, Default)]
-pub(super) struct ColorFields {
-    pub(super) kind: u32,
-    pub(super) red: u8,
-    pub(super) green: u8,
-    pub(super) blue: u8,
-    pub(super) name: Part,
+structs! {
+    Item { end: usize, level: u32 }
+    Found { bytes: usize, items: usize, place: usize }
+    Part { start: usize, end: usize }
+    Variable { name: Part, value: Part }
+    Step { text: Part, level: u32, is_last: u8 }
+    Edge { source: usize, target: usize }
+    ColorFields { kind: u32, red: u8, green: u8, blue: u8, name: Part }
+    StyleFields {
+        foreground: ColorFields, background: ColorFields,
+        bold: u8, dimmed: u8, italic: u8, underline: u8, blink: u8, reverse: u8, hidden: u8, strikethrough: u8,
+    }
+    CharactersFields { down_and_right: Part, down: Part, turn_right: Part, right: Part, empty: Part }
+    ConfigFields {
+        depth: u32, styled: u32, indent: usize, padding: usize,
+        characters: CharactersFields, branch: StyleFields, leaf: StyleFields, continued: Part,
+    }
 }
 
-#[repr(C)]
-#[derive(Clone, Copy, Default)]
-pub(super) struct StyleFields {
-    pub(super) foreground: ColorFields,
-    pub(super) background: ColorFields,
-    pub(super) bold: u8,
-    pub(super) dimmed: u8,
-    pub(super) italic: u8,
-    pub(super) underline: u8,
-    pub(super) blink: u8,
-    pub(super) reverse: u8,
-    pub(super) hidden: u8,
-    pub(super) strikethrough: u8,
-}
-
-#[repr(C)]
-#[derive(Clone, Copy, Default)]
-pub(super) struct CharactersFields {
-    pub(super) down_and_right: Part,
-    pub(super) down: Part,
-    pub(super) turn_right: Part,
-    pub(super) right: Part,
-    pub(super) empty: Part,
-}
-
-#[repr(C)]
-#[derive(Clone, Copy, Default)]
-pub(super) struct ConfigFields {
-    pub(super) depth: u32,
-    pub(super) styled: u32,
-    pub(super) indent: usize,
-    pub(super) padding: usize,
-    pub(super) characters: CharactersFields,
-    pub(super) branch: StyleFields,
-    pub(super) leaf: StyleFields,
-    pub(super) continued: Part,
-}
-
-#[repr(C)]
-#[derive(Clone, Copy, Default)]
-pub(super) struct Variable {
-    pub(super) name: Part,
-    pub(super) value: Part,
-}
-
-#[repr(C)]
-#[derive(Clone, Copy)]
-pub(super) struct Step {
-    pub(super) text: Part,
-    pub(super) level: u32,
-    pub(super) is_last: u8,
-}
-
-#[repr(C)]
-#[derive(Clone, Copy)]
-pub(super) struct Edge {
-    pub(super) source: usize,
-    pub(super) target: usize,
-}
-
-extern "C" {
-    pub(super) fn ptree_draw_steps(
-        steps: *const Step,
-        steps_count: usize,
-        texts: *const u8,
-        texts_length: usize,
-        path: *mut u8,
-        path_length: usize,
-        config: *const ConfigFields,
-        names: *const u8,
-        names_length: usize,
-        out: *mut u8,
-        out_length: usize,
-        found: *mut Found,
+calls! {
+    fn ptree_draw_steps(
+        steps: &[Step], texts: &[u8], path: &mut [u8], config: &ConfigFields, names: &[u8], out: &mut [u8], found: &mut Found,
     ) -> u32;
-
-    pub(super) fn ptree_read_with(
-        text: *const u8,
-        text_length: usize,
-        config: *const ConfigFields,
-        names: *const u8,
-        names_length: usize,
-        items: *mut Item,
-        items_count: usize,
-        texts: *mut u8,
-        texts_length: usize,
-        found: *mut Found,
+    fn ptree_read_with(
+        text: &[u8], config: &ConfigFields, names: &[u8], items: &mut [Item], texts: &mut [u8], found: &mut Found,
     ) -> u32;
-
-    pub(super) fn ptree_draw_document_with(
-        text: *const u8,
-        text_length: usize,
-        label: *const u8,
-        label_length: usize,
-        format: u32,
-        config: *const ConfigFields,
-        names: *const u8,
-        names_length: usize,
-        out: *mut u8,
-        out_length: usize,
-        found: *mut Found,
+    fn ptree_draw_document_with(
+        text: &[u8], label: &[u8], format: u32, config: &ConfigFields, names: &[u8], out: &mut [u8], found: &mut Found,
     ) -> u32;
-
-    pub(super) fn ptree_draw_walks(
-        ends: *const usize,
-        nodes: usize,
-        texts: *const u8,
-        texts_length: usize,
-        edges: *const Edge,
-        edges_count: usize,
-        start: usize,
-        config: *const ConfigFields,
-        names: *const u8,
-        names_length: usize,
-        out: *mut u8,
-        out_length: usize,
-        found: *mut Found,
+    fn ptree_draw_walks(
+        ends: &[usize], texts: &[u8], edges: &[Edge], start: usize,
+        config: &ConfigFields, names: &[u8], out: &mut [u8], found: &mut Found,
     ) -> u32;
-
-    pub(super) fn ptree_draw_once(
-        ends: *const usize,
-        nodes: usize,
-        texts: *const u8,
-        texts_length: usize,
-        edges: *const Edge,
-        edges_count: usize,
-        start: usize,
-        mark: *const u8,
-        mark_length: usize,
-        config: *const ConfigFields,
-        names: *const u8,
-        names_length: usize,
-        out: *mut u8,
-        out_length: usize,
-        found: *mut Found,
+    fn ptree_draw_once(
+        ends: &[usize], texts: &[u8], edges: &[Edge], start: usize, mark: &[u8],
+        config: &ConfigFields, names: &[u8], out: &mut [u8], found: &mut Found,
     ) -> u32;
-
-    pub(super) fn ptree_paint(
-        text: *const u8,
-        text_length: usize,
-        style: *const StyleFields,
-        names: *const u8,
-        names_length: usize,
-        out: *mut u8,
-        out_length: usize,
-        found: *mut Found,
+    fn ptree_paint(text: &[u8], style: &StyleFields, names: &[u8], out: &mut [u8], found: &mut Found) -> u32;
+    fn ptree_config(preset: u32, config: &mut ConfigFields, names: &mut [u8], found: &mut Found) -> u32;
+    fn ptree_load(
+        file: &[u8], format: u32, variables: &[Variable], texts: &[u8],
+        config: &mut ConfigFields, names: &mut [u8], found: &mut Found,
     ) -> u32;
-
-    pub(super) fn ptree_config(
-        preset: u32,
-        config: *mut ConfigFields,
-        names: *mut u8,
-        names_length: usize,
-        found: *mut Found,
+    fn ptree_faults(
+        file: &[u8], format: u32, variables: &[Variable], texts: &[u8], out: &mut [u8], found: &mut Found,
     ) -> u32;
-
-    pub(super) fn ptree_load(
-        file: *const u8,
-        file_length: usize,
-        format: u32,
-        variables: *const Variable,
-        variables_count: usize,
-        texts: *const u8,
-        texts_length: usize,
-        config: *mut ConfigFields,
-        names: *mut u8,
-        names_length: usize,
-        found: *mut Found,
-    ) -> u32;
-
-    pub(super) fn ptree_faults(
-        file: *const u8,
-        file_length: usize,
-        format: u32,
-        variables: *const Variable,
-        variables_count: usize,
-        texts: *const u8,
-        texts_length: usize,
-        out: *mut u8,
-        out_length: usize,
-        found: *mut Found,
-    ) -> u32;
-
-    pub(super) fn ptree_refusal_text(refusal: u32, out: *mut u8, out_length: usize) -> usize;
+    fn ptree_refusal_text(refusal: u32, out: &mut [u8]) -> usize;
 }

@@ -84,24 +84,16 @@ impl<W: Write> Steps<W> {
 
     // Draws as many of the items from this one on as there is room for.
     fn draw_from(&mut self, first: usize) -> (u32, Found) {
-        let steps = &self.steps[first..];
         let mut found = Found::default();
-        let refusal = unsafe {
-            ptree_draw_steps(
-                steps.as_ptr(),
-                steps.len(),
-                self.texts.as_ptr(),
-                self.texts.len(),
-                self.path.as_mut_ptr(),
-                self.path.len(),
-                &self.fields,
-                self.names.as_ptr(),
-                self.names.len(),
-                self.out.as_mut_ptr(),
-                self.out.len(),
-                &mut found,
-            )
-        };
+        let refusal = ptree_draw_steps(
+            &self.steps[first..],
+            &self.texts,
+            &mut self.path,
+            &self.fields,
+            &self.names,
+            &mut self.out,
+            &mut found,
+        );
         (refusal, found)
     }
 }
