@@ -17,3 +17,7 @@ IsSize n = n ≤ 18446744073709551615
 -- the room was filled with these bytes, which end at this place
 abbrev pub IsFilled : List ℕ → List ℕ → List ℕ → ℕ → Type 0
 IsFilled room bytes out at = (out ≡ filled room bytes) × (at ≡ length bytes)
+
+-- a call has put bytes of which Is holds, as many as there is room for, and has found how many there are, of so many items
+abbrev pub HasPut : (List ℕ → Type 0) → ℕ → List ℕ → List ℕ → Found → Type 0
+HasPut Is items old new found = (bytes : List ℕ) × Is bytes × (new ≡ filled old bytes) × (found ≡ found_sizes (length bytes) items)

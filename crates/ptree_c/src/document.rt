@@ -1,11 +1,11 @@
 //! Draws JSON and TOML documents.
-ghost use Rattle.std.specs.Prelude.{◌≡◌, ◌⊎◌, ◌<◌, ℕ, List, IfOk, IfErr, IsErrOf, length};
+ghost use Rattle.std.specs.Prelude.{◌≡◌, ◌⊎◌, ◌<◌, IfOk, IfErr};
 ghost use Rattle.ptree.specs.Config.{config_of};
 ghost use Rattle.ptree_c.specs.Calls.{IsDocumentDrawing, IsDrawingOfDocument, IsFormat, IsTextRefusal, IsDocumentRefusal};
 ghost use Rattle.ptree_c.specs.Fields.{config_value};
 ghost use Rattle.ptree_c.specs.Presets.{config_at, IsPresetRefusal};
 ghost use Rattle.ptree_c.specs.Refusals.{IsRefused, IsFieldsRefusal};
-ghost use Rattle.ptree_c.specs.Rooms.{filled, found_sizes};
+ghost use Rattle.ptree_c.specs.Rooms.{HasPut};
 
 use crate::answer::{put_bytes, refuse};
 use crate::fields::{ConfigFields, config_of_fields};
@@ -75,47 +75,29 @@ fn drawing_of_document(
     draw_in_memory(alloc, format, text, label, config)
 }
 
-// The drawing of a document as a preset does.
-fn drawing_by_preset(
+// Puts the drawing of a document under a label, as a configuration says, into the memory of the
+// caller.
+fn put_drawing(
     alloc: Global,
     text: &[u8],
     label: &[u8],
     format: u32,
-    preset: u32,
-    depth: u32,
-) -> Result<Vec<u8>, Refusal>
-    ensures drawn { IfOk result (λ drawing.
-        IsDocumentDrawing (config_at preset depth) format label.now text.now drawing.items) }
-    ensures refused { IfErr result (λ e. IsPresetRefusal preset e
-        ⊎ IsDocumentRefusal format label.now text.now e) }
-    ensures unknown { 10 < preset → IsErrOf result Refusal.Preset }
+    config: PrintConfig,
+    out: &mut [u8],
+    found: &mut Found,
+) -> u32
+    ensures drawn { result ≡ 0 → HasPut (IsDocumentDrawing (config_of config) format label.now
+        text.now) 0 out.old out.new found.new }
+    ensures kept { 0 < result → out.new ≡ out.old }
+    ensures refused { 0 < result → (e : Refusal) × IsRefused result found.new e
+        × IsDocumentRefusal format label.now text.now e }
 {
-    let config = config(alloc, preset, depth)?;
     let drawing = drawing_of_document(alloc, text, label, format, &config);
     drop(config);
-    drawing
-}
-
-// The drawing of a document as fields say.
-fn drawing_by_fields(
-    alloc: Global,
-    text: &[u8],
-    label: &[u8],
-    format: u32,
-    fields: &ConfigFields,
-    names: &[u8],
-) -> Result<Vec<u8>, Refusal>
-    ensures drawn { IfOk result (λ drawing.
-        IsDocumentDrawing (config_value names.now fields.now) format label.now text.now
-        drawing.items) }
-    ensures refused { IfErr result (λ e. IsFieldsRefusal fields.now e
-        ⊎ IsDocumentRefusal format label.now text.now e) }
-    ensures styled { 2 < fields.now.styled → IsErrOf result Refusal.Styled }
-{
-    let config = config_of_fields(alloc, names, fields)?;
-    let drawing = drawing_of_document(alloc, text, label, format, &config);
-    drop(config);
-    drawing
+    match drawing {
+        Ok(drawing) => put_bytes(&drawing, 0, out, found),
+        Err(refusal) => refuse(refusal, found),
+    }
 }
 
 /// Draws a document under a label into `out`, as much as there is room for, down to a depth, as a
@@ -131,16 +113,15 @@ pub extern "C" fn ptree_draw_document(
     out: &mut [u8],
     found: &mut Found,
 ) -> u32
-    ensures drawn { result ≡ 0 → (drawing : List ℕ)
-        × IsDocumentDrawing (config_at preset depth) format label.now text.now drawing
-        × (out.new ≡ filled out.old drawing) × (found.new ≡ found_sizes (length drawing) 0) }
+    ensures drawn { result ≡ 0 → HasPut (IsDocumentDrawing (config_at preset depth) format
+        label.now text.now) 0 out.old out.new found.new }
     ensures kept { 0 < result → out.new ≡ out.old }
     ensures refused { 0 < result → (e : Refusal) × IsRefused result found.new e
         × (IsPresetRefusal preset e ⊎ IsDocumentRefusal format label.now text.now e) }
     ensures unknown { 10 < preset → result ≡ 4 }
 {
-    match drawing_by_preset(alloc, text, label, format, preset, depth) {
-        Ok(drawing) => put_bytes(&drawing, 0, out, found),
+    match config(alloc, preset, depth) {
+        Ok(config) => put_drawing(alloc, text, label, format, config, out, found),
         Err(refusal) => refuse(refusal, found),
     }
 }
@@ -159,16 +140,15 @@ pub extern "C" fn ptree_draw_document_with(
     out: &mut [u8],
     found: &mut Found,
 ) -> u32
-    ensures drawn { result ≡ 0 → (drawing : List ℕ)
-        × IsDocumentDrawing (config_value names.now config.now) format label.now text.now drawing
-        × (out.new ≡ filled out.old drawing) × (found.new ≡ found_sizes (length drawing) 0) }
+    ensures drawn { result ≡ 0 → HasPut (IsDocumentDrawing (config_value names.now config.now)
+        format label.now text.now) 0 out.old out.new found.new }
     ensures kept { 0 < result → out.new ≡ out.old }
     ensures refused { 0 < result → (e : Refusal) × IsRefused result found.new e
         × (IsFieldsRefusal config.now e ⊎ IsDocumentRefusal format label.now text.now e) }
     ensures styled { 2 < config.now.styled → result ≡ 17 }
 {
-    match drawing_by_fields(alloc, text, label, format, config, names) {
-        Ok(drawing) => put_bytes(&drawing, 0, out, found),
+    match config_of_fields(alloc, names, config) {
+        Ok(config) => put_drawing(alloc, text, label, format, config, out, found),
         Err(refusal) => refuse(refusal, found),
     }
 }

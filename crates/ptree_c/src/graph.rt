@@ -1,13 +1,12 @@
 //! Draws graphs.
-ghost use Rattle.std.specs.Prelude.{◌≡◌, ◌<◌, ◌++◌, [], ◌∷◌, ℕ, List, IfOk, IsErrOf, OnOk, length, map, string_bytes, String};
+ghost use Rattle.std.specs.Prelude.{◌≡◌, ◌<◌, ◌++◌, [], ◌∷◌, Some, None, IfOk, IsErrOf, OnOk, map, option_copied, string_bytes, String};
 ghost use Rattle.std.specs.declared.alloc.Global.{Global};
 ghost use Rattle.ptree.specs.Drawing.{written_look};
 ghost use Rattle.ptree.specs.declared.graph.Graph.{Graph};
 ghost use Rattle.ptree.specs.Graph.{weights_of, edges_of};
 ghost use Rattle.ptree_c.specs.Fields.{depth_of, look_of};
-ghost use Rattle.ptree_c.specs.Graphs.{labels_from, IsGraphOf, IsWalksDrawing, IsOnceDrawing};
+ghost use Rattle.ptree_c.specs.Graphs.{labels_from, HasPutGraph, IsGraphDrawing, IsGraphOf};
 ghost use Rattle.ptree_c.specs.Refusals.{IsRefused};
-ghost use Rattle.ptree_c.specs.Rooms.{filled, found_sizes};
 
 use crate::answer::{put_bytes, refuse};
 use crate::fields::{ConfigFields, config_of_fields};
@@ -91,7 +90,8 @@ fn drawing_of_walks(
     config: &PrintConfig,
 ) -> Result<Vec<u8>, AllocError>
     ensures { IfOk result (λ drawing.
-        IsWalksDrawing (written_look config.now) config.now.depth graph.now start drawing.items) }
+        IsGraphDrawing None (written_look config.now) config.now.depth graph.now start
+        drawing.items) }
 {
     let node = GraphNode {
         graph,
@@ -109,7 +109,7 @@ fn drawing_of_once(
     config: &PrintConfig,
 ) -> Result<Vec<u8>, AllocError>
     ensures { IfOk result (λ drawing.
-        IsOnceDrawing (written_look config.now) config.now.depth graph.now start mark.now
+        IsGraphDrawing (Some mark.now) (written_look config.now) config.now.depth graph.now start
         drawing.items) }
 {
     let mut out = Counted::new(Vec::new(alloc));
@@ -120,83 +120,59 @@ fn drawing_of_once(
     }
 }
 
-// The drawing of all walks of the graph that C gives.
-fn walks_given(
-    alloc: Global,
-    ends: &[usize],
-    texts: &[u8],
-    edges: &[Edge],
-    start: usize,
-    config: &PrintConfig,
-) -> Result<Vec<u8>, Refusal>
-    ensures { IfOk result (λ drawing. (g : Graph (String Global))
-        × IsWalksDrawing (written_look config.now) config.now.depth g start drawing.items
-        × IsGraphOf ends.now texts.now edges.now g) }
+// A mark as a text.
+fn mark_of(mark: Option<&[u8]>) -> Result<Option<&str>, Refusal>
+    ensures { IfOk result (λ text. option_copied text ≡ option_copied mark.entry) }
 {
-    let graph = graph_of(alloc, ends, texts, edges)?;
-    Ok(drawing_of_walks(alloc, &graph, start, config)?)
+    match mark {
+        Some(mark) => match str::from_utf8(mark) {
+            Ok(mark) => Ok(Some(mark)),
+            Err(_) => Err(Refusal::Part),
+        },
+        None => Ok(None),
+    }
 }
 
-// The drawing of the graph that C gives, with each node expanded once.
-fn once_given(
+// The drawing of the graph that C gives: of all walks, or with a mark of each node expanded once.
+fn drawing_given(
     alloc: Global,
+    config: &PrintConfig,
     ends: &[usize],
     texts: &[u8],
     edges: &[Edge],
     start: usize,
-    mark: &[u8],
-    config: &PrintConfig,
+    mark: Option<&[u8]>,
 ) -> Result<Vec<u8>, Refusal>
     ensures { IfOk result (λ drawing. (g : Graph (String Global))
-        × IsOnceDrawing (written_look config.now) config.now.depth g start mark.now drawing.items
-        × IsGraphOf ends.now texts.now edges.now g) }
+        × IsGraphOf ends.now texts.now edges.now g × IsGraphDrawing (option_copied mark.entry)
+        (written_look config.now) config.now.depth g start drawing.items) }
 {
-    let Ok(mark) = str::from_utf8(mark) else {
-        return Err(Refusal::Part);
-    };
+    let mark = mark_of(mark)?;
     let graph = graph_of(alloc, ends, texts, edges)?;
-    Ok(drawing_of_once(alloc, &graph, start, mark, config)?)
+    match mark {
+        Some(mark) => Ok(drawing_of_once(alloc, &graph, start, mark, config)?),
+        None => Ok(drawing_of_walks(alloc, &graph, start, config)?),
+    }
 }
 
-// The drawing of all walks of the graph that C gives, as fields say.
-fn walks_by_fields(
+// The same as fields say.
+fn drawing_by_fields(
     alloc: Global,
     ends: &[usize],
     texts: &[u8],
     edges: &[Edge],
     start: usize,
+    mark: Option<&[u8]>,
     fields: &ConfigFields,
     names: &[u8],
 ) -> Result<Vec<u8>, Refusal>
     ensures drawn { IfOk result (λ drawing. (g : Graph (String Global))
-        × IsWalksDrawing (look_of names.now fields.now) (depth_of names.now fields.now) g start
-        drawing.items × IsGraphOf ends.now texts.now edges.now g) }
+        × IsGraphOf ends.now texts.now edges.now g × IsGraphDrawing (option_copied mark.entry)
+        (look_of names.now fields.now) (depth_of names.now fields.now) g start drawing.items) }
     ensures styled { 2 < fields.now.styled → IsErrOf result Refusal.Styled }
 {
     let config = config_of_fields(alloc, names, fields)?;
-    let drawing = walks_given(alloc, ends, texts, edges, start, &config);
-    drop(config);
-    drawing
-}
-
-// The drawing of the graph that C gives, with each node expanded once, as fields say.
-fn once_by_fields(
-    alloc: Global,
-    ends: &[usize],
-    texts: &[u8],
-    edges: &[Edge],
-    start: usize,
-    mark: &[u8],
-    fields: &ConfigFields,
-    names: &[u8],
-) -> Result<Vec<u8>, Refusal>
-    ensures drawn { IfOk result (λ drawing. (g : Graph (String Global))
-        × IsOnceDrawing (look_of names.now fields.now) (depth_of names.now fields.now) g start
-        mark.now drawing.items × IsGraphOf ends.now texts.now edges.now g) }
-    ensures styled { 2 < fields.now.styled → IsErrOf result Refusal.Styled }
-{
-    let config = config_of_fields(alloc, names, fields)?;
-    let drawing = once_given(alloc, ends, texts, edges, start, mark, &config);
+    let drawing = drawing_given(alloc, &config, ends, texts, edges, start, mark);
     drop(config);
     drawing
 }
@@ -217,16 +193,14 @@ pub extern "C" fn ptree_draw_walks(
     out: &mut [u8],
     found: &mut Found,
 ) -> u32
-    ensures drawn { result ≡ 0 → (g : Graph (String Global)) × (drawing : List ℕ)
-        × IsGraphOf ends.now texts.now edges.now g
-        × IsWalksDrawing (look_of names.now config.now) (depth_of names.now config.now) g start
-        drawing
-        × (out.new ≡ filled out.old drawing) × (found.new ≡ found_sizes (length drawing) 0) }
+    ensures drawn { result ≡ 0 → HasPutGraph (λ g. IsGraphDrawing None
+        (look_of names.now config.now) (depth_of names.now config.now) g start)
+        ends.now texts.now edges.now out.old out.new found.new }
     ensures kept { 0 < result → out.new ≡ out.old }
     ensures refused { 0 < result → (e : Refusal) × IsRefused result found.new e }
     ensures styled { 2 < config.now.styled → result ≡ 17 }
 {
-    match walks_by_fields(alloc, ends, texts, edges, start, config, names) {
+    match drawing_by_fields(alloc, ends, texts, edges, start, None, config, names) {
         Ok(drawing) => put_bytes(&drawing, 0, out, found),
         Err(refusal) => refuse(refusal, found),
     }
@@ -247,16 +221,14 @@ pub extern "C" fn ptree_draw_once(
     out: &mut [u8],
     found: &mut Found,
 ) -> u32
-    ensures drawn { result ≡ 0 → (g : Graph (String Global)) × (drawing : List ℕ)
-        × IsGraphOf ends.now texts.now edges.now g
-        × IsOnceDrawing (look_of names.now config.now) (depth_of names.now config.now) g start
-        mark.now drawing
-        × (out.new ≡ filled out.old drawing) × (found.new ≡ found_sizes (length drawing) 0) }
+    ensures drawn { result ≡ 0 → HasPutGraph (λ g. IsGraphDrawing (Some mark.now)
+        (look_of names.now config.now) (depth_of names.now config.now) g start)
+        ends.now texts.now edges.now out.old out.new found.new }
     ensures kept { 0 < result → out.new ≡ out.old }
     ensures refused { 0 < result → (e : Refusal) × IsRefused result found.new e }
     ensures styled { 2 < config.now.styled → result ≡ 17 }
 {
-    match once_by_fields(alloc, ends, texts, edges, start, mark, config, names) {
+    match drawing_by_fields(alloc, ends, texts, edges, start, Some(mark), config, names) {
         Ok(drawing) => put_bytes(&drawing, 0, out, found),
         Err(refusal) => refuse(refusal, found),
     }

@@ -1,19 +1,22 @@
 //! Draws the items of an outline without making their tree.
-ghost use Rattle.std.specs.Prelude.{◌≡◌, ◌≤◌, ◌+◌, ◌∷◌, ◌++◌, [], ℕ, List, not, length, IfOk, IfErr, IfSome, OnOk, OnErr};
+ghost use Rattle.std.specs.Prelude.{◌≡◌, ◌<◌, ◌≤◌, ◌+◌, ◌∷◌, ◌++◌, [], ℕ, List, not, length, IfOk, IfErr, IfSome, OnOk, OnErr};
 ghost use Rattle.ptree.specs.Drawing.{written_look};
 ghost use Rattle.ptree_c.specs.Calls.{IsItemsDrawing};
 ghost use Rattle.ptree_c.specs.Fields.{is_set};
 ghost use Rattle.ptree_c.specs.Outlines.{has_later_item, AreLater, AreLastFlags, AreItems, AreLow, AreRight, IsFirstWrong, IsItemsRefusal, IsRightAfter, IsWrongAfter, kept_before, kept_path, steps_from};
 ghost use Rattle.ptree_c.specs.Pens.{HoldsPath, HasRoom, brush_look};
-ghost use Rattle.ptree_c.specs.Rooms.{filled, IsFilled, IsSize};
+ghost use Rattle.ptree_c.specs.Refusals.{IsRefused};
+ghost use Rattle.ptree_c.specs.Rooms.{filled, HasPut, IsFilled, IsSize};
 ghost use Rattle.ptree_c.specs.Steps.{steps_text};
 ghost use Rattle.ptree_c.specs.declared.items.Item.{Item};
 
+use crate::answer::{refuse, report};
 use crate::brush::Brush;
 use crate::fields::{Part, flag};
 use crate::items::Item;
 use crate::pen::Pen;
 use crate::refusal::Refusal;
+use crate::room::Found;
 use crate::steps::{Step, put_step, set_flag, width_of_step};
 use crate::texts::Texts;
 use ptree::PrintConfig;
@@ -260,8 +263,8 @@ fn draw_by_brush(
     Ok(size)
 }
 
-/// Draws items, as much as there is room for, and returns the length of the drawing.
-pub(crate) fn draw_outline(
+// Draws items, as much as there is room for, and returns the length of the drawing.
+fn draw_outline(
     alloc: Global,
     items: &[Item],
     texts: &[u8],
@@ -293,4 +296,28 @@ pub(crate) fn draw_outline(
     );
     drop(brush);
     Ok(drawn?)
+}
+
+/// Puts the drawing of items, as a configuration says, into the memory of the caller.
+pub(crate) fn put_outline(
+    alloc: Global,
+    items: &[Item],
+    texts: &[u8],
+    config: PrintConfig,
+    out: &mut [u8],
+    found: &mut Found,
+) -> u32
+    ensures drawn { result ≡ 0 → HasPut (IsItemsDrawing (written_look config) config.depth
+        items.now texts.now) (length items.now) out.old out.new found.new }
+    ensures kept { 0 < result → out.new ≡ out.old }
+    ensures right { result ≡ 0 → AreRight texts.now items.now }
+    ensures refused { 0 < result → (e : Refusal) × IsRefused result found.new e
+        × IsItemsRefusal texts.now items.now e }
+{
+    let drawn = draw_outline(alloc, items, texts, &config, out);
+    drop(config);
+    match drawn {
+        Ok(size) => report(size, items.len(), found),
+        Err(refusal) => refuse(refusal, found),
+    }
 }
