@@ -7,7 +7,7 @@ ghost use Rattle.ptree_trees.specs.WrittenDocument.{IsJsonText, IsJsonMemberText
 
 use super::{item_of, text_item};
 use ptree::item::StringItem;
-use serde_json::{Map, Number};
+use serde_json::{Map, Number, Value};
 use std::alloc::{AllocError, Global};
 
 /// Returns the tree of a JSON value under a label, with floats as `serde_json` writes them.
@@ -37,26 +37,23 @@ pub fn json_tree(
 }
 
 // Whether a value is a list or an object.
-fn is_json_list(value: &serde_json::Value) -> bool
+fn is_json_list(value: &Value) -> bool
     ensures { result ≡ is_json_list (view value.now) }
 {
-    matches!(
-        value,
-        serde_json::Value::Array(_) | serde_json::Value::Object(_)
-    )
+    matches!(value, Value::Array(_) | Value::Object(_))
 }
 
 // Returns the text of a value, which is empty for a list or an object.
-fn json_text(alloc: Global, value: &serde_json::Value) -> Result<String, AllocError>
+fn json_text(alloc: Global, value: &Value) -> Result<String, AllocError>
     ensures { IfOk result (λ s. IsJsonText (view value.now) (string_bytes s)) }
 {
     match value {
-        serde_json::Value::Null => Ok(String::new(alloc)),
-        serde_json::Value::Bool(_) => value.to_string(alloc),
-        serde_json::Value::Number(number) => number_text(alloc, number),
-        serde_json::Value::String(text) => text.clone(),
-        serde_json::Value::Array(_) => Ok(String::new(alloc)),
-        serde_json::Value::Object(_) => Ok(String::new(alloc)),
+        Value::Null => Ok(String::new(alloc)),
+        Value::Bool(_) => value.to_string(alloc),
+        Value::Number(number) => number_text(alloc, number),
+        Value::String(text) => text.clone(),
+        Value::Array(_) => Ok(String::new(alloc)),
+        Value::Object(_) => Ok(String::new(alloc)),
     }
 }
 
@@ -73,11 +70,7 @@ fn number_text(alloc: Global, number: &Number) -> Result<String, AllocError>
 }
 
 // Returns the text of a member of an object.
-fn json_member_text(
-    alloc: Global,
-    key: &str,
-    value: &serde_json::Value,
-) -> Result<String, AllocError>
+fn json_member_text(alloc: Global, key: &str, value: &Value) -> Result<String, AllocError>
     ensures { IfOk result (λ s. IsJsonMemberText key.now (view value.now) (string_bytes s)) }
 {
     if is_json_list(value) {
@@ -90,22 +83,19 @@ fn json_member_text(
 
 // Returns the items of what is below a value.
 #[cycle(json)]
-fn json_kids(alloc: Global, value: &serde_json::Value) -> Result<Vec<StringItem>, AllocError>
+fn json_kids(alloc: Global, value: &Value) -> Result<Vec<StringItem>, AllocError>
     ensures { IfOk result (λ v. AreJsonKids (view value.now) (map tree_of v.items)) }
 {
     match value {
-        serde_json::Value::Array(items) => json_elements(alloc, items),
-        serde_json::Value::Object(members) => json_members(alloc, members),
+        Value::Array(items) => json_elements(alloc, items),
+        Value::Object(members) => json_members(alloc, members),
         _ => Ok(Vec::new(alloc)),
     }
 }
 
 // Returns the items of the elements of a list.
 #[cycle(json)]
-fn json_elements(
-    alloc: Global,
-    items: &Vec<serde_json::Value>,
-) -> Result<Vec<StringItem>, AllocError>
+fn json_elements(alloc: Global, items: &Vec<Value>) -> Result<Vec<StringItem>, AllocError>
     ensures { IfOk result (λ v. AreJsonElements (items_view items.now.items)
         (map tree_of v.items)) }
 {
@@ -120,10 +110,7 @@ fn json_elements(
 
 // Returns the items of the members of an object.
 #[cycle(json)]
-fn json_members(
-    alloc: Global,
-    members: &Map<String, serde_json::Value>,
-) -> Result<Vec<StringItem>, AllocError>
+fn json_members(alloc: Global, members: &Map<String, Value>) -> Result<Vec<StringItem>, AllocError>
     ensures { IfOk result (λ v. AreJsonMembers (members_view members.now.entries)
         (map tree_of v.items)) }
 {

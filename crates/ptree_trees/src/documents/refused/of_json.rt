@@ -6,7 +6,7 @@ ghost use Rattle.ptree_trees.specs.RefusedPath.{path_of, IsFirstFloat};
 ghost use Rattle.ptree_trees.specs.RefusedWalk.{path_found};
 
 use super::{Step, in_order};
-use serde_json::Map;
+use serde_json::{Map, Value};
 use std::alloc::{AllocError, Global};
 
 /// Returns the path to the first float in a JSON value, for which
@@ -31,29 +31,26 @@ pub fn json_refused_path(
 
 // Finds the first float. The last step to it comes first.
 #[cycle(walk)]
-fn float_path(alloc: Global, value: &serde_json::Value) -> Result<Option<Vec<Step>>, AllocError>
+fn float_path(alloc: Global, value: &Value) -> Result<Option<Vec<Step>>, AllocError>
     ensures { IfOk result (λ found. IsFirstFloat (view value.now) (option_map path_found found)) }
 {
     match value {
-        serde_json::Value::Null => Ok(None),
-        serde_json::Value::Bool(_) => Ok(None),
-        serde_json::Value::String(_) => Ok(None),
-        serde_json::Value::Number(n) => if n.is_f64() {
+        Value::Null => Ok(None),
+        Value::Bool(_) => Ok(None),
+        Value::String(_) => Ok(None),
+        Value::Number(n) => if n.is_f64() {
             Ok(Some(Vec::new(alloc)))
         } else {
             Ok(None)
         },
-        serde_json::Value::Array(items) => element_path(alloc, items),
-        serde_json::Value::Object(members) => member_path(alloc, members),
+        Value::Array(items) => element_path(alloc, items),
+        Value::Object(members) => member_path(alloc, members),
     }
 }
 
 // Finds the first float in a list.
 #[cycle(walk)]
-fn element_path(
-    alloc: Global,
-    items: &Vec<serde_json::Value>,
-) -> Result<Option<Vec<Step>>, AllocError>
+fn element_path(alloc: Global, items: &Vec<Value>) -> Result<Option<Vec<Step>>, AllocError>
     ensures { IfOk result (λ found.
         IsFirstFloat (array (items_view items.now.items)) (option_map path_found found)) }
 {
@@ -68,10 +65,7 @@ fn element_path(
 
 // Finds the first float in an object.
 #[cycle(walk)]
-fn member_path(
-    alloc: Global,
-    members: &Map<String, serde_json::Value>,
-) -> Result<Option<Vec<Step>>, AllocError>
+fn member_path(alloc: Global, members: &Map<String, Value>) -> Result<Option<Vec<Step>>, AllocError>
     ensures { IfOk result (λ found.
         IsFirstFloat (object (members_view members.now.entries)) (option_map path_found found)) }
 {
