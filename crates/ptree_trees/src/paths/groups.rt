@@ -1,5 +1,5 @@
 //! Groups paths by their first names.
-ghost use Rattle.std.specs.Prelude.{◌≡◌, ◌<◌, ◌++◌, ◌∷◌, [], List, map, option_map, IfOk, OnOk};
+ghost use Rattle.std.specs.Prelude.{◌≡◌, ◌<◌, ◌++◌, ◌∷◌, [], ℕ, List, map, option_map, IfOk, OnOk};
 ghost use Rattle.std.specs.Option.{option_to_list};
 ghost use Rattle.ptree_trees.specs.PathGroups.{Cut, cut_of, keyed_cut, group_of, AreCuts, AreGroups, AreSortedCuts, IsGrouping, NoneAbove, IsPathGroups};
 ghost use Rattle.ptree_trees.specs.SharedStart.{AllStart, names_behind};
@@ -26,7 +26,8 @@ pub fn groups<'a>(
         AreGroups is_sorted separator (map group_of gs.items)
         (names_behind separator start.now paths.now)) }
 {
-    let mut groups = groups_by_name(alloc, paths, start, separator)?;
+    let cuts = cut_paths(alloc, paths, start, separator)?;
+    let mut groups = groups_by_name(alloc, cuts.as_slice())?;
     if is_sorted {
         return Ok(groups);
     }
@@ -34,21 +35,13 @@ pub fn groups<'a>(
     Ok(groups)
 }
 
-// Returns the groups of what follows a text in paths, in the order of their names.
-fn groups_by_name<'a>(
-    alloc: Global,
-    paths: &[&'a str],
-    start: &str,
-    separator: char,
-) -> Result<Vec<Group<'a>>, AllocError>
-    requires separator { separator < 128 }
-    requires start { AllStart separator start.now paths.now }
-    ensures { IfOk result (λ gs.
-        IsPathGroups separator (map group_of gs.items)
-        (names_behind separator start.now paths.now)) }
+// Returns the groups of cut paths, in the order of their names.
+fn groups_by_name<'a>(alloc: Global, cuts: &[CutPath<'a>]) -> Result<Vec<Group<'a>>, AllocError>
+    ensures { IfOk result (λ gs. (separator : ℕ) (paths : List (List (List ℕ)))
+        → AreCuts separator 0 (map cut_of cuts.now) paths
+        → IsPathGroups separator (map group_of gs.items) paths) }
 {
-    let cuts = cut_paths(alloc, paths, start, separator)?;
-    let mut sorted = keyed(alloc, cuts.as_slice())?;
+    let mut sorted = keyed(alloc, cuts)?;
     sort_by_name(&mut sorted)?;
     let mut groups = Vec::new(alloc);
     for path in &sorted {

@@ -1,6 +1,5 @@
-use Rattle.std.proofs.Common.{◌≡◌, map, take, rules}
-use Rattle.ptree_trees.specs.PathGroups.{cut_of, keyed_cut, group_of, AreSortedCuts}
-use Rattle.ptree_trees.specs.SharedStart.{names_behind}
+use Rattle.std.proofs.Common.{map, take, rules}
+use Rattle.ptree_trees.specs.PathGroups.{keyed_cut, group_of, AreSortedCuts}
 use Rattle.ptree_trees.proofs.GroupResults.{group_more, groups_done}
 use Rattle.ptree_trees.proofs.PathGroupings.{grouping_none}
 use Rattle.ptree_trees.proofs.paths.groups.groups_by_name.Goals as goal
@@ -17,11 +16,8 @@ loop-path-preserved c =
     (c.in_ok-add_path.ensures (map keyed_cut (take i ys)) c.loop-path.invariant)
 
 pub returns : goal.returns
-returns c =
-    let s = c.args.separator in
-    let cs = c.in_ok-cuts.cuts.items in
+returns c = λ separator paths are.
     let xs = c.in_ok-sorted.sorted.items in
     let ys = c.deref-path-items.result.now in
     let sorted : AreSortedCuts xs ys = search rules in
-    let same : map keyed_cut xs ≡ map cut_of cs = search rules in
-    groups_done s cs xs ys c.loop-path.path-index (map group_of c.loop-path.groups.items) (names_behind s c.args.start.now c.args.paths.now) c.in_ok-cuts.ensures same sorted c.loop-path-test.false c.loop-path.invariant
+    groups_done separator c.args.cuts.now xs ys c.loop-path.path-index (map group_of c.loop-path.groups.items) paths are c.in_ok-sorted.ensures sorted c.loop-path-test.false c.loop-path.invariant
