@@ -1,15 +1,45 @@
 //! Tests items of one's own: which are asked for their children, and bytes that are no text.
 
-use crate::barren::Barren;
 use crate::expect::{draw_to, expect_text};
 use crate::fixtures::held::hold;
-use ptree::item::{Children, Shaped, TreeItem};
+use ptree::item::{Children, MadeItem, Shaped, Text, TreeItem};
 use ptree::output::{tree_bytes, tree_text};
 use ptree::print_config::PrintConfig;
 use ptree::style::{Counted, DrawError, Sink, Style, put_all};
 use std::alloc::{AllocError, Global};
 use std::str;
 use std::test::Fail;
+
+// An item that runs out of memory when it is asked for its children and has none.
+#[derive(Drop)]
+struct Barren {
+    text: String,
+    below: Vec<Barren>,
+}
+
+impl MadeItem for Barren {
+    ghost use Rattle.std.specs.Prelude.{string_bytes};
+    ghost use Rattle.tests.specs.declared.items.Barren.{Barren, out-Barren};
+
+    ghost Seen = { Barren };
+
+    ghost seen = { λ b. b };
+
+    ghost text_of = { λ b. string_bytes (out-Barren b).text };
+
+    ghost below_of = { λ b. (out-Barren b).below.items };
+
+    fn text(&self, _alloc: Global) -> Result<Text<'_>, AllocError> {
+        Ok(Text::Lent(self.text.as_str()))
+    }
+
+    fn below(&self, _alloc: Global) -> Result<Children<'_, Barren>, AllocError> {
+        if self.below.is_empty() {
+            return Err(AllocError);
+        }
+        Ok(Children::Lent(self.below.as_slice()))
+    }
+}
 
 // Expects that drawing to this depth writes the text, and whether it succeeds. If it does not, an
 // item could not allocate its children.

@@ -10,8 +10,6 @@
 #![tactic(auto)]
 
 #[cfg(test)]
-mod barren;
-#[cfg(test)]
 mod change;
 #[cfg(test)]
 mod counted;
@@ -34,8 +32,6 @@ mod items;
 mod pages;
 mod prefixes;
 mod refusals;
-#[cfg(test)]
-mod refused;
 #[cfg(test)]
 mod sinks;
 mod sizes;

@@ -1,7 +1,9 @@
-//! Tests values that no document has, and the kinds of values that conversions keep.
+//! Tests values that no document has, the kinds of values that conversions keep, and the path at
+//! which a document is refused.
 
 use crate::expect::{expect_drawn, expect_text};
-use ptree::value::Value;
+use ptree::value::{DocFormat, Value};
+use ptree_trees::documents::{Step, refused_path};
 use std::alloc::{AllocError, Global};
 use std::test::Fail;
 
@@ -123,4 +125,24 @@ fn from_toml_keeps_kinds(rt: HostRuntime) -> Result<(), Fail> {
     let value = Value::from_toml(alloc, &toml::Value::Table(table))?;
     let kinds = r#"Map([(String("a"), String("x")), (String("b"), Seq([I64(1), Bool(true)]))])"#;
     expect_kinds(alloc, &value, kinds)
+}
+
+// Expects that a path has these steps, each with a blank behind it.
+fn expect_steps(alloc: Global, path: &[Step], wanted: &str) -> Result<(), Fail> {
+    let mut steps = String::new(alloc);
+    for step in path {
+        let text = format!(in alloc; "{step} ")?;
+        steps.push_str(text.as_str())?;
+    }
+    expect_text(steps.as_str(), wanted)
+}
+
+#[test]
+fn a_float_has_a_path(rt: HostRuntime) -> Result<(), Fail> {
+    let alloc = rt.alloc();
+    let text = "{\"b\": 1.5, \"a\": [1, 2.5]}";
+    let path = refused_path(alloc, DocFormat::Json, text)?.ok_or("no path")?;
+    expect_steps(alloc, &path, "a 1 ")?;
+    assert!(rt; refused_path(alloc, DocFormat::Json, "[1.5")?.is_none());
+    Ok(())
 }
