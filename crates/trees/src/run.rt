@@ -36,10 +36,16 @@ where
     if let Some(page) = page(words) {
         return Ok(put_all(out, page.as_bytes())?);
     }
-    match Words::parse(rt.alloc(), words) {
-        Ok(words) => run_words(rt, &words, input, out, screen),
-        Err(wrong) => Err(wrong.failure(rt.alloc())?),
+    let words = match Words::parse(rt.alloc(), words) {
+        Ok(words) => words,
+        Err(wrong) => return Err(wrong.failure(rt.alloc())?),
+    };
+    if words.has(Opt::Help) {
+        return Ok(put_all(out, words.name.help().as_bytes())?);
     }
+    check_words(rt.alloc(), &words, screen)?;
+    let sources = read_sources(rt, &words, input)?;
+    run_over(rt, &words, sources.as_slice(), screen, out)
 }
 
 // Returns the page that the first word asks for.
@@ -49,26 +55,6 @@ fn page(words: &[String]) -> Option<&'static str> {
         "--version" | "-V" => Some(help::VERSION),
         _ => None,
     }
-}
-
-// Reads the inputs that words name, and runs the command over them.
-fn run_words<R: Env + Files + AllocGlobal + Eprint, I: Read, W: Sink>(
-    rt: &R,
-    words: &Words<'_>,
-    input: &mut I,
-    out: &mut W,
-    screen: Screen,
-) -> Result<(), Failure>
-where
-    R::File: Drop,
-    ensures quiet { LeavesIfWrong out.old out.new result }
-{
-    if words.has(Opt::Help) {
-        return Ok(put_all(out, words.name.help().as_bytes())?);
-    }
-    check_words(rt.alloc(), words, screen)?;
-    let sources = read_sources(rt, words, input)?;
-    run_over(rt, words, sources.as_slice(), out, screen)
 }
 
 // Says what is wrong with the words of a command, before an input is read, which may wait.
@@ -116,8 +102,8 @@ fn run_over<R: Env + Files + AllocGlobal + Eprint, W: Sink>(
     rt: &R,
     words: &Words<'_>,
     sources: &[Source],
-    out: &mut W,
     screen: Screen,
+    out: &mut W,
 ) -> Result<(), Failure>
 where
     R::File: Drop,
