@@ -5,8 +5,9 @@ ghost use Rattle.ptree.specs.Style.{style_of};
 ghost use Rattle.ptree.specs.Tree.{tree_of};
 ghost use Rattle.trees.specs.Merging.{ShowsMerge, ShowsBoth, styled_forest, styled_tree_of, side_mark, side_style, marked_tree, roots_text};
 ghost use Rattle.trees.specs.MergingParts.{ArePlaces, IsFoundAt};
-ghost use Rattle.trees.specs.Shown.{is_raw, shown_text, StaysShown};
+ghost use Rattle.trees.specs.Shown.{is_raw, StaysShown};
 
+use crate::screen::shown_text;
 use ptree::item::StringItem;
 use ptree::style::{Color, Style};
 use ptree_trees::difference::{Difference, first_difference};
@@ -101,19 +102,6 @@ pub struct Look {
     pub is_escaped: bool,
 }
 
-impl Look {
-    // Returns a text as it is shown.
-    fn text(self, alloc: Global, text: &str) -> Result<String, AllocError>
-        ensures { IfOk result (λ s. string_bytes s ≡ shown_text self.is_escaped text.now) }
-    {
-        if self.is_escaped {
-            escaped(alloc, text)
-        } else {
-            String::from_str(alloc, text)
-        }
-    }
-}
-
 // Which of two trees alone has an item.
 #[derive(Clone, Copy)]
 enum Side {
@@ -173,11 +161,12 @@ pub fn both(
 fn both_texts(alloc: Global, left: &str, right: &str, look: Look) -> Result<String, AllocError>
     ensures { IfOk result (λ s. string_bytes s ≡ roots_text look left.now right.now) }
 {
-    let text = look.text(alloc, left)?;
+    let text = shown_text(alloc, left, look.is_escaped)?;
     if left == right {
         return Ok(text);
     }
-    format!(in alloc; "- {text}\n+ {}", look.text(alloc, right)?)
+    let other = shown_text(alloc, right, look.is_escaped)?;
+    format!(in alloc; "- {text}\n+ {other}")
 }
 
 // Returns the children of both items. An item of the left one goes with the next item of the right
@@ -296,7 +285,7 @@ fn marked(
 ) -> Result<StyledItem, AllocError>
     ensures { IfOk result (λ s. styled_tree_of s ≡ marked_tree look side (tree_of item.now)) }
 {
-    let text = look.text(alloc, item.text.as_str())?;
+    let text = shown_text(alloc, item.text.as_str(), look.is_escaped)?;
     let text = format!(in alloc; "{}{text}", side.mark())?;
     let mut children = Vec::new(alloc);
     for child in &item.children {

@@ -1,8 +1,6 @@
 //! Dependencies of lock files and of lists of pairs.
 ghost use Rattle.std.specs.Prelude.{◌≡◌, ⊤, Bool, true, None, [], length, map, Any, IfSome, IfOk, IfErr, OnOk, string_bytes};
-ghost use Rattle.std.specs.Str.{NoCharPasses};
 ghost use Rattle.ptree.specs.Graph.{weights_of, edges_of, LacksNode};
-ghost use Rattle.ptree_trees.specs.Escape.{is_hidden};
 ghost use Rattle.trees.specs.Depending.{IsPairFile, IsTextFile, IsNoName, HoldsNoGraph};
 ghost use Rattle.trees.specs.DependingParts.{labels_of, needs_of, AreApart, HasRoot, HoldsNone, IsEmpty, IsNetworkOf, IsTopped, IsWhole};
 ghost use Rattle.trees.specs.Meaning.{HoldsNoLock, IsGraphOf, IsPairOrLockFile};
@@ -16,9 +14,9 @@ mod root;
 
 use crate::command::Deps;
 use crate::failure::Failure;
+use crate::screen::shown_text;
 use crate::source::Source;
 use ptree::graph::{EdgeError, Graph, NodeIndex};
-use ptree_trees::escape::escaped;
 use std::alloc::{AllocError, Global};
 use std::collections::BTreeSet;
 
@@ -234,25 +232,12 @@ fn graph(
 {
     let mut graph = Graph::new(alloc);
     for label in &network.labels {
-        graph.add_node(shown(alloc, label.as_str(), is_terminal)?)?;
+        graph.add_node(shown_text(alloc, label.as_str(), is_terminal)?)?;
     }
     match graph.extend_with_edges(&network.edges) {
         Ok(()) => Ok(graph),
         Err(EdgeError::Memory) => Err(Failure::Memory),
         Err(EdgeError::NoNode) => Err(wrong(alloc, source, &["no dependencies"])),
-    }
-}
-
-// Returns a label as it is shown.
-fn shown(alloc: Global, label: &str, is_terminal: bool) -> Result<String, AllocError>
-    ensures hidden { IfOk result (λ s.
-        is_terminal ≡ true → NoCharPasses is_hidden (string_bytes s)) }
-    ensures text { IfOk result (λ s. string_bytes s ≡ shown_text is_terminal label.now) }
-{
-    if is_terminal {
-        escaped(alloc, label)
-    } else {
-        String::from_str(alloc, label)
     }
 }
 

@@ -1,13 +1,14 @@
 //! What standard output is.
 ghost use Rattle.std.specs.Prelude.{◌≡◌, ◌++◌, true, IfOk, OnOk, string_bytes};
-ghost use Rattle.std.specs.Str.{encode_utf8_all};
+ghost use Rattle.std.specs.Str.{NoCharPasses, encode_utf8_all};
 ghost use Rattle.ptree.specs.Characters.{characters_of};
 ghost use Rattle.ptree.specs.Config.{config_of};
+ghost use Rattle.ptree_trees.specs.Escape.{is_hidden};
 ghost use Rattle.trees.specs.Asked.{styled_on};
-ghost use Rattle.trees.specs.Shown.{shown_char, shown_lines, shown_on, shown_characters, shown_config};
+ghost use Rattle.trees.specs.Shown.{shown_char, shown_lines, shown_on, shown_text, shown_characters, shown_config};
 
 use ptree::print_config::{IndentChars, PrintConfig, StyleWhen};
-use ptree_trees::escape::push_escaped;
+use ptree_trees::escape::{escaped, push_escaped};
 use std::alloc::{AllocError, Global};
 
 /// What standard output is.
@@ -62,6 +63,23 @@ pub fn shown(alloc: Global, lines: &str) -> Result<String, AllocError>
         push_shown(&mut shown, c)?;
     }
     Ok(shown)
+}
+
+/// Returns a text as it is shown: for a terminal escaped.
+///
+/// # Errors
+///
+/// Memory ran out.
+pub fn shown_text(alloc: Global, text: &str, is_terminal: bool) -> Result<String, AllocError>
+    ensures hidden { IfOk result (λ s.
+        is_terminal ≡ true → NoCharPasses is_hidden (string_bytes s)) }
+    ensures text { IfOk result (λ s. string_bytes s ≡ shown_text is_terminal text.now) }
+{
+    if is_terminal {
+        escaped(alloc, text)
+    } else {
+        String::from_str(alloc, text)
+    }
 }
 
 // Adds what a terminal may get for a character.

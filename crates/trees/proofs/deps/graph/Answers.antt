@@ -20,8 +20,8 @@ loop-label-preserved c =
     let so = c.loop-label.invariant in
     let low : i < length labels = subst (λ ls. i < length ls) c.deref-label-items.ensures.value c.loop-label-test.true in
     let is : label ≡ get_or labels i label = subst (λ ls. label ≡ get_or ls i label) c.deref-label-items.ensures.value c.label-item.is in (
-      λ on. label_added c.loop-label.graph c.add_node.new.self c.in_ok-shown.field-0 c.in_ok-add_node.ensures.ok (so.0 on) (c.in_ok-shown.ensures.hidden on),
-      ap (map string_bytes) c.in_ok-add_node.ensures.ok ∙ label_shown c.args.is_terminal (weights_of c.loop-label.graph) labels i c.in_ok-shown.field-0 label low is so.1 (c.in_ok-shown.ensures.text ∙ ap (shown_text c.args.is_terminal) c.as_str.ensures.value),
+      λ on. label_added c.loop-label.graph c.add_node.new.self c.in_ok-shown_text.field-0 c.in_ok-add_node.ensures.ok (so.0 on) (c.in_ok-shown_text.ensures.hidden on),
+      ap (map string_bytes) c.in_ok-add_node.ensures.ok ∙ label_shown c.args.is_terminal (weights_of c.loop-label.graph) labels i c.in_ok-shown_text.field-0 label low is so.1 (c.in_ok-shown_text.ensures.text ∙ ap (shown_text c.args.is_terminal) c.as_str.ensures.value),
       c.in_ok-add_node.ensures.edges ∙ so.2,
     )
 
