@@ -50,7 +50,8 @@ fn read(
 {
     let tables = tables(alloc, input, lock)?;
     let packages = packages(alloc, input, tables)?;
-    push_packages(alloc, input, tables, &packages, network)
+    push_labels(alloc, tables, &packages, &mut network.labels)?;
+    push_edges(alloc, input, tables, &packages, network)
 }
 
 // Returns the tables of packages. The first versions of Cargo.lock have one of them as `[root]`. In
@@ -309,26 +310,6 @@ fn without_revision(source: &str) -> &str
     }
 }
 
-// Adds packages, and what each needs.
-fn push_packages<'p>(
-    alloc: Global,
-    input: &'p Source,
-    tables: &[Value],
-    packages: &'p [Package<'p>],
-    network: &mut Network,
-) -> Result<(), Failure>
-    requires { AreLocked (map view tables.now) packages.now }
-    ensures held { All IsListed (map view tables.now) → IsEmpty network.old → OnOk result
-        (HasLocked network.old.is_inverse (map view tables.now) network.new) }
-    ensures led { All IsListed (map view tables.now) → OnOk result
-        (All (NeedsLead (map package_of packages.now)) (map view tables.now)) }
-    ensures failed { IfErr result
-        (FailsUnless (All (NeedsLead (map package_of packages.now)) (map view tables.now))) }
-{
-    push_labels(alloc, tables, packages, &mut network.labels)?;
-    push_edges(alloc, input, tables, packages, network)
-}
-
 // Adds what each package needs.
 fn push_edges<'p>(
     alloc: Global,
@@ -536,8 +517,8 @@ impl<'p> Needing<'p> {
         ensures added { OnOk result (AddsEntries self.now (entries_of (view needs.now))
             network.old network.new) }
         ensures led { OnOk result (IsLed (packages_of self.now) (view needs.now)) }
-        ensures failed { IfErr result
-            (FailsUnless (IsLed (packages_of self.now) (view needs.now))) }
+        ensures failed { IfErr result (FailsUnless
+            (IsLed (packages_of self.now) (view needs.now))) }
     {
         let Some(needs) = needs.as_array() else {
             let parts = [self.name, " has dependencies that are not a list"];

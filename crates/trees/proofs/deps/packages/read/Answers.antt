@@ -4,10 +4,11 @@ use Rattle.std.specs.List.{All}
 use Rattle.std.specs.Prelude.{IfErr, OnOk}
 use Rattle.toml.specs.View.{view}
 use Rattle.trees.specs.Locking.{HasTables, IsListed, IsLock, IsPlain, NeedsLead}
-use Rattle.trees.specs.LockingParts.{package_of, FailsUnless}
+use Rattle.trees.specs.LockingParts.{package_of, AddsAll, AddsLabels, FailsUnless, HasLocked}
 use Rattle.trees.proofs.LockedEntries.{ok_more}
 use Rattle.trees.proofs.LockedFailures.{fails_leading, fails_unless, fails_unread}
 use Rattle.trees.proofs.LockedLed.{lock_of}
+use Rattle.trees.proofs.LockedNetworks.{labelled, labelled_indexed, locked_held}
 use Rattle.trees.proofs.LockedTuples.{Tuple}
 use Rattle.trees.proofs.deps.packages.read.Goals as goal
 
@@ -23,14 +24,28 @@ returns-in_err-packages-clause-failed c =
     let says = fails_unread (view c.args.lock.now) tables c.in_ok-tables.ensures.tables c.in_err-packages.field-0.0 c.in_err-packages.ensures.failed in
     search (rules, says)
 
+pub returns-clause-held : goal.returns-clause-held
+returns-clause-held c = λ plain empty.
+    let tables = map view c.in_ok-tables.tables.now in
+    let ps = c.in_ok-packages.packages.items in
+    let old = c.args.network.now in
+    let labels = c.push_labels.new.labels in
+    let new = c.push_edges.new.network in
+    let all = c.in_ok-tables.ensures.tables plain in
+    let texts = subst (λ (qs : List Tuple). AddsLabels tables qs old.labels.items labels.items) c.deref.ensures.value c.in_ok-push_labels.ensures in
+    let added = subst (λ (qs : List Tuple). OnOk c.push_edges.result (AddsAll tables qs (labelled tables ps old labels empty) new)) c.deref-2.ensures.value
+    (c.push_edges.ensures.added (subst (All IsListed) (sym all) plain.listed) (labelled_indexed tables ps old labels empty)) in
+    subst (λ ts. OnOk c.push_edges.result (HasLocked old.is_inverse ts new)) all
+    (ok_more c.push_edges.result (AddsAll tables ps (labelled tables ps old labels empty) new) (HasLocked old.is_inverse tables new) (locked_held tables ps old labels empty new c.in_ok-packages.ensures.locked texts) added)
+
 pub returns-clause-failed : goal.returns-clause-failed
 returns-clause-failed c =
     let d = view c.args.lock.now in
     let tables = map view c.in_ok-tables.tables.now in
     let ps = c.in_ok-packages.packages.items in
-    IfErr-weaker c.push_packages.result (FailsUnless (All (NeedsLead (map package_of ps)) tables)) (FailsUnless (IsLock d))
+    IfErr-weaker c.push_edges.result (FailsUnless (All (NeedsLead (map package_of ps)) tables)) (FailsUnless (IsLock d))
     (λ f says. fails_leading d tables c.in_ok-tables.ensures.tables f ps c.in_ok-packages.ensures.locked says)
-    (subst (λ (qs : List Tuple). IfErr c.push_packages.result (FailsUnless (All (NeedsLead (map package_of qs)) tables))) c.deref.ensures.value c.push_packages.ensures.failed)
+    (subst (λ (qs : List Tuple). IfErr c.push_edges.result (FailsUnless (All (NeedsLead (map package_of qs)) tables))) c.deref-2.ensures.value c.push_edges.ensures.failed)
 
 pub returns-clause-only : goal.returns-clause-only
 returns-clause-only c = λ plain.
@@ -38,5 +53,5 @@ returns-clause-only c = λ plain.
     let tables = map view c.in_ok-tables.tables.now in
     let ps = c.in_ok-packages.packages.items in
     let all = c.in_ok-tables.ensures.tables plain in
-    ok_more c.push_packages.result (All (NeedsLead (map package_of ps)) tables) (IsLock d) (λ led. lock_of d tables ps plain (c.in_ok-tables.ensures.has plain) all c.in_ok-packages.ensures.locked led)
-    (subst (λ (qs : List Tuple). OnOk c.push_packages.result (All (NeedsLead (map package_of qs)) tables)) c.deref.ensures.value (c.push_packages.ensures.led (subst (All IsListed) (sym all) plain.listed)))
+    ok_more c.push_edges.result (All (NeedsLead (map package_of ps)) tables) (IsLock d) (λ led. lock_of d tables ps plain (c.in_ok-tables.ensures.has plain) all c.in_ok-packages.ensures.locked led)
+    (subst (λ (qs : List Tuple). OnOk c.push_edges.result (All (NeedsLead (map package_of qs)) tables)) c.deref-2.ensures.value (c.push_edges.ensures.led (subst (All IsListed) (sym all) plain.listed)))
