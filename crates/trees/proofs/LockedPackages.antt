@@ -187,9 +187,6 @@ module _ (ps : List Package) (known : Known) where
   holds_as : (k : ℕ) → Has k → HoldsAt (λ p. is_as known p ≡ true) ps k
   holds_as k has = λ d. ap (is_as known) (get_or_default ps k d nothing has.0) ∙ has.1
 
-  holds_folder : (k : ℕ) → k < length ps → is_in_folder known (get_or ps k nothing) ≡ true → HoldsAt (λ p. is_in_folder known p ≡ true) ps k
-  holds_folder k low is = λ d. ap (is_in_folder known) (get_or_default ps k d nothing low) ∙ is
-
   module _ (named : IsNamed known) (up : IsStrictlySortedBy package_cmp ps) (at : ℕ) (start : IsStart ps known at) where
     none_before : (k : ℕ) → Has k → at ≤ k
     none_before k has = elim (cases_lt k at) [
