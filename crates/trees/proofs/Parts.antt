@@ -4,13 +4,14 @@ use Rattle.std.proofs.lemmas.List.{length-drop}
 use Rattle.std.proofs.lemmas.List.Elements.{All-from_get_or}
 use Rattle.std.proofs.lemmas.List.Splits.{slice_split_first, slice_split_none}
 use Rattle.std.proofs.lemmas.List.Sums.{fails_before_first}
-use Rattle.std.specs.Prelude.{MatchOption}
+use Rattle.std.specs.Prelude.{MatchOption, option_map}
 use Rattle.std.specs.List.{position_or_len, before_first, after_first}
 use Rattle.std.specs.Str.Parse.{ParsesUnsigned, digits_value, without_leading_plus}
 use Rattle.serde_json.specs.Data as j
 use Rattle.toml.specs.Data as t
 use Rattle.ptree.specs.declared.value.document.DocFormat.{DocFormat}
 use Rattle.ptree.specs.File.{FileNode, json, toml}
+use Rattle.ptree.proofs.Styles.ColorNames.{option_map-option_map}
 use Rattle.ptree_trees.specs.RefusedPath.{StepValue, at_key, at_position}
 use Rattle.trees.specs.declared.command.Document.{Document}
 use Rattle.trees.specs.declared.failure.Failure.{Failure}
@@ -21,19 +22,9 @@ use Rattle.trees.specs.Reading.{IsInput, FailsToMake}
 
 -- nothing has both keys and positions
 key_or_position : (node : FileNode) (key : List ℕ) (n : ℕ) (x y : FileNode) → node_at (at_key key) node ≡ Some x → node_at (at_position n) node ≡ Some y → ⊥
-key_or_position (json j.null) key n x y at_x at_y = cc
-key_or_position (json (j.boolean b)) key n x y at_x at_y = cc
-key_or_position (json (j.number m)) key n x y at_x at_y = cc
-key_or_position (json (j.string s)) key n x y at_x at_y = cc
 key_or_position (json (j.array ds)) key n x y at_x at_y = cc
-key_or_position (json (j.object ms)) key n x y at_x at_y = cc
-key_or_position (toml (t.string s)) key n x y at_x at_y = cc
-key_or_position (toml (t.integer z)) key n x y at_x at_y = cc
-key_or_position (toml (t.float f)) key n x y at_x at_y = cc
-key_or_position (toml (t.boolean b)) key n x y at_x at_y = cc
-key_or_position (toml (t.datetime d)) key n x y at_x at_y = cc
 key_or_position (toml (t.array ds)) key n x y at_x at_y = cc
-key_or_position (toml (t.table ms)) key n x y at_x at_y = cc
+key_or_position _ key n x y at_x at_y = cc
 
 -- a text leads to one value at most
 one_step : (whole : FileNode) (text : List ℕ) (s r : StepValue) (x y : FileNode) → IsStep text s → IsStep text r → node_at s whole ≡ Some x → node_at r whole ≡ Some y → x ≡ y
@@ -86,7 +77,7 @@ wrong_at format source document whole Memory none missing input = absurd input
 -- ## Steps
 
 -- a text that parses is a position
-pub parsed_step : {E : Type 0} (text : List ℕ) (n : ℕ) (r : Result ℕ E) → ParsesUnsigned 64 10 text r → r ≡ Ok n → IsStep text (at_position n)
+parsed_step : {E : Type 0} (text : List ℕ) (n : ℕ) (r : Result ℕ E) → ParsesUnsigned 64 10 text r → r ≡ Ok n → IsStep text (at_position n)
 parsed_step text n (Ok m) h is =
     let same : digits_value 10 (without_leading_plus text) ≡ n = cc in
     (h.0.0, same, subst (λ (k : ℕ). k < 2 ^ 64) same h.0.1)
@@ -99,10 +90,16 @@ no_step whole text n is no_key no_position (at_key key) is_s = ap (λ (k : List 
 no_step whole text n is no_key no_position (at_position m) is_s = ap (λ (k : ℕ). node_at (at_position k) whole) (sym is_s.1 ∙ is.1) ∙ no_position
 
 -- what stands at the position of a text that is no key
-pub at_its_position : (whole : FileNode) (text : List ℕ) (n : ℕ) (part : Option FileNode) → IsStep text (at_position n) → node_at (at_key text) whole ≡ None
+at_its_position : (whole : FileNode) (text : List ℕ) (n : ℕ) (part : Option FileNode) → IsStep text (at_position n) → node_at (at_key text) whole ≡ None
     → node_at (at_position n) whole ≡ part → FindsPart whole text part
 at_its_position whole text n None is no_key at = no_step whole text n is no_key at
 at_its_position whole text n (Some part) is no_key at = (at_position n, is, at)
+
+-- what stands at the position that a text is read as
+pub at_parsed : {V D E : Type 0} (file : D → FileNode) (seen : V → D) (whole : FileNode) (text : List ℕ) (n : ℕ) (parsed : Result ℕ E) (part : Option V) → ParsesUnsigned 64 10 text parsed → parsed ≡ Ok n → node_at (at_key text) whole ≡ None
+    → node_at (at_position n) whole ≡ option_map file (option_map seen part) → FindsPart whole text (option_map (λ v. file (seen v)) part)
+at_parsed file seen whole text n parsed part says is no_key at =
+    at_its_position whole text n (option_map (λ v. file (seen v)) part) (parsed_step text n parsed says is) no_key (at ∙ option_map-option_map file seen part)
 
 -- a text with a full stop is the step before it, and those after
 pub first_step : (keys key rest : List ℕ) → key ≡ before_first (λ b. b == 46) keys → rest ≡ after_first (λ b. b == 46) keys → position_or_len (λ b. b == 46) keys < length keys
