@@ -3,19 +3,22 @@ use Rattle.std.proofs.Common.{◌≡◌, ◌≢◌, ℕ, inl, inr, Option, Some,
 use Rattle.std.proofs.KnownBytes.{Appends-nil}
 use Rattle.std.proofs.lemmas.Bool.{false≢true}
 use Rattle.std.specs.Prelude.{IsErr, IfErr, ⊤}
+use Rattle.ptree.specs.declared.print_config.Sources.{Sources}
 use Rattle.ptree.specs.declared.value.document.DocFormat.TheVariants.{Toml, Json}
 use Rattle.ptree.specs.Tree.{Tree}
 use Rattle.ptree_trees.specs.declared.indented.Form.{Form}
+use Rattle.trees.specs.declared.command.Drawing.{Drawing}
 use Rattle.trees.specs.declared.command.Tree.{Tree as Given}
 use Rattle.trees.specs.declared.command.Tree.TheVariants as given
 use Rattle.trees.specs.declared.failure.Failure.{Failure}
 use Rattle.trees.specs.declared.failure.Failure.TheVariants.{Usage, Input, Said, Output, Memory}
 use Rattle.trees.specs.declared.source.Source.{Source}
+use Rattle.trees.specs.Asked.{drawing_value}
 use Rattle.trees.specs.Documents.{IsPartTree}
 use Rattle.trees.specs.Listing.{IsWrongList}
 use Rattle.trees.specs.Outlining.{outline_lines, IsFormOf, IsRightForm, HoldsOutline}
 use Rattle.trees.specs.Reading.{IsInput}
-use Rattle.trees.specs.Writing.{Writes, WritesSaid, FailsToGive}
+use Rattle.trees.specs.Writing.{Writes, WritesSaid, IsTreeDrawing, IsDrawingOf, FailsToGive}
 use Rattle.trees.proofs.Readings.{fails_by_memory}
 
 -- what is written is also what follows of it
@@ -24,6 +27,12 @@ pub writes_weaker : {A : Type 0} (old new : Option (List ℕ)) (r : Result A Fai
 writes_weaker old new (Ok x) Is Js Fails Gives more why h = (h.0, more h.0 h.1, h.2)
 writes_weaker old new (Err e) Is Js Fails Gives more why h =
     elim h [ inl none ↦ inl (why e none.0, none.1) | inr part ↦ inr (part.0, part.1, more part.1 part.2, part.3) ]
+
+-- the drawing of a tree is that of one of which Is holds, and out of memory says nothing
+pub drawing_made : {A : Type 0} (sources : Sources) (drawing : Drawing) (Is : Tree → Type 0) (Fails : Failure → Type 0) (old new : Option (List ℕ)) (r : Result A Failure) (t : Tree) → Is t → ((e : Failure) → e ≡ Memory → Fails e)
+    → Writes old new r (IsTreeDrawing (drawing_value sources drawing) drawing.screen.is_terminal t) (λ e. e ≡ Memory) → Writes old new r (IsDrawingOf sources drawing Is) Fails
+drawing_made sources drawing Is Fails old new r t made fails drawn =
+    writes_weaker old new r (IsTreeDrawing (drawing_value sources drawing) drawing.screen.is_terminal t) (IsDrawingOf sources drawing Is) (λ e. e ≡ Memory) Fails (λ bytes is. (t, made, is)) fails drawn
 
 -- a call that fails before it writes has appended nothing
 pub nothing_written : {A : Type 0} (old : Option (List ℕ)) (r : Result A Failure) (Is : List ℕ → Type 0) (Fails : Failure → Type 0) → IsErr r → IfErr r Fails → Writes old old r Is Fails
