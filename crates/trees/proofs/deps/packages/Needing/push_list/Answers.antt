@@ -27,10 +27,7 @@ loop-need-preserved c =
     )
 
 pub returns-in_default-clause-failed : goal.returns-in_default-clause-failed
-returns-in_default-clause-failed c =
-    let packages = packages_of c.args.self.now in
-    let d = view c.args.needs.now in
-    fails_never (IsLed packages d) c.wrong.result (no_list packages d c.in_default.ensures) c.wrong.ensures
+returns-in_default-clause-failed c = fails_never _ c.wrong.result (no_list (packages_of c.args.self.now) (view c.args.needs.now) c.in_default.ensures) c.wrong.ensures
 
 pub returns-in_err-at-clause-failed : goal.returns-in_err-at-clause-failed
 returns-in_err-at-clause-failed c =

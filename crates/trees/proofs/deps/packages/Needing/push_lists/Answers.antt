@@ -23,21 +23,16 @@ loop-needs-preserved c = (
 )
 
 pub returns-in_default-clause-failed : goal.returns-in_default-clause-failed
-returns-in_default-clause-failed c =
-    let packages = packages_of c.args.self.now in
-    let d = view c.args.groups.now in
-    fails_never (AreLed packages d) c.wrong.result (no_groups packages d c.in_default.ensures) c.wrong.ensures
+returns-in_default-clause-failed c = fails_never _ c.wrong.result (no_groups (packages_of c.args.self.now) (view c.args.groups.now) c.in_default.ensures) c.wrong.ensures
 
 pub returns-in_err-push_list-clause-failed : goal.returns-in_err-push_list-clause-failed
 returns-in_err-push_list-clause-failed c =
-    let packages = packages_of c.args.self.now in
-    let d = view c.args.groups.now in
     let entries = c.in-Some.groups.now.entries in
     let needs = c.in-Some-needs.needs in
     let start = c.into_iter-needs-iterator.ensures.into_iter_gives ∙ c.values-needs-items.ensures.rest in
     let turn = iter_turn deref (map (λ e. e.1) entries) c.loop-needs.yielded c.into_iter-needs-iterator.result c.loop-needs.needs-iterator c.next.new.self c.next.result start c.loop-needs.yielded_by needs c.in-Some-needs.is c.next.ensures.steps in
-    let says = fails_unless (IsLed packages (view needs.now)) (AreLed packages d) c.in_err-push_list.field-0.0
-    (list_led packages d entries (length c.loop-needs.yielded) needs.now c.in-Some.ensures turn.1) c.in_err-push_list.ensures.failed in
+    let says = fails_unless (IsLed (packages_of c.args.self.now) (view needs.now)) (AreLed (packages_of c.args.self.now) (view c.args.groups.now)) c.in_err-push_list.field-0.0
+    (list_led (packages_of c.args.self.now) (view c.args.groups.now) entries (length c.loop-needs.yielded) needs.now c.in-Some.ensures turn.1) c.in_err-push_list.ensures.failed in
     search (rules, says)
 
 pub returns-clause-added : goal.returns-clause-added
