@@ -32,13 +32,8 @@ shown_text is_terminal text = if is_terminal then escaped_text text else text
 
 -- the characters of pieces as a terminal may get them
 abbrev pub shown_characters : Characters → Characters
-shown_characters c = record {
-  down_and_right = shown_lines c.down_and_right;
-  down = shown_lines c.down;
-  turn_right = shown_lines c.turn_right;
-  right = shown_lines c.right;
-  empty = shown_lines c.empty;
-}
+shown_characters c =
+    record { down_and_right = shown_lines c.down_and_right; down = shown_lines c.down; turn_right = shown_lines c.turn_right; right = shown_lines c.right; empty = shown_lines c.empty }
 
 -- a configuration as it is drawn by: for a terminal with its characters and its marker escaped
 abbrev pub shown_config : Bool → ConfigValue → ConfigValue
