@@ -1,5 +1,5 @@
 -- The builder is passed to add unchanged, and the result of add is returned.
-use Rattle.ptree.proofs.Trees.BuilderWalks.{lit<, ◌≡◌, ℕ, ◌+◌, ◌<◌, false, Ok, Err, IfOk, string_bytes, List, [], ◌∷◌, ◌++◌, refl, sym, ap, ◌∙◌, subst, MutBor, proved_at, leaves, ok_of, Lft, Share, ftrue, flft, SProp, ent, id⊢, emp, fact, fact_i, Running, MachineTables, tables, yes, no, MutRef, mut_vals, mut_Tells, plain, mut_ref_to, only, nothing, heard, calls_at, Clauses, lasts, triple_of, framed, Stays, stay_dropped, walk_of, Goes-spent_ref, named, place, Val, WT, of_list, vbool, vstruct, vnil, Model, Wired, Env, WpFn, Ura, alloc_all, pass_all, free_all, look_at, holding, get, through, sets, lands_as, env, Seq, Go, ⋆, lands, at_ret, ‵, raw, ◌⊛◌, some, later, ◌$◌, ◌∵◌, !, qed, by, move, keep, drop, use0, use1, use2, split, join, fsplit, fsplit3, fjoin, fjoin3, fpick, feq_l, feq_i, pick, await, Logic, live, enter, of_opd, addr, false_lit, stop, no_more, and_then, returns, B, Text, Refused, Back, place_of, Fits, one_value, text_goes, refusal_of}
+use Rattle.ptree.proofs.Trees.BuilderWalks.{lit<, ◌≡◌, ℕ, ◌<◌, false, Ok, Err, IfOk, string_bytes, List, [], ◌∷◌, ◌++◌, refl, sym, ap, ◌∙◌, subst, MutBor, proved_at, leaves, ok_of, Lft, Share, ftrue, flft, SProp, ent, id⊢, emp, fact, fact_i, Running, MachineTables, tables, yes, no, MutRef, mut_vals, mut_Tells, plain, mut_ref_to, only, nothing, heard, calls_at, Clauses, lasts, triple_of, framed, Stays, stay_dropped, walk_of, Goes-spent_ref, named, place, Val, WT, of_list, vbool, vstruct, vnil, Model, Wired, Env, WpFn, Ura, alloc_all, pass_all, free_all, look_at, holding, get, through, sets, lands_as, env, Seq, Go, ⋆, lands, at_ret, ‵, raw, ◌⊛◌, some, later, ◌$◌, ◌∵◌, !, qed, by, move, keep, drop, use0, use1, use2, split, join, fsplit, fsplit3, fjoin, fjoin3, fpick, feq_l, feq_i, pick, await, Logic, live, enter, of_opd, addr, false_lit, stop, no_more, and_then, returns, B, Text, Refused, Back, place_of, Fits, one_value, text_goes, refusal_of}
 use Rattle.ptree.specs.HandedBack.{HandsBack}
 use Rattle.ptree.specs.TreeBuilder.{Building, AddsChild}
 use Rattle.ptree.specs.contracts.builder.TreeBuilder.add_empty_child as f
