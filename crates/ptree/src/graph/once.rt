@@ -198,8 +198,8 @@ fn write_marked<N: Label, W: Sink>(
     write_styled(alloc, f, style, weight, mark_after(mark, repeated))
 }
 
-// Writes a weight's text and a mark after it, painted as one, in any style. A result of that size
-// would be cleared at each place if what returns it were not inlined; so is that of `put_any_mark`.
+// Writes a weight's text and a mark after it, painted as one, in any style. It does so by a call
+// with a small result, since the room for a big one would be cleared at each place.
 #[inline(always)]
 fn write_styled<N: Label, W: Sink>(
     alloc: Global,
@@ -281,7 +281,7 @@ fn put_mark<W: Sink>(f: &mut W, mark: &[u8], repeated: bool) -> Result<(), DrawE
     }
 }
 
-// Writes a mark of any length.
+// Writes a mark of any length, by a call with a small result, as `write_styled` does.
 #[inline(always)]
 fn put_any_mark<W: Sink>(f: &mut W, mark: &[u8]) -> Result<(), DrawError>
     ensures bytes { IsWritten (W.contents f.old) (W.contents f.new) result mark.now }
