@@ -1,9 +1,10 @@
--- Paths and indented text by computation.
+-- Paths, indented text and folders of packages by computation.
 use Rattle.std.proofs.Common.{◌≡◌, true, false, None, [], ◌∷◌, ◌++◌, codes, refl}
 use Rattle.std.specs.Char.{encode_utf8}
 use Rattle.std.specs.Str.{chars}
 use Rattle.trees.specs.Depending.{edges_between, ArePairs}
 use Rattle.trees.specs.Listing.{unmarked, path_lines, path_names, given_paths, are_wrong}
+use Rattle.trees.specs.Npm.{folders, path_in}
 use Rattle.trees.specs.Outlining.{filled_lines, first_indent, first_bullet}
 
 -- what the page on the programs says of names
@@ -70,3 +71,20 @@ needed = refl
 -- and turned
 needing : edges_between true (codes "a" ∷ codes "b" ∷ codes "c" ∷ []) ((codes "c", codes "a") ∷ (codes "a", codes "b") ∷ []) ≡ (0, 2) ∷ (1, 0) ∷ []
 needing = refl
+
+-- the folders around packages, in the project and out of it
+around_none : folders [] ≡ codes "." ∷ []
+around_none = refl
+
+around_one : folders (codes "node_modules/a") ≡ codes "." ∷ codes "node_modules" ∷ codes "a" ∷ []
+around_one = refl
+
+around_other : folders (codes "../out") ≡ codes ".." ∷ codes ".." ∷ codes "out" ∷ []
+around_other = refl
+
+-- where a package of a folder is
+in_project : path_in [] (codes "a") ≡ codes "node_modules/a"
+in_project = refl
+
+in_folder : path_in (codes "packages/p") (codes "@s/a") ≡ codes "packages/p/node_modules/@s/a"
+in_folder = refl

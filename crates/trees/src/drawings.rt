@@ -35,7 +35,8 @@ pub fn read(alloc: Global, source: &Source, config: &PrintConfig) -> Result<Stri
     ensures redrawn { IfOk result (λ t. IsRedrawn (config_of config.now) source.now (tree_of t)) }
     // `Input` says that there is no such tree, `Usage` that the pieces are not readable.
     ensures failed { IfErr result (FailsToRead (config_of config.now) source.now) }
-    // And `Input` says why the source could not be read, or names the first wrong line, if there is one.
+    // And `Input` says why the source could not be read, or names the first wrong line, if there
+    // is one.
     ensures place { IfErr result (NamesPlace (config_of config.now) source.now) }
 {
     if let Some(fault) = &source.fault {
