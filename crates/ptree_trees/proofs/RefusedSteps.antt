@@ -1,5 +1,5 @@
 -- The first path to a float or a date in a list or in members.
-use Rattle.std.proofs.Common.{List, Option, String, Global, map, refl, ◌≡◌, true, false}
+use Rattle.std.proofs.Common.{List, Option, String, Global, map, refl, subst, ◌≡◌, true, false}
 use Rattle.std.specs.List.Sorted.{IsStrictlySortedBy}
 use Rattle.std.specs.Map.{keys_of}
 use Rattle.std.specs.String.{string_cmp}
@@ -15,11 +15,11 @@ use Rattle.ptree_trees.specs.RefusedWalk.{element_rows, member_rows, IsFirstIn}
 use Rattle.ptree_trees.proofs.RefusedRows.{first_in_list, first_in_members}
 
 -- the first float in a list of JSON
-pub first_in_json_list : (vs : List json_value.Value) (path : Option Path) → IsFirstIn json_at_step IsFloat (element_rows 0 (map json_view.view vs)) path
-    → IsFirstFloat (j.array (json_view.items_view vs)) path
-first_in_json_list vs path h =
-    first_in_list json_at_step IsFloat (λ n ds. json_find.get_item n (json_view.items_of ds)) (λ n. refl) (λ d ds. refl) (λ n d ds. refl)
-    (j.array (json_view.items_view vs)) (map json_view.view vs) path (λ is. is) (λ n. refl) (λ k. refl) h
+pub first_in_json_list : (vs us : List json_value.Value) (path : Option Path) → vs ≡ us → IsFirstIn json_at_step IsFloat (element_rows 0 (map json_view.view vs)) path
+    → IsFirstFloat (j.array (json_view.items_view us)) path
+first_in_json_list vs us path is h =
+    subst (λ ws. IsFirstFloat (j.array (json_view.items_view ws)) path) is (first_in_list json_at_step IsFloat (λ n ds. json_find.get_item n (json_view.items_of ds)) (λ n. refl) (λ d ds. refl) (λ n d ds. refl)
+    (j.array (json_view.items_view vs)) (map json_view.view vs) path (λ is. is) (λ n. refl) (λ k. refl) h)
 
 -- the first float in an object of JSON
 pub first_in_json_members : (ms : List (String Global × json_value.Value)) (path : Option Path) → IsStrictlySortedBy string_cmp (keys_of ms)
@@ -29,11 +29,11 @@ first_in_json_members ms path sorted h =
     (j.object (json_view.members_view ms)) ms path sorted (λ is. is) (λ k. refl) (λ n. refl) h
 
 -- the first float or date in a list of TOML
-pub first_in_toml_list : (vs : List toml_value.Value) (path : Option Path) → IsFirstIn toml_at_step IsFloatOrDate (element_rows 0 (map toml_view.view vs)) path
-    → IsFirstFloatOrDate (t.array (toml_view.items_view vs)) path
-first_in_toml_list vs path h =
-    first_in_list toml_at_step IsFloatOrDate (λ n ds. t.get_item n (toml_view.items_of ds)) (λ n. refl) (λ d ds. refl) (λ n d ds. refl)
-    (t.array (toml_view.items_view vs)) (map toml_view.view vs) path (λ is. is) (λ n. refl) (λ k. refl) h
+pub first_in_toml_list : (vs us : List toml_value.Value) (path : Option Path) → vs ≡ us → IsFirstIn toml_at_step IsFloatOrDate (element_rows 0 (map toml_view.view vs)) path
+    → IsFirstFloatOrDate (t.array (toml_view.items_view us)) path
+first_in_toml_list vs us path is h =
+    subst (λ ws. IsFirstFloatOrDate (t.array (toml_view.items_view ws)) path) is (first_in_list toml_at_step IsFloatOrDate (λ n ds. t.get_item n (toml_view.items_of ds)) (λ n. refl) (λ d ds. refl) (λ n d ds. refl)
+    (t.array (toml_view.items_view vs)) (map toml_view.view vs) path (λ is. is) (λ n. refl) (λ k. refl) h)
 
 -- the first float or date in a table of TOML
 pub first_in_toml_members : (ms : List (String Global × toml_value.Value)) (path : Option Path) → IsStrictlySortedBy string_cmp (keys_of ms)

@@ -94,7 +94,7 @@ fronts_below p r fronts new front rest h (more, is, exact, apart) =
 -- ## Below an own line
 
 -- a line that is no item's own has none below
-pub below_none : (p : Pieces) (front rest : List ℕ) (a : List (List ℕ)) → (IsPrefixOf p.regular rest → ⊥) → (IsPrefixOf p.last_regular rest → ⊥) → AddsTexts (EndsBelow p front rest) a a
+below_none : (p : Pieces) (front rest : List ℕ) (a : List (List ℕ)) → (IsPrefixOf p.regular rest → ⊥) → (IsPrefixOf p.last_regular rest → ⊥) → AddsTexts (EndsBelow p front rest) a a
 below_none p front rest a first second = texts_none (EndsBelow p front rest) a none where
   none : (x : List ℕ) → EndsBelow p front rest x → ⊥
   none x (false, starts, is) = first starts
@@ -108,7 +108,7 @@ below_same p front rest a b text same starts is made = texts_one (EndsBelow p fr
   only x (true, so, ends) = ends ∙ (ap (λ z. front ++ z) (sym same) ∙ sym made)
 
 -- an own line of an item that is no last child
-pub below_regular : (p : Pieces) (front rest : List ℕ) (a b : List (List ℕ)) (text : List ℕ) → IsPrefixOf p.regular rest → (IsPrefixOf p.last_regular rest → ⊥) → b ≡ a ++ text ∷ [] → text ≡ front ++ p.child
+below_regular : (p : Pieces) (front rest : List ℕ) (a b : List (List ℕ)) (text : List ℕ) → IsPrefixOf p.regular rest → (IsPrefixOf p.last_regular rest → ⊥) → b ≡ a ++ text ∷ [] → text ≡ front ++ p.child
     → AddsTexts (EndsBelow p front rest) a b
 below_regular p front rest a b text starts never is made = texts_one (EndsBelow p front rest) a b text is (false, starts, made) only where
   only : (x : List ℕ) → EndsBelow p front rest x → x ≡ text
@@ -116,7 +116,7 @@ below_regular p front rest a b text starts never is made = texts_one (EndsBelow 
   only x (true, so, ends) = absurd (never so)
 
 -- that of a last child
-pub below_last : (p : Pieces) (front rest : List ℕ) (a b : List (List ℕ)) (text : List ℕ) → (IsPrefixOf p.regular rest → ⊥) → IsPrefixOf p.last_regular rest → b ≡ a ++ text ∷ [] → text ≡ front ++ p.last_child
+below_last : (p : Pieces) (front rest : List ℕ) (a b : List (List ℕ)) (text : List ℕ) → (IsPrefixOf p.regular rest → ⊥) → IsPrefixOf p.last_regular rest → b ≡ a ++ text ∷ [] → text ≡ front ++ p.last_child
     → AddsTexts (EndsBelow p front rest) a b
 below_last p front rest a b text never starts is made = texts_one (EndsBelow p front rest) a b text is (true, starts, made) only where
   only : (x : List ℕ) → EndsBelow p front rest x → x ≡ text
@@ -124,7 +124,7 @@ below_last p front rest a b text never starts is made = texts_one (EndsBelow p f
   only x (true, so, ends) = ends ∙ sym made
 
 -- that of an item that may be either
-pub below_either : (p : Pieces) (front rest : List ℕ) (a b c : List (List ℕ)) (x y : List ℕ) → p.child ≢ p.last_child → IsPrefixOf p.regular rest → IsPrefixOf p.last_regular rest
+below_either : (p : Pieces) (front rest : List ℕ) (a b c : List (List ℕ)) (x y : List ℕ) → p.child ≢ p.last_child → IsPrefixOf p.regular rest → IsPrefixOf p.last_regular rest
     → b ≡ a ++ x ∷ [] → x ≡ front ++ p.child → c ≡ b ++ y ∷ [] → y ≡ front ++ p.last_child → AddsTexts (EndsBelow p front rest) a c
 below_either p front rest a b c x y apart starts too first child second last =
     texts_two (EndsBelow p front rest) a b c x y first second (λ e. apart (append_cancel_left front p.child p.last_child (sym child ∙ (e ∙ last)))) (false, starts, child) (true, too, last) only
@@ -132,3 +132,11 @@ below_either p front rest a b c x y apart starts too first child second last =
     only : (z : List ℕ) → EndsBelow p front rest z → (z ≡ x) ⊎ (z ≡ y)
     only z (false, so, ends) = inl (ends ∙ sym child)
     only z (true, so, ends) = inr (ends ∙ sym last)
+
+-- what is added as the two are tried in turn
+pub below_tried : (p : Pieces) (front rest : List ℕ) (a b c : List (List ℕ)) → (IsPrefixOf p.regular rest × (p.child ≢ p.last_child) × (b ≡ a ++ (front ++ p.child) ∷ [])) ⊎ ((IsPrefixOf p.regular rest → ⊥) × (b ≡ a))
+    → (IsPrefixOf p.last_regular rest × (c ≡ b ++ (front ++ p.last_child) ∷ [])) ⊎ ((IsPrefixOf p.last_regular rest → ⊥) × (c ≡ b)) → AddsTexts (EndsBelow p front rest) a c
+below_tried p front rest a b c (inl (starts, apart, is)) (inl (too, also)) = below_either p front rest a b c _ _ apart starts too is refl also refl
+below_tried p front rest a b c (inl (starts, apart, is)) (inr (never, same)) = below_regular p front rest a c _ starts never (same ∙ is) refl
+below_tried p front rest a b c (inr (none, same)) (inl (starts, is)) = below_last p front rest a c _ none starts (is ∙ ap (λ z. z ++ (front ++ p.last_child) ∷ []) same) refl
+below_tried p front rest a b c (inr (none, same)) (inr (never, also)) = subst (AddsTexts (EndsBelow p front rest) a) (sym (also ∙ same)) (below_none p front rest a none never)

@@ -1,5 +1,4 @@
-use Rattle.std.proofs.Common.{◌≡◌, ◌∙◌, ℕ, ◌<◌, List, length, get_or, ◌∷◌, ◌++◌, [], Some, None, true, sym, ap, subst, reverse, arith, rules, string_bytes}
-use Rattle.std.specs.Str.{bytes_eq}
+use Rattle.std.proofs.Common.{◌≡◌, ◌∙◌, ℕ, ◌<◌, List, length, get_or, ◌∷◌, ◌++◌, [], Some, None, sym, ap, subst, reverse, arith, rules}
 use Rattle.std.specs.Prelude.{option_map, slice_get}
 use Rattle.ptree.specs.declared.item.StringItem.{StringItem, out-StringItem}
 use Rattle.std.proofs.lemmas.List.{reverse-append}
@@ -17,22 +16,16 @@ both_there : (a b x y : StringItem) (xs ys : List StringItem) (i : ℕ) → xs �
 both_there a b x y xs ys i left right within is other_within other_is = (child_there a xs i x left within is, child_there b ys i y right other_within other_is)
 
 pub loop-i-init : goal.loop-i-init
-loop-i-init t c =
-    let a = c.args.left.now in
-    let b = c.args.right.now in
-    let texts : bytes_eq (string_bytes (out-StringItem a).text) (string_bytes (out-StringItem b).text) ≡ true = search (rules) in
-    same_to_none (tree_of a) (tree_of b) (same_texts a b texts)
+loop-i-init t c = same_to_none _ _ (same_texts c.args.left.now c.args.right.now (search rules))
 
 pub returns-in_default : goal.returns-in_default
 returns-in_default t c =
-    let a = c.args.left.now in
-    let b = c.args.right.now in
     let i = c.loop-i.i in
-    let left = child_there a c.deref-child-items.result.now i c.child-item.result c.deref-child-items.ensures.value c.loop-i-test.true c.child-item.is in
-    let right = child_not_there b c.deref.result.now i c.deref.ensures.value (omega (arith, c.in_default.ensures.lookup)) in
+    let left = child_there c.args.left.now c.deref-child-items.result.now i c.child-item.result c.deref-child-items.ensures.value c.loop-i-test.true c.child-item.is in
+    let right = child_not_there c.args.right.now c.deref.result.now i c.deref.ensures.value (omega (arith, c.in_default.ensures.lookup)) in
     let items : c.in_ok-vec.field-0.items ≡ i ∷ [] = search rules in
-    let first = differ_at_child (tree_of a) (tree_of b) i (Some (tree_of c.child-item.result)) None c.loop-i.invariant left right (λ e. (cc)) in
-    subst (IsFound (tree_of a) (tree_of b)) (sym c.found_at-in_default.ensures) (rw items first)
+    let first = differ_at_child _ _ i (Some (tree_of c.child-item.result)) None c.loop-i.invariant left right (λ e. (cc)) in
+    subst (IsFound (tree_of c.args.left.now) (tree_of c.args.right.now)) (sym c.found_at-in_default.ensures) (rw items first)
 
 pub returns-in-Some-2 : goal.returns-in-Some-2
 returns-in-Some-2 t c =
@@ -50,34 +43,27 @@ returns-in-Some-2 t c =
 
 pub loop-i-preserved : goal.loop-i-preserved
 loop-i-preserved t c =
-    let i = c.loop-i.i in
-    let both = both_there c.args.left.now c.args.right.now c.child-item.result c.in-Some.other.now c.deref-child-items.result.now c.deref.result.now i
+    let both = both_there c.args.left.now c.args.right.now c.child-item.result c.in-Some.other.now c.deref-child-items.result.now c.deref.result.now c.loop-i.i
     c.deref-child-items.ensures.value c.deref.ensures.value c.loop-i-test.true c.child-item.is (omega (arith, c.in-Some.ensures.lookup)) c.in-Some.ensures.lookup.1 in
     let same = subst (λ o. IsFound (tree_of c.child-item.result) (tree_of c.in-Some.other.now) o) c.in_default-2.is c.in_ok-found.ensures in
-    same_to_next (tree_of c.args.left.now) (tree_of c.args.right.now) _ _ i c.loop-i.invariant both.0 both.1 same
+    same_to_next _ _ _ _ _ c.loop-i.invariant both.0 both.1 same
 
 pub returns-in_default-get : goal.returns-in_default-get
 returns-in_default-get t c =
-    let a = c.args.left.now in
-    let b = c.args.right.now in
-    let i = c.loop-i.i in
-    let left = child_not_there a c.deref-child-items.result.now i c.deref-child-items.ensures.value (omega arith) in
-    let right = child_not_there b c.deref-2.result.now i c.deref-2.ensures.value (omega (arith, c.in_default-get.ensures.lookup)) in
-    same_to_end (tree_of a) (tree_of b) i c.loop-i.invariant left right
+    let left = child_not_there c.args.left.now c.deref-child-items.result.now c.loop-i.i c.deref-child-items.ensures.value (omega arith) in
+    let right = child_not_there c.args.right.now c.deref-2.result.now c.loop-i.i c.deref-2.ensures.value (omega (arith, c.in_default-get.ensures.lookup)) in
+    same_to_end _ _ _ c.loop-i.invariant left right
 
 pub returns : goal.returns
 returns t c =
-    let a = c.args.left.now in
-    let b = c.args.right.now in
     let i = c.loop-i.i in
     let y = c.in-Some-get.other.now in
     let last : c.len.result ≡ i = omega arith in
-    let left = child_not_there a c.deref-child-items.result.now i c.deref-child-items.ensures.value (omega arith) in
+    let left = child_not_there c.args.left.now c.deref-child-items.result.now i c.deref-child-items.ensures.value (omega arith) in
     let found = c.in-Some-get.ensures.lookup in
     let there = subst (λ (k : ℕ). y ≡ get_or c.deref-2.result.now k y) last found.1 in
-    let right = child_there b c.deref-2.result.now i y c.deref-2.ensures.value (omega (arith, found)) there in
-    let step = c.in_ok-end.ensures.items in
+    let right = child_there c.args.right.now c.deref-2.result.now i y c.deref-2.ensures.value (omega (arith, found)) there in
     let position : c.len-2.result ≡ i = omega arith in
-    let items : c.in_ok-end.end.items ≡ i ∷ [] = cc in
-    let first = differ_at_child (tree_of a) (tree_of b) i None (Some (tree_of y)) c.loop-i.invariant left right (λ e. (cc)) in
-    subst (IsFound (tree_of a) (tree_of b)) (sym c.found_at-2.ensures) (rw items first)
+    let items : c.in_ok-end.end.items ≡ i ∷ [] = cc (c.in_ok-end.ensures.items) in
+    let first = differ_at_child _ _ i None (Some (tree_of y)) c.loop-i.invariant left right (λ e. (cc)) in
+    subst (IsFound (tree_of c.args.left.now) (tree_of c.args.right.now)) (sym c.found_at-2.ensures) (rw items first)

@@ -1,13 +1,12 @@
-use Rattle.std.proofs.Common.{◌≡◌, ◌∙◌, ◌+◌, ◌-◌, ◌++◌, [], ◌∷◌, get_or, refl, List, None, IfOk, map, drop, length, ap, sym, subst, arith, rules, string_bytes}
+use Rattle.std.proofs.Common.{◌≡◌, ◌∙◌, ◌+◌, ◌-◌, ◌++◌, [], ◌∷◌, get_or, refl, List, None, map, drop, length, ap, sym, subst, arith, rules, string_bytes}
 use Rattle.std.specs.List.{slice_range}
-use Rattle.std.specs.Prelude.{IfSome}
 use Rattle.std.proofs.lemmas.List.{drop_all, take_all, length-drop}
 use Rattle.std.proofs.lemmas.Result.{IfOk-weaker}
 use Rattle.ptree.specs.declared.item.StringItem.{StringItem, out-StringItem}
 use Rattle.ptree.specs.Tree.{Forest, tree_of, forest}
 use Rattle.ptree.proofs.Trees.OutlineItems.{item_text, left_more}
 use Rattle.ptree_trees.specs.Styled.{HasParts}
-use Rattle.trees.specs.declared.compare.Side.TheVariants.{Left, Right}
+use Rattle.trees.specs.declared.compare.Side.TheVariants.{Right}
 use Rattle.trees.specs.MergingParts.{IsFoundAt}
 use Rattle.trees.specs.Merging.{styled_tree_of, marked_tree, styled_forest, roots_text, ShowsBoth, ShowsMerge}
 use Rattle.trees.proofs.Merges.{forest_below, pushed_shown, whole_both, items_passed, text_found, step_both, step_left, step_end}
@@ -23,9 +22,7 @@ both-returns t c =
     let children = c.in_ok-children.children.items in
     let own : text ≡ roots_text look (string_bytes (out-StringItem c.args.left.now).text) (string_bytes (out-StringItem c.args.right.now).text) = search rules in
     let texts : text ≡ roots_text look left.text right.text = rw (item_text c.args.left.now, item_text c.args.right.now) own in
-    let parts : IfOk c.new.result (HasParts text None children) = search rules in
-    IfOk-weaker c.new.result (HasParts text None children) (λ s. ShowsBoth look left right (styled_tree_of s))
-    (λ s has. whole_both look left right s text children has texts c.in_ok-children.ensures) parts
+    IfOk-weaker c.new.result (HasParts text None children) (λ s. ShowsBoth look left right (styled_tree_of s)) (λ s has. whole_both look left right s text children has texts c.in_ok-children.ensures) (search rules)
 
 pub both_children-loop-child-preserved : goal.both_children-loop-child-preserved
 both_children-loop-child-preserved t c =
@@ -46,8 +43,7 @@ both_children-loop-child-preserved t c =
           let at = w.in-Some.at in
           let y = w.index-others-at.result in
           let s = w.in_ok-both-in-Some.field-0 in
-          let some : IfSome c.in_ok-at.field-0 (IsFoundAt ys taken text) = subst (λ (zs : List StringItem). IfSome c.in_ok-at.field-0 (IsFoundAt zs taken text)) before.items c.in_ok-at.ensures.found in
-          let found : IsFoundAt ys taken text at = subst (λ o. IfSome o (IsFoundAt ys taken text)) w.in-Some.is some in
+          let found : IsFoundAt ys taken text at = subst (λ (zs : List StringItem). IsFoundAt zs taken text at) before.items (rw w.in-Some.is at c.in_ok-at.ensures.found) in
           let over = slice_range ys taken at in
           let passed : map styled_tree_of w.push_right.new.made.items ≡ made ++ map (marked_tree look Right) (map tree_of over) = search rules in
           let pushed : c.match-branch-2.made.items ≡ w.push_right.new.made.items ++ s ∷ [] = ap (λ v. v.items) w.made-is ∙ w.in_ok-push-in-Some.ensures.items in
@@ -62,13 +58,11 @@ both_children-loop-child-preserved t c =
           })
       | both_children-in-None+in_ok-marked-in-None+in_ok-push-in-None w ↦
           let s = w.in_ok-marked-in-None.field-0 in
-          let marked : styled_tree_of s ≡ marked_tree look Left (tree_of x) = search rules in
           let pushed : c.match-branch-2.made.items ≡ c.loop-child.made.items ++ s ∷ [] = ap (λ v. v.items) w.made-is ∙ w.in_ok-push-in-None.ensures.items in
           rw w.taken-is (record {
             within = before.within;
             items = kept;
-            shows = step_left look (map tree_of xs) (map tree_of ys) (tree_of x) _ _ _ (styled_tree_of s) made new first (pushed_shown c.loop-child.made.items c.match-branch-2.made.items s made pushed refl)
-                marked before.shows;
+            shows = step_left look (map tree_of xs) (map tree_of ys) (tree_of x) _ _ _ (styled_tree_of s) made new first (pushed_shown c.loop-child.made.items c.match-branch-2.made.items s made pushed refl) (search rules) before.shows;
           })
     ]
 
@@ -80,11 +74,10 @@ both_children-returns t c =
     let taken = c.loop-child.taken in
     let made = map styled_tree_of c.loop-child.made.items in
     let new = map styled_tree_of c.push_right-2.new.made.items in
-    let none : map tree_of (drop c.loop-child.child-index xs) ≡ [] = ap (map tree_of) (drop_all c.loop-child.child-index xs c.loop-child-test.false) in
     let over = slice_range ys taken (length ys) in
     let rest : over ≡ drop taken ys = take_all (length ys - taken) (drop taken ys) (omega (arith, length-drop taken ys)) in
     let passed : new ≡ made ++ map (marked_tree look Right) (map tree_of over) = search rules in
     let pushed = passed ∙ ap (λ (zs : List StringItem). made ++ map (marked_tree look Right) (map tree_of zs)) rest in
-    let all = step_end look (map tree_of xs) (map tree_of ys) _ _ made new none pushed c.loop-child.invariant.shows in
+    let all = step_end look (map tree_of xs) (map tree_of ys) _ _ made new (ap (map tree_of) (drop_all c.loop-child.child-index xs c.loop-child-test.false)) pushed c.loop-child.invariant.shows in
     subst (λ (f : Forest). ShowsMerge look f (tree_of c.args.right.now).children (styled_forest new)) (forest_below c.args.left.now xs c.deref-child-items.ensures.value)
     (subst (λ (f : Forest). ShowsMerge look (forest (map tree_of xs)) f (styled_forest new)) (forest_below c.args.right.now ys c.as_slice-others.ensures.value) all)

@@ -36,38 +36,28 @@ fault_path-returns-in-Table n c =
 
 pub element_path-returns-in-Some : goal.element_path-returns-in-Some
 element_path-returns-in-Some n c =
-    let xs = c.deref-item-items.result.now in
-    let first = subst (λ o. IsFirstFloatOrDate (view c.item-item.result) (option_map path_found o)) c.in-Some.is c.in_ok-found.ensures in
-    let all = element_found toml_at_step IsFloatOrDate view xs c.loop-i.i c.item-item.result c.in-Some.found c.push.new.self c.loop-i-test.true c.item-item.is c.loop-i.invariant first (search rules) in
-    let whole = Some (path_found c.push.new.self) in
-    subst (λ vs. IsFirstFloatOrDate (t.array (items_view vs)) whole) c.deref-item-items.ensures.value (first_in_toml_list xs whole all)
+    let found = subst (λ o. IsFirstFloatOrDate (view c.item-item.result) (option_map path_found o)) c.in-Some.is c.in_ok-found.ensures in
+    first_in_toml_list c.deref-item-items.result.now _ (Some (path_found c.push.new.self)) c.deref-item-items.ensures.value
+    (element_found toml_at_step IsFloatOrDate view _ c.loop-i.i c.item-item.result c.in-Some.found c.push.new.self c.loop-i-test.true c.item-item.is c.loop-i.invariant found (search rules))
 
 pub element_path-loop-i-preserved : goal.element_path-loop-i-preserved
 element_path-loop-i-preserved n c =
-    let none = subst (λ o. IsFirstFloatOrDate (view c.item-item.result) (option_map path_found o)) c.in_default.is c.in_ok-found.ensures in
-    element_passed toml_at_step IsFloatOrDate view c.deref-item-items.result.now c.loop-i.i c.item-item.result c.loop-i-test.true c.item-item.is c.loop-i.invariant none
+    element_passed toml_at_step IsFloatOrDate view _ c.loop-i.i c.item-item.result c.loop-i-test.true c.item-item.is c.loop-i.invariant (rw c.in_default.is at c.in_ok-found.ensures)
 
 pub element_path-returns : goal.element_path-returns
 element_path-returns n c =
-    let xs = c.deref-item-items.result.now in
-    let all = elements_passed toml_at_step IsFloatOrDate view xs c.loop-i.i c.loop-i-test.false c.loop-i.invariant in
-    subst (λ vs. IsFirstFloatOrDate (t.array (items_view vs)) None) c.deref-item-items.ensures.value (first_in_toml_list xs None all)
+    first_in_toml_list c.deref-item-items.result.now _ None c.deref-item-items.ensures.value (elements_passed toml_at_step IsFloatOrDate view _ c.loop-i.i c.loop-i-test.false c.loop-i.invariant)
 
 pub member_path-returns-in-Some-2 : goal.member_path-returns-in-Some-2
 member_path-returns-in-Some-2 n c =
-    let ms = c.args.members.now.entries in
-    let v = c.in-Some.member.now in
-    let first = subst (λ o. IsFirstFloatOrDate (view v) (option_map path_found o)) c.in-Some-2.is c.in_ok-found.ensures in
-    let all = member_found toml_at_step IsFloatOrDate view ms c.loop-key.key-iterator c.next.new.self c.in-Some.key.now c.in_ok-key.key v c.in-Some-2.found c.push.new.self c.in-Some.ensures.steps c.loop-key.invariant.2 first (search rules) (search rules) in
-    first_in_toml_members ms (Some (path_found c.push.new.self)) c.iter-key-items.ensures.ordered all
+    let found = subst (λ o. IsFirstFloatOrDate (view c.in-Some.member.now) (option_map path_found o)) c.in-Some-2.is c.in_ok-found.ensures in
+    first_in_toml_members c.args.members.now.entries (Some (path_found c.push.new.self)) c.iter-key-items.ensures.ordered
+    (member_found toml_at_step IsFloatOrDate view _ c.loop-key.key-iterator c.next.new.self c.in-Some.key.now c.in_ok-key.key c.in-Some.member.now c.in-Some-2.found c.push.new.self c.in-Some.ensures.steps c.loop-key.invariant.2 found (search rules) (search rules))
 
 pub member_path-loop-key-preserved : goal.member_path-loop-key-preserved
 member_path-loop-key-preserved n c =
-    let v = c.in-Some.member.now in
-    let none = subst (λ o. IsFirstFloatOrDate (view v) (option_map path_found o)) c.in_default.is c.in_ok-found.ensures in
-    (tt, tt, member_passed toml_at_step IsFloatOrDate view c.args.members.now.entries c.loop-key.key-iterator c.next.new.self c.in-Some.key.now v c.in-Some.ensures.steps c.loop-key.invariant.2 none)
+    (tt, tt, member_passed toml_at_step IsFloatOrDate view _ c.loop-key.key-iterator c.next.new.self c.in-Some.key.now c.in-Some.member.now c.in-Some.ensures.steps c.loop-key.invariant.2 (rw c.in_default.is at c.in_ok-found.ensures))
 
 pub member_path-returns : goal.member_path-returns
 member_path-returns n c =
-    let all = members_passed toml_at_step IsFloatOrDate view c.args.members.now.entries c.loop-key.key-iterator c.in-None.ensures.steps.0 c.loop-key.invariant.2 in
-    first_in_toml_members c.args.members.now.entries None c.iter-key-items.ensures.ordered all
+    first_in_toml_members c.args.members.now.entries None c.iter-key-items.ensures.ordered (members_passed toml_at_step IsFloatOrDate view _ c.loop-key.key-iterator c.in-None.ensures.steps.0 c.loop-key.invariant.2)
