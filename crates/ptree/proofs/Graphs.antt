@@ -12,6 +12,7 @@ pub mod Firsts
 pub mod Sizes
 pub mod Places
 pub mod Growth
+pub mod Rows
 pub mod AlongEdges
 pub mod Agreement
 pub mod OccurrenceExamples

@@ -1,4 +1,5 @@
 -- The steps of the engine, over plain variables.
+use Rattle.std.specs.Prelude.{IsErrAnd}
 use Rattle.std.proofs.Common.{◌<◌, ◌≡◌, ℕ, zero, suc, ◌-◌, ◌≤◌, min, Bool, true, false, eqb, List, [], ◌∷◌, ◌++◌, Option, None, Result, Err, ◌+◌, length, sym, ◌∙◌, ap, subst, refl, append_assoc, map, take, drop, arith}
 use Rattle.std.proofs.KnownBytes.{Appends-nil}
 use Rattle.std.proofs.Math.Seq.{take-append_seam, drop-append_seam}
@@ -16,7 +17,7 @@ use Rattle.ptree.specs.Pieces.{turning_piece, passing_piece}
 use Rattle.ptree.specs.Shape.{Shape, kids}
 use Rattle.ptree.specs.Style.{start_codes, end_codes, painted_text}
 use Rattle.ptree.specs.Writing.{AppendsPart, AppendsEntries, AreWritten, result_faults, HasErrorCause}
-use Rattle.ptree.proofs.Sinks.Written.{appends_entries, entries_then, entries_done, entries_more, entry_then}
+use Rattle.ptree.proofs.Sinks.Written.{appends_entries, entries_none, entries_err, entries_then, entries_done, entries_more, entry_then}
 
 -- nothing appended is a prefix
 pub nothing_yet : (a : Option (List ℕ)) (x : List ℕ) → AppendsPart a a x
@@ -36,6 +37,13 @@ item_written look left outer last x a b c r e h k w =
     let passing = outer ++ passing_piece look.pieces last in
     entry_then a b c r e _ (entries_below look left passing x) k
     (subst (λ (es : List (List ℕ)). AreWritten b c r e es) (sym (entries_down look left passing x h)) w)
+
+-- its own entry is written, and then a call fails
+pub item_alone : {A E : Type 0} (look : Look) (left : ℕ) (outer : List ℕ) (last : Bool) (x : Shape) (Q : E → Type 0) (a b : Option (List ℕ)) (r : Result A E) (e : DrawError) → (left ≡ 0 → ⊥)
+    → Appends a b (shape_entry look (outer ++ turning_piece look.pieces last) (outer ++ passing_piece look.pieces last) x) → IsErrAnd r Q → AreWritten a b r e (item_entries look left outer last x)
+item_alone look left outer last x Q a b r e h k q =
+    let below = kid_entries look (entries_below look (left - 1)) (outer ++ passing_piece look.pieces last) (kids x) in
+    item_written look left outer last x a b b r e h k (entries_err Q b b r e below q (entries_none b e below))
 
 -- the entries of the first children were appended, and those of the rest are still to come
 abbrev pub AreBegun : Look → (List ℕ → Shape → List (List ℕ)) → List ℕ → List Shape → List Shape → Option (List ℕ) → Option (List ℕ) → Type 0
@@ -188,6 +196,10 @@ entry_gathered look width start old held spread line outer last x turned is own 
 -- the first bytes are unchanged when bytes are put after them
 pub start_kept : (width : ℕ) (old bytes end : List ℕ) → width ≡ length old → bytes ≡ old ++ end → take width bytes ≡ old
 start_kept width old bytes end len is = ap (take width) is ∙ (ap (λ n. take n (old ++ end)) len ∙ take-append_seam old end)
+
+-- so before a root's own bytes the buffer holds the branch's codes, and no passing text
+pub root_held : (look : Look) (width : ℕ) (old bytes end : List ℕ) → width ≡ length old → bytes ≡ old ++ end → old ≡ start_codes look.branch → take width bytes ≡ start_codes look.branch ++ []
+root_held look width old bytes end len is start = start_kept width old bytes end len is ∙ start ∙ sym (append-nil (start_codes look.branch))
 
 -- the buffer before a root's own bytes: the branch's codes, with nothing between them
 pub root_turned : (look : Look) (width : ℕ) (old bytes end : List ℕ) → width ≡ length old → bytes ≡ old ++ end → end ≡ own_text look None → bytes ≡ take width bytes ++ own_text look None

@@ -1,45 +1,26 @@
 -- A graph that is drawn along its edges, with each node expanded once.
 use Rattle.std.specs.Prelude.{if◌then◌else◌, ◌≢◌, OnOk, slice_get}
 use Rattle.std.specs.Io.KnownBytes.{Appends}
-use Rattle.std.proofs.lemmas.Bool.Decides.{nat_tests}
 use Rattle.std.specs.List.{concat}
-use Rattle.std.proofs.Common.{◌≡◌, ℕ, zero, suc, ◌-◌, Bool, true, false, Option, Some, None, Result, Ok, Err, List, [], ◌∷◌, ◌++◌, length, map, take, ap, refl, sym, subst, ◌∙◌, eqb, get_or, arith}
+use Rattle.std.proofs.Common.{◌≡◌, ℕ, zero, suc, ◌-◌, Bool, true, false, Option, Some, None, Result, Ok, Err, List, [], ◌++◌, length, map, take, ap, refl, sym, subst, ◌∙◌}
 use Rattle.std.proofs.lemmas.List.{append-nil}
-use Rattle.std.proofs.lemmas.Option.{slice_get-get_or}
 use Rattle.ptree.specs.declared.sink.DrawError.{DrawError}
 use Rattle.ptree.specs.declared.graph.Graph.{Graph}
 use Rattle.ptree.specs.Drawing.{Look}
 use Rattle.ptree.specs.Entries.{shape_entry, kid_entries, entries_below, item_entries, drawn_entries}
 use Rattle.ptree.specs.Graph.{weights_of, edges_of, neighbors_of}
-use Rattle.ptree.specs.GraphLinks.{newest_from}
-use Rattle.ptree.specs.Growing.{Grown, grown, is_seen, row_occurrences, grow, kids_grown, kids_seen, leaf_shape, flags_of}
+use Rattle.ptree.specs.Growing.{Grown, grown, is_seen, grow, kids_grown, kids_seen, leaf_shape, flags_of}
 use Rattle.ptree.specs.Looks.{own_entry}
 use Rattle.ptree.specs.Occurrence.{OccurrenceTree, none, occurrence, row, occurrence_kids, occurrence_own, occurrence_shape}
-use Rattle.ptree.specs.Pieces.{turning_piece, passing_piece}
+use Rattle.ptree.specs.Pieces.{passing_piece}
 use Rattle.ptree.specs.Shape.{Shape, kids}
 use Rattle.ptree.specs.Style.{start_codes}
 use Rattle.ptree.specs.Writing.{AreWritten}
-use Rattle.ptree.proofs.Graphs.EdgeLists.{newest_within, newest_splits}
-use Rattle.ptree.proofs.Drawing.Engine.{AreBegun, item_written, all_below, none_under, alone_written, leaf_written, start_kept}
+use Rattle.ptree.proofs.Drawing.Engine.{AreBegun, item_written, all_below, none_under, alone_written, leaf_written, root_held}
 use Rattle.ptree.proofs.Graphs.Growth.{grow_next, without}
 use Rattle.ptree.proofs.Graphs.NodeFlags.{seen_all}
 use Rattle.ptree.proofs.Graphs.Occurrences.{occurrences_of_row}
 use Rattle.ptree.proofs.Trees.Shapes.{kids_of_unfold}
-
--- whether the edge after which no more come is reached
-pub last_tells : (edges : List (ℕ × ℕ)) (v m : ℕ) → m ≡ newest_from (take m edges) v → eqb m 0 ≡ eqb (length (neighbors_of (take m edges) v)) 0
-last_tells edges v zero h = refl
-last_tells edges v (suc i) h =
-    let e = get_or edges i (0, 0) in
-    let split = newest_splits edges v i e (slice_get-get_or edges i (0, 0) (omega (arith, newest_within edges v (suc i) h))) h in
-    let one : eqb (suc i) 0 ≡ false = grind (arith, nat_tests) in
-    let other : eqb (length (e.1 ∷ neighbors_of (take i edges) v)) 0 ≡ false = grind (arith, nat_tests) in
-    one ∙ sym (ap (λ us. eqb (length us) 0) split.1 ∙ other)
-
--- there are as many occurrences as nodes
-pub length_row : (f : List Bool → ℕ → Grown) (seen : List Bool) (us : List ℕ) → length (row_occurrences f seen us) ≡ length us
-length_row f seen [] = refl
-length_row f seen (u ∷ us) = ap suc (length_row f (f seen u).seen us)
 
 module _ (below : ℕ → List ℕ) where
   -- an occurrence is one of its node
@@ -124,8 +105,7 @@ module _ {N : Type 0} (text : N → List ℕ) (g : Graph N) (mark : List ℕ) wh
       → ((outer : List ℕ) → take width buffer ≡ start_codes look.branch ++ outer → Appends a b (own_entry look outer None (leaf_shape text (slice_get (weights_of g) v) mark false)))
       → Appends a b (own_entry look [] None (drawn_from depth v))
   start_written a b look depth v width old buffer end wide is start h =
-      let held = start_kept width old buffer end wide is ∙ start ∙ sym (append-nil (start_codes look.branch)) in
-      own_drawn (λ z. Appends a b z) look [] None depth [] v (slice_get (weights_of g) v) false (h [] held) refl refl
+      own_drawn (λ z. Appends a b z) look [] None depth [] v (slice_get (weights_of g) v) false (h [] (root_held look width old buffer end wide is start)) refl refl
 
   -- what is below it
   pub kids_from : (depth v : ℕ) (items : List Bool) → depth ≢ 0 → items ≡ [] → map shape_of (kids_grown (neighbors_of (edges_of g)) (depth - 1) (flags_of g items) v) ≡ kids (drawn_from depth v)

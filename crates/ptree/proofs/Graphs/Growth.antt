@@ -1,6 +1,6 @@
 -- The loop that makes the occurrences of a graph expanded once.
 use Rattle.std.specs.Prelude.{slice_set, replicate, if◌then◌else◌, ◌≢◌}
-use Rattle.std.proofs.Common.{◌≡◌, ◌⊎◌, inl, inr, ℕ, zero, suc, ◌-◌, ◌≤◌, Bool, true, false, List, [], ◌∷◌, ◌++◌, length, ap, refl, sym, subst, ◌∙◌, append_assoc, arith}
+use Rattle.std.proofs.Common.{◌≡◌, ◌⊎◌, inl, inr, ℕ, zero, suc, ◌-◌, ◌≤◌, Bool, true, false, List, [], ◌∷◌, ◌++◌, length, ap, refl, sym, subst, ◌∙◌, arith}
 use Rattle.ptree.specs.declared.graph.Graph.{Graph}
 use Rattle.ptree.specs.declared.graph.places.Place.{Place}
 use Rattle.ptree.specs.Graph.{weights_of, edges_of, neighbors_of}
@@ -54,14 +54,6 @@ module _ (below : ℕ → List ℕ) where
       grow_next levels seen v h s
       ∙ (ap (λ us. grown (occurrence v false (row us)) (row_seen one (enter (below v) seen v) (below v))) (sym made)
       ∙ ap (λ z. grown (occurrence v false (row ts)) z) (sym ends))
-
-  -- one neighbour more has its occurrence
-  pub grown_more : (levels : ℕ) (last : List Bool) (ts : List OccurrenceTree) (us : List ℕ) (u : ℕ) (left : List ℕ) (all : List OccurrenceTree) → us ≡ u ∷ left
-      → ts ++ row_occurrences (grow below levels) last us ≡ all → (ts ++ (grow below levels last u).occurrence ∷ []) ++ row_occurrences (grow below levels) (grow below levels last u).seen left ≡ all
-  grown_more levels last ts us u left all e h =
-      let one = grow below levels in
-      append_assoc ts ((one last u).occurrence ∷ []) (row_occurrences one (one last u).seen left)
-      ∙ (ap (λ l. ts ++ row_occurrences one last l) (sym e) ∙ h)
 
 -- what a place with nothing below it is
 pub leaf_made : (g : Grown) (xs ys : List Place) (v : ℕ) (m : Bool) (last : List Bool) → g ≡ grown (occurrence v m none) last → ys ≡ xs ++ place_of v (leaf_size m) ∷ [] → AppendsPlaces xs ys (g.occurrence ∷ [])

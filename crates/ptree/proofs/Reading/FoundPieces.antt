@@ -49,15 +49,19 @@ found_at p readable fs new text shown rest n h m o s z high allowed apart e =
     regrouped : (a b t c : List ℕ) → (a ++ (b ++ t)) ++ c ≡ a ++ (b ++ (t ++ c))
     regrouped a b t c = simp append_assoc
 
+-- what was found, under equal names
+found_moved : (p : Pieces) (fs new new' : List Flags) (text shown rest : List ℕ) (n n' : ℕ) → IsFound p fs new text shown rest n → new' ≡ new → n' ≡ n → IsFound p fs new' text shown rest n'
+found_moved p fs new new' text shown rest n n' h e f = subst (λ z. IsFound p fs new' text shown rest z) (sym f) (subst (λ z. IsFound p fs z text shown rest n) (sym e) h)
+
 -- no piece more was found
-pub found_same : (p : Pieces) (fs : List Flags) (count n : ℕ) (text shown shown' rest : List ℕ) → ArePath p fs count shown → ArePassed p fs count text n rest → text ≡ shown' ++ rest
-    → (n ≡ count → count < length fs → NoPiece (passing_piece p) (get_or fs n any_flags) rest) → IsFound p fs fs text shown' rest n
-found_same p fs count n text shown shown' rest path h e none =
+pub found_same : (p : Pieces) (fs new : List Flags) (count n n' : ℕ) (text shown shown' rest : List ℕ) → ArePath p fs count shown → ArePassed p fs count text n rest → text ≡ shown' ++ rest → new ≡ fs → n' ≡ n
+    → (n ≡ count → count < length fs → NoPiece (passing_piece p) (get_or fs n any_flags) rest) → IsFound p fs new text shown' rest n'
+found_same p fs new count n n' text shown shown' rest path h e kept counted none =
     let few = h.few in
     let enough = path.enough in
     let is : (o : List Line) → Allows fs o → passing_by p o n ≡ shown' = λ o a. append_cancel_right (passing_by p o n) shown' rest (sym (h.passed o a) ∙ e) in
     let (o, allowed) = open_lines fs path.some in
-    record {
+    found_moved p fs fs new text shown' rest n n' (record {
       count = refl;
       enough = omega (arith, few, enough);
       some = path.some;
@@ -71,7 +75,7 @@ found_same p fs count n text shown shown' rest path h e none =
             let same : n ≡ count = omega (arith, few, most) in
             none same (omega (arith, low, same)) (not (has_later o (suc n))) z (a n low) f
       ];
-    }
+    }) kept counted
 
 -- one piece more was found, that of the last item
 pub found_more : (p : Pieces) (fs fs' : List Flags) (count : ℕ) (text shown shown' rest rest' : List ℕ) (new : Flags) → ArePath p fs count shown → ArePassed p fs count text count rest → count < length fs
@@ -127,12 +131,12 @@ found_more p fs fs' count text shown shown' rest rest' new path h low cut e set_
     }
 
 -- one piece more after those that were passed
-pub found_next : (p : Pieces) (fs fs' : List Flags) (count passed : ℕ) (text shown shown' rest rest' : List ℕ) (flags new : Flags) → ArePath p fs count shown → ArePassed p fs count text passed rest → count ≤ passed → passed < length fs
-    → IsCutTo (passing_piece p) flags rest new rest' → flags ≡ get_or fs passed any_flags → text ≡ shown' ++ rest' → fs' ≡ set fs passed new → IsFound p fs fs' text shown' rest' (passed + 1)
-found_next p fs fs' count passed text shown shown' rest rest' flags new path h most low cut is e set_is =
+pub found_next : (p : Pieces) (fs fs' : List Flags) (count passed n : ℕ) (text shown shown' rest rest' : List ℕ) (flags new : Flags) → ArePath p fs count shown → ArePassed p fs count text passed rest → count ≤ passed → passed < length fs
+    → IsCutTo (passing_piece p) flags rest new rest' → flags ≡ get_or fs passed any_flags → text ≡ shown' ++ rest' → fs' ≡ set fs passed new → n ≡ passed + 1 → IsFound p fs fs' text shown' rest' n
+found_next p fs fs' count passed n text shown shown' rest rest' flags new path h most low cut is e set_is counted =
     let few = h.few in
     let same : passed ≡ count = omega (arith, few, most) in
-    let next : suc count ≡ passed + 1 = omega (arith, same) in
+    let next : suc count ≡ n = omega (arith, same, counted) in
     subst (λ z. IsFound p fs fs' text shown' rest' z) next
     (found_more p fs fs' count text shown shown' rest rest' new path (subst (λ z. ArePassed p fs count text z rest) same h) (omega (arith, same, low))
     (subst (λ z. IsCutTo (passing_piece p) z rest new rest') (is ∙ ap (λ z. get_or fs z any_flags) same) cut) e (set_is ∙ ap (λ z. set fs z new) same))
@@ -148,7 +152,3 @@ found_prefix_next p fs count passed text rest rest' flags new some h cut =
     let (o, a) = open_lines fs some in
     let piece : List ℕ = passing_piece p cut.last in
     (passing_by p o passed ++ piece, h.passed o a ∙ (ap (λ z. passing_by p o passed ++ z) cut.text_is ∙ sym (append_assoc (passing_by p o passed) piece rest')))
-
--- what was found, under equal names
-pub found_moved : (p : Pieces) (fs new new' : List Flags) (text shown rest : List ℕ) (n n' : ℕ) → IsFound p fs new text shown rest n → new' ≡ new → n' ≡ n → IsFound p fs new' text shown rest n'
-found_moved p fs new new' text shown rest n n' h e f = subst (λ z. IsFound p fs new' text shown rest z) (sym f) (subst (λ z. IsFound p fs z text shown rest n) (sym e) h)

@@ -1,5 +1,6 @@
 -- What the walks through the builder's calls that return it share, and the names that they cite.
 pub use Rattle.std.proofs.Common.{lit<, ◌≡◌, ℕ, ◌+◌, ◌<◌, Bool, true, false, Ok, Err, IfOk, OnOk, OnErr, if◌then◌else◌, string_bytes, List, [], ◌∷◌, ◌++◌, refl, sym, ap, ◌∙◌, subst, MutBor}
+use Rattle.std.proofs.Common.{Result}
 pub use Rattle.std.proofs.raw_atomic.Walks.{proved_at, leaves}
 pub use Rattle.std.proofs.ResultValues.{ok_of}
 use Rattle.std.proofs.ResultValues.{err_of}
@@ -59,7 +60,7 @@ use Rattle.std.specs.contracts.string.String as string
 use Rattle.std.proofs.alloc.Global.TheLaws as heap_laws
 use Rattle.std.proofs.string.String.TheLaws as string_laws
 use Rattle.ptree.specs.HandedBack.{HandsBack}
-use Rattle.ptree.specs.TreeBuilder.{Building}
+use Rattle.ptree.specs.TreeBuilder.{Building, AddsChild}
 use Rattle.ptree.specs.contracts.builder.TreeBuilder as builder
 
 -- the types of the builder, of a text, and of an error
@@ -77,6 +78,18 @@ Refused = refusal.the_row
 -- the type of a result: a returned builder, or an error
 abbrev pub Back : Lft → RattleType
 Back κ = result.the_row (MutRef (named 0) κ B) Refused
+
+-- the reference that is returned is the one that was passed
+abbrev pub Same : MutBor Building → Result (MutBor Building) Refused.Denot → Type 0
+Same r x = IfOk x (λ b. b.ghost_name ≡ r.ghost_name)
+
+-- its builder has a child more
+abbrev pub Added : MutBor Building → Text.Denot → Result (MutBor Building) Refused.Denot → Type 0
+Added r text x = IfOk x (λ b. AddsChild r.now b.now (string_bytes text))
+
+-- and stands at a level
+abbrev pub Stands : ℕ → Result (MutBor Building) Refused.Denot → Type 0
+Stands n x = IfOk x (λ b. b.now.level ≡ n)
 
 -- the machine value of the reference
 abbrev pub place_of : MutBor Building → Val

@@ -1,5 +1,5 @@
 -- The builder is lent to add_line, and then handed back or given up.
-use Rattle.ptree.proofs.Trees.BuilderWalks.{lit<, ◌≡◌, ℕ, ◌+◌, ◌<◌, Bool, Ok, Err, IfOk, OnOk, OnErr, if◌then◌else◌, string_bytes, List, [], ◌∷◌, ◌++◌, refl, sym, ap, ◌∙◌, subst, MutBor, proved_at, leaves, ok_of, after, head, arm_body, Lft, Share, ftrue, flft, fres, full_share, SProp, ent, id⊢, emp, fact, fact_i, Running, MachineTables, tables, bool, unit, yes, no, lends_again, comes_back, LentAgain, bool_vals, bool_Tells, RattleType, MutRef, mut_vals, mut_Tells, plain, mut_ref_to, only, nothing, heard, calls_at, Clauses, lasts, triple_of, framed, Stays, stay_dropped, walk_of, Goes-dropped, Goes-spent_ref, Body, named, place, Val, WT, of_list, vbool, vstruct, vnil, Model, Wired, Env, Wp, WpFn, after_seq, at_return, Ura, alloc_all, pass_all, free_all, look_at, holding, get, get_in, get_tag, through, sets, sets_last, lands_as, env, Seq, Go, ⋆, lands, any_q, at_ret, Post, ‵, raw, ◌⊛◌, some, later, ◌$◌, ◌∵◌, !, qed, by, move, keep, drop, use0, use1, use2, use3, split, join, fsplit, fsplit3, fjoin, fpick, feq_l, pick, await, Logic, live, vrt, in_variant, whole, agg, enter, of_opd, addr, lit, stop, fld, no_more, and_then, first, switches_on, exec, returns, lft_new, lft_end, B, Text, Refused, Back, place_of, Fits, one_value, text_goes, handed_on, given_up, refusal_of}
+use Rattle.ptree.proofs.Trees.BuilderWalks.{lit<, ◌≡◌, ℕ, ◌+◌, ◌<◌, Bool, Ok, Err, OnOk, OnErr, if◌then◌else◌, string_bytes, List, [], ◌∷◌, ◌++◌, refl, sym, ap, ◌∙◌, subst, MutBor, proved_at, leaves, ok_of, after, head, arm_body, Lft, Share, ftrue, flft, fres, full_share, SProp, ent, id⊢, emp, fact, fact_i, Running, MachineTables, tables, bool, unit, yes, no, lends_again, comes_back, LentAgain, bool_vals, bool_Tells, RattleType, MutRef, mut_vals, mut_Tells, plain, mut_ref_to, only, nothing, heard, calls_at, Clauses, lasts, triple_of, framed, Stays, stay_dropped, walk_of, Goes-dropped, Goes-spent_ref, Body, named, place, Val, WT, of_list, vbool, vstruct, vnil, Model, Wired, Env, Wp, WpFn, after_seq, at_return, Ura, alloc_all, pass_all, free_all, look_at, holding, get, get_in, get_tag, through, sets, sets_last, lands_as, env, Seq, Go, ⋆, lands, any_q, at_ret, Post, ‵, raw, ◌⊛◌, some, later, ◌$◌, ◌∵◌, !, qed, by, move, keep, drop, use0, use1, use2, use3, split, join, fsplit, fsplit3, fjoin, fpick, feq_l, pick, await, Logic, live, vrt, in_variant, whole, agg, enter, of_opd, addr, lit, stop, fld, no_more, and_then, first, switches_on, exec, returns, lft_new, lft_end, B, Text, Refused, Back, Same, Added, Stands, place_of, Fits, one_value, text_goes, handed_on, given_up, refusal_of}
 use Rattle.std.specs.contracts.result.Result as result
 use Rattle.ptree.specs.HandedBack.{HandsBack}
 use Rattle.ptree.specs.TreeBuilder.{Building, AddsChild}
@@ -39,20 +39,11 @@ module _ {M : Type 1} (𝓤 : Ura M) (𝓛 : Logic 𝓤) (𝓜 : Model 𝓤 𝓛
     abbrev Self : Lft → MutBor Building → base.Fml.Fml
     Self κ' x = (MutRef (named 0) κ' B).own_val x (mut_vals r)
 
-    abbrev Same : (Back κ).Denot → Type 0
-    Same x = IfOk x (λ b. b.ghost_name ≡ r.ghost_name)
-
-    abbrev Added : (Back κ).Denot → Type 0
-    Added x = IfOk x (λ b. AddsChild r.now b.now (string_bytes text))
-
-    abbrev Stands : (Back κ).Denot → Type 0
-    Stands x = IfOk x (λ b. b.now.level ≡ (if flag then r.now.level + 1 else r.now.level))
-
-    exits : (x : (Back κ).Denot) (v : Val) → Same x → Added x → Stands x → ent 𝓤 (⋆ 𝓛 (‵ ((Back κ).own_val x (v ∷ [])) ∷ ‵ (flft κ q) ∷ ‵ (HandsBack r x) ∷ [])) (Ends v)
+    exits : (x : (Back κ).Denot) (v : Val) → Same r x → Added r text x → Stands (if flag then r.now.level + 1 else r.now.level) x → ent 𝓤 (⋆ 𝓛 (‵ ((Back κ).own_val x (v ∷ [])) ∷ ‵ (flft κ q) ∷ ‵ (HandsBack r x) ∷ [])) (Ends v)
     exits x v same added stands =
         qed 𝓛 (‵ ((Back κ).own_val x (v ∷ [])) ∷ ‵ (flft κ q) ∷ ‵ (HandsBack r x) ∷ []) ∵
-        use0 𝓛 (raw (fact 𝓤 (Stands x))) (fact_i 𝓤 (Stands x) (emp 𝓤) stands) $ use0 𝓛 (raw (fact 𝓤 (Added x))) (fact_i 𝓤 (Added x) (emp 𝓤) added) $ join ! $
-        use0 𝓛 (raw (fact 𝓤 (Same x))) (fact_i 𝓤 (Same x) (emp 𝓤) same) $ join ! $ move ! (3 ∷ 0 ∷ []) $ join ! $
+        use0 𝓛 (raw (fact 𝓤 (Stands (if flag then r.now.level + 1 else r.now.level) x))) (fact_i 𝓤 (Stands (if flag then r.now.level + 1 else r.now.level) x) (emp 𝓤) stands) $ use0 𝓛 (raw (fact 𝓤 (Added r text x))) (fact_i 𝓤 (Added r text x) (emp 𝓤) added) $ join ! $
+        use0 𝓛 (raw (fact 𝓤 (Same r x))) (fact_i 𝓤 (Same r x) (emp 𝓤) same) $ join ! $ move ! (3 ∷ 0 ∷ []) $ join ! $
         nothing ! $ nothing ! $ fjoin ! $ nothing ! $ fjoin ! $ nothing ! $ fjoin ! $
         nothing ! $ move ! (4 ∷ 0 ∷ []) $ join ! $ move ! (0 ∷ 1 ∷ 3 ∷ 2 ∷ []) $
         by ! (leaves 𝓛 f.ended stayed c y v x (tt, ((tt, tt), (tt, tt))) (tt, (tt, (tt, tt))))

@@ -1,7 +1,7 @@
 -- The builder is passed to add unchanged, and the result of add is returned.
-use Rattle.ptree.proofs.Trees.BuilderWalks.{lit<, ◌≡◌, ℕ, ◌+◌, ◌<◌, true, Ok, Err, IfOk, string_bytes, List, [], ◌∷◌, ◌++◌, refl, sym, ap, ◌∙◌, subst, MutBor, proved_at, leaves, ok_of, Lft, Share, ftrue, flft, SProp, ent, id⊢, emp, fact, fact_i, Running, MachineTables, tables, yes, no, MutRef, mut_vals, mut_Tells, plain, mut_ref_to, only, nothing, heard, calls_at, Clauses, lasts, triple_of, framed, Stays, stay_dropped, walk_of, Goes-spent_ref, named, place, Val, WT, of_list, vbool, vstruct, vnil, Model, Wired, Env, WpFn, Ura, alloc_all, pass_all, free_all, look_at, holding, get, through, sets, lands_as, env, Seq, Go, ⋆, lands, at_ret, ‵, raw, ◌⊛◌, some, later, ◌$◌, ◌∵◌, !, qed, by, move, keep, drop, use0, use1, use2, split, join, fsplit, fsplit3, fjoin, fjoin3, fpick, feq_l, feq_i, pick, await, Logic, live, enter, of_opd, addr, true_lit, stop, no_more, and_then, returns, B, Text, Refused, Back, place_of, Fits, one_value, text_goes, refusal_of}
+use Rattle.ptree.proofs.Trees.BuilderWalks.{lit<, ◌≡◌, ℕ, ◌+◌, ◌<◌, true, Ok, Err, List, [], ◌∷◌, ◌++◌, refl, sym, ap, ◌∙◌, subst, MutBor, proved_at, leaves, ok_of, Lft, Share, ftrue, flft, SProp, ent, id⊢, emp, fact, fact_i, Running, MachineTables, tables, yes, no, MutRef, mut_vals, mut_Tells, plain, mut_ref_to, only, nothing, heard, calls_at, Clauses, lasts, triple_of, framed, Stays, stay_dropped, walk_of, Goes-spent_ref, named, place, Val, WT, of_list, vbool, vstruct, vnil, Model, Wired, Env, WpFn, Ura, alloc_all, pass_all, free_all, look_at, holding, get, through, sets, lands_as, env, Seq, Go, ⋆, lands, at_ret, ‵, raw, ◌⊛◌, some, later, ◌$◌, ◌∵◌, !, qed, by, move, keep, drop, use0, use1, use2, split, join, fsplit, fsplit3, fjoin, fjoin3, fpick, feq_l, feq_i, pick, await, Logic, live, enter, of_opd, addr, true_lit, stop, no_more, and_then, returns, B, Text, Refused, Back, Same, Added, Stands, place_of, Fits, one_value, text_goes, refusal_of}
 use Rattle.ptree.specs.HandedBack.{HandsBack}
-use Rattle.ptree.specs.TreeBuilder.{Building, AddsChild}
+use Rattle.ptree.specs.TreeBuilder.{Building}
 use Rattle.ptree.specs.contracts.builder.TreeBuilder.begin_child as f
 use Rattle.ptree.specs.contracts.builder.TreeBuilder.add as g
 use Rattle.ptree.proofs.builder.TreeBuilder.add.Met.{met}
@@ -25,20 +25,11 @@ module _ {M : Type 1} (𝓤 : Ura M) (𝓛 : Logic 𝓤) (𝓜 : Model 𝓤 𝓛
     abbrev Ends : Val → SProp 𝓤
     Ends = (walk_of 𝓛 f.ended stayed c).post y
 
-    abbrev Same : (Back κ).Denot → Type 0
-    Same x = IfOk x (λ b. b.ghost_name ≡ r.ghost_name)
-
-    abbrev Added : (Back κ).Denot → Type 0
-    Added x = IfOk x (λ b. AddsChild r.now b.now (string_bytes text))
-
-    abbrev Stands : (Back κ).Denot → Type 0
-    Stands x = IfOk x (λ b. b.now.level ≡ r.now.level + 1)
-
-    exits : (x : (Back κ).Denot) (v : Val) → Same x → Added x → Stands x → ent 𝓤 (⋆ 𝓛 (‵ ((Back κ).own_val x (v ∷ [])) ∷ ‵ (flft κ q) ∷ ‵ (HandsBack r x) ∷ [])) (Ends v)
+    exits : (x : (Back κ).Denot) (v : Val) → Same r x → Added r text x → Stands (r.now.level + 1) x → ent 𝓤 (⋆ 𝓛 (‵ ((Back κ).own_val x (v ∷ [])) ∷ ‵ (flft κ q) ∷ ‵ (HandsBack r x) ∷ [])) (Ends v)
     exits x v same added stands =
         qed 𝓛 (‵ ((Back κ).own_val x (v ∷ [])) ∷ ‵ (flft κ q) ∷ ‵ (HandsBack r x) ∷ []) ∵
-        use0 𝓛 (raw (fact 𝓤 (Stands x))) (fact_i 𝓤 (Stands x) (emp 𝓤) stands) $ use0 𝓛 (raw (fact 𝓤 (Added x))) (fact_i 𝓤 (Added x) (emp 𝓤) added) $ join ! $
-        use0 𝓛 (raw (fact 𝓤 (Same x))) (fact_i 𝓤 (Same x) (emp 𝓤) same) $ join ! $ move ! (3 ∷ 0 ∷ []) $ join ! $
+        use0 𝓛 (raw (fact 𝓤 (Stands (r.now.level + 1) x))) (fact_i 𝓤 (Stands (r.now.level + 1) x) (emp 𝓤) stands) $ use0 𝓛 (raw (fact 𝓤 (Added r text x))) (fact_i 𝓤 (Added r text x) (emp 𝓤) added) $ join ! $
+        use0 𝓛 (raw (fact 𝓤 (Same r x))) (fact_i 𝓤 (Same r x) (emp 𝓤) same) $ join ! $ move ! (3 ∷ 0 ∷ []) $ join ! $
         nothing ! $ nothing ! $ fjoin ! $ nothing ! $ fjoin ! $
         nothing ! $ move ! (4 ∷ 0 ∷ []) $ join ! $ move ! (0 ∷ 1 ∷ 3 ∷ 2 ∷ []) $
         by ! (leaves 𝓛 f.ended stayed c y v x (tt, ((tt, tt), tt)) (tt, (tt, tt)))
@@ -47,7 +38,7 @@ module _ {M : Type 1} (𝓤 : Ura M) (𝓛 : Logic 𝓤) (𝓜 : Model 𝓤 𝓛
       abbrev En : Env 𝓤 𝓛.H
       En = env code.Mir.locals l
 
-      rest : (x : (Back κ).Denot) → Same x → Added x → Stands x
+      rest : (x : (Back κ).Denot) → Same r x → Added r text x → Stands (r.now.level + 1) x
           → Seq (Go {0}) 𝓛 (‵ ((Back κ).own_val x (v ∷ [])) ∷ ‵ (flft κ q) ∷ ‵ (HandsBack r x) ∷ holding 𝓛 En ((4, w) ∷ (3, place_of r) ∷ (2, w) ∷ (1, place_of r) ∷ []))
           (lands 𝓣.C 𝓣.Λ En (place 0 []) v (code.Mir.t-4) (at_ret En Ends))
       rest (Ok b) same added stands =
@@ -87,7 +78,7 @@ module _ {M : Type 1} (𝓤 : Ura M) (𝓛 : Logic 𝓤) (𝓜 : Model 𝓤 𝓛
         (and_then ! (get ! refl) (and_then ! (get ! refl) (and_then ! (true_lit !) (no_more !)))) (λ v.
         use1 𝓛 (later (some (λ (x : (Back κ).Denot). ((‵ (flft κ q) ⊛ ‵ ftrue) ⊛ ‵ ((Back κ).own_val x (v ∷ []))) ⊛
         some (λ (ws : Unit {0} × ((Unit {0} × Unit {0}) × (Unit {0} × Unit {0}))). ‵ (lasts g.ended z.0.0 z.0.3 ws)
-        ⊛ ‵ (HandsBack r x) ⊛ raw (fact 𝓤 (Same x)) ⊛ raw (fact 𝓤 (Added x)) ⊛ raw (fact 𝓤 (Stands x)))))) (id⊢ 𝓤 _) $
+        ⊛ ‵ (HandsBack r x) ⊛ raw (fact 𝓤 (Same r x)) ⊛ raw (fact 𝓤 (Added r text x)) ⊛ raw (fact 𝓤 (Stands (r.now.level + 1) x)))))) (id⊢ 𝓤 _) $
         await ! tt $ pick ! (λ x. split ! $ split ! $ split ! $
         move ! (3 ∷ []) $ pick ! (λ ws. split ! $ drop ! $ split ! $ move ! (1 ∷ []) $ split ! $ heard ! _ (λ same. split ! $ heard ! _ (λ added. heard ! _ (λ stands.
         -- [what becomes of the builder; the token of κ; nothing; the result]

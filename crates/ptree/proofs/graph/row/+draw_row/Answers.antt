@@ -1,10 +1,10 @@
 use Rattle.std.proofs.lemmas.List.{take_all, length-map}
 use Rattle.std.proofs.lemmas.Bool.{false≢true}
 use Rattle.std.proofs.lemmas.Grind.{common_steps}
-use Rattle.std.proofs.Common.{Some, ◌≡◌, ◌++◌, ◌∷◌, ◌-◌, ◌∙◌, [], inl, inr, eqb, ap, sym, map, take, length, refl, arith, rules}
+use Rattle.std.proofs.Common.{Some, ◌≡◌, ◌++◌, ◌-◌, ◌∙◌, [], inl, inr, ap, sym, map, take, length, refl, arith, rules}
 use Rattle.ptree.specs.Graph.{weights_of, edges_of, neighbors_of}
 use Rattle.ptree.specs.GraphLinks.{ends_of}
-use Rattle.ptree.specs.Growing.{flags_of, is_seen, enter, grow, row_occurrences, row_seen, kids_grown}
+use Rattle.ptree.specs.Growing.{flags_of, is_seen, grow, row_occurrences, row_seen, kids_grown}
 use Rattle.ptree.specs.Line.{line_bytes}
 use Rattle.ptree.specs.Looks.{look_of, own_text}
 use Rattle.ptree.specs.Entries.{kid_entries, entries_below}
@@ -12,12 +12,13 @@ use Rattle.ptree.specs.Occurrence.{OccurrenceTree, occurrence_shape}
 use Rattle.ptree.specs.Pieces.{passing_piece}
 use Rattle.ptree.specs.Shape.{Shape}
 use Rattle.ptree.specs.Writing.{AppendsPart}
-use Rattle.ptree.proofs.Graphs.AlongEdges.{last_tells, length_row, seen_below, own_drawn, leaf_drawn, expanded_written, all_begun, flags_after_ok}
-use Rattle.ptree.proofs.Graphs.EdgeLists.{newest_starts, newest_within, newest_has}
+use Rattle.ptree.proofs.Graphs.AlongEdges.{seen_below, own_drawn, leaf_drawn, expanded_written, all_begun, flags_after_ok}
+use Rattle.ptree.proofs.Graphs.EdgeLists.{newest_starts, newest_within}
 use Rattle.ptree.proofs.Drawing.Engine.{begun_none, begun_part, begun_then, begun_err, not_last, still_turned, long_enough, take_again, passes_on, memory_is_no_fault}
-use Rattle.ptree.proofs.Graphs.Growth.{stopped, without, entered, seen_made}
+use Rattle.ptree.proofs.Graphs.Growth.{stopped, without, seen_made}
 use Rattle.ptree.proofs.Graphs.Links.{node_at, target_at, linked-step}
 use Rattle.ptree.proofs.Graphs.NodeFlags.{flag_read}
+use Rattle.ptree.proofs.Graphs.Rows.{row_starts, row_next}
 use Rattle.ptree.proofs.Sinks.Written.{entries_none, entries_err, entry_part}
 use Rattle.ptree.proofs.graph.row.+draw_row.Goals as goal
 use Rattle.ptree.proofs.graph.row.+draw_row.Goals.{draw_node-then-repeated-via-then-repeated, draw_node-then-repeated-via-else-repeated+then-levels_left-eq0}
@@ -34,26 +35,17 @@ draw_row-loop-number-init g t c =
     let wide : c.len-width.result ≡ length (line_bytes c.args.pen.now.line) = c.len-width.ensures in
     let look = look_of c.args.brush.now.look.now in
     let graph = c.args.marked.now.graph.now in
-    let v = c.args.node.0 in
-    let edges = edges_of graph in
-    let below = neighbors_of edges in
-    let one = grow below c.args.levels_left in
-    let seen = flags_of graph c.args.seen.now.items in
-    let number = c.args.newest in
-    let shape : OccurrenceTree → Shape = occurrence_shape g.N.Label.text graph c.args.marked.now.mark.now in
-    let start = newest_starts edges v number c.requires.newest in
     let set = c.in_ok-set_flag.ensures.flags (length (weights_of graph)) c.requires.node c.requires.length in
-    let begun : flags_of graph c.set_flag.new.seen.items ≡ enter (below v) seen v = set.0 ∙ sym (entered (below v) seen v (newest_has edges v number c.requires.newest c.requires.some)) in
-    let first = ap (λ s. row_occurrences one s (neighbors_of (take number edges) v)) begun ∙ ap (row_occurrences one (enter (below v) seen v)) start.0 in
+    let (all, seen, newest) = row_starts graph c.args.levels_left c.args.node.0 c.args.newest (flags_of graph c.args.seen.now.items) (flags_of graph c.set_flag.new.seen.items) c.requires.newest c.requires.some set.0 in
     record {
-      begun = λ outer e. begun_none look (entries_below look c.args.levels_left) outer _ _ _ (ap (map shape) (sym first));
+      begun = λ outer e. begun_none look (entries_below look c.args.levels_left) outer _ _ _ (ap (map (occurrence_shape g.N.Label.text graph c.args.marked.now.mark.now)) (sym all));
       no_fault = refl;
       error = c.requires.error;
       kept = take_all c.len-width.result _ (omega (arith, wide));
       turned = λ held. absurd (false≢true (sym c.requires.turned ∙ held));
-      seen = ap (λ s. row_seen one s (neighbors_of (take number edges) v)) begun ∙ ap (row_seen one (enter (below v) seen v)) start.0;
+      seen = seen;
       length = set.1;
-      newest = start.1;
+      newest = newest;
     }
 
 pub draw_row-index-edge-requires : goal.draw_row-index-edge-requires
@@ -85,62 +77,38 @@ pub draw_row-returns-in_err-draw_node-clause-bytes : goal.draw_row-returns-in_er
 draw_row-returns-in_err-draw_node-clause-bytes g t c = λ outer e.
     let look = look_of c.args.brush.now.look.now in
     let graph = c.args.marked.now.graph.now in
-    let v = c.args.node.0 in
-    let edges = edges_of graph in
-    let one = grow (neighbors_of edges) c.args.levels_left in
     let last = flags_of graph c.loop-number.seen.items in
-    let u = c.index-edge.result.now.target in
-    let left = neighbors_of (take c.index-edge.result.now.next edges) v in
-    let step = linked-step _ _ v c.loop-number.number c.index-edge.result.now graph.linked (omega arith) c.loop-number.invariant.newest c.index-edge.ensures in
-    let shape : OccurrenceTree → Shape = occurrence_shape g.N.Label.text graph c.args.marked.now.mark.now in
+    let edge = c.index-edge.result.now in
     let inv = c.loop-number.invariant in
-    let next : row_occurrences one last (neighbors_of (take c.loop-number.number edges) v) ≡ (one last u).occurrence ∷ row_occurrences one (one last u).seen left = ap (row_occurrences one last) step.0 in
-    let ends : c.is_oldest-is_last.result ≡ eqb (length (row_occurrences one (one last u).seen left)) 0 =
-    c.is_oldest-is_last.ensures ∙ (last_tells edges v c.index-edge.result.now.next step.1 ∙ ap (λ n. eqb n 0) (sym (length_row one (one last u).seen left))) in
-    let wide : c.len-width.result ≡ length (line_bytes c.args.pen.now.line) = c.len-width.ensures in
-    let kept = take_again c.len-width.result (line_bytes c.loop-number.pen.line) _ _ (long_enough _ _ _ inv.kept wide) c.in_ok-turn.ensures.line ∙ inv.kept in
+    let next = row_next graph c.args.levels_left c.args.node.0 c.loop-number.number edge last (grow (neighbors_of (edges_of graph)) c.args.levels_left last edge.target).seen (omega arith) inv.newest c.index-edge.ensures refl in
+    let kept = take_again c.len-width.result (line_bytes c.loop-number.pen.line) _ _ (long_enough _ _ _ inv.kept c.len-width.ensures) c.in_ok-turn.ensures.line ∙ inv.kept in
     entries_err _ _ _ _ _ _ c.from_residual-in_err-draw_node.ensures.1
-    (begun_err shape look (entries_below look c.args.levels_left) outer _ _ _ _ c.is_oldest-is_last.result _ _ _ _ next ends (inv.begun outer e) (c.in_err-draw_node.ensures.bytes outer (kept ∙ e)))
+    (begun_err (occurrence_shape g.N.Label.text graph c.args.marked.now.mark.now) look (entries_below look c.args.levels_left) outer _ _ _ _ c.is_oldest-is_last.result _ _ _ _ next.0 (c.is_oldest-is_last.ensures ∙ next.3) (inv.begun outer e) (c.in_err-draw_node.ensures.bytes outer (kept ∙ e)))
 
 pub draw_row-loop-number-preserved : goal.draw_row-loop-number-preserved
 draw_row-loop-number-preserved g t c =
     let look = look_of c.args.brush.now.look.now in
     let graph = c.args.marked.now.graph.now in
-    let v = c.args.node.0 in
-    let edges = edges_of graph in
-    let one = grow (neighbors_of edges) c.args.levels_left in
-    let last = flags_of graph c.loop-number.seen.items in
-    let now = flags_of graph c.draw_node.new.seen.items in
-    let u = c.index-edge.result.now.target in
-    let left = neighbors_of (take c.index-edge.result.now.next edges) v in
-    let step = linked-step _ _ v c.loop-number.number c.index-edge.result.now graph.linked (omega arith) c.loop-number.invariant.newest c.index-edge.ensures in
-    let shape : OccurrenceTree → Shape = occurrence_shape g.N.Label.text graph c.args.marked.now.mark.now in
     let inv = c.loop-number.invariant in
-    let seen : now ≡ (one last u).seen = c.in_ok-draw_node.ensures.seen in
-    let next : row_occurrences one last (neighbors_of (take c.loop-number.number edges) v) ≡ (one last u).occurrence ∷ row_occurrences one now left =
-    ap (row_occurrences one last) step.0 ∙ ap (λ s. (one last u).occurrence ∷ row_occurrences one s left) (sym seen) in
-    let ends : c.is_oldest-is_last.result ≡ eqb (length (row_occurrences one now left)) 0 =
-    c.is_oldest-is_last.ensures ∙ (last_tells edges v c.index-edge.result.now.next step.1 ∙ ap (λ n. eqb n 0) (sym (length_row one now left))) in
-    let wide : c.len-width.result ≡ length (line_bytes c.args.pen.now.line) = c.len-width.ensures in
-    let kept = take_again c.len-width.result (line_bytes c.loop-number.pen.line) _ _ (long_enough _ _ _ inv.kept wide) c.in_ok-turn.ensures.line in
+    let next = row_next graph c.args.levels_left c.args.node.0 c.loop-number.number c.index-edge.result.now (flags_of graph c.loop-number.seen.items) (flags_of graph c.draw_node.new.seen.items) (omega arith) inv.newest c.index-edge.ensures c.in_ok-draw_node.ensures.seen in
+    let kept = take_again c.len-width.result (line_bytes c.loop-number.pen.line) _ _ (long_enough _ _ _ inv.kept c.len-width.ensures) c.in_ok-turn.ensures.line in
     record {
-      begun = λ outer e. begun_then shape look (entries_below look c.args.levels_left) outer _ _ _ _ c.is_oldest-is_last.result _ _ _ next ends (inv.begun outer e) (c.in_ok-draw_node.ensures.bytes outer (kept ∙ inv.kept ∙ e));
+      begun = λ outer e. begun_then (occurrence_shape g.N.Label.text graph c.args.marked.now.mark.now) look (entries_below look c.args.levels_left) outer _ _ _ _ c.is_oldest-is_last.result _ _ _ next.0 (c.is_oldest-is_last.ensures ∙ next.3) (inv.begun outer e) (c.in_ok-draw_node.ensures.bytes outer (kept ∙ inv.kept ∙ e));
       no_fault = memory_is_no_fault _ _ c.draw_node.new.pen.error c.in_ok-draw_node.ensures.cause c.in_ok-draw_node.ensures.error ∙ inv.no_fault;
       error = c.in_ok-draw_node.ensures.error;
       kept = c.in_ok-draw_node.ensures.kept ∙ kept ∙ inv.kept;
       turned = λ held some. still_turned c.len-width.result (line_bytes c.loop-number.pen.line) _ _ (λ b. own_text look (Some b)) c.is_oldest-is_last.result c.in_ok-turn.ensures.line (not_last _ _ c.is_oldest-is_last.ensures some) kept (c.in_ok-draw_node.ensures.turned held);
-      seen = ap (λ s. row_seen one s left) seen ∙ (ap (row_seen one last) (sym step.0) ∙ inv.seen);
+      seen = next.1 ∙ inv.seen;
       length = c.in_ok-draw_node.ensures.length;
-      newest = step.1;
+      newest = next.2;
     }
 
 pub draw_row-returns-clause-bytes : goal.draw_row-returns-clause-bytes
 draw_row-returns-clause-bytes g t c = λ outer e.
     let look = look_of c.args.brush.now.look.now in
     let graph = c.args.marked.now.graph.now in
-    let shape : OccurrenceTree → Shape = occurrence_shape g.N.Label.text graph c.args.marked.now.mark.now in
     let ended : c.loop-number.number ≡ 0 = omega (arith, c.loop-number-test.false) in
-    let none = ap (λ k. map shape (row_occurrences (grow (neighbors_of (edges_of graph)) c.args.levels_left) (flags_of graph c.loop-number.seen.items) (neighbors_of (take k (edges_of graph)) c.args.node.0))) ended in
+    let none = ap (λ k. map (occurrence_shape g.N.Label.text graph c.args.marked.now.mark.now) (row_occurrences (grow (neighbors_of (edges_of graph)) c.args.levels_left) (flags_of graph c.loop-number.seen.items) (neighbors_of (take k (edges_of graph)) c.args.node.0))) ended in
     all_begun look (entries_below look c.args.levels_left) outer _ _ _ _ none (c.loop-number.invariant.begun outer e)
 
 pub draw_row-returns-clause-seen : goal.draw_row-returns-clause-seen
@@ -155,9 +123,8 @@ draw_node-returns-in_err-draw_entry-clause-bytes g t c = λ outer e.
     let graph = c.args.marked.now.graph.now in
     let v = c.args.node.0 in
     let tree = (grow (neighbors_of (edges_of graph)) c.args.levels_left (flags_of graph c.args.seen.now.items) v).occurrence in
-    let node = node_at graph v c.index-record.result.now c.requires.node c.index-record.ensures in
     entries_err _ _ _ _ _ _ c.from_residual.ensures.1
-    (entry_part _ _ _ _ (entries_below look c.args.levels_left (outer ++ passing_piece look.pieces c.args.is_last) (occurrence_shape g.N.Label.text graph c.args.marked.now.mark.now tree)) (own_drawn g.N.Label.text graph c.args.marked.now.mark.now (λ z. AppendsPart (g.W.Sink.contents c.args.f.now) (g.W.Sink.contents c.draw_entry.new.f) z) look outer (Some c.args.is_last) c.args.levels_left c.args.seen.now.items v _ _ (c.in_err-draw_entry.ensures.bytes outer e) node.0 (c.is_flagged-repeated.ensures ∙ ap (λ l. is_seen l v) c.deref.ensures.value)) c.in_err-draw_entry.ensures.memory)
+    (entry_part _ _ _ _ (entries_below look c.args.levels_left (outer ++ passing_piece look.pieces c.args.is_last) (occurrence_shape g.N.Label.text graph c.args.marked.now.mark.now tree)) (own_drawn g.N.Label.text graph c.args.marked.now.mark.now (λ z. AppendsPart (g.W.Sink.contents c.args.f.now) (g.W.Sink.contents c.draw_entry.new.f) z) look outer (Some c.args.is_last) c.args.levels_left c.args.seen.now.items v _ _ (c.in_err-draw_entry.ensures.bytes outer e) (node_at graph v c.index-record.result.now c.requires.node c.index-record.ensures).0 (c.is_flagged-repeated.ensures ∙ ap (λ l. is_seen l v) c.deref.ensures.value)) c.in_err-draw_entry.ensures.memory)
 
 pub draw_node-returns-in_err-pass-clause-bytes : goal.draw_node-returns-in_err-pass-clause-bytes
 draw_node-returns-in_err-pass-clause-bytes g t c = λ outer e.

@@ -11,7 +11,7 @@ use Rattle.ptree.specs.Style.{start_codes}
 use Rattle.ptree.specs.Writing.{AppendsPart}
 use Rattle.ptree.proofs.Graphs.AlongEdges.{drawn_from, kids_from, leaf_root, no_kids_from, own_drawn, start_written}
 use Rattle.ptree.proofs.Graphs.EdgeLists.{newest_starts}
-use Rattle.ptree.proofs.Drawing.Engine.{cut_back, start_kept, root_turned}
+use Rattle.ptree.proofs.Drawing.Engine.{cut_back, root_held, root_turned}
 use Rattle.ptree.proofs.Drawing.Join.{root_written, root_alone}
 use Rattle.ptree.proofs.Sinks.Written.{entries_none, entries_err, entry_part}
 use Rattle.ptree.proofs.graph.row.draw_root.Goals as goal
@@ -36,13 +36,12 @@ draw_start-requires g c =
 pub returns-in_err-draw_start-clause-bytes : goal.returns-in_err-draw_start-clause-bytes
 returns-in_err-draw_start-clause-bytes g c =
     let look = look_of c.args.brush.now.look.now in
-    let wide : c.len-width.result ≡ length (line_bytes c.args.pen.now.line) = c.len-width.ensures in
-    let outer = start_kept c.len-width.result _ _ _ wide c.in_ok-append.ensures.bytes ∙ c.requires.start ∙ sym (append-nil (start_codes look.branch)) in
+    let held = root_held look c.len-width.result _ _ _ c.len-width.ensures c.in_ok-append.ensures.bytes c.requires.start in
     let graph = c.args.marked.now.graph.now in
     let mark = c.args.marked.now.mark.now in
     entries_err _ _ _ _ _ _ c.from_residual-in_err-draw_start.ensures.1
     (entry_part _ _ _ _ (entries_below look c.args.depth [] (drawn_from g.N.Label.text graph mark c.args.depth c.args.start.0))
-    (own_drawn g.N.Label.text graph mark (λ z. AppendsPart (g.W.Sink.contents c.args.f.now) (g.W.Sink.contents c.draw_start.new.f) z) look [] None c.args.depth [] c.args.start.0 _ false (c.in_err-draw_start.ensures.bytes [] outer) refl refl) c.in_err-draw_start.ensures.memory)
+    (own_drawn g.N.Label.text graph mark (λ z. AppendsPart (g.W.Sink.contents c.args.f.now) (g.W.Sink.contents c.draw_start.new.f) z) look [] None c.args.depth [] c.args.start.0 _ false (c.in_err-draw_start.ensures.bytes [] held) refl refl) c.in_err-draw_start.ensures.memory)
 
 pub returns-clause-bytes : goal.returns-clause-bytes
 returns-clause-bytes g c =
@@ -50,12 +49,11 @@ returns-clause-bytes g c =
     let graph = c.args.marked.now.graph.now in
     let mark = c.args.marked.now.mark.now in
     let some : c.args.depth ≢ 0 = λ z. c.if-depth-eq0.false z in
-    let outer = c.requires.start ∙ sym (append-nil (start_codes look.branch)) in
     root_written look c.args.depth (drawn_from g.N.Label.text graph mark c.args.depth c.args.start.0) _ _ _ _ _ _ some
     (kids_from g.N.Label.text graph mark c.args.depth c.args.start.0 c.new-seen.result.items some c.new-seen.ensures.items)
     (start_written g.N.Label.text c.args.marked.now.graph.now c.args.marked.now.mark.now (g.W.Sink.contents c.args.f.now) (g.W.Sink.contents c.draw_start.new.f) look c.args.depth c.args.start.0
     c.len-width.result _ _ _ c.len-width.ensures c.in_ok-append.ensures.bytes c.requires.start (λ outer held. c.in_ok-draw_start.ensures.bytes outer held))
-    (c.draw_row.ensures.bytes [] (cut_back c.len-width.result _ _ _ _ _ c.len-width.ensures c.in_ok-append.ensures.bytes c.in_ok-draw_start.ensures.kept c.truncate.ensures ∙ outer))
+    (c.draw_row.ensures.bytes [] (cut_back c.len-width.result _ _ _ _ _ c.len-width.ensures c.in_ok-append.ensures.bytes c.in_ok-draw_start.ensures.kept c.truncate.ensures ∙ c.requires.start ∙ sym (append-nil (start_codes look.branch))))
 
 pub returns-then-depth-eq0-clause-bytes : goal.returns-then-depth-eq0-clause-bytes
 returns-then-depth-eq0-clause-bytes g c =
@@ -82,6 +80,3 @@ draw_row-requires g c =
     elim (cases_lt c.args.start.0 (length (weights_of graph))) [ inl x ↦ x | inr x ↦ absurd (c.if-newest-eq0.false (c.newest-newest.ensures.no_node x)) ] in
     let few : length c.new-seen.result.items ≤ length (weights_of graph) = omega (arith, ap length c.new-seen.ensures.items) in
     grind (arith, common_steps, within, few)
-
-pub returns-clause-cause : goal.returns-clause-cause
-returns-clause-cause g c = grind (arith, common_steps)

@@ -4,10 +4,9 @@ use Rattle.ptree.specs.Entries.{entries_below, drawn_entries}
 use Rattle.ptree.specs.Line.{line_bytes}
 use Rattle.ptree.specs.Looks.{look_of}
 use Rattle.ptree.specs.Style.{start_codes}
-use Rattle.ptree.proofs.Drawing.Engine.{cut_back, start_kept, root_turned}
+use Rattle.ptree.proofs.Drawing.Engine.{cut_back, root_held, root_turned}
 use Rattle.ptree.proofs.Sinks.Written.{entries_none, entries_err, entry_part, entry_then}
 use Rattle.ptree.proofs.Drawing.Join.{root_written, root_alone}
-use Rattle.std.proofs.lemmas.Grind.{common_steps}
 use Rattle.ptree.proofs.output.engine.draw_root.Goals as goal
 
 pub returns-in_err-append-clause-bytes : goal.returns-in_err-append-clause-bytes
@@ -29,37 +28,27 @@ draw_entry-requires g c =
 pub returns-in_err-draw_entry-clause-bytes : goal.returns-in_err-draw_entry-clause-bytes
 returns-in_err-draw_entry-clause-bytes g c =
     let look = look_of c.args.brush.now.look.now in
-    let wide : c.len-width.result ≡ length (line_bytes c.args.pen.now.line) = c.len-width.ensures in
-    let outer = start_kept c.len-width.result _ _ _ wide c.in_ok-append.ensures.bytes ∙ c.requires.start ∙ sym (append-nil (start_codes look.branch)) in
+    let held = root_held look c.len-width.result _ _ _ c.len-width.ensures c.in_ok-append.ensures.bytes c.requires.start in
     entries_err _ _ _ _ _ _ c.from_residual-in_err-draw_entry.ensures.1
-    (entry_part _ _ _ _ (entries_below look c.args.depth [] (g.T.Shaped.shape c.args.item.now)) (c.in_err-draw_entry.ensures.bytes [] outer) c.in_err-draw_entry.ensures.memory)
+    (entry_part _ _ _ _ (entries_below look c.args.depth [] (g.T.Shaped.shape c.args.item.now)) (c.in_err-draw_entry.ensures.bytes [] held) c.in_err-draw_entry.ensures.memory)
 
 pub returns-in_err-children-clause-bytes : goal.returns-in_err-children-clause-bytes
 returns-in_err-children-clause-bytes g c =
     let look = look_of c.args.brush.now.look.now in
-    let wide : c.len-width.result ≡ length (line_bytes c.args.pen.now.line) = c.len-width.ensures in
-    let outer = start_kept c.len-width.result _ _ _ wide c.in_ok-append.ensures.bytes ∙ c.requires.start ∙ sym (append-nil (start_codes look.branch)) in
-    entry_then _ _ _ _ _ _ (entries_below look c.args.depth [] (g.T.Shaped.shape c.args.item.now)) (c.in_ok-draw_entry.ensures.bytes [] outer)
-    (entries_err _ _ _ _ _ _ c.from_residual-in_err-children.ensures.1 (entries_none _ c.draw_entry.new.pen.error (entries_below look c.args.depth [] (g.T.Shaped.shape c.args.item.now))))
+    let held = root_held look c.len-width.result _ _ _ c.len-width.ensures c.in_ok-append.ensures.bytes c.requires.start in
+    let below = entries_below look c.args.depth [] (g.T.Shaped.shape c.args.item.now) in
+    entry_then _ _ _ _ _ _ below (c.in_ok-draw_entry.ensures.bytes [] held) (entries_err _ _ _ _ _ _ c.from_residual-in_err-children.ensures.1 (entries_none _ c.draw_entry.new.pen.error below))
 
 pub returns-clause-bytes : goal.returns-clause-bytes
 returns-clause-bytes g c =
     let look = look_of c.args.brush.now.look.now in
-    let x = g.T.Shaped.shape c.args.item.now in
-    let ks = map g.T.Child.Shaped.shape c.as_slice.result.now in
-    let wide : c.len-width.result ≡ length (line_bytes c.args.pen.now.line) = c.len-width.ensures in
-    let outer = c.requires.start ∙ sym (append-nil (start_codes look.branch)) in
-    root_written look c.args.depth x ks _ _ _ _ _ (λ z. c.if-depth-eq0.false z)
+    root_written look c.args.depth (g.T.Shaped.shape c.args.item.now) (map g.T.Child.Shaped.shape c.as_slice.result.now) _ _ _ _ _ (λ z. c.if-depth-eq0.false z)
     (ap (map g.T.Child.Shaped.shape) c.as_slice.ensures ∙ c.in_ok-children.ensures)
-    (c.in_ok-draw_entry.ensures.bytes [] (start_kept c.len-width.result _ _ _ wide c.in_ok-append.ensures.bytes ∙ outer))
-    (c.draw_children.ensures.bytes [] (cut_back c.len-width.result _ _ _ _ _ wide c.in_ok-append.ensures.bytes c.in_ok-draw_entry.ensures.kept c.truncate.ensures ∙ outer))
+    (c.in_ok-draw_entry.ensures.bytes [] (root_held look c.len-width.result _ _ _ c.len-width.ensures c.in_ok-append.ensures.bytes c.requires.start))
+    (c.draw_children.ensures.bytes [] (cut_back c.len-width.result _ _ _ _ _ c.len-width.ensures c.in_ok-append.ensures.bytes c.in_ok-draw_entry.ensures.kept c.truncate.ensures ∙ c.requires.start ∙ sym (append-nil (start_codes look.branch))))
 
 pub returns-then-depth-eq0-clause-bytes : goal.returns-then-depth-eq0-clause-bytes
 returns-then-depth-eq0-clause-bytes g c =
     let look = look_of c.args.brush.now.look.now in
-    let wide : c.len-width.result ≡ length (line_bytes c.args.pen.now.line) = c.len-width.ensures in
-    let outer = start_kept c.len-width.result _ _ _ wide c.in_ok-append.ensures.bytes ∙ c.requires.start ∙ sym (append-nil (start_codes look.branch)) in
-    root_alone look c.args.depth (g.T.Shaped.shape c.args.item.now) _ _ c.if-depth-eq0.true (c.in_ok-draw_entry.ensures.bytes [] outer)
-
-pub returns-clause-cause : goal.returns-clause-cause
-returns-clause-cause g c = grind (arith, common_steps)
+    let held = root_held look c.len-width.result _ _ _ c.len-width.ensures c.in_ok-append.ensures.bytes c.requires.start in
+    root_alone look c.args.depth (g.T.Shaped.shape c.args.item.now) _ _ c.if-depth-eq0.true (c.in_ok-draw_entry.ensures.bytes [] held)

@@ -50,8 +50,7 @@ stop-requires-in_default-drop_leaf_end-clause-before c = scan_before c.loop-rest
 
 pub stop-requires-in_default-drop_leaf_end-clause-wrong : goal.stop-requires-in_default-drop_leaf_end-clause-wrong
 stop-requires-in_default-drop_leaf_end-clause-wrong c =
-    let k = look_of c.args.frame.now.look.now in
-    let l : IsOwnLine k c.args.frame.now.depth c.loop-rest.path.flags.items c.loop-rest.rest.now c.in-Own.own.now c.in-Some-2.more.now c.go_on.new.self.flags.items = rw c.in-Own.is at (rw c.in-Some-2.is at c.in_ok-line.ensures.line) in
+    let l : IsOwnLine (look_of c.args.frame.now.look.now) c.args.frame.now.depth c.loop-rest.path.flags.items c.loop-rest.rest.now c.in-Own.own.now c.in-Some-2.more.now c.go_on.new.self.flags.items = rw c.in-Own.is at (rw c.in-Some-2.is at c.in_ok-line.ensures.line) in
     scan_open c.loop-rest.invariant.2 c.requires l c.in_default-drop_leaf_end.ensures
 
 pub stop-requires-in_default-drop_leaf_end-clause-short : goal.stop-requires-in_default-drop_leaf_end-clause-short
