@@ -38,6 +38,7 @@ pub mod NextFronts
 pub mod NextItems
 pub mod NpmEntered
 pub mod NpmFolders
+pub mod NpmLocks
 pub mod NpmNearest
 pub mod NpmNeeds
 pub mod NpmPackages

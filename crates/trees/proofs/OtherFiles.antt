@@ -1,5 +1,5 @@
 -- Sources that are no lines of two words.
-use Rattle.std.proofs.Common.{Bool, ◌≡◌, ◌∙◌, ℕ, ◌<◌, true, List, [], length, get_or, drop, sym, ap, subst}
+use Rattle.std.proofs.Common.{◌≡◌, ◌∙◌, ℕ, ◌<◌, true, List, [], length, get_or, drop, sym, ap, subst}
 use Rattle.std.proofs.lemmas.Bool.{false≢true}
 use Rattle.std.proofs.lemmas.List.Folds.{list_any_at}
 use Rattle.std.specs.List.{list_any}
@@ -10,7 +10,7 @@ use Rattle.std.specs.Str.Pattern.{FindsTextPrefix, HasPrefixMatch}
 use Rattle.ptree_trees.specs.Parts.{begins_with, has_part}
 use Rattle.ptree_trees.proofs.PartTexts.{begun}
 use Rattle.trees.specs.declared.source.Source.{Source}
-use Rattle.trees.specs.Depending.{source_text, other_names, other_starts, is_other_line, IsPairFile, IsTextFile}
+use Rattle.trees.specs.Depending.{source_text, other_names, other_starts, is_other_line, HasOwnLines, HasOwnName, IsPairFile}
 use Rattle.trees.specs.Documents.{IsLastPart}
 
 -- a test for the beginning of a text
@@ -18,13 +18,13 @@ pub begins_by_test : (part text : List ℕ) → HasPrefixMatch (FindsTextPrefix 
 begins_by_test part text m = subst (λ (t : List ℕ). begins_with part t ≡ true) (sym m.1.1) (begun part (drop m.0 text))
 
 -- a file with another name
-pub other_named : (source : Source) (label : List ℕ) → IsLastPart (string_bytes source.name) label → list_any (bytes_eq label) other_names ≡ true → (has_tables : Bool) → IsTextFile has_tables source → ⊥
-other_named source label last other has_tables is = false≢true (sym (is.name label last) ∙ other)
+pub other_named : (source : Source) (label : List ℕ) → IsLastPart (string_bytes source.name) label → list_any (bytes_eq label) other_names ≡ true → HasOwnName source → HasOwnLines source → ⊥
+other_named source label last other name own = false≢true (sym (name label last) ∙ other)
 
 -- one with a line of another
-pub other_lined : (source : Source) (k : ℕ) (line : List ℕ) → k < length (lines (source_text source)) → line ≡ get_or (lines (source_text source)) k line → is_other_line line ≡ true → (has_tables : Bool) → IsTextFile has_tables source → ⊥
-other_lined source k line low at other has_tables is =
-    false≢true (sym is.lines ∙ list_any_at is_other_line (lines (source_text source)) k line low (ap is_other_line (sym at) ∙ other))
+pub other_lined : (source : Source) (k : ℕ) (line : List ℕ) → k < length (lines (source_text source)) → line ≡ get_or (lines (source_text source)) k line → is_other_line line ≡ true → HasOwnName source → HasOwnLines source → ⊥
+other_lined source k line low at other name own =
+    false≢true (sym own ∙ list_any_at is_other_line (lines (source_text source)) k line low (ap is_other_line (sym at) ∙ other))
 
 -- one with a part of TOML
 pub other_part : (source : Source) → has_part (codes "[[package]]") (source_text source) ≡ true → IsPairFile source → ⊥

@@ -21,7 +21,7 @@ use Rattle.trees.specs.declared.deps.Network.{Network}
 use Rattle.trees.specs.declared.failure.Failure.{Failure}
 use Rattle.trees.specs.declared.source.Source.{Source}
 use Rattle.trees.specs.Depending.{pair_words, number, is_need, directed, edge_of, same_edge, firsts, edges_between, HoldsPairs, AreNames, StandsAbove, IsRooted, IsNoName, HoldsNoGraph}
-use Rattle.trees.specs.DependingParts.{texts_of, labels_of, needs_of, AreApart, HasRoot, HoldsNone, IsNetworkOf, IsNetworkOfPairs, IsWhole, IsWithin}
+use Rattle.trees.specs.DependingParts.{texts_of, labels_of, needs_of, AreApart, HasRoot, HoldsNone, IsNetworkOf, IsNetworkOfPairs, IsTopped, IsWhole, IsWithin}
 use Rattle.trees.specs.Meaning.{MeansPairs, IsGraphOf}
 use Rattle.trees.specs.Reading.{FailsFor}
 use Rattle.trees.specs.Shown.{shown_text}
@@ -184,6 +184,15 @@ pub graph_whole : (source : Source) (name : Option (Bor (List ℕ))) (read roote
     → drawn.labels ≡ rooted.labels → drawn.edges.items ≡ reverse rooted.edges.items → Any (LacksNode (length (labels_of drawn))) drawn.edges.items → ⊥
 graph_whole source name read rooted drawn root whole has labels turned =
     let within = rooted_within source name (labels_of read) (needs_of read) (labels_of rooted) (needs_of rooted) root whole.within has in
+    none_lacks (length (labels_of drawn)) drawn.edges.items
+    (subst (λ v. All (IsWithin (length (map string_bytes v.items))) (needs_of drawn)) (sym labels)
+    (subst (All (IsWithin (length (labels_of rooted)))) (sym (ap (map numbers_of) turned ∙ map_reversed numbers_of rooted.edges.items)) (All-permutation (IsWithin (length (labels_of rooted))) (needs_of rooted) (reverse (needs_of rooted)) (IsPermutation-reverse (needs_of rooted)) within)))
+
+-- the same of a root that stands for what nothing needs
+pub topped_whole : (label : List ℕ) (read rooted drawn : Network) (root : ℕ) → All (IsWithin (length (labels_of read))) (needs_of read) → IsTopped label read rooted root
+    → drawn.labels ≡ rooted.labels → drawn.edges.items ≡ reverse rooted.edges.items → Any (LacksNode (length (labels_of drawn))) drawn.edges.items → ⊥
+topped_whole label read rooted drawn root whole top labels turned =
+    let within = stands_within label (labels_of read) (needs_of read) top.0 (labels_of rooted) (needs_of rooted) root whole top.1 top.3 in
     none_lacks (length (labels_of drawn)) drawn.edges.items
     (subst (λ v. All (IsWithin (length (map string_bytes v.items))) (needs_of drawn)) (sym labels)
     (subst (All (IsWithin (length (labels_of rooted)))) (sym (ap (map numbers_of) turned ∙ map_reversed numbers_of rooted.edges.items)) (All-permutation (IsWithin (length (labels_of rooted))) (needs_of rooted) (reverse (needs_of rooted)) (IsPermutation-reverse (needs_of rooted)) within)))

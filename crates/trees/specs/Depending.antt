@@ -34,12 +34,29 @@ other_starts = codes "lockfileVersion:" ∷ codes "# yarn lockfile " ∷ codes "
 abbrev pub is_other_line : List ℕ → Bool
 is_other_line line = list_any (λ start. begins_with start line) other_starts
 
+-- a source is no list of another program, by its name and its lines
+abbrev pub HasOwnName : Source → Type 0
+HasOwnName source = (label : List ℕ) → IsLastPart (string_bytes source.name) label → list_any (bytes_eq label) other_names ≡ false
+
+abbrev pub HasOwnLines : Source → Type 0
+HasOwnLines source = list_any is_other_line (lines (source_text source)) ≡ false
+
+-- whether its text begins as an object of JSON
+abbrev pub begins_object : Source → Bool
+begins_object source = begins_with (codes "{") (trim_start (source_text source))
+
 -- a source is no list of another program and no JSON, and it has tables of packages or not
 pub record IsTextFile (has_tables : Bool) (source : Source) : Type 0 where
-  pub name : (label : List ℕ) → IsLastPart (string_bytes source.name) label → list_any (bytes_eq label) other_names ≡ false
-  pub lines : list_any is_other_line (lines (source_text source)) ≡ false
-  pub json : begins_with (codes "{") (trim_start (source_text source)) ≡ false
+  pub name : HasOwnName source
+  pub lines : HasOwnLines source
+  pub json : begins_object source ≡ false
   pub toml : has_part (codes "[[package]]") (source_text source) ≡ has_tables
+
+-- it is read as a lock file of npm
+pub record IsNpmFile (source : Source) : Type 0 where
+  pub name : HasOwnName source
+  pub lines : HasOwnLines source
+  pub json : begins_object source ≡ true
 
 -- it is read as lines of two words: nothing says that it is a lock file
 abbrev pub IsPairFile : Source → Type 0

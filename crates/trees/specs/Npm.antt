@@ -3,11 +3,11 @@ use Rattle.std.specs.Cmp.Lexicographic.{slice_cmp}
 use Rattle.std.specs.List.{AllZip, slice_split, starts_with}
 use Rattle.std.specs.List.Sorted.{IsSorted, IsStrictlySortedBy}
 use Rattle.std.specs.Ordering.{is_lt, nat_cmp}
-use Rattle.std.specs.Prelude.{◌≡◌, ◌≢◌, ◌==◌, ◌||◌, ◌⊎◌, ◌↔◌, ℕ, nat_eq, Bool, false, if◌then◌else◌, List, [], ◌∷◌, ◌++◌, codes, map, slice_get, All, Contains, Option, Some, None, MatchOption, option_and_then, option_map, unwrap_or, string_bytes}
+use Rattle.std.specs.Prelude.{◌≡◌, ◌≢◌, ◌==◌, ◌&&◌, ◌||◌, ◌⊎◌, ◌↔◌, ℕ, nat_eq, Bool, not, true, false, if◌then◌else◌, List, [], ◌∷◌, ◌++◌, codes, map, slice_get, All, Contains, Option, Some, None, IfSome, IsSome, MatchOption, option_and_then, option_map, unwrap_or, string_bytes}
 use Rattle.std.specs.Str.{bytes_eq}
 use Rattle.std.specs.StrCase.Lower.{str_to_lowercase}
 use Rattle.serde_json.specs.Data.{Data, Members, no_members, member}
-use Rattle.serde_json.specs.Find.{get, as_bool, as_object, as_str}
+use Rattle.serde_json.specs.Find.{get, as_bool, as_number, as_object, as_str, as_u64}
 use Rattle.ptree.specs.File.{json}
 use Rattle.ptree.specs.declared.value.document.DocFormat.TheVariants.{Json}
 use Rattle.trees.specs.declared.deps.Network.{Network}
@@ -141,6 +141,77 @@ pub record Needs (packages : List (List ℕ × Data)) (i j : ℕ) : Type 0 where
 -- the project has no workspaces
 abbrev pub HasNoWorkspaces : List (List ℕ × Data) → Type 0
 HasNoWorkspaces packages = All (λ p. p.0 ≡ [] → get (codes "workspaces") p.1 ≡ None) packages
+
+-- ## Lock files
+
+-- whether a part of a path is the name of a file or folder
+abbrev pub is_file_name : List ℕ → Bool
+is_file_name part = not (bytes_eq part []) && (not (bytes_eq part (codes ".")) && not (bytes_eq part (codes "..")))
+
+-- a path leads up some folders from that of the project, and then down by names
+pub record IsPath (path : List ℕ) : Type 0 where
+  pub up : List (List ℕ)
+  pub names : List (List ℕ)
+  pub is : parts path ≡ up ++ names
+  pub each_up : All (λ part. part ≡ codes "..") up
+  pub each_name : All (λ part. is_file_name part ≡ true) names
+
+-- what is at a key, if anything, is a text, or an object
+abbrev pub MayHaveText : List ℕ → Data → Type 0
+MayHaveText key d = IfSome (get key d) (λ e. IsSome (as_str e))
+
+abbrev pub MayHaveObject : List ℕ → Data → Type 0
+MayHaveObject key d = IfSome (get key d) (λ e. IsSome (as_object e))
+
+-- what says whether a package is a link is a truth, and a link says where it leads
+pub record MayBeLink (d : Data) : Type 0 where
+  pub kind : IfSome (get (codes "link") d) (λ e. IsSome (as_bool e))
+  pub leads : is_link d ≡ true → IsSome (text_at (codes "resolved") d)
+
+-- what is at a path is a package
+pub record IsPackage (p : List ℕ × Data) : Type 0 where
+  pub path : IsPath p.0
+  pub object : IsSome (as_object p.1)
+  pub name : MayHaveText (codes "name") p.1
+  pub version : MayHaveText (codes "version") p.1
+  pub link : MayBeLink p.1
+
+-- the lists in which a package names others are objects; what it is developed with counts if it is in no `node_modules`
+pub record HasLists (p : List ℕ × Data) : Type 0 where
+  pub needs : MayHaveObject (codes "dependencies") p.1
+  pub developed : (IsPlaced p.0 → ⊥) → MayHaveObject (codes "devDependencies") p.1
+  pub optional : MayHaveObject (codes "optionalDependencies") p.1
+  pub peers : MayHaveObject (codes "peerDependencies") p.1
+
+-- the version of a lock file's format
+abbrev pub format_version : Data → Option ℕ
+format_version lock = option_and_then as_u64 (option_and_then as_number (get (codes "lockfileVersion") lock))
+
+-- the format is one of those that have packages by their paths
+abbrev pub HasPaths : Data → Type 0
+HasPaths lock = (format_version lock ≡ Some 2) ⊎ (format_version lock ≡ Some 3)
+
+-- a lock file has no links and no workspaces
+pub record IsSimple (lock : Data) : Type 0 where
+  pub links : HasNoLinks (packages_in lock)
+  pub workspaces : HasNoWorkspaces (packages_in lock)
+
+-- a document is such a lock file
+pub record IsNpmLock (lock : Data) : Type 0 where
+  pub simple : IsSimple lock
+  pub version : HasPaths lock
+  pub packages : Members
+  pub are : option_and_then as_object (get (codes "packages") lock) ≡ Some packages
+  pub each : All IsPackage (listed packages)
+  pub needs : All HasLists (listed packages)
+
+-- a source is the document of one
+abbrev pub HoldsNpmLock : Source → Data → Type 0
+HoldsNpmLock source lock = IsDocumentOf Json source (json lock) × IsNpmLock lock
+
+-- it is the document of none
+abbrev pub HoldsNoNpmLock : Source → Type 0
+HoldsNoNpmLock source = (lock : Data) → HoldsNpmLock source lock → ⊥
 
 -- ## Labels
 

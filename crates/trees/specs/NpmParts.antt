@@ -3,23 +3,27 @@ use Rattle.std.specs.BTreeMap.{BTreeMap, get_by, get_by_text}
 use Rattle.std.specs.Borrow.{Bor}
 use Rattle.std.specs.Bool.{⊤}
 use Rattle.std.specs.Cmp.Lexicographic.{slice_cmp}
-use Rattle.std.specs.List.{AllZip}
+use Rattle.std.specs.List.{AllZip, slice_split}
 use Rattle.std.specs.List.Sorted.{IsSorted}
 use Rattle.std.specs.Option.{option_flatten, option_or}
 use Rattle.std.specs.Ordering.{bool_cmp, is_lt, nat_cmp, ordering_then}
-use Rattle.std.specs.Prelude.{◌≡◌, ◌<◌, ◌≤◌, ◌==◌, ◌⊎◌, ◌↔◌, ℕ, Bool, true, false, if◌then◌else◌, List, [], ◌∷◌, ◌++◌, codes, flat_map, length, map, slice_get, string_bytes, All, AllPairs, Contains, Option, Some, None, option_map, option_to_list, String, Vec}
+use Rattle.std.specs.Prelude.{◌≡◌, ◌≢◌, ◌<◌, ◌≤◌, ◌==◌, ◌⊎◌, ◌↔◌, ℕ, Bool, true, false, if◌then◌else◌, List, [], ◌∷◌, ◌++◌, codes, flat_map, length, map, slice_get, string_bytes, All, AllPairs, Contains, Option, Some, None, option_map, option_to_list, String, Vec}
 use Rattle.std.specs.Str.{bytes_eq}
 use Rattle.std.specs.StrCase.Lower.{str_to_lowercase}
 use Rattle.std.specs.declared.alloc.Global.{Global}
 use Rattle.std.specs.declared.cmp.Ordering.{Ordering}
+use Rattle.ptree.specs.File.{json}
+use Rattle.ptree.specs.declared.value.document.DocFormat.TheVariants.{Json}
 use Rattle.serde_json.specs.Data.{Data}
 use Rattle.serde_json.specs.View.{members_view}
 use Rattle.serde_json.specs.declared.value.Value.{Value}
 use Rattle.trees.specs.declared.deps.Network.{Network}
 use Rattle.trees.specs.declared.deps.npm.Walk.{Walk}
+use Rattle.trees.specs.declared.source.Source.{Source}
 use Rattle.trees.specs.DependingParts.{labels_of}
+use Rattle.trees.specs.Documents.{IsDocumentOf}
 use Rattle.trees.specs.LockingParts.{AddsEdges}
-use Rattle.trees.specs.Npm.{listed, path_in, folders, names_at, AreAscending, HasNoWorkspaces, IsIn, IsLabel, IsName, IsNearest, IsPlaced, Names, Needs}
+use Rattle.trees.specs.Npm.{listed, path_in, folders, names_at, AreAscending, HasLists, HasNoLinks, HasNoWorkspaces, IsIn, IsLabel, IsName, IsNearest, IsNpmLock, IsPlaced, IsSimple, Names, Needs}
 
 -- a network gets packages: their paths and labels
 pub record AddsPackages (root : List ℕ) (packages : List (List ℕ × Data)) (old new : Network) : Type 0 where
@@ -46,6 +50,25 @@ packages_of m = listed (members_view m.entries)
 -- nodes have these paths
 abbrev pub ArePaths : List (List ℕ × Data) → List (String Global) → Type 0
 ArePaths packages paths = map string_bytes paths ≡ map (λ p. p.0) packages
+
+-- its document, if it has no links and no workspaces, is a lock file
+abbrev pub HoldsOnlyNpmLock : Source → Type 0
+HoldsOnlyNpmLock source = (lock : Data) → IsDocumentOf Json source (json lock) → IsSimple lock → IsNpmLock lock
+
+-- what follows each `../` at the start of a path
+pub record IsBehindUp (path rest : List ℕ) : Type 0 where
+  pub up : List (List ℕ)
+  pub each : All (λ part. part ≡ codes "..") up
+  pub is : slice_split (λ b. b == 47) path ≡ up ++ slice_split (λ b. b == 47) rest
+  pub last : (more : List ℕ) → rest ≢ codes "../" ++ more
+
+-- packages without links, in order, have nodes with these paths, and this is one of them
+pub record IsNode (packages : List (List ℕ × Data)) (nodes : List (String Global)) (p : List ℕ × Data) : Type 0 where
+  pub links : HasNoLinks packages
+  pub ascending : AreAscending packages
+  pub paths : ArePaths packages nodes
+  pub place : ℕ
+  pub at : slice_get packages place ≡ Some p
 
 -- ## Steps
 
@@ -239,6 +262,25 @@ pub record IsAtStep (packages : List (List ℕ × Data)) (steps : List Step) (k 
 -- edges are the needs of packages
 abbrev pub AreNeeds : List (List ℕ × Data) → List (ℕ × ℕ) → Type 0
 AreNeeds packages es = (i j : ℕ) → Contains es (i, j) ↔ Needs packages i j
+
+-- the lists are right of the package that a step is at itself
+abbrev pub IsListedAt : List (List ℕ × Data) → Step → Type 0
+IsListedAt packages s = s.1 ≡ true → (d : Data) → slice_get packages s.3 ≡ Some (name_of s, d) → HasLists (name_of s, d)
+
+-- the project has no workspaces, and the lists are right of the package at a path
+pub record IsRightAt (packages : List (List ℕ × Data)) (path : List ℕ) : Type 0 where
+  pub ascending : AreAscending packages
+  pub workspaces : HasNoWorkspaces packages
+  pub place : ℕ
+  pub value : Data
+  pub at : slice_get packages place ≡ Some (path, value)
+  pub lists : HasLists (path, value)
+
+-- the same of all packages, of which steps are
+pub record AreRight (packages : List (List ℕ × Data)) (steps : List Step) : Type 0 where
+  pub has : HasSteps packages steps
+  pub workspaces : HasNoWorkspaces packages
+  pub lists : All HasLists packages
 
 -- a network gets the needs of packages, in the order of the nodes that they begin at
 abbrev pub AddsNearest : List (List ℕ × Data) → List Step → Network → Network → Type 0

@@ -1,10 +1,11 @@
 //! Dependencies of lock files and of lists of pairs.
-ghost use Rattle.std.specs.Prelude.{◌≡◌, ⊤, Bool, true, None, [], length, map, Any, IfSome, IfOk, IfErr, OnOk, string_bytes};
+ghost use Rattle.std.specs.Prelude.{◌≡◌, ⊤, ℕ, List, true, None, [], length, map, Any, IfSome, IfOk, IfErr, OnOk, string_bytes};
 ghost use Rattle.ptree.specs.Graph.{weights_of, edges_of, LacksNode};
-ghost use Rattle.trees.specs.Depending.{IsPairFile, IsTextFile, IsNoName, HoldsNoGraph};
+ghost use Rattle.trees.specs.Depending.{HasOwnLines, HasOwnName, IsNpmFile, IsPairFile, IsTextFile, IsNoName, HoldsNoGraph};
 ghost use Rattle.trees.specs.DependingParts.{labels_of, needs_of, AreApart, HasRoot, HoldsNone, IsEmpty, IsNetworkOf, IsTopped, IsWhole};
 ghost use Rattle.trees.specs.Meaning.{HoldsNoLock, IsGraphOf, IsPairOrLockFile};
-ghost use Rattle.trees.specs.Reading.{IsInput, FailsFor};
+ghost use Rattle.trees.specs.Npm.{HoldsNpmLock, HoldsPackages};
+ghost use Rattle.trees.specs.Reading.{IsInput, FailsFor, FailsToMake};
 ghost use Rattle.trees.specs.Shown.{shown_text, AreShownLabels};
 
 mod npm;
@@ -101,6 +102,8 @@ pub fn read_dependencies(
         → IfErr result (FailsFor (HoldsNoGraph source.now deps.entry.root) ⊥) }
     ensures refused { IsTextFile true source.now → deps.entry.root ≡ None
         → IfErr result (FailsFor (HoldsNoLock source.now) ⊥) }
+    ensures npm { IsNpmFile source.now → deps.entry.root ≡ None
+        → IfErr result (FailsToMake ⊥ (HoldsNpmLock source.now)) }
 {
     let mut network = Network {
         labels: Vec::new(alloc),
@@ -130,6 +133,8 @@ fn drawn(
         → IfErr result (FailsFor (HoldsNoGraph source.now name.entry) ⊥) }
     ensures refused { IsTextFile true source.now → name.entry ≡ None → IsEmpty network.old
         → IfErr result (FailsFor (HoldsNoLock source.now) ⊥) }
+    ensures npm { IsNpmFile source.now → name.entry ≡ None → IsEmpty network.old
+        → IfErr result (FailsToMake ⊥ (HoldsNpmLock source.now)) }
 {
     read_network(alloc, source, network)?;
     let root = root_of(alloc, source, network, name)?;
@@ -146,6 +151,10 @@ fn read_network(alloc: Global, source: &Source, network: &mut Network) -> Result
     ensures failed { IsPairFile source.now → IfErr result (FailsFor (HoldsNone source.now) ⊥) }
     ensures refused { IsTextFile true source.now
         → IfErr result (FailsFor (HoldsNoLock source.now) ⊥) }
+    ensures packages { IsNpmFile source.now → IsEmpty network.old → OnOk result
+        (HoldsPackages source.now network.old.is_inverse network.new) }
+    ensures npm { IsNpmFile source.now → IsEmpty network.old
+        → IfErr result (FailsToMake ⊥ (HoldsNpmLock source.now)) }
 {
     let text = source.unmarked();
     if let Some(wrong) = form_not_read(source) {
@@ -161,7 +170,7 @@ fn read_network(alloc: Global, source: &Source, network: &mut Network) -> Result
 
 // Says of a file that is no lock file, or looks like pairs of words, that it is not read.
 fn form_not_read(source: &Source) -> Option<&'static str>
-    ensures { IfSome result (λ _. (has_tables : Bool) → IsTextFile has_tables source.now → ⊥) }
+    ensures { IfSome result (λ _. HasOwnName source.now → HasOwnLines source.now → ⊥) }
 {
     match source.label() {
         "pnpm-lock.yaml" => return Some(PNPM),
@@ -192,6 +201,8 @@ fn root_of(
         (λ r. HasRoot source.now name.entry network.old network.new r.0) }
     ensures failed { network.old.paths.items ≡ [] → AreApart (labels_of network.old)
         → IfErr result (FailsFor (IsNoName name.entry (labels_of network.old)) ⊥) }
+    ensures top { name.entry ≡ None → IfOk result
+        (λ r. (label : List ℕ) × IsTopped label network.old network.new r.0) }
     ensures memory { name.entry ≡ None → IfErr result (FailsFor ⊥ ⊥) }
 {
     match name {

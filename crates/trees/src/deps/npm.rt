@@ -1,14 +1,17 @@
 //! Lock files of npm.
 ghost use Rattle.std.specs.Cmp.Lexicographic.{slice_cmp};
+ghost use Rattle.std.specs.List.{list_all, slice_split};
 ghost use Rattle.std.specs.List.Sorted.{IsStrictlySortedBy};
 ghost use Rattle.std.specs.Ordering.{nat_cmp};
-ghost use Rattle.std.specs.Prelude.{◌≡◌, ℕ, false, true, [], ◌∷◌, ◌++◌, codes, map, List, slice_get, Some, MatchOption, option_copied, IfSome, IfOk, OnOk, string_bytes};
+ghost use Rattle.std.specs.Prelude.{◌≡◌, ℕ, false, true, [], ◌∷◌, ◌++◌, ◌==◌, ⊤, codes, map, List, slice_get, All, Decides, Some, MatchOption, option_and_then, option_copied, option_map, IfErr, IfSome, IfOk, OnOk, string_bytes};
+ghost use Rattle.serde_json.specs.Find.{as_object, get};
 ghost use Rattle.serde_json.specs.View.{view, members_view};
 ghost use Rattle.trees.specs.DependingParts.{IsEmpty, IsIndexed};
 ghost use Rattle.trees.specs.Documents.{IsLastPart};
-ghost use Rattle.trees.specs.LockingParts.{AddsEdges};
-ghost use Rattle.trees.specs.Npm.{path_in, packages_in, with_project, listed, text_at, is_link, other_name, behind, around, folders, IsName, IsRootName, IsCalled, IsLabel, AreAscending, HasNoLinks, HasPackages, HoldsPackages};
-ghost use Rattle.trees.specs.NpmParts.{AddsPackages, AddsNearest, AddsSteps, AddsStepsIn, ArePaths, HasSteps, chosen, edge_of, packages_of, texts_of};
+ghost use Rattle.trees.specs.LockingParts.{AddsEdges, FailsUnless};
+ghost use Rattle.trees.specs.Npm.{path_in, packages_in, with_project, listed, text_at, is_link, other_name, behind, around, folders, format_version, is_file_name, IsName, IsPath, IsRootName, IsCalled, IsLabel, IsNpmLock, IsPackage, IsSimple, AreAscending, HasLists, HasNoLinks, HasNoWorkspaces, HasPackages, HasPaths, HoldsNpmLock, HoldsPackages, MayBeLink, MayHaveText};
+ghost use Rattle.trees.specs.NpmParts.{AddsPackages, AddsNearest, AddsSteps, AddsStepsIn, ArePaths, AreRight, HasSteps, HoldsOnlyNpmLock, IsBehindUp, IsNode, chosen, edge_of, packages_of, texts_of};
+ghost use Rattle.trees.specs.Reading.{FailsFor, FailsToMake};
 
 use crate::deps::{Network, wrong};
 use crate::document::json_value;
@@ -38,8 +41,11 @@ const OTHER: &str = "no lockfileVersion 2 or 3, as a lock file of npm has";
 ///
 /// `Input` if the text is no such file, or one without paths, and `Memory`.
 pub fn package_lock(alloc: Global, source: &Source, network: &mut Network) -> Result<(), Failure>
-    ensures { IsEmpty network.old → OnOk result
+    ensures held { IsEmpty network.old → OnOk result
         (HoldsPackages source.now network.old.is_inverse network.new) }
+    ensures only { IsEmpty network.old → OnOk result (HoldsOnlyNpmLock source.now) }
+    ensures failed { IsEmpty network.old
+        → IfErr result (FailsToMake ⊥ (HoldsNpmLock source.now)) }
 {
     let lock = json_value(alloc, source)?;
     read(alloc, source, &lock, network)
@@ -47,14 +53,18 @@ pub fn package_lock(alloc: Global, source: &Source, network: &mut Network) -> Re
 
 // Adds the dependencies of a file.
 fn read(alloc: Global, source: &Source, lock: &Value, network: &mut Network) -> Result<(), Failure>
-    ensures { HasNoLinks (packages_in (view lock.now)) → IsEmpty network.old → OnOk result
+    ensures held { HasNoLinks (packages_in (view lock.now)) → IsEmpty network.old → OnOk result
         (HasPackages network.old.is_inverse source.now (view lock.now) network.new) }
+    ensures only { IsSimple (view lock.now) → IsEmpty network.old
+        → OnOk result (IsNpmLock (view lock.now)) }
+    ensures failed { IsEmpty network.old
+        → IfErr result (FailsUnless (IsNpmLock (view lock.now))) }
 {
     let Some(packages) = packages_of(lock) else {
         let is_old = lock.get("dependencies").is_some() && lock.get("lockfileVersion").is_some();
         return Err(wrong(alloc, source, &[if is_old { OLD } else { "no packages" }]));
     };
-    if !matches!(version(lock), Some(2 | 3)) {
+    if !has_paths(lock) {
         return Err(wrong(alloc, source, &[OTHER]));
     }
     let root = root_name(source, lock);
@@ -69,9 +79,11 @@ fn read(alloc: Global, source: &Source, lock: &Value, network: &mut Network) -> 
 
 // Returns the packages of a file, if it has some.
 fn packages_of(lock: &Value) -> Option<&Packages>
-    ensures { IfSome result
+    ensures all { IfSome result
         (λ m. packages_in (view lock.now)
         ≡ with_project (view lock.now) (listed (members_view m.now.entries))) }
+    ensures members { option_map (λ m. members_view m.now.entries) result
+        ≡ option_and_then as_object (get (codes "packages") (view lock.now)) }
 {
     lock.get("packages")?.as_object()
 }
@@ -86,8 +98,20 @@ fn root_name<'a>(source: &'a Source, lock: &'a Value) -> &'a str
     }
 }
 
+// Whether a file has the packages by their paths.
+fn has_paths(lock: &Value) -> bool
+    ensures { Decides result (HasPaths (view lock.now)) }
+{
+    match version(lock) {
+        Some(version) => version == 2 || version == 3,
+        None => false,
+    }
+}
+
 // Returns the version of the format of a file.
-fn version(lock: &Value) -> Option<u64> {
+fn version(lock: &Value) -> Option<u64>
+    ensures { result ≡ format_version (view lock.now) }
+{
     lock.get("lockfileVersion")?.as_u64()
 }
 
@@ -105,6 +129,10 @@ fn push_nodes(
         network.old network.new) }
     ensures ascending { OnOk result
         (AreAscending (listed (members_view packages.now.entries))) }
+    ensures only { OnOk result
+        (All IsPackage (listed (members_view packages.now.entries))) }
+    ensures failed { IfErr result
+        (FailsUnless (All IsPackage (listed (members_view packages.now.entries)))) }
 {
     check_packages(alloc, source, packages)?;
     let hidden = aliased(alloc, packages)?;
@@ -117,7 +145,12 @@ fn push_nodes(
 }
 
 // Checks the kinds of what packages have.
-fn check_packages(alloc: Global, source: &Source, packages: &Packages) -> Result<(), Failure> {
+fn check_packages(alloc: Global, source: &Source, packages: &Packages) -> Result<(), Failure>
+    ensures only { OnOk result
+        (All IsPackage (listed (members_view packages.now.entries))) }
+    ensures failed { IfErr result
+        (FailsUnless (All IsPackage (listed (members_view packages.now.entries)))) }
+{
     for (path, package) in packages.iter() {
         check_package(alloc, source, path.as_str(), package)?;
     }
@@ -202,43 +235,96 @@ fn links<'a>(alloc: Global, packages: &'a Packages) -> Result<Vec<(&'a str, bool
 }
 
 // Checks the kinds of what a package has.
-fn check_package(
-    alloc: Global,
-    source: &Source,
-    path: &str,
-    package: &Value,
-) -> Result<(), Failure> {
+fn check_package(alloc: Global, source: &Source, path: &str, package: &Value) -> Result<(), Failure>
+    ensures only { OnOk result (IsPackage (path.now, view «package».now)) }
+    ensures failed { IfErr result (FailsUnless (IsPackage (path.now, view «package».now))) }
+{
     if package.as_object().is_none() {
         return Err(wrong(alloc, source, &[path, " is not a package"]));
     }
     if !is_path(path) {
         return Err(wrong(alloc, source, &["invalid path ", path]));
     }
-    for key in ["name", "version"] {
-        if package.get(key).is_some() && word(package, key).is_none() {
-            return Err(wrong(alloc, source, &["invalid ", key, " of ", path]));
-        }
+    check_text(alloc, source, path, package, "name")?;
+    check_text(alloc, source, path, package, "version")?;
+    if may_be_link(package) {
+        Ok(())
+    } else {
+        Err(wrong(alloc, source, &["invalid link of ", path]))
     }
+}
+
+// Checks that what a package has at a key is a text.
+fn check_text(
+    alloc: Global,
+    source: &Source,
+    path: &str,
+    package: &Value,
+    key: &str,
+) -> Result<(), Failure>
+    ensures only { OnOk result (MayHaveText key.now (view «package».now)) }
+    ensures failed { IfErr result (FailsUnless (MayHaveText key.now (view «package».now))) }
+{
+    if may_have_text(package, key) {
+        Ok(())
+    } else {
+        Err(wrong(alloc, source, &["invalid ", key, " of ", path]))
+    }
+}
+
+// Whether what a package has at a key, if anything, is a text.
+fn may_have_text(package: &Value, key: &str) -> bool
+    ensures { Decides result (MayHaveText key.now (view «package».now)) }
+{
+    match package.get(key) {
+        Some(text) => text.is_string(),
+        None => true,
+    }
+}
+
+// Whether what says that a package is a link is a truth, and says where it leads if it is one.
+fn may_be_link(package: &Value) -> bool
+    ensures { Decides result (MayBeLink (view «package».now)) }
+{
     match package.get("link") {
-        None | Some(Value::Bool(false)) => Ok(()),
-        Some(Value::Bool(true)) if word(package, "resolved").is_some() => Ok(()),
-        Some(_) => Err(wrong(alloc, source, &["invalid link of ", path])),
+        Some(link) => match link.as_bool() {
+            Some(true) => word(package, "resolved").is_some(),
+            Some(false) => true,
+            None => false,
+        },
+        None => true,
     }
 }
 
 // Whether a path is one that npm writes: of names alone, behind `..` for each folder up.
-fn is_path(path: &str) -> bool {
+fn is_path(path: &str) -> bool
+    ensures { Decides result (IsPath path.now) }
+{
+    if path.is_empty() {
+        return true;
+    }
     let behind = behind_up(path);
-    path.is_empty() || behind == ".." || behind.split('/').all(is_name)
+    behind == ".." || are_names(behind)
 }
 
 // Returns what follows each `../` at the start of a path.
-fn behind_up(path: &str) -> &str {
+fn behind_up(path: &str) -> &str
+    ensures { IsBehindUp path.now result.now }
+{
     path.trim_start_matches("../")
 }
 
+// Whether the parts of a path are names.
+fn are_names(path: &str) -> bool
+    ensures { result ≡ list_all is_file_name (slice_split (λ b. b == 47) path.now) }
+{
+    path.split('/').all(|part| is_name(part))
+}
+
 // Whether a part of a path is the name of a file or folder.
-fn is_name(part: &str) -> bool {
+fn is_name(part: &str) -> bool
+    ensures { result ≡ is_file_name part.now }
+{
     part != "" && part != "." && part != ".."
 }
 
@@ -403,8 +489,11 @@ fn steps<'a>(
     packages: &'a Packages,
     paths: &[String],
 ) -> Result<Vec<Step<'a>>, Failure>
-    ensures { HasNoLinks (packages_of packages.now) → ArePaths (packages_of packages.now) paths.now
+    ensures made { HasNoLinks (packages_of packages.now)
+        → ArePaths (packages_of packages.now) paths.now
         → IfOk result (λ all. HasSteps (packages_of packages.now) all.items) }
+    ensures failed { IfErr result (FailsUnless (HasNoLinks (packages_of packages.now)
+        × ArePaths (packages_of packages.now) paths.now)) }
 {
     let mut steps = Vec::new(alloc);
     for (path, package) in packages.iter() {
@@ -432,10 +521,12 @@ fn push_steps<'a>(
     package: &'a Value,
     steps: &mut Vec<Step<'a>>,
 ) -> Result<(), Failure>
-    ensures { HasNoLinks (packages_of packages.now) → AreAscending (packages_of packages.now)
+    ensures added { HasNoLinks (packages_of packages.now) → AreAscending (packages_of packages.now)
         → ArePaths (packages_of packages.now) paths.now → (i : ℕ)
         → slice_get (packages_of packages.now) i ≡ Some (path.now, view «package».now)
         → OnOk result (AddsSteps path.now i steps.old.items steps.new.items) }
+    ensures failed { IfErr result (FailsUnless
+        (IsNode (packages_of packages.now) paths.now (path.now, view «package».now))) }
 {
     let meant = target(path, package);
     let own = find_node(paths, path);
@@ -535,8 +626,13 @@ fn push_needs<'a>(
     steps: &[Step<'a>],
     network: &mut Network,
 ) -> Result<(), Failure>
-    ensures { IsIndexed network.old → OnOk result
+    ensures added { IsIndexed network.old → OnOk result
         (AddsNearest (packages_of packages.now) steps.now network.old network.new) }
+    ensures only { HasSteps (packages_of packages.now) steps.now
+        → HasNoWorkspaces (packages_of packages.now)
+        → OnOk result (All HasLists (packages_of packages.now)) }
+    ensures failed { IfErr result
+        (FailsUnless (AreRight (packages_of packages.now) steps.now)) }
 {
     let mut walk = Walk {
         packages,
@@ -581,13 +677,15 @@ struct Walk<'s, 'a> {
 }
 
 impl<'s, 'a> Walk<'s, 'a> {
-    ghost use Rattle.std.specs.Prelude.{◌≡◌, ◌∷◌, ◌+◌, ℕ, [], List, map, Some, OnOk, slice_get};
+    ghost use Rattle.std.specs.Prelude.{◌≡◌, ◌∷◌, ◌+◌, ℕ, ⊤, [], List, codes, map, All, Some, IfErr, OnOk, slice_get};
     ghost use Rattle.std.specs.StrCase.Lower.{str_to_lowercase};
     ghost use Rattle.serde_json.specs.Data.{Data};
     ghost use Rattle.serde_json.specs.View.{view};
     ghost use Rattle.trees.specs.DependingParts.{IsIndexed};
-    ghost use Rattle.trees.specs.Npm.{names_at, AreAscending, HasNoWorkspaces};
-    ghost use Rattle.trees.specs.NpmParts.{Step, nearest_of, entered_of, texts_of, packages_of, walked, IsReady, IsFresh, HasSteps, IsAtStep, Enters, Leaves, AddsNamed, AddsDeveloped, AddsLists, AddsNearest};
+    ghost use Rattle.trees.specs.LockingParts.{FailsUnless};
+    ghost use Rattle.trees.specs.Reading.{FailsFor};
+    ghost use Rattle.trees.specs.Npm.{names_at, AreAscending, HasLists, HasNoWorkspaces, IsPlaced, MayHaveObject};
+    ghost use Rattle.trees.specs.NpmParts.{Step, nearest_of, entered_of, texts_of, packages_of, walked, IsReady, IsFresh, HasSteps, IsAtStep, IsListedAt, IsRightAt, AreRight, Enters, Leaves, AddsNamed, AddsDeveloped, AddsLists, AddsNearest};
 
     // Goes these steps, and adds what packages need.
     fn add(
@@ -597,8 +695,12 @@ impl<'s, 'a> Walk<'s, 'a> {
         steps: &'s [Step<'a>],
         network: &mut Network,
     ) -> Result<(), Failure>
-        ensures { IsFresh self.old → IsIndexed network.old → OnOk result
+        ensures added { IsFresh self.old → IsIndexed network.old → OnOk result
             (AddsNearest (walked self.old) steps.now network.old network.new) }
+        ensures only { IsFresh self.old → HasSteps (walked self.old) steps.now
+            → HasNoWorkspaces (walked self.old) → OnOk result (All HasLists (walked self.old)) }
+        ensures failed { IsFresh self.old
+            → IfErr result (FailsUnless (AreRight (walked self.old) steps.now)) }
     {
         for step in steps {
             self.go(alloc, source, step)?;
@@ -609,10 +711,17 @@ impl<'s, 'a> Walk<'s, 'a> {
 
     // Goes a step.
     fn go(&mut self, alloc: Global, source: &Source, step: &'s Step<'a>) -> Result<(), Failure>
-        ensures { (packages : List (List ℕ × Data)) (steps : List Step) (k : ℕ)
+        ensures at { (packages : List (List ℕ × Data)) (steps : List Step) (k : ℕ)
             → HasSteps packages steps → HasNoWorkspaces packages
             → slice_get steps k ≡ Some step.now → IsAtStep packages steps k self.old
             → OnOk result (IsAtStep packages steps (k + 1) self.new) }
+        ensures only { (packages : List (List ℕ × Data)) (steps : List Step) (k : ℕ)
+            → HasSteps packages steps → HasNoWorkspaces packages
+            → slice_get steps k ≡ Some step.now → IsAtStep packages steps k self.old
+            → OnOk result (IsListedAt packages step.now) }
+        ensures failed { (packages : List (List ℕ × Data)) (steps : List Step) (k : ℕ)
+            → slice_get steps k ≡ Some step.now → IfErr result
+            (FailsUnless (AreRight packages steps × IsAtStep packages steps k self.old)) }
     {
         self.leave(alloc, &step.0)?;
         if step.1 {
@@ -657,10 +766,14 @@ impl<'s, 'a> Walk<'s, 'a> {
         node: usize,
         path: &str,
     ) -> Result<(), Failure>
-        ensures { AreAscending (walked self.old) → HasNoWorkspaces (walked self.old)
+        ensures added { AreAscending (walked self.old) → HasNoWorkspaces (walked self.old)
             → IsReady self.old → (i : ℕ) (d : Data)
             → slice_get (walked self.old) i ≡ Some (path.now, d)
             → OnOk result (AddsLists path.now d node self.old self.new) }
+        ensures only { AreAscending (walked self.old) → (i : ℕ) (d : Data)
+            → slice_get (walked self.old) i ≡ Some (path.now, d)
+            → OnOk result (HasLists (path.now, d)) }
+        ensures failed { IfErr result (FailsUnless (IsRightAt (walked self.old) path.now)) }
     {
         let Some(package) = self.packages.get(path) else {
             return Ok(());
@@ -684,8 +797,10 @@ impl<'s, 'a> Walk<'s, 'a> {
         path: &str,
         package: &'a Value,
     ) -> Result<(), Failure>
-        ensures { IsReady self.old → OnOk result
+        ensures added { IsReady self.old → OnOk result
             (AddsLists path.now (view «package».now) node self.old self.new) }
+        ensures only { OnOk result (HasLists (path.now, view «package».now)) }
+        ensures failed { IfErr result (FailsUnless (HasLists (path.now, view «package».now))) }
     {
         self.push_list(alloc, source, node, path, package, "dependencies")?;
         self.push_developed(alloc, source, node, path, package)?;
@@ -702,8 +817,12 @@ impl<'s, 'a> Walk<'s, 'a> {
         path: &str,
         package: &'a Value,
     ) -> Result<(), Failure>
-        ensures { IsReady self.old → OnOk result
+        ensures added { IsReady self.old → OnOk result
             (AddsDeveloped path.now (view «package».now) node self.old self.new) }
+        ensures only { OnOk result ((IsPlaced path.now → ⊥)
+            → MayHaveObject (codes "devDependencies") (view «package».now)) }
+        ensures failed { IfErr result (FailsUnless ((IsPlaced path.now → ⊥)
+            → MayHaveObject (codes "devDependencies") (view «package».now))) }
     {
         if place(path).is_some() {
             return Ok(());
@@ -721,8 +840,11 @@ impl<'s, 'a> Walk<'s, 'a> {
         package: &'a Value,
         list: &str,
     ) -> Result<(), Failure>
-        ensures { IsReady self.old → OnOk result
+        ensures added { IsReady self.old → OnOk result
             (AddsNamed node (names_at list.now (view «package».now)) self.old self.new) }
+        ensures only { OnOk result (MayHaveObject list.now (view «package».now)) }
+        ensures failed { IfErr result
+            (FailsUnless (MayHaveObject list.now (view «package».now))) }
     {
         let Some(needs) = package.get(list) else {
             return Ok(());
@@ -756,7 +878,9 @@ impl<'s, 'a> Walk<'s, 'a> {
         source: &Source,
         node: usize,
         workspaces: &Value,
-    ) -> Result<(), Failure> {
+    ) -> Result<(), Failure>
+        ensures { IfErr result (FailsFor ⊤ ⊥) }
+    {
         let patterns = patterns(alloc, source, workspaces)?;
         let meant = Workspaces::of(alloc, patterns)?;
         for (path, package) in self.packages.iter() {
@@ -805,7 +929,9 @@ fn patterns<'a>(
     alloc: Global,
     source: &Source,
     workspaces: &'a Value,
-) -> Result<&'a [Value], Failure> {
+) -> Result<&'a [Value], Failure>
+    ensures { IfErr result (FailsFor ⊤ ⊥) }
+{
     let Some(patterns) = workspaces.get("packages").unwrap_or(workspaces).as_array() else {
         return Err(wrong(alloc, source, &["workspaces is not a list"]));
     };
@@ -819,7 +945,9 @@ fn patterns<'a>(
 }
 
 // Says that a pattern is not read.
-fn not_plain(alloc: Global, source: &Source, pattern: &Value) -> Result<Failure, AllocError> {
+fn not_plain(alloc: Global, source: &Source, pattern: &Value) -> Result<Failure, AllocError>
+    ensures { IfOk result (FailsFor ⊤ ⊥) }
+{
     let pattern = format!(in alloc; "{pattern}")?;
     let parts = ["workspaces can be a/b, a/* or a/**, not ", pattern.as_str()];
     Ok(wrong(alloc, source, &parts))

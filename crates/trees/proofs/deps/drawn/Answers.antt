@@ -8,6 +8,10 @@ use Rattle.trees.specs.Meaning.{HoldsNoLock}
 use Rattle.trees.specs.Shown.{shown_text}
 use Rattle.trees.proofs.PairGraphs.{graph_held, graph_whole, names_apart, fails_without, fails_unnamed}
 use Rattle.trees.proofs.Readings.{fails_weaker}
+use Rattle.serde_json.specs.Data.{Data}
+use Rattle.trees.specs.Npm.{HoldsNpmLock}
+use Rattle.trees.proofs.NpmLocks.{packages_within}
+use Rattle.trees.proofs.PairGraphs.{topped_whole}
 use Rattle.trees.proofs.deps.drawn.Goals as goal
 
 pub returns-clause-graph : goal.returns-clause-graph
@@ -57,4 +61,26 @@ returns-in_err-graph-clause-refused c = λ is none empty.
     (λ lacks d lock.
     let net = c.in_ok-read_network.ensures.held (inr (d, record { file = is; document = lock.0; plain = lock.1.plain })) empty in
     graph_whole c.args.source.now c.args.name c.read_network.new.network c.root_of.new.network (record c.root_of.new.network { edges = c.reverse.new.self }) c.in_ok-root.root.0 net.whole (c.in_ok-root.ensures.root net.paths net.whole) refl c.reverse.ensures.items lacks) c.in_err-graph.ensures.failed in
+    search (rules, says)
+
+pub returns-in_err-read_network-clause-npm : goal.returns-in_err-read_network-clause-npm
+returns-in_err-read_network-clause-npm c = λ is none empty.
+    let says = c.in_err-read_network.ensures.npm is empty in
+    search (rules, says)
+
+pub returns-in_err-root-clause-npm : goal.returns-in_err-root-clause-npm
+returns-in_err-root-clause-npm c = λ is none empty.
+    let says = fails_weaker ⊥ ((lock : Data) → HoldsNpmLock c.args.source.now lock → ⊥) ⊥ c.in_err-root.field-0.0 (λ no'. absurd no') (c.in_err-root.ensures.memory none) in
+    search (rules, says)
+
+pub returns-in_err-graph-clause-npm : goal.returns-in_err-graph-clause-npm
+returns-in_err-graph-clause-npm c = λ is none empty.
+    let source = c.args.source.now in
+    let read = c.read_network.new.network in
+    let rooted = c.root_of.new.network in
+    let says = fails_weaker (Any (LacksNode (length (labels_of rooted))) c.reverse.new.self.items) ((lock : Data) → HoldsNpmLock source lock → ⊥) ⊥ c.in_err-graph.field-0.0
+    (λ lacks lock holds.
+    let top = c.in_ok-root.ensures.top none in
+    let within = packages_within source c.args.network.now.is_inverse read lock holds (c.in_ok-read_network.ensures.packages is empty) in
+    topped_whole top.0 read rooted (record rooted { edges = c.reverse.new.self }) c.in_ok-root.root.0 within top.1 refl c.reverse.ensures.items lacks) c.in_err-graph.ensures.failed in
     search (rules, says)

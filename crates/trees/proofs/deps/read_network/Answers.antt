@@ -41,3 +41,18 @@ returns-else-contains-clause-held c = λ is empty.
 pub returns-else-contains-clause-refused : goal.returns-else-contains-clause-refused
 returns-else-contains-clause-refused c = λ is.
     absurd (false≢true (sym (test_is (goal.at.returns-else-contains-clause-refused c).After-contains ∙ c.if-contains.false) ∙ is.toml))
+
+pub returns-in_ok-wrong-clause-failed : goal.returns-in_ok-wrong-clause-failed
+returns-in_ok-wrong-clause-failed c = λ is. absurd (c.in-Some.ensures is.name is.lines)
+
+pub returns-in_ok-wrong-clause-refused : goal.returns-in_ok-wrong-clause-refused
+returns-in_ok-wrong-clause-refused c = λ is. absurd (c.in-Some.ensures is.name is.lines)
+
+pub returns-in_ok-wrong-clause-npm : goal.returns-in_ok-wrong-clause-npm
+returns-in_ok-wrong-clause-npm c = λ is empty. absurd (c.in-Some.ensures is.name is.lines)
+
+pub returns-then-starts_with-clause-packages : goal.returns-then-starts_with-clause-packages
+returns-then-starts_with-clause-packages c = λ is empty. c.package_lock.ensures.held empty
+
+pub returns-then-starts_with-clause-npm : goal.returns-then-starts_with-clause-npm
+returns-then-starts_with-clause-npm c = λ is empty. c.package_lock.ensures.failed empty

@@ -4,7 +4,8 @@ use Rattle.trees.specs.Asked.{drawing_value}
 use Rattle.trees.specs.Depending.{HoldsNoGraph}
 use Rattle.trees.specs.Meaning.{HoldsNoLock}
 use Rattle.trees.specs.Reading.{FailsFor}
-use Rattle.trees.specs.Writing.{Writes, IsGraphDrawing, IsNeedsDrawing, FailsToDepend}
+use Rattle.trees.specs.Npm.{HoldsNoNpmLock}
+use Rattle.trees.specs.Writing.{Writes, IsGraphDrawing, IsNeedsDrawing, IsSomeDrawing, FailsToDepend}
 use Rattle.trees.proofs.Readings.{fails_weaker}
 use Rattle.trees.proofs.Shown.{dependencies_shown, drawing_nothing}
 use Rattle.trees.proofs.Writings.{writes_weaker, nothing_written}
@@ -54,3 +55,31 @@ returns-clause-shown g c =
 
 pub returns-in_err-dependencies-clause-shown : goal.returns-in_err-dependencies-clause-shown
 returns-in_err-dependencies-clause-shown g c = drawing_nothing c.args.found.now.sources c.args.drawing (g.W.Sink.contents c.args.out.now)
+
+pub returns-clause-npm : goal.returns-clause-npm
+returns-clause-npm g c = λ is none.
+    let sources = c.args.found.now.sources in
+    let source = c.args.source.now in
+    let deps = c.args.deps in
+    let drawing = c.args.drawing in
+    let config = drawing_value sources drawing in
+    let found = c.in_ok-dependencies.dependencies in
+    let old = g.W.Sink.contents c.args.out.now in
+    let new = g.W.Sink.contents c.draw-drawn.new.out in
+    let drawn : Writes old new c.draw-drawn.result (IsGraphDrawing config found deps.walks) (FailsFor (5000 < config.depth) ⊥) = search rules in
+    writes_weaker old new c.draw-drawn.result (IsGraphDrawing config found deps.walks) (IsSomeDrawing sources deps drawing) (FailsFor (5000 < config.depth) ⊥) (FailsFor (HoldsNoNpmLock source ⊎ (5000 < config.depth)) ⊥)
+    (λ bytes drawing'. (found, drawing')) (λ e says. fails_weaker (5000 < config.depth) (HoldsNoNpmLock source ⊎ (5000 < config.depth)) ⊥ e inr says) drawn
+
+pub returns-in_err-dependencies-clause-npm : goal.returns-in_err-dependencies-clause-npm
+returns-in_err-dependencies-clause-npm g c = λ is none.
+    let sources = c.args.found.now.sources in
+    let source = c.args.source.now in
+    let deps = c.args.deps in
+    let drawing = c.args.drawing in
+    let r = c.from_residual.result in
+    let deep : Type 0 = 5000 < (drawing_value sources drawing).depth in
+    let e = c.in_err-dependencies.field-0.0 in
+    let fails : FailsFor (HoldsNoNpmLock source ⊎ deep) ⊥ e = fails_weaker (HoldsNoNpmLock source) (HoldsNoNpmLock source ⊎ deep) ⊥ e inl (c.in_err-dependencies.ensures.npm is none) in
+    let says : IfErr r (FailsFor (HoldsNoNpmLock source ⊎ deep) ⊥) = search (rules, fails) in
+    let err : IsErr r = search rules in
+    nothing_written (g.W.Sink.contents c.args.out.now) r (IsSomeDrawing sources deps drawing) (FailsFor (HoldsNoNpmLock source ⊎ deep) ⊥) err says
