@@ -53,6 +53,9 @@ pub mod PairGraphs
 pub mod Pairs
 pub mod Parts
 pub mod PathNames
+pub mod PoetryNames
+pub mod PoetryNeeds
+pub mod PoetryTables
 pub mod Reached
 pub mod Readings
 pub mod RefusedTexts

@@ -1,12 +1,14 @@
--- A lock file by computation.
+-- Lock files by computation.
 use Rattle.std.proofs.Common.{◌≡◌, ℕ, zero, suc, ◌<◌, true, List, [], ◌∷◌, codes, length, get_or, inl, inr, refl, arith}
 use Rattle.std.proofs.lemmas.Bool.{false≢true}
 use Rattle.std.proofs.lemmas.List.Elements.{All-cons, All-nil}
 use Rattle.std.proofs.lemmas.List.Sorted.{IsPermutation-refl}
+use Rattle.std.specs.Char.{encode_utf8}
 use Rattle.std.specs.List.Sorted.{IsStrictlySortedBy}
 use Rattle.std.specs.Prelude.{None}
+use Rattle.std.specs.Str.{chars}
 use Rattle.toml.specs.Data.{Data, string, array, table, no_items, item, no_members, member}
-use Rattle.trees.specs.Locking.{Package, Known, is_as, Leads, IsListed, IsLock, IsPackage, NeedsLead}
+use Rattle.trees.specs.Locking.{Package, Known, is_as, name_entry, normal_name, own_entries, tables_in, Leads, IsLock, IsPackage, NeedsLead}
 use Rattle.trees.proofs.NeedTexts.{lacks_byte, text_alone}
 
 -- two packages, of which the first needs the second
@@ -42,7 +44,7 @@ leads = (known, (known, text_alone (codes "b") (lacks_byte 32 (codes "b") blank)
 lock : IsLock (table (member (codes "package") (array (item first (item second no_items))) no_members))
 unfolding IsStrictlySortedBy
 lock = record {
-  plain = record { root = refl; hash = refl; listed = All-cons IsListed first (second ∷ []) (λ needs e. cc) (All-cons IsListed second [] (λ needs e. cc) (All-nil IsListed)) };
+  plain = record { root = refl };
   tables = refl;
   locked = (first, a) ∷ (second, b) ∷ [];
   are = record {
@@ -55,3 +57,35 @@ lock = record {
       (record { own = record { list = refl; each = All-cons (λ entry. (at : ℕ) × Leads packages entry at) (string (codes "b")) [] (1, leads) (All-nil (λ entry. (at : ℕ) × Leads packages entry at)) }; optional = tt; dev = tt })
       (All-cons (NeedsLead packages) second [] (record { own = tt; optional = tt; dev = tt }) (All-nil (NeedsLead packages)));
 }
+
+-- ## Names of Python packages
+
+-- in lower case, with one dash for each run of dashes, dots and underscores
+plain_name : normal_name (codes "requests") ≡ codes "requests"
+unfolding chars encode_utf8
+plain_name = refl
+
+upper_name : normal_name (codes "Charset_Normalizer") ≡ codes "charset-normalizer"
+unfolding chars encode_utf8
+upper_name = refl
+
+runs : normal_name (codes "_A..b-_.C-") ≡ codes "-a-b-c-"
+unfolding chars encode_utf8
+runs = refl
+
+-- a poetry.lock: names are changed where there is a version
+abbrev python : Data
+python = table (member (codes "name") (string (codes "B_c")) (member (codes "version") (string (codes "1")) no_members))
+
+abbrev unversioned : Data
+unversioned = table (member (codes "name") (string (codes "B_c")) no_members)
+
+changed : tables_in (table (member (codes "metadata") (table (member (codes "content-hash") (string []) no_members)) (member (codes "package") (array (item python (item unversioned no_items))) no_members)))
+    ≡ table (member (codes "name") (string (codes "b-c")) (member (codes "version") (string (codes "1")) no_members)) ∷ unversioned ∷ []
+unfolding chars encode_utf8
+changed = refl
+
+-- a name whose package is not locked is no need
+needed : own_entries (b ∷ []) (table (member (codes "A") (string (codes "*")) (member (codes "B") (string (codes "*")) no_members))) ≡ name_entry (codes "b") ∷ []
+unfolding chars encode_utf8
+needed = refl

@@ -35,7 +35,7 @@ from_within packages [] (places ∷ all) n k room few zip = absurd zip
 from_within packages (l ∷ locked) [] n k room few zip = absurd zip
 from_within packages (l ∷ locked) (places ∷ all) n k room few zip =
     All-append (IsWithin n) (map (λ at. (k, at)) places) (edges_from (k + 1) all)
-    (All-map (IsWithin n) (λ at. (k, at)) places (All-weaker (λ at. at < length packages) (λ at. IsWithin n (k, at)) (λ at low. (omega arith, omega arith)) places (places_within packages (entries_in l.0) places zip.0)))
+    (All-map (IsWithin n) (λ at. (k, at)) places (All-weaker (λ at. at < length packages) (λ at. IsWithin n (k, at)) (λ at low. (omega arith, omega arith)) places (places_within packages (entries_in packages l.0) places zip.0)))
     (from_within packages locked all n (k + 1) (omega arith) few zip.1)
 
 tables_within : (is_inverse : Bool) (tables : List Data) (names : List (List ℕ)) (needs : List (ℕ × ℕ)) → MeansTables is_inverse tables names needs → All (IsWithin (length names)) needs

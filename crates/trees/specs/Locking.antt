@@ -1,13 +1,14 @@
 -- Which packages a lock file with tables `[[package]]` has, their labels, and which of them an entry needs.
+use Rattle.std.specs.Char.{to_ascii_lowercase}
 use Rattle.std.specs.Cmp.Lexicographic.{slice_cmp}
-use Rattle.std.specs.List.{before_first}
+use Rattle.std.specs.List.{before_first, dedup, list_any}
 use Rattle.std.specs.List.Sorted.{IsPermutation, IsStrictlySortedBy}
 use Rattle.std.specs.Option.{option_and, option_and_then, option_or}
 use Rattle.std.specs.Ordering.{nat_cmp, ordering_then}
-use Rattle.std.specs.Prelude.{◌≡◌, ◌≢◌, ◌+◌, ◌<◌, ◌⊎◌, ◌==◌, ◌&&◌, ◌||◌, ℕ, Bool, not, true, false, is_some, List, [], ◌∷◌, ◌++◌, codes, flat_map, length, map, All, Contains, HoldsAt, Option, Some, None, IfSome, IsSome, MatchOption, option_map, unwrap_or}
-use Rattle.std.specs.Str.{bytes_eq}
+use Rattle.std.specs.Prelude.{◌≡◌, ◌≢◌, ◌+◌, ◌<◌, ◌⊎◌, ◌==◌, ◌&&◌, ◌||◌, if◌then◌else◌, ℕ, Bool, not, true, false, is_some, List, [], ◌∷◌, ◌++◌, codes, flat_map, length, map, All, Contains, HoldsAt, Option, Some, None, IfSome, IsSome, MatchOption, option_map, unwrap_or}
+use Rattle.std.specs.Str.{bytes_eq, chars, encode_utf8_all}
 use Rattle.std.specs.declared.cmp.Ordering.{Ordering}
-use Rattle.toml.specs.Data.{Data, string, array, table, Items, no_items, item, Members, no_members, member, get, get_member, as_array, as_str, as_table}
+use Rattle.toml.specs.Data.{Data, string, array, table, Items, no_items, item, Members, no_members, member, get, get_member, same_key, as_array, as_str, as_table}
 use Rattle.trees.specs.Listing.{is_empty}
 
 -- ## Packages
@@ -26,6 +27,20 @@ package_cmp p q = ordering_then (slice_cmp nat_cmp p.name q.name) (ordering_then
 abbrev pub same_version : Package → Package → Bool
 same_version p q = bytes_eq p.name q.name && bytes_eq p.version q.version
 
+-- ## Names of Python packages
+
+-- a character of a name as names are compared: in lower case, and a dash for an underscore or a dot
+abbrev pub normal_char : ℕ → ℕ
+normal_char c = if (c == 95) || (c == 46) then 45 else to_ascii_lowercase c
+
+-- both characters are dashes
+abbrev pub are_dashes : ℕ → ℕ → Bool
+are_dashes c d = (c == 45) && (d == 45)
+
+-- a name as names are compared, which has one dash for several in a row
+abbrev pub normal_name : List ℕ → List ℕ
+normal_name name = encode_utf8_all (dedup are_dashes (map normal_char (chars name)))
+
 -- ## Needs
 
 -- what is known of a package that is needed
@@ -33,6 +48,10 @@ pub record Known : Type 0 where
   pub name : List ℕ
   pub version : Option (List ℕ)
   pub source : Option (List ℕ)
+
+-- the name alone is known
+abbrev pub called : List ℕ → Known
+called name = record { name = name; version = None; source = None }
 
 -- whether a text is the one that is known, if one is
 abbrev pub is_known : Option (List ℕ) → List ℕ → Bool
@@ -51,6 +70,10 @@ pub record IsNeeded (packages : List Package) (known : Known) (at : ℕ) : Type 
   pub below : at < length packages
   pub is : HoldsAt (λ p. is_as known p ≡ true) packages at
   pub only : HoldsAt (λ p. is_in_folder known p ≡ true) packages at ⊎ ((k : ℕ) → k < length packages → HoldsAt (λ p. is_as known p ≡ true) packages k → k ≡ at)
+
+-- whether there is a package of a name
+abbrev pub is_locked : List Package → List ℕ → Bool
+is_locked packages name = list_any (is_as (called name)) packages
 
 -- ## Texts of needs
 
@@ -159,17 +182,31 @@ grouped _ = []
 abbrev pub entries_at : (Data → List Data) → List ℕ → Data → List Data
 entries_at entries key d = unwrap_or (option_map entries (get key d)) []
 
--- the entries that a package's table lists
-abbrev pub entries_in : Data → List Data
-entries_in d = entries_at entries_of (codes "dependencies") d ++ entries_at grouped (codes "optional-dependencies") d ++ entries_at grouped (codes "dev-dependencies") d
+-- the keys of a table, and what is there
+abbrev pub members_in : Members → List (List ℕ × Data)
+members_in no_members = []
+members_in (member key d members) = (key, d) ∷ members_in members
+
+-- a name as an entry, as a uv.lock has it
+abbrev pub name_entry : List ℕ → Data
+name_entry name = table (member (codes "name") (string name) no_members)
+
+-- the entry of a name in a poetry.lock, or none if there is no such package
+abbrev pub locked_entries : List Package → List ℕ → List Data
+locked_entries packages name = if is_locked packages (normal_name name) then name_entry (normal_name name) ∷ [] else []
+
+-- the entries of a list, or those of the names in a table of a poetry.lock
+abbrev pub own_entries : List Package → Data → List Data
+own_entries packages (table needs) = flat_map (λ m. locked_entries packages m.0) (members_in needs)
+own_entries packages d = entries_of d
+
+-- the entries that a package's table has, of which those in a poetry.lock depend on the packages
+abbrev pub entries_in : List Package → Data → List Data
+entries_in packages d = entries_at (own_entries packages) (codes "dependencies") d ++ entries_at grouped (codes "optional-dependencies") d ++ entries_at grouped (codes "dev-dependencies") d
 
 -- an entry leads to the place of the package that it needs
 abbrev pub Leads : List Package → Data → ℕ → Type 0
 Leads packages entry at = (known : Known) × IsNeed entry known × IsNeeded packages known at
-
--- the dependencies of a package's table are no table of their own, as they are in a poetry.lock
-abbrev pub IsListed : Data → Type 0
-IsListed d = (needs : Members) → get (codes "dependencies") d ≢ Some (table needs)
 
 -- the edges from nodes to places, in the order of the nodes
 abbrev pub edges_from : ℕ → List (List ℕ) → List (ℕ × ℕ)
@@ -178,19 +215,48 @@ edges_from node (places ∷ more) = map (λ at. (node, at)) places ++ edges_from
 
 -- ## Lock files
 
--- the tables of packages
-abbrev pub tables_in : Data → List Data
-tables_in d = entries_at entries_of (codes "package") d
-
 -- whether a lock file has a hash of what it was made from, as a poetry.lock has
 abbrev pub has_hash : Data → Bool
 has_hash d = is_some (option_and_then (get (codes "content-hash")) (get (codes "metadata") d))
 
--- a lock file is none of poetry, and has no package besides its tables
+-- whether a package's table has its dependencies in a table, as in a poetry.lock
+abbrev pub has_table_of_needs : Data → Bool
+has_table_of_needs d = is_some (option_and_then as_table (get (codes "dependencies") d))
+
+-- members, of which the first at a key is changed
+abbrev pub changed_at : List ℕ → (Data → Data) → Members → Members
+changed_at key change no_members = no_members
+changed_at key change (member k d rest) = if same_key key k then member k (change d) rest else member k d (changed_at key change rest)
+
+-- a text as names are compared
+abbrev pub normal_value : Data → Data
+normal_value (string name) = string (normal_name name)
+normal_value d = d
+
+-- whether a table has what `IsVersion` asks for
+abbrev pub has_version : Data → Bool
+has_version d = unwrap_or (option_map (λ v. is_some (as_str v)) (get (codes "version") d)) (is_some (option_and_then as_table (get (codes "source") d)))
+
+-- a table with its name as names are compared, unless it has no version and so no package
+abbrev pub normal_table : Data → Data
+normal_table (table parts) = if has_version (table parts) then table (changed_at (codes "name") normal_value parts) else table parts
+normal_table d = d
+
+-- tables, in a poetry.lock with their names as names are compared
+abbrev pub completed : Bool → List Data → List Data
+completed hash tables = if hash || list_any has_table_of_needs tables then map normal_table tables else tables
+
+-- the tables that a lock file lists
+abbrev pub listed_tables : Data → List Data
+listed_tables d = entries_at entries_of (codes "package") d
+
+-- the tables of packages
+abbrev pub tables_in : Data → List Data
+tables_in d = completed (has_hash d) (listed_tables d)
+
+-- a lock file has no package besides its tables
 pub record IsPlain (d : Data) : Type 0 where
   pub root : get (codes "root") d ≡ None
-  pub hash : has_hash d ≡ false
-  pub listed : All IsListed (tables_in d)
 
 -- a lock file has a list of the tables of packages
 abbrev pub HasTables : Data → Type 0
@@ -211,14 +277,28 @@ pub record IsLed (packages : List Package) (d : Data) : Type 0 where
 abbrev pub AreLed : List Package → Data → Type 0
 AreLed packages d = (groups : Members) × (as_table d ≡ Some groups) × All (IsLed packages) (values_of groups)
 
+-- whether a value may stand behind a name in a poetry.lock: a text, a table or a list
+abbrev pub is_behind_name : Data → Bool
+is_behind_name d = is_some (as_str d) || is_some (as_table d) || is_some (as_array d)
+
+-- a name in a poetry.lock and what is behind it: its package is one, if there is one
+pub record NameLeads (packages : List Package) (m : List ℕ × Data) : Type 0 where
+  pub behind : is_behind_name m.1 ≡ true
+  pub each : All (λ entry. (at : ℕ) × Leads packages entry at) (locked_entries packages m.0)
+
+-- a value is a list of entries that lead to packages, or a table of such names
+abbrev pub OwnLead : List Package → Data → Type 0
+OwnLead packages (table needs) = All (NameLeads packages) (members_in needs)
+OwnLead packages d = IsLed packages d
+
 -- what a package's table needs leads to packages
 pub record NeedsLead (packages : List Package) (d : Data) : Type 0 where
-  pub own : IfSome (get (codes "dependencies") d) (IsLed packages)
+  pub own : IfSome (get (codes "dependencies") d) (OwnLead packages)
   pub optional : IfSome (get (codes "optional-dependencies") d) (AreLed packages)
   pub dev : IfSome (get (codes "dev-dependencies") d) (AreLed packages)
 
 -- a document is a plain lock file: of its tables no two have the same package, and all needs lead to
--- packages of these
+-- packages of these, but for those in a poetry.lock of which there is no package
 pub record IsLock (d : Data) : Type 0 where
   pub plain : IsPlain d
   pub tables : HasTables d

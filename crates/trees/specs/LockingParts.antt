@@ -19,7 +19,7 @@ use Rattle.trees.specs.Documents.{IsDocumentOf}
 use Rattle.trees.specs.Depending.{directed, same_edge}
 use Rattle.trees.specs.DependingParts.{labels_of, needs_of, added, KeepsNodes, IsIndexed}
 use Rattle.trees.specs.Reading.{FailsFor}
-use Rattle.trees.specs.Locking.{Package, Known, is_as, package_cmp, IsPackage, between, unrevised, Lacks, IsLabel, IsLock, IsNeeded, IsPlain, tables_in, edges_from, Leads}
+use Rattle.trees.specs.Locking.{Package, Known, is_as, package_cmp, IsPackage, between, called, is_locked, locked_entries, unrevised, Lacks, IsLabel, IsLock, IsNeeded, IsPlain, tables_in, edges_from, Leads}
 use Rattle.trees.specs.Meaning.{MeansTables, NeedPlaces}
 
 -- ## Packages
@@ -64,6 +64,15 @@ IsAt packages known at = (at < length packages) × HoldsAt (λ p. is_as known p 
 abbrev pub IsFaulty : List Package → Known → Fault → Type 0
 IsFaulty packages known Missing = All (λ p. is_as known p ≡ false) packages
 IsFaulty packages known Several = Any (λ p. is_as known p ≡ true) packages × ((at : ℕ) → IsNeeded packages known at → ⊥)
+
+-- the place of the package of a name, if there is one
+abbrev pub IsPlaceOf : List Package → List ℕ → Option ℕ → Type 0
+IsPlaceOf packages name None = is_locked packages name ≡ false
+IsPlaceOf packages name (Some at) = (is_locked packages name ≡ true) × IsNeeded packages (called name) at
+
+-- the entries of a name in a poetry.lock lead to packages
+abbrev pub NameLed : List Package → List ℕ → Type 0
+NameLed packages name = All (λ entry. (at : ℕ) × Leads packages entry at) (locked_entries packages name)
 
 -- ## Texts
 

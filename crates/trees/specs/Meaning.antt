@@ -43,7 +43,7 @@ pub record MeansPairs (source : Source) (is_inverse : Bool) (names : List (List 
 
 -- the entries of a package's table lead to these places
 abbrev pub NeedPlaces : List Package → Data → List ℕ → Type 0
-NeedPlaces packages d places = AllZip (Leads packages) (entries_in d) places
+NeedPlaces packages d places = AllZip (Leads packages) (entries_in packages d) places
 
 -- they are those of tables: the labels of the packages in ascending order, and the edges of their entries,
 -- each once, in the order in which they first stand

@@ -1,9 +1,11 @@
 //! Lock files with tables `[[package]]`: `Cargo.lock`, `poetry.lock` and `uv.lock`.
+ghost use Rattle.std.specs.List.{list_any};
 ghost use Rattle.std.specs.List.Sorted.{IsStrictlySortedBy};
-ghost use Rattle.std.specs.Prelude.{◌≡◌, ◌<◌, ◌++◌, ℕ, false, length, map, option_copied, All, Decides, IfOk, IfErr, List, MatchOption, None, OnOk, codes, string_bytes};
+ghost use Rattle.std.specs.Prelude.{◌≡◌, ◌<◌, ◌++◌, ◌∷◌, [], if◌then◌else◌, ℕ, is_some, length, map, option_copied, All, Decides, IfOk, IfErr, List, MatchOption, None, OnOk, codes, string_bytes};
+ghost use Rattle.std.specs.Str.{encode_utf8_all};
 ghost use Rattle.toml.specs.Data.{get};
-ghost use Rattle.toml.specs.View.{view};
-ghost use Rattle.trees.specs.Locking.{between, has_wrong_source, label_text, non_empty, package_cmp, same_version, tables_in, has_hash, ArePackages, HasTables, HasTwin, IsLabel, IsListed, IsLock, IsPlain, IsPackage, IsVersion, NeedsLead, text_at, source_of, source_text, without_revision};
+ghost use Rattle.toml.specs.View.{table_view, view};
+ghost use Rattle.trees.specs.Locking.{are_dashes, between, changed_at, completed, has_table_of_needs, has_version, has_wrong_source, is_behind_name, label_text, non_empty, normal_char, normal_name, normal_table, normal_value, package_cmp, same_version, tables_in, has_hash, ArePackages, HasTables, HasTwin, IsLabel, IsLock, IsPlain, IsPackage, IsVersion, NeedsLead, text_at, source_of, source_text, without_revision};
 ghost use Rattle.trees.specs.DependingParts.{IsEmpty, IsIndexed};
 ghost use Rattle.trees.specs.LockingParts.{locked_at, package_at, package_of, AddsAll, AddsLabels, AreLocked, FailsUnless, HasLocked, HoldsLocked, HoldsOnlyLock, StandOnce};
 ghost use Rattle.trees.specs.Meaning.{HoldsLock};
@@ -94,17 +96,14 @@ fn complete(
     has_hash: bool,
     tables: &mut Vec<Value>,
 ) -> Result<(), Failure>
-    ensures kept { root ≡ None → has_hash ≡ false → All IsListed (map view tables.old.items)
-        → OnOk result (tables.new.items ≡ tables.old.items) }
+    ensures completed { root ≡ None → OnOk result
+        (map view tables.new.items ≡ completed has_hash (map view tables.old.items)) }
     ensures failed { IfErr result (FailsFor ⊥ ⊥) }
 {
     if let Some(root) = root {
         tables.insert(0, root)?;
     }
-    if has_hash || has_tables_of_needs(tables) {
-        normalize(alloc, tables)?;
-    }
-    Ok(())
+    Ok(normalize(alloc, has_hash, tables)?)
 }
 
 // Whether a lock file has a hash of what it was made from, as a `poetry.lock` has.
@@ -119,7 +118,7 @@ fn has_hash(lock: &Value) -> bool
 
 // Whether some packages have their dependencies in tables.
 fn has_tables_of_needs(tables: &[Value]) -> bool
-    ensures { All IsListed (map view tables.now) → result ≡ false }
+    ensures { result ≡ list_any has_table_of_needs (map view tables.now) }
 {
     for table in tables {
         if has_table_of_needs(table) {
@@ -131,7 +130,7 @@ fn has_tables_of_needs(tables: &[Value]) -> bool
 
 // Whether a package has its dependencies in a table, as in `poetry.lock`.
 fn has_table_of_needs(table: &Value) -> bool
-    ensures { IsListed (view table.now) → result ≡ false }
+    ensures { result ≡ has_table_of_needs (view table.now) }
 {
     match table.get("dependencies") {
         Some(needs) => needs.is_table(),
@@ -140,31 +139,96 @@ fn has_table_of_needs(table: &Value) -> bool
 }
 
 // Brings the names of Python packages into the form that names are compared in.
-fn normalize(alloc: Global, tables: &mut [Value]) -> Result<(), AllocError> {
-    for table in tables {
-        // (a package without a version is refused, by the name that it has)
-        if version(table).is_none() {
-            continue;
-        }
-        if let Some(Value::String(name)) = table.get_mut("name") {
-            *name = normalized(alloc, name.as_str())?;
-        }
+fn normalize(alloc: Global, has_hash: bool, tables: &mut [Value]) -> Result<(), AllocError>
+    ensures { OnOk result (map view tables.new ≡ completed has_hash (map view tables.old)) }
+{
+    if has_hash || has_tables_of_needs(tables) {
+        normalize_all(alloc, tables)
+    } else {
+        Ok(())
+    }
+}
+
+// Brings all names into that form.
+fn normalize_all(alloc: Global, tables: &mut [Value]) -> Result<(), AllocError>
+    ensures { OnOk result (map view tables.new ≡ map normal_table (map view tables.old)) }
+{
+    for table in tables.iter_mut() {
+        normalize_table(alloc, table)?;
+    }
+    Ok(())
+}
+
+// Brings the name of a package into that form.
+fn normalize_table(alloc: Global, table: &mut Value) -> Result<(), AllocError>
+    ensures { OnOk result (view table.new ≡ normal_table (view table.old)) }
+{
+    // (a package without a version is refused, by the name that it has)
+    if version(table).is_none() {
+        return Ok(());
+    }
+    match table.as_table_mut() {
+        Some(parts) => normalize_parts(alloc, parts),
+        None => Ok(()),
+    }
+}
+
+// Brings the name in a table into that form.
+fn normalize_parts(alloc: Global, parts: &mut Table) -> Result<(), AllocError>
+    ensures { OnOk result (table_view parts.new
+        ≡ changed_at (codes "name") normal_value (table_view parts.old)) }
+{
+    match parts.get_mut("name") {
+        Some(name) => normalize_name(alloc, name),
+        None => Ok(()),
+    }
+}
+
+// Brings a name into that form, if it is a text.
+fn normalize_name(alloc: Global, name: &mut Value) -> Result<(), AllocError>
+    ensures { OnOk result (view name.new ≡ normal_value (view name.old)) }
+{
+    if let Value::String(text) = name {
+        *text = normalized(alloc, text.as_str())?;
     }
     Ok(())
 }
 
 // Returns a name of a Python package in the form that names are compared in: in lower case, with a
 // dash for dashes, dots and underscores.
-fn normalized(alloc: Global, name: &str) -> Result<String, AllocError> {
+fn normalized(alloc: Global, name: &str) -> Result<String, AllocError>
+    ensures { IfOk result (λ s. string_bytes s ≡ normal_name name.now) }
+{
     let mut text = String::new(alloc);
+    let mut last = ' ';
     for c in name.chars() {
-        match c {
-            '-' | '_' | '.' if text.ends_with('-') => {}
-            '-' | '_' | '.' => text.push('-')?,
-            c => text.push(c.to_ascii_lowercase())?,
-        }
+        let normal = normal_char(c);
+        push_normal(&mut text, normal, last)?;
+        last = normal;
     }
     Ok(text)
+}
+
+// Returns a character of such a name.
+fn normal_char(c: char) -> char
+    ensures { result ≡ normal_char c }
+{
+    match c {
+        '_' | '.' => '-',
+        _ => c.to_ascii_lowercase(),
+    }
+}
+
+// Adds a character behind another one, unless both are dashes.
+fn push_normal(text: &mut String, c: char, last: char) -> Result<(), AllocError>
+    ensures { OnOk result (string_bytes text.new ≡ (if are_dashes c last then
+        string_bytes text.old else string_bytes text.old ++ encode_utf8_all (c ∷ []))) }
+{
+    if c == '-' && last == '-' {
+        Ok(())
+    } else {
+        text.push(c)
+    }
 }
 
 // Returns the packages of these tables, in ascending order.
@@ -258,7 +322,8 @@ fn word<'a>(table: &'a Value, key: &str) -> Option<&'a str>
 
 // Returns the version of a package. In uv.lock one whose source is a folder may have none.
 fn version(table: &Value) -> Option<&str>
-    ensures { MatchOption result ((v : List ℕ) → IsVersion (view table.now) v → ⊥)
+    ensures has { is_some result ≡ has_version (view table.now) }
+    ensures version { MatchOption result ((v : List ℕ) → IsVersion (view table.now) v → ⊥)
         (λ v. IsVersion (view table.now) v.now) }
 {
     match table.get("version") {
@@ -319,9 +384,9 @@ fn push_edges<'p>(
     network: &mut Network,
 ) -> Result<(), Failure>
     requires { AreLocked (map view tables.now) packages.now }
-    ensures added { All IsListed (map view tables.now) → IsIndexed network.old → OnOk result
+    ensures added { IsIndexed network.old → OnOk result
         (AddsAll (map view tables.now) packages.now network.old network.new) }
-    ensures led { All IsListed (map view tables.now) → OnOk result
+    ensures led { OnOk result
         (All (NeedsLead (map package_of packages.now)) (map view tables.now)) }
     ensures failed { IfErr result
         (FailsUnless (All (NeedsLead (map package_of packages.now)) (map view tables.now))) }
@@ -410,6 +475,13 @@ fn push_part(label: &mut String, before: &str, part: &str, after: &str) -> Resul
     write!(label, "{before}{part}{after}")
 }
 
+// Whether a value may stand behind a name in a table of `poetry.lock`.
+fn is_behind_name(need: &Value) -> bool
+    ensures { result ≡ is_behind_name (view need.now) }
+{
+    need.is_str() || need.is_table() || need.is_array()
+}
+
 // A package whose needs are read.
 #[derive(Clone, Copy)]
 struct Needing<'p> {
@@ -424,20 +496,20 @@ struct Needing<'p> {
 
 impl<'p> Needing<'p> {
     ghost use Rattle.std.specs.List.Sorted.{IsStrictlySortedBy};
-    ghost use Rattle.std.specs.Prelude.{codes, IfOk, IfErr, IfSome, OnOk, ⊤};
+    ghost use Rattle.std.specs.List.{All};
+    ghost use Rattle.std.specs.Prelude.{codes, flat_map, string_bytes, IfOk, IfErr, IfSome, OnOk, ⊤};
     ghost use Rattle.toml.specs.Data.{get};
-    ghost use Rattle.toml.specs.View.{view};
-    ghost use Rattle.trees.specs.Locking.{package_cmp, entries_in, entries_at, entries_of, grouped, AreLed, IsLed, IsListed, Leads, NeedsLead};
-    ghost use Rattle.trees.specs.LockingParts.{packages_of, AddsEntries, FailsUnless};
+    ghost use Rattle.toml.specs.View.{table_view, view};
+    ghost use Rattle.trees.specs.Locking.{package_cmp, entries_in, entries_at, entries_of, grouped, locked_entries, members_in, normal_name, own_entries, AreLed, IsLed, Leads, NameLeads, NeedsLead, OwnLead};
+    ghost use Rattle.trees.specs.LockingParts.{packages_of, AddsEntries, FailsUnless, IsPlaceOf, NameLed};
     ghost use Rattle.trees.specs.Reading.{FailsFor, FailsToMake};
 
     // Adds the needs of its table.
     fn push_needs(&self, alloc: Global, table: &Value, network: &mut Network) -> Result<(), Failure>
         requires { IsStrictlySortedBy package_cmp (packages_of self.now) }
-        ensures added { IsListed (view table.now) → OnOk result
-            (AddsEntries self.now (entries_in (view table.now)) network.old network.new) }
-        ensures led { IsListed (view table.now) → OnOk result
-            (NeedsLead (packages_of self.now) (view table.now)) }
+        ensures added { OnOk result (AddsEntries self.now
+            (entries_in (packages_of self.now) (view table.now)) network.old network.new) }
+        ensures led { OnOk result (NeedsLead (packages_of self.now) (view table.now)) }
         ensures failed { IfErr result
             (FailsUnless (NeedsLead (packages_of self.now) (view table.now))) }
     {
@@ -449,18 +521,37 @@ impl<'p> Needing<'p> {
     // Adds the needs that are in no group.
     fn push_own(&self, alloc: Global, table: &Value, network: &mut Network) -> Result<(), Failure>
         requires { IsStrictlySortedBy package_cmp (packages_of self.now) }
-        ensures added { IsListed (view table.now) → OnOk result (AddsEntries self.now
-            (entries_at entries_of (codes "dependencies") (view table.now))
-            network.old network.new) }
-        ensures led { IsListed (view table.now) → OnOk result (IfSome
-            (get (codes "dependencies") (view table.now)) (IsLed (packages_of self.now))) }
+        ensures added { OnOk result (AddsEntries self.now
+            (entries_at (own_entries (packages_of self.now)) (codes "dependencies")
+            (view table.now)) network.old network.new) }
+        ensures led { OnOk result (IfSome
+            (get (codes "dependencies") (view table.now)) (OwnLead (packages_of self.now))) }
         ensures failed { IfErr result (FailsUnless (IfSome
-            (get (codes "dependencies") (view table.now)) (IsLed (packages_of self.now)))) }
+            (get (codes "dependencies") (view table.now)) (OwnLead (packages_of self.now)))) }
     {
         match table.get("dependencies") {
-            Some(Value::Table(needs)) => self.push_python_needs(alloc, needs, network),
-            Some(needs) => self.push_list(alloc, needs, network),
+            Some(needs) => self.push_table_or_list(alloc, needs, network),
             None => Ok(()),
+        }
+    }
+
+    // Adds the needs of a list, or of a table of `poetry.lock`.
+    fn push_table_or_list(
+        &self,
+        alloc: Global,
+        needs: &Value,
+        network: &mut Network,
+    ) -> Result<(), Failure>
+        requires { IsStrictlySortedBy package_cmp (packages_of self.now) }
+        ensures added { OnOk result (AddsEntries self.now
+            (own_entries (packages_of self.now) (view needs.now)) network.old network.new) }
+        ensures led { OnOk result (OwnLead (packages_of self.now) (view needs.now)) }
+        ensures failed { IfErr result
+            (FailsUnless (OwnLead (packages_of self.now) (view needs.now))) }
+    {
+        match needs.as_table() {
+            Some(table) => self.push_python_needs(alloc, table, network),
+            None => self.push_list(alloc, needs, network),
         }
     }
 
@@ -556,30 +647,59 @@ impl<'p> Needing<'p> {
         network: &mut Network,
     ) -> Result<(), Failure>
         requires { IsStrictlySortedBy package_cmp (packages_of self.now) }
-        ensures { IfErr result (FailsFor ⊤ ⊥) }
+        ensures added { OnOk result (AddsEntries self.now
+            (flat_map (λ m. locked_entries (packages_of self.now) m.0)
+            (members_in (table_view needs.now))) network.old network.new) }
+        ensures led { OnOk result
+            (All (NameLeads (packages_of self.now)) (members_in (table_view needs.now))) }
+        ensures failed { IfErr result (FailsUnless
+            (All (NameLeads (packages_of self.now)) (members_in (table_view needs.now)))) }
     {
         for (name, need) in needs.iter() {
-            if !matches!(need, Value::String(_) | Value::Table(_) | Value::Array(_)) {
-                let parts = [self.name, " has an invalid dependency"];
-                return Err(wrong(alloc, self.input, &parts));
-            }
-            if let Some(at) = self.locked_place(alloc, name.as_str())? {
-                network.add_need(self.node, at)?;
-            }
+            self.push_python_need(alloc, name.as_str(), need, network)?;
         }
         Ok(())
+    }
+
+    // Adds the need of a name in a table of `poetry.lock`, if it is locked.
+    fn push_python_need(
+        &self,
+        alloc: Global,
+        name: &str,
+        need: &Value,
+        network: &mut Network,
+    ) -> Result<(), Failure>
+        requires { IsStrictlySortedBy package_cmp (packages_of self.now) }
+        ensures added { OnOk result (AddsEntries self.now
+            (locked_entries (packages_of self.now) name.now) network.old network.new) }
+        ensures led { OnOk result
+            (NameLeads (packages_of self.now) (name.now, view need.now)) }
+        ensures failed { IfErr result
+            (FailsUnless (NameLeads (packages_of self.now) (name.now, view need.now))) }
+    {
+        if !is_behind_name(need) {
+            let parts = [self.name, " has an invalid dependency"];
+            return Err(wrong(alloc, self.input, &parts));
+        }
+        match self.locked_place(alloc, name)? {
+            Some(at) => Ok(network.add_need(self.node, at)?),
+            None => Ok(()),
+        }
     }
 
     // Returns the place of the package with a name in a table of `poetry.lock`, if it is locked.
     fn locked_place(&self, alloc: Global, name: &str) -> Result<Option<usize>, Failure>
         requires { IsStrictlySortedBy package_cmp (packages_of self.now) }
-        ensures { IfErr result (FailsFor ⊤ ⊥) }
+        ensures place { IfOk result
+            (IsPlaceOf (packages_of self.now) (normal_name name.now)) }
+        ensures failed { IfErr result
+            (FailsUnless (NameLed (packages_of self.now) name.now)) }
     {
         let normal = normalized(alloc, name)?;
         match Need::of(normal.as_str()).find(self.packages) {
             Ok(at) => Ok(Some(at)),
             Err(Fault::Missing) => Ok(None),
-            Err(why) => Err(self.faulty(alloc, name, why)),
+            Err(Fault::Several) => Err(self.faulty(alloc, name, Fault::Several)),
         }
     }
 
@@ -616,12 +736,12 @@ impl<'a> Need<'a> {
     ghost use Rattle.std.specs.Ordering.{is_lt};
     ghost use Rattle.std.specs.Prelude.{◌≡◌, ◌≢◌, ◌<◌, ◌^◌, ℕ, [], length, map, List, Option, Some, None, IfSome, IfOk, IfErr, MatchOption};
     ghost use Rattle.toml.specs.View.{view};
-    ghost use Rattle.trees.specs.Locking.{Known, package_cmp, is_as, unrevised, IsNeed, IsNeedTable, IsNeedText, IsNeeded};
+    ghost use Rattle.trees.specs.Locking.{Known, called, package_cmp, is_as, unrevised, IsNeed, IsNeedTable, IsNeedText, IsNeeded};
     ghost use Rattle.trees.specs.LockingParts.{package_of, known_of, known_whole, least, IsNamed, IsAt, IsFaulty, IsFound, IsRest, IsStart, IsWhole, IsBehind};
 
     // Returns a need of which only the name is known.
     fn of(name: &'a str) -> Need<'a>
-        ensures { known_of result ≡ record { name = name.now; version = None; source = None } }
+        ensures { known_of result ≡ called name.now }
     {
         Need {
             name,

@@ -1,14 +1,21 @@
-use Rattle.std.proofs.Common.{◌<◌, ◌∙◌, length, map, sym, ap, subst, arith}
-use Rattle.std.proofs.lemmas.List.{get_or-map, length-map}
+use Rattle.std.proofs.Common.{◌≡◌, ◌∙◌, true, false, get_or, sym, ap, arith}
 use Rattle.toml.specs.View.{view}
-use Rattle.trees.specs.Locking.{IsListed}
+use Rattle.trees.specs.Locking.{has_table_of_needs}
+use Rattle.trees.proofs.PoetryTables.{none_of, more_of, none_at_all, one_of}
 use Rattle.trees.proofs.deps.packages.has_tables_of_needs.Goals as goal
 
+pub loop-table-init : goal.loop-table-init
+loop-table-init c = none_of c.args.tables.now
+
+pub loop-table-preserved : goal.loop-table-preserved
+loop-table-preserved c =
+    more_of c.loop-table.table-index c.args.tables.now c.table-item.result c.loop-table-test.true c.loop-table.invariant
+    (ap (λ v. has_table_of_needs (view v)) (sym c.table-item.is) ∙ (sym c.has_table_of_needs.ensures ∙ c.if-has_table_of_needs.false))
+
 pub returns-then-has_table_of_needs : goal.returns-then-has_table_of_needs
-returns-then-has_table_of_needs c = λ all.
-    let tables = c.args.tables.now in
-    let i = c.loop-table.table-index in
-    let table = c.table-item.result in
-    let low : i < length (map view tables) = omega (arith, length-map tables view) in
-    let here = get_or-map view tables i table (view table) c.loop-table-test.true ∙ ap view (sym c.table-item.is) in
-    sym c.if-has_table_of_needs.true ∙ c.has_table_of_needs.ensures (subst IsListed here (all i (view table) low))
+returns-then-has_table_of_needs c =
+    sym (one_of c.loop-table.table-index c.args.tables.now c.table-item.result c.loop-table-test.true
+    (ap (λ v. has_table_of_needs (view v)) (sym c.table-item.is) ∙ (sym c.has_table_of_needs.ensures ∙ c.if-has_table_of_needs.true)))
+
+pub returns : goal.returns
+returns c = sym (none_at_all c.loop-table.table-index c.args.tables.now c.loop-table-test.false c.loop-table.invariant)

@@ -5,7 +5,7 @@ use Rattle.std.specs.List.{All}
 use Rattle.toml.specs.Data.{boolean}
 use Rattle.toml.specs.View.{view}
 use Rattle.trees.specs.DependingParts.{IsIndexed}
-use Rattle.trees.specs.Locking.{IsListed, NeedsLead}
+use Rattle.trees.specs.Locking.{NeedsLead}
 use Rattle.trees.specs.LockingParts.{package_of, table_of, AddsNeeds}
 use Rattle.trees.specs.Meaning.{NeedPlaces}
 use Rattle.trees.proofs.LockedFailures.{fails_unless}
@@ -16,8 +16,8 @@ use Rattle.trees.proofs.deps.packages.push_edges.Goals as goal
 
 pub loop-node-init : goal.loop-node-init
 loop-node-init c = (
-  (λ listed indexed. first_none (map view c.args.tables.now) c.args.packages.now c.args.network.now indexed),
-  λ listed. All-nil (IsLeading (map view c.args.tables.now) c.args.packages.now),
+  (λ indexed. first_none (map view c.args.tables.now) c.args.packages.now c.args.network.now indexed),
+  All-nil (IsLeading (map view c.args.tables.now) c.args.packages.now),
 )
 
 pub loop-node-preserved : goal.loop-node-preserved
@@ -31,12 +31,12 @@ loop-node-preserved c =
     let low = (c.requires.each node no_tuple c.loop-node-test.true).0 in
     let within : p.3 < length tables = omega (arith, length-map tables view, low) in
     let here : table_of (map view tables) p ≡ view c.index-tables-locked.result = get_or-map view tables p.3 c.index-tables-locked.result (boolean false) within ∙ ap view (sym c.index-tables-locked.is) in
-    let adds : IsListed (table_of (map view tables) p) → IsIndexed n → AddsNeeds node (NeedPlaces (map package_of ps) (table_of (map view tables) p)) n m =
-    subst (λ d. IsListed d → IsIndexed n → AddsNeeds node (NeedPlaces (map package_of ps) d) n m) (sym here) c.in_ok-push_needs.ensures.added in
-    let led : IsListed (table_of (map view tables) p) → NeedsLead (map package_of ps) (table_of (map view tables) p) = subst (λ d. IsListed d → NeedsLead (map package_of ps) d) (sym here) c.in_ok-push_needs.ensures.led in (
-      (λ listed indexed. (let so = c.loop-node.invariant.0 listed indexed in
-          first_more (map view tables) ps node p c.args.network.now n m c.loop-node-test.true (get_or_default ps node no_tuple p c.loop-node-test.true) so (adds (listed p.3 (boolean false) low) so.2.indexed))),
-      λ listed. All-more (IsLeading (map view tables) ps) ps node no_tuple c.loop-node-test.true (c.loop-node.invariant.1 listed) (led (listed p.3 (boolean false) low)),
+    let adds : IsIndexed n → AddsNeeds node (NeedPlaces (map package_of ps) (table_of (map view tables) p)) n m =
+    subst (λ d. IsIndexed n → AddsNeeds node (NeedPlaces (map package_of ps) d) n m) (sym here) c.in_ok-push_needs.ensures.added in
+    let led : NeedsLead (map package_of ps) (table_of (map view tables) p) = subst (NeedsLead (map package_of ps)) (sym here) c.in_ok-push_needs.ensures.led in (
+      (λ indexed. (let so = c.loop-node.invariant.0 indexed in
+          first_more (map view tables) ps node p c.args.network.now n m c.loop-node-test.true (get_or_default ps node no_tuple p c.loop-node-test.true) so (adds so.2.indexed))),
+      All-more (IsLeading (map view tables) ps) ps node no_tuple c.loop-node-test.true c.loop-node.invariant.1 led,
     )
 
 pub returns-in_err-push_needs-clause-failed : goal.returns-in_err-push_needs-clause-failed
@@ -53,7 +53,7 @@ returns-in_err-push_needs-clause-failed c =
     search (rules, says)
 
 pub returns-clause-added : goal.returns-clause-added
-returns-clause-added c = λ listed indexed. first_all (map view c.args.tables.now) c.args.packages.now c.loop-node.node c.args.network.now c.loop-node.network c.loop-node-test.false (c.loop-node.invariant.0 listed indexed)
+returns-clause-added c = λ indexed. first_all (map view c.args.tables.now) c.args.packages.now c.loop-node.node c.args.network.now c.loop-node.network c.loop-node-test.false (c.loop-node.invariant.0 indexed)
 
 pub returns-clause-led : goal.returns-clause-led
-returns-clause-led c = λ listed. all_leading (map view c.args.tables.now) c.args.packages.now c.loop-node.node c.loop-node-test.false c.requires.all (c.loop-node.invariant.1 listed)
+returns-clause-led c = all_leading (map view c.args.tables.now) c.args.packages.now c.loop-node.node c.loop-node-test.false c.requires.all c.loop-node.invariant.1

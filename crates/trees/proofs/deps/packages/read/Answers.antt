@@ -3,7 +3,7 @@ use Rattle.std.proofs.lemmas.Result.{IfErr-weaker}
 use Rattle.std.specs.List.{All}
 use Rattle.std.specs.Prelude.{IfErr, OnOk}
 use Rattle.toml.specs.View.{view}
-use Rattle.trees.specs.Locking.{HasTables, IsListed, IsLock, IsPlain, NeedsLead}
+use Rattle.trees.specs.Locking.{HasTables, IsLock, IsPlain, NeedsLead}
 use Rattle.trees.specs.LockingParts.{package_of, AddsAll, AddsLabels, FailsUnless, HasLocked}
 use Rattle.trees.proofs.LockedEntries.{ok_more}
 use Rattle.trees.proofs.LockedFailures.{fails_leading, fails_unless, fails_unread}
@@ -34,7 +34,7 @@ returns-clause-held c = λ plain empty.
     let all = c.in_ok-tables.ensures.tables plain in
     let texts = subst (λ (qs : List Tuple). AddsLabels tables qs old.labels.items labels.items) c.deref.ensures.value c.in_ok-push_labels.ensures in
     let added = subst (λ (qs : List Tuple). OnOk c.push_edges.result (AddsAll tables qs (labelled tables ps old labels empty) new)) c.deref-2.ensures.value
-    (c.push_edges.ensures.added (subst (All IsListed) (sym all) plain.listed) (labelled_indexed tables ps old labels empty)) in
+    (c.push_edges.ensures.added (labelled_indexed tables ps old labels empty)) in
     subst (λ ts. OnOk c.push_edges.result (HasLocked old.is_inverse ts new)) all
     (ok_more c.push_edges.result (AddsAll tables ps (labelled tables ps old labels empty) new) (HasLocked old.is_inverse tables new) (locked_held tables ps old labels empty new c.in_ok-packages.ensures.locked texts) added)
 
@@ -54,4 +54,4 @@ returns-clause-only c = λ plain.
     let ps = c.in_ok-packages.packages.items in
     let all = c.in_ok-tables.ensures.tables plain in
     ok_more c.push_edges.result (All (NeedsLead (map package_of ps)) tables) (IsLock d) (λ led. lock_of d tables ps plain (c.in_ok-tables.ensures.has plain) all c.in_ok-packages.ensures.locked led)
-    (subst (λ (qs : List Tuple). OnOk c.push_edges.result (All (NeedsLead (map package_of qs)) tables)) c.deref-2.ensures.value (c.push_edges.ensures.led (subst (All IsListed) (sym all) plain.listed)))
+    (subst (λ (qs : List Tuple). OnOk c.push_edges.result (All (NeedsLead (map package_of qs)) tables)) c.deref-2.ensures.value c.push_edges.ensures.led)

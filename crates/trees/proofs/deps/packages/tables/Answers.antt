@@ -1,10 +1,9 @@
 use Rattle.std.proofs.Common.{◌≡◌, ◌∙◌, [], false, map, sym, ap, subst, rules}
-use Rattle.std.specs.List.{All}
 use Rattle.std.specs.Option.{option_and_then}
 use Rattle.std.specs.Prelude.{is_some, option_map, unwrap_or}
 use Rattle.toml.specs.Data.{as_array}
 use Rattle.toml.specs.View.{view}
-use Rattle.trees.specs.Locking.{entries_of, has_hash, tables_in, HasTables, IsListed, IsPlain}
+use Rattle.trees.specs.Locking.{completed, entries_of, has_hash, listed_tables, HasTables, IsPlain}
 use Rattle.trees.proofs.LockedEntries.{list_entries}
 use Rattle.trees.proofs.LockedFailures.{fails_never, no_tables}
 use Rattle.trees.proofs.Readings.{fails_weaker}
@@ -14,11 +13,12 @@ pub returns-clause-tables : goal.returns-clause-tables
 returns-clause-tables c = λ plain.
     let d = view c.args.lock.now in
     let same : view c.take_root-root.new.lock ≡ d = ap view (c.take_root-root.ensures.same plain.root) in
-    let all : tables_in d ≡ map view c.in-Some-as_array_mut.tables.now.items =
-    ap tables_in (sym same) ∙ (ap (λ o. unwrap_or (option_map entries_of o) []) (sym c.in-Some.ensures) ∙ list_entries (view c.in-Some.list.now) c.in-Some-as_array_mut.tables.now.items c.in-Some-as_array_mut.ensures.value) in
-    let hash : c.has_hash-has_hash.result ≡ false = c.has_hash-has_hash.ensures ∙ (ap has_hash same ∙ plain.hash) in
-    let kept = c.in_ok-complete.ensures.kept (c.take_root-root.ensures.none plain.root) hash (subst (All IsListed) all plain.listed) in
-    ap (map view) (c.as_slice.ensures.value ∙ kept) ∙ sym all
+    let all : listed_tables d ≡ map view c.in-Some-as_array_mut.tables.now.items =
+    ap listed_tables (sym same) ∙ (ap (λ o. unwrap_or (option_map entries_of o) []) (sym c.in-Some.ensures) ∙ list_entries (view c.in-Some.list.now) c.in-Some-as_array_mut.tables.now.items c.in-Some-as_array_mut.ensures.value) in
+    let hash : c.has_hash-has_hash.result ≡ has_hash d = c.has_hash-has_hash.ensures ∙ ap has_hash same in
+    ap (map view) c.as_slice.ensures.value
+    ∙ (c.in_ok-complete.ensures.completed (c.take_root-root.ensures.none plain.root)
+    ∙ (ap (completed c.has_hash-has_hash.result) (sym all) ∙ ap (λ b. completed b (listed_tables d)) hash))
 
 pub returns-in_default-clause-failed : goal.returns-in_default-clause-failed
 returns-in_default-clause-failed c =

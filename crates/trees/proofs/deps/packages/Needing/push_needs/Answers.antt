@@ -3,7 +3,7 @@ use Rattle.std.proofs.lemmas.Result.{IfErr-weaker}
 use Rattle.std.specs.Prelude.{IfSome}
 use Rattle.toml.specs.Data.{get}
 use Rattle.toml.specs.View.{view}
-use Rattle.trees.specs.Locking.{entries_at, entries_of, grouped, entries_in, AreLed, IsLed, NeedsLead}
+use Rattle.trees.specs.Locking.{entries_at, grouped, entries_in, own_entries, AreLed, NeedsLead, OwnLead}
 use Rattle.trees.specs.LockingParts.{packages_of, AddsEntries, FailsUnless}
 use Rattle.trees.proofs.LockedEntries.{both_entries, ok_more}
 use Rattle.trees.proofs.LockedFailures.{fails_unless}
@@ -12,7 +12,7 @@ use Rattle.trees.proofs.deps.packages.Needing.push_needs.Goals as goal
 pub returns-in_err-push_own-clause-failed : goal.returns-in_err-push_own-clause-failed
 returns-in_err-push_own-clause-failed c =
     let d = view c.args.table.now in
-    let says = fails_unless (IfSome (get (codes "dependencies") d) (IsLed (packages_of c.args.self.now))) (NeedsLead (packages_of c.args.self.now) d) c.in_err-push_own.field-0.0 (λ all. all.own) c.in_err-push_own.ensures.failed in
+    let says = fails_unless (IfSome (get (codes "dependencies") d) (OwnLead (packages_of c.args.self.now))) (NeedsLead (packages_of c.args.self.now) d) c.in_err-push_own.field-0.0 (λ all. all.own) c.in_err-push_own.ensures.failed in
     search (rules, says)
 
 pub returns-in_err-push_groups-clause-failed : goal.returns-in_err-push_groups-clause-failed
@@ -29,22 +29,22 @@ returns-clause-failed c =
     (λ f says. fails_unless (IfSome (get (codes "dev-dependencies") d) (AreLed packages)) (NeedsLead packages d) f (λ all. all.dev) says) c.push_groups-2.ensures.failed
 
 pub returns-clause-added : goal.returns-clause-added
-returns-clause-added c = λ listed.
+returns-clause-added c =
     let self = c.args.self.now in
     let d = view c.args.table.now in
     let old = c.args.network.now in
     let n = c.push_own.new.network in
     let m = c.push_groups.new.network in
     let o = c.push_groups-2.new.network in
-    let own = entries_at entries_of (codes "dependencies") d in
+    let own = entries_at (own_entries (packages_of self)) (codes "dependencies") d in
     let optional = entries_at grouped (codes "optional-dependencies") d in
     let dev = entries_at grouped (codes "dev-dependencies") d in
-    ok_more c.push_groups-2.result (AddsEntries self dev m o) (AddsEntries self (entries_in d) old o)
-    (λ last. both_entries self (own ++ optional) dev old m o (both_entries self own optional old n m (c.in_ok-push_own.ensures.added listed) c.in_ok-push_groups.ensures.added) last) c.push_groups-2.ensures.added
+    ok_more c.push_groups-2.result (AddsEntries self dev m o) (AddsEntries self (entries_in (packages_of self) d) old o)
+    (λ last. both_entries self (own ++ optional) dev old m o (both_entries self own optional old n m c.in_ok-push_own.ensures.added c.in_ok-push_groups.ensures.added) last) c.push_groups-2.ensures.added
 
 pub returns-clause-led : goal.returns-clause-led
-returns-clause-led c = λ listed.
+returns-clause-led c =
     let d = view c.args.table.now in
     let packages = packages_of c.args.self.now in
     ok_more c.push_groups-2.result (IfSome (get (codes "dev-dependencies") d) (AreLed packages)) (NeedsLead packages d)
-    (λ last. record { own = c.in_ok-push_own.ensures.led listed; optional = c.in_ok-push_groups.ensures.led; dev = last }) c.push_groups-2.ensures.led
+    (λ last. record { own = c.in_ok-push_own.ensures.led; optional = c.in_ok-push_groups.ensures.led; dev = last }) c.push_groups-2.ensures.led

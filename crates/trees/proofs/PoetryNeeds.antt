@@ -1,0 +1,207 @@
+-- Packages that the names in a poetry.lock lead to.
+use Rattle.std.proofs.Common.{◌≡◌, ◌≢◌, ◌∙◌, ℕ, zero, suc, ◌+◌, ◌<◌, ◌||◌, Bool, true, false, cond, List, [], ◌∷◌, ◌++◌, codes, flat_map, length, get_or, map, refl, sym, ap, subst, string_bytes, String, arith}
+use Rattle.std.proofs.lemmas.Bool.{false≢true, true_from_ne_false}
+use Rattle.std.proofs.lemmas.List.{append-nil, map-append}
+use Rattle.std.proofs.lemmas.List.Concat.{flat_map-append}
+use Rattle.std.proofs.lemmas.List.Elements.{All-head, All-tail, All-nil, All-cons, All-map}
+use Rattle.std.proofs.lemmas.Option.{slice_get-map}
+use Rattle.std.specs.Borrow.{Bor}
+use Rattle.std.specs.List.{All, Any, list_any}
+use Rattle.std.specs.Map.Iter.{deref_pair}
+use Rattle.std.specs.Option.{option_and}
+use Rattle.std.specs.Prelude.{Option, Some, None, option_map, slice_get}
+use Rattle.std.specs.declared.alloc.Global.{Global}
+use Rattle.ptree.proofs.Trees.ItemTrees.{map_twice}
+use Rattle.toml.specs.Data.{Data, string, integer, float, boolean, datetime, array, table, Members, member, no_members, as_table, get}
+use Rattle.toml.specs.View.{view, members_view}
+use Rattle.toml.specs.declared.value.Value.{Value}
+use Rattle.trees.specs.declared.deps.Network.{Network}
+use Rattle.trees.specs.declared.deps.packages.Fault.TheVariants.{Missing, Several}
+use Rattle.trees.specs.declared.deps.packages.Needing.{Needing}
+use Rattle.trees.specs.Depending.{directed}
+use Rattle.trees.specs.DependingParts.{AddsEdge, IsIndexed}
+use Rattle.trees.specs.Locking.{Package, Known, called, entries_of, is_as, is_behind_name, is_locked, locked_entries, members_in, name_entry, normal_name, own_entries, source_text, without_revision, IsLed, IsNeeded, IsNeedTable, Leads, NameLeads, OwnLead}
+use Rattle.trees.specs.LockingParts.{packages_of, AddsEntries, IsFaulty, IsPlaceOf, NameLed}
+use Rattle.trees.proofs.LockedEdges.{needs_none, needs_more}
+use Rattle.trees.proofs.LockedEntries.{no_entries, both_entries}
+use Rattle.trees.proofs.LockedLed.{IsOne}
+use Rattle.trees.proofs.LockedPackages.{nothing}
+
+-- ## Packages of a name
+
+both_false : (a b : Bool) → (a || b) ≡ false → (a ≡ false) × (b ≡ false)
+both_false true b e = absurd (false≢true (sym e))
+both_false false b e = (refl, e)
+
+module _ (test : Package → Bool) where
+  none_any : (ps : List Package) → All (λ p. test p ≡ false) ps → list_any test ps ≡ false
+  none_any [] all = refl
+  none_any (p ∷ ps) all = ap (λ (b : Bool). b || list_any test ps) (All-head (λ p. test p ≡ false) p ps all) ∙ none_any ps (All-tail (λ p. test p ≡ false) p ps all)
+
+  any_none : (ps : List Package) → list_any test ps ≡ false → All (λ p. test p ≡ false) ps
+  any_none [] none = All-nil (λ p. test p ≡ false)
+  any_none (p ∷ ps) none = (let parts = both_false (test p) (list_any test ps) none in All-cons (λ p. test p ≡ false) p ps parts.0 (any_none ps parts.1))
+
+  one_any : (ps : List Package) (k : ℕ) (p : Package) → k < length ps → test (get_or ps k p) ≡ true → list_any test ps ≡ true
+  one_any ps k p low is = true_from_ne_false (list_any test ps) (λ none. false≢true (sym (any_none ps none k p low) ∙ is))
+
+module _ (packages : List Package) (name : List ℕ) where
+  abbrev known : Known
+  known = called name
+
+  pub found_locked : (at : ℕ) → IsNeeded packages known at → is_locked packages name ≡ true
+  found_locked at is = one_any (is_as known) packages at nothing is.below (is.is nothing)
+
+  pub missing_locked : IsFaulty packages known Missing → is_locked packages name ≡ false
+  missing_locked none = none_any (is_as known) packages none
+
+  several_locked : IsFaulty packages known Several → is_locked packages name ≡ true
+  several_locked many = (let one = many.0 in one_any (is_as known) packages one.0 one.1 one.2 (ap (is_as known) one.3 ∙ one.4))
+
+  -- ## Entries
+
+  pub entry_leads : (at : ℕ) → IsNeeded packages known at → Leads packages (name_entry name) at
+  entry_leads at is = (known, record { name = refl; version = refl; source = refl }, is)
+
+  known_called : (k : Known) → IsNeedTable (name_entry name) k → k ≡ known
+  known_called k is =
+      let own : k.name ≡ name = (let both : Some name ≡ Some k.name = is.name in cc) in
+      let version : k.version ≡ None = none_string k.version is.version in
+      let source : k.source ≡ None = is.source ∙ ap (λ (o : Option (List ℕ)). option_map (λ (s : Data). without_revision (source_text s)) (option_and o (get (codes "source") (name_entry name)))) version in
+      ap (λ (n : List ℕ). record k { name = n }) own ∙ (ap (λ (v : Option (List ℕ)). record k { name = name; version = v }) version ∙ ap (λ (s : Option (List ℕ)). record known { source = s }) source) where
+        none_string : (o : Option (List ℕ)) → None ≡ option_map string o → o ≡ None
+        none_string None e = refl
+        none_string (Some t) e = (let no : ⊥ = cc in absurd no)
+
+  entry_needed : (at : ℕ) → Leads packages (name_entry name) at → IsNeeded packages known at
+  entry_needed at leads = subst (λ (k : Known). IsNeeded packages k at) (known_called leads.0 leads.1) leads.2
+
+module _ (packages : List Package) (name : List ℕ) where
+  abbrev normal : List ℕ
+  normal = normal_name name
+
+  none_here : is_locked packages normal ≡ false → locked_entries packages name ≡ []
+  none_here never = ap (λ (b : Bool). cond b (name_entry normal ∷ []) []) never
+
+  one_here : is_locked packages normal ≡ true → locked_entries packages name ≡ name_entry normal ∷ []
+  one_here locked = ap (λ (b : Bool). cond b (name_entry normal ∷ []) []) locked
+
+  -- several packages of the name
+  pub not_led : IsFaulty packages (called normal) Several → NameLed packages name → ⊥
+  not_led many led =
+      let one = All-head (IsOne packages) (name_entry normal) [] (subst (All (IsOne packages)) (one_here (several_locked packages normal many)) led) in
+      many.1 one.0 (entry_needed packages normal one.0 one.1)
+
+  -- the place of the package, if there is one
+  pub place_led : (place : Option ℕ) → IsPlaceOf packages normal place → NameLed packages name
+  place_led None never = subst (All (IsOne packages)) (sym (none_here never)) (All-nil (IsOne packages))
+  place_led (Some at) is = subst (All (IsOne packages)) (sym (one_here is.0)) (All-cons (IsOne packages) (name_entry normal) [] (at, entry_leads packages normal at is.1) (All-nil (IsOne packages)))
+
+-- ## Networks
+
+module _ (needing : Needing) (name : List ℕ) where
+  pub none_added : (n : Network) → is_locked (packages_of needing) (normal_name name) ≡ false → AddsEntries needing (locked_entries (packages_of needing) name) n n
+  none_added n never = subst (λ es. AddsEntries needing es n n) (sym (none_here (packages_of needing) name never)) (no_entries needing n)
+
+  pub one_added : (at : ℕ) (old new : Network) → IsPlaceOf (packages_of needing) (normal_name name) (Some at) → (IsIndexed old → AddsEdge old new (directed old.is_inverse (needing.node, at))) → AddsEntries needing (locked_entries (packages_of needing) name) old new
+  one_added at old new is adds = subst (λ es. AddsEntries needing es old new) (sym (one_here (packages_of needing) name is.0))
+      (λ indexed. needs_more needing.node (Leads (packages_of needing)) [] (name_entry (normal_name name)) at old old new (needs_none needing.node (Leads (packages_of needing)) old indexed) (entry_leads (packages_of needing) (normal_name name) at is.1) adds)
+
+-- ## Tables
+
+abbrev pub Entry : Type 0
+Entry = String Global × Value
+
+abbrev pub Item : Type 0
+Item = Bor (String Global) × Bor Value
+
+abbrev pub entry_seen : Entry → List ℕ × Data
+entry_seen e = (string_bytes e.0, view e.1)
+
+abbrev pub item_seen : Item → List ℕ × Data
+item_seen p = (string_bytes p.0.now, view p.1.now)
+
+entries_seen : (es : List Entry) → members_in (members_view es) ≡ map entry_seen es
+entries_seen [] = refl
+entries_seen (e ∷ es) = ap (λ ms. entry_seen e ∷ ms) (entries_seen es)
+
+-- all items of a table
+pub items_seen : (xs : List Item) (es : List Entry) → map deref_pair xs ≡ es → map item_seen xs ≡ members_in (members_view es)
+items_seen xs es all = map_twice deref_pair entry_seen xs ∙ (ap (map entry_seen) all ∙ sym (entries_seen es))
+
+-- the item of a turn
+pub item_led : (packages : List Package) (es : List Entry) (n : ℕ) (x : Item) → slice_get es n ≡ Some (deref_pair x) → All (NameLeads packages) (members_in (members_view es)) → NameLeads packages (item_seen x)
+item_led packages es n x at all =
+    got (map entry_seen es) n (item_seen x) (subst (All (NameLeads packages)) (entries_seen es) all) (slice_get-map entry_seen es n ∙ ap (option_map entry_seen) at) where
+      got : (ms : List (List ℕ × Data)) (k : ℕ) (m : List ℕ × Data) → All (NameLeads packages) ms → slice_get ms k ≡ Some m → NameLeads packages m
+      got [] k m led is = (let no : ⊥ = cc in absurd no)
+      got (l ∷ ms) zero m led is = (let same : l ≡ m = cc in subst (NameLeads packages) same (All-head (NameLeads packages) l ms led))
+      got (l ∷ ms) (suc k) m led is = got ms k m (All-tail (NameLeads packages) l ms led) is
+
+module _ (needing : Needing) where
+  -- the entries of names
+  abbrev pub names_entries : List (List ℕ × Data) → List Data
+  names_entries ms = flat_map (λ m. locked_entries (packages_of needing) m.0) ms
+
+  pub more_names : (ms : List (List ℕ × Data)) (m : List ℕ × Data) (old n new : Network) → AddsEntries needing (names_entries ms) old n → AddsEntries needing (locked_entries (packages_of needing) m.0) n new → AddsEntries needing (names_entries (ms ++ m ∷ [])) old new
+  more_names ms m old n new a b =
+      subst (λ es. AddsEntries needing es old new)
+      (sym (flat_map-append (λ (l : List ℕ × Data). locked_entries (packages_of needing) l.0) ms (m ∷ []) ∙ ap (λ es. names_entries ms ++ es) (append-nil (locked_entries (packages_of needing) m.0))))
+      (both_entries needing (names_entries ms) (locked_entries (packages_of needing) m.0) old n new a b)
+
+-- ## Lists and tables
+
+module _ (packages : List Package) where
+  pub own_table : (d : Data) (ms : Members) → Some ms ≡ as_table d → own_entries packages d ≡ flat_map (λ m. locked_entries packages m.0) (members_in ms)
+  own_table (string s) ms e = cc
+  own_table (integer z) ms e = cc
+  own_table (float x) ms e = cc
+  own_table (boolean b) ms e = cc
+  own_table (datetime dt) ms e = cc
+  own_table (array ds) ms e = cc
+  own_table (table own) ms e = (let same : ms ≡ own = cc in ap (λ x. flat_map (λ m. locked_entries packages m.0) (members_in x)) (sym same))
+
+  pub own_list : (d : Data) → None ≡ as_table d → own_entries packages d ≡ entries_of d
+  own_list (string s) e = refl
+  own_list (integer z) e = refl
+  own_list (float x) e = refl
+  own_list (boolean b) e = refl
+  own_list (datetime dt) e = refl
+  own_list (array ds) e = refl
+  own_list (table ms) e = cc
+
+  pub lead_table : (d : Data) (ms : Members) → Some ms ≡ as_table d → All (NameLeads packages) (members_in ms) → OwnLead packages d
+  lead_table (string s) ms e all = (let no : ⊥ = cc in absurd no)
+  lead_table (integer z) ms e all = (let no : ⊥ = cc in absurd no)
+  lead_table (float x) ms e all = (let no : ⊥ = cc in absurd no)
+  lead_table (boolean b) ms e all = (let no : ⊥ = cc in absurd no)
+  lead_table (datetime dt) ms e all = (let no : ⊥ = cc in absurd no)
+  lead_table (array ds) ms e all = (let no : ⊥ = cc in absurd no)
+  lead_table (table own) ms e all = (let same : ms ≡ own = cc in subst (λ x. All (NameLeads packages) (members_in x)) same all)
+
+  pub table_lead : (d : Data) (ms : Members) → Some ms ≡ as_table d → OwnLead packages d → All (NameLeads packages) (members_in ms)
+  table_lead (string s) ms e own = (let no : ⊥ = cc in absurd no)
+  table_lead (integer z) ms e own = (let no : ⊥ = cc in absurd no)
+  table_lead (float x) ms e own = (let no : ⊥ = cc in absurd no)
+  table_lead (boolean b) ms e own = (let no : ⊥ = cc in absurd no)
+  table_lead (datetime dt) ms e own = (let no : ⊥ = cc in absurd no)
+  table_lead (array ds) ms e own = (let no : ⊥ = cc in absurd no)
+  table_lead (table t) ms e own = (let same : t ≡ ms = cc in subst (λ x. All (NameLeads packages) (members_in x)) same own)
+
+  pub lead_list : (d : Data) → None ≡ as_table d → IsLed packages d → OwnLead packages d
+  lead_list (string s) e led = led
+  lead_list (integer z) e led = led
+  lead_list (float x) e led = led
+  lead_list (boolean b) e led = led
+  lead_list (datetime dt) e led = led
+  lead_list (array ds) e led = led
+  lead_list (table ms) e led = (let no : ⊥ = cc in absurd no)
+
+  pub list_lead : (d : Data) → None ≡ as_table d → OwnLead packages d → IsLed packages d
+  list_lead (string s) e led = led
+  list_lead (integer z) e led = led
+  list_lead (float x) e led = led
+  list_lead (boolean b) e led = led
+  list_lead (datetime dt) e led = led
+  list_lead (array ds) e led = led
+  list_lead (table ms) e led = (let no : ⊥ = cc in absurd no)

@@ -1,0 +1,137 @@
+-- Tables of packages whose names are brought into the form that names are compared in.
+use Rattle.std.proofs.Common.{◌≡◌, ◌∙◌, ℕ, zero, suc, ◌+◌, ◌<◌, ◌≤◌, ◌||◌, Bool, true, false, cond, List, [], ◌∷◌, codes, length, get_or, set, take, map, refl, sym, ap, subst, string_bytes, String, arith}
+use Rattle.std.proofs.lemmas.Bool.{false≢true}
+use Rattle.std.specs.BTreeMap.{is_at}
+use Rattle.std.specs.Cmp.Lexicographic.{slice_cmp}
+use Rattle.std.specs.List.{list_any}
+use Rattle.std.specs.Map.{lookup, set_value}
+use Rattle.std.specs.Ordering.{nat_cmp}
+use Rattle.std.specs.Prelude.{Option, Some, None, ⊤}
+use Rattle.std.specs.declared.alloc.Global.{Global}
+use Rattle.toml.specs.Data.{Data, string, integer, float, boolean, datetime, array, table, Members, no_members, member, as_table, same_key}
+use Rattle.toml.specs.View.{view, members_view}
+use Rattle.toml.specs.declared.value.Value.{Value}
+use Rattle.trees.specs.Locking.{changed_at, has_table_of_needs, has_version, normal_table, normal_value}
+
+-- ## Members
+
+abbrev pub Entry : Type 0
+Entry = String Global × Value
+
+module _ (key : List ℕ) (change : Data → Data) where
+  -- whether an entry is at the key
+  abbrev pub is_here : String Global → Bool
+  is_here = is_at (λ k. slice_cmp nat_cmp key (string_bytes k))
+
+  pub members_changed : (es : List Entry) (v w : Value) → lookup is_here es ≡ Some v → view w ≡ change (view v) → members_view (set_value is_here es w) ≡ changed_at key change (members_view es)
+  members_changed [] v w at is = refl
+  members_changed (e ∷ es) v w at is = by (λ found. members_changed es v w found is) (same_key key (string_bytes e.0)) at where
+    by : (lookup is_here es ≡ Some v → members_view (set_value is_here es w) ≡ changed_at key change (members_view es)) → (b : Bool) → cond b (Some e.1) (lookup is_here es) ≡ Some v → members_view (cond b ((e.0, w) ∷ es) (e ∷ set_value is_here es w))
+        ≡ cond b (member (string_bytes e.0) (change (view e.1)) (members_view es)) (member (string_bytes e.0) (view e.1) (changed_at key change (members_view es)))
+    by more true found = ap (λ (d : Data). member (string_bytes e.0) d (members_view es)) (let same : v ≡ e.1 = cc in is ∙ ap (λ (x : Value). change (view x)) same)
+    by more false found = ap (member (string_bytes e.0) (view e.1)) (more found)
+
+  pub members_same : (es : List Entry) → lookup is_here es ≡ None → members_view es ≡ changed_at key change (members_view es)
+  members_same [] none = refl
+  members_same (e ∷ es) none = by (members_same es) (same_key key (string_bytes e.0)) none where
+    by : (lookup is_here es ≡ None → members_view es ≡ changed_at key change (members_view es)) → (b : Bool) → cond b (Some e.1) (lookup is_here es) ≡ None → members_view (e ∷ es)
+        ≡ cond b (member (string_bytes e.0) (change (view e.1)) (members_view es)) (member (string_bytes e.0) (view e.1) (changed_at key change (members_view es)))
+    by more true found = (let no : ⊥ = cc in absurd no)
+    by more false found = ap (member (string_bytes e.0) (view e.1)) (more found)
+
+-- ## Tables
+
+pub table_changed : (old new : Members) → has_version (table old) ≡ true → new ≡ changed_at (codes "name") normal_value old → table new ≡ normal_table (table old)
+table_changed old new has is = ap table is ∙ sym (ap (λ (b : Bool). cond b (table (changed_at (codes "name") normal_value old)) (table old)) has)
+
+pub table_unversioned : (d : Data) → has_version d ≡ false → d ≡ normal_table d
+table_unversioned (string s) none = refl
+table_unversioned (integer z) none = refl
+table_unversioned (float x) none = refl
+table_unversioned (boolean b) none = refl
+table_unversioned (datetime dt) none = refl
+table_unversioned (array ds) none = refl
+table_unversioned (table ms) none = sym (ap (λ (b : Bool). cond b (table (changed_at (codes "name") normal_value ms)) (table ms)) none)
+
+pub is_table : (d : Data) (ms : Members) → Some ms ≡ as_table d → d ≡ table ms
+is_table (string s) ms e = cc
+is_table (integer z) ms e = cc
+is_table (float x) ms e = cc
+is_table (boolean b) ms e = cc
+is_table (datetime dt) ms e = cc
+is_table (array ds) ms e = cc
+is_table (table own) ms e = cc
+
+pub no_table : (d : Data) → None ≡ as_table d → d ≡ normal_table d
+no_table (string s) none = refl
+no_table (integer z) none = refl
+no_table (float x) none = refl
+no_table (boolean b) none = refl
+no_table (datetime dt) none = refl
+no_table (array ds) none = refl
+no_table (table ms) none = (let no : ⊥ = cc in absurd no)
+
+-- ## Lists of tables
+
+-- of the first tables the names are so, and the others are as they were
+abbrev pub FirstNormal : List Value → List Value → ℕ → Type 0
+FirstNormal [] [] n = ⊤
+FirstNormal [] (w ∷ ws) n = ⊥
+FirstNormal (v ∷ vs) [] n = ⊥
+FirstNormal (v ∷ vs) (w ∷ ws) zero = (w ≡ v) × FirstNormal vs ws zero
+FirstNormal (v ∷ vs) (w ∷ ws) (suc n) = (view w ≡ normal_table (view v)) × FirstNormal vs ws n
+
+pub none_normal : (vs : List Value) → FirstNormal vs vs 0
+none_normal [] = tt
+none_normal (v ∷ vs) = (refl, none_normal vs)
+
+next_normal : (n : ℕ) (vs ws : List Value) (d w : Value) → n < length ws → FirstNormal vs ws n → view w ≡ normal_table (view (get_or ws n d)) → FirstNormal vs (set ws n w) (suc n)
+next_normal n [] [] d w low first is = absurd (omega arith)
+next_normal n [] (x ∷ xs) d w low first is = absurd first
+next_normal n (v ∷ vs) [] d w low first is = absurd first
+next_normal zero (v ∷ vs) (x ∷ xs) d w low first is = (is ∙ ap (λ (y : Value). normal_table (view y)) first.0, first.1)
+next_normal (suc n) (v ∷ vs) (x ∷ xs) d w low first is = (first.0, next_normal n vs xs d w (omega arith) first.1 is)
+
+pub more_normal : (n : ℕ) (vs ws : List Value) (d w : Value) → n < length ws → FirstNormal vs ws n → view w ≡ normal_table (view (get_or ws n d)) → FirstNormal vs (set ws n w) (n + 1)
+more_normal n vs ws d w low first is = subst (λ (k : ℕ). FirstNormal vs (set ws n w) k) (let same : suc n ≡ n + 1 = omega arith in same) (next_normal n vs ws d w low first is)
+
+pub all_normal : (n : ℕ) (vs ws : List Value) → length ws ≤ n → FirstNormal vs ws n → map view ws ≡ map normal_table (map view vs)
+all_normal n [] [] end first = refl
+all_normal n [] (w ∷ ws) end first = absurd first
+all_normal n (v ∷ vs) [] end first = absurd first
+all_normal zero (v ∷ vs) (w ∷ ws) end first = absurd (omega arith)
+all_normal (suc n) (v ∷ vs) (w ∷ ws) end first =
+    ap (λ (d : Data). d ∷ map view ws) first.0 ∙ ap (λ (ds : List Data). normal_table (view v) ∷ ds) (all_normal n vs ws (omega arith) first.1)
+
+-- ## Tables of needs
+
+-- none of the first tables has one
+abbrev pub NoneOf : List Value → ℕ → Type 0
+NoneOf [] n = ⊤
+NoneOf (v ∷ vs) zero = ⊤
+NoneOf (v ∷ vs) (suc n) = (has_table_of_needs (view v) ≡ false) × NoneOf vs n
+
+pub none_of : (vs : List Value) → NoneOf vs 0
+none_of [] = tt
+none_of (v ∷ vs) = tt
+
+next_of : (n : ℕ) (vs : List Value) (d : Value) → n < length vs → NoneOf vs n → has_table_of_needs (view (get_or vs n d)) ≡ false → NoneOf vs (suc n)
+next_of n [] d low none is = tt
+next_of zero (v ∷ vs) d low none is = (is, none_of vs)
+next_of (suc n) (v ∷ vs) d low none is = (none.0, next_of n vs d (omega arith) none.1 is)
+
+pub more_of : (n : ℕ) (vs : List Value) (d : Value) → n < length vs → NoneOf vs n → has_table_of_needs (view (get_or vs n d)) ≡ false → NoneOf vs (n + 1)
+more_of n vs d low none is = subst (λ (k : ℕ). NoneOf vs k) (let same : suc n ≡ n + 1 = omega arith in same) (next_of n vs d low none is)
+
+pub none_at_all : (n : ℕ) (vs : List Value) → length vs ≤ n → NoneOf vs n → list_any has_table_of_needs (map view vs) ≡ false
+none_at_all n [] end none = refl
+none_at_all zero (v ∷ vs) end none = absurd (omega arith)
+none_at_all (suc n) (v ∷ vs) end none = ap (λ (b : Bool). b || list_any has_table_of_needs (map view vs)) none.0 ∙ none_at_all n vs (omega arith) none.1
+
+pub one_of : (n : ℕ) (vs : List Value) (d : Value) → n < length vs → has_table_of_needs (view (get_or vs n d)) ≡ true → list_any has_table_of_needs (map view vs) ≡ true
+one_of n [] d low is = absurd (omega arith)
+one_of zero (v ∷ vs) d low is = ap (λ (b : Bool). b || list_any has_table_of_needs (map view vs)) is
+one_of (suc n) (v ∷ vs) d low is = by (has_table_of_needs (view v)) (one_of n vs d (omega arith) is) where
+  by : (b : Bool) → list_any has_table_of_needs (map view vs) ≡ true → (b || list_any has_table_of_needs (map view vs)) ≡ true
+  by true more = refl
+  by false more = more
