@@ -1,18 +1,18 @@
 -- Packages that the names in a poetry.lock lead to.
-use Rattle.std.proofs.Common.{◌≡◌, ◌≢◌, ◌∙◌, ℕ, zero, suc, ◌+◌, ◌<◌, ◌||◌, Bool, true, false, cond, List, [], ◌∷◌, ◌++◌, codes, flat_map, length, get_or, map, refl, sym, ap, subst, string_bytes, String, arith}
+use Rattle.std.proofs.Common.{◌≡◌, ◌∙◌, ℕ, zero, suc, ◌<◌, ◌||◌, Bool, true, false, cond, List, [], ◌∷◌, ◌++◌, codes, flat_map, length, get_or, map, refl, sym, ap, subst, string_bytes, String}
 use Rattle.std.proofs.lemmas.Bool.{false≢true, true_from_ne_false}
-use Rattle.std.proofs.lemmas.List.{append-nil, map-append}
+use Rattle.std.proofs.lemmas.List.{append-nil}
 use Rattle.std.proofs.lemmas.List.Concat.{flat_map-append}
-use Rattle.std.proofs.lemmas.List.Elements.{All-head, All-tail, All-nil, All-cons, All-map}
+use Rattle.std.proofs.lemmas.List.Elements.{All-head, All-tail, All-nil, All-cons}
 use Rattle.std.proofs.lemmas.Option.{slice_get-map}
 use Rattle.std.specs.Borrow.{Bor}
-use Rattle.std.specs.List.{All, Any, list_any}
+use Rattle.std.specs.List.{All, list_any}
 use Rattle.std.specs.Map.Iter.{deref_pair}
 use Rattle.std.specs.Option.{option_and}
 use Rattle.std.specs.Prelude.{Option, Some, None, option_map, slice_get}
 use Rattle.std.specs.declared.alloc.Global.{Global}
 use Rattle.ptree.proofs.Trees.ItemTrees.{map_twice}
-use Rattle.toml.specs.Data.{Data, string, integer, float, boolean, datetime, array, table, Members, member, no_members, as_table, get}
+use Rattle.toml.specs.Data.{Data, string, integer, float, boolean, datetime, array, table, Members, as_table, get}
 use Rattle.toml.specs.View.{view, members_view}
 use Rattle.toml.specs.declared.value.Value.{Value}
 use Rattle.trees.specs.declared.deps.Network.{Network}
@@ -20,7 +20,7 @@ use Rattle.trees.specs.declared.deps.packages.Fault.TheVariants.{Missing, Severa
 use Rattle.trees.specs.declared.deps.packages.Needing.{Needing}
 use Rattle.trees.specs.Depending.{directed}
 use Rattle.trees.specs.DependingParts.{AddsEdge, IsIndexed}
-use Rattle.trees.specs.Locking.{Package, Known, called, entries_of, is_as, is_behind_name, is_locked, locked_entries, members_in, name_entry, normal_name, own_entries, source_text, without_revision, IsLed, IsNeeded, IsNeedTable, Leads, NameLeads, OwnLead}
+use Rattle.trees.specs.Locking.{Package, Known, called, entries_of, is_as, is_locked, locked_entries, members_in, name_entry, normal_name, own_entries, source_text, without_revision, IsLed, IsNeeded, IsNeedTable, Leads, NameLeads, OwnLead}
 use Rattle.trees.specs.LockingParts.{packages_of, AddsEntries, IsFaulty, IsPlaceOf, NameLed}
 use Rattle.trees.proofs.LockedEdges.{needs_none, needs_more}
 use Rattle.trees.proofs.LockedEntries.{no_entries, both_entries}

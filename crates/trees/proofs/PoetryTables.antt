@@ -1,14 +1,13 @@
 -- Tables of packages whose names are brought into the form that names are compared in.
-use Rattle.std.proofs.Common.{◌≡◌, ◌∙◌, ℕ, zero, suc, ◌+◌, ◌<◌, ◌≤◌, ◌||◌, Bool, true, false, cond, List, [], ◌∷◌, codes, length, get_or, set, take, map, refl, sym, ap, subst, string_bytes, String, arith}
-use Rattle.std.proofs.lemmas.Bool.{false≢true}
+use Rattle.std.proofs.Common.{◌≡◌, ◌∙◌, ℕ, zero, suc, ◌+◌, ◌<◌, ◌≤◌, ◌||◌, Bool, true, false, cond, List, [], ◌∷◌, codes, length, get_or, set, map, refl, sym, ap, subst, string_bytes, String, arith}
 use Rattle.std.specs.BTreeMap.{is_at}
 use Rattle.std.specs.Cmp.Lexicographic.{slice_cmp}
 use Rattle.std.specs.List.{list_any}
 use Rattle.std.specs.Map.{lookup, set_value}
 use Rattle.std.specs.Ordering.{nat_cmp}
-use Rattle.std.specs.Prelude.{Option, Some, None, ⊤}
+use Rattle.std.specs.Prelude.{Some, None, ⊤}
 use Rattle.std.specs.declared.alloc.Global.{Global}
-use Rattle.toml.specs.Data.{Data, string, integer, float, boolean, datetime, array, table, Members, no_members, member, as_table, same_key}
+use Rattle.toml.specs.Data.{Data, string, integer, float, boolean, datetime, array, table, Members, member, as_table, same_key}
 use Rattle.toml.specs.View.{view, members_view}
 use Rattle.toml.specs.declared.value.Value.{Value}
 use Rattle.trees.specs.Locking.{changed_at, has_table_of_needs, has_version, normal_table, normal_value}
@@ -43,15 +42,6 @@ module _ (key : List ℕ) (change : Data → Data) where
 
 pub table_changed : (old new : Members) → has_version (table old) ≡ true → new ≡ changed_at (codes "name") normal_value old → table new ≡ normal_table (table old)
 table_changed old new has is = ap table is ∙ sym (ap (λ (b : Bool). cond b (table (changed_at (codes "name") normal_value old)) (table old)) has)
-
-pub table_unversioned : (d : Data) → has_version d ≡ false → d ≡ normal_table d
-table_unversioned (string s) none = refl
-table_unversioned (integer z) none = refl
-table_unversioned (float x) none = refl
-table_unversioned (boolean b) none = refl
-table_unversioned (datetime dt) none = refl
-table_unversioned (array ds) none = refl
-table_unversioned (table ms) none = sym (ap (λ (b : Bool). cond b (table (changed_at (codes "name") normal_value ms)) (table ms)) none)
 
 pub is_table : (d : Data) (ms : Members) → Some ms ≡ as_table d → d ≡ table ms
 is_table (string s) ms e = cc

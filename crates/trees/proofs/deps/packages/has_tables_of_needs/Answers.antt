@@ -1,4 +1,4 @@
-use Rattle.std.proofs.Common.{◌≡◌, ◌∙◌, true, false, get_or, sym, ap, arith}
+use Rattle.std.proofs.Common.{◌∙◌, sym, ap}
 use Rattle.toml.specs.View.{view}
 use Rattle.trees.specs.Locking.{has_table_of_needs}
 use Rattle.trees.proofs.PoetryTables.{none_of, more_of, none_at_all, one_of}

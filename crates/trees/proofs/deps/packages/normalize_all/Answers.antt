@@ -1,6 +1,4 @@
-use Rattle.std.proofs.Common.{◌≡◌, ◌∙◌, sym, ap, arith}
-use Rattle.toml.specs.View.{view}
-use Rattle.trees.specs.Locking.{normal_table}
+use Rattle.std.proofs.Common.{arith}
 use Rattle.trees.proofs.PoetryTables.{none_normal, more_normal, all_normal}
 use Rattle.trees.proofs.deps.packages.normalize_all.Goals as goal
 

@@ -1,6 +1,6 @@
-use Rattle.std.proofs.Common.{◌≡◌, ◌∙◌, codes, sym, ap}
-use Rattle.toml.specs.View.{view, members_view}
-use Rattle.trees.specs.Locking.{changed_at, normal_value}
+use Rattle.std.proofs.Common.{◌∙◌, codes, sym, ap}
+use Rattle.toml.specs.View.{members_view}
+use Rattle.trees.specs.Locking.{normal_value}
 use Rattle.trees.proofs.LockedEntries.{ok_more}
 use Rattle.trees.proofs.PoetryTables.{members_changed, members_same}
 use Rattle.trees.proofs.deps.packages.normalize_parts.Goals as goal

@@ -1,4 +1,4 @@
-use Rattle.std.proofs.Common.{◌≡◌, ◌∙◌, true, is_some, codes, sym, ap, rules}
+use Rattle.std.proofs.Common.{◌≡◌, ◌∙◌, true, is_some, sym, ap, rules}
 use Rattle.toml.proofs.Views.{view-Table}
 use Rattle.toml.specs.Data.{table}
 use Rattle.toml.specs.View.{view, members_view}

@@ -1,4 +1,4 @@
-use Rattle.std.proofs.Common.{List, map, sym, subst, rules}
+use Rattle.std.proofs.Common.{List, map, subst, rules}
 use Rattle.std.proofs.lemmas.Result.{IfErr-weaker}
 use Rattle.std.specs.List.{All}
 use Rattle.std.specs.Prelude.{IfErr, OnOk}

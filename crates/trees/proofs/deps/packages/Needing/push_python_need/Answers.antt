@@ -1,4 +1,4 @@
-use Rattle.std.proofs.Common.{◌≡◌, ◌∙◌, ℕ, Some, None, sym, subst, rules}
+use Rattle.std.proofs.Common.{◌∙◌, ℕ, sym, subst, rules}
 use Rattle.std.proofs.lemmas.Bool.{false≢true}
 use Rattle.std.specs.Prelude.{Option}
 use Rattle.toml.specs.View.{view}
