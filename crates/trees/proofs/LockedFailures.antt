@@ -7,12 +7,13 @@ use Rattle.std.proofs.lemmas.List.Elements.{All-head, All-tail, All-contains, Al
 use Rattle.std.proofs.lemmas.List.Sorted.{All-permutation, Contains-permutation, IsPermutation-map, IsPermutation-sym, IsPermutation-trans}
 use Rattle.std.proofs.lemmas.Map.Keys.{sorted_tail, apart_from_distinct, IsDistinct-from_sorted, IsDistinct-IsPermutation}
 use Rattle.std.proofs.lemmas.Map.Views.{All-after_first}
+use Rattle.std.proofs.lemmas.Result.{IfErr-weaker}
 use Rattle.std.specs.Borrow.{Bor}
 use Rattle.std.specs.List.{All, Contains}
 use Rattle.std.specs.List.Sorted.{IsPermutation, IsStrictlySortedBy}
 use Rattle.std.specs.Option.{option_and_then}
 use Rattle.std.specs.Ordering.{eq_by_cmp, is_eq}
-use Rattle.std.specs.Prelude.{◌⊎◌, ⊤, Option, Some, None, is_some, unwrap_or, codes}
+use Rattle.std.specs.Prelude.{◌⊎◌, ⊤, Option, Some, None, is_some, unwrap_or, codes, Result, IfErr}
 use Rattle.std.specs.declared.cmp.Ordering.TheVariants.{Less, Equal}
 use Rattle.toml.specs.Data.{Data, get, as_array, as_str}
 use Rattle.toml.specs.View.{view}
@@ -37,6 +38,9 @@ use Rattle.trees.proofs.SourceTexts.{seen}
 -- what fails to hold fails in what has it
 pub fails_unless : (P Q : Type 0) (f : Failure) → (Q → P) → FailsUnless P f → FailsUnless Q f
 fails_unless P Q f has says = fails_weaker (P → ⊥) (Q → ⊥) ⊥ f (λ none q. none (has q)) says
+
+pub err_unless : {T : Type 0} (r : Result T Failure) (P Q : Type 0) → (Q → P) → IfErr r (FailsUnless P) → IfErr r (FailsUnless Q)
+err_unless r P Q has = IfErr-weaker r (FailsUnless P) (FailsUnless Q) (λ f. fails_unless P Q f has)
 
 -- what is known not to hold
 pub fails_never : (Q : Type 0) (f : Failure) → (Q → ⊥) → FailsFor ⊤ ⊥ f → FailsUnless Q f

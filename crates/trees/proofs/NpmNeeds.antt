@@ -16,9 +16,10 @@ use Rattle.std.specs.declared.alloc.Global.{Global}
 use Rattle.serde_json.specs.Data.{Data}
 use Rattle.serde_json.specs.declared.value.Value.{Value}
 use Rattle.trees.specs.declared.deps.npm.Walk.{Walk}
-use Rattle.trees.specs.Npm.{IsNearest, Names}
-use Rattle.trees.specs.NpmParts.{Step, edge_of, edges_by, entered_of, folders_of, latest, lower_of, name_of, nearest_of, needs_in, packages_of, walked, AddsLists, AreEntered, AreKept, AreNeeds, Enters, HasSteps, IsAtStep, IsBefore, IsFresh, IsOwnStep, IsStep, IsWithin, Leaves}
+use Rattle.trees.specs.Npm.{HasLists, HasNoWorkspaces, IsNearest, Names}
+use Rattle.trees.specs.NpmParts.{Step, edge_of, edges_by, entered_of, folders_of, latest, lower_of, name_of, nearest_of, needs_in, packages_of, walked, AddsLists, AreEntered, AreKept, AreNeeds, Enters, HasSteps, IsAtStep, IsBefore, IsFresh, IsOwnStep, IsRightAt, IsStep, IsWithin, Leaves}
 use Rattle.trees.proofs.NpmEntered.{all_around, before_cases, entered_left, entered_more, entered_none, entered_passed}
+use Rattle.trees.proofs.NpmLocks.{listed_at}
 use Rattle.trees.proofs.NpmNearest.{cons_cases, nearest_all, nearest_found}
 use Rattle.trees.proofs.NpmWalks.{Entry, step_of}
 
@@ -71,6 +72,12 @@ module _ (packages : List (List ℕ × Data)) (steps : List Step) (has : HasStep
 
   pub walked_left : walked mid ≡ packages
   walked_left = ap (λ (m : Bor (BTreeMap (String Global) Value)). packages_of m.now) leaves.packages ∙ was.walks
+
+  -- what is right of all packages is so of the one that the step is at
+  pub right_left : s.1 ≡ true → HasNoWorkspaces packages → All HasLists packages → IsRightAt (walked mid) (name_of s)
+  right_left kind none lists =
+      let own = own_at packages steps has k s at kind in
+      subst (λ ps. IsRightAt ps (name_of s)) (sym walked_left) (record { ascending = has.ascending; workspaces = none; place = s.3; value = own.0; at = own.1; lists = listed_at HasLists packages s.3 (name_of s, own.0) own.1 lists })
 
   -- a folder is entered
   pub at_other : (new : Walk) → s.1 ≡ false → Enters s mid new → IsAtStep packages steps (k + 1) new

@@ -29,7 +29,7 @@ use Rattle.trees.specs.DependingParts.{labels_of, needs_of, added, AddsEdge, IsE
 use Rattle.trees.specs.Documents.{IsDocumentOf}
 use Rattle.trees.specs.LockingParts.{AddsEdges}
 use Rattle.trees.specs.Npm.{text_at, listed, with_project, packages_in, path_in, is_link, behind, other_name, label_text, IsIn, IsLabel, IsRootName, AreAscending, HasNoLinks, HasNoWorkspaces, HasPackages, HoldsPackages}
-use Rattle.trees.specs.NpmParts.{edge_of, AddsPackages, AddsInOrder, AreNeeds}
+use Rattle.trees.specs.NpmParts.{edge_of, AddsPackages, AddsInOrder, AreNeeds, ArePaths, HasSteps, Step}
 use Rattle.trees.proofs.LockedEdges.{edges_none, edges_both, edges_one, first_edges}
 use Rattle.trees.proofs.LockedPackages.{then_first}
 use Rattle.trees.proofs.Networks.{indexed_none}
@@ -144,6 +144,13 @@ module _ (root : List ℕ) where
   -- an empty network that gets packages
   pub packages_indexed : (ps : List (List ℕ × Data)) (old new : Network) → IsEmpty old → AddsPackages root ps old new → IsIndexed new
   packages_indexed ps old new empty adds = indexed_none new (ap (λ v. v.items) adds.edges ∙ empty.edges) (ap (λ s. s.keys) adds.sorted ∙ empty.sorted)
+
+  -- the first packages have their paths, and so their steps
+  pub paths_first : (ps : List (List ℕ × Data)) (old new : Network) → IsEmpty old → AddsPackages root ps old new → (paths : List (String Global)) → paths ≡ new.paths.items → ArePaths ps paths
+  paths_first ps old new empty adds paths same = ap (map string_bytes) same ∙ (adds.paths ∙ ap (λ v. map string_bytes v ++ map (λ p. p.0) ps) empty.paths)
+
+  pub steps_first : (ps : List (List ℕ × Data)) (old new : Network) → IsEmpty old → AddsPackages root ps old new → (paths : List (String Global)) (made steps : List Step) → paths ≡ new.paths.items → steps ≡ made → (ArePaths ps paths → HasSteps ps made) → HasSteps ps steps
+  steps_first ps old new empty adds paths made steps same is has = subst (HasSteps ps) (sym is) (has (paths_first ps old new empty adds paths same))
 
   -- and then edges
   pub packages_held : (source : Source) (lock : Data) (ps : List (List ℕ × Data)) (old n new : Network) → packages_in lock ≡ ps → IsEmpty old → AreAscending ps → IsRootName source lock root → AddsPackages root ps old n → (es : List (ℕ × ℕ)) → AddsInOrder n new es → (HasNoWorkspaces ps → AreNeeds ps es) → HasPackages old.is_inverse source lock new

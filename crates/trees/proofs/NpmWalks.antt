@@ -134,7 +134,7 @@ edge_none steps node name r is none = sym (ap (λ (o : Option ℕ). option_to_li
 -- ## Packages of a map
 
 -- the package at a path
-pub lookup_at : (path : List ℕ) (d : Data) (es : List (String Global × Value)) (i : ℕ) → IsStrictlySortedBy (slice_cmp nat_cmp) (map (λ p. p.0) (listed (members_view es))) → slice_get (listed (members_view es)) i ≡ Some (path, d)
+lookup_at : (path : List ℕ) (d : Data) (es : List (String Global × Value)) (i : ℕ) → IsStrictlySortedBy (slice_cmp nat_cmp) (map (λ p. p.0) (listed (members_view es))) → slice_get (listed (members_view es)) i ≡ Some (path, d)
     → (v : Value) × (lookup (is_at (λ k. slice_cmp nat_cmp path (string_bytes k))) es ≡ Some v) × (view v ≡ d)
 unfolding IsStrictlySortedBy
 lookup_at path d [] i up at = (let no : ◌≡◌ {A = Option (List ℕ × Data)} None (Some (path, d)) = at in cc)
@@ -149,6 +149,12 @@ lookup_at path d (e ∷ es) (suc i) up at =
     let less : slice_cmp nat_cmp (string_bytes e.0) path ≡ Less = subst (λ (t : List ℕ). slice_cmp nat_cmp (string_bytes e.0) t ≡ Less) (get_or_from_slice_get texts i path path there) (All-from_recursion (λ (t : List ℕ). slice_cmp nat_cmp (string_bytes e.0) t ≡ Less) texts up.0 i path (slice_get_within texts i path there)) in
     let other : is_eq (slice_cmp nat_cmp path (string_bytes e.0)) ≡ false = ap is_eq (nat_list_cmp_total.antisymm path (string_bytes e.0) ∙ ap ordering_reverse less) in
     (more.0, cond-false _ (Some e.1) _ other ∙ more.1, more.2)
+
+-- what a map has there is the package
+pub value_at : (path : List ℕ) (d : Data) (es : List (String Global × Value)) (i : ℕ) → IsStrictlySortedBy (slice_cmp nat_cmp) (map (λ p. p.0) (listed (members_view es))) → slice_get (listed (members_view es)) i ≡ Some (path, d)
+    → (o : Option Value) → o ≡ lookup (is_at (λ k. slice_cmp nat_cmp path (string_bytes k))) es → MatchOption o ⊥ (λ v. view v ≡ d)
+value_at path d es i up at None is = (let no : None ≡ Some (lookup_at path d es i up at).0 = is ∙ (lookup_at path d es i up at).1 in cc)
+value_at path d es i up at (Some v) is = (let both : Some v ≡ Some (lookup_at path d es i up at).0 = is ∙ (lookup_at path d es i up at).1 in ap view (cc) ∙ (lookup_at path d es i up at).2)
 
 -- ## Lists of names
 
