@@ -1,5 +1,5 @@
 use Rattle.std.proofs.Common.{◌<◌, inl, inr, rules}
-use Rattle.std.specs.Prelude.{◌⊎◌, IsErr, IfErr}
+use Rattle.std.specs.Prelude.{◌⊎◌}
 use Rattle.trees.specs.Asked.{drawing_value}
 use Rattle.trees.specs.Depending.{HoldsNoGraph}
 use Rattle.trees.specs.Meaning.{HoldsNoLock}
@@ -17,69 +17,52 @@ returns-clause-written g c = λ is.
     let sources = c.args.found.now.sources in
     let source = c.args.source.now in
     let deps = c.args.deps in
-    let drawing = c.args.drawing in
-    let config = drawing_value sources drawing in
+    let deep : Type 0 = 5000 < (drawing_value sources c.args.drawing).depth in
     let found = c.in_ok-dependencies.dependencies in
     let old = g.W.Sink.contents c.args.out.now in
-    let new = g.W.Sink.contents c.draw-drawn.new.out in
-    let drawn : Writes old new c.draw-drawn.result (IsGraphDrawing config found deps.walks) (FailsFor (5000 < config.depth) ⊥) = search rules in
-    writes_weaker old new c.draw-drawn.result (IsGraphDrawing config found deps.walks) (IsNeedsDrawing sources source deps drawing) (FailsFor (5000 < config.depth) ⊥) (FailsToDepend sources source deps drawing)
-    (λ bytes drawing'. (found, c.in_ok-dependencies.ensures.graph is, drawing')) (λ e says. record { pairs = λ is. fails_weaker (5000 < config.depth) (HoldsNoGraph source deps.root ⊎ (5000 < config.depth)) ⊥ e inr says; lock = λ is none. fails_weaker (5000 < config.depth) (HoldsNoLock source ⊎ (5000 < config.depth)) ⊥ e inr says }) drawn
+    let drawn : Writes old (g.W.Sink.contents c.draw-drawn.new.out) c.draw-drawn.result (IsGraphDrawing (drawing_value sources c.args.drawing) found deps.walks) (FailsFor deep ⊥) = search rules in
+    writes_weaker old (g.W.Sink.contents c.draw-drawn.new.out) c.draw-drawn.result (IsGraphDrawing (drawing_value sources c.args.drawing) found deps.walks) (IsNeedsDrawing sources source deps c.args.drawing) (FailsFor deep ⊥) (FailsToDepend sources source deps c.args.drawing)
+    (λ bytes drawing. (found, c.in_ok-dependencies.ensures.graph is, drawing)) (λ e says. record { pairs = λ is. fails_weaker deep (HoldsNoGraph source deps.root ⊎ deep) ⊥ e inr says; lock = λ is none. fails_weaker deep (HoldsNoLock source ⊎ deep) ⊥ e inr says }) drawn
 
 pub returns-in_err-dependencies-clause-written : goal.returns-in_err-dependencies-clause-written
 returns-in_err-dependencies-clause-written g c = λ is.
     let sources = c.args.found.now.sources in
     let source = c.args.source.now in
     let deps = c.args.deps in
-    let drawing = c.args.drawing in
-    let r = c.from_residual.result in
-    let deep : Type 0 = 5000 < (drawing_value sources drawing).depth in
+    let deep : Type 0 = 5000 < (drawing_value sources c.args.drawing).depth in
     let e = c.in_err-dependencies.field-0.0 in
-    let fails : FailsToDepend sources source deps drawing e = record {
+    let fails : FailsToDepend sources source deps c.args.drawing e = record {
       pairs = λ is. fails_weaker (HoldsNoGraph source deps.root) (HoldsNoGraph source deps.root ⊎ deep) ⊥ e inl (c.in_err-dependencies.ensures.failed is);
       lock = λ is none. fails_weaker (HoldsNoLock source) (HoldsNoLock source ⊎ deep) ⊥ e inl (c.in_err-dependencies.ensures.refused is none);
     } in
-    let says : IfErr r (FailsToDepend sources source deps drawing) = search (rules, fails) in
-    let err : IsErr r = search rules in
-    nothing_written (g.W.Sink.contents c.args.out.now) r (IsNeedsDrawing sources source deps drawing) (FailsToDepend sources source deps drawing) err says
+    nothing_written (g.W.Sink.contents c.args.out.now) c.from_residual.result (IsNeedsDrawing sources source deps c.args.drawing) (FailsToDepend sources source deps c.args.drawing) (search rules) (search (rules, fails))
 
 -- the labels are as a terminal may get them
 pub returns-clause-shown : goal.returns-clause-shown
 returns-clause-shown g c =
-    let found = c.in_ok-dependencies.dependencies in
     let config = drawing_value c.args.found.now.sources c.args.drawing in
     let old = g.W.Sink.contents c.args.out.now in
     let new = g.W.Sink.contents c.draw-drawn.new.out in
-    let drawn : Writes old new c.draw-drawn.result (IsGraphDrawing config found c.args.deps.walks) (FailsFor (5000 < config.depth) ⊥) = search rules in
-    dependencies_shown c.args.found.now.sources c.args.drawing found c.args.deps.walks (FailsFor (5000 < config.depth) ⊥) old new c.draw-drawn.result c.in_ok-dependencies.ensures.labels drawn
+    let drawn : Writes old new c.draw-drawn.result (IsGraphDrawing config c.in_ok-dependencies.dependencies c.args.deps.walks) (FailsFor (5000 < config.depth) ⊥) = search rules in
+    dependencies_shown c.args.found.now.sources c.args.drawing c.in_ok-dependencies.dependencies c.args.deps.walks (FailsFor (5000 < config.depth) ⊥) old new c.draw-drawn.result c.in_ok-dependencies.ensures.labels drawn
 
 pub returns-in_err-dependencies-clause-shown : goal.returns-in_err-dependencies-clause-shown
 returns-in_err-dependencies-clause-shown g c = drawing_nothing c.args.found.now.sources c.args.drawing (g.W.Sink.contents c.args.out.now)
 
 pub returns-clause-npm : goal.returns-clause-npm
 returns-clause-npm g c = λ is none.
-    let sources = c.args.found.now.sources in
     let source = c.args.source.now in
-    let deps = c.args.deps in
-    let drawing = c.args.drawing in
-    let config = drawing_value sources drawing in
+    let config = drawing_value c.args.found.now.sources c.args.drawing in
     let found = c.in_ok-dependencies.dependencies in
     let old = g.W.Sink.contents c.args.out.now in
     let new = g.W.Sink.contents c.draw-drawn.new.out in
-    let drawn : Writes old new c.draw-drawn.result (IsGraphDrawing config found deps.walks) (FailsFor (5000 < config.depth) ⊥) = search rules in
-    writes_weaker old new c.draw-drawn.result (IsGraphDrawing config found deps.walks) (IsSomeDrawing sources deps drawing) (FailsFor (5000 < config.depth) ⊥) (FailsFor (HoldsNoNpmLock source ⊎ (5000 < config.depth)) ⊥)
-    (λ bytes drawing'. (found, drawing')) (λ e says. fails_weaker (5000 < config.depth) (HoldsNoNpmLock source ⊎ (5000 < config.depth)) ⊥ e inr says) drawn
+    let drawn : Writes old new c.draw-drawn.result (IsGraphDrawing config found c.args.deps.walks) (FailsFor (5000 < config.depth) ⊥) = search rules in
+    writes_weaker old new c.draw-drawn.result (IsGraphDrawing config found c.args.deps.walks) (IsSomeDrawing c.args.found.now.sources c.args.deps c.args.drawing) (FailsFor (5000 < config.depth) ⊥) (FailsFor (HoldsNoNpmLock source ⊎ (5000 < config.depth)) ⊥)
+    (λ bytes drawing. (found, drawing)) (λ e says. fails_weaker (5000 < config.depth) (HoldsNoNpmLock source ⊎ (5000 < config.depth)) ⊥ e inr says) drawn
 
 pub returns-in_err-dependencies-clause-npm : goal.returns-in_err-dependencies-clause-npm
 returns-in_err-dependencies-clause-npm g c = λ is none.
-    let sources = c.args.found.now.sources in
     let source = c.args.source.now in
-    let deps = c.args.deps in
-    let drawing = c.args.drawing in
-    let r = c.from_residual.result in
-    let deep : Type 0 = 5000 < (drawing_value sources drawing).depth in
-    let e = c.in_err-dependencies.field-0.0 in
-    let fails : FailsFor (HoldsNoNpmLock source ⊎ deep) ⊥ e = fails_weaker (HoldsNoNpmLock source) (HoldsNoNpmLock source ⊎ deep) ⊥ e inl (c.in_err-dependencies.ensures.npm is none) in
-    let says : IfErr r (FailsFor (HoldsNoNpmLock source ⊎ deep) ⊥) = search (rules, fails) in
-    let err : IsErr r = search rules in
-    nothing_written (g.W.Sink.contents c.args.out.now) r (IsSomeDrawing sources deps drawing) (FailsFor (HoldsNoNpmLock source ⊎ deep) ⊥) err says
+    let deep : Type 0 = 5000 < (drawing_value c.args.found.now.sources c.args.drawing).depth in
+    let fails : FailsFor (HoldsNoNpmLock source ⊎ deep) ⊥ c.in_err-dependencies.field-0.0 = fails_weaker (HoldsNoNpmLock source) (HoldsNoNpmLock source ⊎ deep) ⊥ c.in_err-dependencies.field-0.0 inl (c.in_err-dependencies.ensures.npm is none) in
+    nothing_written (g.W.Sink.contents c.args.out.now) c.from_residual.result (IsSomeDrawing c.args.found.now.sources c.args.deps c.args.drawing) (FailsFor (HoldsNoNpmLock source ⊎ deep) ⊥) (search rules) (search (rules, fails))
