@@ -134,7 +134,7 @@ edge_none steps node name r is none = sym (ap (λ (o : Option ℕ). option_to_li
 -- ## Packages of a map
 
 -- the package at a path
-lookup_at : (path : List ℕ) (d : Data) (es : List (String Global × Value)) (i : ℕ) → IsStrictlySortedBy (slice_cmp nat_cmp) (map (λ p. p.0) (listed (members_view es))) → slice_get (listed (members_view es)) i ≡ Some (path, d)
+pub lookup_at : (path : List ℕ) (d : Data) (es : List (String Global × Value)) (i : ℕ) → IsStrictlySortedBy (slice_cmp nat_cmp) (map (λ p. p.0) (listed (members_view es))) → slice_get (listed (members_view es)) i ≡ Some (path, d)
     → (v : Value) × (lookup (is_at (λ k. slice_cmp nat_cmp path (string_bytes k))) es ≡ Some v) × (view v ≡ d)
 unfolding IsStrictlySortedBy
 lookup_at path d [] i up at = (let no : ◌≡◌ {A = Option (List ℕ × Data)} None (Some (path, d)) = at in cc)
