@@ -40,9 +40,9 @@ enum ptree_refusal {
     PTREE_DATE = 10,       /* the document has a date or a time, before any float */
     PTREE_END = 11,        /* the text of the item at `place` ends before it begins, or beyond the texts */
     PTREE_NO_FORMAT = 12,  /* unknown format */
-    PTREE_NAMES = 13,      /* a text of the configuration, a name or a mark is not UTF-8, ends before it begins, or ends beyond its texts */
+    PTREE_NAMES = 13,      /* a mark, or a text of a configuration, style or variable, is not UTF-8, or ends where it cannot */
     PTREE_COLOR = 14,      /* unknown kind of colour */
-    PTREE_FAULT = 15,      /* invalid configuration file or variable (ptree_faults); `place` is the line if the file's syntax is wrong, else 0 */
+    PTREE_FAULT = 15,      /* invalid configuration file or variable (ptree_faults); `place` is the line of wrong syntax, else 0 */
     PTREE_EDGE = 16,       /* an end of the edge at `place` is not a node */
     PTREE_STYLED = 17      /* unknown value of `styled` (ptree_styled) */
 };
@@ -161,7 +161,7 @@ struct ptree_characters {
 struct ptree_config {
     uint32_t depth;                      /* the greatest level that is drawn; the root has level 0 */
     uint32_t styled;                     /* PTREE_NEVER, PTREE_ALWAYS or PTREE_TTY */
-    size_t indent;                       /* the width of a piece in characters, including the padding */
+    size_t indent;                       /* how many characters a piece has, with the padding; at least 1 + `padding` */
     size_t padding;                      /* how many `characters.empty` a piece ends in */
     struct ptree_characters characters;
     struct ptree_style branch;
@@ -221,8 +221,9 @@ uint32_t ptree_draw_with(const struct ptree_item *items, size_t items_count, con
  *
  * `found->items` is the number of items drawn, and `found->bytes` the length of their entries; `path` is updated for them, also on error.
  * On success `found->place` is 0 if all items were drawn. Otherwise it is the length of the next entry, which did not fit: take away
- * what was drawn, and go on with that item. Errors: MEMORY, UTF8, LEVEL (beyond `path`), END, NAMES, COLOR, STYLED; `place` is the item's.
- * Levels and flags are not checked to be those of a tree: each entry is drawn as its flag and those in `path` say. */
+ * what was drawn, and go on with that item. Errors: MEMORY, UTF8, LEVEL (beyond `path`), END, NAMES, COLOR, STYLED; `place` is the item's
+ * with UTF8, LEVEL and END, else 0. Levels and flags are not checked to be those of a tree: each entry is drawn as its flag and those in
+ * `path` say. */
 uint32_t ptree_draw_steps(const struct ptree_step *steps, size_t steps_count, const uint8_t *texts, size_t texts_length, uint8_t *path,
                           size_t path_length, const struct ptree_config *config, const uint8_t *names, size_t names_length,
                           uint8_t *out, size_t out_length, struct ptree_found *found);
@@ -247,8 +248,8 @@ uint32_t ptree_draw_walks(const size_t *ends, size_t nodes, const uint8_t *texts
                           size_t edges_count, size_t start, const struct ptree_config *config, const uint8_t *names,
                           size_t names_length, uint8_t *out, size_t out_length, struct ptree_found *found);
 
-/* Draws a graph as ptree_draw_walks does, but expands each node only where it comes first, and writes `mark` after its text elsewhere. So
- * a cycle ends. Errors: those of ptree_draw_walks, and NAMES if the mark is not UTF-8; `out` is unchanged. */
+/* Draws a graph as ptree_draw_walks does, but what is below a node only once: at its later places `mark` follows its text instead, unless
+ * nothing is below it. So a cycle ends. Errors: those of ptree_draw_walks, and NAMES if the mark is not UTF-8; `out` is unchanged. */
 uint32_t ptree_draw_once(const size_t *ends, size_t nodes, const uint8_t *texts, size_t texts_length, const struct ptree_edge *edges,
                          size_t edges_count, size_t start, const uint8_t *mark, size_t mark_length, const struct ptree_config *config,
                          const uint8_t *names, size_t names_length, uint8_t *out, size_t out_length, struct ptree_found *found);

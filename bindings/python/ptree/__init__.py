@@ -171,8 +171,9 @@ def draw_parts(
 ) -> Iterator[str]:  # fmt: skip
     """Returns the drawing in parts, each of at most `items` items; joined, they are what `draw` returns.
 
-    Nodes are asked for while it draws, one ahead at each level, and only those above an item are kept. So a tree of any size is drawn with
-    little memory. Arguments and errors are those of `draw`; `items` must be at least 1. The parts before an error remain valid.
+    Nodes are asked for while it draws, one ahead at each level, and only those of a part and those above them are kept. So a tree of any
+    size is drawn with little memory. Arguments and errors are those of `draw`; `items` must be at least 1. The parts before an error remain
+    valid.
     """
     if items < 1:
         raise ValueError(f"items must be at least 1, not {items}")
@@ -234,7 +235,7 @@ def print_tree(
 def read(text: str, config: Config | str | None = None, **changes: Any) -> Tree:
     """Returns the tree that `draw` draws as this text, with no level beyond the configuration's depth.
 
-    `config` and `changes` are those of `draw`; only the pieces, the marker and the depth are used.
+    `config` and `changes` are those of `draw`. If `styled` is "always", the text must have the codes of the styles; else it has none.
 
     Raises ReadError if the text is not a drawing: `line` is the first line that cannot continue the drawing, counted from 1, or None if the
     text is incomplete. Raises ConfigError if drawings under this configuration cannot be read back.
@@ -316,8 +317,9 @@ def draw_graph(
 ) -> str:  # fmt: skip
     """Returns the drawing of a graph from a node. `edges` maps a node to the nodes below it, in order; a missing node has none.
 
-    A node is expanded where it comes first, and has `mark` after its label elsewhere. If `once` is false, all walks are drawn: there can be
-    far more walks than nodes, and walks round a cycle never end, so give a depth. `config` and `changes` are those of `draw`.
+    What is below a node is drawn where it comes first; elsewhere `mark` follows its label instead, unless nothing is below it. If `once` is
+    false, all walks are drawn: there can be far more walks than nodes, and walks round a cycle never end, so give a depth. `config` and
+    `changes` are those of `draw`.
 
     Raises graphlib.CycleError, a ValueError, for walks round a cycle without a depth; otherwise as `draw` does.
 

@@ -168,7 +168,8 @@ class Config:
 
         Variables override keys of the file; unknown variables and keys are ignored.
 
-        Raises ConfigError with all errors if a value or the file's syntax is wrong; `line` is that of the wrong syntax, or None.
+        Raises ConfigError with all errors if a value or the file's syntax is wrong; `line` is that of the wrong syntax, or None. Raises
+        ValueError for an unknown format.
         """
         if format not in ("toml", "json"):
             raise ValueError(f"the format must be toml or json, not {format!r}")

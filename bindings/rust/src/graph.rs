@@ -142,8 +142,8 @@ pub fn write_graph_with<N: Clone + Display, W: Write>(
     f.write_all(&drawing)
 }
 
-/// Draws a graph from a node to a writer. Each node is expanded only where it comes first, and has `mark` after its label elsewhere,
-/// such as [`REPEATED_MARK`]. So a cycle ends.
+/// Draws a graph from a node to a writer. What is below a node is drawn only where it comes first; elsewhere `mark` follows its label
+/// instead, such as [`REPEATED_MARK`], unless nothing is below it. So a cycle ends.
 pub fn write_graph_once_with<N: Clone + Display, W: Write>(
     graph: &Graph<N>,
     start: NodeIndex,
