@@ -15,7 +15,13 @@ use std::time::Instant;
 // How many maps stand in one another in a part of a deep document.
 const LEVELS: usize = 100;
 
-// A list of so many parts. A part is a record with a list, a map and a list in that, or else deep.
+// The number at a place of a document of numbers, of up to ten digits.
+fn number_at(i: u32) -> u64 {
+    (u64::from(i) * 2_654_435_761 % 10_000_000_000) >> (i % 34)
+}
+
+// A list of so many parts. A part is a record with a list, a map and a list in that, a number, or
+// else deep.
 fn document(shape: &str, parts: u32) -> String {
     let deep = "{\"a\":1,\"b\":".repeat(LEVELS) + "\"c\"" + &"}".repeat(LEVELS);
     let mut text = String::from("[");
@@ -27,6 +33,7 @@ fn document(shape: &str, parts: u32) -> String {
             "records" => text.push_str(&format!(
                 "{{\"id\":{i},\"name\":\"record {i}\",\"tags\":[\"tree\",\"text\"],\"place\":{{\"city\":\"Maribor\",\"at\":[{i},-7]}}}}"
             )),
+            "numbers" => text.push_str(&number_at(i).to_string()),
             _ => text.push_str(&deep),
         }
     }

@@ -18,17 +18,22 @@ const INNERMOST: &str = "\"c\"";
 
 const END: &str = "}";
 
-// How many values a record has, and a part of a deep document.
+// How many values a record has, and a part of a deep document. A number is one.
 const RECORD_VALUES: u64 = 11;
 
 const DEEP_VALUES: u64 = 201;
+
+// The number at a place of a document of numbers, of up to ten digits.
+fn number_at(i: u32) -> u64 {
+    (u64::from(i) * 2_654_435_761 % 10_000_000_000) >> (i % 34)
+}
 
 // What std calls a step that failed.
 fn failed<E: Drop>(_e: E) -> io::Error {
     io::Error::from(ErrorKind::Other)
 }
 
-// A list of so many parts, in JSON. A part is a record with a list, a map and a list in that, or else deep.
+// A list of so many parts, in JSON. A part is a record with a list, a map and a list in that, a number, or else deep.
 fn document(alloc: Global, shape: &str, parts: u32) -> Result<String, AllocError> {
     let mut deep = FRONT.repeat(alloc, LEVELS)?;
     deep.push_str(INNERMOST)?;
@@ -42,6 +47,7 @@ fn document(alloc: Global, shape: &str, parts: u32) -> Result<String, AllocError
             "records" => text.push_str(format!(in alloc;
                 "{{\"id\":{i},\"name\":\"record {i}\",\"tags\":[\"tree\",\"text\"],\"place\":{{\"city\":\"Maribor\",\"at\":[{i},-7]}}}}"
             )?.as_str())?,
+            "numbers" => text.push_str(format!(in alloc; "{}", number_at(i))?.as_str())?,
             _ => text.push_str(deep.as_str())?,
         }
     }
@@ -53,6 +59,7 @@ fn document(alloc: Global, shape: &str, parts: u32) -> Result<String, AllocError
 fn values(shape: &str, parts: u32) -> u64 {
     let each = match shape {
         "records" => RECORD_VALUES,
+        "numbers" => 1,
         _ => DEEP_VALUES,
     };
     u64::from(parts).saturating_mul(each).saturating_add(1)

@@ -110,8 +110,23 @@ impl Style {
         ensures cause { HasCause (W.faults f.old) (W.faults f.new) result }
         ensures memory { TakesNoMemory result }
     {
+        self.write_painted_bytes(f, input.as_bytes())
+    }
+
+    /// Writes bytes as [`Style::write_painted`] writes a text.
+    #[inline(always)]
+    pub(crate) fn write_painted_bytes<W: Sink>(
+        &self,
+        f: &mut W,
+        input: &[u8],
+    ) -> Result<(), DrawError>
+        ensures bytes { IsWritten (W.contents f.old) (W.contents f.new) result
+            (painted_text (style_of self.now) input.now) }
+        ensures cause { HasCause (W.faults f.old) (W.faults f.new) result }
+        ensures memory { TakesNoMemory result }
+    {
         if self.is_plain() {
-            put_all(f, input.as_bytes())
+            put_all(f, input)
         } else {
             let mut error = DrawError::Memory;
             match self.write_with_codes(f, input, &mut error) {
@@ -121,13 +136,13 @@ impl Style {
         }
     }
 
-    // Writes the text painted in any style, and stores a failure of the sink in `error`. It is a
+    // Writes the bytes painted in any style, and stores a failure of the sink in `error`. It is a
     // function of its own, since each call pays for the buffer of the codes.
     #[inline(never)]
     fn write_with_codes<W: Sink>(
         &self,
         f: &mut W,
-        input: &str,
+        input: &[u8],
         error: &mut DrawError,
     ) -> Result<(), Stop>
         requires { error.old ≡ Memory }
@@ -140,7 +155,7 @@ impl Style {
         let mut codes = Codes::none();
         codes.gather(self);
         put_codes(f, codes.as_bytes(), error)?;
-        put_or_stop(f, input.as_bytes(), error)?;
+        put_or_stop(f, input, error)?;
         put_or_stop(f, codes.reset().as_bytes(), error)
     }
 

@@ -1,7 +1,7 @@
 -- Values, their texts and their children.
-use Rattle.std.proofs.Common.{◌≡◌, ◌∙◌, ap, refl, rules, Box, Vec, Global, Some, List, [], ◌∷◌, map}
+use Rattle.std.proofs.Common.{◌≡◌, ◌∙◌, ap, sym, refl, false, rules, Box, Vec, Global, Some, List, [], ◌∷◌, map}
 use Rattle.ptree.specs.Data as d
-use Rattle.ptree.specs.Data.{Data, item_pairs, entry_pair, entry_pairs, value_pairs, Pair, pair_own, pair_below, pair_shape}
+use Rattle.ptree.specs.Data.{Data, is_list, item_pairs, entry_pair, entry_pairs, value_pairs, Pair, pair_own, pair_below, pair_shape}
 use Rattle.ptree.specs.Shape.{kids}
 use Rattle.ptree.proofs.Trees.ItemTrees.{map_twice}
 use Rattle.ptree.proofs.Trees.Shapes.{kids_of_unfold}
@@ -46,6 +46,10 @@ entry_pair-below key (d.newtype x) = refl
 entry_pair-below key (d.seq xs) = refl
 entry_pair-below key (d.map es) = refl
 entry_pair-below key (d.bytes bs) = refl
+
+-- only a list or a map has children
+pub value_pairs-of_others : (value : Data) → is_list value ≡ false → value_pairs value ≡ []
+value_pairs-of_others value h = sym (rw h at (entry_pair-below (d.string []) value))
 
 -- the shapes of the children, given the children
 pub kids_of_pair : {X : Type 0} (f : X → Pair) (p : Pair) (xs : List X) → map f xs ≡ value_pairs p.1 → map (λ x. pair_shape (f x)) xs ≡ kids (pair_shape p)

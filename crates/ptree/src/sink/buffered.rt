@@ -1,7 +1,7 @@
 //! A sink that gathers what it is given, and passes it on in fewer and larger puts.
 ghost use Rattle.std.specs.Io.KnownBytes.{Appends, Keeps, WriteAppends};
 ghost use Rattle.std.specs.Prelude.{◌≡◌, ◌+◌, ◌-◌, ◌≤◌, ◌<◌, [], take, drop, ◌++◌, length, vec_len, IfOk, IfErr, OnOk, IsSome, IsNone, Some, None};
-ghost use Rattle.ptree.specs.Faults.{reported_by_put, reported_by_call, faults_of};
+ghost use Rattle.ptree.specs.Faults.{reported_by_put, reported_by_call, faults_of, put_outcome};
 ghost use Rattle.ptree.specs.Writing.{HasCause, TakesNoMemory, put_faults};
 
 use crate::output::place::place;
@@ -187,10 +187,7 @@ impl<S: Sink> Buffered<S> {
         self.fault = fault;
     }
 
-    // Does what `put` does if there is no room, or if the sink has stopped. It is a function of its
-    // own, so that only the test for room is inlined.
-    #[cold]
-    #[inline(never)]
+    // Does what `put` does if there is no room, or if the sink has stopped.
     fn put_without_room(&mut self, bytes: &[u8]) -> io::Result<usize>
         ensures bound { IfOk result (λ n. n ≤ length bytes.now) }
         ensures bytes { WriteAppends (given_bytes S.contents self.old)
@@ -223,6 +220,32 @@ impl<S: Sink> Buffered<S> {
             Err(e) => self.fault = Some(SinkFault::Failed(e)),
         }
         result
+    }
+
+    // Does what `put_without_room` does. Returns how many bytes were accepted, or nothing if the sink
+    // stopped at the fault that is stored: `put` is inlined, and has no room for an error.
+    #[cold]
+    #[inline(never)]
+    fn put_or_stop(&mut self, bytes: &[u8]) -> Option<usize>
+        ensures bound { IfOk (put_outcome result (stopped_at self.new))
+            (λ n. n ≤ length bytes.now) }
+        ensures bytes { WriteAppends (given_bytes S.contents self.old)
+            (given_bytes S.contents self.new) (put_outcome result (stopped_at self.new))
+            bytes.now }
+        ensures faults { reported_faults S.faults self.new
+            ≡ reported_faults S.faults self.old
+            + put_faults (put_outcome result (stopped_at self.new)) bytes.now }
+        ensures more { PutsNoMore self.old self.new (put_outcome result (stopped_at self.new))
+            bytes.now }
+        ensures handed { HandsOn S.contents S.faults self.old self.new }
+        ensures stops { StopsPut (stopped_at self.new) (put_outcome result (stopped_at self.new))
+            bytes.now }
+        ensures room { room_of self.new ≡ room_of self.old }
+    {
+        match self.put_without_room(bytes) {
+            Ok(n) if n > 0 || bytes.is_empty() => Some(n),
+            _ => None,
+        }
     }
 
     // Takes bytes into the buffer, for which it has room, and returns how many. So it never grows.
@@ -274,9 +297,14 @@ impl<S: Sink> Sink for Buffered<S> {
             → inner_sink self.new ≡ inner_sink self.old }
     {
         if self.fault.is_none() && bytes.len() <= self.room.len() - self.used {
-            Ok(self.take(bytes))
-        } else {
-            self.put_without_room(bytes)
+            return Ok(self.take(bytes));
+        }
+        match self.put_or_stop(bytes) {
+            Some(n) => Ok(n),
+            None => match self.fault {
+                Some(SinkFault::Failed(e)) => Err(e),
+                _ => Ok(0),
+            },
         }
     }
 }

@@ -54,21 +54,20 @@ impl<'a> TreeItem for DocumentNode<'a> {
         ensures memory { TakesNoMemory result }
     {
         let mut room = [0; ROOM];
-        match self {
-            DocumentNode::Labelled(label, part) => {
-                style.write_painted(f, labelled_text(label, part, &mut room))
-            }
+        let (label, part) = match self {
+            DocumentNode::Labelled(label, part) => (label, part),
             DocumentNode::Entry(key, part) => {
-                if part.is_list() {
-                    style.write_painted(f, key)
-                } else {
-                    write_entry(f, style, key, part.text(&mut room))
+                if !part.is_list() {
+                    return write_entry(f, style, key, part.text(&mut room));
                 }
+                (key, part)
             }
-        }
+        };
+        style.write_painted_bytes(f, labelled_text(label, part, &mut room))
     }
 
     /// Makes a node of each element of a list, and of each entry of a table.
+    #[inline(always)]
     fn children(&self, alloc: Global) -> Result<Children<'_, DocumentNode<'a>>, AllocError> {
         let nodes = match self {
             DocumentNode::Labelled(_, part) => nodes_of(alloc, part)?,
@@ -78,20 +77,35 @@ impl<'a> TreeItem for DocumentNode<'a> {
     }
 }
 
-// Returns the label, or the value's text if the label is empty.
+// Returns the bytes of the label, or of the value's text if the label is empty.
 #[inline(always)]
-fn labelled_text<'a>(label: &'a str, part: &'a ParsedPart<'_>, room: &'a mut [u8; ROOM]) -> &'a str
+fn labelled_text<'a>(label: &'a str, part: &'a ParsedPart<'_>, room: &'a mut [u8; ROOM]) -> &'a [u8]
     ensures { result.now ≡ pair_text (label.now, part_of part.now) }
 {
     if label.is_empty() {
         part.text(room)
     } else {
-        label
+        label.as_bytes()
     }
 }
 
 // Makes a node of each child of a value.
+#[inline(always)]
 fn nodes_of<'a>(alloc: Global, part: &ParsedPart<'a>) -> Result<Vec<DocumentNode<'a>>, AllocError>
+    ensures { IfOk result (λ nodes.
+        map node_pair_of nodes.items ≡ value_pairs (part_of part.now)) }
+{
+    if part.is_list() {
+        nodes_in(alloc, part)
+    } else {
+        Ok(Vec::new(alloc))
+    }
+}
+
+// Does what `nodes_of` does. It is a function of its own, so that a value without children takes no
+// call.
+#[inline(never)]
+fn nodes_in<'a>(alloc: Global, part: &ParsedPart<'a>) -> Result<Vec<DocumentNode<'a>>, AllocError>
     ensures { IfOk result (λ nodes.
         map node_pair_of nodes.items ≡ value_pairs (part_of part.now)) }
 {
@@ -165,7 +179,7 @@ fn toml_members<'a>(alloc: Global, members: &'a Table) -> Result<Vec<DocumentNod
 
 // Writes `key = value` painted.
 #[inline(always)]
-fn write_entry<W: Sink>(f: &mut W, style: &Style, key: &str, value: &str) -> Result<(), DrawError>
+fn write_entry<W: Sink>(f: &mut W, style: &Style, key: &str, value: &[u8]) -> Result<(), DrawError>
     ensures bytes { IsWritten (W.contents f.old) (W.contents f.new) result
         (painted_text (style_of style.now) (key.now ++ codes " = " ++ value.now)) }
     ensures cause { HasCause (W.faults f.old) (W.faults f.new) result }
@@ -190,7 +204,7 @@ fn put_painted<W: Sink>(
     f: &mut W,
     style: &Style,
     key: &str,
-    value: &str,
+    value: &[u8],
     error: &mut DrawError,
 ) -> Result<(), Stop>
     requires { error.old ≡ Memory }
@@ -206,9 +220,10 @@ fn put_painted<W: Sink>(
     put_or_stop(f, codes.reset().as_bytes(), error)
 }
 
-// Writes `key = value`, and stores a failure of the sink in `error`.
-#[inline(always)]
-fn put_entry<W: Sink>(f: &mut W, key: &str, value: &str, error: &mut DrawError) -> Result<(), Stop>
+// Writes `key = value`, and stores a failure of the sink in `error`. It is a function of its own, so
+// that a value without a key is written without a call.
+#[inline(never)]
+fn put_entry<W: Sink>(f: &mut W, key: &str, value: &[u8], error: &mut DrawError) -> Result<(), Stop>
     requires { error.old ≡ Memory }
     ensures bytes { IsWritten (W.contents f.old) (W.contents f.new) result
         (key.now ++ codes " = " ++ value.now) }
@@ -218,5 +233,5 @@ fn put_entry<W: Sink>(f: &mut W, key: &str, value: &str, error: &mut DrawError) 
 {
     put_or_stop(f, key.as_bytes(), error)?;
     put_or_stop(f, b" = ", error)?;
-    put_or_stop(f, value.as_bytes(), error)
+    put_or_stop(f, value, error)
 }

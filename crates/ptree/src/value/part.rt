@@ -6,12 +6,13 @@ ghost use Rattle.ptree.specs.Convert.{json_data, toml_data};
 ghost use Rattle.ptree.specs.Data.{is_list, value_text};
 ghost use Rattle.ptree.specs.Parts.{part_of};
 
-use super::text::{ROOM, signed, unsigned};
+use super::text::{ROOM, write_digits, write_signed};
 use crate::parsed::ParsedPart;
 
 impl ParsedPart<'_> {
-    /// Returns the value's text: one that it holds, or one that is made in `room`.
-    pub(crate) fn text<'a>(&'a self, room: &'a mut [u8; ROOM]) -> &'a str
+    /// Returns the bytes of the value's text: of one that it holds, or of one that is made in
+    /// `room`.
+    pub(crate) fn text<'a>(&'a self, room: &'a mut [u8; ROOM]) -> &'a [u8]
         ensures { result.now ≡ value_text (part_of self.now) }
     {
         match self {
@@ -21,6 +22,7 @@ impl ParsedPart<'_> {
     }
 
     /// Whether the value is a list or a table.
+    #[inline(always)]
     pub(crate) fn is_list(&self) -> bool
         ensures { result ≡ is_list (part_of self.now) }
     {
@@ -32,41 +34,46 @@ impl ParsedPart<'_> {
     }
 }
 
-// Returns the text of a JSON value. A float has none.
-fn json_text<'a>(v: &'a serde_json::Value, room: &'a mut [u8; ROOM]) -> &'a str
+// Returns the bytes of a JSON value's text. A float has none.
+fn json_text<'a>(v: &'a serde_json::Value, room: &'a mut [u8; ROOM]) -> &'a [u8]
     ensures { result.now ≡ value_text (json_data (json_view v.now)) }
 {
     match v {
-        serde_json::Value::Null => "",
-        serde_json::Value::Bool(true) => "true",
-        serde_json::Value::Bool(false) => "false",
+        serde_json::Value::Null => b"",
+        serde_json::Value::Bool(true) => b"true",
+        serde_json::Value::Bool(false) => b"false",
         serde_json::Value::Number(n) => {
             if let Some(n) = n.as_u64() {
-                return unsigned(room, n);
+                let start = write_digits(room, n);
+                return &room[start..];
             }
             if let Some(n) = n.as_i64() {
-                return signed(room, n);
+                let start = write_signed(room, n);
+                return &room[start..];
             }
-            ""
+            b""
         }
-        serde_json::Value::String(text) => text.as_str(),
-        serde_json::Value::Array(_) => "",
-        serde_json::Value::Object(_) => "",
+        serde_json::Value::String(text) => text.as_bytes(),
+        serde_json::Value::Array(_) => b"",
+        serde_json::Value::Object(_) => b"",
     }
 }
 
-// Returns the text of a TOML value. A float and a date have none.
-fn toml_text<'a>(v: &'a toml::Value, room: &'a mut [u8; ROOM]) -> &'a str
+// Returns the bytes of a TOML value's text. A float and a date have none.
+fn toml_text<'a>(v: &'a toml::Value, room: &'a mut [u8; ROOM]) -> &'a [u8]
     ensures { result.now ≡ value_text (toml_data (toml_view v.now)) }
 {
     match v {
-        toml::Value::String(text) => text.as_str(),
-        toml::Value::Integer(n) => signed(room, *n),
-        toml::Value::Float(_) => "",
-        toml::Value::Boolean(true) => "true",
-        toml::Value::Boolean(false) => "false",
-        toml::Value::Datetime(_) => "",
-        toml::Value::Array(_) => "",
-        toml::Value::Table(_) => "",
+        toml::Value::String(text) => text.as_bytes(),
+        toml::Value::Integer(n) => {
+            let start = write_signed(room, *n);
+            &room[start..]
+        }
+        toml::Value::Float(_) => b"",
+        toml::Value::Boolean(true) => b"true",
+        toml::Value::Boolean(false) => b"false",
+        toml::Value::Datetime(_) => b"",
+        toml::Value::Array(_) => b"",
+        toml::Value::Table(_) => b"",
     }
 }

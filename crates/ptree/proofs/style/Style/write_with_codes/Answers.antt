@@ -1,4 +1,4 @@
-use Rattle.std.proofs.Common.{◌∙◌, arith}
+use Rattle.std.proofs.Common.{◌∙◌, refl, arith}
 use Rattle.ptree.proofs.Styles.Painting.{codes_part, text_part, all_written}
 use Rattle.ptree.proofs.Sinks.Written.{written_err}
 use Rattle.std.proofs.lemmas.Grind.{common_steps}
@@ -11,7 +11,7 @@ returns-in_err-put_codes-clause-bytes g c =
 pub returns-in_err-put_or_stop : goal.returns-in_err-put_or_stop
 returns-in_err-put_or_stop g c = record {
   bytes = written_err _ _ _ _ _ c.from_residual-in_err-put_or_stop.ensures.1
-      (text_part _ _ _ _ _ _ _ _ (c.as_bytes.ensures ∙ c.gather.ensures.front) c.as_bytes-2.ensures.value c.in_ok-put_codes.ensures.bytes c.in_err-put_or_stop.ensures.bytes);
+      (text_part _ _ _ _ _ _ _ _ (c.as_bytes.ensures ∙ c.gather.ensures.front) refl c.in_ok-put_codes.ensures.bytes c.in_err-put_or_stop.ensures.bytes);
   cause = grind (arith, common_steps);
   error = grind (arith, common_steps);
   memory = grind (arith, common_steps);
@@ -19,7 +19,7 @@ returns-in_err-put_or_stop g c = record {
 
 pub returns-clause-bytes : goal.returns-clause-bytes
 returns-clause-bytes g c =
-    all_written _ _ _ _ _ _ _ _ _ _ _ (c.as_bytes.ensures ∙ c.gather.ensures.front) c.as_bytes-2.ensures.value (c.as_bytes-3.ensures.value ∙ c.reset.ensures ∙ c.gather.ensures.back)
+    all_written _ _ _ _ _ _ _ _ _ _ _ (c.as_bytes.ensures ∙ c.gather.ensures.front) refl (c.as_bytes-2.ensures.value ∙ c.reset.ensures ∙ c.gather.ensures.back)
     c.in_ok-put_codes.ensures.bytes c.in_ok-put_or_stop.ensures.bytes c.put_or_stop-2.ensures.bytes
 
 pub returns-clause-cause : goal.returns-clause-cause

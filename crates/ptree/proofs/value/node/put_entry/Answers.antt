@@ -14,5 +14,5 @@ returns-in_err-put_or_stop-2-clause-bytes g c =
 
 pub returns-clause-bytes : goal.returns-clause-bytes
 returns-clause-bytes g c =
-    all_written _ _ _ _ _ _ _ _ _ _ _ c.as_bytes.ensures.value refl c.as_bytes-2.ensures.value
+    all_written _ _ _ _ _ _ _ _ _ _ _ c.as_bytes.ensures.value refl refl
     c.in_ok-put_or_stop.ensures.bytes c.in_ok-put_or_stop-2.ensures.bytes c.put_or_stop-3.ensures.bytes
