@@ -28,7 +28,7 @@ use Rattle.ptree_c.specs.declared.steps.Step.{Step}
 use Rattle.ptree_c.proofs.Given.{draws_trees}
 
 -- a number is below another one, or not
-low_or_deep : (depth level : ℕ) → (ltb depth level ≡ true) × (depth < level) ⊎ (ltb depth level ≡ false) × (level ≤ depth)
+pub low_or_deep : (depth level : ℕ) → (ltb depth level ≡ true) × (depth < level) ⊎ (ltb depth level ≡ false) × (level ≤ depth)
 low_or_deep depth level = elim (cases_lt depth level) [ inl h ↦ inl (lt-ltb depth level h, h) | inr h ↦ inr (le-ltb depth level h, h) ]
 
 -- the flags of the levels above one stay

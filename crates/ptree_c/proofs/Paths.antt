@@ -38,12 +38,12 @@ front_up p path start front n width h is w =
     ap (λ n. take n front) same ∙ (ap (take (length rest)) parts ∙ take-append_seam rest piece)
 
 -- no passing piece is wider than the wider one
-piece_wide : (look : Look) (b : Bool) → length (passing_piece look.pieces b) ≤ widest look
+pub piece_wide : (look : Look) (b : Bool) → length (passing_piece look.pieces b) ≤ widest look
 piece_wide look true = omega arith
 piece_wide look false = omega arith
 
 -- the passing pieces of as many levels
-passing_wide : (look : Look) (flags : List Bool) → length (passing_all look.pieces flags) ≤ length flags * widest look
+pub passing_wide : (look : Look) (flags : List Bool) → length (passing_all look.pieces flags) ≤ length flags * widest look
 passing_wide look [] = omega arith
 passing_wide look (b ∷ flags) =
     let more : length (passing_all look.pieces (b ∷ flags)) ≡ length (passing_piece look.pieces b) + length (passing_all look.pieces flags) =

@@ -1,5 +1,5 @@
 //! The texts that are put around the texts of items.
-ghost use Rattle.std.specs.Prelude.{◌≡◌, ◌++◌, Some, true, false, IfOk};
+ghost use Rattle.std.specs.Prelude.{◌≡◌, ◌++◌, Some, true, false, IfOk, IfSome};
 ghost use Rattle.ptree.specs.Drawing.{effective_style, written_look};
 ghost use Rattle.ptree.specs.Looks.{own_text, below_piece};
 ghost use Rattle.ptree.specs.Pieces.{passing_piece, pieces_of};
@@ -77,7 +77,7 @@ pub(crate) struct Brush<'a> {
 }
 
 impl<'a> Brush<'a> {
-    ghost use Rattle.ptree_c.specs.Pens.{brush_look, widest};
+    ghost use Rattle.ptree_c.specs.Pens.{brush_look, front_room, widest, IsWidest};
 
     /// Makes the texts of a configuration, for output into memory.
     pub(crate) fn new(alloc: Global, config: &'a PrintConfig) -> Result<Brush<'a>, AllocError>
@@ -146,5 +146,26 @@ impl<'a> Brush<'a> {
         ensures { result ≡ widest (brush_look self.now) }
     {
         self.passing(false).len().max(self.passing(true).len())
+    }
+
+    /// The length that no front down to a level exceeds, or none if it is beyond any memory.
+    pub(crate) fn front_room(&self, levels: usize) -> Option<usize>
+        ensures { IfSome result (λ n. n ≡ front_room (brush_look self.now) levels) }
+    {
+        let wide = levels.checked_mul(self.widest())?;
+        let room = wide.checked_add(self.start.len())?;
+        Some(room)
+    }
+
+    /// A length that neither an entry down to a level exceeds without its text, nor a byte of the
+    /// text with what is inserted after it. None if it is beyond any memory.
+    pub(crate) fn widest_entry(&self, levels: usize) -> Option<usize>
+        ensures { IfSome result (IsWidest (brush_look self.now) levels) }
+    {
+        let front = self.front_room(levels)?;
+        let before = front.checked_add(self.child.len().max(self.last_child.len()))?;
+        let around = before.checked_add(self.end.len())?;
+        let widest = around.checked_add(self.further.len())?;
+        Some(widest)
     }
 }

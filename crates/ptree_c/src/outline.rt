@@ -6,7 +6,7 @@ ghost use Rattle.ptree_c.specs.Fields.{is_set};
 ghost use Rattle.ptree_c.specs.Outlines.{has_later_item, AreLater, AreLastFlags, AreItems, AreLow, AreRight, IsFirstWrong, IsItemsRefusal, IsRightAfter, IsWrongAfter, kept_before, kept_path, steps_from};
 ghost use Rattle.ptree_c.specs.Pens.{HoldsPath, HasRoom, brush_look};
 ghost use Rattle.ptree_c.specs.Refusals.{IsRefused};
-ghost use Rattle.ptree_c.specs.Rooms.{filled, HasPut, IsFilled, IsSize};
+ghost use Rattle.ptree_c.specs.Rooms.{HasPut, IsFilled, IsSize};
 ghost use Rattle.ptree_c.specs.Steps.{steps_text};
 ghost use Rattle.ptree_c.specs.declared.items.Item.{Item};
 
@@ -164,6 +164,24 @@ fn measure_items(
     Some(size)
 }
 
+// A length that the drawing of items does not exceed, as each item and each byte of a text takes at
+// most as much as the widest entry. None if it is beyond any memory.
+fn longest_drawing(
+    brush: &Brush<'_>,
+    levels: usize,
+    texts: &Texts<'_>,
+    items: &[Item],
+) -> Option<usize>
+    requires { AreRight texts.now.bytes.now items.now }
+    ensures { (path flags : List ℕ) (depth : ℕ) → AreLow depth levels items.now
+        → IfSome result (λ n. length (steps_text (brush_look brush.now) texts.now.bytes.now path
+        (steps_from depth 0 items.now flags)) ≤ n) }
+{
+    let count = items.len().checked_add(texts.len())?;
+    let longest = count.checked_mul(brush.widest_entry(levels)?)?;
+    Some(longest)
+}
+
 // Draws an item behind the bytes that end at a place, unless it is deeper than a depth, and returns
 // where its entry ends.
 fn draw_item(
@@ -195,7 +213,8 @@ fn draw_item(
     put_step(pen, brush, path, texts, step, out, at)
 }
 
-// Draws items down to a depth, each with its flag, as much as there is room for.
+// Draws items down to a depth, each with its flag, as much as there is room for, and returns the
+// length of the drawing.
 fn draw_items(
     pen: &mut Pen,
     brush: &Brush<'_>,
@@ -205,15 +224,15 @@ fn draw_items(
     flags: &[u8],
     depth: u32,
     out: &mut [u8],
-)
+) -> usize
     requires held { HoldsPath brush.now path.old pen.old }
     requires room { HasRoom brush.now (length path.old) pen.old }
     requires low { AreLow depth (length path.old) items.now }
     requires flags { length flags.now ≡ length items.now }
     requires size { IsSize (length (steps_text (brush_look brush.now)
         texts.now.bytes.now path.old (steps_from depth 0 items.now flags.now))) }
-    ensures { out.new ≡ filled out.old (steps_text (brush_look brush.now)
-        texts.now.bytes.now path.old (steps_from depth 0 items.now flags.now)) }
+    ensures { IsFilled out.old (steps_text (brush_look brush.now)
+        texts.now.bytes.now path.old (steps_from depth 0 items.now flags.now)) out.new result }
 {
     let mut at = 0;
     let mut from = 0;
@@ -230,9 +249,11 @@ fn draw_items(
         at = draw_item(pen, brush, path, texts, &step, depth, out, at);
         from = item.end;
     }
+    at
 }
 
-// Finds the length of a drawing, draws it as far as there is room, and returns the length.
+// Draws as far as there is room, and returns the length of the drawing. It is measured first only
+// if it may be too long for any memory.
 fn draw_by_brush(
     alloc: Global,
     brush: &Brush<'_>,
@@ -245,6 +266,7 @@ fn draw_by_brush(
 ) -> Result<usize, AllocError>
     requires low { AreLow depth (length path.old) items.now }
     requires flags { length flags.now ≡ length items.now }
+    requires right { AreRight texts.now.bytes.now items.now }
     requires same { (p q : List ℕ) → length p ≡ length path.old → length q ≡ length path.old
         → steps_text (brush_look brush.now) texts.now.bytes.now p
         (steps_from depth 0 items.now flags.now)
@@ -256,11 +278,12 @@ fn draw_by_brush(
 {
     let mut pen = Pen::new(alloc, brush)?;
     pen.make_room(brush, path.len())?;
-    let Some(size) = measure_items(&mut pen, brush, path, texts, items, flags, depth) else {
+    if longest_drawing(brush, path.len(), texts, items).is_none()
+        && measure_items(&mut pen, brush, path, texts, items, flags, depth).is_none()
+    {
         return Err(AllocError);
-    };
-    draw_items(&mut pen, brush, path, texts, items, flags, depth, out);
-    Ok(size)
+    }
+    Ok(draw_items(&mut pen, brush, path, texts, items, flags, depth, out))
 }
 
 // Draws items, as much as there is room for, and returns the length of the drawing.

@@ -7,7 +7,7 @@ ghost use Rattle.ptree_c.specs.Rooms.{IsFilled, IsSize};
 
 use crate::brush::Brush;
 use crate::fields::flag;
-use crate::room::put;
+use crate::room::{put, put_few};
 use std::alloc::{AllocError, Global};
 
 /// What an entry begins with at some level.
@@ -33,10 +33,7 @@ impl Pen {
             → HoldsPath brush.now path self.new }
         ensures room { OnOk result (HasRoom brush.now levels self.new) }
     {
-        let Some(wide) = levels.checked_mul(brush.widest()) else {
-            return Err(AllocError);
-        };
-        let Some(size) = wide.checked_add(brush.start.len()) else {
+        let Some(size) = brush.front_room(levels) else {
             return Err(AllocError);
         };
         self.front.reserve(size.saturating_sub(self.front.len()))
@@ -153,10 +150,10 @@ impl Pen {
         ensures end { result ≡ at
             + length (entry_behind (brush_look brush.now) self.now.front.items own text.now) }
     {
-        let before = put(out, at, &self.front);
+        let before = put_few(out, at, &self.front);
         let start = put(out, before, brush.before(own));
         let end = self.put_text(brush, own, text, has_line_feed, out, start);
-        put(out, end, &brush.end)
+        put_few(out, end, &brush.end)
     }
 
     // Puts the text of an item, and before each of its further lines what belongs there.

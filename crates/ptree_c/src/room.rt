@@ -1,5 +1,5 @@
 //! Puts a result into the memory of the caller.
-ghost use Rattle.std.specs.Prelude.{◌≡◌, ◌+◌, ◌++◌, ℕ, List, length};
+ghost use Rattle.std.specs.Prelude.{◌≡◌, ◌<◌, ◌+◌, ◌++◌, ℕ, List, length};
 ghost use Rattle.ptree_c.specs.Rooms.{filled, IsFilled, IsSize};
 
 /// What a call found: how many bytes and items there are, or the place of what was refused.
@@ -28,6 +28,16 @@ pub(crate) fn fill<T: Copy>(out: &mut [T], from: &[T])
     }
 }
 
+// Puts bytes behind those that end at a place, where there is room for some.
+#[inline(never)]
+fn put_part(out: &mut [u8], at: usize, bytes: &[u8])
+    requires { at < length out.old }
+    ensures { (room before : List ℕ) → IsFilled room before out.old at
+        → out.new ≡ filled room (before ++ bytes.now) }
+{
+    fill(&mut out[at..], bytes);
+}
+
 /// Puts bytes behind those that end at a place, as many as there is room for, and returns where
 /// they end.
 #[inline(always)]
@@ -37,9 +47,30 @@ pub(crate) fn put(out: &mut [u8], at: usize, bytes: &[u8]) -> usize
         → IsFilled room (before ++ bytes.now) out.new result }
     ensures end { result ≡ at + length bytes.now }
 {
-    if at >= out.len() {
-        return at + bytes.len();
+    let end = at + bytes.len();
+    if end <= out.len() {
+        out[at..end].copy_from_slice(bytes);
+    } else if at < out.len() {
+        put_part(out, at, bytes);
     }
-    fill(&mut out[at..], bytes);
-    at + bytes.len()
+    end
+}
+
+/// Puts bytes as `put` does. Where they are none or one, as those around a text often are, this is
+/// cheaper.
+#[inline(always)]
+pub(crate) fn put_few(out: &mut [u8], at: usize, bytes: &[u8]) -> usize
+    requires { IsSize (at + length bytes.now) }
+    ensures filled { (room before : List ℕ) → IsFilled room before out.old at
+        → IsFilled room (before ++ bytes.now) out.new result }
+    ensures end { result ≡ at + length bytes.now }
+{
+    if bytes.is_empty() {
+        return at;
+    }
+    if bytes.len() == 1 && at < out.len() {
+        out[at] = bytes[0];
+        return at + 1;
+    }
+    put(out, at, bytes)
 }

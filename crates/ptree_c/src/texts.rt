@@ -30,6 +30,13 @@ impl<'a> Texts<'a> {
         }
     }
 
+    /// The length of all texts together.
+    pub(crate) fn len(&self) -> usize
+        ensures { result ≡ length self.now.bytes.now }
+    {
+        self.bytes.len()
+    }
+
     /// Checks the text of the item at a place.
     pub(crate) fn check(&self, start: usize, end: usize, place: usize) -> Result<(), Refusal>
         ensures text { OnOk result (IsTextBetween self.now.bytes.now start end) }
