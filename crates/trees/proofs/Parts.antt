@@ -1,12 +1,11 @@
 -- Parts of documents: there is one at most where some steps lead.
-use Rattle.std.proofs.Common.{◌≡◌, ◌∙◌, ◌<◌, ◌+◌, ◌-◌, ◌^◌, ◌==◌, inl, [], ◌∷◌, ℕ, List, Option, Some, None, Result, Ok, Err, false, Bor, length, subst, sym, ap, refl, arith}
+use Rattle.std.proofs.Common.{◌≡◌, ◌∙◌, ◌<◌, ◌+◌, ◌-◌, ◌==◌, inl, [], ◌∷◌, ℕ, List, Option, Some, None, false, Bor, length, subst, sym, ap, refl, arith}
 use Rattle.std.proofs.lemmas.List.{length-drop}
 use Rattle.std.proofs.lemmas.List.Elements.{All-from_get_or}
 use Rattle.std.proofs.lemmas.List.Splits.{slice_split_first, slice_split_none}
 use Rattle.std.proofs.lemmas.List.Sums.{fails_before_first}
 use Rattle.std.specs.Prelude.{MatchOption, option_map}
 use Rattle.std.specs.List.{position_or_len, before_first, after_first}
-use Rattle.std.specs.Str.Parse.{ParsesUnsigned, digits_value, without_leading_plus}
 use Rattle.serde_json.specs.Data as j
 use Rattle.toml.specs.Data as t
 use Rattle.ptree.specs.declared.value.document.DocFormat.{DocFormat}
@@ -17,7 +16,7 @@ use Rattle.trees.specs.declared.command.Document.{Document}
 use Rattle.trees.specs.declared.failure.Failure.{Failure}
 use Rattle.trees.specs.declared.failure.Failure.TheVariants.{Usage, Input, Said, Output, Memory}
 use Rattle.trees.specs.declared.source.Source.{Source}
-use Rattle.trees.specs.Documents.{IsDocumentOf, node_at, IsStep, FindsPart, steps_in, LeadsBy, IsPartAsked, IsFirstMissing, SaysMissing, NamesMissing, NamesWrongIn}
+use Rattle.trees.specs.Documents.{IsDocumentOf, node_at, IsPosition, IsStep, FindsPart, steps_in, LeadsBy, IsPartAsked, IsFirstMissing, SaysMissing, NamesMissing, NamesWrongIn}
 use Rattle.trees.specs.Reading.{IsInput, FailsToMake}
 
 -- nothing has both keys and positions
@@ -76,13 +75,6 @@ wrong_at format source document whole Memory none missing input = absurd input
 
 -- ## Steps
 
--- a text that parses is a position
-parsed_step : {E : Type 0} (text : List ℕ) (n : ℕ) (r : Result ℕ E) → ParsesUnsigned 64 10 text r → r ≡ Ok n → IsStep text (at_position n)
-parsed_step text n (Ok m) h is =
-    let same : digits_value 10 (without_leading_plus text) ≡ n = cc in
-    (h.0.0, same, subst (λ (k : ℕ). k < 2 ^ 64) same h.0.1)
-parsed_step text n (Err e) h is = cc
-
 -- nothing stands at a text that is no key, and whose position has nothing
 no_step : (whole : FileNode) (text : List ℕ) (n : ℕ) → IsStep text (at_position n) → node_at (at_key text) whole ≡ None → node_at (at_position n) whole ≡ None
     → (s : StepValue) → IsStep text s → node_at s whole ≡ None
@@ -95,11 +87,10 @@ at_its_position : (whole : FileNode) (text : List ℕ) (n : ℕ) (part : Option 
 at_its_position whole text n None is no_key at = no_step whole text n is no_key at
 at_its_position whole text n (Some part) is no_key at = (at_position n, is, at)
 
--- what stands at the position that a text is read as
-pub at_parsed : {V D E : Type 0} (file : D → FileNode) (seen : V → D) (whole : FileNode) (text : List ℕ) (n : ℕ) (parsed : Result ℕ E) (part : Option V) → ParsesUnsigned 64 10 text parsed → parsed ≡ Ok n → node_at (at_key text) whole ≡ None
+-- what stands at the position that a text says
+pub at_said : {V D : Type 0} (file : D → FileNode) (seen : V → D) (whole : FileNode) (text : List ℕ) (n : ℕ) (part : Option V) → IsPosition text n → node_at (at_key text) whole ≡ None
     → node_at (at_position n) whole ≡ option_map file (option_map seen part) → FindsPart whole text (option_map (λ v. file (seen v)) part)
-at_parsed file seen whole text n parsed part says is no_key at =
-    at_its_position whole text n (option_map (λ v. file (seen v)) part) (parsed_step text n parsed says is) no_key (at ∙ option_map-option_map file seen part)
+at_said file seen whole text n part is no_key at = at_its_position whole text n (option_map (λ v. file (seen v)) part) is no_key (at ∙ option_map-option_map file seen part)
 
 -- a text with a full stop is the step before it, and those after
 pub first_step : (keys key rest : List ℕ) → key ≡ before_first (λ b. b == 46) keys → rest ≡ after_first (λ b. b == 46) keys → position_or_len (λ b. b == 46) keys < length keys

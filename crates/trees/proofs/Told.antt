@@ -12,7 +12,7 @@ use Rattle.ptree.specs.Tree.{Tree, shape_of_tree}
 use Rattle.trees.specs.declared.failure.Failure.{Failure}
 use Rattle.trees.specs.declared.failure.Failure.TheVariants.{Usage, Input, Said, Output, Memory}
 use Rattle.trees.specs.declared.source.Source.{Source}
-use Rattle.trees.specs.Telling.{TellsWhether}
+use Rattle.trees.specs.Telling.{TellsWhether, TellsOnlyIf}
 use Rattle.trees.specs.Reading.{HoldsDrawing, HoldsNoOther, IsRedrawn}
 
 -- what tells whether a fact holds tells it of each that is the same
@@ -28,6 +28,15 @@ tells_same (Err Memory) P Q to from h = h
 pub tells_of_not : {A : Type 0} (r : Result A Failure) (b : Bool) (P : Type 0) → (IsTrue b ↔ P) → TellsWhether r (not b ≡ false) → TellsWhether r P
 tells_of_not r true P same h = tells_same r (not true ≡ false) P (λ _. same.0 refl) (λ _. refl) h
 tells_of_not r false P same h = tells_same r (not false ≡ false) P (λ e. absurd (false≢true (sym e))) (λ p. absurd (false≢true (same.1 p))) h
+
+-- what holds is told by each end
+pub told_anyway : {A : Type 0} (r : Result A Failure) (P : Type 0) → P → TellsOnlyIf r P
+told_anyway (Ok x) P p = p
+told_anyway (Err Said) P p = p
+told_anyway (Err (Usage wrong)) P p = tt
+told_anyway (Err (Input wrong)) P p = tt
+told_anyway (Err (Output kind)) P p = tt
+told_anyway (Err Memory) P p = tt
 
 -- two texts with drawings are the same exactly if their trees are
 pub same_texts : (config : ConfigValue) (right : Source) (t u : Tree) (text : List ℕ)

@@ -2,7 +2,7 @@
 use Rattle.std.specs.Borrow.{Bor}
 use Rattle.std.specs.List.{slice_split}
 use Rattle.std.specs.Prelude.{◌≡◌, ◌<◌, ◌^◌, ◌==◌, ◌⊎◌, ⊤, ℕ, Bool, true, false, List, [], ◌∷◌, ◌++◌, drop, codes, decimal, Option, Some, None, MatchOption, option_map, string_bytes}
-use Rattle.std.specs.Str.Parse.{IsNumeral, digits_value, without_leading_plus}
+use Rattle.std.specs.Str.Parse.{IsNumeral, digits_value}
 use Rattle.std.specs.Str.Pattern.{RFindsChar}
 use Rattle.serde_json.specs.Read.{read}
 use Rattle.ptree.specs.declared.value.document.DocFormat.{DocFormat}
@@ -34,10 +34,14 @@ abbrev pub node_at : StepValue → FileNode → Option FileNode
 node_at s (json d) = option_map json (json_at_step s d)
 node_at s (toml d) = option_map toml (toml_at_step s d)
 
+-- the digits of a text are a position
+abbrev pub IsPosition : List ℕ → ℕ → Type 0
+IsPosition text n = IsNumeral 10 text × (digits_value 10 text ≡ n) × (n < 2 ^ 64)
+
 -- a text is a step: to the value at this key, or to the element at this position, counted from 0
 abbrev pub IsStep : List ℕ → StepValue → Type 0
 IsStep text (at_key key) = key ≡ text
-IsStep text (at_position n) = IsNumeral 10 (without_leading_plus text) × (digits_value 10 (without_leading_plus text) ≡ n) × (n < 2 ^ 64)
+IsStep text (at_position n) = IsPosition text n
 
 -- what stands at the step that a text is, or none
 abbrev pub FindsPart : FileNode → List ℕ → Option FileNode → Type 0

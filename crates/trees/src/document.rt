@@ -1,5 +1,5 @@
 //! Documents as trees, with floats and dates as they are written.
-ghost use Rattle.std.specs.Prelude.{◌≡◌, ◌<◌, ◌∷◌, ◌++◌, ⊤, true, [], map, length, codes, option_map, string_bytes, IfOk, IfErr, OnOk, MatchOption};
+ghost use Rattle.std.specs.Prelude.{◌≡◌, ◌<◌, ◌∷◌, ◌++◌, ⊤, ℕ, true, [], map, length, codes, option_map, string_bytes, IfOk, IfErr, OnOk, MatchOption};
 ghost use Rattle.serde_json.specs.View as json_view;
 ghost use Rattle.toml.specs.View as toml_view;
 ghost use Rattle.ptree.specs.declared.value.document.DocFormat.{DocFormat};
@@ -7,7 +7,7 @@ ghost use Rattle.ptree.specs.declared.value.document.DocFormat.TheVariants.{Json
 ghost use Rattle.ptree.specs.File.{FileNode, json, toml};
 ghost use Rattle.ptree.specs.Tree.{tree_of};
 ghost use Rattle.ptree_trees.specs.RefusedPath.{Path, step_of, path_of};
-ghost use Rattle.trees.specs.Documents.{IsDocumentOf, FindsPart, steps_in, LeadsBy, IsPartAsked, IsFirstRefused, IsAllowed, IsNodeTree, IsRootText, IsTreeIn, IsPartTree, refused_kind, step_text, steps_text, path_text, place_text, NamesRefused, NamesLine, SaysMissing, NamesMissing, NamesWrongIn, NamesWrong};
+ghost use Rattle.trees.specs.Documents.{IsDocumentOf, IsPosition, FindsPart, steps_in, LeadsBy, IsPartAsked, IsFirstRefused, IsAllowed, IsNodeTree, IsRootText, IsTreeIn, IsPartTree, refused_kind, step_text, steps_text, path_text, place_text, NamesRefused, NamesLine, SaysMissing, NamesMissing, NamesWrongIn, NamesWrong};
 ghost use Rattle.trees.specs.Reading.{IsInput, Says, FailsToMake};
 
 use crate::command::Document;
@@ -78,7 +78,7 @@ impl Value for serde_json::Value {
     fn part(&self, key: &str) -> Option<&serde_json::Value> {
         match self.get(key) {
             Some(part) => Some(part),
-            None => self.get(key.parse::<usize>().ok()?),
+            None => self.get(position(key)?),
         }
     }
 
@@ -107,7 +107,7 @@ impl Value for toml::Value {
     fn part(&self, key: &str) -> Option<&toml::Value> {
         match self.get(key) {
             Some(part) => Some(part),
-            None => self.get(key.parse::<usize>().ok()?),
+            None => self.get(position(key)?),
         }
     }
 
@@ -118,6 +118,16 @@ impl Value for toml::Value {
     fn tree(&self, alloc: Global, label: &str) -> Result<StringItem, AllocError> {
         toml_tree(alloc, label, self)
     }
+}
+
+// Returns the position, counted from 0, that digits say. A sign is none.
+fn position(key: &str) -> Option<usize>
+    ensures { MatchOption result ((n : ℕ) → IsPosition key.now n → ⊥) (IsPosition key.now) }
+{
+    if key.starts_with('+') {
+        return None;
+    }
+    key.parse::<usize>().ok()
 }
 
 /// Returns the tree of a document, or of the part that is asked for.

@@ -16,7 +16,7 @@ ghost use Rattle.trees.specs.Listing.{IsListed, FailsToList};
 ghost use Rattle.trees.specs.Merging.{IsMergeDrawing};
 ghost use Rattle.trees.specs.Reading.{HoldsDrawing, HoldsNoOther, HoldsSome, IsRedrawn, FailsFor, FailsToRead, FailsToMake, NamesPlace, IsReport, Adds, item_word, count_line};
 ghost use Rattle.trees.specs.Shown.{IsNone, ShowsOnly};
-ghost use Rattle.trees.specs.Telling.{TellsWhether, TellsOfCommand};
+ghost use Rattle.trees.specs.Telling.{TellsWhether, TellsOnlyIf, TellsOfTexts, TellsOfCommand};
 ghost use Rattle.trees.specs.Writing.{WritesSaid, AreReports, AreSettings, Writes, IsTreeDrawing, IsGraphDrawing, WritesDrawn, IsIndentation, FailsToIndent, IsGiven, FailsToGive, Draws, DrawsNeeds, DrawsNpm, Converts, ConvertsBack, WritesOfCommand, ShowsOfCommand, ShowsDrawing, ShowsMerged, LeavesIfWrong, WritesRefusal, Compares};
 
 use crate::command::{Command, Convert, Deps, Diff, Drawing, Indented, Paths, Tree};
@@ -563,8 +563,8 @@ fn compare_drawings<W: Sink>(
     out: &mut W,
     found: &Surroundings,
 ) -> Result<(), Failure>
-    ensures told { TellsWhether result
-        (string_bytes left.now.text ≡ string_bytes right.now.text) }
+    ensures told { TellsOfTexts (reading_value found.now.sources diff.drawing.pieces)
+        left.now right.now result }
     ensures written { Compares found.now.sources left.now right.now diff
         (W.contents out.old) (W.contents out.new) result }
     ensures quiet { LeavesIfWrong out.old out.new result }
@@ -592,6 +592,8 @@ fn compare_with<W: Sink>(
         (text : List ℕ)
         → IsDrawnForm (look_by config Unknown false) config.depth text (tree_of left.now)
         → TellsWhether result (text ≡ string_bytes right.now.text) }
+    ensures drawn { TellsOnlyIf result
+        (HoldsSome (reading_value found.now.sources diff.drawing.pieces) right.now) }
     // So are the sources with its drawing.
     ensures written { (first : Source)
         → HoldsDrawing (reading_value found.now.sources diff.drawing.pieces) first

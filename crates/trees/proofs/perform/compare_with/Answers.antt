@@ -4,13 +4,13 @@ use Rattle.trees.specs.declared.failure.Failure.TheVariants.{Memory}
 use Rattle.trees.specs.Asked.{drawing_value, reading_value}
 use Rattle.trees.specs.Merging.{IsMergeDrawing}
 use Rattle.trees.specs.Named.{IsReadableValue}
-use Rattle.trees.specs.Reading.{HoldsDrawing}
+use Rattle.trees.specs.Reading.{HoldsDrawing, HoldsSome}
 use Rattle.trees.specs.Telling.{TellsWhether}
 use Rattle.trees.specs.Writing.{WritesRefusal, IsMergeOf, FailsToCompare}
 use Rattle.trees.proofs.MergeDrawings.{refusal_weaker}
 use Rattle.trees.proofs.Readings.{fails_by_memory}
 use Rattle.trees.proofs.Shown.{merged_nothing}
-use Rattle.trees.proofs.Told.{tells_same, same_texts}
+use Rattle.trees.proofs.Told.{tells_same, same_texts, told_anyway}
 use Rattle.trees.proofs.perform.compare_with.Goals as goal
 
 pub returns-clause-told : goal.returns-clause-told
@@ -21,6 +21,10 @@ returns-clause-told g c = λ text form.
     let same = same_texts config c.args.right.now left (tree_of c.in_ok-right.right) text form read.some read.only read.redrawn in
     let told : TellsWhether c.show_difference.result (left ≡ tree_of c.in_ok-right.right) = search rules in
     tells_same c.show_difference.result (left ≡ tree_of c.in_ok-right.right) (text ≡ string_bytes c.args.right.now.text) same.0 same.1 told
+
+pub returns-clause-drawn : goal.returns-clause-drawn
+returns-clause-drawn g c =
+    told_anyway c.show_difference.result (HoldsSome (reading_value c.args.found.now.sources c.args.diff.drawing.pieces) c.args.right.now) (tree_of c.in_ok-right.right, c.in_ok-right.ensures.some)
 
 pub returns-clause-written : goal.returns-clause-written
 returns-clause-written g c = λ first holds asks.

@@ -1,14 +1,14 @@
-use Rattle.std.proofs.Common.{Bor, option_map, refl, sym, ap, rules}
+use Rattle.std.proofs.Common.{Bor, option_map, refl, sym, ap}
 use Rattle.toml.specs.View.{view}
 use Rattle.toml.specs.declared.value.Value.{Value}
 use Rattle.ptree.specs.File.{toml}
 use Rattle.ptree_trees.specs.RefusedPath.{at_key}
-use Rattle.trees.proofs.Parts.{at_parsed}
+use Rattle.trees.proofs.Parts.{at_said}
 use Rattle.trees.proofs.document.TomlValueValue.part.Goals as goal
 
 pub returns-in-Some : goal.returns-in-Some
 returns-in-Some c = (at_key c.args.key.now, refl, ap (option_map toml) (sym c.in-Some.ensures))
 
-pub returns-in_ok-ok-in-None : goal.returns-in_ok-ok-in-None
-returns-in_ok-ok-in-None c =
-    at_parsed toml (λ (v : Bor Value). view v.now) (toml (view c.args.self.now)) c.args.key.now c.in_ok-ok-in-None.field-0 c.parse.result c.get-in-None.result c.parse.ensures.value.0 (search rules) (ap (option_map toml) (sym c.in-None.ensures)) (ap (option_map toml) (sym c.get-in-None.ensures))
+pub returns-in_ok-position-in-None : goal.returns-in_ok-position-in-None
+returns-in_ok-position-in-None c =
+    at_said toml (λ (v : Bor Value). view v.now) (toml (view c.args.self.now)) c.args.key.now c.in_ok-position-in-None.field-0 c.get-in-None.result c.in_ok-position-in-None.ensures (ap (option_map toml) (sym c.in-None.ensures)) (ap (option_map toml) (sym c.get-in-None.ensures))
