@@ -30,6 +30,8 @@ pub mod OtherFiles
 pub mod OutlineTexts
 pub mod OutlineLines
 pub mod Named
+pub mod NameParts
+pub mod NamingExamples
 pub mod NeedTexts
 pub mod NeedCuts
 pub mod LockExamples
@@ -43,9 +45,14 @@ pub mod NpmNearest
 pub mod NpmNeeds
 pub mod NpmPackages
 pub mod NpmPaths
+pub mod NpmNames
+pub mod NpmPatterns
+pub mod NpmMeant
 pub mod NpmReady
 pub mod NpmSteps
 pub mod NpmWalks
+pub mod NpmWorkspaces
+pub mod NpmGiven
 pub mod OpenLevels
 pub mod Outlines
 pub mod OutlinesBack
@@ -61,6 +68,7 @@ pub mod Readings
 pub mod RefusedTexts
 pub mod Reports
 pub mod Roots
+pub mod RootTables
 pub mod Shown
 pub mod ShownDrawings
 pub mod ShownMerges

@@ -5,10 +5,10 @@ use Rattle.std.proofs.lemmas.List.Elements.{All-cons, All-nil}
 use Rattle.std.proofs.lemmas.List.Sorted.{IsPermutation-refl}
 use Rattle.std.specs.Char.{encode_utf8}
 use Rattle.std.specs.List.Sorted.{IsStrictlySortedBy}
-use Rattle.std.specs.Prelude.{None}
+use Rattle.std.specs.Prelude.{None, All}
 use Rattle.std.specs.Str.{chars}
 use Rattle.toml.specs.Data.{Data, string, array, table, no_items, item, no_members, member}
-use Rattle.trees.specs.Locking.{Package, Known, is_as, name_entry, normal_name, own_entries, tables_in, Leads, IsLock, IsPackage, NeedsLead}
+use Rattle.trees.specs.Locking.{Package, Known, is_as, name_entry, normal_name, own_entries, tables_in, Leads, ArePackages, IsLock, IsPackage, NeedsLead}
 use Rattle.trees.proofs.NeedTexts.{lacks_byte, text_alone}
 
 -- two packages, of which the first needs the second
@@ -41,22 +41,26 @@ leads = (known, (known, text_alone (codes "b") (lacks_byte 32 (codes "b") blank)
   only (suc zero) low is = refl
   only (suc (suc k)) low is = absurd (omega arith)
 
-lock : IsLock (table (member (codes "package") (array (item first (item second no_items))) no_members))
+are : ArePackages (first ∷ second ∷ []) ((first, a) ∷ (second, b) ∷ [])
 unfolding IsStrictlySortedBy
-lock = record {
-  plain = record { root = refl };
-  tables = refl;
-  locked = (first, a) ∷ (second, b) ∷ [];
-  are = record {
-    all = IsPermutation-refl (first ∷ second ∷ []);
-    each = All-cons (λ l. IsPackage l.0 l.1) (first, a) ((second, b) ∷ []) (record { name = refl; version = inl refl; source = refl; kind = refl; whole = refl })
-        (All-cons (λ l. IsPackage l.0 l.1) (second, b) [] (record { name = refl; version = inl refl; source = refl; kind = refl; whole = refl }) (All-nil (λ l. IsPackage l.0 l.1)));
-    ascending = ((refl, tt), (tt, tt));
-  };
-  needs = All-cons (NeedsLead packages) first (second ∷ [])
-      (record { own = record { list = refl; each = All-cons (λ entry. (at : ℕ) × Leads packages entry at) (string (codes "b")) [] (1, leads) (All-nil (λ entry. (at : ℕ) × Leads packages entry at)) }; optional = tt; dev = tt })
-      (All-cons (NeedsLead packages) second [] (record { own = tt; optional = tt; dev = tt }) (All-nil (NeedsLead packages)));
+are = record {
+  all = IsPermutation-refl (first ∷ second ∷ []);
+  each = All-cons (λ l. IsPackage l.0 l.1) (first, a) ((second, b) ∷ []) (record { name = refl; version = inl refl; source = refl; kind = refl; whole = refl })
+      (All-cons (λ l. IsPackage l.0 l.1) (second, b) [] (record { name = refl; version = inl refl; source = refl; kind = refl; whole = refl }) (All-nil (λ l. IsPackage l.0 l.1)));
+  ascending = ((refl, tt), (tt, tt));
 }
+
+needs : All (NeedsLead packages) (first ∷ second ∷ [])
+needs = All-cons (NeedsLead packages) first (second ∷ [])
+    (record { own = record { list = refl; each = All-cons (λ entry. (at : ℕ) × Leads packages entry at) (string (codes "b")) [] (1, leads) (All-nil (λ entry. (at : ℕ) × Leads packages entry at)) }; optional = tt; dev = tt })
+    (All-cons (NeedsLead packages) second [] (record { own = tt; optional = tt; dev = tt }) (All-nil (NeedsLead packages)))
+
+lock : IsLock (table (member (codes "package") (array (item first (item second no_items))) no_members))
+lock = record { tables = refl; locked = (first, a) ∷ (second, b) ∷ []; are = are; needs = needs }
+
+-- the first of them as the root
+rooted : IsLock (table (member (codes "package") (array (item second no_items)) (member (codes "root") first no_members)))
+rooted = record { tables = refl; locked = (first, a) ∷ (second, b) ∷ []; are = are; needs = needs }
 
 -- ## Names of Python packages
 
@@ -73,15 +77,12 @@ runs : normal_name (codes "_A..b-_.C-") ≡ codes "-a-b-c-"
 unfolding chars encode_utf8
 runs = refl
 
--- a poetry.lock: names are changed where there is a version
-abbrev python : Data
-python = table (member (codes "name") (string (codes "B_c")) (member (codes "version") (string (codes "1")) no_members))
+-- a poetry.lock, whose names are changed
+abbrev called : List ℕ → Data
+called name = table (member (codes "name") (string name) (member (codes "version") (string (codes "1")) no_members))
 
-abbrev unversioned : Data
-unversioned = table (member (codes "name") (string (codes "B_c")) no_members)
-
-changed : tables_in (table (member (codes "metadata") (table (member (codes "content-hash") (string []) no_members)) (member (codes "package") (array (item python (item unversioned no_items))) no_members)))
-    ≡ table (member (codes "name") (string (codes "b-c")) (member (codes "version") (string (codes "1")) no_members)) ∷ unversioned ∷ []
+changed : tables_in (table (member (codes "metadata") (table (member (codes "content-hash") (string []) no_members)) (member (codes "package") (array (item (called (codes "B_c")) no_items)) no_members)))
+    ≡ called (codes "b-c") ∷ []
 unfolding chars encode_utf8
 changed = refl
 

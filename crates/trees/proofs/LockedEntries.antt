@@ -33,15 +33,19 @@ list_entries (datetime dt) vs e = cc
 list_entries (array ds) vs e = (let same : items_view vs ≡ ds = cc in ap listed (sym same) ∙ listed_items vs)
 list_entries (table ms) vs e = cc
 
+-- a value that is a table
+pub is_table : (d : Data) (ms : Members) → Some ms ≡ as_table d → d ≡ table ms
+is_table (string s) ms e = cc
+is_table (integer z) ms e = cc
+is_table (float x) ms e = cc
+is_table (boolean b) ms e = cc
+is_table (datetime dt) ms e = cc
+is_table (array ds) ms e = cc
+is_table (table own) ms e = cc
+
 -- those of the lists in a table
 pub grouped_lists : (d : Data) (ms : Members) → Some ms ≡ as_table d → grouped d ≡ flat_map entries_of (values_of ms)
-grouped_lists (string s) ms e = cc
-grouped_lists (integer z) ms e = cc
-grouped_lists (float x) ms e = cc
-grouped_lists (boolean b) ms e = cc
-grouped_lists (datetime dt) ms e = cc
-grouped_lists (array ds) ms e = cc
-grouped_lists (table own) ms e = (let same : ms ≡ own = cc in ap (λ x. flat_map entries_of (values_of x)) (sym same))
+grouped_lists d ms e = ap grouped (is_table d ms e)
 
 pub values_seen : (es : List (String Global × Value)) → values_of (members_view es) ≡ map view (map (λ e. e.1) es)
 values_seen [] = refl

@@ -23,7 +23,7 @@ use Rattle.ptree.specs.declared.value.document.DocFormat.TheVariants.{Toml}
 use Rattle.trees.specs.declared.failure.Failure.{Failure}
 use Rattle.trees.specs.declared.source.Source.{Source}
 use Rattle.trees.specs.Documents.{IsDocumentOf}
-use Rattle.trees.specs.Locking.{Package, has_wrong_source, package_cmp, source_of, tables_in, text_at, without_revision, ArePackages, HasTables, IsLock, IsPackage, IsPlain, NeedsLead}
+use Rattle.trees.specs.Locking.{Package, has_wrong_source, package_cmp, source_of, tables_in, text_at, without_revision, ArePackages, HasTables, IsLock, IsPackage, NeedsLead}
 use Rattle.trees.specs.LockingParts.{package_of, table_of, AreLocked, FailsUnless, StandOnce}
 use Rattle.trees.specs.Meaning.{HoldsLock}
 use Rattle.trees.specs.Reading.{FailsFor, FailsToMake}
@@ -182,19 +182,19 @@ none_apart tables n found ps qs same so end moved none locked are =
     none (subst StandOnce (sym same) (stand_once tables ps (each_moved tables n found ps so moved) (all_moved tables n found ps so moved end) locked are))
 
 module _ (d : Data) where
-  pub no_tables : (e : Data) → e ≡ d → is_some (option_and_then as_array (get (codes "package") e)) ≡ false → HasTables d → ⊥
-  no_tables e same none some = false≢true (sym none ∙ (ap (λ (x : Data). is_some (option_and_then as_array (get (codes "package") x))) same ∙ some))
+  pub no_tables : (list : Option Data) → list ≡ get (codes "package") d → is_some (option_and_then as_array list) ≡ false → HasTables d → ⊥
+  no_tables list same none some = false≢true (sym none ∙ (ap (λ (o : Option Data). is_some (option_and_then as_array o)) same ∙ some))
 
-  module _ (tables : List Data) (all : IsPlain d → tables ≡ tables_in d) (f : Failure) where
+  module _ (tables : List Data) (all : tables ≡ tables_in d) (f : Failure) where
     are_of : (lock : IsLock d) → ArePackages tables lock.locked
-    are_of lock = subst (λ ts. ArePackages ts lock.locked) (sym (all lock.plain)) lock.are
+    are_of lock = subst (λ ts. ArePackages ts lock.locked) (sym all) lock.are
 
     pub fails_unread : FailsToMake ⊥ (ArePackages tables) f → FailsUnless (IsLock d) f
     fails_unread says = fails_weaker ((locked : List (Data × Package)) → ArePackages tables locked → ⊥) (IsLock d → ⊥) ⊥ f (λ none lock. none lock.locked (are_of lock)) says
 
     pub fails_leading : (ps : List Tuple) → AreLocked tables ps → FailsUnless (All (NeedsLead (map package_of ps)) tables) f → FailsUnless (IsLock d) f
     fails_leading ps found says = fails_unless (All (NeedsLead (map package_of ps)) tables) (IsLock d) f
-        (λ lock. subst (λ qs. All (NeedsLead qs) tables) (same_packages tables ps lock.locked found (are_of lock)) (subst (All (NeedsLead (map (λ l. l.1) lock.locked))) (sym (all lock.plain)) lock.needs)) says
+        (λ lock. subst (λ qs. All (NeedsLead qs) tables) (same_packages tables ps lock.locked found (are_of lock)) (subst (All (NeedsLead (map (λ l. l.1) lock.locked))) (sym all) lock.needs)) says
 
 -- ## Sources
 

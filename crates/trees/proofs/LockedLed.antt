@@ -7,18 +7,14 @@ use Rattle.std.specs.Borrow.{Bor}
 use Rattle.std.specs.List.{All}
 use Rattle.std.specs.List.Sorted.{IsPermutation, IsStrictlySortedBy}
 use Rattle.std.specs.Map.Iter.{deref}
-use Rattle.std.specs.Prelude.{Some, String, Result, Ok, Err, OnOk}
+use Rattle.std.specs.Prelude.{Some, String}
 use Rattle.std.specs.declared.alloc.Global.{Global}
 use Rattle.ptree.proofs.Trees.ItemTrees.{map_twice}
-use Rattle.ptree.specs.File.{toml}
-use Rattle.ptree.specs.declared.value.document.DocFormat.TheVariants.{Toml}
 use Rattle.toml.specs.Data.{Data, as_table}
 use Rattle.toml.specs.View.{view, members_view}
 use Rattle.toml.specs.declared.value.Value.{Value}
-use Rattle.trees.specs.declared.source.Source.{Source}
-use Rattle.trees.specs.Documents.{IsDocumentOf}
-use Rattle.trees.specs.Locking.{Package, package_cmp, tables_in, AreLed, ArePackages, HasTables, IsLed, IsLock, IsPackage, IsPlain, Leads, NeedsLead}
-use Rattle.trees.specs.LockingParts.{locked_of, package_of, table_of, AreLocked, HoldsOnlyLock}
+use Rattle.trees.specs.Locking.{Package, package_cmp, tables_in, AreLed, ArePackages, HasTables, IsLed, IsLock, IsPackage, Leads, NeedsLead}
+use Rattle.trees.specs.LockingParts.{locked_of, package_of, table_of, AreLocked}
 use Rattle.trees.proofs.LockedEntries.{values_seen}
 use Rattle.trees.proofs.LockedTuples.{Tuple}
 
@@ -53,8 +49,8 @@ all_leading tables ps n end all led =
 
 -- ## Lock files
 
-pub lock_of : (d : Data) (tables : List Data) (ps : List Tuple) → IsPlain d → HasTables d → tables ≡ tables_in d → AreLocked tables ps → All (NeedsLead (map package_of ps)) tables → IsLock d
-lock_of d tables ps plain has same found led =
+pub lock_of : (d : Data) (tables : List Data) (ps : List Tuple) → HasTables d → tables ≡ tables_in d → AreLocked tables ps → All (NeedsLead (map package_of ps)) tables → IsLock d
+lock_of d tables ps has same found led =
     let locked = map (locked_of tables) ps in
     let packages : map package_of ps ≡ map (λ l. l.1) locked = map_twice (locked_of tables) (λ l. l.1) ps in
     let are : ArePackages tables locked = record {
@@ -63,13 +59,8 @@ lock_of d tables ps plain has same found led =
       ascending = subst (IsStrictlySortedBy package_cmp) packages found.ascending;
     } in
     record {
-      plain = plain;
       tables = has;
       locked = locked;
       are = subst (λ ts. ArePackages ts locked) same are;
       needs = subst (λ qs. All (NeedsLead qs) (tables_in d)) packages (subst (All (NeedsLead (map package_of ps))) same led);
     }
-
-pub only_lock : {T E : Type 0} (source : Source) (d : Data) (r : Result T E) → IsDocumentOf Toml source (toml d) → (IsPlain d → OnOk r (IsLock d)) → OnOk r (HoldsOnlyLock source)
-only_lock source d (Ok x) is only = λ e holds plain. (let both : Some (toml d) ≡ Some (toml e) = sym is ∙ holds in let same : d ≡ e = cc in subst IsLock same (only (subst IsPlain (sym same) plain)))
-only_lock source d (Err e) is only = tt

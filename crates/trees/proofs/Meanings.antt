@@ -1,21 +1,26 @@
 -- Networks that a source means.
-use Rattle.std.proofs.Common.{◌≡◌, ◌∙◌, ℕ, ◌+◌, ◌≤◌, ◌<◌, Bool, true, false, List, [], ◌∷◌, length, map, Some, inl, inr, sym, subst, arith}
+use Rattle.std.proofs.Common.{◌≡◌, ◌∙◌, ℕ, ◌+◌, ◌≤◌, ◌<◌, Bool, true, false, List, [], ◌∷◌, length, get_or, map, Some, inl, inr, sym, subst, arith}
 use Rattle.std.proofs.lemmas.Bool.{false≢true}
 use Rattle.std.proofs.lemmas.List.{length-map}
-use Rattle.std.proofs.lemmas.List.Elements.{All-nil, All-cons, All-append, All-map, All-weaker}
+use Rattle.std.proofs.lemmas.List.Elements.{All-nil, All-cons, All-append, All-map, All-weaker, Contains-get_or}
+use Rattle.std.proofs.lemmas.Option.{slice_get_within}
 use Rattle.std.proofs.lemmas.Slice.Zip.{AllZip-long}
 use Rattle.std.specs.List.{AllZip}
-use Rattle.std.specs.Prelude.{All, codes}
+use Rattle.std.specs.Prelude.{All, None, codes}
+use Rattle.serde_json.specs.Data.{Data as JsonData}
 use Rattle.toml.specs.Data.{Data}
-use Rattle.ptree.specs.File.{toml}
+use Rattle.ptree.specs.File.{json, toml}
 use Rattle.ptree_trees.specs.Parts.{has_part}
 use Rattle.trees.specs.declared.deps.Network.{Network}
 use Rattle.trees.specs.declared.source.Source.{Source}
-use Rattle.trees.specs.Depending.{source_text, directed, same_edge}
+use Rattle.trees.specs.Depending.{begins_object, source_text, directed, same_edge, IsNpmFile}
 use Rattle.trees.specs.DependingParts.{labels_of, needs_of, IsNetworkOf, IsNetworkOfPairs, IsWithin}
-use Rattle.trees.specs.Locking.{Package, edges_from, entries_in, tables_in, IsLabel, IsPlain, Leads}
-use Rattle.trees.specs.LockingParts.{HasLocked, HoldsLocked}
-use Rattle.trees.specs.Meaning.{IsPairOrLockFile, MeansTables, NeedPlaces}
+use Rattle.trees.specs.Locking.{Package, edges_from, entries_in, tables_in, IsLabel, Leads}
+use Rattle.trees.specs.LockingParts.{HoldsLocked}
+use Rattle.trees.specs.Meaning.{HasMeaning, MeansTables, NeedPlaces}
+use Rattle.trees.specs.Npm.{packages_in, path_in, HasNoLinks, IsNpmLockFile, MeansPackages, Needs}
+use Rattle.trees.specs.Npm.{IsLabel as IsLabelOf}
+use Rattle.trees.specs.NpmParts.{HasPackages, HoldsPackages}
 use Rattle.trees.proofs.OtherFiles.{other_part}
 use Rattle.trees.proofs.PairGraphs.{all_firsts, directed_within, network_whole}
 
@@ -51,37 +56,83 @@ tables_within is_inverse tables names needs is =
     (All-weaker (IsWithin n) (λ e. IsWithin n (directed is_inverse e)) (directed_within is_inverse n) edges
     (from_within packages is.locked is.places n 0 (omega (arith, all)) (omega (arith, all, few)) is.leads))))
 
+-- ## Edges of lock files of npm
+
+-- what packages need is among them
+needs_within : (packages : List (List ℕ × JsonData)) (i j : ℕ) → Needs packages i j → IsWithin (length packages) (i, j)
+needs_within packages i j needs =
+    let there = needs.nearest.seen.is_in.1 in
+    (slice_get_within packages i (needs.path, needs.value) needs.is, slice_get_within packages j (path_in needs.nearest.folder needs.nearest.name, there.0) there.1)
+
+packages_within : (is_inverse : Bool) (source : Source) (lock : JsonData) (names : List (List ℕ)) (needs : List (ℕ × ℕ)) → MeansPackages is_inverse source lock names needs → All (IsWithin (length names)) needs
+packages_within is_inverse source lock names needs is =
+    let n = length names in
+    let all : n ≡ length (packages_in lock) = AllZip-long (IsLabelOf is.root) (packages_in lock) names is.labels in
+    subst (All (IsWithin n)) (sym is.edges)
+    (all_firsts (IsWithin n) same_edge (map (directed is_inverse) is.pairs)
+    (All-map (IsWithin n) (directed is_inverse) is.pairs (λ k d low.
+    let e = get_or is.pairs k d in
+    directed_within is_inverse n e (subst (λ m. IsWithin m e) (sym all) (needs_within (packages_in lock) e.0 e.1 ((is.are e.0 e.1).0 (Contains-get_or is.pairs k d low)))))))
+
 -- ## Sources
 
 -- a text is only one document
 same_document : (d e : Data) → Some (toml d) ≡ Some (toml e) → d ≡ e
 same_document d e is = cc
 
--- a source with tables of packages that is read is a plain lock file
-tables_held : (source : Source) (is_inverse : Bool) (n : Network) → has_part (codes "[[package]]") (source_text source) ≡ true → IsPairOrLockFile source → (held : HoldsLocked source is_inverse n) → HasLocked is_inverse (tables_in held.0) n
-tables_held source is_inverse n has (inl is) held = absurd (other_part source has is)
-tables_held source is_inverse n has (inr lock) held = held.2 (subst IsPlain (same_document lock.0 held.0 (sym lock.1.document ∙ held.1)) lock.1.plain)
+same_lock : (d e : JsonData) → Some (json d) ≡ Some (json e) → d ≡ e
+same_lock d e is = cc
 
--- the network of its tables is what it means
-pub tables_meant : (source : Source) (is_inverse : Bool) (n : Network) → has_part (codes "[[package]]") (source_text source) ≡ true → IsPairOrLockFile source → HoldsLocked source is_inverse n → IsNetworkOf source is_inverse n
-tables_meant source is_inverse n has read held =
-    let locked = tables_held source is_inverse n has read held in
-    record {
-      means = record {
-        pairs = λ is. absurd (other_part source has is);
-        tables = λ d is. subst (λ e. MeansTables is_inverse (tables_in e) (labels_of n) (needs_of n)) (same_document held.0 d (sym held.1 ∙ is.document)) locked.means;
-      };
-      paths = locked.paths;
-      whole = record { indexed = locked.indexed; within = tables_within is_inverse (tables_in held.0) (labels_of n) (needs_of n) locked.means };
-    }
+-- of a source that begins no object, and has tables of packages or not
+module _ (source : Source) (is_inverse : Bool) (n : Network) (text : begins_object source ≡ false) where
+  -- it is no lock file of npm
+  no_npm : IsNpmFile source → ⊥
+  no_npm is = false≢true (sym text ∙ is.json)
 
--- that of its pairs is what another one means
-pub pairs_meant : (source : Source) (is_inverse : Bool) (n : Network) → has_part (codes "[[package]]") (source_text source) ≡ false → IsNetworkOfPairs source is_inverse n → IsNetworkOf source is_inverse n
-pairs_meant source is_inverse n lacks is = record {
-  means = record {
-    pairs = λ _. record { pairs = is.pairs; held = is.held; some = is.some; are = is.has.names; edges = is.has.needs.edges };
-    tables = λ d lock. absurd (false≢true (sym lacks ∙ lock.file.toml));
-  };
-  paths = is.has.needs.paths;
-  whole = network_whole source is_inverse n is;
-}
+  -- the network of its tables is what it means
+  pub tables_meant : has_part (codes "[[package]]") (source_text source) ≡ true → HoldsLocked source is_inverse n → IsNetworkOf source is_inverse n
+  tables_meant has held =
+      let locked = held.2 in
+      record {
+        means = record {
+          pairs = λ is. absurd (other_part source has is);
+          tables = λ d is. subst (λ e. MeansTables is_inverse (tables_in e) (labels_of n) (needs_of n)) (same_document held.0 d (sym held.1 ∙ is.document)) locked.means;
+          packages = λ lock is. absurd (no_npm is.file);
+        };
+        paths = λ _. locked.paths;
+        whole = record { indexed = locked.indexed; within = tables_within is_inverse (tables_in held.0) (labels_of n) (needs_of n) locked.means };
+      }
+
+  -- that of its pairs is what another one means
+  pub pairs_meant : has_part (codes "[[package]]") (source_text source) ≡ false → IsNetworkOfPairs source is_inverse n → IsNetworkOf source is_inverse n
+  pairs_meant lacks is = record {
+    means = record {
+      pairs = λ _. record { pairs = is.pairs; held = is.held; some = is.some; are = is.has.names; edges = is.has.needs.edges };
+      tables = λ d lock. absurd (false≢true (sym lacks ∙ lock.file.toml));
+      packages = λ lock is. absurd (no_npm is.file);
+    };
+    paths = λ _. is.has.needs.paths;
+    whole = network_whole source is_inverse n is;
+  }
+
+-- that of its packages is what one means that begins an object
+module _ (source : Source) (is_inverse : Bool) (n : Network) (object : begins_object source ≡ true) (held : HoldsPackages source is_inverse n) where
+  no_text : begins_object source ≡ false → ⊥
+  no_text other = false≢true (sym other ∙ object)
+
+  lock_held : (lock : JsonData) → IsNpmLockFile source lock → HasPackages is_inverse source lock n
+  lock_held lock is =
+      let same = same_lock held.0 lock (sym held.1 ∙ is.document) in
+      subst (λ l. HasPackages is_inverse source l n) same (held.2 (subst (λ l. HasNoLinks (packages_in l)) (sym same) is.links))
+
+  pub packages_meant : HasMeaning source None → IsNetworkOf source is_inverse n
+  packages_meant (inl is) = absurd (no_text is.json)
+  packages_meant (inr (inl lock)) = absurd (no_text lock.1.file.json)
+  packages_meant (inr (inr npm)) =
+      let lock = npm.1.0 in
+      let has = lock_held lock npm.1.1 in
+      record {
+        means = record { pairs = λ is. absurd (no_text is.json); tables = λ d is. absurd (no_text is.file.json); packages = λ e is. (lock_held e is).means };
+        paths = λ other. absurd (no_text other);
+        whole = record { indexed = has.indexed; within = packages_within is_inverse source lock (labels_of n) (needs_of n) has.means };
+      }

@@ -57,7 +57,7 @@ module _ {X : Type 0} (same : X → X → Bool) (exact : (x y : X) → same x y 
 
 -- ## Edges
 
-eqb_flips : (a b : ℕ) → eqb a b ≡ eqb b a
+pub eqb_flips : (a b : ℕ) → eqb a b ≡ eqb b a
 eqb_flips a b = grind (arith, nat_tests)
 
 pub edge_flips : (d e : ℕ × ℕ) → same_edge d e ≡ same_edge e d

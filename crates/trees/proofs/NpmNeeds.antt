@@ -16,8 +16,8 @@ use Rattle.std.specs.declared.alloc.Global.{Global}
 use Rattle.serde_json.specs.Data.{Data}
 use Rattle.serde_json.specs.declared.value.Value.{Value}
 use Rattle.trees.specs.declared.deps.npm.Walk.{Walk}
-use Rattle.trees.specs.Npm.{HasLists, HasNoWorkspaces, IsNearest, Names}
-use Rattle.trees.specs.NpmParts.{Step, edge_of, edges_by, entered_of, folders_of, latest, lower_of, name_of, nearest_of, needs_in, packages_of, walked, AddsLists, AreEntered, AreKept, AreNeeds, Enters, HasSteps, IsAtStep, IsBefore, IsFresh, IsOwnStep, IsRightAt, IsStep, IsWithin, Leaves}
+use Rattle.trees.specs.Npm.{HasNames, IsNearest, Names}
+use Rattle.trees.specs.NpmParts.{Step, edge_of, edges_by, entered_of, folders_of, latest, lower_of, name_of, nearest_of, needs_in, packages_of, walked, AddsNames, AreEntered, AreKept, AreNeeds, Enters, HasSteps, IsAtStep, IsBefore, IsFresh, IsOwnStep, IsRightAt, IsStep, IsWithin, Leaves}
 use Rattle.trees.proofs.NpmEntered.{all_around, before_cases, entered_left, entered_more, entered_none, entered_passed}
 use Rattle.trees.proofs.NpmLocks.{listed_at}
 use Rattle.trees.proofs.NpmNearest.{cons_cases, nearest_all, nearest_found}
@@ -74,10 +74,10 @@ module _ (packages : List (List ℕ × Data)) (steps : List Step) (has : HasStep
   walked_left = ap (λ (m : Bor (BTreeMap (String Global) Value)). packages_of m.now) leaves.packages ∙ was.walks
 
   -- what is right of all packages is so of the one that the step is at
-  pub right_left : s.1 ≡ true → HasNoWorkspaces packages → All HasLists packages → IsRightAt (walked mid) (name_of s)
-  right_left kind none lists =
+  pub right_left : s.1 ≡ true → All HasNames packages → IsRightAt (walked mid) (name_of s)
+  right_left kind names =
       let own = own_at packages steps has k s at kind in
-      subst (λ ps. IsRightAt ps (name_of s)) (sym walked_left) (record { ascending = has.ascending; workspaces = none; place = s.3; value = own.0; at = own.1; lists = listed_at HasLists packages s.3 (name_of s, own.0) own.1 lists })
+      subst (λ ps. IsRightAt ps (name_of s)) (sym walked_left) (record { ascending = has.ascending; place = s.3; value = own.0; at = own.1; names = listed_at HasNames packages s.3 (name_of s, own.0) own.1 names })
 
   -- a folder is entered
   pub at_other : (new : Walk) → s.1 ≡ false → Enters s mid new → IsAtStep packages steps (k + 1) new
@@ -95,7 +95,7 @@ module _ (packages : List (List ℕ × Data)) (steps : List Step) (has : HasStep
       }
 
   -- a package has what it needs
-  pub at_own : (new : Walk) → s.1 ≡ true → (d : Data) → slice_get packages s.3 ≡ Some (name_of s, d) → IsOwnStep (name_of s) s.3 s → AddsLists (name_of s) d s.3 mid new → IsAtStep packages steps (k + 1) new
+  pub at_own : (new : Walk) → s.1 ≡ true → (d : Data) → slice_get packages s.3 ≡ Some (name_of s, d) → IsOwnStep (name_of s) s.3 s → AddsNames (name_of s) d s.3 mid new → IsAtStep packages steps (k + 1) new
   at_own new kind d is own adds =
       let names = adds.0 in
       let more = flat_map (edges_by (entered_of mid) s.3) names in
@@ -114,7 +114,7 @@ module _ (packages : List (List ℕ × Data)) (steps : List Step) (has : HasStep
                 value = d;
                 is = subst (λ (n : ℕ). slice_get packages n ≡ Some (name_of s, d)) (sym to.0) is;
                 name = found.0;
-                named = (adds.1 found.0).0 found.1;
+                named = subst (λ (ps : List (List ℕ × Data)). Names ps (name_of s) d found.0) walked_left ((adds.1 found.0).0 found.1);
                 nearest = nearest_found packages steps has k (entered_of mid) left s at (name_of s) s.3 own around found.0 j to.1;
               })
         ];
@@ -122,11 +122,11 @@ module _ (packages : List (List ℕ × Data)) (steps : List Step) (has : HasStep
           | inl before ↦ subst (λ (es : List (ℕ × ℕ)). Contains es (t.3, j)) (sym both) (Contains-append_left (needs_in old) more (t.3, j) (was.all t e name j before kind' there named near))
           | inr here ↦
               (let there' : slice_get packages s.3 ≡ Some (name_of s, e) = subst (λ (x : Step). slice_get packages x.3 ≡ Some (name_of x, e)) here there in
-              let named' : Names (name_of s) e name = subst (λ (x : Step). Names (name_of x) e name) here named in
+              let named' : Names packages (name_of s) e name = subst (λ (x : Step). Names packages (name_of x) e name) here named in
               let near' : IsNearest packages (name_of s) name j = subst (λ (x : Step). IsNearest packages (name_of x) name j) here near in
               let data' : e ≡ d = (some_pair_parts (name_of s) (name_of s) e d (sym there' ∙ is)).1 in
               let found = nearest_all packages steps has k (entered_of mid) left s at (name_of s) s.3 own around name j near' in
-              let among = (adds.1 name).1 (subst (λ (x : Data). Names (name_of s) x name) data' named') in
+              let among = (adds.1 name).1 (subst (λ (ps : List (List ℕ × Data)). Names ps (name_of s) d name) (sym walked_left) (subst (λ (x : Data). Names packages (name_of s) x name) data' named')) in
               subst (λ (es : List (ℕ × ℕ)). Contains es (t.3, j)) (sym both)
               (Contains-append_right (needs_in old) more (t.3, j) (subst (λ (x : Step). Contains more (x.3, j)) (sym here)
               (among_flat (edges_by (entered_of mid) s.3) names name (s.3, j) among (to_edge (nearest_of (entered_of mid) name) s.3 j found)))))
@@ -159,7 +159,7 @@ at_end packages steps k w has low at = λ i j. (
       let before : IsBefore steps k s = (c.0, omega (arith, c.1), slice_get-get_or steps c.0 s c.1 ∙ ap Some c.2) in
       let there : slice_get packages s.3 ≡ Some (name_of s, needs.value) = ap (slice_get packages) is.node ∙ (needs.is ∙ ap (λ (p : List ℕ). Some (p, needs.value)) (sym is.called)) in
       subst (λ (n : ℕ). Contains (needs_in w) (n, j)) is.node
-      (at.all s needs.value needs.name j before is.own there (subst (λ (p : List ℕ). Names p needs.value needs.name) (sym is.called) needs.named) (subst (λ (p : List ℕ). IsNearest packages p needs.name j) (sym is.called) needs.nearest)),
+      (at.all s needs.value needs.name j before is.own there (subst (λ (p : List ℕ). Names packages p needs.value needs.name) (sym is.called) needs.named) (subst (λ (p : List ℕ). IsNearest packages p needs.name j) (sym is.called) needs.nearest)),
 )
 
 pub needs_sorted : (packages : List (List ℕ × Data)) (old new : List (ℕ × Bor (List ℕ) × ℕ)) → IsPermutation old new → AreNeeds packages (map edge_of old) → AreNeeds packages (map edge_of new)

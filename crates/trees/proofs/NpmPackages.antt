@@ -28,8 +28,8 @@ use Rattle.trees.specs.Depending.{directed, same_edge}
 use Rattle.trees.specs.DependingParts.{labels_of, needs_of, added, AddsEdge, IsEmpty, IsIndexed}
 use Rattle.trees.specs.Documents.{IsDocumentOf}
 use Rattle.trees.specs.LockingParts.{AddsEdges}
-use Rattle.trees.specs.Npm.{text_at, listed, with_project, packages_in, path_in, is_link, behind, other_name, label_text, IsIn, IsLabel, IsRootName, AreAscending, HasNoLinks, HasNoWorkspaces, HasPackages, HoldsPackages}
-use Rattle.trees.specs.NpmParts.{edge_of, AddsPackages, AddsInOrder, AreNeeds, ArePaths, HasSteps, Step}
+use Rattle.trees.specs.Npm.{text_at, listed, with_project, packages_in, path_in, is_link, behind, other_name, label_text, IsIn, IsLabel, IsRootName, AreAscending, HasNoLinks}
+use Rattle.trees.specs.NpmParts.{edge_of, AddsPackages, AddsInOrder, AreNeeds, ArePaths, HasPackages, HasSteps, HoldsPackages, Step}
 use Rattle.trees.proofs.LockedEdges.{edges_none, edges_both, edges_one, first_edges}
 use Rattle.trees.proofs.LockedPackages.{then_first}
 use Rattle.trees.proofs.Networks.{indexed_none}
@@ -153,21 +153,24 @@ module _ (root : List ℕ) where
   steps_first ps old new empty adds paths made steps same is has = subst (HasSteps ps) (sym is) (has (paths_first ps old new empty adds paths same))
 
   -- and then edges
-  pub packages_held : (source : Source) (lock : Data) (ps : List (List ℕ × Data)) (old n new : Network) → packages_in lock ≡ ps → IsEmpty old → AreAscending ps → IsRootName source lock root → AddsPackages root ps old n → (es : List (ℕ × ℕ)) → AddsInOrder n new es → (HasNoWorkspaces ps → AreNeeds ps es) → HasPackages old.is_inverse source lock new
+  pub packages_held : (source : Source) (lock : Data) (ps : List (List ℕ × Data)) (old n new : Network) → packages_in lock ≡ ps → IsEmpty old → AreAscending ps → IsRootName source lock root → AddsPackages root ps old n → (es : List (ℕ × ℕ)) → AddsInOrder n new es → AreNeeds ps es → HasPackages old.is_inverse source lock new
   packages_held source lock ps old n new is empty up called adds es more are = record {
-    ascending = subst AreAscending (sym is) up;
+    means = record {
+      ascending = subst AreAscending (sym is) up;
+      root = root;
+      called = called;
+      labels = subst (λ qs. AllZip (IsLabel root) qs (labels_of new)) (sym is)
+          (subst (AllZip (IsLabel root) ps) (sym (ap (λ v. map string_bytes v.items) more.1.nodes.labels ∙ (adds.labels ∙ ap (λ v. map string_bytes v ++ adds.texts) empty.labels))) adds.are);
+      pairs = es;
+      in_order = more.0;
+      edges = more.1.edges
+          ∙ (ap (λ (b : Bool). fold (added same_edge) (needs_of n) (map (directed b) es)) adds.is_inverse
+          ∙ (ap (λ ds. fold (added same_edge) (map numbers_of ds) (map (directed old.is_inverse) es)) (ap (λ v. v.items) adds.edges ∙ empty.edges) ∙ first_edges (map (directed old.is_inverse) es)));
+      are = subst (λ qs. AreNeeds qs es) (sym is) are;
+    };
     paths = ap (λ v. map string_bytes v.items) more.1.nodes.paths
         ∙ (adds.paths ∙ (ap (λ v. map string_bytes v ++ map (λ p. p.0) ps) empty.paths ∙ ap (map (λ p. p.0)) (sym is)));
-    root = root;
-    called = called;
-    labels = subst (λ qs. AllZip (IsLabel root) qs (labels_of new)) (sym is)
-        (subst (AllZip (IsLabel root) ps) (sym (ap (λ v. map string_bytes v.items) more.1.nodes.labels ∙ (adds.labels ∙ ap (λ v. map string_bytes v ++ adds.texts) empty.labels))) adds.are);
-    needs = es;
-    in_order = more.0;
-    edges = more.1.edges
-        ∙ (ap (λ (b : Bool). fold (added same_edge) (needs_of n) (map (directed b) es)) adds.is_inverse
-        ∙ (ap (λ ds. fold (added same_edge) (map numbers_of ds) (map (directed old.is_inverse) es)) (ap (λ v. v.items) adds.edges ∙ empty.edges) ∙ first_edges (map (directed old.is_inverse) es)));
-    are = subst (λ qs. HasNoWorkspaces qs → AreNeeds qs es) (sym is) are;
+    indexed = more.1.indexed;
   }
 
 -- ## Edges
@@ -220,7 +223,7 @@ alone_needs lock = λ i j. (λ c. absurd (omega (arith, c.1)), λ needs. absurd 
 pub project_held : (root : List ℕ) (source : Source) (lock : Data) (old new : Network) → packages_in lock ≡ ([], lock) ∷ [] → IsEmpty old → IsRootName source lock root → AddsPackages root (([], lock) ∷ []) old new → HasPackages old.is_inverse source lock new
 unfolding IsStrictlySortedBy
 project_held root source lock old new is empty called adds =
-    packages_held root source lock (([], lock) ∷ []) old new new is empty (tt, tt) called adds [] (λ k d low within. absurd (omega (arith, within)), edges_none new (packages_indexed root (([], lock) ∷ []) old new empty adds)) (λ none. alone_needs lock)
+    packages_held root source lock (([], lock) ∷ []) old new new is empty (tt, tt) called adds [] (λ k d low within. absurd (omega (arith, within)), edges_none new (packages_indexed root (([], lock) ∷ []) old new empty adds)) (alone_needs lock)
 
 -- ## Files
 
@@ -238,8 +241,6 @@ keys_seen (e ∷ es) = ap (λ (ts : List (List ℕ)). string_bytes e.0 ∷ ts) (
 -- all keys of a map
 pub all_keys : (ks : List (Bor (String Global))) (es : List Entry) → map (λ k. k.now) ks ≡ map (λ e. e.0) es → map (λ k. string_bytes k.now) ks ≡ map (λ p. p.0) (listed (members_view es))
 all_keys ks es all = map_twice (λ (k : Bor (String Global)). k.now) string_bytes ks ∙ (ap (map string_bytes) all ∙ (sym (map_twice (λ (e : Entry). e.0) string_bytes es) ∙ keys_seen es))
-
--- ## Places
 
 -- the package of a turn
 pub package_turn : (es : List Entry) (n : ℕ) (x : Item) → slice_get es n ≡ Some (deref_pair x) → slice_get (listed (members_view es)) n ≡ Some (item_seen x)

@@ -1,5 +1,5 @@
 -- Paths of packages of npm.
-use Rattle.std.proofs.Common.{◌≡◌, ◌≢◌, ◌∙◌, ℕ, ◌+◌, ◌-◌, ◌<◌, ◌||◌, Bool, true, false, eqb, List, [], ◌∷◌, ◌++◌, length, get_or, take, drop, codes, inl, inr, refl, sym, ap, subst, append_assoc, length-append, arith}
+use Rattle.std.proofs.Common.{◌≡◌, ◌≢◌, ◌∙◌, ℕ, ◌+◌, ◌-◌, ◌<◌, ◌||◌, Bool, true, false, eqb, List, [], ◌∷◌, ◌++◌, length, get_or, take, drop, codes, refl, sym, ap, subst, append_assoc, length-append, arith}
 use Rattle.std.proofs.Math.Seq.{drop-append_seam, get_or-append_seam}
 use Rattle.std.proofs.lemmas.Bool.{false≢true}
 use Rattle.std.proofs.lemmas.List.{append_cancel_right, take-append-drop, take_all}
@@ -11,7 +11,7 @@ use Rattle.std.specs.Prelude.{Option, Some, None, MatchOption, unwrap_or}
 use Rattle.std.specs.Str.Pattern.{HasCharAt, RFindsChar, SplitsAroundMatch, FindsTextSuffix, StripsSuffix, GetsRange}
 use Rattle.trees.specs.Documents.{IsLastPart}
 use Rattle.trees.specs.Locking.{Lacks}
-use Rattle.trees.specs.Npm.{IsName, IsScoped, home, path_in}
+use Rattle.trees.specs.Npm.{home, path_in, IsScoped}
 use Rattle.trees.proofs.NeedTexts.{lacks_byte}
 
 -- ## Slashes
@@ -29,7 +29,7 @@ no_slash : (text : List ℕ) → list_any (λ b. eqb b 47) text ≡ false → La
 no_slash text none = λ before after e. false≢true (sym none ∙ (ap (list_any (λ b. eqb b 47)) e ∙ any_slash before after))
 
 -- a text is cut at its last slash in one way
-one_cut : (a b c d : List ℕ) → a ++ 47 ∷ b ≡ c ++ 47 ∷ d → Lacks (47 ∷ []) b → Lacks (47 ∷ []) d → (a ≡ c) × (b ≡ d)
+pub one_cut : (a b c d : List ℕ) → a ++ 47 ∷ b ≡ c ++ 47 ∷ d → Lacks (47 ∷ []) b → Lacks (47 ∷ []) d → (a ≡ c) × (b ≡ d)
 one_cut [] b [] d e lb ld = (refl, cc)
 one_cut [] b (x ∷ c) d e lb ld = (let rest : b ≡ c ++ 47 ∷ d = cc in absurd (lb c d rest))
 one_cut (x ∷ a) b [] d e lb ld = (let rest : d ≡ a ++ 47 ∷ b = cc in absurd (ld a b rest))
@@ -39,7 +39,7 @@ one_cut (x ∷ a) b (y ∷ c) d e lb ld =
     let more = one_cut a b c d rest lb ld in
     (ap (λ (z : ℕ). z ∷ a) head ∙ ap (λ (t : List ℕ). y ∷ t) more.0, more.1)
 
-slash_at : (path : List ℕ) (i j : ℕ) → HasCharAt 47 path i j → path ≡ take i path ++ 47 ∷ drop j path
+pub slash_at : (path : List ℕ) (i j : ℕ) → HasCharAt 47 path i j → path ≡ take i path ++ 47 ∷ drop j path
 slash_at path i j at = sym (take-append-drop i path) ∙ ap (λ (t : List ℕ). take i path ++ t) (drop_at_char 47 path i j at (omega arith))
 
 -- `rsplit_once` at a slash
@@ -54,7 +54,7 @@ cut_last path (Some x) cut = (
 -- ## Last parts
 
 -- what is behind the last slash of a path
-part_behind : (path front last text : List ℕ) → IsLastPart path text → path ≡ front ++ 47 ∷ last → Lacks (47 ∷ []) last → text ≡ last
+pub part_behind : (path front last text : List ℕ) → IsLastPart path text → path ≡ front ++ 47 ∷ last → Lacks (47 ∷ []) last → text ≡ last
 part_behind path front last text part is lacks = go part.0 part.1 part.2 where
   go : (r : Option (ℕ × ℕ)) → RFindsChar 47 path r → MatchOption r (text ≡ path) (λ found. text ≡ drop found.1 path) → text ≡ last
   go None none same = absurd (lacks_byte 47 path (λ i low. NoCharPasses-char 47 path i none (omega arith) low) front last is)
@@ -62,7 +62,7 @@ part_behind path front last text part is lacks = go part.0 part.1 part.2 where
       same ∙ (one_cut (take p.0 path) (drop p.1 path) front last (sym (slash_at path p.0 p.1 found.1) ∙ is) (lacks_byte 47 (drop p.1 path) (λ i low. NoCharPasses-char 47 (drop p.1 path) i found.0 (omega arith) low)) lacks).1
 
 -- a path without a slash
-part_alone : (path text : List ℕ) → IsLastPart path text → Lacks (47 ∷ []) path → text ≡ path
+pub part_alone : (path text : List ℕ) → IsLastPart path text → Lacks (47 ∷ []) path → text ≡ path
 part_alone path text part lacks = go part.0 part.1 part.2 where
   go : (r : Option (ℕ × ℕ)) → RFindsChar 47 path r → MatchOption r (text ≡ path) (λ found. text ≡ drop found.1 path) → text ≡ path
   go None none same = same
@@ -74,7 +74,7 @@ home_last (b ∷ folder) text part = part_behind (home (b ∷ folder)) (b ∷ fo
 
 -- ## Names
 
-at_scope : (scope : List ℕ) → Lacks (47 ∷ []) scope → Lacks (47 ∷ []) (64 ∷ scope)
+pub at_scope : (scope : List ℕ) → Lacks (47 ∷ []) scope → Lacks (47 ∷ []) (64 ∷ scope)
 at_scope scope lacks = λ before after e. go before after e where
   go : (before after : List ℕ) → 64 ∷ scope ≡ before ++ 47 ∷ after → ⊥
   go [] after e = (let same : 64 ≡ 47 = ap (λ (t : List ℕ). get_or t 0 0) e in absurd (omega (arith, same)))
@@ -180,35 +180,3 @@ placed_at path start text folder name is node same =
     is
     ∙ (ap (λ (t : List ℕ). t ++ name) (node ∙ ap (λ (t : List ℕ). t ++ codes "node_modules/") same)
     ∙ sym (front_name (path_in folder name) folder name name refl refl))
-
--- ## Last names
-
-last_cut : (path text : List ℕ) → IsLastPart path text → (front : List ℕ) × (path ≡ front ++ text) × Lacks (47 ∷ []) text
-last_cut path text part = go part.0 part.1 part.2 where
-  go : (r : Option (ℕ × ℕ)) → RFindsChar 47 path r → MatchOption r (text ≡ path) (λ found. text ≡ drop found.1 path) → (front : List ℕ) × (path ≡ front ++ text) × Lacks (47 ∷ []) text
-  go None none same = ([], sym same, subst (Lacks (47 ∷ [])) (sym same) (lacks_byte 47 path (λ i low. NoCharPasses-char 47 path i none (omega arith) low)))
-  go (Some p) found same = (
-    take p.1 path,
-    sym (take-append-drop p.1 path) ∙ ap (λ (t : List ℕ). take p.1 path ++ t) (sym same),
-    subst (Lacks (47 ∷ [])) (sym same) (lacks_byte 47 (drop p.1 path) (λ i low. NoCharPasses-char 47 (drop p.1 path) i found.0 (omega arith) low)),
-  )
-
-lacks_more : (b : ℕ) (text : List ℕ) → Lacks (47 ∷ []) (b ∷ text) → Lacks (47 ∷ []) text
-lacks_more b text lacks = λ before after e. lacks (b ∷ before) after (ap (λ (t : List ℕ). b ∷ t) e)
-
-scoped_name : (scope name : List ℕ) → get_or scope 0 0 ≡ 64 → Lacks (47 ∷ []) scope → Lacks (47 ∷ []) name → IsScoped (scope ++ 47 ∷ name)
-scoped_name [] name first one two = absurd (omega (arith, first))
-scoped_name (b ∷ scope) name first one two = record { scope = scope; own = name; is = ap (λ (c : ℕ). c ∷ (scope ++ 47 ∷ name)) first; first = lacks_more b scope one; last = two }
-
--- the last two parts of a path, where the first begins with `@`, or the last one alone
-pub some_name : (path above name scope : List ℕ) → path ≡ above ++ 47 ∷ name → Lacks (47 ∷ []) name → IsLastPart above scope → get_or scope 0 0 ≡ 64 → (i : ℕ) (r : Option (Bor (List ℕ))) (d : Bor (List ℕ)) → d.now ≡ name → i ≡ length above - length scope → GetsRange path i (length path) r
-    → IsName (unwrap_or r d).now
-some_name path above name scope is lacks part first i None d same at gets = inl (subst (Lacks (47 ∷ [])) (sym same) lacks)
-some_name path above name scope is lacks part first i (Some x) d same at gets =
-    let cut = last_cut above scope part in
-    let size : i ≡ length cut.0 = omega (arith, at, ap length cut.1, length-append cut.0 scope) in
-    let whole : path ≡ cut.0 ++ (scope ++ 47 ∷ name) = is ∙ (ap (λ (t : List ℕ). t ++ 47 ∷ name) cut.1 ∙ append_assoc cut.0 scope (47 ∷ name)) in
-    let behind : drop i path ≡ scope ++ 47 ∷ name = ap (λ (n : ℕ). drop n path) size ∙ (ap (drop (length cut.0)) whole ∙ drop-append_seam cut.0 (scope ++ 47 ∷ name)) in
-    let fits : length path ≡ i + length (scope ++ 47 ∷ name) = ap length whole ∙ (length-append cut.0 (scope ++ 47 ∷ name) ∙ ap (λ (n : ℕ). n + length (scope ++ 47 ∷ name)) (sym size)) in
-    let text : x.now ≡ scope ++ 47 ∷ name = gets.0 ∙ (take_all (length path - i) (drop i path) (omega (arith, ap length behind, fits)) ∙ behind) in
-    inr (subst IsScoped (sym text) (scoped_name scope name first cut.2 lacks))

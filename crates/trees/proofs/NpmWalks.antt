@@ -1,13 +1,13 @@
 -- What a walk through folders of packages of npm keeps and adds.
-use Rattle.std.proofs.Common.{◌≡◌, ◌∙◌, ◌&&◌, ℕ, zero, suc, Bool, true, false, cond, List, [], ◌∷◌, ◌++◌, length, map, take, drop, codes, slice_get, inl, inr, refl, sym, ap, ap₂, subst, append-nil, append_assoc}
+use Rattle.std.proofs.Common.{◌≡◌, ◌≢◌, ◌∙◌, ◌&&◌, ℕ, zero, suc, Bool, true, false, cond, List, [], ◌∷◌, ◌++◌, length, map, take, drop, codes, slice_get, inl, inr, refl, sym, ap, ap₂, subst, append-nil, append_assoc}
 use Rattle.std.proofs.lemmas.Bool.{cases_Bool, cond-false, cond-true, false≢true}
 use Rattle.std.proofs.lemmas.Cmp.{nat_list_cmp_total, tied_itself}
-use Rattle.std.proofs.lemmas.List.{length-map, nil_from_length, take-map}
+use Rattle.std.proofs.lemmas.List.{length-map, take-map}
 use Rattle.std.proofs.lemmas.List.Concat.{flat_map-append}
 use Rattle.std.proofs.lemmas.List.Elements.{All-from_recursion, Contains-append_cases, Contains-append_left, Contains-append_right}
 use Rattle.std.proofs.lemmas.Option.{get_or_from_slice_get, slice_get-map, slice_get_within, some_pair_parts}
 use Rattle.std.proofs.lemmas.Slice.Eq.{bytes_eq-Decides, starts_is}
-use Rattle.std.specs.BTreeMap.{is_at}
+use Rattle.std.specs.BTreeMap.{BTreeMap, is_at}
 use Rattle.std.specs.Borrow.{Bor}
 use Rattle.std.specs.Cmp.Lexicographic.{pointwise, slice_cmp}
 use Rattle.std.specs.List.{starts_with}
@@ -24,8 +24,9 @@ use Rattle.serde_json.specs.Find.{as_object, get}
 use Rattle.serde_json.specs.View.{view, members_view}
 use Rattle.serde_json.specs.declared.value.Value.{Value}
 use Rattle.trees.specs.declared.deps.npm.Walk.{Walk}
-use Rattle.trees.specs.Npm.{listed, names_at, names_in, path_in, HasNoWorkspaces, IsName, IsPlaced}
-use Rattle.trees.specs.NpmParts.{Step, edges_by, entered_of, found_of, latest, lower_of, name_of, nearest_of, needs_in, texts_of, AddsDeveloped, AddsLists, AddsNamed, AreKept, IsReady, IsWithin}
+use Rattle.trees.specs.Npm.{listed, names_at, names_in, path_in, IsName, IsPlaced, NameWorkspace}
+use Rattle.trees.specs.NpmParts.{Step, edges_by, entered_of, found_of, latest, lower_of, name_of, nearest_of, needs_in, packages_of, texts_of, walked, AddsDeveloped, AddsLists, AddsNamed, AddsNames, AddsWorkspaces, AreKept, IsReady, IsWithin}
+use Rattle.trees.specs.NpmPatterns.{patterns_in}
 use Rattle.trees.proofs.NpmNearest.{latest_push}
 
 -- ## Tests
@@ -204,10 +205,30 @@ lists_named path d node a b c e first developed last =
 pub developed_ready : (path : List ℕ) (d : Data) (node : ℕ) (a b : Walk) → AddsDeveloped path d node a b → IsReady b
 developed_ready path d node a b adds = elim adds [ inl in' ↦ in'.1.ready | inr out ↦ out.1.ready ]
 
--- ## The project without workspaces
+-- ## The names of a package
 
-pub no_workspaces : (packages : List (List ℕ × Data)) → HasNoWorkspaces packages → (i : ℕ) (path : List ℕ) (d e : Data) → slice_get packages i ≡ Some (path, d) → length path ≡ 0 → get (codes "workspaces") d ≡ Some e → ⊥
-no_workspaces packages none i path d e at empty some =
-    let low = slice_get_within packages i (path, d) at in
-    let here : get (codes "workspaces") d ≡ None = subst (λ (p : List ℕ × Data). p.0 ≡ [] → get (codes "workspaces") p.1 ≡ None) (get_or_from_slice_get packages i (path, d) (path, d) at) (none i (path, d) low) (nil_from_length path empty) in
-    (let no : None ≡ Some e = sym here ∙ some in cc)
+-- its lists, and the workspaces of the project
+module _ (path : List ℕ) (d : Data) (node : ℕ) (a b : Walk) (lists : AddsLists path d node a b) where
+  pub names_alone : path ≢ [] → AddsNames path d node a b
+  names_alone some = (
+    lists.0,
+    λ name. (λ c. inl ((lists.1 name).0 c), λ named. elim named [ inl listed ↦ (lists.1 name).1 listed | inr own ↦ absurd (some own.0) ]),
+    lists.2,
+  )
+
+  pub names_with : (c : Walk) → path ≡ [] → AddsWorkspaces (patterns_in d) node b c → AddsNames path d node a c
+  names_with c none more =
+      let same : walked b ≡ walked a = ap (λ (m : Bor (BTreeMap (String Global) Value)). packages_of m.now) lists.2.packages in (
+        lists.0 ++ more.0,
+        λ name. (
+          λ in'. elim (Contains-append_cases lists.0 more.0 name in') [
+            | inl one ↦ inl ((lists.1 name).0 one)
+            | inr two ↦ inr (none, subst (λ (ps : List (List ℕ × Data)). NameWorkspace (patterns_in d) ps name) same ((more.1 name).0 two))
+          ],
+          λ named. elim named [
+            | inl listed ↦ Contains-append_left lists.0 more.0 name ((lists.1 name).1 listed)
+            | inr own ↦ Contains-append_right lists.0 more.0 name ((more.1 name).1 (subst (λ (ps : List (List ℕ × Data)). NameWorkspace (patterns_in d) ps name) (sym same) own.1))
+          ],
+        ),
+        named_both node lists.0 more.0 a b c lists.2 more.2,
+      )

@@ -4,15 +4,12 @@ use Rattle.std.proofs.Math.ListN.{get_or-map}
 use Rattle.std.proofs.lemmas.List.{length-map, map-append, reverse-append, take_all, take_more, length_push}
 use Rattle.std.proofs.lemmas.List.Elements.{All-nil, All-cons, All-head, All-tail, All-append, All-filter, All-map, All-weaker, All-contains, Contains-append_right}
 use Rattle.std.proofs.lemmas.List.Sorted.{All-permutation, IsPermutation-reverse}
-use Rattle.std.proofs.lemmas.Map.Keys.{IsDistinct-from_sorted, IsDistinct-from_apart, apart_from_distinct}
 use Rattle.std.proofs.lemmas.Slice.Eq.{bytes_eq-Decides}
 use Rattle.std.specs.Borrow.{Bor}
-use Rattle.std.specs.Cmp.Lexicographic.{slice_cmp, texts_ties}
-use Rattle.std.specs.List.Sorted.{IsStrictlySortedBy}
-use Rattle.std.specs.Ordering.{eq_by_cmp, nat_cmp}
 use Rattle.std.specs.Prelude.{All, Any, Contains, filter, flat_map, String, string_bytes}
 use Rattle.std.specs.declared.alloc.Global.{Global}
 use Rattle.std.specs.Str.{bytes_eq}
+use Rattle.toml.specs.Data.{Data}
 use Rattle.ptree.specs.declared.graph.NodeIndex.{NodeIndex}
 use Rattle.ptree.specs.Graph.{edges_of, numbers_of, turned, weights_of, LacksNode}
 use Rattle.ptree.proofs.Config.FieldLists.{Contains-map}
@@ -20,9 +17,10 @@ use Rattle.trees.specs.declared.deps.Dependencies.{Dependencies}
 use Rattle.trees.specs.declared.deps.Network.{Network}
 use Rattle.trees.specs.declared.failure.Failure.{Failure}
 use Rattle.trees.specs.declared.source.Source.{Source}
-use Rattle.trees.specs.Depending.{pair_words, number, is_need, directed, edge_of, same_edge, firsts, edges_between, HoldsPairs, AreNames, StandsAbove, IsRooted, IsNoName, HoldsNoGraph}
-use Rattle.trees.specs.DependingParts.{texts_of, labels_of, needs_of, AreApart, HasRoot, HoldsNone, IsNetworkOf, IsNetworkOfPairs, IsTopped, IsWhole, IsWithin}
-use Rattle.trees.specs.Meaning.{MeansPairs, IsGraphOf}
+use Rattle.trees.specs.Depending.{pair_words, number, is_need, directed, edge_of, same_edge, firsts, edges_between, HoldsPairs, AreNames, StandsAbove, IsPairFile, IsRooted, IsNoName, HoldsNoGraph}
+use Rattle.trees.specs.DependingParts.{texts_of, labels_of, needs_of, paths_of, HasRoot, HoldsNone, IsNetworkOf, IsNetworkOfPairs, IsWhole, IsWithin}
+use Rattle.trees.specs.Meaning.{HasMeaning, IsGraphOf, IsLockFile, MeansTables}
+use Rattle.trees.specs.Locking.{tables_in}
 use Rattle.trees.specs.Reading.{FailsFor}
 use Rattle.trees.specs.Shown.{shown_text}
 use Rattle.trees.proofs.Pairs.{pairs_unique}
@@ -118,10 +116,10 @@ stands_within label names edges (top ∷ []) texts all root within low h = same_
 stands_within label names edges (top ∷ u ∷ tops) texts all root within low h = above_within names label edges (top ∷ u ∷ tops) texts all within low h.1 h.2
 
 -- the edges of a graph from a root on are between its nodes
-pub rooted_within : (source : Source) (name : Option (Bor (List ℕ))) (names : List (List ℕ)) (edges : List (ℕ × ℕ)) (texts : List (List ℕ)) (all : List (ℕ × ℕ)) (root : ℕ) → All (IsWithin (length names)) edges
-    → IsRooted source name names edges texts all root → All (IsWithin (length texts)) all
-rooted_within source (Some name) names edges texts all root within h = same_within names edges texts all within h.2 h.3
-rooted_within source None names edges texts all root within h = stands_within h.0 names edges h.1 texts all root within h.3 h.5
+pub rooted_within : (source : Source) (name : Option (Bor (List ℕ))) (paths names : List (List ℕ)) (edges : List (ℕ × ℕ)) (texts : List (List ℕ)) (all : List (ℕ × ℕ)) (root : ℕ) → All (IsWithin (length names)) edges
+    → IsRooted source name paths names edges texts all root → All (IsWithin (length texts)) all
+rooted_within source (Some name) paths names edges texts all root within h = same_within names edges texts all within h.1 h.2
+rooted_within source None paths names edges texts all root within h = stands_within h.0 names edges h.1 texts all root within h.3 h.5
 
 -- so no edge lacks a node
 pub none_lacks : (n : ℕ) (edges : List (NodeIndex × NodeIndex)) → All (IsWithin n) (map numbers_of edges) → Any (LacksNode n) edges → ⊥
@@ -134,11 +132,6 @@ none_lacks n edges all any =
     elim any.4 [ inl low ↦ let no' : ⊥ = omega arith in no' | inr low ↦ let no' : ⊥ = omega arith in no' ]
 
 -- ## Graphs
-
--- names in ascending order are apart
-pub names_apart : (names : List (List ℕ)) → IsStrictlySortedBy (slice_cmp nat_cmp) names → AreApart names
-names_apart names up =
-    IsDistinct-from_apart bytes_eq names (λ i j d less low. texts_ties (get_or names i d) (get_or names j d) ∙ apart_from_distinct (eq_by_cmp (slice_cmp nat_cmp)) names i j d (IsDistinct-from_sorted (slice_cmp nat_cmp) names up) less low)
 
 -- a reversed list
 map_reversed : {X Y : Type 0} (f : X → Y) (xs : List X) → map f (reverse xs) ≡ reverse (map f xs)
@@ -162,17 +155,37 @@ pub same_count : (is_terminal : Bool) (ws labels : List (String Global)) (i : �
 same_count is_terminal ws labels i end so =
     sym (length-map ws string_bytes) ∙ (ap length (so ∙ ap (λ ls. map (shown_text is_terminal) (map string_bytes ls)) (take_all i labels end)) ∙ length-map (map string_bytes labels) (shown_text is_terminal))
 
+-- a network without paths
+pub no_paths : (n : Network) → n.paths.items ≡ [] → paths_of n ≡ []
+no_paths n none = ap (λ (paths : List (String Global)). map string_bytes paths) none
+
+-- what a source means without a root
+pub any_root : (source : Source) (name : Option (Bor (List ℕ))) → HasMeaning source name → HasMeaning source None
+any_root source name (inl pairs) = inl pairs
+any_root source name (inr (inl lock)) = inr (inl lock)
+any_root source name (inr (inr npm)) = inr (inr (refl, npm.1))
+
+-- a root that is asked for is one of nodes without paths
+root_held : (source : Source) (name : Option (Bor (List ℕ))) (is_inverse : Bool) (read rooted : Network) (root : ℕ) → HasMeaning source name → IsNetworkOf source is_inverse read → HasRoot source name read rooted root
+    → IsRooted source name [] (labels_of read) (needs_of read) (labels_of rooted) (needs_of rooted) root
+root_held source name is_inverse read rooted root (inl pairs) is has =
+    subst (λ paths. IsRooted source name paths (labels_of read) (needs_of read) (labels_of rooted) (needs_of rooted) root) (no_paths read (is.paths pairs.json)) has
+root_held source name is_inverse read rooted root (inr (inl lock)) is has =
+    subst (λ paths. IsRooted source name paths (labels_of read) (needs_of read) (labels_of rooted) (needs_of rooted) root) (no_paths read (is.paths lock.1.file.json)) has
+root_held source name is_inverse read rooted root (inr (inr npm)) is has =
+    subst (λ (o : Option (Bor (List ℕ))). HasRoot source o read rooted root → IsRooted source o [] (labels_of read) (needs_of read) (labels_of rooted) (needs_of rooted) root) (sym npm.0) (λ h. h) has
+
 -- what is drawn of a network
-pub graph_held : (source : Source) (name : Option (Bor (List ℕ))) (is_inverse is_terminal : Bool) (read rooted drawn : Network) (d : Dependencies) → IsNetworkOf source is_inverse read → HasRoot source name read rooted d.root.0
+pub graph_held : (source : Source) (name : Option (Bor (List ℕ))) (is_inverse is_terminal : Bool) (read rooted drawn : Network) (d : Dependencies) → HasMeaning source name → IsNetworkOf source is_inverse read → HasRoot source name read rooted d.root.0
     → drawn.labels ≡ rooted.labels → drawn.edges.items ≡ reverse rooted.edges.items → map string_bytes (weights_of d.graph) ≡ map (shown_text is_terminal) (labels_of drawn) → edges_of d.graph ≡ needs_of drawn
     → IsGraphOf source name is_inverse is_terminal d
-graph_held source name is_inverse is_terminal read rooted drawn d is root labels turned texts edges = record {
+graph_held source name is_inverse is_terminal read rooted drawn d meaning is root labels turned texts edges = record {
   names = labels_of read;
   needs = needs_of read;
   means = is.means;
   texts = labels_of rooted;
   edges = needs_of rooted;
-  rooted = root;
+  rooted = root_held source name is_inverse read rooted d.root.0 meaning is root;
   graph = record {
     weights = texts ∙ ap (λ v. map (shown_text is_terminal) (map string_bytes v.items)) labels;
     edges = edges ∙ (ap (map numbers_of) turned ∙ map_reversed numbers_of rooted.edges.items);
@@ -183,16 +196,7 @@ graph_held source name is_inverse is_terminal read rooted drawn d is root labels
 pub graph_whole : (source : Source) (name : Option (Bor (List ℕ))) (read rooted drawn : Network) (root : ℕ) → IsWhole read → HasRoot source name read rooted root
     → drawn.labels ≡ rooted.labels → drawn.edges.items ≡ reverse rooted.edges.items → Any (LacksNode (length (labels_of drawn))) drawn.edges.items → ⊥
 graph_whole source name read rooted drawn root whole has labels turned =
-    let within = rooted_within source name (labels_of read) (needs_of read) (labels_of rooted) (needs_of rooted) root whole.within has in
-    none_lacks (length (labels_of drawn)) drawn.edges.items
-    (subst (λ v. All (IsWithin (length (map string_bytes v.items))) (needs_of drawn)) (sym labels)
-    (subst (All (IsWithin (length (labels_of rooted)))) (sym (ap (map numbers_of) turned ∙ map_reversed numbers_of rooted.edges.items)) (All-permutation (IsWithin (length (labels_of rooted))) (needs_of rooted) (reverse (needs_of rooted)) (IsPermutation-reverse (needs_of rooted)) within)))
-
--- the same of a root that stands for what nothing needs
-pub topped_whole : (label : List ℕ) (read rooted drawn : Network) (root : ℕ) → All (IsWithin (length (labels_of read))) (needs_of read) → IsTopped label read rooted root
-    → drawn.labels ≡ rooted.labels → drawn.edges.items ≡ reverse rooted.edges.items → Any (LacksNode (length (labels_of drawn))) drawn.edges.items → ⊥
-topped_whole label read rooted drawn root whole top labels turned =
-    let within = stands_within label (labels_of read) (needs_of read) top.0 (labels_of rooted) (needs_of rooted) root whole top.1 top.3 in
+    let within = rooted_within source name (paths_of read) (labels_of read) (needs_of read) (labels_of rooted) (needs_of rooted) root whole.within has in
     none_lacks (length (labels_of drawn)) drawn.edges.items
     (subst (λ v. All (IsWithin (length (map string_bytes v.items))) (needs_of drawn)) (sym labels)
     (subst (All (IsWithin (length (labels_of rooted)))) (sym (ap (map numbers_of) turned ∙ map_reversed numbers_of rooted.edges.items)) (All-permutation (IsWithin (length (labels_of rooted))) (needs_of rooted) (reverse (needs_of rooted)) (IsPermutation-reverse (needs_of rooted)) within)))
@@ -203,15 +207,23 @@ topped_whole label read rooted drawn root whole top labels turned =
 pub fails_without : (source : Source) (name : Option (Bor (List ℕ))) (e : Failure) → FailsFor (HoldsNone source) ⊥ e → FailsFor (HoldsNoGraph source name) ⊥ e
 fails_without source name e says = fails_weaker (HoldsNone source) (HoldsNoGraph source name) ⊥ e (λ none pairs held. inl (none pairs held)) says
 
--- a name that no node has is no word
-no_word : (name : Option (Bor (List ℕ))) (names : List (List ℕ)) (pairs : List (List ℕ × List ℕ)) → AreNames pairs names → IsNoName name names → IsNoName name (flat_map pair_words pairs)
-no_word None names pairs are none = none
-no_word (Some name) names pairs are none = λ c. none ((are.words name.now).1 c)
+-- nor has one in which the name means no word
+pub fails_unnamed : (source : Source) (name : Option (Bor (List ℕ))) (is_inverse : Bool) (read : Network) (e : Failure) → IsNetworkOf source is_inverse read → IsPairFile source → FailsFor (IsNoName name (paths_of read) (labels_of read)) ⊥ e
+    → FailsFor (HoldsNoGraph source name) ⊥ e
+fails_unnamed source name is_inverse read e net is says =
+    let means = net.means.pairs is in
+    fails_weaker (IsNoName name (paths_of read) (labels_of read)) (HoldsNoGraph source name) ⊥ e
+    (λ none pairs held. inr (
+      labels_of read,
+      subst (λ ps. AreNames ps (labels_of read)) (pairs_unique means.pairs pairs (sym means.held ∙ held)) means.are,
+      subst (λ paths. IsNoName name paths (labels_of read)) (no_paths read (net.paths is.json)) none,
+    )) says
 
-pub fails_unnamed : (source : Source) (name : Option (Bor (List ℕ))) (is_inverse : Bool) (names : List (List ℕ)) (needs : List (ℕ × ℕ)) (e : Failure) → MeansPairs source is_inverse names needs → FailsFor (IsNoName name names) ⊥ e → FailsFor (HoldsNoGraph source name) ⊥ e
-fails_unnamed source name is_inverse names needs e is says =
-    fails_weaker (IsNoName name names) (HoldsNoGraph source name) ⊥ e
-    (λ none pairs held. inr (subst (λ ps. IsNoName name (flat_map pair_words ps)) (pairs_unique is.pairs pairs (sym is.held ∙ held)) (no_word name names is.pairs is.are none))) says
+-- the packages of a lock file, of which the name means none
+pub unnamed_lock : (source : Source) (name : Option (Bor (List ℕ))) (is_inverse : Bool) (read : Network) (d : Data) → IsNetworkOf source is_inverse read → IsLockFile source d → IsNoName name (paths_of read) (labels_of read)
+    → (names : List (List ℕ)) × (needs : List (ℕ × ℕ)) × MeansTables is_inverse (tables_in d) names needs × IsNoName name [] names
+unnamed_lock source name is_inverse read d net file none =
+    (labels_of read, needs_of read, net.means.tables d file, subst (λ paths. IsNoName name paths (labels_of read)) (no_paths read (net.paths file.file.json)) none)
 
 -- a source without lines of words has no pairs
 pub none_held : (source : Source) (found : List (Bor (List ℕ) × Bor (List ℕ))) → length found ≡ 0 → HoldsPairs source (map texts_of found) → HoldsNone source

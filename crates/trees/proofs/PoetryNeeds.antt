@@ -9,7 +9,7 @@ use Rattle.std.specs.Borrow.{Bor}
 use Rattle.std.specs.List.{All, list_any}
 use Rattle.std.specs.Map.Iter.{deref_pair}
 use Rattle.std.specs.Option.{option_and}
-use Rattle.std.specs.Prelude.{Option, Some, None, option_map, slice_get}
+use Rattle.std.specs.Prelude.{◌↔◌, Option, Some, None, option_map, slice_get}
 use Rattle.std.specs.declared.alloc.Global.{Global}
 use Rattle.ptree.proofs.Trees.ItemTrees.{map_twice}
 use Rattle.toml.specs.Data.{Data, string, integer, float, boolean, datetime, array, table, Members, as_table, get}
@@ -23,7 +23,7 @@ use Rattle.trees.specs.DependingParts.{AddsEdge, IsIndexed}
 use Rattle.trees.specs.Locking.{Package, Known, called, entries_of, is_as, is_locked, locked_entries, members_in, name_entry, normal_name, own_entries, source_text, without_revision, IsLed, IsNeeded, IsNeedTable, Leads, NameLeads, OwnLead}
 use Rattle.trees.specs.LockingParts.{packages_of, AddsEntries, IsFaulty, IsPlaceOf, NameLed}
 use Rattle.trees.proofs.LockedEdges.{needs_none, needs_more}
-use Rattle.trees.proofs.LockedEntries.{no_entries, both_entries}
+use Rattle.trees.proofs.LockedEntries.{is_table, no_entries, both_entries}
 use Rattle.trees.proofs.LockedLed.{IsOne}
 use Rattle.trees.proofs.LockedPackages.{nothing}
 
@@ -153,55 +153,20 @@ module _ (needing : Needing) where
 
 module _ (packages : List Package) where
   pub own_table : (d : Data) (ms : Members) → Some ms ≡ as_table d → own_entries packages d ≡ flat_map (λ m. locked_entries packages m.0) (members_in ms)
-  own_table (string s) ms e = cc
-  own_table (integer z) ms e = cc
-  own_table (float x) ms e = cc
-  own_table (boolean b) ms e = cc
-  own_table (datetime dt) ms e = cc
-  own_table (array ds) ms e = cc
-  own_table (table own) ms e = (let same : ms ≡ own = cc in ap (λ x. flat_map (λ m. locked_entries packages m.0) (members_in x)) (sym same))
-
-  pub own_list : (d : Data) → None ≡ as_table d → own_entries packages d ≡ entries_of d
-  own_list (string s) e = refl
-  own_list (integer z) e = refl
-  own_list (float x) e = refl
-  own_list (boolean b) e = refl
-  own_list (datetime dt) e = refl
-  own_list (array ds) e = refl
-  own_list (table ms) e = cc
+  own_table d ms e = ap (own_entries packages) (is_table d ms e)
 
   pub lead_table : (d : Data) (ms : Members) → Some ms ≡ as_table d → All (NameLeads packages) (members_in ms) → OwnLead packages d
-  lead_table (string s) ms e all = (let no : ⊥ = cc in absurd no)
-  lead_table (integer z) ms e all = (let no : ⊥ = cc in absurd no)
-  lead_table (float x) ms e all = (let no : ⊥ = cc in absurd no)
-  lead_table (boolean b) ms e all = (let no : ⊥ = cc in absurd no)
-  lead_table (datetime dt) ms e all = (let no : ⊥ = cc in absurd no)
-  lead_table (array ds) ms e all = (let no : ⊥ = cc in absurd no)
-  lead_table (table own) ms e all = (let same : ms ≡ own = cc in subst (λ x. All (NameLeads packages) (members_in x)) same all)
+  lead_table d ms e all = subst (OwnLead packages) (sym (is_table d ms e)) all
 
   pub table_lead : (d : Data) (ms : Members) → Some ms ≡ as_table d → OwnLead packages d → All (NameLeads packages) (members_in ms)
-  table_lead (string s) ms e own = (let no : ⊥ = cc in absurd no)
-  table_lead (integer z) ms e own = (let no : ⊥ = cc in absurd no)
-  table_lead (float x) ms e own = (let no : ⊥ = cc in absurd no)
-  table_lead (boolean b) ms e own = (let no : ⊥ = cc in absurd no)
-  table_lead (datetime dt) ms e own = (let no : ⊥ = cc in absurd no)
-  table_lead (array ds) ms e own = (let no : ⊥ = cc in absurd no)
-  table_lead (table t) ms e own = (let same : t ≡ ms = cc in subst (λ x. All (NameLeads packages) (members_in x)) same own)
+  table_lead d ms e own = subst (OwnLead packages) (is_table d ms e) own
 
-  pub lead_list : (d : Data) → None ≡ as_table d → IsLed packages d → OwnLead packages d
-  lead_list (string s) e led = led
-  lead_list (integer z) e led = led
-  lead_list (float x) e led = led
-  lead_list (boolean b) e led = led
-  lead_list (datetime dt) e led = led
-  lead_list (array ds) e led = led
-  lead_list (table ms) e led = (let no : ⊥ = cc in absurd no)
-
-  pub list_lead : (d : Data) → None ≡ as_table d → OwnLead packages d → IsLed packages d
-  list_lead (string s) e led = led
-  list_lead (integer z) e led = led
-  list_lead (float x) e led = led
-  list_lead (boolean b) e led = led
-  list_lead (datetime dt) e led = led
-  list_lead (array ds) e led = led
-  list_lead (table ms) e led = (let no : ⊥ = cc in absurd no)
+  -- any other value is as a list
+  pub own_list : (d : Data) → None ≡ as_table d → (own_entries packages d ≡ entries_of d) × (OwnLead packages d ↔ IsLed packages d)
+  own_list (string s) e = (refl, (λ led. led, λ led. led))
+  own_list (integer z) e = (refl, (λ led. led, λ led. led))
+  own_list (float x) e = (refl, (λ led. led, λ led. led))
+  own_list (boolean b) e = (refl, (λ led. led, λ led. led))
+  own_list (datetime dt) e = (refl, (λ led. led, λ led. led))
+  own_list (array ds) e = (refl, (λ led. led, λ led. led))
+  own_list (table ms) e = (let no : ⊥ = cc in absurd no)

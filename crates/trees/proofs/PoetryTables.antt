@@ -1,5 +1,5 @@
 -- Tables of packages whose names are brought into the form that names are compared in.
-use Rattle.std.proofs.Common.{◌≡◌, ◌∙◌, ℕ, zero, suc, ◌+◌, ◌<◌, ◌≤◌, ◌||◌, Bool, true, false, cond, List, [], ◌∷◌, codes, length, get_or, set, map, refl, sym, ap, subst, string_bytes, String, arith}
+use Rattle.std.proofs.Common.{◌≡◌, ◌∙◌, ℕ, zero, suc, ◌+◌, ◌<◌, ◌≤◌, ◌||◌, Bool, true, false, cond, List, [], ◌∷◌, length, get_or, set, map, refl, ap, subst, string_bytes, String, arith}
 use Rattle.std.specs.BTreeMap.{is_at}
 use Rattle.std.specs.Cmp.Lexicographic.{slice_cmp}
 use Rattle.std.specs.List.{list_any}
@@ -7,10 +7,10 @@ use Rattle.std.specs.Map.{lookup, set_value}
 use Rattle.std.specs.Ordering.{nat_cmp}
 use Rattle.std.specs.Prelude.{Some, None, ⊤}
 use Rattle.std.specs.declared.alloc.Global.{Global}
-use Rattle.toml.specs.Data.{Data, string, integer, float, boolean, datetime, array, table, Members, member, as_table, same_key}
+use Rattle.toml.specs.Data.{Data, string, integer, float, boolean, datetime, array, table, member, as_table, same_key}
 use Rattle.toml.specs.View.{view, members_view}
 use Rattle.toml.specs.declared.value.Value.{Value}
-use Rattle.trees.specs.Locking.{changed_at, has_table_of_needs, has_version, normal_table, normal_value}
+use Rattle.trees.specs.Locking.{changed_at, has_table_of_needs, normal_table}
 
 -- ## Members
 
@@ -39,18 +39,6 @@ module _ (key : List ℕ) (change : Data → Data) where
     by more false found = ap (member (string_bytes e.0) (view e.1)) (more found)
 
 -- ## Tables
-
-pub table_changed : (old new : Members) → has_version (table old) ≡ true → new ≡ changed_at (codes "name") normal_value old → table new ≡ normal_table (table old)
-table_changed old new has is = ap table is ∙ sym (ap (λ (b : Bool). cond b (table (changed_at (codes "name") normal_value old)) (table old)) has)
-
-pub is_table : (d : Data) (ms : Members) → Some ms ≡ as_table d → d ≡ table ms
-is_table (string s) ms e = cc
-is_table (integer z) ms e = cc
-is_table (float x) ms e = cc
-is_table (boolean b) ms e = cc
-is_table (datetime dt) ms e = cc
-is_table (array ds) ms e = cc
-is_table (table own) ms e = cc
 
 pub no_table : (d : Data) → None ≡ as_table d → d ≡ normal_table d
 no_table (string s) none = refl

@@ -41,7 +41,7 @@ abbrev pub edges_from : List (ℕ × ℕ) → ℕ → ℕ → List (ℕ × ℕ)
 edges_from edges node most = filter (range_contains edge_cmp (Included (node, 0)) (Included (node, most))) edges
 
 -- an element that passes a test
-passing_at : {X : Type 0} (p : X → Bool) (xs : List X) (x : X) (k : ℕ) → k < length xs → get_or xs k x ≡ x → p x ≡ true → Contains (filter p xs) x
+pub passing_at : {X : Type 0} (p : X → Bool) (xs : List X) (x : X) (k : ℕ) → k < length xs → get_or xs k x ≡ x → p x ≡ true → Contains (filter p xs) x
 passing_at p [] x k low is passes = absurd (omega arith)
 passing_at p (y ∷ xs) x zero low is passes =
     subst (λ (b : Bool). Contains (cond b (y ∷ filter p xs) (filter p xs)) x) (sym (ap p is ∙ passes)) (0, omega arith, is)

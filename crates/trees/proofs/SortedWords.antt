@@ -1,7 +1,7 @@
 -- Words in ascending order.
 use Rattle.std.proofs.Common.{◌≡◌, ◌≢◌, ◌∙◌, ℕ, zero, suc, ◌+◌, ◌<◌, Bool, false, List, [], ◌∷◌, length, get_or, map, inl, inr, refl, sym, ap, subst, arith}
 use Rattle.std.proofs.Math.ListN.{get_or-map}
-use Rattle.std.proofs.lemmas.Bool.{false_from_ne_true, cases_lt}
+use Rattle.std.proofs.lemmas.Bool.{cases_lt, false_from_ne_true, false≢true}
 use Rattle.std.proofs.lemmas.Cmp.{nat_list_cmp_total}
 use Rattle.std.proofs.lemmas.List.{length-map}
 use Rattle.std.proofs.lemmas.List.Filters.{dedup_is}
@@ -15,9 +15,9 @@ use Rattle.std.specs.Borrow.{Bor}
 use Rattle.std.specs.Cmp.Lexicographic.{slice_cmp, on_texts, on_texts_equal, texts_ties}
 use Rattle.std.specs.List.{HoldsAt, dedup}
 use Rattle.std.specs.List.Retain.{IsFiltered, DiffersFromLast}
-use Rattle.std.specs.List.Sorted.{IsPermutation, IsSorted, IsStrictlySortedBy, IsPartitionPoint, IsNonDecreasingBy}
+use Rattle.std.specs.List.Sorted.{IsBinarySearchResult, IsPermutation, IsSearchInRange, IsSorted, IsStrictlySortedBy, IsPartitionPoint, IsNonDecreasingBy}
 use Rattle.std.specs.Ordering.{is_lt, nat_cmp, ordering_index, ordering_reverse}
-use Rattle.std.specs.Prelude.{Contains, flat_map}
+use Rattle.std.specs.Prelude.{Contains, Decides, Result, Ok, Err, flat_map, is_ok}
 use Rattle.std.specs.Str.{bytes_eq}
 use Rattle.std.specs.declared.cmp.Ordering.{Ordering}
 use Rattle.std.specs.declared.cmp.Ordering.TheVariants.{Less, Equal, Greater}
@@ -124,16 +124,27 @@ rises names w up =
     (ap (λ (x : List ℕ). slice_cmp nat_cmp x (get_or names (k + 1) d).now) (sym (get_or-map own names k d))
     ∙ (ap (λ (y : List ℕ). slice_cmp nat_cmp (get_or (map own names) k d.now) y) (sym (get_or-map own names (k + 1) d)) ∙ less)))
 
--- one that is there is found
-pub none_missed : (names : List Text) (w : List ℕ) (i : ℕ) → IsStrictlySortedBy (slice_cmp nat_cmp) (map own names) → Contains (map own names) w → (IsNonDecreasingBy (λ (y : Text). ordering_index (slice_cmp nat_cmp y.now w)) names
+-- one that is there is found, in texts that do not fall
+pub missed : (names : List Text) (w : List ℕ) (i : ℕ) → IsNonDecreasingBy (λ (y : Text). ordering_index (slice_cmp nat_cmp y.now w)) names → Contains (map own names) w → (IsNonDecreasingBy (λ (y : Text). ordering_index (slice_cmp nat_cmp y.now w)) names
     → IsPartitionPoint (λ (y : Text). slice_cmp nat_cmp y.now w ≡ Less) (λ (y : Text). slice_cmp nat_cmp y.now w ≡ Greater) names i) → ⊥
-none_missed names w i up known parts =
+missed names w i up known parts =
     let y = from_mapped own names w known in
     let c = y.1 in
-    let point = parts (rises names w up) in
+    let point = parts up in
     let same : (get_or names c.0 y.0).now ≡ w = ap own c.2 ∙ y.2 in
     let self : (o : Ordering) → slice_cmp nat_cmp (get_or names c.0 y.0).now w ≡ o → slice_cmp nat_cmp w w ≡ o = λ o e. ap (λ (x : List ℕ). slice_cmp nat_cmp x w) (sym same) ∙ e in
     elim (cases_lt c.0 i) [
       | inl lt ↦ equal_self w (self Less (point.0 c.0 y.0 (omega arith) lt))
       | inr ge ↦ equal_self w (nat_list_cmp_total.antisymm w w ∙ ap ordering_reverse (self Greater (point.1 c.0 y.0 ge c.1)))
     ]
+
+pub none_missed : (names : List Text) (w : List ℕ) (i : ℕ) → IsStrictlySortedBy (slice_cmp nat_cmp) (map own names) → Contains (map own names) w → (IsNonDecreasingBy (λ (y : Text). ordering_index (slice_cmp nat_cmp y.now w)) names
+    → IsPartitionPoint (λ (y : Text). slice_cmp nat_cmp y.now w ≡ Less) (λ (y : Text). slice_cmp nat_cmp y.now w ≡ Greater) names i) → ⊥
+none_missed names w i up = missed names w i (rises names w up)
+
+-- what a search says of texts in order
+pub search_decides : (names : List Text) (w : List ℕ) (r : Result ℕ ℕ) → IsSorted text_cmp names → IsSearchInRange r (length names) → IsBinarySearchResult (λ (y : Text). slice_cmp nat_cmp y.now w) names r → Decides (is_ok r) (Contains (map own names) w)
+search_decides names w (Ok i) up low here =
+    let there : Text = record { ref_ptr = (0, 0); now = w } in
+    (λ yes. (i, rw length-map low, get_or-map own names i there ∙ exact_bytes (get_or names i there).now w (here there)), λ known. refl)
+search_decides names w (Err i) up low parts = (λ no. absurd (false≢true no), λ known. absurd (missed names w i (searchable_from_sorted nat_list_cmp_total own names w up) known parts))

@@ -1,6 +1,6 @@
 -- Which graph is drawn of lines of two words.
 use Rattle.std.specs.Borrow.{Bor}
-use Rattle.std.specs.Prelude.{◌≡◌, ◌<◌, ◌↔◌, ◌⊎◌, ℕ, ◌==◌, ◌&&◌, not, Bool, true, false, if◌then◌else◌, List, [], ◌∷◌, ◌++◌, filter, flat_map, length, map, reverse, slice_get, All, AllPairs, Contains, Option, Some, None, codes, string_bytes}
+use Rattle.std.specs.Prelude.{◌≡◌, ◌<◌, ◌↔◌, ◌⊎◌, ℕ, ◌==◌, ◌&&◌, not, Bool, true, false, if◌then◌else◌, List, [], ◌∷◌, ◌++◌, filter, flat_map, length, map, reverse, All, AllPairs, Contains, Option, Some, None, codes, string_bytes}
 use Rattle.std.specs.Char.{is_whitespace}
 use Rattle.std.specs.Cmp.Lexicographic.{slice_cmp}
 use Rattle.std.specs.List.{list_any, position_or_len, slice_split}
@@ -14,6 +14,7 @@ use Rattle.trees.specs.declared.deps.Dependencies.{Dependencies}
 use Rattle.trees.specs.declared.source.Source.{Source}
 use Rattle.trees.specs.Documents.{IsLastPart}
 use Rattle.trees.specs.Listing.{is_empty, unmarked}
+use Rattle.trees.specs.Naming.{IsRootNode, LacksRoot}
 use Rattle.trees.specs.Shown.{shown_text}
 
 -- ## Texts of lines
@@ -152,12 +153,11 @@ abbrev pub StandsAbove : List ℕ → List (List ℕ) → List (ℕ × ℕ) → 
 StandsAbove label names edges (top ∷ []) texts all root = (root ≡ top) × (texts ≡ names) × (all ≡ edges)
 StandsAbove label names edges tops texts all root = (root ≡ length names) × (texts ≡ names ++ label ∷ []) × (all ≡ edges ++ map (λ t. (length names, t)) tops)
 
--- the texts and edges of a graph from a root on: from the node with the name that is asked for, if it
--- is a word, and else from the nodes that lead to all
-abbrev pub IsRooted : Source → Option (Bor (List ℕ)) → List (List ℕ) → List (ℕ × ℕ) → List (List ℕ) → List (ℕ × ℕ) → ℕ → Type 0
-IsRooted source (Some name) names edges texts all root =
-    (root < length names) × (Contains names name.now → slice_get names root ≡ Some name.now) × (texts ≡ names) × (all ≡ edges)
-IsRooted source None names edges texts all root =
+-- the texts and edges of a graph from a root on: from the node that the name means, if one is asked
+-- for, and else from the nodes that lead to all
+abbrev pub IsRooted : Source → Option (Bor (List ℕ)) → List (List ℕ) → List (List ℕ) → List (ℕ × ℕ) → List (List ℕ) → List (ℕ × ℕ) → ℕ → Type 0
+IsRooted source (Some name) paths names edges texts all root = IsRootNode names paths name.now root × (texts ≡ names) × (all ≡ edges)
+IsRooted source None paths names edges texts all root =
     (label : List ℕ) × (tops : List ℕ) × IsLastPart (string_bytes source.name) label × All (λ t. t < length names) tops × AreTops edges (length names) tops × StandsAbove label names edges tops texts all root
 
 -- a graph has these texts, on a terminal escaped, and these edges, the first of a node drawn first
@@ -165,11 +165,11 @@ pub record IsGraphFrom (is_terminal : Bool) (texts : List (List ℕ)) (all : Lis
   pub weights : map string_bytes (weights_of d.graph) ≡ map (shown_text is_terminal) texts
   pub edges : edges_of d.graph ≡ reverse all
 
--- a name is asked for that is none of these
-abbrev pub IsNoName : Option (Bor (List ℕ)) → List (List ℕ) → Type 0
-IsNoName None names = ⊥
-IsNoName (Some name) names = Contains names name.now → ⊥
+-- a name is asked for that means none of these nodes
+abbrev pub IsNoName : Option (Bor (List ℕ)) → List (List ℕ) → List (List ℕ) → Type 0
+IsNoName None paths names = ⊥
+IsNoName (Some name) paths names = LacksRoot names paths name.now
 
--- the source holds no pairs, or the name that is asked for is no word of them
+-- the source holds no pairs, or the name that is asked for means none of their words
 abbrev pub HoldsNoGraph : Source → Option (Bor (List ℕ)) → Type 0
-HoldsNoGraph source root = (pairs : List (List ℕ × List ℕ)) → HoldsPairs source pairs → (pairs ≡ []) ⊎ IsNoName root (flat_map pair_words pairs)
+HoldsNoGraph source root = (pairs : List (List ℕ × List ℕ)) → HoldsPairs source pairs → (pairs ≡ []) ⊎ ((names : List (List ℕ)) × AreNames pairs names × IsNoName root [] names)

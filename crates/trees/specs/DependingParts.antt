@@ -3,14 +3,15 @@ use Rattle.std.specs.Borrow.{Bor}
 use Rattle.std.specs.BTreeSet.{contains}
 use Rattle.std.specs.Ordering.{nat_cmp, ordering_then}
 use Rattle.std.specs.declared.cmp.Ordering.{Ordering}
-use Rattle.std.specs.List.{enumerate_from, list_any, IsDistinct}
+use Rattle.std.specs.List.{list_any, range_with_len}
 use Rattle.std.specs.Str.{bytes_eq}
-use Rattle.std.specs.Prelude.{◌≡◌, ◌≢◌, ◌<◌, ◌+◌, ◌⊎◌, ℕ, Bool, not, true, false, if◌then◌else◌, List, [], ◌∷◌, ◌++◌, count_by, filter, length, map, slice_get, slice_index_or, All, AllPairs, Contains, Option, Some, None, string_bytes}
+use Rattle.std.specs.Prelude.{◌≡◌, ◌≢◌, ◌<◌, ◌+◌, ◌⊎◌, ◌||◌, ℕ, Bool, not, true, false, if◌then◌else◌, List, [], ◌∷◌, ◌++◌, count_by, filter, length, map, slice_index_or, All, AllPairs, Contains, Option, Some, None, string_bytes}
 use Rattle.ptree.specs.Graph.{numbers_of}
 use Rattle.trees.specs.declared.deps.Network.{Network}
 use Rattle.trees.specs.declared.source.Source.{Source}
-use Rattle.trees.specs.Depending.{pair_words, same_edge, edges_between, HoldsPairs, AreNames, IsClosed, HasEach, IsUnreached, AreTops, StandsAbove, IsRooted}
+use Rattle.trees.specs.Depending.{begins_object, pair_words, same_edge, edges_between, HoldsPairs, AreNames, IsClosed, HasEach, IsUnreached, AreTops, StandsAbove, IsRooted}
 use Rattle.trees.specs.Meaning.{Means}
+use Rattle.trees.specs.Naming.{is_labelled, passes_at}
 
 -- ## Lines
 
@@ -135,17 +136,26 @@ pub record AreFirsts (edges : List (ℕ × ℕ)) (nodes firsts : List ℕ) : Typ
 
 -- ## Roots
 
--- no two names are the same
-abbrev pub AreApart : List (List ℕ) → Type 0
-AreApart names = IsDistinct bytes_eq names
+-- the paths of a network's nodes
+abbrev pub paths_of : Network → List (List ℕ)
+paths_of n = map string_bytes n.paths.items
 
--- the numbers of the names that are this one
-abbrev pub places_of : List (List ℕ) → List ℕ → List ℕ
-places_of names name = map (λ p. p.0) (filter (λ p. bytes_eq p.1 name) (enumerate_from 0 names))
+-- whether a name is all of a node with a label, or a part of it
+abbrev pub is_meant : Bool → List (List ℕ) → List ℕ → ℕ → List ℕ → Bool
+is_meant true paths name i label = bytes_eq label name || passes_at (λ path. bytes_eq path name) paths i
+is_meant false paths name i label = is_labelled name label
 
--- a node has a name, if one has
-abbrev pub IsNamed : List (List ℕ) → List ℕ → ℕ → Type 0
-IsNamed names name root = (root < length names) × (Contains names name → slice_get names root ≡ Some name)
+-- the numbers below one that pass a test, in ascending order
+abbrev pub passing : (ℕ → Bool) → ℕ → List ℕ
+passing test n = filter test (range_with_len 0 n)
+
+-- whether a name is all of a node, or a part of its label
+abbrev pub means_node : Bool → List (List ℕ) → List (List ℕ) → List ℕ → ℕ → Bool
+means_node is_whole labels paths name i = passes_at (is_meant is_whole paths name i) labels i
+
+-- the nodes of which it is so
+abbrev pub meant_nodes : Bool → Network → List ℕ → List ℕ
+meant_nodes is_whole n name = passing (means_node is_whole (labels_of n) (paths_of n) name) (length (labels_of n))
 
 -- an edge between the first nodes
 abbrev pub IsWithin : ℕ → ℕ × ℕ → Type 0
@@ -164,12 +174,12 @@ AreTopsOf n tops = IsWhole n → AreTops (needs_of n) (length (labels_of n)) top
 abbrev pub IsTopped : List ℕ → Network → Network → ℕ → Type 0
 IsTopped label old new root = (tops : List ℕ) × All (λ t. t < length (labels_of old)) tops × AreTopsOf old tops × StandsAbove label (labels_of old) (needs_of old) tops (labels_of new) (needs_of new) root
 
--- a network has the nodes and edges that a source means
+-- a network has the nodes and edges that a source means, and no paths unless that is a lock file of npm
 pub record IsNetworkOf (source : Source) (is_inverse : Bool) (n : Network) : Type 0 where
   pub means : Means source is_inverse (labels_of n) (needs_of n)
-  pub paths : n.paths.items ≡ []
+  pub paths : begins_object source ≡ false → n.paths.items ≡ []
   pub whole : IsWhole n
 
 -- the root of a network is the one that is asked for
 abbrev pub HasRoot : Source → Option (Bor (List ℕ)) → Network → Network → ℕ → Type 0
-HasRoot source name old new root = IsRooted source name (labels_of old) (needs_of old) (labels_of new) (needs_of new) root
+HasRoot source name old new root = IsRooted source name (paths_of old) (labels_of old) (needs_of old) (labels_of new) (needs_of new) root

@@ -233,30 +233,27 @@ abbrev pub normal_value : Data → Data
 normal_value (string name) = string (normal_name name)
 normal_value d = d
 
--- whether a table has what `IsVersion` asks for
-abbrev pub has_version : Data → Bool
-has_version d = unwrap_or (option_map (λ v. is_some (as_str v)) (get (codes "version") d)) (is_some (option_and_then as_table (get (codes "source") d)))
-
--- a table with its name as names are compared, unless it has no version and so no package
+-- a table with its name as names are compared
 abbrev pub normal_table : Data → Data
-normal_table (table parts) = if has_version (table parts) then table (changed_at (codes "name") normal_value parts) else table parts
+normal_table (table parts) = table (changed_at (codes "name") normal_value parts)
 normal_table d = d
 
 -- tables, in a poetry.lock with their names as names are compared
 abbrev pub completed : Bool → List Data → List Data
 completed hash tables = if hash || list_any has_table_of_needs tables then map normal_table tables else tables
 
--- the tables that a lock file lists
+-- tables, and before them a root, if there is one
+abbrev pub with_root : Option Data → List Data → List Data
+with_root None tables = tables
+with_root (Some root) tables = root ∷ tables
+
+-- the tables that a lock file lists; the first versions of Cargo.lock have one of them as the root
 abbrev pub listed_tables : Data → List Data
-listed_tables d = entries_at entries_of (codes "package") d
+listed_tables d = with_root (get (codes "root") d) (entries_at entries_of (codes "package") d)
 
 -- the tables of packages
 abbrev pub tables_in : Data → List Data
 tables_in d = completed (has_hash d) (listed_tables d)
-
--- a lock file has no package besides its tables
-pub record IsPlain (d : Data) : Type 0 where
-  pub root : get (codes "root") d ≡ None
 
 -- a lock file has a list of the tables of packages
 abbrev pub HasTables : Data → Type 0
@@ -297,10 +294,9 @@ pub record NeedsLead (packages : List Package) (d : Data) : Type 0 where
   pub optional : IfSome (get (codes "optional-dependencies") d) (AreLed packages)
   pub dev : IfSome (get (codes "dev-dependencies") d) (AreLed packages)
 
--- a document is a plain lock file: of its tables no two have the same package, and all needs lead to
--- packages of these, but for those in a poetry.lock of which there is no package
+-- a document is a lock file: of its tables no two have the same package, and all needs lead to packages
+-- of these, but for those in a poetry.lock of which there is no package
 pub record IsLock (d : Data) : Type 0 where
-  pub plain : IsPlain d
   pub tables : HasTables d
   pub locked : List (Data × Package)
   pub are : ArePackages (tables_in d) locked

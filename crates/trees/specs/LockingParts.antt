@@ -3,9 +3,10 @@ use Rattle.std.specs.Borrow.{Bor}
 use Rattle.std.specs.List.{AllAdjacentBelow, AllWithin, AllZip}
 use Rattle.std.specs.List.Sorted.{IsPermutation, IsStrictlySortedBy}
 use Rattle.std.specs.Ordering.{is_lt}
-use Rattle.std.specs.Prelude.{◌≡◌, ◌≢◌, ◌<◌, ℕ, Bool, true, false, List, [], ◌++◌, codes, fold, length, map, slice_index_or, string_bytes, String, All, Any, HoldsAt, Option, Some, None, IfSome, unwrap_or, option_copied}
+use Rattle.std.specs.Str.{bytes_eq}
+use Rattle.std.specs.Prelude.{◌≡◌, ◌≢◌, ◌<◌, if◌then◌else◌, ℕ, Bool, true, false, List, [], ◌++◌, codes, fold, length, map, slice_index_or, string_bytes, String, All, Any, HoldsAt, Option, Some, None, IfSome, unwrap_or, option_copied}
 use Rattle.std.specs.declared.alloc.Global.{Global}
-use Rattle.toml.specs.Data.{Data, boolean}
+use Rattle.toml.specs.Data.{Data, boolean, get}
 use Rattle.trees.specs.declared.deps.Network.{Network}
 use Rattle.trees.specs.declared.deps.packages.Fault.{Fault}
 use Rattle.trees.specs.declared.deps.packages.Fault.TheVariants.{Missing, Several}
@@ -19,7 +20,7 @@ use Rattle.trees.specs.Documents.{IsDocumentOf}
 use Rattle.trees.specs.Depending.{directed, same_edge}
 use Rattle.trees.specs.DependingParts.{labels_of, needs_of, added, KeepsNodes, IsIndexed}
 use Rattle.trees.specs.Reading.{FailsFor}
-use Rattle.trees.specs.Locking.{Package, Known, is_as, package_cmp, IsPackage, between, called, is_locked, locked_entries, unrevised, Lacks, IsLabel, IsLock, IsNeeded, IsPlain, tables_in, edges_from, Leads}
+use Rattle.trees.specs.Locking.{Package, Known, is_as, package_cmp, IsPackage, between, called, is_locked, locked_entries, unrevised, Lacks, IsLabel, IsNeeded, tables_in, edges_from, Leads}
 use Rattle.trees.specs.Meaning.{MeansTables, NeedPlaces}
 
 -- ## Packages
@@ -152,16 +153,16 @@ AddsLabels tables ps old new = (texts : List (List ℕ)) × AllZip (IsLabel (map
 
 -- ## Lock files
 
+-- a document loses what is at a key, and nothing else
+abbrev pub Loses : List ℕ → Data → Data → Type 0
+Loses lost old new = (key : List ℕ) → get key new ≡ (if bytes_eq lost key then None else get key old)
+
 -- a network has the packages of tables, and the edges of their entries
 pub record HasLocked (is_inverse : Bool) (tables : List Data) (n : Network) : Type 0 where
   pub means : MeansTables is_inverse tables (labels_of n) (needs_of n)
   pub paths : n.paths.items ≡ []
   pub indexed : IsIndexed n
 
--- a source is the document of a lock file; of a plain one the network has the packages
+-- a source is a document, and a network has the packages of its tables
 abbrev pub HoldsLocked : Source → Bool → Network → Type 0
-HoldsLocked source is_inverse n = (d : Data) × IsDocumentOf Toml source (toml d) × (IsPlain d → HasLocked is_inverse (tables_in d) n)
-
--- its document, if it is one that is plain, is a lock file
-abbrev pub HoldsOnlyLock : Source → Type 0
-HoldsOnlyLock source = (d : Data) → IsDocumentOf Toml source (toml d) → IsPlain d → IsLock d
+HoldsLocked source is_inverse n = (d : Data) × IsDocumentOf Toml source (toml d) × HasLocked is_inverse (tables_in d) n

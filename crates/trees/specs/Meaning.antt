@@ -1,15 +1,17 @@
--- Which graph a source means: its lines are pairs of words, or it is a lock file with tables of packages.
+-- Which graph a source means: its lines are pairs of words, or it is a lock file with tables of packages, or one of npm.
 use Rattle.std.specs.Borrow.{Bor}
 use Rattle.std.specs.List.{AllZip}
-use Rattle.std.specs.Prelude.{◌≡◌, ◌≢◌, ◌⊎◌, ℕ, Bool, true, List, [], map, Option}
+use Rattle.std.specs.Prelude.{◌≡◌, ◌≢◌, ◌⊎◌, ℕ, Bool, true, List, [], map, Option, None}
+use Rattle.serde_json.specs.Data.{Data as JsonData}
 use Rattle.toml.specs.Data.{Data}
 use Rattle.ptree.specs.File.{toml}
 use Rattle.ptree.specs.declared.value.document.DocFormat.TheVariants.{Toml}
 use Rattle.trees.specs.declared.deps.Dependencies.{Dependencies}
 use Rattle.trees.specs.declared.source.Source.{Source}
-use Rattle.trees.specs.Depending.{directed, edges_between, firsts, same_edge, AreNames, HoldsPairs, IsGraphFrom, IsPairFile, IsRooted, IsTextFile}
+use Rattle.trees.specs.Depending.{directed, edges_between, firsts, same_edge, AreNames, HoldsPairs, IsGraphFrom, IsNoName, IsPairFile, IsRooted, IsTextFile}
 use Rattle.trees.specs.Documents.{IsDocumentOf}
-use Rattle.trees.specs.Locking.{Package, edges_from, entries_in, tables_in, ArePackages, IsLabel, IsLock, IsPlain, Leads}
+use Rattle.trees.specs.Locking.{Package, edges_from, entries_in, tables_in, ArePackages, IsLabel, IsLock, Leads}
+use Rattle.trees.specs.Npm.{IsNpmLockFile, MeansPackages}
 
 -- ## Sources
 
@@ -17,13 +19,13 @@ use Rattle.trees.specs.Locking.{Package, edges_from, entries_in, tables_in, AreP
 pub record IsLockFile (source : Source) (d : Data) : Type 0 where
   pub file : IsTextFile true source
   pub document : IsDocumentOf Toml source (toml d)
-  pub plain : IsPlain d
 
--- a source is read as lines of two words, or is a lock file
-abbrev pub IsPairOrLockFile : Source → Type 0
-IsPairOrLockFile source = IsPairFile source ⊎ ((d : Data) × IsLockFile source d)
+-- it is said what a source means: it is read as lines of two words, or is a lock file; of one of npm it is
+-- said if no root is asked for
+abbrev pub HasMeaning : Source → Option (Bor (List ℕ)) → Type 0
+HasMeaning source root = IsPairFile source ⊎ (((d : Data) × IsLockFile source d) ⊎ ((root ≡ None) × ((lock : JsonData) × IsNpmLockFile source lock)))
 
--- a source is the document of a plain lock file, all of whose needs lead to packages
+-- a source is the document of a lock file, all of whose needs lead to packages
 abbrev pub HoldsLock : Source → Data → Type 0
 HoldsLock source d = IsDocumentOf Toml source (toml d) × IsLock d
 
@@ -55,10 +57,16 @@ pub record MeansTables (is_inverse : Bool) (tables : List Data) (names : List (L
   pub leads : AllZip (λ l. NeedPlaces (map (λ l. l.1) locked) l.0) locked places
   pub edges : needs ≡ firsts same_edge (map (directed is_inverse) (edges_from 0 places))
 
+-- a source is the document of no such lock file, or of one in which the name that is asked for means no package
+abbrev pub HoldsNoLockGraph : Source → Option (Bor (List ℕ)) → Bool → Type 0
+HoldsNoLockGraph source root is_inverse =
+    (d : Data) → HoldsLock source d → (names : List (List ℕ)) × (needs : List (ℕ × ℕ)) × MeansTables is_inverse (tables_in d) names needs × IsNoName root [] names
+
 -- they are those that a source means
 pub record Means (source : Source) (is_inverse : Bool) (names : List (List ℕ)) (needs : List (ℕ × ℕ)) : Type 0 where
   pub pairs : IsPairFile source → MeansPairs source is_inverse names needs
   pub tables : (d : Data) → IsLockFile source d → MeansTables is_inverse (tables_in d) names needs
+  pub packages : (lock : JsonData) → IsNpmLockFile source lock → MeansPackages is_inverse source lock names needs
 
 -- ## Graphs
 
@@ -69,5 +77,5 @@ pub record IsGraphOf (source : Source) (root : Option (Bor (List ℕ))) (is_inve
   pub means : Means source is_inverse names needs
   pub texts : List (List ℕ)
   pub edges : List (ℕ × ℕ)
-  pub rooted : IsRooted source root names needs texts edges d.root.0
+  pub rooted : IsRooted source root [] names needs texts edges d.root.0
   pub graph : IsGraphFrom is_terminal texts edges d

@@ -1,21 +1,20 @@
 -- Which packages a package-lock.json has, their labels, and what they need.
 use Rattle.std.specs.Cmp.Lexicographic.{slice_cmp}
-use Rattle.std.specs.List.{AllZip, slice_split, starts_with}
+use Rattle.std.specs.List.{AllZip, starts_with}
 use Rattle.std.specs.List.Sorted.{IsSorted, IsStrictlySortedBy}
 use Rattle.std.specs.Ordering.{is_lt, nat_cmp}
-use Rattle.std.specs.Prelude.{◌≡◌, ◌≢◌, ◌==◌, ◌&&◌, ◌||◌, ◌⊎◌, ◌↔◌, ℕ, nat_eq, Bool, not, true, false, if◌then◌else◌, List, [], ◌∷◌, ◌++◌, codes, map, slice_get, All, Contains, Option, Some, None, IfSome, IsSome, MatchOption, option_and_then, option_map, unwrap_or, string_bytes}
+use Rattle.std.specs.Prelude.{◌≡◌, ◌≢◌, ◌≤◌, ◌||◌, ◌⊎◌, ◌↔◌, ℕ, nat_eq, Bool, true, false, if◌then◌else◌, List, [], ◌∷◌, ◌++◌, codes, map, length, slice_get, All, Contains, Option, Some, None, IfSome, IsSome, MatchOption, option_and_then, option_map, unwrap_or, string_bytes}
 use Rattle.std.specs.Str.{bytes_eq}
 use Rattle.std.specs.StrCase.Lower.{str_to_lowercase}
 use Rattle.serde_json.specs.Data.{Data, Members, no_members, member}
 use Rattle.serde_json.specs.Find.{get, as_bool, as_number, as_object, as_str, as_u64}
 use Rattle.ptree.specs.File.{json}
 use Rattle.ptree.specs.declared.value.document.DocFormat.TheVariants.{Json}
-use Rattle.trees.specs.declared.deps.Network.{Network}
 use Rattle.trees.specs.declared.source.Source.{Source}
-use Rattle.trees.specs.Depending.{directed, firsts, same_edge}
-use Rattle.trees.specs.DependingParts.{labels_of, needs_of}
+use Rattle.trees.specs.Depending.{directed, firsts, same_edge, IsNpmFile}
 use Rattle.trees.specs.Documents.{IsDocumentOf, IsLastPart}
 use Rattle.trees.specs.Locking.{Lacks, non_empty}
+use Rattle.trees.specs.NpmPatterns.{is_file_name, patterns_in, pieces, IsWorkspace, MayHavePatterns}
 
 -- ## Paths
 
@@ -38,6 +37,16 @@ home (b ∷ folder) = (b ∷ folder) ++ codes "/node_modules"
 -- the path of what is in there under a name
 abbrev pub path_in : List ℕ → List ℕ → List ℕ
 path_in folder name = home folder ++ (codes "/" ++ name)
+
+-- a path ends with a name: it is that, or has a slash before it
+abbrev pub EndsWith : List ℕ → List ℕ → Type 0
+EndsWith path name = (path ≡ name) ⊎ ((front : List ℕ) × (path ≡ front ++ (codes "/" ++ name)))
+
+-- the last name of a path is the longest that it ends with
+pub record IsLastName (path name : List ℕ) : Type 0 where
+  pub is : IsName name
+  pub at : EndsWith path name
+  pub longest : (other : List ℕ) → IsName other → EndsWith path other → length other ≤ length name
 
 -- ## Packages
 
@@ -80,7 +89,7 @@ around path = if bytes_eq path (codes "..") || starts_with nat_eq path (codes ".
 -- the parts of a path
 abbrev pub parts : List ℕ → List (List ℕ)
 parts [] = []
-parts (b ∷ path) = slice_split (λ c. c == 47) (b ∷ path)
+parts (b ∷ path) = pieces (b ∷ path)
 
 -- the folders of a path from the outermost on
 abbrev pub folders : List ℕ → List (List ℕ)
@@ -98,6 +107,16 @@ IsPlaced path = (folder : List ℕ) × (name : List ℕ) × IsName name × (path
 abbrev pub IsIn : List (List ℕ × Data) → ℕ → List ℕ → List ℕ → Type 0
 IsIn packages i folder name = IsName name × ((d : Data) × (slice_get packages i ≡ Some (path_in folder name, d)))
 
+-- ## Workspaces
+
+-- the name of a package: the one that it gives itself, or else the last one of its path
+abbrev pub IsNameOf : List ℕ → Data → List ℕ → Type 0
+IsNameOf path d name = MatchOption (text_at (codes "name") d) (IsLastName path name) (λ given. name ≡ given)
+
+-- patterns name a package: it is no link, and its path is that of a workspace
+abbrev pub NameWorkspace : List (List ℕ) → List (List ℕ × Data) → List ℕ → Type 0
+NameWorkspace patterns packages name = (p : List ℕ × Data) × Contains packages p × (is_link p.1 ≡ false) × IsWorkspace patterns p.0 × IsNameOf p.0 p.1 name
+
 -- ## Needs
 
 -- the names in a list of a package
@@ -108,9 +127,13 @@ names_at key d = map (λ p. p.0) (unwrap_or (option_map listed (option_and_then 
 abbrev pub names_in : Data → List (List ℕ)
 names_in d = names_at (codes "dependencies") d ++ (names_at (codes "optionalDependencies") d ++ names_at (codes "peerDependencies") d)
 
--- the package at a path names another, maybe as what it is developed with, if it is in no `node_modules`
-abbrev pub Names : List ℕ → Data → List ℕ → Type 0
-Names path d name = Contains (names_in d) name ⊎ ((IsPlaced path → ⊥) × Contains (names_at (codes "devDependencies") d) name)
+-- the lists of the package at a path name another, that of what it is developed with if it is in no `node_modules`
+abbrev pub ListsName : List ℕ → Data → List ℕ → Type 0
+ListsName path d name = Contains (names_in d) name ⊎ ((IsPlaced path → ⊥) × Contains (names_at (codes "devDependencies") d) name)
+
+-- of packages, the one at a path names another: its lists do, or it is the project and has that as a workspace
+abbrev pub Names : List (List ℕ × Data) → List ℕ → Data → List ℕ → Type 0
+Names packages path d name = ListsName path d name ⊎ ((path ≡ []) × NameWorkspace (patterns_in d) packages name)
 
 -- seen from a path, the package with a number is in the `node_modules` of a folder, which is that of the path or one above it, under a name that is the wanted one but for the case
 pub record IsSeen (packages : List (List ℕ × Data)) (path wanted : List ℕ) (i : ℕ) (folder name : List ℕ) : Type 0 where
@@ -135,18 +158,10 @@ pub record Needs (packages : List (List ℕ × Data)) (i j : ℕ) : Type 0 where
   pub value : Data
   pub is : slice_get packages i ≡ Some (path, value)
   pub name : List ℕ
-  pub named : Names path value name
+  pub named : Names packages path value name
   pub nearest : IsNearest packages path name j
 
--- the project has no workspaces
-abbrev pub HasNoWorkspaces : List (List ℕ × Data) → Type 0
-HasNoWorkspaces packages = All (λ p. p.0 ≡ [] → get (codes "workspaces") p.1 ≡ None) packages
-
 -- ## Lock files
-
--- whether a part of a path is the name of a file or folder
-abbrev pub is_file_name : List ℕ → Bool
-is_file_name part = not (bytes_eq part []) && (not (bytes_eq part (codes ".")) && not (bytes_eq part (codes "..")))
 
 -- a path leads up some folders from that of the project, and then down by names
 pub record IsPath (path : List ℕ) : Type 0 where
@@ -183,6 +198,11 @@ pub record HasLists (p : List ℕ × Data) : Type 0 where
   pub optional : MayHaveObject (codes "optionalDependencies") p.1
   pub peers : MayHaveObject (codes "peerDependencies") p.1
 
+-- what names the needs of a package is right: its lists, and the workspaces of the project
+pub record HasNames (p : List ℕ × Data) : Type 0 where
+  pub lists : HasLists p
+  pub workspaces : p.0 ≡ [] → MayHavePatterns p.1
+
 -- the version of a lock file's format
 abbrev pub format_version : Data → Option ℕ
 format_version lock = option_and_then as_u64 (option_and_then as_number (get (codes "lockfileVersion") lock))
@@ -191,19 +211,14 @@ format_version lock = option_and_then as_u64 (option_and_then as_number (get (co
 abbrev pub HasPaths : Data → Type 0
 HasPaths lock = (format_version lock ≡ Some 2) ⊎ (format_version lock ≡ Some 3)
 
--- a lock file has no links and no workspaces
-pub record IsSimple (lock : Data) : Type 0 where
-  pub links : HasNoLinks (packages_in lock)
-  pub workspaces : HasNoWorkspaces (packages_in lock)
-
--- a document is such a lock file
+-- a document is a lock file without links
 pub record IsNpmLock (lock : Data) : Type 0 where
-  pub simple : IsSimple lock
+  pub links : HasNoLinks (packages_in lock)
   pub version : HasPaths lock
   pub packages : Members
   pub are : option_and_then as_object (get (codes "packages") lock) ≡ Some packages
   pub each : All IsPackage (listed packages)
-  pub needs : All HasLists (listed packages)
+  pub needs : All HasNames (listed packages)
 
 -- a source is the document of one
 abbrev pub HoldsNpmLock : Source → Data → Type 0
@@ -212,6 +227,12 @@ HoldsNpmLock source lock = IsDocumentOf Json source (json lock) × IsNpmLock loc
 -- it is the document of none
 abbrev pub HoldsNoNpmLock : Source → Type 0
 HoldsNoNpmLock source = (lock : Data) → HoldsNpmLock source lock → ⊥
+
+-- a source is read as a lock file of npm, and has this document, without links
+pub record IsNpmLockFile (source : Source) (lock : Data) : Type 0 where
+  pub file : IsNpmFile source
+  pub document : IsDocumentOf Json source (json lock)
+  pub links : HasNoLinks (packages_in lock)
 
 -- ## Labels
 
@@ -241,21 +262,16 @@ label_text name d = name ++ (behind (codes "@npm:") (other_name name (text_at (c
 abbrev pub IsLabel : List ℕ → List ℕ × Data → List ℕ → Type 0
 IsLabel root p text = (name : List ℕ) → IsCalled root p.0 (text_at (codes "name") p.1) name → text ≡ label_text name p.1
 
--- ## Networks
+-- ## Names and edges
 
--- a network has the packages of a lock file in ascending order of their paths, with their labels, and
--- edges in the order of those that need something, each once: what they need, unless the project has workspaces
-pub record HasPackages (is_inverse : Bool) (source : Source) (lock : Data) (n : Network) : Type 0 where
+-- they are those of a lock file: the labels of its packages, in ascending order of their paths, and edges in
+-- the order of those that need something, each once: what they need
+pub record MeansPackages (is_inverse : Bool) (source : Source) (lock : Data) (names : List (List ℕ)) (needs : List (ℕ × ℕ)) : Type 0 where
   pub ascending : AreAscending (packages_in lock)
-  pub paths : map string_bytes n.paths.items ≡ map (λ p. p.0) (packages_in lock)
   pub root : List ℕ
   pub called : IsRootName source lock root
-  pub labels : AllZip (IsLabel root) (packages_in lock) (labels_of n)
-  pub needs : List (ℕ × ℕ)
-  pub in_order : IsSorted nat_cmp (map (λ e. e.0) needs)
-  pub edges : needs_of n ≡ firsts same_edge (map (directed is_inverse) needs)
-  pub are : HasNoWorkspaces (packages_in lock) → (i j : ℕ) → Contains needs (i, j) ↔ Needs (packages_in lock) i j
-
--- a source is the document of a lock file; of one without links the network has the packages
-abbrev pub HoldsPackages : Source → Bool → Network → Type 0
-HoldsPackages source is_inverse n = (lock : Data) × IsDocumentOf Json source (json lock) × (HasNoLinks (packages_in lock) → HasPackages is_inverse source lock n)
+  pub labels : AllZip (IsLabel root) (packages_in lock) names
+  pub pairs : List (ℕ × ℕ)
+  pub in_order : IsSorted nat_cmp (map (λ p. p.0) pairs)
+  pub edges : needs ≡ firsts same_edge (map (directed is_inverse) pairs)
+  pub are : (i j : ℕ) → Contains pairs (i, j) ↔ Needs (packages_in lock) i j

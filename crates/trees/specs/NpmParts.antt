@@ -15,15 +15,18 @@ use Rattle.std.specs.declared.cmp.Ordering.{Ordering}
 use Rattle.ptree.specs.File.{json}
 use Rattle.ptree.specs.declared.value.document.DocFormat.TheVariants.{Json}
 use Rattle.serde_json.specs.Data.{Data}
-use Rattle.serde_json.specs.View.{members_view}
+use Rattle.serde_json.specs.View.{members_view, view}
 use Rattle.serde_json.specs.declared.value.Value.{Value}
 use Rattle.trees.specs.declared.deps.Network.{Network}
 use Rattle.trees.specs.declared.deps.npm.Walk.{Walk}
+use Rattle.trees.specs.declared.deps.npm.Workspaces.{Workspaces}
 use Rattle.trees.specs.declared.source.Source.{Source}
-use Rattle.trees.specs.DependingParts.{labels_of}
+use Rattle.trees.specs.DependingParts.{labels_of, needs_of, IsIndexed}
 use Rattle.trees.specs.Documents.{IsDocumentOf}
+use Rattle.trees.specs.Locking.{Lacks}
 use Rattle.trees.specs.LockingParts.{AddsEdges}
-use Rattle.trees.specs.Npm.{listed, path_in, folders, names_at, AreAscending, HasLists, HasNoLinks, HasNoWorkspaces, IsIn, IsLabel, IsName, IsNearest, IsNpmLock, IsPlaced, IsSimple, Names, Needs}
+use Rattle.trees.specs.Npm.{listed, packages_in, path_in, folders, names_at, AreAscending, HasNames, HasNoLinks, IsIn, IsLabel, IsName, IsNearest, IsNpmLock, IsPlaced, ListsName, MeansPackages, Names, NameWorkspace, Needs}
+use Rattle.trees.specs.NpmPatterns.{pattern_of}
 
 -- a network gets packages: their paths and labels
 pub record AddsPackages (root : List ℕ) (packages : List (List ℕ × Data)) (old new : Network) : Type 0 where
@@ -51,9 +54,19 @@ packages_of m = listed (members_view m.entries)
 abbrev pub ArePaths : List (List ℕ × Data) → List (String Global) → Type 0
 ArePaths packages paths = map string_bytes paths ≡ map (λ p. p.0) packages
 
--- its document, if it has no links and no workspaces, is a lock file
+-- a network has the packages of a lock file, with their paths
+pub record HasPackages (is_inverse : Bool) (source : Source) (lock : Data) (n : Network) : Type 0 where
+  pub means : MeansPackages is_inverse source lock (labels_of n) (needs_of n)
+  pub paths : map string_bytes n.paths.items ≡ map (λ p. p.0) (packages_in lock)
+  pub indexed : IsIndexed n
+
+-- a source is the document of a lock file; of one without links the network has the packages
+abbrev pub HoldsPackages : Source → Bool → Network → Type 0
+HoldsPackages source is_inverse n = (lock : Data) × IsDocumentOf Json source (json lock) × (HasNoLinks (packages_in lock) → HasPackages is_inverse source lock n)
+
+-- its document, if it has no links, is a lock file
 abbrev pub HoldsOnlyNpmLock : Source → Type 0
-HoldsOnlyNpmLock source = (lock : Data) → IsDocumentOf Json source (json lock) → IsSimple lock → IsNpmLock lock
+HoldsOnlyNpmLock source = (lock : Data) → IsDocumentOf Json source (json lock) → HasNoLinks (packages_in lock) → IsNpmLock lock
 
 -- what follows each `../` at the start of a path
 pub record IsBehindUp (path rest : List ℕ) : Type 0 where
@@ -70,14 +83,27 @@ pub record IsNode (packages : List (List ℕ × Data)) (nodes : List (String Glo
   pub place : ℕ
   pub at : slice_get packages place ≡ Some p
 
+-- texts that are borrowed
+abbrev pub texts_of : List (Bor (List ℕ)) → List (List ℕ)
+texts_of texts = map (λ t. t.now) texts
+
+-- ## Workspaces
+
+-- the patterns that values are
+abbrev pub patterns_of : List Value → List (List ℕ)
+patterns_of values = map (λ v. pattern_of (view v)) values
+
+-- paths that are named, in order, and patterns with a star are together those of a list
+pub record AreSplit (patterns : List (List ℕ)) (w : Workspaces) : Type 0 where
+  pub sorted : IsSorted (λ x y. slice_cmp nat_cmp x.now y.now) w.named.items
+  pub plain : All (λ t. Lacks (codes "*") t.now) w.named.items
+  pub both : (pattern : List ℕ) → Contains patterns pattern ↔ (Contains (texts_of w.named.items) pattern ⊎ Contains (texts_of w.starred.items) pattern)
+
 -- ## Steps
 
 -- a step of a walk through folders
 abbrev pub Step : Type 0
 Step = Vec (Bor (List ℕ)) Global × Bool × Bor (List ℕ) × ℕ
-
-abbrev pub texts_of : List (Bor (List ℕ)) → List (List ℕ)
-texts_of texts = map (λ t. t.now) texts
 
 -- the folders of a step, its name and that in lower case
 abbrev pub folders_of : Step → List (List ℕ)
@@ -198,6 +224,10 @@ pub record Leaves (inner : List (List ℕ)) (old new : Walk) : Type 0 where
 
 -- ## What is needed
 
+-- the packages of a walk
+abbrev pub walked : Walk → List (List ℕ × Data)
+walked w = packages_of w.packages.now
+
 -- the edges of the needs so far
 abbrev pub needs_in : Walk → List (ℕ × ℕ)
 needs_in w = map edge_of w.needs.items
@@ -219,15 +249,21 @@ AddsDeveloped path d node old new =
     (IsPlaced path × AddsNamed node [] old new)
     ⊎ ((IsPlaced path → ⊥) × AddsNamed node (names_at (codes "devDependencies") d) old new)
 
--- and all that a package names
+-- the needs of exactly the names that are so
+abbrev pub AddsAll : (List ℕ → Type 0) → ℕ → Walk → Walk → Type 0
+AddsAll Is node old new = (names : List (List ℕ)) × ((name : List ℕ) → Contains names name ↔ Is name) × AddsNamed node names old new
+
+-- those in the lists of a package, the workspaces of patterns, and all that a package names
 abbrev pub AddsLists : List ℕ → Data → ℕ → Walk → Walk → Type 0
-AddsLists path d node old new = (names : List (List ℕ)) × ((name : List ℕ) → Contains names name ↔ Names path d name) × AddsNamed node names old new
+AddsLists path d = AddsAll (ListsName path d)
+
+abbrev pub AddsWorkspaces : List (List ℕ) → ℕ → Walk → Walk → Type 0
+AddsWorkspaces patterns node old new = AddsAll (NameWorkspace patterns (walked old)) node old new
+
+abbrev pub AddsNames : List ℕ → Data → ℕ → Walk → Walk → Type 0
+AddsNames path d node old new = AddsAll (Names (walked old) path d) node old new
 
 -- ## Walks
-
--- the packages of a walk
-abbrev pub walked : Walk → List (List ℕ × Data)
-walked w = packages_of w.packages.now
 
 -- a walk has gone no step
 pub record IsFresh (w : Walk) : Type 0 where
@@ -256,32 +292,30 @@ pub record IsAtStep (packages : List (List ℕ × Data)) (steps : List Step) (k 
   pub ready : IsReady w
   pub entered : AreEntered steps k (entered_of w)
   pub each : (i j : ℕ) → Contains (needs_in w) (i, j) → Needs packages i j
-  pub all : (s : Step) (d : Data) (name : List ℕ) (j : ℕ) → IsBefore steps k s → s.1 ≡ true → slice_get packages s.3 ≡ Some (name_of s, d) → Names (name_of s) d name → IsNearest packages (name_of s) name j
+  pub all : (s : Step) (d : Data) (name : List ℕ) (j : ℕ) → IsBefore steps k s → s.1 ≡ true → slice_get packages s.3 ≡ Some (name_of s, d) → Names packages (name_of s) d name → IsNearest packages (name_of s) name j
       → Contains (needs_in w) (s.3, j)
 
 -- edges are the needs of packages
 abbrev pub AreNeeds : List (List ℕ × Data) → List (ℕ × ℕ) → Type 0
 AreNeeds packages es = (i j : ℕ) → Contains es (i, j) ↔ Needs packages i j
 
--- the lists are right of the package that a step is at itself
+-- what names needs is right of the package that a step is at itself
 abbrev pub IsListedAt : List (List ℕ × Data) → Step → Type 0
-IsListedAt packages s = s.1 ≡ true → (d : Data) → slice_get packages s.3 ≡ Some (name_of s, d) → HasLists (name_of s, d)
+IsListedAt packages s = s.1 ≡ true → (d : Data) → slice_get packages s.3 ≡ Some (name_of s, d) → HasNames (name_of s, d)
 
--- the project has no workspaces, and the lists are right of the package at a path
+-- it is right of the package at a path
 pub record IsRightAt (packages : List (List ℕ × Data)) (path : List ℕ) : Type 0 where
   pub ascending : AreAscending packages
-  pub workspaces : HasNoWorkspaces packages
   pub place : ℕ
   pub value : Data
   pub at : slice_get packages place ≡ Some (path, value)
-  pub lists : HasLists (path, value)
+  pub names : HasNames (path, value)
 
 -- the same of all packages, of which steps are
 pub record AreRight (packages : List (List ℕ × Data)) (steps : List Step) : Type 0 where
   pub has : HasSteps packages steps
-  pub workspaces : HasNoWorkspaces packages
-  pub lists : All HasLists packages
+  pub names : All HasNames packages
 
 -- a network gets the needs of packages, in the order of the nodes that they begin at
 abbrev pub AddsNearest : List (List ℕ × Data) → List Step → Network → Network → Type 0
-AddsNearest packages steps old new = (es : List (ℕ × ℕ)) × AddsInOrder old new es × (HasSteps packages steps → HasNoWorkspaces packages → AreNeeds packages es)
+AddsNearest packages steps old new = (es : List (ℕ × ℕ)) × AddsInOrder old new es × (HasSteps packages steps → AreNeeds packages es)

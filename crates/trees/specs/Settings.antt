@@ -1,5 +1,5 @@
 -- What `config` writes of the settings.
-use Rattle.std.specs.Prelude.{◌≡◌, ◌⊎◌, ⊤, ℕ, Bool, if◌then◌else◌, List, [], ◌++◌, codes, decimal, Option, Some, None, option_map, unwrap_or}
+use Rattle.std.specs.Prelude.{◌≡◌, ◌≢◌, ◌⊎◌, ⊤, ℕ, Bool, if◌then◌else◌, List, [], ◌++◌, codes, decimal, Option, Some, None, option_map, unwrap_or}
 use Rattle.std.proofs.Common.{inl, inr}
 use Rattle.ptree.specs.declared.print_config.StyleWhen.{StyleWhen}
 use Rattle.ptree.specs.declared.print_config.StyleWhen.TheVariants.{Never, Always, Tty}
@@ -76,7 +76,7 @@ IsValueText config Continued text = text ≡ quoted config.continued
 abbrev pub IsSettingLine : ConfigValue → Field → List ℕ → Type 0
 IsSettingLine config field line =
     ((field ≡ Characters) × (line ≡ []))
-    ⊎ ((value : List ℕ) × (origin : List ℕ) × IsValueText config field value × (line ≡ (setting_name field ++ (codes ": " ++ value)) ++ (codes " (" ++ (origin ++ codes ")\n"))))
+    ⊎ ((field ≢ Characters) × (value : List ℕ) × (origin : List ℕ) × IsValueText config field value × (line ≡ (setting_name field ++ (codes ": " ++ value)) ++ (codes " (" ++ (origin ++ codes ")\n"))))
 
 -- a text ends with such lines of all fields, in their order
 abbrev pub SaysSettings : ConfigValue → List ℕ → Type 0

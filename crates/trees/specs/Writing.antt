@@ -36,7 +36,7 @@ use Rattle.trees.specs.Changing.{IsConverted, FailsToConvert}
 use Rattle.trees.specs.Depending.{IsNpmFile, IsPairFile, IsTextFile, HoldsNoGraph}
 use Rattle.trees.specs.Documents.{IsPartTree, NamesWrong}
 use Rattle.trees.specs.Listing.{IsListed, FailsToList}
-use Rattle.trees.specs.Meaning.{HoldsNoLock, IsGraphOf, IsPairOrLockFile}
+use Rattle.trees.specs.Meaning.{HasMeaning, HoldsNoLockGraph, IsGraphOf}
 use Rattle.trees.specs.Npm.{HoldsNoNpmLock}
 use Rattle.trees.specs.Merging.{IsMergeDrawing, IsMergeCode}
 use Rattle.trees.specs.Outlining.{text_or, HoldsOutline, FailsToOutline, IsReadBack, LosesText}
@@ -151,31 +151,21 @@ FailsToGive source (given.Outline outline) e = FailsToOutline source outline e
 abbrev pub Draws : {A : Type 0} → Sources → Source → Given → Drawing → Option (List ℕ) → Option (List ℕ) → Result A Failure → Type 0
 Draws sources source tree drawing old new result = Writes old new result (IsDrawingOf sources drawing (IsGiven source tree)) (FailsToGive source tree)
 
--- the bytes are the drawing, as it is asked for, of the graph that a source means
+-- the bytes are the drawing, as it is asked for, of a graph: the one that the source means, if that is said
 abbrev pub IsNeedsDrawing : Sources → Source → Deps → Drawing → List ℕ → Type 0
 IsNeedsDrawing sources source deps drawing bytes =
-    (d : Dependencies) × IsGraphOf source deps.root deps.is_inverse drawing.screen.is_terminal d × IsGraphDrawing (drawing_value sources drawing) d deps.walks bytes
+    (d : Dependencies) × (HasMeaning source deps.root → IsGraphOf source deps.root deps.is_inverse drawing.screen.is_terminal d) × IsGraphDrawing (drawing_value sources drawing) d deps.walks bytes
 
--- what each failure before anything is written says: the source holds no such graph, or no such lock
--- file, of which no root is asked for, or more than 5,000 levels are asked for, or memory ran out
+-- what each failure before anything is written says: the source holds no such graph, or more than 5,000
+-- levels are asked for, or memory ran out
 pub record FailsToDepend (sources : Sources) (source : Source) (deps : Deps) (drawing : Drawing) (e : Failure) : Type 0 where
   pub pairs : IsPairFile source → FailsFor (HoldsNoGraph source deps.root ⊎ (5000 < (drawing_value sources drawing).depth)) ⊥ e
-  pub lock : IsTextFile true source → deps.root ≡ None → FailsFor (HoldsNoLock source ⊎ (5000 < (drawing_value sources drawing).depth)) ⊥ e
+  pub lock : IsTextFile true source → FailsFor (HoldsNoLockGraph source deps.root deps.is_inverse ⊎ (5000 < (drawing_value sources drawing).depth)) ⊥ e
+  pub packages : IsNpmFile source → deps.root ≡ None → FailsFor (HoldsNoNpmLock source ⊎ (5000 < (drawing_value sources drawing).depth)) ⊥ e
 
--- of a source that is read as lines of two words, or is a lock file, the drawing of its graph is written
+-- the drawing of the graph of an input is written
 abbrev pub DrawsNeeds : {A : Type 0} → Sources → Source → Deps → Drawing → Option (List ℕ) → Option (List ℕ) → Result A Failure → Type 0
-DrawsNeeds sources source deps drawing old new result = IsPairOrLockFile source → Writes old new result (IsNeedsDrawing sources source deps drawing) (FailsToDepend sources source deps drawing)
-
--- the bytes are the drawing, as it is asked for, of some graph
-abbrev pub IsSomeDrawing : Sources → Deps → Drawing → List ℕ → Type 0
-IsSomeDrawing sources deps drawing bytes = (d : Dependencies) × IsGraphDrawing (drawing_value sources drawing) d deps.walks bytes
-
--- of a source that is read as a lock file of npm, of which no root is asked for, a drawing is written; that
--- fails before only if the source holds no such file without links and workspaces, or more than 5,000
--- levels are asked for, or memory ran out
-abbrev pub DrawsNpm : {A : Type 0} → Sources → Source → Deps → Drawing → Option (List ℕ) → Option (List ℕ) → Result A Failure → Type 0
-DrawsNpm sources source deps drawing old new result =
-    IsNpmFile source → deps.root ≡ None → Writes old new result (IsSomeDrawing sources deps drawing) (FailsFor (HoldsNoNpmLock source ⊎ (5000 < (drawing_value sources drawing).depth)) ⊥)
+DrawsNeeds sources source deps drawing old new result = Writes old new result (IsNeedsDrawing sources source deps drawing) (FailsToDepend sources source deps drawing)
 
 -- the bytes are what `convert` writes of a source
 abbrev pub IsConversion : Sources → Source → Convert → List ℕ → Type 0
@@ -234,7 +224,7 @@ AreSettings sources bytes = (said : List ℕ) × SaysSettings (effective_config 
 abbrev pub WritesOfCommand : {A : Type 0} → Sources → Command → Option (List ℕ) → Option (List ℕ) → Result A Failure → Type 0
 WritesOfCommand sources (command.Convert source convert) old new result = Converts sources source.now convert old new result × ConvertsBack sources source.now convert old new result
 WritesOfCommand sources (command.Draw source tree drawing) old new result = Draws sources source.now tree drawing old new result
-WritesOfCommand sources (command.Deps source deps drawing) old new result = DrawsNeeds sources source.now deps drawing old new result × DrawsNpm sources source.now deps drawing old new result
+WritesOfCommand sources (command.Deps source deps drawing) old new result = DrawsNeeds sources source.now deps drawing old new result
 WritesOfCommand sources (command.Indented source indented) old new result = Writes old new result (IsIndentation sources source.now indented) (FailsToIndent sources source.now indented)
 WritesOfCommand sources (command.Check inputs pieces screen) old new result = WritesSaid old new result (AreReports sources inputs.now pieces screen.is_terminal)
 WritesOfCommand sources (command.Diff left right diff) old new result = Compares sources left.now right.now diff old new result

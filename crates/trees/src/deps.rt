@@ -1,10 +1,10 @@
 //! Dependencies of lock files and of lists of pairs.
-ghost use Rattle.std.specs.Prelude.{◌≡◌, ⊤, ℕ, List, true, None, [], length, map, Any, IfSome, IfOk, IfErr, OnOk, string_bytes};
+ghost use Rattle.std.specs.Prelude.{◌≡◌, ⊤, ℕ, List, true, None, length, map, Any, IfSome, IfOk, IfErr, OnOk, string_bytes};
 ghost use Rattle.ptree.specs.Graph.{weights_of, edges_of, LacksNode};
 ghost use Rattle.trees.specs.Depending.{HasOwnLines, HasOwnName, IsNpmFile, IsPairFile, IsTextFile, IsNoName, HoldsNoGraph};
-ghost use Rattle.trees.specs.DependingParts.{labels_of, needs_of, AreApart, HasRoot, HoldsNone, IsEmpty, IsNetworkOf, IsTopped, IsWhole};
-ghost use Rattle.trees.specs.Meaning.{HoldsNoLock, IsGraphOf, IsPairOrLockFile};
-ghost use Rattle.trees.specs.Npm.{HoldsNpmLock, HoldsPackages};
+ghost use Rattle.trees.specs.DependingParts.{labels_of, needs_of, paths_of, HasRoot, HoldsNone, IsEmpty, IsNetworkOf, IsTopped, IsWhole};
+ghost use Rattle.trees.specs.Meaning.{HasMeaning, HoldsNoLock, HoldsNoLockGraph, IsGraphOf};
+ghost use Rattle.trees.specs.Npm.{HoldsNpmLock};
 ghost use Rattle.trees.specs.Reading.{IsInput, FailsFor, FailsToMake};
 ghost use Rattle.trees.specs.Shown.{shown_text, AreShownLabels};
 
@@ -96,12 +96,12 @@ pub fn read_dependencies(
     is_terminal: bool,
 ) -> Result<Dependencies, Failure>
     ensures labels { IfOk result (λ d. is_terminal ≡ true → AreShownLabels d.graph) }
-    ensures graph { IsPairOrLockFile source.now → IfOk result
+    ensures graph { HasMeaning source.now deps.entry.root → IfOk result
         (IsGraphOf source.now deps.entry.root deps.entry.is_inverse is_terminal) }
     ensures failed { IsPairFile source.now
         → IfErr result (FailsFor (HoldsNoGraph source.now deps.entry.root) ⊥) }
-    ensures refused { IsTextFile true source.now → deps.entry.root ≡ None
-        → IfErr result (FailsFor (HoldsNoLock source.now) ⊥) }
+    ensures refused { IsTextFile true source.now → IfErr result
+        (FailsFor (HoldsNoLockGraph source.now deps.entry.root deps.entry.is_inverse) ⊥) }
     ensures npm { IsNpmFile source.now → deps.entry.root ≡ None
         → IfErr result (FailsToMake ⊥ (HoldsNpmLock source.now)) }
 {
@@ -127,12 +127,12 @@ fn drawn(
     is_terminal: bool,
 ) -> Result<Dependencies, Failure>
     ensures labels { IfOk result (λ d. is_terminal ≡ true → AreShownLabels d.graph) }
-    ensures graph { IsPairOrLockFile source.now → IsEmpty network.old → IfOk result
+    ensures graph { HasMeaning source.now name.entry → IsEmpty network.old → IfOk result
         (IsGraphOf source.now name.entry network.old.is_inverse is_terminal) }
     ensures failed { IsPairFile source.now → IsEmpty network.old
         → IfErr result (FailsFor (HoldsNoGraph source.now name.entry) ⊥) }
-    ensures refused { IsTextFile true source.now → name.entry ≡ None → IsEmpty network.old
-        → IfErr result (FailsFor (HoldsNoLock source.now) ⊥) }
+    ensures refused { IsTextFile true source.now → IsEmpty network.old → IfErr result
+        (FailsFor (HoldsNoLockGraph source.now name.entry network.old.is_inverse) ⊥) }
     ensures npm { IsNpmFile source.now → name.entry ≡ None → IsEmpty network.old
         → IfErr result (FailsToMake ⊥ (HoldsNpmLock source.now)) }
 {
@@ -146,13 +146,11 @@ fn drawn(
 
 // Reads the dependencies of an input in one of the forms.
 fn read_network(alloc: Global, source: &Source, network: &mut Network) -> Result<(), Failure>
-    ensures held { IsPairOrLockFile source.now → IsEmpty network.old → OnOk result
+    ensures held { HasMeaning source.now None → IsEmpty network.old → OnOk result
         (IsNetworkOf source.now network.old.is_inverse network.new) }
     ensures failed { IsPairFile source.now → IfErr result (FailsFor (HoldsNone source.now) ⊥) }
     ensures refused { IsTextFile true source.now
         → IfErr result (FailsFor (HoldsNoLock source.now) ⊥) }
-    ensures packages { IsNpmFile source.now → IsEmpty network.old → OnOk result
-        (HoldsPackages source.now network.old.is_inverse network.new) }
     ensures npm { IsNpmFile source.now → IsEmpty network.old
         → IfErr result (FailsToMake ⊥ (HoldsNpmLock source.now)) }
 {
@@ -197,12 +195,10 @@ fn root_of(
     network: &mut Network,
     name: Option<&str>,
 ) -> Result<NodeIndex, Failure>
-    ensures root { network.old.paths.items ≡ [] → IsWhole network.old → IfOk result
+    ensures root { IsWhole network.old → IfOk result
         (λ r. HasRoot source.now name.entry network.old network.new r.0) }
-    ensures failed { network.old.paths.items ≡ [] → AreApart (labels_of network.old)
-        → IfErr result (FailsFor (IsNoName name.entry (labels_of network.old)) ⊥) }
-    ensures top { name.entry ≡ None → IfOk result
-        (λ r. (label : List ℕ) × IsTopped label network.old network.new r.0) }
+    ensures failed { IfErr result
+        (FailsFor (IsNoName name.entry (paths_of network.old) (labels_of network.old)) ⊥) }
     ensures memory { name.entry ≡ None → IfErr result (FailsFor ⊥ ⊥) }
 {
     match name {

@@ -17,7 +17,7 @@ ghost use Rattle.trees.specs.Merging.{IsMergeDrawing};
 ghost use Rattle.trees.specs.Reading.{HoldsDrawing, HoldsNoOther, HoldsSome, IsRedrawn, FailsFor, FailsToRead, FailsToMake, NamesPlace, IsReport, Adds, item_word, count_line};
 ghost use Rattle.trees.specs.Shown.{IsNone, ShowsOnly};
 ghost use Rattle.trees.specs.Telling.{TellsWhether, TellsOnlyIf, TellsOfTexts, TellsOfCommand};
-ghost use Rattle.trees.specs.Writing.{WritesSaid, AreReports, AreSettings, Writes, IsTreeDrawing, IsGraphDrawing, WritesDrawn, IsIndentation, FailsToIndent, IsGiven, FailsToGive, Draws, DrawsNeeds, DrawsNpm, Converts, ConvertsBack, WritesOfCommand, ShowsOfCommand, ShowsDrawing, ShowsMerged, LeavesIfWrong, WritesRefusal, Compares};
+ghost use Rattle.trees.specs.Writing.{WritesSaid, AreReports, AreSettings, Writes, IsTreeDrawing, IsGraphDrawing, WritesDrawn, IsIndentation, FailsToIndent, IsGiven, FailsToGive, Draws, DrawsNeeds, Converts, ConvertsBack, WritesOfCommand, ShowsOfCommand, ShowsDrawing, ShowsMerged, LeavesIfWrong, WritesRefusal, Compares};
 
 use crate::command::{Command, Convert, Deps, Diff, Drawing, Indented, Paths, Tree};
 use crate::compare::{self, Look};
@@ -307,8 +307,6 @@ fn draw_deps<W: Sink>(
     found: &Surroundings,
 ) -> Result<(), Failure>
     ensures written { DrawsNeeds found.now.sources source.now deps.entry drawing
-        (W.contents out.old) (W.contents out.new) result }
-    ensures npm { DrawsNpm found.now.sources source.now deps.entry drawing
         (W.contents out.old) (W.contents out.new) result }
     ensures quiet { LeavesIfWrong out.old out.new result }
     ensures shown { ShowsDrawing found.now.sources drawing

@@ -9,8 +9,9 @@ ghost use Rattle.serde_json.specs.View.{view, members_view};
 ghost use Rattle.trees.specs.DependingParts.{IsEmpty, IsIndexed};
 ghost use Rattle.trees.specs.Documents.{IsLastPart};
 ghost use Rattle.trees.specs.LockingParts.{AddsEdges, FailsUnless};
-ghost use Rattle.trees.specs.Npm.{path_in, packages_in, with_project, listed, text_at, is_link, other_name, behind, around, folders, format_version, is_file_name, IsName, IsPath, IsRootName, IsCalled, IsLabel, IsNpmLock, IsPackage, IsSimple, AreAscending, HasLists, HasNoLinks, HasNoWorkspaces, HasPackages, HasPaths, HoldsNpmLock, HoldsPackages, MayBeLink, MayHaveText};
-ghost use Rattle.trees.specs.NpmParts.{AddsPackages, AddsNearest, AddsSteps, AddsStepsIn, ArePaths, AreRight, HasSteps, HoldsOnlyNpmLock, IsBehindUp, IsNode, chosen, edge_of, packages_of, texts_of};
+ghost use Rattle.trees.specs.Npm.{path_in, packages_in, with_project, listed, text_at, is_link, other_name, behind, around, folders, format_version, IsLastName, IsName, IsNameOf, IsPath, IsRootName, IsCalled, IsLabel, IsNpmLock, IsPackage, AreAscending, HasNames, HasNoLinks, HasPaths, HoldsNpmLock, MayBeLink, MayHaveText};
+ghost use Rattle.trees.specs.NpmParts.{AddsPackages, AddsNearest, AddsSteps, AddsStepsIn, ArePaths, AreRight, HasPackages, HasSteps, HoldsOnlyNpmLock, HoldsPackages, IsBehindUp, IsNode, chosen, edge_of, packages_of, texts_of};
+ghost use Rattle.trees.specs.NpmPatterns.{is_file_name, is_glob, is_hidden, is_literal, is_part, pattern_list, pieces, plain, ArePatterns, IsOutside, IsPattern, IsPatternText, LiesIn, Means};
 ghost use Rattle.trees.specs.Reading.{FailsFor, FailsToMake};
 
 use crate::deps::{Network, wrong};
@@ -55,7 +56,7 @@ pub fn package_lock(alloc: Global, source: &Source, network: &mut Network) -> Re
 fn read(alloc: Global, source: &Source, lock: &Value, network: &mut Network) -> Result<(), Failure>
     ensures held { HasNoLinks (packages_in (view lock.now)) → IsEmpty network.old → OnOk result
         (HasPackages network.old.is_inverse source.now (view lock.now) network.new) }
-    ensures only { IsSimple (view lock.now) → IsEmpty network.old
+    ensures only { HasNoLinks (packages_in (view lock.now)) → IsEmpty network.old
         → OnOk result (IsNpmLock (view lock.now)) }
     ensures failed { IsEmpty network.old
         → IfErr result (FailsUnless (IsNpmLock (view lock.now))) }
@@ -316,7 +317,7 @@ fn behind_up(path: &str) -> &str
 
 // Whether the parts of a path are names.
 fn are_names(path: &str) -> bool
-    ensures { result ≡ list_all is_file_name (slice_split (λ b. b == 47) path.now) }
+    ensures { result ≡ list_all is_file_name (pieces path.now) }
 {
     path.split('/').all(|part| is_name(part))
 }
@@ -345,7 +346,9 @@ fn drawn_name<'a>(path: &'a str, package: &'a Value) -> &'a str {
 }
 
 // Returns the name of a package: the one that is given, or the last one of its path.
-fn name_of<'a>(path: &'a str, package: &'a Value) -> &'a str {
+fn name_of<'a>(path: &'a str, package: &'a Value) -> &'a str
+    ensures { IsNameOf path.now (view «package».now) result.now }
+{
     word(package, "name").unwrap_or(last_name(path))
 }
 
@@ -437,7 +440,7 @@ fn push_behind(label: &mut String, before: &str, text: Option<&str>) -> Result<(
 fn last_name(path: &str) -> &str
     ensures last { (folder name : List ℕ) → IsName name → path.now ≡ path_in folder name
         → result.now ≡ name }
-    ensures name { IsName result.now }
+    ensures is { IsLastName path.now result.now }
 {
     let Some((above, name)) = path.rsplit_once('/') else {
         return path;
@@ -629,8 +632,7 @@ fn push_needs<'a>(
     ensures added { IsIndexed network.old → OnOk result
         (AddsNearest (packages_of packages.now) steps.now network.old network.new) }
     ensures only { HasSteps (packages_of packages.now) steps.now
-        → HasNoWorkspaces (packages_of packages.now)
-        → OnOk result (All HasLists (packages_of packages.now)) }
+        → OnOk result (All HasNames (packages_of packages.now)) }
     ensures failed { IfErr result
         (FailsUnless (AreRight (packages_of packages.now) steps.now)) }
 {
@@ -677,15 +679,15 @@ struct Walk<'s, 'a> {
 }
 
 impl<'s, 'a> Walk<'s, 'a> {
-    ghost use Rattle.std.specs.Prelude.{◌≡◌, ◌∷◌, ◌+◌, ℕ, ⊤, [], List, codes, map, All, Some, IfErr, OnOk, slice_get};
+    ghost use Rattle.std.specs.Prelude.{◌≡◌, ◌∷◌, ◌+◌, ℕ, [], List, codes, map, All, Some, IfErr, OnOk, slice_get};
     ghost use Rattle.std.specs.StrCase.Lower.{str_to_lowercase};
     ghost use Rattle.serde_json.specs.Data.{Data};
     ghost use Rattle.serde_json.specs.View.{view};
     ghost use Rattle.trees.specs.DependingParts.{IsIndexed};
     ghost use Rattle.trees.specs.LockingParts.{FailsUnless};
-    ghost use Rattle.trees.specs.Reading.{FailsFor};
-    ghost use Rattle.trees.specs.Npm.{names_at, AreAscending, HasLists, HasNoWorkspaces, IsPlaced, MayHaveObject};
-    ghost use Rattle.trees.specs.NpmParts.{Step, nearest_of, entered_of, texts_of, packages_of, walked, IsReady, IsFresh, HasSteps, IsAtStep, IsListedAt, IsRightAt, AreRight, Enters, Leaves, AddsNamed, AddsDeveloped, AddsLists, AddsNearest};
+    ghost use Rattle.trees.specs.Npm.{names_at, AreAscending, HasLists, HasNames, IsPlaced, MayHaveObject};
+    ghost use Rattle.trees.specs.NpmParts.{Step, nearest_of, entered_of, texts_of, packages_of, patterns_of, walked, IsReady, IsFresh, HasSteps, IsAtStep, IsListedAt, IsRightAt, AreRight, Enters, Leaves, AddsNamed, AddsDeveloped, AddsLists, AddsNames, AddsWorkspaces, AddsNearest};
+    ghost use Rattle.trees.specs.NpmPatterns.{patterns_in, IsPattern, MayHavePatterns};
 
     // Goes these steps, and adds what packages need.
     fn add(
@@ -698,7 +700,7 @@ impl<'s, 'a> Walk<'s, 'a> {
         ensures added { IsFresh self.old → IsIndexed network.old → OnOk result
             (AddsNearest (walked self.old) steps.now network.old network.new) }
         ensures only { IsFresh self.old → HasSteps (walked self.old) steps.now
-            → HasNoWorkspaces (walked self.old) → OnOk result (All HasLists (walked self.old)) }
+            → OnOk result (All HasNames (walked self.old)) }
         ensures failed { IsFresh self.old
             → IfErr result (FailsUnless (AreRight (walked self.old) steps.now)) }
     {
@@ -712,12 +714,12 @@ impl<'s, 'a> Walk<'s, 'a> {
     // Goes a step.
     fn go(&mut self, alloc: Global, source: &Source, step: &'s Step<'a>) -> Result<(), Failure>
         ensures at { (packages : List (List ℕ × Data)) (steps : List Step) (k : ℕ)
-            → HasSteps packages steps → HasNoWorkspaces packages
-            → slice_get steps k ≡ Some step.now → IsAtStep packages steps k self.old
+            → HasSteps packages steps → slice_get steps k ≡ Some step.now
+            → IsAtStep packages steps k self.old
             → OnOk result (IsAtStep packages steps (k + 1) self.new) }
         ensures only { (packages : List (List ℕ × Data)) (steps : List Step) (k : ℕ)
-            → HasSteps packages steps → HasNoWorkspaces packages
-            → slice_get steps k ≡ Some step.now → IsAtStep packages steps k self.old
+            → HasSteps packages steps → slice_get steps k ≡ Some step.now
+            → IsAtStep packages steps k self.old
             → OnOk result (IsListedAt packages step.now) }
         ensures failed { (packages : List (List ℕ × Data)) (steps : List Step) (k : ℕ)
             → slice_get steps k ≡ Some step.now → IfErr result
@@ -766,24 +768,22 @@ impl<'s, 'a> Walk<'s, 'a> {
         node: usize,
         path: &str,
     ) -> Result<(), Failure>
-        ensures added { AreAscending (walked self.old) → HasNoWorkspaces (walked self.old)
-            → IsReady self.old → (i : ℕ) (d : Data)
+        ensures added { AreAscending (walked self.old) → IsReady self.old → (i : ℕ) (d : Data)
             → slice_get (walked self.old) i ≡ Some (path.now, d)
-            → OnOk result (AddsLists path.now d node self.old self.new) }
+            → OnOk result (AddsNames path.now d node self.old self.new) }
         ensures only { AreAscending (walked self.old) → (i : ℕ) (d : Data)
             → slice_get (walked self.old) i ≡ Some (path.now, d)
-            → OnOk result (HasLists (path.now, d)) }
+            → OnOk result (HasNames (path.now, d)) }
         ensures failed { IfErr result (FailsUnless (IsRightAt (walked self.old) path.now)) }
     {
         let Some(package) = self.packages.get(path) else {
             return Ok(());
         };
         self.push_lists(alloc, source, node, path, package)?;
-        match package.get("workspaces") {
-            Some(workspaces) if path.is_empty() => {
-                self.push_workspaces(alloc, source, node, workspaces)
-            }
-            _ => Ok(()),
+        if path.is_empty() {
+            self.push_workspaces(alloc, source, node, package)
+        } else {
+            Ok(())
         }
     }
 
@@ -871,20 +871,39 @@ impl<'s, 'a> Walk<'s, 'a> {
         Ok(())
     }
 
-    // Adds the need of the workspaces, each by the name of its package.
+    // Adds the need of the workspaces of the project, if it has some.
     fn push_workspaces(
         &mut self,
         alloc: Global,
         source: &Source,
         node: usize,
-        workspaces: &Value,
+        project: &Value,
     ) -> Result<(), Failure>
-        ensures { IfErr result (FailsFor ⊤ ⊥) }
+        ensures added { IsReady self.old → OnOk result
+            (AddsWorkspaces (patterns_in (view project.now)) node self.old self.new) }
+        ensures only { OnOk result (MayHavePatterns (view project.now)) }
+        ensures failed { IfErr result (FailsUnless (MayHavePatterns (view project.now))) }
     {
+        let Some(workspaces) = project.get("workspaces") else {
+            return Ok(());
+        };
         let patterns = patterns(alloc, source, workspaces)?;
+        Ok(self.push_meant(alloc, node, patterns)?)
+    }
+
+    // Adds the need of those that patterns mean, each by the name of its package.
+    fn push_meant(
+        &mut self,
+        alloc: Global,
+        node: usize,
+        patterns: &[Value],
+    ) -> Result<(), AllocError>
+        ensures { All IsPattern (patterns_of patterns.now) → IsReady self.old → OnOk result
+            (AddsWorkspaces (patterns_of patterns.now) node self.old self.new) }
+    {
         let meant = Workspaces::of(alloc, patterns)?;
         for (path, package) in self.packages.iter() {
-            if !is_link(package) && meant.has(path.as_str()) {
+            if meant.has(path.as_str(), package) {
                 self.push_need(alloc, node, name_of(path.as_str(), package))?;
             }
         }
@@ -930,15 +949,17 @@ fn patterns<'a>(
     source: &Source,
     workspaces: &'a Value,
 ) -> Result<&'a [Value], Failure>
-    ensures { IfErr result (FailsFor ⊤ ⊥) }
+    ensures made { IfOk result
+        (λ all. pattern_list (view workspaces.now) ≡ Some (map view all.now)) }
+    ensures only { OnOk result (ArePatterns (view workspaces.now)) }
+    ensures failed { IfErr result (FailsUnless (ArePatterns (view workspaces.now))) }
 {
     let Some(patterns) = workspaces.get("packages").unwrap_or(workspaces).as_array() else {
         return Err(wrong(alloc, source, &["workspaces is not a list"]));
     };
     for pattern in patterns {
-        match pattern.as_str() {
-            Some(text) if is_plain(text) => {}
-            _ => return Err(not_plain(alloc, source, pattern)?),
+        if !is_pattern(pattern) {
+            return Err(not_plain(alloc, source, pattern)?);
         }
     }
     Ok(patterns)
@@ -953,27 +974,62 @@ fn not_plain(alloc: Global, source: &Source, pattern: &Value) -> Result<Failure,
     Ok(wrong(alloc, source, &parts))
 }
 
+// Whether a value is a pattern that is read.
+fn is_pattern(value: &Value) -> bool
+    ensures { Decides result (IsPatternText (view value.now)) }
+{
+    match value.as_str() {
+        Some(text) => is_plain(plain(text)),
+        None => false,
+    }
+}
+
 // Returns a pattern without a `./` before it and slashes around it.
-fn plain(pattern: &str) -> &str {
+fn plain(pattern: &str) -> &str
+    ensures { result.now ≡ plain pattern.now }
+{
     let pattern = pattern.strip_prefix("./").unwrap_or(pattern);
     let pattern = pattern.strip_prefix('/').unwrap_or(pattern);
     pattern.strip_suffix('/').unwrap_or(pattern)
 }
 
 // Whether a pattern has only names and `*`, and at its end `**`.
-fn is_plain(pattern: &str) -> bool {
-    let above = match plain(pattern) {
-        "**" => return true,
-        pattern => pattern.strip_suffix("/**").unwrap_or(pattern),
-    };
-    behind_up(above)
-        .split('/')
-        .all(|part| part == "*" || is_name(part) && is_literal(part))
+fn is_plain(pattern: &str) -> bool
+    ensures { Decides result (IsPattern pattern.now) }
+{
+    if pattern == "**" {
+        return true;
+    }
+    let above = pattern.strip_suffix("/**").unwrap_or(pattern);
+    are_parts(behind_up(above))
+}
+
+// Whether the parts of a pattern are names and `*`.
+fn are_parts(pattern: &str) -> bool
+    ensures { result ≡ list_all is_part (pieces pattern.now) }
+{
+    pattern.split('/').all(|part| is_part(part))
+}
+
+// Whether a part of a pattern is `*`, or a name that means itself.
+fn is_part(part: &str) -> bool
+    ensures { result ≡ is_part part.now }
+{
+    part == "*" || is_name(part) && is_literal(part)
 }
 
 // Whether a part of a pattern means itself.
-fn is_literal(part: &str) -> bool {
-    !part.contains(|c: char| "*?[]{}()!\\".contains(c))
+fn is_literal(part: &str) -> bool
+    ensures { result ≡ is_literal part.now }
+{
+    part.as_bytes().iter().all(|byte| !is_glob(*byte))
+}
+
+// Whether a byte is a character that globs have.
+fn is_glob(byte: u8) -> bool
+    ensures { result ≡ is_glob byte }
+{
+    "*?[]{}()!\\".as_bytes().contains(&byte)
 }
 
 // The workspaces that patterns mean.
@@ -987,8 +1043,19 @@ struct Workspaces<'a> {
 }
 
 impl<'a> Workspaces<'a> {
+    ghost use Rattle.std.specs.Cmp.Lexicographic.{slice_cmp};
+    ghost use Rattle.std.specs.List.Sorted.{IsSorted};
+    ghost use Rattle.std.specs.Ordering.{nat_cmp};
+    ghost use Rattle.std.specs.Prelude.{◌≡◌, ℕ, List, false, All, Contains, Decides, IfOk};
+    ghost use Rattle.serde_json.specs.View.{view};
+    ghost use Rattle.trees.specs.Npm.{is_link};
+    ghost use Rattle.trees.specs.NpmParts.{patterns_of, texts_of, AreSplit};
+    ghost use Rattle.trees.specs.NpmPatterns.{IsPattern, IsWorkspace, LiesIn};
+
     // Those of these patterns.
-    fn of(alloc: Global, patterns: &'a [Value]) -> Result<Workspaces<'a>, AllocError> {
+    fn of(alloc: Global, patterns: &'a [Value]) -> Result<Workspaces<'a>, AllocError>
+        ensures { IfOk result (AreSplit (patterns_of patterns.now)) }
+    {
         let mut named = Vec::new(alloc);
         let mut starred = Vec::new(alloc);
         for pattern in patterns {
@@ -1003,18 +1070,35 @@ impl<'a> Workspaces<'a> {
         Ok(Workspaces { named, starred })
     }
 
-    // Whether a path is that of one of them. The project is none, and what is in `node_modules`.
-    fn has(&self, path: &str) -> bool {
-        if path.is_empty() || path.split('/').any(|name| name == "node_modules") {
+    // Whether what is at a path is one of them. A link is none, nor the project, nor what is in
+    // `node_modules`.
+    fn has(&self, path: &str, package: &Value) -> bool
+        ensures { (patterns : List (List ℕ)) → All IsPattern patterns
+            → AreSplit patterns self.now → Decides result
+            ((is_link (view «package».now) ≡ false) × IsWorkspace patterns path.now) }
+    {
+        if is_link(package) {
             return false;
         }
-        if self
-            .named
+        is_outside(path) && (self.is_named(path) || self.is_starred(path))
+    }
+
+    // Whether a path is one of those that are named.
+    fn is_named(&self, path: &str) -> bool
+        ensures { IsSorted (λ x y. slice_cmp nat_cmp x.now y.now) self.now.named.items
+            → Decides result (Contains (texts_of self.now.named.items) path.now) }
+    {
+        self.named
             .binary_search_by(|name| (*name).cmp(path))
             .is_ok()
-        {
-            return true;
-        }
+    }
+
+    // Whether a path lies in one of the patterns with a star.
+    fn is_starred(&self, path: &str) -> bool
+        ensures { All IsPattern (texts_of self.now.starred.items) → Decides result
+            ((pattern : List ℕ) × Contains (texts_of self.now.starred.items) pattern
+            × LiesIn pattern path.now) }
+    {
         for pattern in &self.starred {
             if lies_in(path, pattern) {
                 return true;
@@ -1024,19 +1108,45 @@ impl<'a> Workspaces<'a> {
     }
 }
 
-// Whether a path is one of those that a pattern means. No star means a name that begins with a dot.
-fn lies_in(path: &str, pattern: &str) -> bool {
+// Whether a path is not that of the project, and has no part `node_modules`.
+fn is_outside(path: &str) -> bool
+    ensures { Decides result (IsOutside path.now) }
+{
+    if path.is_empty() {
+        return false;
+    }
+    path.split('/').all(|name| name != "node_modules")
+}
+
+// Whether a path is one of those that a pattern means.
+fn lies_in(path: &str, pattern: &str) -> bool
+    ensures { IsPattern pattern.now → Decides result (LiesIn pattern.now path.now) }
+{
     let mut names = path.split('/');
     for part in pattern.split('/') {
         if part == "**" {
-            return names.all(|name| !name.starts_with('.'));
+            return names.all(|name| !is_hidden(name));
         }
         let Some(name) = names.next() else {
             return false;
         };
-        if part != name && (part != "*" || name.starts_with('.')) {
+        if !means(part, name) {
             return false;
         }
     }
     names.next().is_none()
+}
+
+// Whether a part of a pattern means a name. No star means one that begins with a dot.
+fn means(part: &str, name: &str) -> bool
+    ensures { Decides result (Means part.now name.now) }
+{
+    part == name || part == "*" && !is_hidden(name)
+}
+
+// Whether a name begins with a dot.
+fn is_hidden(name: &str) -> bool
+    ensures { result ≡ is_hidden name.now }
+{
+    name.starts_with('.')
 }

@@ -1,15 +1,15 @@
 //! Lock files with tables `[[package]]`: `Cargo.lock`, `poetry.lock` and `uv.lock`.
 ghost use Rattle.std.specs.List.{list_any};
 ghost use Rattle.std.specs.List.Sorted.{IsStrictlySortedBy};
-ghost use Rattle.std.specs.Prelude.{◌≡◌, ◌<◌, ◌++◌, ◌∷◌, [], if◌then◌else◌, ℕ, is_some, length, map, option_copied, All, Decides, IfOk, IfErr, List, MatchOption, None, OnOk, codes, string_bytes};
+ghost use Rattle.std.specs.Prelude.{◌≡◌, ◌<◌, ◌++◌, ◌∷◌, [], if◌then◌else◌, ℕ, length, map, option_copied, option_map, All, Decides, IfOk, IfErr, List, MatchOption, OnOk, codes, string_bytes};
 ghost use Rattle.std.specs.Str.{encode_utf8_all};
-ghost use Rattle.toml.specs.Data.{get};
+ghost use Rattle.toml.specs.Data.{Data, get};
 ghost use Rattle.toml.specs.View.{table_view, view};
-ghost use Rattle.trees.specs.Locking.{are_dashes, between, changed_at, completed, has_table_of_needs, has_version, has_wrong_source, is_behind_name, label_text, non_empty, normal_char, normal_name, normal_table, normal_value, package_cmp, same_version, tables_in, has_hash, ArePackages, HasTables, HasTwin, IsLabel, IsLock, IsPlain, IsPackage, IsVersion, NeedsLead, text_at, source_of, source_text, without_revision};
+ghost use Rattle.trees.specs.Locking.{are_dashes, between, changed_at, completed, has_table_of_needs, has_wrong_source, is_behind_name, label_text, non_empty, normal_char, normal_name, normal_table, normal_value, package_cmp, same_version, tables_in, has_hash, ArePackages, HasTables, HasTwin, IsLabel, IsLock, IsPackage, IsVersion, NeedsLead, text_at, source_of, source_text, with_root, without_revision};
 ghost use Rattle.trees.specs.DependingParts.{IsEmpty, IsIndexed};
-ghost use Rattle.trees.specs.LockingParts.{locked_at, package_at, package_of, AddsAll, AddsLabels, AreLocked, FailsUnless, HasLocked, HoldsLocked, HoldsOnlyLock, StandOnce};
+ghost use Rattle.trees.specs.LockingParts.{locked_at, package_at, package_of, AddsAll, AddsLabels, AreLocked, FailsUnless, HasLocked, HoldsLocked, Loses, StandOnce};
 ghost use Rattle.trees.specs.Meaning.{HoldsLock};
-ghost use Rattle.trees.specs.Reading.{FailsFor, FailsToMake};
+ghost use Rattle.trees.specs.Reading.{FailsToMake};
 
 use crate::deps::{Network, wrong};
 use crate::document::toml_value;
@@ -31,7 +31,7 @@ const REPLACED: &str = " is replaced, which is not supported";
 pub fn toml_lock(alloc: Global, input: &Source, network: &mut Network) -> Result<(), Failure>
     ensures held { IsEmpty network.old → OnOk result
         (HoldsLocked input.now network.old.is_inverse network.new) }
-    ensures only { OnOk result (HoldsOnlyLock input.now) }
+    ensures only { OnOk result ((d : Data) × HoldsLock input.now d) }
     ensures failed { IfErr result (FailsToMake ⊥ (HoldsLock input.now)) }
 {
     let mut lock = toml_value(alloc, input)?;
@@ -45,9 +45,9 @@ fn read(
     lock: &mut Value,
     network: &mut Network,
 ) -> Result<(), Failure>
-    ensures held { IsPlain (view lock.old) → IsEmpty network.old → OnOk result
+    ensures held { IsEmpty network.old → OnOk result
         (HasLocked network.old.is_inverse (tables_in (view lock.old)) network.new) }
-    ensures only { IsPlain (view lock.old) → OnOk result (IsLock (view lock.old)) }
+    ensures only { OnOk result (IsLock (view lock.old)) }
     ensures failed { IfErr result (FailsUnless (IsLock (view lock.old))) }
 {
     let tables = tables(alloc, input, lock)?;
@@ -59,11 +59,10 @@ fn read(
 // Returns the tables of packages. The first versions of Cargo.lock have one of them as `[root]`. In
 // a poetry.lock their names get the form that names are compared in.
 fn tables<'a>(alloc: Global, input: &Source, lock: &'a mut Value) -> Result<&'a [Value], Failure>
-    ensures tables { IsPlain (view lock.old) → IfOk result
+    ensures tables { IfOk result
         (λ tables. map view tables.now ≡ tables_in (view lock.old)) }
-    ensures has { IsPlain (view lock.old) → IfOk result (λ _. HasTables (view lock.old)) }
-    ensures failed { IfErr result
-        (FailsUnless (IsPlain (view lock.old) × HasTables (view lock.old))) }
+    ensures has { IfOk result (λ _. HasTables (view lock.old)) }
+    ensures failed { IfErr result (FailsUnless (HasTables (view lock.old))) }
 {
     let root = take_root(lock);
     let has_hash = has_hash(lock);
@@ -73,37 +72,28 @@ fn tables<'a>(alloc: Global, input: &Source, lock: &'a mut Value) -> Result<&'a 
     let Some(tables) = list.as_array_mut() else {
         return Err(wrong(alloc, input, &["no packages"]));
     };
-    complete(alloc, root, has_hash, tables)?;
+    put_root(root, tables)?;
+    normalize(alloc, has_hash, tables)?;
     Ok(tables.as_slice())
 }
 
 // Takes the table `root` out of a lock file, if it has one.
 fn take_root(lock: &mut Value) -> Option<Value>
-    ensures none { get (codes "root") (view lock.old) ≡ None → result ≡ None }
-    ensures same { get (codes "root") (view lock.old) ≡ None → lock.new ≡ lock.old }
+    ensures root { option_map view result ≡ get (codes "root") (view lock.old) }
+    ensures rest { Loses (codes "root") (view lock.old) (view lock.new) }
 {
-    if lock.get("root").is_none() {
-        return None;
-    }
     lock.as_table_mut()?.remove("root")
 }
 
-// Adds a root to tables, and brings the names of Python packages into the form that they are
-// compared in.
-fn complete(
-    alloc: Global,
-    root: Option<Value>,
-    has_hash: bool,
-    tables: &mut Vec<Value>,
-) -> Result<(), Failure>
-    ensures completed { root ≡ None → OnOk result
-        (map view tables.new.items ≡ completed has_hash (map view tables.old.items)) }
-    ensures failed { IfErr result (FailsFor ⊥ ⊥) }
+// Puts a root, if there is one, before the other tables.
+fn put_root(root: Option<Value>, tables: &mut Vec<Value>) -> Result<(), AllocError>
+    ensures { OnOk result (map view tables.new.items
+        ≡ with_root (option_map view root) (map view tables.old.items)) }
 {
-    if let Some(root) = root {
-        tables.insert(0, root)?;
+    match root {
+        Some(root) => Ok(tables.insert(0, root)?),
+        None => Ok(()),
     }
-    Ok(normalize(alloc, has_hash, tables)?)
 }
 
 // Whether a lock file has a hash of what it was made from, as a `poetry.lock` has.
@@ -163,10 +153,6 @@ fn normalize_all(alloc: Global, tables: &mut [Value]) -> Result<(), AllocError>
 fn normalize_table(alloc: Global, table: &mut Value) -> Result<(), AllocError>
     ensures { OnOk result (view table.new ≡ normal_table (view table.old)) }
 {
-    // (a package without a version is refused, by the name that it has)
-    if version(table).is_none() {
-        return Ok(());
-    }
     match table.as_table_mut() {
         Some(parts) => normalize_parts(alloc, parts),
         None => Ok(()),
@@ -322,8 +308,7 @@ fn word<'a>(table: &'a Value, key: &str) -> Option<&'a str>
 
 // Returns the version of a package. In uv.lock one whose source is a folder may have none.
 fn version(table: &Value) -> Option<&str>
-    ensures has { is_some result ≡ has_version (view table.now) }
-    ensures version { MatchOption result ((v : List ℕ) → IsVersion (view table.now) v → ⊥)
+    ensures { MatchOption result ((v : List ℕ) → IsVersion (view table.now) v → ⊥)
         (λ v. IsVersion (view table.now) v.now) }
 {
     match table.get("version") {

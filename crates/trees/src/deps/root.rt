@@ -1,7 +1,7 @@
 //! The root of what is drawn.
 ghost use Rattle.std.specs.Prelude.{◌≡◌, ◌≢◌, ◌<◌, ⊤, ℕ, not, true, [], ◌∷◌, length, map, slice_index_or, slice_set, All, Contains, IfOk, IfErr, OnOk};
-ghost use Rattle.std.specs.Str.{bytes_eq};
-ghost use Rattle.trees.specs.DependingParts.{labels_of, places_of, AreApart, AreFirsts, AreTopsOf, IsNamed, MarksNeeds, Reaches};
+ghost use Rattle.trees.specs.DependingParts.{labels_of, paths_of, is_meant, meant_nodes, AreFirsts, AreTopsOf, MarksNeeds, Reaches};
+ghost use Rattle.trees.specs.Naming.{is_called, is_labelled, is_version, own_name, version_text, IsRootNode, LacksRoot};
 ghost use Rattle.trees.specs.Reading.{FailsFor};
 
 use crate::deps::{Network, wrong};
@@ -11,8 +11,8 @@ use crate::suggest::Nearest;
 use ptree::graph::NodeIndex;
 use std::alloc::{AllocError, Global};
 
-/// Returns the node with this name: its label, its path, or its label up to the version. The
-/// version can stand behind `@`, a blank, or a blank and a `v`.
+/// Returns the node with this name: its label or its path, or else what its label or its alias is
+/// called, with a version or without. The version stands behind `@` or a blank, maybe with a `v`.
 ///
 /// # Errors
 ///
@@ -23,10 +23,10 @@ pub fn named(
     network: &Network,
     name: &str,
 ) -> Result<NodeIndex, Failure>
-    ensures root { network.now.paths.items ≡ []
-        → IfOk result (λ r. IsNamed (labels_of network.now) name.now r.0) }
-    ensures failed { network.now.paths.items ≡ [] → AreApart (labels_of network.now)
-        → IfErr result (FailsFor (Contains (labels_of network.now) name.now → ⊥) ⊥) }
+    ensures root { IfOk result
+        (λ r. IsRootNode (labels_of network.now) (paths_of network.now) name.now r.0) }
+    ensures failed { IfErr result
+        (FailsFor (LacksRoot (labels_of network.now) (paths_of network.now) name.now) ⊥) }
 {
     let whole = nodes(alloc, network, name, true)?;
     if !whole.is_empty() {
@@ -61,10 +61,8 @@ fn nodes(
     name: &str,
     is_whole: bool,
 ) -> Result<Vec<NodeIndex>, AllocError>
-    ensures nodes { IfOk result (λ found.
-        All (λ n. n.0 < length (labels_of network.now)) found.items) }
-    ensures named { is_whole ≡ true → network.now.paths.items ≡ [] → IfOk result (λ found.
-        map (λ n. n.0) found.items ≡ places_of (labels_of network.now) name.now) }
+    ensures { IfOk result
+        (λ found. map (λ n. n.0) found.items ≡ meant_nodes is_whole network.now name.now) }
 {
     let mut found = Vec::new(alloc);
     for (i, label) in network.labels.iter().enumerate() {
@@ -77,11 +75,10 @@ fn nodes(
 
 // Whether a name means a node: all of its label or path, or a part of its label.
 fn is_meant(network: &Network, node: usize, label: &str, name: &str, is_whole: bool) -> bool
-    ensures { is_whole ≡ true → network.now.paths.items ≡ []
-        → result ≡ bytes_eq label.now name.now }
+    ensures { result ≡ is_meant is_whole (paths_of network.now) name.now node label.now }
 {
     if !is_whole {
-        return is_named(label, name);
+        return is_labelled(label, name);
     }
     match network.paths.get(node) {
         Some(path) => label == name || path.as_str() == name,
@@ -89,24 +86,36 @@ fn is_meant(network: &Network, node: usize, label: &str, name: &str, is_whole: b
     }
 }
 
-// Whether a text is a name, alone or with a version behind it.
-fn is_named(text: &str, name: &str) -> bool {
-    let (own, version) = parts(text);
-    let (wanted, wanted_version) = parts(name);
-    if own == wanted && (wanted_version.is_empty() || is_version(version, wanted_version)) {
+// Whether a label has a name, maybe with a version, or what it is an alias of.
+fn is_labelled(label: &str, name: &str) -> bool
+    ensures { result ≡ is_labelled name.now label.now }
+{
+    if is_called(label, name) {
         return true;
     }
+    let (_, version) = parts(label);
     match version.strip_prefix("npm:") {
-        Some(real) => {
-            let (own, version) = parts(real);
-            own == wanted && (wanted_version.is_empty() || version == wanted_version)
-        }
+        Some(real) => is_called(real, name),
         None => false,
     }
 }
 
-// Whether a version is the one that is wanted, alone or with a source behind it.
-fn is_version(version: &str, wanted: &str) -> bool {
+// Whether a text has a name, and its version if it has one.
+fn is_called(text: &str, name: &str) -> bool
+    ensures { result ≡ is_called name.now text.now }
+{
+    let (own, version) = parts(text);
+    let (wanted, wanted_version) = parts(name);
+    own == wanted && is_version(version, wanted_version)
+}
+
+// Whether a version is the one that is wanted, if one is, alone or with a source behind it.
+fn is_version(version: &str, wanted: &str) -> bool
+    ensures { result ≡ is_version wanted.now version.now }
+{
+    if wanted.is_empty() {
+        return true;
+    }
     match version.strip_prefix(wanted) {
         Some(rest) => rest.is_empty() || rest.starts_with(" ("),
         None => false,
@@ -114,15 +123,15 @@ fn is_version(version: &str, wanted: &str) -> bool {
 }
 
 // Returns a name and its version, without what stands between them. A name may begin with `@`.
-fn parts(text: &str) -> (&str, &str) {
-    let (first, rest) = match text.strip_prefix('@') {
-        Some(rest) => (1usize, rest),
-        None => (0, text),
-    };
-    let Some((name, version)) = rest.split_once(|c: char| c == ' ' || c == '@') else {
+fn parts(text: &str) -> (&str, &str)
+    ensures name { result.0.now ≡ own_name text.now }
+    ensures version { result.1.now ≡ version_text text.now }
+{
+    let rest = text.strip_prefix('@').unwrap_or(text);
+    let Some((_, version)) = rest.split_once([' ', '@']) else {
         return (text, "");
     };
-    let end = name.len().saturating_add(first);
+    let end = text.len().saturating_sub(version.len()).saturating_sub(1);
     (
         text.get(..end).unwrap_or(text),
         version.strip_prefix('v').unwrap_or(version),

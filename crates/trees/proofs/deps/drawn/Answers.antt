@@ -1,27 +1,37 @@
-use Rattle.std.proofs.Common.{◌≡◌, [], inl, inr, map, string_bytes, refl, rules}
+use Rattle.std.proofs.Common.{◌≡◌, inl, inr, map, string_bytes, refl, rules}
 use Rattle.std.specs.Prelude.{length, Any}
 use Rattle.ptree.specs.Graph.{weights_of, LacksNode}
-use Rattle.trees.specs.declared.deps.Network.{Network}
-use Rattle.trees.specs.Depending.{HoldsNoGraph}
-use Rattle.trees.specs.DependingParts.{labels_of, HasRoot, IsWhole}
-use Rattle.trees.specs.Meaning.{HoldsNoLock}
-use Rattle.trees.specs.Shown.{shown_text}
-use Rattle.trees.proofs.PairGraphs.{graph_held, graph_whole, names_apart, fails_without, fails_unnamed, topped_whole}
-use Rattle.trees.proofs.Readings.{fails_weaker}
 use Rattle.serde_json.specs.Data.{Data}
+use Rattle.trees.specs.declared.deps.Network.{Network}
+use Rattle.trees.specs.Depending.{HoldsNoGraph, IsNoName}
+use Rattle.trees.specs.DependingParts.{labels_of, paths_of, HasRoot, IsEmpty}
+use Rattle.trees.specs.Meaning.{HasMeaning, HoldsNoLock, HoldsNoLockGraph, IsLockFile}
 use Rattle.trees.specs.Npm.{HoldsNpmLock}
-use Rattle.trees.proofs.NpmLocks.{packages_within}
+use Rattle.trees.specs.Shown.{shown_text}
+use Rattle.trees.proofs.PairGraphs.{any_root, graph_held, graph_whole, fails_without, fails_unnamed, unnamed_lock}
+use Rattle.trees.proofs.Readings.{fails_weaker}
+use Rattle.trees.proofs.deps.drawn.Goals.{After-reverse}
 use Rattle.trees.proofs.deps.drawn.Goals as goal
+
+-- the network that is read has the root that is asked for
+root_is : (c : After-reverse) → HasMeaning c.args.source.now c.args.name → IsEmpty c.args.network.now → HasRoot c.args.source.now c.args.name c.read_network.new.network c.root_of.new.network c.in_ok-root.root.0
+root_is c is empty = c.in_ok-root.ensures.root (c.in_ok-read_network.ensures.held (any_root c.args.source.now c.args.name is) empty).whole
+
+-- no edge lacks a node
+none_lacks : (c : After-reverse) → HasMeaning c.args.source.now c.args.name → IsEmpty c.args.network.now → Any (LacksNode (length (labels_of c.root_of.new.network))) c.reverse.new.self.items → ⊥
+none_lacks c is empty lacks =
+    let source = c.args.source.now in
+    let rooted = c.root_of.new.network in
+    graph_whole source c.args.name c.read_network.new.network rooted (record rooted { edges = c.reverse.new.self }) c.in_ok-root.root.0 (c.in_ok-read_network.ensures.held (any_root source c.args.name is) empty).whole (root_is c is empty) refl c.reverse.ensures.items lacks
 
 pub returns-clause-graph : goal.returns-clause-graph
 returns-clause-graph c = λ is empty.
+    let source = c.args.source.now in
     let read = c.read_network.new.network in
     let rooted = c.root_of.new.network in
     let turned : Network = record rooted { edges = c.reverse.new.self } in
-    let net = c.in_ok-read_network.ensures.held is empty in
-    let root : read.paths.items ≡ [] → IsWhole read → HasRoot c.args.source.now c.args.name read rooted c.in_ok-root.root.0 = search rules in
     let texts : map string_bytes (weights_of c.in_ok-graph.graph) ≡ map (shown_text c.args.is_terminal) (labels_of turned) = search rules in
-    graph_held c.args.source.now c.args.name c.args.network.now.is_inverse c.args.is_terminal read rooted turned (record { graph = c.in_ok-graph.graph; root = c.in_ok-root.root }) net (root net.paths net.whole) refl c.reverse.ensures.items texts c.in_ok-graph.ensures.edges
+    graph_held source c.args.name c.args.network.now.is_inverse c.args.is_terminal read rooted turned (record { graph = c.in_ok-graph.graph; root = c.in_ok-root.root }) is (c.in_ok-read_network.ensures.held (any_root source c.args.name is) empty) (root_is (goal.at.returns-clause-graph c).After-reverse is empty) refl c.reverse.ensures.items texts c.in_ok-graph.ensures.edges
 
 pub returns-in_err-read_network-clause-failed : goal.returns-in_err-read_network-clause-failed
 returns-in_err-read_network-clause-failed c = λ is empty. search (rules, fails_without c.args.source.now c.args.name c.in_err-read_network.field-0.0 (c.in_err-read_network.ensures.failed is))
@@ -29,28 +39,34 @@ returns-in_err-read_network-clause-failed c = λ is empty. search (rules, fails_
 pub returns-in_err-root-clause-failed : goal.returns-in_err-root-clause-failed
 returns-in_err-root-clause-failed c = λ is empty.
     let net = c.in_ok-read_network.ensures.held (inl is) empty in
-    let means = net.means.pairs is in
-    search (rules, fails_unnamed c.args.source.now c.args.name c.args.network.now.is_inverse _ _ c.in_err-root.field-0.0 means (c.in_err-root.ensures.failed net.paths (names_apart _ means.are.ascending)))
+    search (rules, fails_unnamed c.args.source.now c.args.name c.args.network.now.is_inverse c.read_network.new.network c.in_err-root.field-0.0 net is c.in_err-root.ensures.failed)
 
 pub returns-in_err-graph-clause-failed : goal.returns-in_err-graph-clause-failed
 returns-in_err-graph-clause-failed c = λ is empty.
-    let net = c.in_ok-read_network.ensures.held (inl is) empty in
     let says = fails_weaker (Any (LacksNode (length (labels_of c.root_of.new.network))) c.reverse.new.self.items) (HoldsNoGraph c.args.source.now c.args.name) ⊥ c.in_err-graph.field-0.0
-    (λ lacks. absurd (graph_whole c.args.source.now c.args.name c.read_network.new.network c.root_of.new.network (record c.root_of.new.network { edges = c.reverse.new.self }) c.in_ok-root.root.0 net.whole (c.in_ok-root.ensures.root net.paths net.whole) refl c.reverse.ensures.items lacks)) c.in_err-graph.ensures.failed in
+    (λ lacks. absurd (none_lacks (goal.at.returns-in_err-graph-clause-failed c).After-reverse (inl is) empty lacks)) c.in_err-graph.ensures.failed in
     search (rules, says)
 
 pub returns-in_err-read_network-clause-refused : goal.returns-in_err-read_network-clause-refused
-returns-in_err-read_network-clause-refused c = λ is none empty. search (rules, c.in_err-read_network.ensures.refused is)
+returns-in_err-read_network-clause-refused c = λ is empty.
+    let source = c.args.source.now in
+    let says = fails_weaker (HoldsNoLock source) (HoldsNoLockGraph source c.args.name c.args.network.now.is_inverse) ⊥ c.in_err-read_network.field-0.0 (λ none d lock. absurd (none d lock)) (c.in_err-read_network.ensures.refused is) in
+    search (rules, says)
 
 pub returns-in_err-root-clause-refused : goal.returns-in_err-root-clause-refused
-returns-in_err-root-clause-refused c = λ is none empty. search (rules, fails_weaker ⊥ (HoldsNoLock c.args.source.now) ⊥ c.in_err-root.field-0.0 (λ no'. absurd no') (c.in_err-root.ensures.memory none))
+returns-in_err-root-clause-refused c = λ is empty.
+    let source = c.args.source.now in
+    let read = c.read_network.new.network in
+    let says = fails_weaker (IsNoName c.args.name (paths_of read) (labels_of read)) (HoldsNoLockGraph source c.args.name c.args.network.now.is_inverse) ⊥ c.in_err-root.field-0.0
+    (λ none d lock.
+    let file : IsLockFile source d = record { file = is; document = lock.0 } in
+    unnamed_lock source c.args.name c.args.network.now.is_inverse read d (c.in_ok-read_network.ensures.held (inr (inl (d, file))) empty) file none) c.in_err-root.ensures.failed in
+    search (rules, says)
 
 pub returns-in_err-graph-clause-refused : goal.returns-in_err-graph-clause-refused
-returns-in_err-graph-clause-refused c = λ is none empty.
-    let says = fails_weaker (Any (LacksNode (length (labels_of c.root_of.new.network))) c.reverse.new.self.items) (HoldsNoLock c.args.source.now) ⊥ c.in_err-graph.field-0.0
-    (λ lacks d lock.
-    let net = c.in_ok-read_network.ensures.held (inr (d, record { file = is; document = lock.0; plain = lock.1.plain })) empty in
-    graph_whole c.args.source.now c.args.name c.read_network.new.network c.root_of.new.network (record c.root_of.new.network { edges = c.reverse.new.self }) c.in_ok-root.root.0 net.whole (c.in_ok-root.ensures.root net.paths net.whole) refl c.reverse.ensures.items lacks) c.in_err-graph.ensures.failed in
+returns-in_err-graph-clause-refused c = λ is empty.
+    let says = fails_weaker (Any (LacksNode (length (labels_of c.root_of.new.network))) c.reverse.new.self.items) (HoldsNoLockGraph c.args.source.now c.args.name c.args.network.now.is_inverse) ⊥ c.in_err-graph.field-0.0
+    (λ lacks d lock. absurd (none_lacks (goal.at.returns-in_err-graph-clause-refused c).After-reverse (inr (inl (d, record { file = is; document = lock.0 }))) empty lacks)) c.in_err-graph.ensures.failed in
     search (rules, says)
 
 pub returns-in_err-read_network-clause-npm : goal.returns-in_err-read_network-clause-npm
@@ -61,12 +77,6 @@ returns-in_err-root-clause-npm c = λ is none empty. search (rules, fails_weaker
 
 pub returns-in_err-graph-clause-npm : goal.returns-in_err-graph-clause-npm
 returns-in_err-graph-clause-npm c = λ is none empty.
-    let source = c.args.source.now in
-    let read = c.read_network.new.network in
-    let rooted = c.root_of.new.network in
-    let says = fails_weaker (Any (LacksNode (length (labels_of rooted))) c.reverse.new.self.items) ((lock : Data) → HoldsNpmLock source lock → ⊥) ⊥ c.in_err-graph.field-0.0
-    (λ lacks lock holds.
-    let top = c.in_ok-root.ensures.top none in
-    let within = packages_within source c.args.network.now.is_inverse read lock holds (c.in_ok-read_network.ensures.packages is empty) in
-    topped_whole top.0 read rooted (record rooted { edges = c.reverse.new.self }) c.in_ok-root.root.0 within top.1 refl c.reverse.ensures.items lacks) c.in_err-graph.ensures.failed in
+    let says = fails_weaker (Any (LacksNode (length (labels_of c.root_of.new.network))) c.reverse.new.self.items) ((lock : Data) → HoldsNpmLock c.args.source.now lock → ⊥) ⊥ c.in_err-graph.field-0.0
+    (λ lacks lock holds. none_lacks (goal.at.returns-in_err-graph-clause-npm c).After-reverse (inr (inr (none, (lock, record { file = is; document = holds.0; links = holds.1.links })))) empty lacks) c.in_err-graph.ensures.failed in
     search (rules, says)

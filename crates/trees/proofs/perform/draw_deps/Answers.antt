@@ -2,10 +2,10 @@ use Rattle.std.proofs.Common.{◌<◌, inl, inr, rules}
 use Rattle.std.specs.Prelude.{◌⊎◌}
 use Rattle.trees.specs.Asked.{drawing_value}
 use Rattle.trees.specs.Depending.{HoldsNoGraph}
-use Rattle.trees.specs.Meaning.{HoldsNoLock}
-use Rattle.trees.specs.Reading.{FailsFor}
+use Rattle.trees.specs.Meaning.{HoldsNoLockGraph}
 use Rattle.trees.specs.Npm.{HoldsNoNpmLock}
-use Rattle.trees.specs.Writing.{Writes, IsGraphDrawing, IsNeedsDrawing, IsSomeDrawing, FailsToDepend}
+use Rattle.trees.specs.Reading.{FailsFor}
+use Rattle.trees.specs.Writing.{Writes, IsGraphDrawing, IsNeedsDrawing, FailsToDepend}
 use Rattle.trees.proofs.Readings.{fails_weaker}
 use Rattle.trees.proofs.Shown.{dependencies_shown, drawing_nothing}
 use Rattle.trees.proofs.Writings.{writes_weaker, nothing_written}
@@ -13,7 +13,7 @@ use Rattle.trees.proofs.perform.draw_deps.Goals as goal
 
 -- the graph that is drawn is what the source means
 pub returns-clause-written : goal.returns-clause-written
-returns-clause-written g c = λ is.
+returns-clause-written g c =
     let sources = c.args.found.now.sources in
     let source = c.args.source.now in
     let deps = c.args.deps in
@@ -22,10 +22,14 @@ returns-clause-written g c = λ is.
     let old = g.W.Sink.contents c.args.out.now in
     let drawn : Writes old (g.W.Sink.contents c.draw-drawn.new.out) c.draw-drawn.result (IsGraphDrawing (drawing_value sources c.args.drawing) found deps.walks) (FailsFor deep ⊥) = search rules in
     writes_weaker old (g.W.Sink.contents c.draw-drawn.new.out) c.draw-drawn.result (IsGraphDrawing (drawing_value sources c.args.drawing) found deps.walks) (IsNeedsDrawing sources source deps c.args.drawing) (FailsFor deep ⊥) (FailsToDepend sources source deps c.args.drawing)
-    (λ bytes drawing. (found, c.in_ok-dependencies.ensures.graph is, drawing)) (λ e says. record { pairs = λ is. fails_weaker deep (HoldsNoGraph source deps.root ⊎ deep) ⊥ e inr says; lock = λ is none. fails_weaker deep (HoldsNoLock source ⊎ deep) ⊥ e inr says }) drawn
+    (λ bytes drawing. (found, c.in_ok-dependencies.ensures.graph, drawing)) (λ e says. record {
+      pairs = λ is. fails_weaker deep (HoldsNoGraph source deps.root ⊎ deep) ⊥ e inr says;
+      lock = λ is. fails_weaker deep (HoldsNoLockGraph source deps.root deps.is_inverse ⊎ deep) ⊥ e inr says;
+      packages = λ is none. fails_weaker deep (HoldsNoNpmLock source ⊎ deep) ⊥ e inr says;
+    }) drawn
 
 pub returns-in_err-dependencies-clause-written : goal.returns-in_err-dependencies-clause-written
-returns-in_err-dependencies-clause-written g c = λ is.
+returns-in_err-dependencies-clause-written g c =
     let sources = c.args.found.now.sources in
     let source = c.args.source.now in
     let deps = c.args.deps in
@@ -33,7 +37,8 @@ returns-in_err-dependencies-clause-written g c = λ is.
     let e = c.in_err-dependencies.field-0.0 in
     let fails : FailsToDepend sources source deps c.args.drawing e = record {
       pairs = λ is. fails_weaker (HoldsNoGraph source deps.root) (HoldsNoGraph source deps.root ⊎ deep) ⊥ e inl (c.in_err-dependencies.ensures.failed is);
-      lock = λ is none. fails_weaker (HoldsNoLock source) (HoldsNoLock source ⊎ deep) ⊥ e inl (c.in_err-dependencies.ensures.refused is none);
+      lock = λ is. fails_weaker (HoldsNoLockGraph source deps.root deps.is_inverse) (HoldsNoLockGraph source deps.root deps.is_inverse ⊎ deep) ⊥ e inl (c.in_err-dependencies.ensures.refused is);
+      packages = λ is none. fails_weaker (HoldsNoNpmLock source) (HoldsNoNpmLock source ⊎ deep) ⊥ e inl (c.in_err-dependencies.ensures.npm is none);
     } in
     nothing_written (g.W.Sink.contents c.args.out.now) c.from_residual.result (IsNeedsDrawing sources source deps c.args.drawing) (FailsToDepend sources source deps c.args.drawing) (search rules) (search (rules, fails))
 
@@ -48,21 +53,3 @@ returns-clause-shown g c =
 
 pub returns-in_err-dependencies-clause-shown : goal.returns-in_err-dependencies-clause-shown
 returns-in_err-dependencies-clause-shown g c = drawing_nothing c.args.found.now.sources c.args.drawing (g.W.Sink.contents c.args.out.now)
-
-pub returns-clause-npm : goal.returns-clause-npm
-returns-clause-npm g c = λ is none.
-    let source = c.args.source.now in
-    let config = drawing_value c.args.found.now.sources c.args.drawing in
-    let found = c.in_ok-dependencies.dependencies in
-    let old = g.W.Sink.contents c.args.out.now in
-    let new = g.W.Sink.contents c.draw-drawn.new.out in
-    let drawn : Writes old new c.draw-drawn.result (IsGraphDrawing config found c.args.deps.walks) (FailsFor (5000 < config.depth) ⊥) = search rules in
-    writes_weaker old new c.draw-drawn.result (IsGraphDrawing config found c.args.deps.walks) (IsSomeDrawing c.args.found.now.sources c.args.deps c.args.drawing) (FailsFor (5000 < config.depth) ⊥) (FailsFor (HoldsNoNpmLock source ⊎ (5000 < config.depth)) ⊥)
-    (λ bytes drawing. (found, drawing)) (λ e says. fails_weaker (5000 < config.depth) (HoldsNoNpmLock source ⊎ (5000 < config.depth)) ⊥ e inr says) drawn
-
-pub returns-in_err-dependencies-clause-npm : goal.returns-in_err-dependencies-clause-npm
-returns-in_err-dependencies-clause-npm g c = λ is none.
-    let source = c.args.source.now in
-    let deep : Type 0 = 5000 < (drawing_value c.args.found.now.sources c.args.drawing).depth in
-    let fails : FailsFor (HoldsNoNpmLock source ⊎ deep) ⊥ c.in_err-dependencies.field-0.0 = fails_weaker (HoldsNoNpmLock source) (HoldsNoNpmLock source ⊎ deep) ⊥ c.in_err-dependencies.field-0.0 inl (c.in_err-dependencies.ensures.npm is none) in
-    nothing_written (g.W.Sink.contents c.args.out.now) c.from_residual.result (IsSomeDrawing c.args.found.now.sources c.args.deps c.args.drawing) (FailsFor (HoldsNoNpmLock source ⊎ deep) ⊥) (search rules) (search (rules, fails))

@@ -16,7 +16,7 @@ pub returns-in-Draw-clause-written : goal.returns-in-Draw-clause-written
 returns-in-Draw-clause-written g c = rw c.in-Draw.is c.draw_source.ensures.written
 
 pub returns-in-Deps-clause-written : goal.returns-in-Deps-clause-written
-returns-in-Deps-clause-written g c = rw c.in-Deps.is (c.draw_deps.ensures.written, c.draw_deps.ensures.npm)
+returns-in-Deps-clause-written g c = rw c.in-Deps.is c.draw_deps.ensures.written
 
 pub returns-in-Diff-clause-written : goal.returns-in-Diff-clause-written
 returns-in-Diff-clause-written g c = rw c.in-Diff.is c.compare_drawings.ensures.written

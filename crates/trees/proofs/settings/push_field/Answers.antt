@@ -11,4 +11,4 @@ returns c =
     let (origin, second) = c.in_ok-push_origin.ensures in
     let start = setting_name c.args.field ++ (codes ": " ++ value) in
     let end = codes " (" ++ (origin ++ codes ")\n") in
-    (start ++ end, second ∙ (ap (λ z. z ++ end) first ∙ append_assoc (string_bytes c.args.text.now) start end), inr (value, origin, is, refl))
+    (start ++ end, second ∙ (ap (λ z. z ++ end) first ∙ append_assoc (string_bytes c.args.text.now) start end), inr (search rules, value, origin, is, refl))

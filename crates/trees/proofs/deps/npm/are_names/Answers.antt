@@ -1,7 +1,7 @@
 use Rattle.std.proofs.Common.{lit<, rules, tests}
 use Rattle.std.proofs.lemmas.Iterator.Search.{all_from_yields_List}
 use Rattle.std.proofs.lemmas.Iterator.Splits.{YieldsList-from_str_split}
-use Rattle.trees.specs.Npm.{is_file_name}
+use Rattle.trees.specs.NpmPatterns.{is_file_name}
 use Rattle.trees.proofs.deps.npm.are_names.Goals as goal
 
 pub returns : goal.returns

@@ -1,10 +1,11 @@
-use Rattle.std.proofs.Common.{◌≡◌, ◌∙◌, ℕ, List, get_or, inl, inr, refl, sym, ap, subst, arith}
+use Rattle.std.proofs.Common.{◌≡◌, ◌∙◌, ℕ, List, get_or, inl, inr, sym, ap, subst, arith}
 use Rattle.std.proofs.lemmas.Bool.{false≢true}
 use Rattle.std.proofs.lemmas.Str.Pattern.{starts_char}
 use Rattle.std.specs.Prelude.{Some, None}
 use Rattle.std.specs.Borrow.{Bor}
-use Rattle.trees.specs.Npm.{home, IsName}
-use Rattle.trees.proofs.NpmPaths.{cut_last, alone, scoped, some_name, whole}
+use Rattle.trees.specs.Npm.{home, IsLastName}
+use Rattle.trees.proofs.NpmPaths.{cut_last, alone, scoped, whole}
+use Rattle.trees.proofs.NpmNames.{name_alone, name_read, name_whole}
 use Rattle.trees.proofs.deps.npm.last_name.Goals as goal
 
 pub returns-in_default-clause-last : goal.returns-in_default-clause-last
@@ -40,17 +41,22 @@ returns-else-starts_with-clause-last c = λ folder own named at.
           absurd (false≢true (sym c.if-starts_with.false ∙ starts)))
     ]
 
-pub returns-in_default-clause-name : goal.returns-in_default-clause-name
-returns-in_default-clause-name c = inl (cut_last c.args.path.now None c.in_default.ensures.cases)
+pub returns-in_default-clause-is : goal.returns-in_default-clause-is
+returns-in_default-clause-is c = name_whole c.args.path.now (cut_last c.args.path.now None c.in_default.ensures.cases)
 
-pub returns-then-starts_with-clause-name : goal.returns-then-starts_with-clause-name
-returns-then-starts_with-clause-name c =
+pub returns-then-starts_with-clause-is : goal.returns-then-starts_with-clause-is
+returns-then-starts_with-clause-is c =
     let path = c.args.path.now in
     let scope = c.last_part-scope.result.now in
     let cut = cut_last path (Some (c.in-Some.above, c.in-Some.name)) c.in-Some.ensures.cases in
     let starts : get_or scope 0 0 ≡ 64 = (starts_char 64 scope c.starts_with.result c.starts_with.ensures.cases (omega arith) (omega arith)).0 c.if-starts_with.true in
-    subst (λ (t : Bor (List ℕ)). IsName t.now) (sym c.unwrap_or.ensures)
-    (some_name path c.in-Some.above.now c.in-Some.name.now scope cut.0 cut.1 c.last_part-scope.ensures starts c.saturating_sub.result c.get.result c.in-Some.name refl (omega arith) c.get.ensures.cases)
+    subst (λ (t : Bor (List ℕ)). IsLastName path t.now) (sym c.unwrap_or.ensures)
+    (name_read path c.in-Some.above.now c.in-Some.name.now scope cut.0 cut.1 c.last_part-scope.ensures starts c.saturating_sub.result c.get.result c.in-Some.name (omega arith) c.get.ensures.cases)
 
-pub returns-else-starts_with-clause-name : goal.returns-else-starts_with-clause-name
-returns-else-starts_with-clause-name c = inl (cut_last c.args.path.now (Some (c.in-Some.above, c.in-Some.name)) c.in-Some.ensures.cases).1
+pub returns-else-starts_with-clause-is : goal.returns-else-starts_with-clause-is
+returns-else-starts_with-clause-is c =
+    let path = c.args.path.now in
+    let scope = c.last_part-scope.result.now in
+    let cut = cut_last path (Some (c.in-Some.above, c.in-Some.name)) c.in-Some.ensures.cases in
+    name_alone path c.in-Some.above.now c.in-Some.name.now scope cut.0 cut.1 c.last_part-scope.ensures
+    (λ first. false≢true (sym c.if-starts_with.false ∙ (starts_char 64 scope c.starts_with.result c.starts_with.ensures.cases (omega arith) (omega arith)).1 first))

@@ -18,7 +18,7 @@ returns-in_err-lock-clause-failed c = λ empty.
     search (rules, says)
 
 pub returns-clause-only : goal.returns-clause-only
-returns-clause-only c = λ empty. only_lock c.args.source.now (view c.in_ok-lock.lock) c.read.result c.in_ok-lock.ensures.value (λ simple. c.read.ensures.only simple empty)
+returns-clause-only c = λ empty. only_lock c.args.source.now (view c.in_ok-lock.lock) c.read.result c.in_ok-lock.ensures.value (λ links. c.read.ensures.only links empty)
 
 pub returns-clause-failed : goal.returns-clause-failed
 returns-clause-failed c = λ empty.

@@ -28,7 +28,7 @@ pub returns-then-is_empty-clause-placed : goal.returns-then-is_empty-clause-plac
 returns-then-is_empty-clause-placed c =
     let inner = c.in_ok-inner.inner.now in
     let none : inner ≡ before [] = nil_from_length inner (eqb-true _ 0 (sym c.is_empty.ensures ∙ c.if-is_empty.true)) in
-    (c.last_name-name.ensures.name, placed_at c.args.path.now c.in_ok-strip_suffix.field-0.now inner [] c.last_name-name.result.now (text_left _ _ _ c.in_ok-strip_suffix.ensures.cases) (text_left _ _ _ c.in_ok-inner.ensures.cases) none)
+    (c.last_name-name.ensures.is.is, placed_at c.args.path.now c.in_ok-strip_suffix.field-0.now inner [] c.last_name-name.result.now (text_left _ _ _ c.in_ok-strip_suffix.ensures.cases) (text_left _ _ _ c.in_ok-inner.ensures.cases) none)
 
 pub returns-in_err-folder-clause-found : goal.returns-in_err-folder-clause-found
 returns-in_err-folder-clause-found c = λ folder own named at.
@@ -64,4 +64,4 @@ returns-else-is_empty-2-clause-placed c =
     let folder = c.in_ok-folder.folder.now in
     let cut = strip_suffix_char 47 c.in_ok-inner.inner.now (Some c.in_ok-folder.folder) c.in_ok-folder.ensures.cases (omega arith) in
     let some = before_some folder c.in_ok-inner.inner.now cut (λ none. false≢true (sym c.if-is_empty-2.false ∙ (c.is_empty-2.ensures ∙ ap (λ (t : List ℕ). eqb (length t) 0) none))) in
-    (c.last_name-name.ensures.name, placed_at c.args.path.now c.in_ok-strip_suffix.field-0.now c.in_ok-inner.inner.now folder c.last_name-name.result.now (text_left _ _ _ c.in_ok-strip_suffix.ensures.cases) (text_left _ _ _ c.in_ok-inner.ensures.cases) some)
+    (c.last_name-name.ensures.is.is, placed_at c.args.path.now c.in_ok-strip_suffix.field-0.now c.in_ok-inner.inner.now folder c.last_name-name.result.now (text_left _ _ _ c.in_ok-strip_suffix.ensures.cases) (text_left _ _ _ c.in_ok-inner.ensures.cases) some)

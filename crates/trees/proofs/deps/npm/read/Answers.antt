@@ -3,8 +3,8 @@ use Rattle.std.proofs.lemmas.Bool.{false≢true}
 use Rattle.std.proofs.lemmas.List.Elements.{All-nil}
 use Rattle.std.specs.Prelude.{All}
 use Rattle.serde_json.specs.View.{view, members_view}
-use Rattle.trees.specs.Npm.{listed, HasLists, HasNoLinks, HasNoWorkspaces, HasPackages, IsNpmLock, IsPackage}
-use Rattle.trees.specs.NpmParts.{AddsNearest, ArePaths, AreRight}
+use Rattle.trees.specs.Npm.{listed, HasNames, HasNoLinks, IsNpmLock, IsPackage}
+use Rattle.trees.specs.NpmParts.{AddsNearest, ArePaths, AreRight, HasPackages}
 use Rattle.trees.proofs.LockedEntries.{ok_more}
 use Rattle.trees.proofs.LockedFailures.{err_unless, fails_never, fails_unless}
 use Rattle.trees.proofs.NpmLocks.{each_of, needs_of_lock, no_entries, no_packages}
@@ -32,9 +32,9 @@ pub returns-in_default-clause-failed : goal.returns-in_default-clause-failed
 returns-in_default-clause-failed c = λ empty. fails_never (IsNpmLock (view c.args.lock.now)) c.wrong.result (no_packages (view c.args.lock.now) c.in_default.ensures.members) c.wrong.ensures
 
 pub returns-then-is_empty-clause-only : goal.returns-then-is_empty-clause-only
-returns-then-is_empty-clause-only c = λ simple empty.
+returns-then-is_empty-clause-only c = λ plain empty.
     let none = sym (no_entries c.in-Some.packages.now.entries (c.if-is_empty.ensures.0 refl)) in
-    record { simple = simple; version = c.has_paths.ensures.0 c.if-not-has_paths.false; packages = members_view c.in-Some.packages.now.entries; are = sym c.in-Some.ensures.members; each = subst (All IsPackage) none (All-nil IsPackage); needs = subst (All HasLists) none (All-nil HasLists) }
+    record { links = plain; version = c.has_paths.ensures.0 c.if-not-has_paths.false; packages = members_view c.in-Some.packages.now.entries; are = sym c.in-Some.ensures.members; each = subst (All IsPackage) none (All-nil IsPackage); needs = subst (All HasNames) none (All-nil HasNames) }
 
 pub returns-then-not-has_paths-clause-failed : goal.returns-then-not-has_paths-clause-failed
 returns-then-not-has_paths-clause-failed c = λ empty. fails_never (IsNpmLock (view c.args.lock.now)) c.wrong-then-not-has_paths.result (λ l. false≢true (sym c.if-not-has_paths.true ∙ c.has_paths.ensures.1 l.version)) c.wrong-then-not-has_paths.ensures
@@ -50,7 +50,7 @@ returns-in_err-steps-clause-failed c = λ empty.
     let ps = listed (members_view c.in-Some.packages.now.entries) in
     let are = c.in-Some.ensures.all ∙ project_there (view c.args.lock.now) c.in-Some.packages.now.entries (λ zero. false≢true (c.if-is_empty.ensures.1 zero)) in
     let says = fails_unless (HasNoLinks ps × ArePaths ps c.deref.result.now) (IsNpmLock (view c.args.lock.now)) c.in_err-steps.field-0.0
-    (λ l. (let plain = subst HasNoLinks are l.simple.links in
+    (λ l. (let plain = subst HasNoLinks are l.links in
     (plain, paths_first c.root_name-root.result.now ps c.args.network.now c.push_nodes.new.network empty (c.in_ok-push_nodes.ensures.added plain) c.deref.result.now c.deref.ensures.value))) c.in_err-steps.ensures.failed in
     search (rules, says)
 
@@ -59,16 +59,16 @@ returns-clause-failed c = λ empty.
     let ps = listed (members_view c.in-Some.packages.now.entries) in
     let are = c.in-Some.ensures.all ∙ project_there (view c.args.lock.now) c.in-Some.packages.now.entries (λ zero. false≢true (c.if-is_empty.ensures.1 zero)) in
     err_unless c.push_needs.result (AreRight ps c.deref-2.result.now) (IsNpmLock (view c.args.lock.now))
-    (λ l. (let plain = subst HasNoLinks are l.simple.links in
+    (λ l. (let plain = subst HasNoLinks are l.links in
     let has = steps_first c.root_name-root.result.now ps c.args.network.now c.push_nodes.new.network empty (c.in_ok-push_nodes.ensures.added plain) c.deref.result.now _ c.deref-2.result.now c.deref.ensures.value c.deref-2.ensures.value (c.in_ok-steps.ensures.made plain) in
-    record { has = has; workspaces = subst HasNoWorkspaces are l.simple.workspaces; lists = needs_of_lock (view c.args.lock.now) (members_view c.in-Some.packages.now.entries) c.in-Some.ensures.members l })) c.push_needs.ensures.failed
+    record { has = has; names = needs_of_lock (view c.args.lock.now) (members_view c.in-Some.packages.now.entries) c.in-Some.ensures.members l })) c.push_needs.ensures.failed
 
 pub returns-clause-only : goal.returns-clause-only
-returns-clause-only c = λ simple empty.
+returns-clause-only c = λ links empty.
     let ps = listed (members_view c.in-Some.packages.now.entries) in
     let are = c.in-Some.ensures.all ∙ project_there (view c.args.lock.now) c.in-Some.packages.now.entries (λ zero. false≢true (c.if-is_empty.ensures.1 zero)) in
-    let plain = subst HasNoLinks are simple.links in
+    let plain = subst HasNoLinks are links in
     let has = steps_first c.root_name-root.result.now ps c.args.network.now c.push_nodes.new.network empty (c.in_ok-push_nodes.ensures.added plain) c.deref.result.now _ c.deref-2.result.now c.deref.ensures.value c.deref-2.ensures.value (c.in_ok-steps.ensures.made plain) in
-    ok_more c.push_needs.result (All HasLists ps) (IsNpmLock (view c.args.lock.now))
-    (λ lists. record { simple = simple; version = c.has_paths.ensures.0 c.if-not-has_paths.false; packages = members_view c.in-Some.packages.now.entries; are = sym c.in-Some.ensures.members; each = c.in_ok-push_nodes.ensures.only; needs = lists })
-    (c.push_needs.ensures.only has (subst HasNoWorkspaces are simple.workspaces))
+    ok_more c.push_needs.result (All HasNames ps) (IsNpmLock (view c.args.lock.now))
+    (λ names. record { links = links; version = c.has_paths.ensures.0 c.if-not-has_paths.false; packages = members_view c.in-Some.packages.now.entries; are = sym c.in-Some.ensures.members; each = c.in_ok-push_nodes.ensures.only; needs = names })
+    (c.push_needs.ensures.only has)

@@ -22,4 +22,4 @@ returns-then-has_wrong_source-clause-failed c =
 pub returns-in-None-clause-failed : goal.returns-in-None-clause-failed
 returns-in-None-clause-failed c =
     let d = view c.args.table.now in
-    fails_none (IsPackage d) c.wrong-in-None.result (λ p is. c.in-None.ensures.version p.version is.version) c.wrong-in-None.ensures
+    fails_none (IsPackage d) c.wrong-in-None.result (λ p is. c.in-None.ensures p.version is.version) c.wrong-in-None.ensures

@@ -3,7 +3,7 @@ use Rattle.std.proofs.lemmas.Result.{IfErr-weaker}
 use Rattle.std.specs.List.{All}
 use Rattle.std.specs.Prelude.{IfErr, OnOk}
 use Rattle.toml.specs.View.{view}
-use Rattle.trees.specs.Locking.{HasTables, IsLock, IsPlain, NeedsLead}
+use Rattle.trees.specs.Locking.{HasTables, IsLock, NeedsLead}
 use Rattle.trees.specs.LockingParts.{package_of, AddsAll, AddsLabels, FailsUnless, HasLocked}
 use Rattle.trees.proofs.LockedEntries.{ok_more}
 use Rattle.trees.proofs.LockedFailures.{fails_leading, fails_unless, fails_unread}
@@ -15,7 +15,7 @@ use Rattle.trees.proofs.deps.packages.read.Goals as goal
 pub returns-in_err-tables-clause-failed : goal.returns-in_err-tables-clause-failed
 returns-in_err-tables-clause-failed c =
     let d = view c.args.lock.now in
-    let says = fails_unless (IsPlain d × HasTables d) (IsLock d) c.in_err-tables.field-0.0 (λ lock. (lock.plain, lock.tables)) c.in_err-tables.ensures.failed in
+    let says = fails_unless (HasTables d) (IsLock d) c.in_err-tables.field-0.0 (λ lock. lock.tables) c.in_err-tables.ensures.failed in
     search (rules, says)
 
 pub returns-in_err-packages-clause-failed : goal.returns-in_err-packages-clause-failed
@@ -25,17 +25,16 @@ returns-in_err-packages-clause-failed c =
     search (rules, says)
 
 pub returns-clause-held : goal.returns-clause-held
-returns-clause-held c = λ plain empty.
+returns-clause-held c = λ empty.
     let tables = map view c.in_ok-tables.tables.now in
     let ps = c.in_ok-packages.packages.items in
     let old = c.args.network.now in
     let labels = c.push_labels.new.labels in
     let new = c.push_edges.new.network in
-    let all = c.in_ok-tables.ensures.tables plain in
     let texts = subst (λ (qs : List Tuple). AddsLabels tables qs old.labels.items labels.items) c.deref.ensures.value c.in_ok-push_labels.ensures in
     let added = subst (λ (qs : List Tuple). OnOk c.push_edges.result (AddsAll tables qs (labelled tables ps old labels empty) new)) c.deref-2.ensures.value
     (c.push_edges.ensures.added (labelled_indexed tables ps old labels empty)) in
-    subst (λ ts. OnOk c.push_edges.result (HasLocked old.is_inverse ts new)) all
+    subst (λ ts. OnOk c.push_edges.result (HasLocked old.is_inverse ts new)) c.in_ok-tables.ensures.tables
     (ok_more c.push_edges.result (AddsAll tables ps (labelled tables ps old labels empty) new) (HasLocked old.is_inverse tables new) (locked_held tables ps old labels empty new c.in_ok-packages.ensures.locked texts) added)
 
 pub returns-clause-failed : goal.returns-clause-failed
@@ -48,10 +47,9 @@ returns-clause-failed c =
     (subst (λ (qs : List Tuple). IfErr c.push_edges.result (FailsUnless (All (NeedsLead (map package_of qs)) tables))) c.deref-2.ensures.value c.push_edges.ensures.failed)
 
 pub returns-clause-only : goal.returns-clause-only
-returns-clause-only c = λ plain.
+returns-clause-only c =
     let d = view c.args.lock.now in
     let tables = map view c.in_ok-tables.tables.now in
     let ps = c.in_ok-packages.packages.items in
-    let all = c.in_ok-tables.ensures.tables plain in
-    ok_more c.push_edges.result (All (NeedsLead (map package_of ps)) tables) (IsLock d) (λ led. lock_of d tables ps plain (c.in_ok-tables.ensures.has plain) all c.in_ok-packages.ensures.locked led)
+    ok_more c.push_edges.result (All (NeedsLead (map package_of ps)) tables) (IsLock d) (λ led. lock_of d tables ps c.in_ok-tables.ensures.has c.in_ok-tables.ensures.tables c.in_ok-packages.ensures.locked led)
     (subst (λ (qs : List Tuple). OnOk c.push_edges.result (All (NeedsLead (map package_of qs)) tables)) c.deref-2.ensures.value c.push_edges.ensures.led)

@@ -1,12 +1,13 @@
 use Rattle.std.proofs.Common.{rules}
 use Rattle.std.proofs.lemmas.Result.{IfErr-weaker}
+use Rattle.toml.specs.Data.{Data}
 use Rattle.toml.specs.View.{view}
 use Rattle.trees.specs.Locking.{IsLock}
 use Rattle.trees.specs.LockingParts.{FailsUnless}
 use Rattle.trees.specs.Meaning.{HoldsLock}
 use Rattle.trees.specs.Reading.{FailsToMake}
+use Rattle.trees.proofs.LockedEntries.{ok_more}
 use Rattle.trees.proofs.LockedFailures.{fails_document, fails_lock}
-use Rattle.trees.proofs.LockedLed.{only_lock}
 use Rattle.trees.proofs.deps.packages.toml_lock.Goals as goal
 
 pub returns-in_err-lock-clause-failed : goal.returns-in_err-lock-clause-failed
@@ -21,4 +22,6 @@ returns-clause-failed c =
     (λ f says. fails_lock c.args.input.now f d c.in_ok-lock.ensures.value says) c.read.ensures.failed
 
 pub returns-clause-only : goal.returns-clause-only
-returns-clause-only c = only_lock c.args.input.now (view c.in_ok-lock.lock) c.read.result c.in_ok-lock.ensures.value c.read.ensures.only
+returns-clause-only c =
+    let d = view c.in_ok-lock.lock in
+    ok_more c.read.result (IsLock d) ((e : Data) × HoldsLock c.args.input.now e) (λ lock. (d, (c.in_ok-lock.ensures.value, lock))) c.read.ensures.only

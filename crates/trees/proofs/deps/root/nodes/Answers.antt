@@ -1,5 +1,7 @@
-use Rattle.std.proofs.Common.{◌≡◌, ◌≤◌, ◌<◌, ◌∙◌, ◌+◌, length, get_or, refl, sym, ap, subst}
-use Rattle.std.specs.Str.{bytes_eq}
+use Rattle.std.proofs.Common.{◌≡◌, ◌≤◌, ◌<◌, ◌∙◌, ◌+◌, length, get_or, string_bytes, refl, sym, ap, subst, arith}
+use Rattle.std.proofs.Math.ListN.{get_or-map}
+use Rattle.std.proofs.lemmas.List.{length-map}
+use Rattle.trees.specs.DependingParts.{labels_of, paths_of, is_meant}
 use Rattle.trees.proofs.Roots.{AreNodes, nodes_push, nodes_same, nodes_all}
 use Rattle.trees.proofs.deps.root.nodes.Goals as goal
 use Rattle.trees.proofs.deps.root.nodes.Goals.{then-is_meant+in_ok-push, else-is_meant}
@@ -7,27 +9,32 @@ use Rattle.trees.proofs.deps.root.nodes.Goals.{then-is_meant+in_ok-push, else-is
 pub loop-i-preserved : goal.loop-i-preserved
 loop-i-preserved c =
     let network = c.args.network.now in
-    let labels = network.labels.items in
+    let is_whole = c.args.is_whole in
+    let labels = labels_of network in
+    let paths = paths_of network in
+    let name = c.args.name.now in
     let i = c.loop-i.i in
+    let items = network.labels.items in
     let label = c.label-item.result in
-    let low : i < length labels = subst (λ ls. i < length ls) c.deref-label-items.ensures.value c.loop-i-test.true in
-    let is : label ≡ get_or labels i label = subst (λ ls. label ≡ get_or ls i label) c.deref-label-items.ensures.value c.label-item.is in
-    let text = ap (λ x. bytes_eq x c.args.name.now) (sym c.as_str.ensures.value) in
+    let size = length-map items string_bytes in
+    let low : i < length items = subst (λ ls. i < length ls) c.deref-label-items.ensures.value c.loop-i-test.true in
+    let below : i < length labels = omega (arith, size, low) in
+    let is : label ≡ get_or items i label = subst (λ ls. label ≡ get_or ls i label) c.deref-label-items.ensures.value c.label-item.is in
+    let at : string_bytes label ≡ get_or labels i (string_bytes label) = ap string_bytes is ∙ sym (get_or-map string_bytes items i label) in
+    let text = ap (is_meant is_whole paths name i) (sym c.as_str.ensures.value) in
     elim c.if-is_meant.branch [
       | then-is_meant+in_ok-push w ↦
-          subst (λ v. AreNodes c.args.is_whole network.paths.items labels c.args.name.now (i + 1) v.items) (sym w.found-is)
-          (subst (AreNodes c.args.is_whole network.paths.items labels c.args.name.now (i + 1)) (sym w.in_ok-push.ensures.items)
-          (nodes_push c.args.is_whole network.paths.items labels c.args.name.now i c.loop-i.found.items label low is c.loop-i.invariant _ refl (λ on none. text ∙ (sym (c.is_meant.ensures on none) ∙ w.if-is_meant.true))))
+          subst (λ v. AreNodes is_whole labels paths name (i + 1) v.items) (sym w.found-is)
+          (subst (AreNodes is_whole labels paths name (i + 1)) (sym w.in_ok-push.ensures.items)
+          (nodes_push is_whole labels paths name i c.loop-i.found.items (string_bytes label) below at c.loop-i.invariant _ refl (text ∙ (sym c.is_meant.ensures ∙ w.if-is_meant.true))))
       | else-is_meant w ↦
-          subst (λ v. AreNodes c.args.is_whole network.paths.items labels c.args.name.now (i + 1) v.items) (sym w.found-is)
-          (nodes_same c.args.is_whole network.paths.items labels c.args.name.now i c.loop-i.found.items label low is c.loop-i.invariant (λ on none. text ∙ (sym (c.is_meant.ensures on none) ∙ w.if-is_meant.false)))
+          subst (λ v. AreNodes is_whole labels paths name (i + 1) v.items) (sym w.found-is)
+          (nodes_same is_whole labels paths name i c.loop-i.found.items (string_bytes label) below at c.loop-i.invariant (text ∙ (sym c.is_meant.ensures ∙ w.if-is_meant.false)))
     ]
 
-pub returns-clause-named : goal.returns-clause-named
-returns-clause-named c =
+pub returns : goal.returns
+returns c =
     let network = c.args.network.now in
+    let size = length-map network.labels.items string_bytes in
     let end : length network.labels.items ≤ c.loop-i.i = subst (λ ls. length ls ≤ c.loop-i.i) c.deref-label-items.ensures.value c.loop-i-test.false in
-    nodes_all c.args.is_whole network.paths.items network.labels.items c.args.name.now c.loop-i.i c.loop-i.found.items end c.loop-i.invariant
-
-pub returns-clause-nodes : goal.returns-clause-nodes
-returns-clause-nodes c = c.loop-i.invariant.0
+    nodes_all c.args.is_whole (labels_of network) (paths_of network) c.args.name.now c.loop-i.i c.loop-i.found.items (omega (arith, size, end)) c.loop-i.invariant

@@ -14,7 +14,7 @@ use Rattle.trees.proofs.NpmLocks.{lists_all}
 use Rattle.trees.proofs.deps.npm.Walk.add.Goals as goal
 
 pub loop-step-init : goal.loop-step-init
-loop-step-init c = (λ fresh has none. at_fresh c.args.steps.now c.args.self.now fresh, λ fresh has none. All-nil (IsListedAt (walked c.args.self.now)))
+loop-step-init c = (λ fresh has. at_fresh c.args.steps.now c.args.self.now fresh, λ fresh has. All-nil (IsListedAt (walked c.args.self.now)))
 
 pub loop-step-preserved : goal.loop-step-preserved
 loop-step-preserved c =
@@ -22,9 +22,9 @@ loop-step-preserved c =
     let steps = c.args.steps.now in
     let k = c.loop-step.step-index in
     let at = slice_get_read steps (length steps) k c.step-item.result refl c.loop-step-test.true c.step-item.is in (
-      (λ fresh has none. c.in_ok-go.ensures.at packages steps k has none at (c.loop-step.invariant.0 fresh has none)),
-      λ fresh has none. All-more (IsListedAt packages) steps k c.step-item.result c.loop-step-test.true (c.loop-step.invariant.1 fresh has none)
-          (subst (IsListedAt packages) c.step-item.is (c.in_ok-go.ensures.only packages steps k has none at (c.loop-step.invariant.0 fresh has none))),
+      (λ fresh has. c.in_ok-go.ensures.at packages steps k has at (c.loop-step.invariant.0 fresh has)),
+      λ fresh has. All-more (IsListedAt packages) steps k c.step-item.result c.loop-step-test.true (c.loop-step.invariant.1 fresh has)
+          (subst (IsListedAt packages) c.step-item.is (c.in_ok-go.ensures.only packages steps k has at (c.loop-step.invariant.0 fresh has))),
     )
 
 pub returns-clause-added : goal.returns-clause-added
@@ -33,7 +33,7 @@ returns-clause-added c = λ fresh indexed.
     let packages = walked c.args.self.now in (
       map edge_of needs,
       (in_order needs c.sort_unstable.ensures.sorted, subst (λ ts. AddsEdges c.args.network.now c.push_edges.new.network (map edge_of ts)) c.deref.ensures.value (c.in_ok-push_edges.ensures indexed)),
-      λ has none. needs_sorted packages c.loop-step.self.needs.items needs c.sort_unstable.ensures.permutation (at_end packages c.args.steps.now c.loop-step.step-index c.loop-step.self has c.loop-step-test.false (c.loop-step.invariant.0 fresh has none)),
+      λ has. needs_sorted packages c.loop-step.self.needs.items needs c.sort_unstable.ensures.permutation (at_end packages c.args.steps.now c.loop-step.step-index c.loop-step.self has c.loop-step-test.false (c.loop-step.invariant.0 fresh has)),
     )
 
 pub returns-in_err-go-clause-failed : goal.returns-in_err-go-clause-failed
@@ -43,11 +43,11 @@ returns-in_err-go-clause-failed c = λ fresh.
     let k = c.loop-step.step-index in
     let at = slice_get_read steps (length steps) k c.step-item.result refl c.loop-step-test.true c.step-item.is in
     let says = fails_unless (AreRight packages steps × IsAtStep packages steps k c.loop-step.self) (AreRight packages steps) c.in_err-go.field-0.0
-    (λ right. (right, c.loop-step.invariant.0 fresh right.has right.workspaces)) (c.in_err-go.ensures.failed packages steps k at) in
+    (λ right. (right, c.loop-step.invariant.0 fresh right.has)) (c.in_err-go.ensures.failed packages steps k at) in
     search (rules, says)
 
 pub returns-clause-only : goal.returns-clause-only
-returns-clause-only c = λ fresh has none.
+returns-clause-only c = λ fresh has.
     let packages = walked c.args.self.now in
     let steps = c.args.steps.now in
-    lists_all packages steps has (subst (All (IsListedAt packages)) (take_all c.loop-step.step-index steps c.loop-step-test.false) (c.loop-step.invariant.1 fresh has none))
+    lists_all packages steps has (subst (All (IsListedAt packages)) (take_all c.loop-step.step-index steps c.loop-step-test.false) (c.loop-step.invariant.1 fresh has))

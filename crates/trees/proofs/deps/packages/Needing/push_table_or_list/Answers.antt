@@ -7,7 +7,7 @@ use Rattle.trees.specs.Locking.{members_in, IsLed, NameLeads, OwnLead}
 use Rattle.trees.specs.LockingParts.{packages_of, AddsEntries, FailsUnless}
 use Rattle.trees.proofs.LockedEntries.{ok_more}
 use Rattle.trees.proofs.LockedFailures.{fails_unless}
-use Rattle.trees.proofs.PoetryNeeds.{own_table, own_list, lead_table, table_lead, lead_list, list_lead}
+use Rattle.trees.proofs.PoetryNeeds.{own_table, own_list, lead_table, table_lead}
 use Rattle.trees.proofs.deps.packages.Needing.push_table_or_list.Goals as goal
 
 pub returns-in-Some-clause-added : goal.returns-in-Some-clause-added
@@ -30,15 +30,15 @@ returns-in-Some-clause-failed c =
 pub returns-in-None-clause-added : goal.returns-in-None-clause-added
 returns-in-None-clause-added c =
     subst (λ es. OnOk c.push_list.result (AddsEntries c.args.self.now es c.args.network.now c.push_list.new.network))
-    (sym (own_list (packages_of c.args.self.now) (view c.args.needs.now) c.in-None.ensures)) c.push_list.ensures.added
+    (sym (own_list (packages_of c.args.self.now) (view c.args.needs.now) c.in-None.ensures).0) c.push_list.ensures.added
 
 pub returns-in-None-clause-led : goal.returns-in-None-clause-led
 returns-in-None-clause-led c =
-    ok_more c.push_list.result _ _ (lead_list (packages_of c.args.self.now) (view c.args.needs.now) c.in-None.ensures) c.push_list.ensures.led
+    ok_more c.push_list.result _ _ (own_list (packages_of c.args.self.now) (view c.args.needs.now) c.in-None.ensures).1.1 c.push_list.ensures.led
 
 pub returns-in-None-clause-failed : goal.returns-in-None-clause-failed
 returns-in-None-clause-failed c =
     let packages = packages_of c.args.self.now in
     let d = view c.args.needs.now in
     IfErr-weaker c.push_list.result (FailsUnless (IsLed packages d)) (FailsUnless (OwnLead packages d))
-    (λ f says. fails_unless (IsLed packages d) (OwnLead packages d) f (list_lead packages d c.in-None.ensures) says) c.push_list.ensures.failed
+    (λ f says. fails_unless (IsLed packages d) (OwnLead packages d) f (own_list packages d c.in-None.ensures).1.0 says) c.push_list.ensures.failed
