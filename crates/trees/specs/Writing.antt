@@ -45,14 +45,14 @@ use Rattle.trees.specs.Reading.{IsWriting, HoldsDrawing, FailsFor, FailsToMake, 
 use Rattle.trees.specs.Settings.{SaysSettings}
 use Rattle.trees.specs.Shown.{shown_lines, shown_on, shown_text, IsNone, ShowsOnly, IsLookCode}
 
--- A call that succeeds has appended bytes of which Is holds. One that fails has appended nothing, and
--- Fails holds of the failure; or it failed in writing, and has appended a prefix of such bytes.
+-- Success has appended bytes of which Is holds. A failure of which Fails holds has appended nothing; or
+-- the output failed or memory ran out, and a prefix of such bytes was appended.
 abbrev pub Writes : {A : Type 0} → Option (List ℕ) → Option (List ℕ) → Result A Failure → (List ℕ → Type 0) → (Failure → Type 0) → Type 0
 Writes old new (Ok x) Is Fails = (bytes : List ℕ) × Is bytes × Appends old new bytes
 Writes old new (Err e) Is Fails = (Fails e × Appends old new []) ⊎ (IsWriting e × (bytes : List ℕ) × Is bytes × AppendsPart old new bytes)
 
--- A call that compares, and succeeds only if nothing differs, has then appended nothing. One that
--- refuses has appended bytes of which Is holds, and any other failure is as above.
+-- Success has appended nothing, and `Said` bytes of which Is holds. Any other failure has appended what
+-- `Writes` says.
 abbrev pub WritesRefusal : {A : Type 0} → Option (List ℕ) → Option (List ℕ) → Result A Failure → (List ℕ → Type 0) → (Failure → Type 0) → Type 0
 WritesRefusal old new (Ok x) Is Fails = Appends old new []
 WritesRefusal old new (Err Said) Is Fails = (bytes : List ℕ) × Is bytes × Appends old new bytes
@@ -61,8 +61,8 @@ WritesRefusal {A} old new (Err (Input wrong)) Is Fails = Writes {A = A} old new 
 WritesRefusal {A} old new (Err (Output kind)) Is Fails = Writes {A = A} old new (Err (Output kind)) Is Fails
 WritesRefusal {A} old new (Err Memory) Is Fails = Writes {A = A} old new (Err Memory) Is Fails
 
--- A call that says something, and may refuse by that: success and a refusal have appended bytes of
--- which Is holds, any other failure nothing or a prefix of them.
+-- Success and `Said` have appended bytes of which Is holds, and any other failure nothing or, if the
+-- output failed or memory ran out, a prefix of such bytes.
 abbrev pub WritesSaid : {A : Type 0} → Option (List ℕ) → Option (List ℕ) → Result A Failure → (List ℕ → Type 0) → Type 0
 WritesSaid old new (Ok x) Is = (bytes : List ℕ) × Is bytes × Appends old new bytes
 WritesSaid old new (Err Said) Is = (bytes : List ℕ) × Is bytes × Appends old new bytes
@@ -71,7 +71,7 @@ WritesSaid {A} old new (Err (Input wrong)) Is = Writes {A = A} old new (Err (Inp
 WritesSaid {A} old new (Err (Output kind)) Is = Writes {A = A} old new (Err (Output kind)) Is (λ e. ⊤)
 WritesSaid {A} old new (Err Memory) Is = Writes {A = A} old new (Err Memory) Is (λ e. ⊤)
 
--- what a call writes to is as it was, if it ends with a usage error or an error of an input
+-- after a usage error and after an error of an input, what a call writes to is as it was
 abbrev pub LeavesIfWrong : {A W : Type 0} → W → W → Result A Failure → Type 0
 LeavesIfWrong old new (Ok x) = ⊤
 LeavesIfWrong old new (Err (Usage wrong)) = new ≡ old
@@ -86,19 +86,20 @@ LeavesIfWrong old new (Err Memory) = ⊤
 abbrev pub shown_tree : Bool → Tree → Tree
 shown_tree is_terminal t = if is_terminal then mapped_tree escaped_text t else t
 
--- the bytes are the drawing of a tree under a configuration
+-- the bytes are the drawing of a tree under a configuration, for a terminal with its texts escaped
 abbrev pub IsTreeDrawing : ConfigValue → Bool → Tree → List ℕ → Type 0
 IsTreeDrawing config is_terminal t bytes = IsDrawing (look_by config Unknown false) (shape_of_tree (shown_tree is_terminal t)) config.depth bytes
 
--- the bytes are the drawing of a graph under a configuration: of its walks, or of it with each node
--- expanded once
+-- the bytes are the drawing of a graph from its root on, under a configuration: of its walks, or of it
+-- with each node expanded once, and ` (*)` behind what is repeated
 abbrev pub IsGraphDrawing : ConfigValue → Dependencies → Bool → List ℕ → Type 0
 IsGraphDrawing config found true bytes = IsDrawing (look_by config Unknown false) (node_shape string_bytes found.graph found.root.0) config.depth bytes
 IsGraphDrawing config found false bytes =
     (t : OccurrenceTree) × IsExpandedOnce (neighbors_of (edges_of found.graph)) found.root.0 config.depth t
     × IsDrawing (look_by config Unknown false) (occurrence_shape string_bytes found.graph (codes " (*)") t) config.depth bytes
 
--- the drawing of one tree or of a graph is written, or of two trees in one, which never succeeds
+-- a tree, a graph, or a merge of two trees is drawn. Of a merge the call never succeeds, and of a graph
+-- it says that the input is wrong only if more than 5,000 levels are asked for
 abbrev pub WritesDrawn : {A : Type 0} → ConfigValue → Bool → Drawn → Option (List ℕ) → Option (List ℕ) → Result A Failure → Type 0
 WritesDrawn config is_terminal (drawn.Tree item) old new result = Writes old new result (IsTreeDrawing config is_terminal (tree_of item.now)) (λ e. e ≡ Memory)
 WritesDrawn config is_terminal (drawn.Graph source found walks) old new result = Writes old new result (IsGraphDrawing config found.now walks) (FailsFor (5000 < config.depth) ⊥)
@@ -111,7 +112,8 @@ IsDrawingOf sources drawing Is bytes = (t : Tree) × Is t × IsTreeDrawing (draw
 
 -- ## Indented text
 
--- the bytes are the indented form of a tree, for a terminal with its texts and the bullet escaped
+-- the bytes are the indented form of a tree with a unit and a bullet, for a terminal with its texts and
+-- the bullet escaped
 abbrev pub IsShownForm : Bool → List ℕ → List ℕ → Tree → List ℕ → Type 0
 IsShownForm is_terminal unit bullet t bytes = (form : Form) × (form.unit.now ≡ unit) × (form.bullet.now ≡ shown_text is_terminal bullet) × IsIndentedForm form bytes (shown_tree is_terminal t)
 
@@ -119,13 +121,14 @@ IsShownForm is_terminal unit bullet t bytes = (form : Form) × (form.unit.now �
 abbrev pub IsIndented : Indented → Tree → List ℕ → Type 0
 IsIndented indented t bytes = IsShownForm indented.is_terminal indented.unit.now (text_or indented.bullet []) t bytes
 
--- the bytes are that of the tree whose drawing the source holds, and can be read back
+-- the bytes are what `indented` writes of the tree whose drawing the source holds, and `outline` makes
+-- that tree of them again, if what is written can be read back
 abbrev pub IsIndentation : Sources → Source → Indented → List ℕ → Type 0
 IsIndentation sources source indented bytes =
     (t : Tree) × HoldsDrawing (reading_value sources indented.pieces) source t × IsIndented indented t bytes × IsReadBack indented t bytes
 
--- what each failure before anything is written says: the source holds the drawing of no tree whose
--- texts are all read again, the pieces are not readable, or memory ran out
+-- what each failure before anything is written says: the source holds no drawing, or that of a tree of
+-- which a text is lost; or the pieces are not readable, or memory ran out
 abbrev pub FailsToIndent : Sources → Source → Indented → Failure → Type 0
 FailsToIndent sources source indented =
     let config = reading_value sources indented.pieces in
@@ -140,7 +143,8 @@ IsGiven source (given.Toml document) t = IsPartTree Toml source document t
 IsGiven source (given.Paths paths) t = IsListed source paths t
 IsGiven source (given.Outline outline) t = HoldsOutline source outline t
 
--- what each failure before anything is drawn says; an error of a document names what is wrong with it
+-- what each failure before anything is drawn says: there is no such tree, or of `outline` the unit or
+-- the bullet is not right, or memory ran out; an error of a document names what is wrong with it
 abbrev pub FailsToGive : Source → Given → Failure → Type 0
 FailsToGive source (given.Json document) e = FailsToMake ⊥ (IsPartTree Json source document) e × NamesWrong Json source document e
 FailsToGive source (given.Toml document) e = FailsToMake ⊥ (IsPartTree Toml source document) e × NamesWrong Toml source document e
@@ -156,8 +160,9 @@ abbrev pub IsNeedsDrawing : Sources → Source → Deps → Drawing → List ℕ
 IsNeedsDrawing sources source deps drawing bytes =
     (d : Dependencies) × (HasMeaning source deps.root → IsGraphOf source deps.root deps.is_inverse drawing.screen.is_terminal d) × IsGraphDrawing (drawing_value sources drawing) d deps.walks bytes
 
--- what each failure before anything is written says: the source holds no such graph, or more than 5,000
--- levels are asked for, or memory ran out
+-- what each failure before anything is written says of lines of two words, of lock files with tables of
+-- packages, and, without a root, of those of npm: the source is no such file (of npm: without links), or
+-- has no such root, or more than 5,000 levels are asked for, or memory ran out
 pub record FailsToDepend (sources : Sources) (source : Source) (deps : Deps) (drawing : Drawing) (e : Failure) : Type 0 where
   pub pairs : IsPairFile source → FailsFor (HoldsNoGraph source deps.root ⊎ (5000 < (drawing_value sources drawing).depth)) ⊥ e
   pub lock : IsTextFile true source → FailsFor (HoldsNoLockGraph source deps.root deps.is_inverse ⊎ (5000 < (drawing_value sources drawing).depth)) ⊥ e
@@ -184,8 +189,9 @@ pub record ChangesPieces (sources : Sources) (convert : Convert) : Type 0 where
   pub plain : (drawing_value sources convert.drawing).styled ≡ Never
   pub deep : 5000 ≤ (drawing_value sources convert.drawing).depth
 
--- what one conversion made of a first source, the one with the pieces exchanged makes that source's
--- text again
+-- the way back: of what one conversion made of a first source, one with the pieces exchanged that
+-- succeeds makes that source's text again, if both change the pieces alone, and it reads with pieces
+-- that are readable
 abbrev pub ConvertsBack : {A : Type 0} → Sources → Source → Convert → Option (List ℕ) → Option (List ℕ) → Result A Failure → Type 0
 ConvertsBack sources source back old new result =
     (first : Source) (there : Convert) → ChangesPieces sources there → ChangesPieces sources back
@@ -205,7 +211,7 @@ FailsToCompare sources left right diff e =
     let config = reading_value sources diff.drawing.pieces in
     FailsToRead config left e ⊎ FailsToRead config right e
 
--- if all differences are asked for, such a drawing is written, and nothing if there are none
+-- if all differences are asked for: `Said` has written such a drawing, and success nothing
 abbrev pub Compares : {A : Type 0} → Sources → Source → Source → Diff → Option (List ℕ) → Option (List ℕ) → Result A Failure → Type 0
 Compares sources left right diff old new result =
     IsTrue diff.shows_all → WritesRefusal old new result (IsMergeOf sources left right diff) (FailsToCompare sources left right diff)
@@ -214,13 +220,15 @@ Compares sources left right diff old new result =
 abbrev pub AreReports : Sources → List Source → Option Pieces → Bool → List ℕ → Type 0
 AreReports sources inputs pieces is_terminal bytes = (said : List ℕ) × Adds (IsReport (reading_value sources pieces)) inputs [] said × (bytes ≡ shown_on is_terminal said)
 
--- the bytes are what `config` writes: at the end the settings that hold, escaped
+-- the bytes are what `config` writes: a text, escaped, that ends with the settings that hold
 abbrev pub AreSettings : Sources → List ℕ → Type 0
 AreSettings sources bytes = (said : List ℕ) × SaysSettings (effective_config sources) said × (bytes ≡ shown_lines said)
 
--- what a command writes: those that draw an input, the drawing of its tree; `deps`, of lines of two
--- words and of lock files that of their graph; `indented`, the indented text; `convert`, the
--- conversion, which can be turned back; `diff`, all differences; `config`, the settings
+-- what a command writes: those that draw an input, the drawing of its tree; `deps`, that of a graph,
+-- which is known of lines of two words, of lock files with tables of packages, and of those of npm
+-- without links and without a root; `indented`, the indented text; `check`, the reports; `convert`, the
+-- conversion, which can be turned back; `diff`, all differences, if they are asked for; `config`, the
+-- settings
 abbrev pub WritesOfCommand : {A : Type 0} → Sources → Command → Option (List ℕ) → Option (List ℕ) → Result A Failure → Type 0
 WritesOfCommand sources (command.Convert source convert) old new result = Converts sources source.now convert old new result × ConvertsBack sources source.now convert old new result
 WritesOfCommand sources (command.Draw source tree drawing) old new result = Draws sources source.now tree drawing old new result
@@ -230,15 +238,16 @@ WritesOfCommand sources (command.Check inputs pieces screen) old new result = Wr
 WritesOfCommand sources (command.Diff left right diff) old new result = Compares sources left.now right.now diff old new result
 WritesOfCommand sources command.Config old new result = WritesSaid old new result (AreSettings sources)
 
--- on a terminal a drawing writes nothing that it acts on, but line feeds and the codes of its styles
+-- on a terminal nothing is written that it acts on, but line feeds and the codes of a drawing's styles
 abbrev pub ShowsDrawing : Sources → Drawing → Option (List ℕ) → Option (List ℕ) → Type 0
 ShowsDrawing sources drawing = ShowsOnly drawing.screen.is_terminal (IsLookCode (look_by (drawing_value sources drawing) Unknown false))
 
--- the same of two trees in one, and of what is said of their first difference
+-- the same of a merge, with the colours of what is in one tree alone, and of a first difference
 abbrev pub ShowsMerged : Sources → Drawing → Option (List ℕ) → Option (List ℕ) → Type 0
 ShowsMerged sources drawing = ShowsOnly drawing.screen.is_terminal (IsMergeCode (drawing_value sources drawing))
 
--- the same of a command; in indented text the unit may be a tab; the settings are so in a file too
+-- the same of a command: `indented` has its unit in place of codes, `check` and `config` have none, and
+-- `config` is so in a file too
 abbrev pub ShowsOfCommand : Sources → Command → Option (List ℕ) → Option (List ℕ) → Type 0
 ShowsOfCommand sources (command.Draw source tree drawing) old new = ShowsDrawing sources drawing old new
 ShowsOfCommand sources (command.Convert source convert) old new = ShowsDrawing sources convert.drawing old new

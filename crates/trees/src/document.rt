@@ -1,4 +1,4 @@
-//! Documents as trees, with floats and dates as they are written.
+//! Documents as trees, with floats and dates as the crates of their formats write them.
 ghost use Rattle.std.specs.Prelude.{◌≡◌, ◌<◌, ◌∷◌, ◌++◌, ⊤, ℕ, true, [], map, length, codes, option_map, string_bytes, IfOk, IfErr, OnOk, MatchOption};
 ghost use Rattle.serde_json.specs.View as json_view;
 ghost use Rattle.toml.specs.View as toml_view;
@@ -27,7 +27,7 @@ pub trait Value: Sized + Drop {
     /// What a value means.
     ghost node: { Self → FileNode };
 
-    /// Returns what a strict call refuses.
+    /// Returns what a strict call refuses in the format.
     fn refused_kind() -> &'static str
         ensures { result.now ≡ refused_kind format };
 
@@ -45,7 +45,7 @@ pub trait Value: Sized + Drop {
     fn part(&self, key: &str) -> Option<&Self>
         ensures { FindsPart (node self.now) key.now (option_map (λ part. node part.now) result) };
 
-    /// Returns the path to the first value that a strict call refuses.
+    /// Returns the path to the first value that a strict call refuses, if there is one.
     ///
     /// # Errors
     ///
@@ -53,7 +53,7 @@ pub trait Value: Sized + Drop {
     fn refused_path(&self, alloc: Global) -> Result<Option<Vec<Step>>, AllocError>
         ensures { IfOk result (λ path. IsFirstRefused (node self.now) (option_map path_of path)) };
 
-    /// Returns the tree below a root with this text.
+    /// Returns the tree of the value under a label.
     ///
     /// # Errors
     ///
@@ -120,7 +120,8 @@ impl Value for toml::Value {
     }
 }
 
-// Returns the position, counted from 0, that digits say. A sign is none.
+// Returns the position, counted from 0, that a key of digits says. Any other key says none, as one
+// with a sign.
 fn position(key: &str) -> Option<usize>
     ensures { MatchOption result ((n : ℕ) → IsPosition key.now n → ⊥) (IsPosition key.now) }
 {
@@ -134,8 +135,9 @@ fn position(key: &str) -> Option<usize>
 ///
 /// # Errors
 ///
-/// `Input` with the line if the text is no document, if nothing is there, or if what a strict call
-/// refuses is there, and `Memory`.
+/// `Input` if the text is no document, with a line; if nothing is at the keys asked for, with the
+/// first that leads to nothing; or if what a strict call refuses is there, with the path to it.
+/// `Memory` if memory ran out.
 pub fn tree<V: Value>(
     alloc: Global,
     source: &Source,
@@ -145,8 +147,8 @@ pub fn tree<V: Value>(
         (λ t. IsPartTree V.format source.now document.entry (tree_of t)) }
     ensures failed { IfErr result
         (FailsToMake ⊥ (IsPartTree V.format source.now document.entry)) }
-    // And `Input` names the line, the first key that leads to nothing, or the first value that a
-    // strict call refuses.
+    // And `Input` names a line, the first key that leads to nothing, or the path to the first value
+    // that a strict call refuses.
     ensures place { IfErr result
         (NamesWrong V.format source.now document.entry) }
 {
@@ -173,7 +175,7 @@ fn tree_of<V: Value>(
     Ok(part.tree(alloc, root_label(source, document))?)
 }
 
-// Fails if the call is strict, and refuses what stands in a part.
+// Fails if the call is strict, and the part has a value that it refuses.
 fn refuse<V: Value>(
     alloc: Global,
     source: &Source,
@@ -195,7 +197,7 @@ fn refuse<V: Value>(
     }
 }
 
-// Returns the part of a value that the keys `at` lead to.
+// Returns the part of a value that the keys `at` lead to, or all of it without them.
 fn part_at<'a, V: Value>(
     alloc: Global,
     source: &Source,
@@ -213,8 +215,8 @@ fn part_at<'a, V: Value>(
     }
 }
 
-// Returns the part of a value that the last of the keys `at` lead to. It calls itself once for each
-// level of the document at most.
+// Returns the part of a value that the keys `last` lead to, the end of `at`. It calls itself once
+// for each level of the document at most.
 fn part_below<'a, V: Value>(
     alloc: Global,
     source: &Source,
@@ -239,7 +241,7 @@ fn part_below<'a, V: Value>(
     }
 }
 
-// Returns the first of some keys, and what follows its full stop.
+// Returns the first of some keys, and what follows its full stop, if it has one.
 fn split_step(keys: &str) -> (&str, Option<&str>)
     ensures { MatchOption result.1 (steps_in keys.now ≡ result.0.now ∷ [])
         (λ rest. (steps_in keys.now ≡ result.0.now ∷ steps_in rest.now)
@@ -301,7 +303,7 @@ pub fn json_value(alloc: Global, source: &Source) -> Result<serde_json::Value, F
     }
 }
 
-// Returns the line at which a text stops being a document of its format.
+// Returns the line at which a text stops being a document of its format, or 1 if it doesn't.
 fn wrong_line(alloc: Global, file: FileSource) -> Result<usize, AllocError> {
     Ok(syntax_line(alloc, &file)?.unwrap_or(1))
 }
@@ -312,7 +314,7 @@ fn line_at(text: &str, place: usize) -> usize {
     feeds.count().saturating_add(1)
 }
 
-// Returns the text of the root: the label, or else the last key, or else the file's name.
+// Returns the text of the root: the label, or else the keys, or else the last part of the path.
 fn root_label<'a>(source: &'a Source, document: Document<'a>) -> &'a str
     ensures { IsRootText document.entry.label document.entry.at source.now result.now }
 {
@@ -323,7 +325,7 @@ fn root_label<'a>(source: &'a Source, document: Document<'a>) -> &'a str
     }
 }
 
-// Says that a document has no such key.
+// Says that nothing is at the keys `at`, and which of them leads to nothing.
 fn missing(alloc: Global, source: &Source, at: &str, key: &str) -> Result<Failure, AllocError>
     ensures input { IfOk result IsInput }
     ensures says { IfOk result (Says source.now
@@ -333,7 +335,7 @@ fn missing(alloc: Global, source: &Source, at: &str, key: &str) -> Result<Failur
     source.wrong(alloc, wrong.as_str())
 }
 
-// Says what stands at a path below the keys `at`.
+// Says that what a strict call refuses is at a path, which goes on behind the keys `at`.
 fn refused(
     alloc: Global,
     source: &Source,
@@ -350,7 +352,7 @@ fn refused(
     source.wrong(alloc, wrong.as_str())
 }
 
-// Returns the keys of a path behind others, or from the top.
+// Returns the steps of a path, escaped, behind the keys `at`, or from the top.
 fn place(alloc: Global, at: Option<&str>, path: &[Step]) -> Result<String, AllocError>
     ensures { IfOk result (λ s. string_bytes s ≡ place_text at.entry (map step_of path.now)) }
 {
@@ -362,7 +364,7 @@ fn place(alloc: Global, at: Option<&str>, path: &[Step]) -> Result<String, Alloc
     Ok(format!(in alloc; "{at}{keys}")?)
 }
 
-// Returns the steps of a path from the top, if a full stop is before each of them.
+// Returns steps without the full stop at their front, or `the top` if there are none.
 fn from_top(steps: &str) -> &str
     ensures { (path : Path) → steps.now ≡ steps_text path → result.now ≡ path_text true path }
 {

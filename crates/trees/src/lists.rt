@@ -1,4 +1,4 @@
-//! Trees of paths, and of indented text.
+//! Trees of paths and of indented text, and the indented text of a tree.
 ghost use Rattle.std.specs.Prelude.{◌≡◌, ◌≢◌, ◌≤◌, ◌↔◌, ℕ, ◌==◌, ◌&&◌, ◌++◌, ◌∷◌, not, true, false, List, [], map, is_some, string_bytes, MatchOption, IsTrue, IfOk, IfErr, IsErrOf, OnOk};
 ghost use Rattle.std.specs.List.{list_any, slice_split};
 ghost use Rattle.ptree.specs.Outline.{outline};
@@ -26,7 +26,7 @@ use ptree_trees::indented::{
 use ptree_trees::paths::{paths_tree, sorted_paths_tree};
 use std::alloc::{AllocError, Global};
 
-/// Returns the tree of paths: one on each line, or each before a zero byte.
+/// Returns the tree of the paths in an input: its lines, or its parts between zero bytes.
 ///
 /// What is before the first name other than `.` doesn't count, nor do slashes at the end, nor paths
 /// without such a name, nor a byte order mark before the text. The root's text is the label, or
@@ -44,7 +44,7 @@ pub fn paths(alloc: Global, source: &Source, paths: Paths<'_>) -> Result<StringI
     // Each path stands in the tree, and nothing else.
     ensures stands { IfOk result (λ t. HasPaths
         (tree_of t).children (given_paths (source_lines source.now paths.entry))) }
-    // An input error says that the paths are wrong.
+    // `Input` says that the paths are wrong.
     ensures failed { IfErr result (FailsFor
         (are_wrong paths.entry.ends_in_zero paths.entry.label
         (source_lines source.now paths.entry) ≡ true) ⊥) }
@@ -97,7 +97,7 @@ fn is_first_absolute(lines: &[&str]) -> bool
     false
 }
 
-// Returns whether all paths have to begin with a slash, or none may. With a label that doesn't count.
+// Returns whether all paths have to begin with a slash, or none may; with a label, nothing.
 fn beside(label: Option<&str>, are_absolute: bool) -> Option<bool>
     ensures { result ≡ beside label.entry are_absolute }
 {
@@ -107,7 +107,7 @@ fn beside(label: Option<&str>, are_absolute: bool) -> Option<bool>
     }
 }
 
-// Checks paths.
+// Fails if a path is wrong, with the number of the first one.
 fn check_lines(
     alloc: Global,
     source: &Source,
@@ -177,7 +177,7 @@ fn is_absolute(path: &str) -> bool
     path.starts_with('/')
 }
 
-// Whether a path begins with something else.
+// Whether a path begins with something else than a slash.
 fn is_relative(path: &str) -> bool
     ensures { result ≡ is_relative path.now }
 {
@@ -187,7 +187,7 @@ fn is_relative(path: &str) -> bool
     !is_absolute(path)
 }
 
-// Returns the names of each path that has some.
+// Returns each path that has names, without what doesn't count before and behind them.
 fn given_paths<'a>(alloc: Global, lines: &[&'a str]) -> Result<Vec<&'a str>, AllocError>
     ensures { IfOk result (λ given.
         names_of 47 given.items ≡ given_paths (map (λ l. l.now) lines.now)) }
@@ -202,14 +202,14 @@ fn given_paths<'a>(alloc: Global, lines: &[&'a str]) -> Result<Vec<&'a str>, All
     Ok(given)
 }
 
-// Returns the names of a path, from the first one on that is not `.`.
+// Returns a path without what doesn't count before its names, and without the slashes behind them.
 fn names_of(path: &str) -> &str
     ensures { own_names result.now ≡ path_names path.now }
 {
     without_start(path).trim_end_matches('/')
 }
 
-// Returns a path from the first name on that is not `.`.
+// Returns a path from its first name on that is neither empty nor `.`.
 fn without_start(path: &str) -> &str
     ensures { own_names result.now ≡ from_first (names 47 path.now) }
 {
@@ -231,7 +231,7 @@ fn behind_start(path: &str) -> Option<&str>
     }
 }
 
-// Returns the text of the root.
+// Returns the text of the root: the label, or else `/` if the paths begin with it, or else `.`.
 fn root_of(label: Option<&str>, are_absolute: bool) -> &str
     ensures { result.now ≡ root_text label.entry are_absolute }
 {
@@ -261,17 +261,19 @@ fn folders(
 
 /// Returns the tree of an indented text.
 ///
-/// Without a unit or a bullet they are those of the first line that has some. With a label the
-/// lines stand one level deeper, below a root with that text. Blank lines don't count, and a last
-/// line feed may be missing.
+/// Without a unit it is the indent of the first line that has one, or else a tab. Without a bullet
+/// it is that of the first line, or none. With a label the lines stand one level deeper, below a
+/// root with that text. A byte order mark and blank lines don't count, and a last line feed may be
+/// missing.
 ///
 /// # Errors
 ///
-/// `Input` with the line if the text has no such form, `Usage` if the bullet is none, and `Memory`.
+/// `Input` if the text has no such form, with the line if one is wrong; `Usage` if nothing could be
+/// read back with the unit and the bullet; and `Memory`.
 pub fn outline(alloc: Global, source: &Source, outline: Outline<'_>) -> Result<StringItem, Failure>
     ensures some { IfOk result (λ t. HoldsOutline source.now outline.entry (tree_of t)) }
     ensures only { IfOk result (λ t. HoldsNoOtherOutline source.now outline.entry (tree_of t)) }
-    // `Input` says that there is no such tree, `Usage` that the unit or the bullet is none.
+    // `Input` says that there is no such tree, `Usage` that the unit or the bullet is not right.
     ensures failed { IfErr result (FailsToOutline source.now outline.entry) }
 {
     let lines = filled_lines(alloc, source.unmarked())?;
@@ -412,7 +414,8 @@ fn push_line(text: &mut String, start: &str, line: &str) -> Result<(), AllocErro
     text.push_str("\n")
 }
 
-// Returns the tree whose indented form a text is. So many of its lines were put above the input's.
+// Returns the tree whose indented form a text is, unless it is too deep. `above` lines of the text
+// were put above those of the input.
 fn read_within(
     alloc: Global,
     source: &Source,
@@ -435,7 +438,7 @@ fn read_within(
     }
 }
 
-// Says why a text has no indented form, where so many lines were put above it.
+// Says why a text has no indented form, of which `above` lines were put above those of the input.
 fn wrong_indent(
     alloc: Global,
     source: &Source,
@@ -468,7 +471,7 @@ fn unlike(line: &str, bullet: &str) -> &'static str {
     }
 }
 
-// Returns the number of a line of which it is known how many are not blank up to it.
+// Returns the number, counted from 1, of the line up to which so many lines are not blank.
 fn line_of(text: &str, count: usize) -> usize {
     let mut found = 0usize;
     for (i, line) in text.lines().enumerate() {
@@ -482,8 +485,8 @@ fn line_of(text: &str, count: usize) -> usize {
     count
 }
 
-/// Returns the indented form of a tree, from which `outline` with the same options makes the tree
-/// again. For a terminal the texts are escaped.
+/// Returns the indented form of a tree, of which `outline` with the same options makes the tree
+/// again; but for a terminal the texts and the bullet are escaped.
 ///
 /// # Errors
 ///
@@ -498,7 +501,7 @@ pub fn indented(
         IsIndented indented.entry (tree_of tree.now) (string_bytes text)) }
     ensures back { height (tree_of tree.now).children ≤ 5000 → IfOk result (λ text.
         IsReadBack indented.entry (tree_of tree.now) (string_bytes text)) }
-    // `Input` says that `outline` would make another text of one in the tree.
+    // `Input` says, but of a terminal, that `outline` would make another text of one in the tree.
     ensures failed { IfErr result (FailsFor (LosesText indented.entry (tree_of tree.now)) ⊥) }
 {
     check_texts(alloc, source, tree, indented.bullet)?;
@@ -513,7 +516,7 @@ pub fn indented(
     }
 }
 
-// Checks that `outline` makes the same texts again. Each stands on the line of its number.
+// Fails if `outline` would make another text of one in the tree, with the line that it stands on.
 fn check_texts(
     alloc: Global,
     source: &Source,
@@ -536,8 +539,8 @@ fn check_texts(
     Ok(())
 }
 
-// Returns what is wrong with the root's text, if anything: `outline` would read its start as something
-// else.
+// Returns what is wrong with the root's text, if anything: `outline` would read its start as
+// something else.
 fn wrong_root(text: &str, bullet: Option<&str>) -> Option<&'static str>
     ensures { MatchOption result (IsKeptRoot bullet.entry text.now)
         (λ _. IsKeptRoot bullet.entry text.now → ⊥) }

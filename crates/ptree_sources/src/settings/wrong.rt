@@ -1,4 +1,4 @@
-//! The value in the sources of a configuration that is wrong.
+//! The wrong value that a fault of the sources is about.
 ghost use Rattle.std.specs.Prelude.{option_copied, IfOk, Some};
 ghost use Rattle.serde_json.specs.View.{view as json_view};
 ghost use Rattle.toml.specs.View.{view as toml_view};
@@ -11,9 +11,10 @@ use crate::parsed::{read_json, read_toml, written_json, written_toml};
 use ptree::print_config::{Fault, FileSource, Sources, Spelling, last_value};
 use std::alloc::{AllocError, Global};
 
-/// Returns the value that is wrong, as its source has it, if the fault is one of a value.
+/// Returns the wrong value that a fault is about, if it is about one: the text of a variable, or
+/// the value at a key as its crate writes it.
 ///
-/// It takes the time of reading the file, and allocates the result.
+/// It allocates the result, and takes the time of reading the file if the value is in that.
 ///
 /// # Errors
 ///
@@ -37,7 +38,7 @@ pub fn wrong_value(
     }
 }
 
-// Returns the value at a key of a file, as its crate writes it.
+// Returns the value at a key of a file, in a table or at the top, as its crate writes it.
 fn value_at(
     alloc: Global,
     file: &FileSource,
