@@ -5,7 +5,9 @@ unset CDPATH
 top=$(cd "$(dirname "$(readlink -f "${BASH_SOURCE[0]}")")/../.." && pwd)
 cd "$top" || exit 1
 scratch=$(mktemp -d "${TMPDIR:-/tmp}/ptree.XXXXXXXXXX")
-trap 'rm -rf "$scratch"' EXIT
+# The process group of what runs beside the checks.
+beside=
+trap '[ -z "$beside" ] || kill -- "-$beside" 2>/dev/null; rm -rf "$scratch"' EXIT
 trap 'exit 130' INT TERM HUP
 # The folder of what stands in for a program or a library. No check writes there.
 stubs=$scratch/stubs
@@ -211,20 +213,28 @@ make_stubs() {
     chmod +x "$stubs/nothing" "$stubs/no_memory" "$stubs/echo" "$stubs/drawing"
 }
 
-# Runs a group of checks, and again with each of these stubs in the program's place, which must fail each check. Arguments: the group, the
-# stubs.
+# Runs a group of checks, and beside it the same with each of these stubs in the program's place, which must fail each check. Arguments: the
+# group, the stubs.
 check_with_stubs() {
     local group=$1 count=$((passed + failed)) stub
     shift
+    # (in a process group of its own, which ends with this script)
+    set -m
+    for stub; do
+        STUB=$stubs/$stub CHECKS=$group "$top/tools/parts/${0##*/}" >"$scratch/said_$stub" 2>&1
+    done </dev/null &
+    beside=$!
+    set +m
     $group
     count=$((passed + failed - count))
+    wait $beside
+    beside=
     for stub; do
-        STUB=$stubs/$stub CHECKS=$group "$top/tools/parts/${0##*/}" >"$scratch/said" 2>&1
-        if [ "$(tail -n 1 "$scratch/said")" = "0 passed, $count failed" ]; then
+        if [ "$(tail -n 1 "$scratch/said_$stub")" = "0 passed, $count failed" ]; then
             report ok "the stub of ${stub//_/ } fails each of these $count checks"
         else
-            report no "the stub of ${stub//_/ } fails each of these $count checks: $(tail -n 1 "$scratch/said")"
-            grep '^ok' "$scratch/said"
+            report no "the stub of ${stub//_/ } fails each of these $count checks: $(tail -n 1 "$scratch/said_$stub")"
+            grep '^ok' "$scratch/said_$stub"
         fi
     done
 }
