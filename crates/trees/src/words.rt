@@ -223,16 +223,18 @@ impl<'a> Words<'a> {
         Ok(Command::Convert(source, convert))
     }
 
-    // Returns the command `diff`.
+    // Returns the command `diff`. No depth of the settings hides a difference.
     fn diff(
         &self,
         left: &'a Source,
         right: &'a Source,
         screen: Screen,
     ) -> Result<Command<'a>, Usage<'a>> {
+        let mut drawing = self.drawing(Opt::As, screen)?;
+        drawing.depth = Some(u32::MAX);
         let diff = Diff {
             shows_all: self.has(Opt::All),
-            drawing: self.drawing(Opt::As, screen)?,
+            drawing,
         };
         Ok(Command::Diff(left, right, diff))
     }
