@@ -1,10 +1,7 @@
 -- The items of an outline, drawn as steps, are the drawing of its tree.
-use Rattle.std.proofs.Common.{◌≡◌, ℕ, zero, suc, ◌+◌, ◌-◌, ◌<◌, ◌≤◌, ◌⊎◌, inl, inr, Bool, true, false, not, cond, eqb, ltb, List, [], ◌∷◌, ◌++◌, length, take, drop, replicate, get_or, refl, sym, ap, ◌∙◌, subst, append_assoc, add-one, drop-cons, arith}
-use Rattle.std.proofs.lemmas.Bool.{cases_lt, lt-ltb, le-ltb, eq-eqb, ne_eqb}
-use Rattle.std.proofs.Math.Seq.{get_or-append_seam}
-use Rattle.std.proofs.Math.ListN.{get_or-append}
-use Rattle.std.proofs.lemmas.Grind.{common_steps}
-use Rattle.std.proofs.lemmas.List.{append-nil, get_or_past, length-append}
+use Rattle.std.proofs.Common.{◌≡◌, ℕ, zero, suc, ◌+◌, ◌-◌, ◌<◌, ◌≤◌, ◌⊎◌, inl, inr, Bool, true, false, not, cond, eqb, ltb, List, [], ◌∷◌, ◌++◌, length, take, drop, get_or, refl, sym, ap, ◌∙◌, subst, append_assoc, add-one, drop-cons, arith}
+use Rattle.std.proofs.lemmas.Bool.{cases_lt, lt-ltb, le-ltb}
+use Rattle.std.proofs.lemmas.List.{append-nil, length-append}
 use Rattle.std.specs.List.{concat}
 use Rattle.ptree.specs.Entries.{drawn_entries}
 use Rattle.ptree.proofs.Drawing.Laws.{one_drawing}
@@ -19,9 +16,8 @@ use Rattle.ptree.proofs.Trees.LineTrees.{tree_of_lines}
 use Rattle.ptree.proofs.Trees.OutlineAddresses.{outline_of_tree}
 use Rattle.ptree.proofs.Reading.SpelledForms.{height_low}
 use Rattle.ptree_c.specs.Calls.{IsItemsDrawing}
-use Rattle.ptree_c.specs.Fields.{is_set}
 use Rattle.ptree_c.specs.Items.{lines_from}
-use Rattle.ptree_c.specs.Outlines.{has_later_item, AreLater, AreLastFlags, StepsDown, AreItems, AreLow, step_of, kept_before, kept_path, steps_from}
+use Rattle.ptree_c.specs.Outlines.{has_later_item, AreLastFlags, StepsDown, AreItems, AreLow, step_of, kept_before, kept_path, steps_from}
 use Rattle.ptree_c.specs.Steps.{AreStepsOf, path_with, step_entry, steps_text}
 use Rattle.ptree_c.specs.declared.items.Item.{Item}
 use Rattle.ptree_c.specs.declared.steps.Step.{Step}
@@ -30,32 +26,6 @@ use Rattle.ptree_c.proofs.Given.{draws_trees}
 -- a number is below another one, or not
 pub low_or_deep : (depth level : ℕ) → (ltb depth level ≡ true) × (depth < level) ⊎ (ltb depth level ≡ false) × (level ≤ depth)
 low_or_deep depth level = elim (cases_lt depth level) [ inl h ↦ inl (lt-ltb depth level h, h) | inr h ↦ inr (le-ltb depth level h, h) ]
-
--- the flags of the levels above one stay
-flags_above : (later : List ℕ) (level long n : ℕ) → long ≡ length later → n < level → get_or (take level later ++ replicate (level - long) 0) n 0 ≡ get_or later n 0
-flags_above later level long n is h = grind (arith, common_steps)
-
--- an item comes before the later ones
-pub later_put : (later next : List ℕ) (level long : ℕ) (i : Item) (items : List Item) → i.level ≡ level → AreLater later items → long ≡ length later
-    → next ≡ (take level later ++ replicate (level - long) 0) ++ 1 ∷ [] → AreLater next (i ∷ items)
-later_put later next level long i items same are len is n =
-    let front : List ℕ = take level later ++ replicate (level - long) 0 in
-    let wide : length front ≡ level = grind (arith, common_steps) in
-    let later_than : Bool → Bool = λ b. cond b (has_later_item items n) (eqb n i.level) in
-    elim (cases_lt n level) [
-      | inl low ↦
-          ap is_set (ap (λ z. get_or z n 0) is ∙ (get_or-append front (1 ∷ []) 0 n (omega (arith, low, wide)) ∙ flags_above later level long n len low))
-          ∙ (are n ∙ sym (ap later_than (lt-ltb n i.level (omega (arith, low, same)))))
-      | inr high ↦ elim (cases_lt level n) [
-        | inl beyond ↦
-            ap is_set (ap (λ z. get_or z n 0) is ∙ get_or_past (front ++ 1 ∷ []) n 0 (omega (arith, beyond, wide, length-append front (1 ∷ []))))
-            ∙ sym (ap later_than (le-ltb n i.level (omega (arith, beyond, same))) ∙ ne_eqb n i.level (omega (arith, beyond, same)))
-        | inr within ↦
-            let here : n ≡ length front = omega (arith, high, within, wide) in
-            ap is_set (ap (λ z. get_or z n 0) is ∙ (ap (λ m. get_or (front ++ 1 ∷ []) m 0) here ∙ get_or-append_seam front 1 [] 0))
-            ∙ sym (ap later_than (le-ltb n i.level (omega (arith, high, same))) ∙ eq-eqb n i.level (omega (arith, high, within, same)))
-      ]
-    ]
 
 -- the lines down to a depth
 abbrev drawn_lines : ℕ → List Line → List Line

@@ -3,7 +3,7 @@ ghost use Rattle.std.specs.Prelude.{◌≡◌, ◌<◌, ◌≤◌, ◌+◌, ◌�
 ghost use Rattle.ptree.specs.Drawing.{written_look};
 ghost use Rattle.ptree_c.specs.Calls.{IsItemsDrawing};
 ghost use Rattle.ptree_c.specs.Fields.{is_set};
-ghost use Rattle.ptree_c.specs.Outlines.{has_later_item, AreLater, AreLastFlags, AreItems, AreLow, AreRight, IsFirstWrong, IsItemsRefusal, IsRightAfter, IsWrongAfter, kept_before, kept_path, steps_from};
+ghost use Rattle.ptree_c.specs.Outlines.{has_later_item, AreLater, AreLastFlags, AreItems, AreLow, AreRight, StepsDown, IsFirstWrong, IsItemsRefusal, IsRightAfter, IsWrongAfter, kept_before, kept_path, steps_from};
 ghost use Rattle.ptree_c.specs.Pens.{HoldsPath, HasRoom, brush_look};
 ghost use Rattle.ptree_c.specs.Refusals.{IsRefused};
 ghost use Rattle.ptree_c.specs.Rooms.{HasPut, IsFilled, IsSize};
@@ -68,30 +68,43 @@ fn is_last(later: &[u8], level: usize) -> u8
     }
 }
 
-// Puts an item at a level before the later items.
-fn put_level(later: &mut Vec<u8>, level: usize) -> Result<(), AllocError>
-    ensures { (i : Item) (items : List Item) → i.level ≡ level → AreLater later.old.items items
-        → OnOk result (AreLater later.new.items (i ∷ items)) }
+// What is known of no later items. There is room for a level more than the deepest one.
+fn no_later(alloc: Global, deepest: u32) -> Result<Vec<u8>, AllocError>
+    ensures none { IfOk result (λ later. AreLater later.items []) }
+    ensures room { IfOk result (λ later. length later.items ≡ deepest + 2) }
 {
-    later.resize(level, 0)?;
-    later.push(1)?;
-    Ok(())
+    let mut later = Vec::new(alloc);
+    later.resize(deepest as usize + 2, 0)?;
+    Ok(later)
 }
 
-// Says of each item whether it is its parent's last child.
-fn last_flags(alloc: Global, items: &[Item]) -> Result<Vec<u8>, AllocError>
+// Puts an item at a level before the later items, the first of which is at most one level deeper.
+fn put_level(later: &mut Vec<u8>, level: usize)
+    requires { level + 1 < length later.old.items }
+    ensures later { (deepest : ℕ) (i : Item) (items : List Item) → i.level ≡ level
+        → StepsDown deepest level items → AreLater later.old.items items
+        → AreLater later.new.items (i ∷ items) }
+    ensures length { length later.new.items ≡ length later.old.items }
+{
+    later[level] = 1;
+    later[level + 1] = 0;
+}
+
+// Says of each item whether it is its parent's last child. None is deeper than `deepest`.
+fn last_flags(alloc: Global, items: &[Item], deepest: u32) -> Result<Vec<u8>, AllocError>
+    requires { AreItems deepest items.now }
     ensures flags { IfOk result (λ flags. AreLastFlags items.now flags.items) }
     ensures length { IfOk result (λ flags. length flags.items ≡ length items.now) }
 {
     let mut flags = Vec::new(alloc);
     flags.resize(items.len(), 0)?;
-    let mut later = Vec::new(alloc);
+    let mut later = no_later(alloc, deepest)?;
     let mut place = items.len();
     while place > 0 {
         place -= 1;
         let level = items[place].level as usize;
         flags[place] = is_last(&later, level);
-        put_level(&mut later, level)?;
+        put_level(&mut later, level);
     }
     Ok(flags)
 }
@@ -303,7 +316,7 @@ fn draw_outline(
 {
     let known = Texts::new(texts);
     let deepest = deepest_of_items(items, &known)?;
-    let flags = last_flags(alloc, items)?;
+    let flags = last_flags(alloc, items, deepest)?;
     let mut path = Vec::new(alloc);
     path.resize(deepest.min(config.depth) as usize, 0)?;
     let brush = Brush::new(alloc, config)?;

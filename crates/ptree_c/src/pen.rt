@@ -1,9 +1,11 @@
 //! Draws items one by one, each by its level and by the flags of what it is below.
-ghost use Rattle.std.specs.Prelude.{◌≡◌, ◌≤◌, ◌+◌, ◌++◌, ◌∷◌, [], false, List, ℕ, length, IfOk, IfSome, OnOk};
+ghost use Rattle.std.specs.Prelude.{◌≡◌, ◌<◌, ◌≤◌, ◌+◌, ◌++◌, ◌∷◌, [], false, List, ℕ, length, get_or, IfOk, IfSome, OnErr, OnOk};
 ghost use Rattle.ptree.specs.Drawing.{with_inserted};
+ghost use Rattle.ptree.specs.Pieces.{passing_piece};
 ghost use Rattle.ptree.specs.Texts.{HasNoLineFeed};
+ghost use Rattle.ptree_c.specs.Fields.{is_set};
 ghost use Rattle.ptree_c.specs.Pens.{HoldsPath, HasRoom, brush_look, inserted_below, entry_behind};
-ghost use Rattle.ptree_c.specs.Rooms.{IsFilled, IsSize};
+ghost use Rattle.ptree_c.specs.Rooms.{IsSize, PutsBytes};
 
 use crate::brush::Brush;
 use crate::fields::flag;
@@ -55,6 +57,24 @@ impl Pen {
         }
     }
 
+    // Goes a level down.
+    #[inline(always)]
+    fn go_down_one(&mut self, brush: &Brush<'_>, path: &[u8]) -> Result<(), AllocError>
+        requires held { HoldsPath brush.now path.now self.old }
+        requires within { self.old.level < length path.now }
+        ensures held { HoldsPath brush.now path.now self.new }
+        ensures level { OnOk result (self.new.level ≡ self.old.level + 1) }
+        ensures room { self.old.front.cap ≤ self.new.front.cap }
+        ensures full { OnErr result (self.old.front.cap < length self.old.front.items
+            + length (passing_piece (brush_look brush.now).pieces
+            (is_set (get_or path.now self.old.level 0)))) }
+    {
+        let piece = brush.passing(flag(path[self.level]));
+        self.front.extend_from_slice(piece)?;
+        self.level += 1;
+        Ok(())
+    }
+
     // Goes down to a level, if it is below the present one.
     fn go_down(&mut self, brush: &Brush<'_>, path: &[u8], level: usize)
         requires held { HoldsPath brush.now path.now self.old }
@@ -65,13 +85,11 @@ impl Pen {
         ensures room { self.old.front.cap ≤ self.new.front.cap }
     {
         while self.level < level {
-            let piece = brush.passing(flag(path[self.level]));
-            match self.front.extend_from_slice(piece) {
+            match self.go_down_one(brush, path) {
                 Ok(()) => {}
                 // (there is room)
                 Err(_) => return,
             }
-            self.level += 1;
         }
     }
 
@@ -86,6 +104,30 @@ impl Pen {
     {
         self.go_up(brush, path, level);
         self.go_down(brush, path, level);
+    }
+
+    /// Goes to the level below which the next item is, and makes room for that.
+    #[inline(always)]
+    pub(crate) fn reach(
+        &mut self,
+        brush: &Brush<'_>,
+        path: &[u8],
+        level: usize,
+    ) -> Result<(), AllocError>
+        requires held { HoldsPath brush.now path.now self.old }
+        requires level { level ≤ length path.now }
+        ensures held { OnOk result (HoldsPath brush.now path.now self.new) }
+        ensures level { OnOk result (self.new.level ≡ level) }
+    {
+        if level == self.level {
+            return Ok(());
+        }
+        if level == self.level + 1 {
+            return self.go_down_one(brush, path);
+        }
+        self.make_room(brush, level)?;
+        self.go_to(brush, path, level);
+        Ok(())
     }
 
     /// The length of the entry of an item that is below the present level, or none if it is beyond
@@ -143,12 +185,9 @@ impl Pen {
         requires feeds { has_line_feed ≡ false → HasNoLineFeed text.now }
         requires size { IsSize (at
             + length (entry_behind (brush_look brush.now) self.now.front.items own text.now)) }
-        ensures filled { (room before : List ℕ) → IsFilled room before out.old at
-            → IsFilled room
-            (before ++ entry_behind (brush_look brush.now) self.now.front.items own text.now)
-            out.new result }
-        ensures end { result ≡ at
-            + length (entry_behind (brush_look brush.now) self.now.front.items own text.now) }
+        ensures { PutsBytes
+            (entry_behind (brush_look brush.now) self.now.front.items own text.now)
+            out.old at out.new result }
     {
         let before = put_few(out, at, &self.front);
         let start = put(out, before, brush.before(own));
@@ -170,12 +209,9 @@ impl Pen {
         requires feeds { has_line_feed ≡ false → HasNoLineFeed text.now }
         requires size { IsSize (at + length (with_inserted
             (inserted_below (brush_look brush.now) self.now.front.items own) text.now)) }
-        ensures filled { (room before : List ℕ) → IsFilled room before out.old at
-            → IsFilled room (before ++ with_inserted
+        ensures { PutsBytes (with_inserted
             (inserted_below (brush_look brush.now) self.now.front.items own) text.now)
-            out.new result }
-        ensures end { result ≡ at + length (with_inserted
-            (inserted_below (brush_look brush.now) self.now.front.items own) text.now) }
+            out.old at out.new result }
     {
         if has_line_feed {
             put_lines(out, at, text, &self.front, brush.below(own), &brush.further)
@@ -242,18 +278,14 @@ fn put_byte(
 ) -> usize
     requires { IsSize (at
         + length (with_inserted (front.now ++ (below.now ++ further.now)) (byte ∷ []))) }
-    ensures filled { (room before : List ℕ) → IsFilled room before out.old at
-        → IsFilled room
-        (before ++ with_inserted (front.now ++ (below.now ++ further.now)) (byte ∷ []))
-        out.new result }
-    ensures end { result ≡ at
-        + length (with_inserted (front.now ++ (below.now ++ further.now)) (byte ∷ [])) }
+    ensures { PutsBytes (with_inserted (front.now ++ (below.now ++ further.now)) (byte ∷ []))
+        out.old at out.new result }
 {
-    let end = put(out, at, &[byte]);
+    let end = put_few(out, at, &[byte]);
     if byte != b'\n' {
         return end;
     }
-    let first = put(out, end, front);
+    let first = put_few(out, end, front);
     let second = put(out, first, below);
     put(out, second, further)
 }
@@ -270,12 +302,8 @@ fn put_lines(
 ) -> usize
     requires { IsSize (at
         + length (with_inserted (front.now ++ (below.now ++ further.now)) text.now)) }
-    ensures filled { (room before : List ℕ) → IsFilled room before out.old at
-        → IsFilled room
-        (before ++ with_inserted (front.now ++ (below.now ++ further.now)) text.now)
-        out.new result }
-    ensures end { result ≡ at
-        + length (with_inserted (front.now ++ (below.now ++ further.now)) text.now) }
+    ensures { PutsBytes (with_inserted (front.now ++ (below.now ++ further.now)) text.now)
+        out.old at out.new result }
 {
     let mut end = at;
     for byte in text {

@@ -1,6 +1,8 @@
 //! Puts a result into the memory of the caller.
-ghost use Rattle.std.specs.Prelude.{◌≡◌, ◌<◌, ◌+◌, ◌++◌, ℕ, List, length};
-ghost use Rattle.ptree_c.specs.Rooms.{filled, IsFilled, IsSize};
+ghost use Rattle.std.specs.Prelude.{◌≡◌, ◌≤◌, ◌<◌, ◌+◌, ◌++◌, ℕ, List, length};
+ghost use Rattle.ptree_c.specs.Rooms.{filled, IsFilled, IsSize, PutsBytes};
+
+use std::simd::Simd;
 
 /// What a call found: how many bytes and items there are, or the place of what was refused.
 #[repr(C)]
@@ -38,18 +40,46 @@ fn put_part(out: &mut [u8], at: usize, bytes: &[u8])
     fill(&mut out[at..], bytes);
 }
 
+// Copies a text of `N` bytes or more, but at most twice as many, over another one of its length:
+// its first and its last `N` bytes, which may overlap.
+#[inline(always)]
+fn copy_ends<const N: usize>(out: &mut [u8], text: &[u8])
+    requires same { length out.old ≡ length text.now }
+    requires low { N ≤ length text.now }
+    requires high { length text.now ≤ N + N }
+    ensures { out.new ≡ text.now }
+{
+    let last = text.len() - N;
+    Simd::<u8, N>::from_slice(text).copy_to_slice(out);
+    Simd::<u8, N>::from_slice(&text[last..]).copy_to_slice(&mut out[last..]);
+}
+
+// Copies a text over another one of its length. A short text takes no call of C's library.
+#[inline(always)]
+fn copy(out: &mut [u8], text: &[u8])
+    requires { length out.old ≡ length text.now }
+    ensures { out.new ≡ text.now }
+{
+    match text.len() {
+        1 => copy_ends::<1>(out, text),
+        2..4 => copy_ends::<2>(out, text),
+        4..8 => copy_ends::<4>(out, text),
+        8..16 => copy_ends::<8>(out, text),
+        16..32 => copy_ends::<16>(out, text),
+        _ => out.copy_from_slice(text),
+    }
+}
+
 /// Puts bytes behind those that end at a place, as many as there is room for, and returns where
 /// they end.
 #[inline(always)]
 pub(crate) fn put(out: &mut [u8], at: usize, bytes: &[u8]) -> usize
     requires { IsSize (at + length bytes.now) }
-    ensures filled { (room before : List ℕ) → IsFilled room before out.old at
-        → IsFilled room (before ++ bytes.now) out.new result }
-    ensures end { result ≡ at + length bytes.now }
+    ensures { PutsBytes bytes.now out.old at out.new result }
 {
     let end = at + bytes.len();
     if end <= out.len() {
-        out[at..end].copy_from_slice(bytes);
+        copy(&mut out[at..end], bytes);
     } else if at < out.len() {
         put_part(out, at, bytes);
     }
@@ -61,9 +91,7 @@ pub(crate) fn put(out: &mut [u8], at: usize, bytes: &[u8]) -> usize
 #[inline(always)]
 pub(crate) fn put_few(out: &mut [u8], at: usize, bytes: &[u8]) -> usize
     requires { IsSize (at + length bytes.now) }
-    ensures filled { (room before : List ℕ) → IsFilled room before out.old at
-        → IsFilled room (before ++ bytes.now) out.new result }
-    ensures end { result ≡ at + length bytes.now }
+    ensures { PutsBytes bytes.now out.old at out.new result }
 {
     if bytes.is_empty() {
         return at;

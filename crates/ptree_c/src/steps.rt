@@ -2,7 +2,7 @@
 ghost use Rattle.std.specs.Prelude.{◌≡◌, ◌≢◌, ◌≤◌, ◌<◌, ◌+◌, ◌-◌, ◌++◌, ℕ, List, length, take, IfOk, IfErr, IsErrOf, IfSome, OnOk, OnErr, ◌⊎◌};
 ghost use Rattle.ptree_c.specs.Fields.{look_of};
 ghost use Rattle.ptree_c.specs.Pens.{HoldsPath, brush_look};
-ghost use Rattle.ptree_c.specs.Rooms.{filled, IsFilled, IsSize};
+ghost use Rattle.ptree_c.specs.Rooms.{filled, IsFilled, IsSize, PutsBytes};
 ghost use Rattle.ptree_c.specs.Steps.{own_flag, path_with, path_after, step_entry, steps_text, IsNextLength, DrawsTrees, DrawsParts};
 
 use crate::answer::refuse;
@@ -97,12 +97,9 @@ pub(crate) fn put_step(
     requires within { step.now.level ≤ length path.old }
     requires size { IsSize (at
         + length (step_entry (brush_look brush.now) texts.now.bytes.now path.old step.now)) }
-    ensures filled { (room before : List ℕ) → IsFilled room before out.old at
-        → IsFilled room
-        (before ++ step_entry (brush_look brush.now) texts.now.bytes.now path.old step.now)
-        out.new result }
-    ensures end { result ≡ at
-        + length (step_entry (brush_look brush.now) texts.now.bytes.now path.old step.now) }
+    ensures put { PutsBytes
+        (step_entry (brush_look brush.now) texts.now.bytes.now path.old step.now)
+        out.old at out.new result }
     ensures path { path.new ≡ path_with path.old step.now.level step.now.is_last }
     ensures held { HoldsPath brush.now path.new pen.now }
 {
@@ -134,8 +131,7 @@ fn reach_step(
         return Err(Refusal::Level(place));
     }
     texts.check(step.text.start, step.text.end, place)?;
-    pen.make_room(brush, level.saturating_sub(1))?;
-    pen.go_to(brush, path, level.saturating_sub(1));
+    pen.reach(brush, path, level.saturating_sub(1))?;
     match width_of_step(pen, brush, texts, step) {
         Some(width) => Ok(width),
         None => Err(Refusal::Memory),

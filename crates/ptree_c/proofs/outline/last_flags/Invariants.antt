@@ -1,4 +1,4 @@
-use Rattle.std.proofs.Common.{◌≡◌, ◌≤◌, length, drop}
+use Rattle.std.proofs.Common.{◌≡◌, ◌≤◌, ◌+◌, length, drop}
 use Rattle.ptree_c.specs.Outlines.{AreLater, AreLastFlags}
 use Rattle.ptree_c.proofs.outline.last_flags.Given as goal
 
@@ -7,6 +7,7 @@ abbrev pub invariant-loop-place : goal.invariant-loop-place
 invariant-loop-place l = record {
   within : l.place ≤ length l.items;
   long : length l.flags.items ≡ length l.items;
+  room : length l.later.items ≡ l.fn.deepest + 2;
   later : AreLater l.later.items (drop l.place l.items);
   flags : AreLastFlags (drop l.place l.items) (drop l.place l.flags.items);
 }

@@ -1,8 +1,8 @@
-use Rattle.std.proofs.Common.{◌+◌, ◌++◌, length, sym, ap, ◌∙◌, subst, arith}
+use Rattle.std.proofs.Common.{◌++◌, length, sym, ap, ◌∙◌, subst, arith}
 use Rattle.ptree.specs.Pieces.{passing_all}
 use Rattle.ptree.specs.Style.{start_codes}
 use Rattle.ptree_c.specs.Pens.{brush_look}
-use Rattle.ptree_c.specs.Rooms.{IsFilled}
+use Rattle.ptree_c.specs.Rooms.{PutsBytes}
 use Rattle.ptree_c.proofs.Entries.{step_behind}
 use Rattle.ptree_c.proofs.Walks.{above_same, with_length}
 use Rattle.ptree_c.proofs.steps.put_step.Goals as goal
@@ -13,17 +13,11 @@ draw-end-requires-clause-size c =
     let same = step_behind (brush_look c.args.brush.now) c.args.texts.now.bytes.now c.args.path.now pen.front.items c.part-text.result.now c.args.step.now c.own_flag.result pen.level c.requires.held.1 c.requires.level c.own_flag.ensures c.part-text.ensures in
     omega (arith, c.requires.size, ap length same)
 
-pub returns-clause-filled : goal.returns-clause-filled
-returns-clause-filled c = λ room before is.
+pub returns-clause-put : goal.returns-clause-put
+returns-clause-put c =
     let pen = c.args.pen.now in
     let same = step_behind (brush_look c.args.brush.now) c.args.texts.now.bytes.now c.args.path.now pen.front.items c.part-text.result.now c.args.step.now c.own_flag.result pen.level c.requires.held.1 c.requires.level c.own_flag.ensures c.part-text.ensures in
-    subst (λ z. IsFilled room (before ++ z) c.draw-end.new.out c.draw-end.result) same (c.draw-end.ensures.filled room before is)
-
-pub returns-clause-end : goal.returns-clause-end
-returns-clause-end c =
-    let pen = c.args.pen.now in
-    let same = step_behind (brush_look c.args.brush.now) c.args.texts.now.bytes.now c.args.path.now pen.front.items c.part-text.result.now c.args.step.now c.own_flag.result pen.level c.requires.held.1 c.requires.level c.own_flag.ensures c.part-text.ensures in
-    c.draw-end.ensures.end ∙ ap (λ z. c.args.at + length z) same
+    subst (λ z. PutsBytes z c.args.out.now c.args.at c.draw-end.new.out c.draw-end.result) same c.draw-end.ensures
 
 pub returns-clause-held : goal.returns-clause-held
 returns-clause-held c =
