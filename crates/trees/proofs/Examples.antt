@@ -1,6 +1,7 @@
 -- Paths, indented text and folders of packages by computation.
 use Rattle.std.proofs.Common.{◌≡◌, true, false, None, [], ◌∷◌, ◌++◌, codes, refl}
 use Rattle.std.specs.Char.{encode_utf8}
+use Rattle.std.specs.Prelude.{replicate}
 use Rattle.std.specs.Str.{chars}
 use Rattle.trees.specs.Depending.{edges_between, ArePairs}
 use Rattle.trees.specs.Listing.{unmarked, path_lines, path_names, given_paths, are_wrong}
@@ -79,8 +80,21 @@ around_none = refl
 around_one : folders (codes "node_modules/a") ≡ codes "." ∷ codes "node_modules" ∷ codes "a" ∷ []
 around_one = refl
 
-around_other : folders (codes "../out") ≡ codes ".." ∷ codes ".." ∷ codes "out" ∷ []
+around_dot : folders (codes "a") ≡ codes "." ∷ codes "a" ∷ []
+around_dot = refl
+
+-- the folder above, one beside the project, the folder above that and one in there: what is further up is around what is less far up
+around_above : folders (codes "..") ≡ replicate 32 (codes "..")
+around_above = refl
+
+around_other : folders (codes "../out") ≡ replicate 32 (codes "..") ++ codes "out" ∷ []
 around_other = refl
+
+around_higher : folders (codes "../..") ≡ replicate 31 (codes "..")
+around_higher = refl
+
+around_beside : folders (codes "../../y") ≡ replicate 31 (codes "..") ++ codes "y" ∷ []
+around_beside = refl
 
 -- where a package of a folder is
 in_project : path_in [] (codes "a") ≡ codes "node_modules/a"

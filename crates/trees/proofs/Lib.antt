@@ -40,6 +40,9 @@ pub mod NextFronts
 pub mod NextItems
 pub mod NpmEntered
 pub mod NpmFolders
+pub mod NpmExamples
+pub mod NpmLed
+pub mod NpmLinks
 pub mod NpmLocks
 pub mod NpmNearest
 pub mod NpmNeeds
@@ -50,6 +53,7 @@ pub mod NpmPatterns
 pub mod NpmMeant
 pub mod NpmReady
 pub mod NpmSteps
+pub mod NpmTargets
 pub mod NpmWalks
 pub mod NpmWorkspaces
 pub mod NpmGiven

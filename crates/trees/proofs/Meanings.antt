@@ -6,7 +6,7 @@ use Rattle.std.proofs.lemmas.List.Elements.{All-nil, All-cons, All-append, All-m
 use Rattle.std.proofs.lemmas.Option.{slice_get_within}
 use Rattle.std.proofs.lemmas.Slice.Zip.{AllZip-long}
 use Rattle.std.specs.List.{AllZip}
-use Rattle.std.specs.Prelude.{All, None, codes}
+use Rattle.std.specs.Prelude.{All, codes}
 use Rattle.serde_json.specs.Data.{Data as JsonData}
 use Rattle.toml.specs.Data.{Data}
 use Rattle.ptree.specs.File.{json, toml}
@@ -18,11 +18,10 @@ use Rattle.trees.specs.DependingParts.{labels_of, needs_of, IsNetworkOf, IsNetwo
 use Rattle.trees.specs.Locking.{Package, edges_from, entries_in, tables_in, IsLabel, Leads}
 use Rattle.trees.specs.LockingParts.{HoldsLocked}
 use Rattle.trees.specs.Meaning.{HasMeaning, MeansTables, NeedPlaces}
-use Rattle.trees.specs.Npm.{packages_in, path_in, HasNoLinks, IsNpmLockFile, MeansPackages, Needs}
-use Rattle.trees.specs.Npm.{IsLabel as IsLabelOf}
+use Rattle.trees.specs.Npm.{packages_in, HasLabel, IsNpmLockFile, MeansPackages, Needs}
 use Rattle.trees.specs.NpmParts.{HasPackages, HoldsPackages}
 use Rattle.trees.proofs.OtherFiles.{other_part}
-use Rattle.trees.proofs.PairGraphs.{all_firsts, directed_within, network_whole}
+use Rattle.trees.proofs.PairGraphs.{all_firsts, directed_within, network_whole, no_paths}
 
 -- ## Edges of lock files
 
@@ -58,21 +57,19 @@ tables_within is_inverse tables names needs is =
 
 -- ## Edges of lock files of npm
 
--- what packages need is among them
-needs_within : (packages : List (List ℕ × JsonData)) (i j : ℕ) → Needs packages i j → IsWithin (length packages) (i, j)
-needs_within packages i j needs =
-    let there = needs.nearest.seen.is_in.1 in
-    (slice_get_within packages i (needs.path, needs.value) needs.is, slice_get_within packages j (path_in needs.nearest.folder needs.nearest.name, there.0) there.1)
+-- what nodes need is among them
+needs_within : (packages nodes : List (List ℕ × JsonData)) (i j : ℕ) → Needs packages nodes i j → IsWithin (length nodes) (i, j)
+needs_within packages nodes i j needs = (slice_get_within nodes i needs.node needs.is, elim needs.nearest.seen.is_in.1.2 [ inl own ↦ slice_get_within nodes j _ own | inr other ↦ slice_get_within nodes j other.1.0 other.1.2 ])
 
 packages_within : (is_inverse : Bool) (source : Source) (lock : JsonData) (names : List (List ℕ)) (needs : List (ℕ × ℕ)) → MeansPackages is_inverse source lock names needs → All (IsWithin (length names)) needs
 packages_within is_inverse source lock names needs is =
     let n = length names in
-    let all : n ≡ length (packages_in lock) = AllZip-long (IsLabelOf is.root) (packages_in lock) names is.labels in
+    let all : n ≡ length is.nodes = AllZip-long (HasLabel (packages_in lock) is.root) is.nodes names is.labels in
     subst (All (IsWithin n)) (sym is.edges)
     (all_firsts (IsWithin n) same_edge (map (directed is_inverse) is.pairs)
     (All-map (IsWithin n) (directed is_inverse) is.pairs (λ k d low.
     let e = get_or is.pairs k d in
-    directed_within is_inverse n e (subst (λ m. IsWithin m e) (sym all) (needs_within (packages_in lock) e.0 e.1 ((is.are e.0 e.1).0 (Contains-get_or is.pairs k d low)))))))
+    directed_within is_inverse n e (subst (λ m. IsWithin m e) (sym all) (needs_within (packages_in lock) is.nodes e.0 e.1 ((is.are e.0 e.1).0 (Contains-get_or is.pairs k d low)))))))
 
 -- ## Sources
 
@@ -98,8 +95,9 @@ module _ (source : Source) (is_inverse : Bool) (n : Network) (text : begins_obje
           pairs = λ is. absurd (other_part source has is);
           tables = λ d is. subst (λ e. MeansTables is_inverse (tables_in e) (labels_of n) (needs_of n)) (same_document held.0 d (sym held.1 ∙ is.document)) locked.means;
           packages = λ lock is. absurd (no_npm is.file);
+          npm_paths = λ lock is. absurd (no_npm is.file);
+          no_paths = λ _. no_paths n locked.paths;
         };
-        paths = λ _. locked.paths;
         whole = record { indexed = locked.indexed; within = tables_within is_inverse (tables_in held.0) (labels_of n) (needs_of n) locked.means };
       }
 
@@ -110,8 +108,9 @@ module _ (source : Source) (is_inverse : Bool) (n : Network) (text : begins_obje
       pairs = λ _. record { pairs = is.pairs; held = is.held; some = is.some; are = is.has.names; edges = is.has.needs.edges };
       tables = λ d lock. absurd (false≢true (sym lacks ∙ lock.file.toml));
       packages = λ lock is. absurd (no_npm is.file);
+      npm_paths = λ lock is. absurd (no_npm is.file);
+      no_paths = λ _. no_paths n is.has.needs.paths;
     };
-    paths = λ _. is.has.needs.paths;
     whole = network_whole source is_inverse n is;
   }
 
@@ -123,16 +122,21 @@ module _ (source : Source) (is_inverse : Bool) (n : Network) (object : begins_ob
   lock_held : (lock : JsonData) → IsNpmLockFile source lock → HasPackages is_inverse source lock n
   lock_held lock is =
       let same = same_lock held.0 lock (sym held.1 ∙ is.document) in
-      subst (λ l. HasPackages is_inverse source l n) same (held.2 (subst (λ l. HasNoLinks (packages_in l)) (sym same) is.links))
+      subst (λ l. HasPackages is_inverse source l n) same held.2
 
-  pub packages_meant : HasMeaning source None → IsNetworkOf source is_inverse n
+  pub packages_meant : HasMeaning source → IsNetworkOf source is_inverse n
   packages_meant (inl is) = absurd (no_text is.json)
   packages_meant (inr (inl lock)) = absurd (no_text lock.1.file.json)
   packages_meant (inr (inr npm)) =
-      let lock = npm.1.0 in
-      let has = lock_held lock npm.1.1 in
+      let lock = npm.0 in
+      let has = lock_held lock npm.1 in
       record {
-        means = record { pairs = λ is. absurd (no_text is.json); tables = λ d is. absurd (no_text is.file.json); packages = λ e is. (lock_held e is).means };
-        paths = λ other. absurd (no_text other);
+        means = record {
+          pairs = λ is. absurd (no_text is.json);
+          tables = λ d is. absurd (no_text is.file.json);
+          packages = λ e is. (lock_held e is).means;
+          npm_paths = λ e is. let it = lock_held e is in (it.means.nodes, it.means.drawn, it.paths);
+          no_paths = λ other. absurd (no_text other);
+        };
         whole = record { indexed = has.indexed; within = packages_within is_inverse source lock (labels_of n) (needs_of n) has.means };
       }

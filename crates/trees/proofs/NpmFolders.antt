@@ -1,24 +1,26 @@
 -- Folders of paths of npm, and the order of steps through them.
-use Rattle.std.proofs.Common.{◌≡◌, ◌≢◌, ◌==◌, ◌∙◌, ℕ, ◌<◌, ◌≤◌, Bool, false, List, [], ◌∷◌, ◌++◌, length, get_or, map, slice_get, inl, inr, refl, sym, ap, ap₂, subst, append_assoc, append-nil, length-append, arith}
-use Rattle.std.proofs.lemmas.Bool.{cases_order, true≢false}
+use Rattle.std.proofs.Common.{◌≡◌, ◌≢◌, ◌==◌, ◌∙◌, ℕ, ◌<◌, ◌≤◌, ◌+◌, ◌-◌, zero, suc, eqb, eqb-true, leb, cond, Bool, true, false, List, [], ◌∷◌, ◌++◌, codes, drop, length, get_or, map, slice_get, inl, inr, refl, sym, ap, ap₂, subst, append_assoc, append-nil, length-append, arith}
+use Rattle.std.proofs.lemmas.Bool.{cases_order, false≢true, leb-true, true≢false}
 use Rattle.std.proofs.lemmas.Cmp.{nat_cmp_total, nat_list_cmp_total, lists_total, on_total, then_total, tied_itself}
 use Rattle.std.proofs.lemmas.List.Sorted.{ranks_by, sorted_far}
 use Rattle.std.proofs.lemmas.List.Splits.{join_with_byte-slice_split, length-slice_split}
 use Rattle.std.proofs.lemmas.Map.Keys.{Less-from_sorted}
 use Rattle.std.proofs.lemmas.Map.Lookups.{CmpEqualImpliesEq}
+use Rattle.std.proofs.lemmas.Slice.Eq.{bytes_eq-Decides}
 use Rattle.std.proofs.lemmas.Option.{get_or_from_slice_get, slice_get-map, slice_get_within}
 use Rattle.std.specs.Borrow.{Bor}
 use Rattle.std.specs.Cmp.{IsTotalOrder, bool_cmp_total}
 use Rattle.std.specs.Cmp.Lexicographic.{slice_cmp}
-use Rattle.std.specs.List.{join_with_byte, slice_split}
+use Rattle.std.specs.List.{AllByRecursion, join_with_byte, prefix_len, slice_split}
 use Rattle.std.specs.List.Sorted.{IsSorted, IsStrictlySortedBy}
 use Rattle.std.specs.Ordering.{bool_cmp, is_lt, nat_cmp, ordering_reverse, ordering_then}
-use Rattle.std.specs.Prelude.{Some, option_map}
+use Rattle.std.specs.Prelude.{Some, if◌then◌else◌, option_map, replicate}
 use Rattle.std.specs.declared.cmp.Ordering.{Ordering}
 use Rattle.std.specs.declared.cmp.Ordering.TheVariants.{Less, Equal, Greater}
 use Rattle.serde_json.specs.Data.{Data}
-use Rattle.trees.specs.Npm.{around, parts, folders, AreAscending, IsAbove}
+use Rattle.trees.specs.Npm.{around, is_up, parts, folders, ups, AreAscending, IsAbove}
 use Rattle.trees.specs.NpmParts.{Step, step_cmp, folders_of, name_of, texts_of, IsWithin}
+use Rattle.trees.specs.NpmPatterns.{is_file_name, pieces}
 use Rattle.trees.proofs.LockedPackages.{then_first, then_second}
 
 -- ## Lists in order
@@ -73,8 +75,59 @@ same_parts [] (y ∷ b) is = absurd (omega (arith, ap length is, length-slice_sp
 same_parts (x ∷ a) [] is = absurd (omega (arith, ap length is, length-slice_split (λ c. c == 47) (x ∷ a)))
 same_parts (x ∷ a) (y ∷ b) is = sym (join_with_byte-slice_split 47 (x ∷ a)) ∙ (ap (join_with_byte 47) is ∙ join_with_byte-slice_split 47 (y ∷ b))
 
+abbrev more : (n : ℕ) → suc n ≡ 1 + n
+more n = omega arith
+
+-- parts that lead up, and what is behind them
+up_front : (ps : List (List ℕ)) → replicate (prefix_len is_up ps) (codes "..") ++ drop (prefix_len is_up ps) ps ≡ ps
+up_front [] = refl
+up_front (p ∷ ps) = go (prefix_len is_up ps) (is_up p) refl (up_front ps) where
+  go : (k : ℕ) (b : Bool) → is_up p ≡ b → replicate k (codes "..") ++ drop k ps ≡ ps → replicate (cond b (1 + k) 0) (codes "..") ++ drop (cond b (1 + k) 0) (p ∷ ps) ≡ p ∷ ps
+  go k true is so = subst (λ (m : ℕ). replicate m (codes "..") ++ drop m (p ∷ ps) ≡ p ∷ ps) (more k) (ap₂ (λ (x : List ℕ) (xs : List (List ℕ)). x ∷ xs) (sym ((bytes_eq-Decides p (codes "..")).0 is)) so)
+  go k false is so = refl
+
+no_more_up : (ps : List (List ℕ)) → prefix_len is_up (drop (prefix_len is_up ps) ps) ≡ 0
+no_more_up [] = refl
+no_more_up (p ∷ ps) = go (prefix_len is_up ps) (is_up p) refl (no_more_up ps) where
+  go : (k : ℕ) (b : Bool) → is_up p ≡ b → prefix_len is_up (drop k ps) ≡ 0 → prefix_len is_up (drop (cond b (1 + k) 0) (p ∷ ps)) ≡ 0
+  go k true is so = subst (λ (m : ℕ). prefix_len is_up (drop m (p ∷ ps)) ≡ 0) (more k) so
+  go k false is so = ap (λ (b : Bool). cond b (1 + prefix_len is_up ps) 0) is
+
+ups_behind : (n : ℕ) (rest : List (List ℕ)) → prefix_len is_up rest ≡ 0 → prefix_len is_up (replicate n (codes "..") ++ rest) ≡ n
+ups_behind zero rest none = none
+ups_behind (suc n) rest none = ap (λ (m : ℕ). 1 + m) (ups_behind n rest none) ∙ sym (more n)
+
+drop_ups : (n : ℕ) (rest : List (List ℕ)) → drop n (replicate n (codes "..") ++ rest) ≡ rest
+drop_ups zero rest = refl
+drop_ups (suc n) rest = drop_ups n rest
+
+-- the parts of the path that has some folders, which begin with some that lead up
+abbrev parts_by : ℕ → List (List ℕ) → List (List ℕ)
+parts_by zero fs = drop 1 fs
+parts_by (suc n) fs = replicate (32 - n) (codes "..") ++ drop (suc n) fs
+
+abbrev parts_in : List (List ℕ) → List (List ℕ)
+parts_in fs = parts_by (prefix_len is_up fs) fs
+
+module _ (ps : List (List ℕ)) where
+  abbrev up : ℕ
+  up = prefix_len is_up ps
+
+  parts_back : (b c : Bool) → eqb up 0 ≡ b → leb up 32 ≡ c → parts_in ((if b then codes "." ∷ [] else (if c then codes ".." ∷ replicate (32 - up) (codes "..") else codes "/" ∷ replicate up (codes ".."))) ++ drop up ps) ≡ ps
+  parts_back true c none few = ap (λ (k : ℕ). drop k ps) (eqb-true up 0 none)
+  parts_back false false some many = up_front ps
+  parts_back false true some few =
+      let m = 32 - up in
+      let left : 32 - m ≡ up = omega (arith, leb-true up 32 few) in
+      ap (λ (k : ℕ). parts_by k (codes ".." ∷ (replicate m (codes "..") ++ drop up ps))) (ap (λ (k : ℕ). 1 + k) (ups_behind m (drop up ps) (no_more_up ps)) ∙ sym (more m))
+      ∙ (ap₂ (λ (k : ℕ) (rest : List (List ℕ)). replicate k (codes "..") ++ rest) left (drop_ups m (drop up ps)) ∙ up_front ps)
+
+parts_again : (path : List ℕ) → parts_in (folders path) ≡ parts path
+parts_again [] = refl
+parts_again (b ∷ path) = parts_back (pieces (b ∷ path)) _ _ refl refl
+
 pub same_folders : (a b : List ℕ) → folders a ≡ folders b → a ≡ b
-same_folders a b is = (let rest : parts a ≡ parts b = cc in same_parts a b rest)
+same_folders a b is = same_parts a b (sym (parts_again a) ∙ (ap parts_in is ∙ parts_again b))
 
 -- folders that are above each other are the same
 pub both_above : (a b : List ℕ) → IsAbove a b → IsAbove b a → a ≡ b
@@ -155,7 +208,21 @@ module _ (s t : Step) (up : is_lt (step_cmp t s) ≡ false) where
 pub within_both : (inner : List (List ℕ)) (s t : Step) → IsWithin (folders_of t) s → IsWithin inner t → IsWithin inner s
 within_both inner s t a b = (a.0 ++ b.0, b.1 ∙ (ap (λ (fs : List (List ℕ)). fs ++ b.0) a.1 ∙ append_assoc (folders_of s) a.0 b.0))
 
--- the folders of a path that is not empty
-pub folders_whole : (path : List ℕ) → path ≢ [] → around path ∷ slice_split (λ c. c == 47) path ≡ folders path
+-- the folders of a path that is empty, and of one that is not
+pub folders_none : (path : List ℕ) → path ≡ [] → around (ups path) ≡ folders path
+folders_none [] none = refl
+folders_none (b ∷ path) none = absurd (omega (arith, ap length none))
+
+pub folders_whole : (path : List ℕ) → path ≢ [] → around (ups path) ++ drop (ups path) (slice_split (λ c. c == 47) path) ≡ folders path
 folders_whole [] some = absurd (some refl)
 folders_whole (b ∷ path) some = refl
+
+-- how many folders parts lead up, before names
+pub ups_before : (lead names : List (List ℕ)) → AllByRecursion (λ part. part ≡ codes "..") lead → AllByRecursion (λ part. is_file_name part ≡ true) names → prefix_len is_up (lead ++ names) ≡ length lead
+ups_before [] [] each files = refl
+ups_before [] (name ∷ names) each files = go (is_up name) refl where
+  go : (b : Bool) → is_up name ≡ b → prefix_len is_up (name ∷ names) ≡ 0
+  go true is = absurd (false≢true (sym (ap is_file_name ((bytes_eq-Decides name (codes "..")).0 is)) ∙ files.0))
+  go false is = ap (λ (b : Bool). cond b (1 + prefix_len is_up names) 0) is
+ups_before (p ∷ lead) names each files =
+    ap (λ (b : Bool). cond b (1 + prefix_len is_up (lead ++ names)) 0) (ap is_up each.0) ∙ (ap (λ (m : ℕ). 1 + m) (ups_before lead names each.1 files) ∙ sym (more (length lead)))

@@ -1,14 +1,14 @@
 -- Which documents are lock files of npm, and which are not.
-use Rattle.std.proofs.Common.{◌≡◌, ◌≢◌, ◌∙◌, ◌&&◌, ℕ, Bool, true, false, List, [], ◌∷◌, ◌++◌, length, get_or, codes, map, slice_get, inl, inr, refl, sym, ap, subst, append-nil, append_assoc, arith}
+use Rattle.std.proofs.Common.{◌≡◌, ◌≢◌, ◌∙◌, ◌&&◌, ℕ, ◌≤◌, Bool, true, false, List, [], ◌∷◌, ◌++◌, length, get_or, codes, map, slice_get, inl, inr, refl, sym, ap, subst, append-nil, append_assoc, arith}
 use Rattle.std.proofs.lemmas.Bool.{false≢true, and_parts}
 use Rattle.std.proofs.lemmas.List.{map-append}
-use Rattle.std.proofs.lemmas.List.Elements.{All-contains, All-from_recursion, All-nil, All-push, recursion_from_All}
+use Rattle.std.proofs.lemmas.List.Elements.{All-contains, All-from_recursion, All-nil, All-push, Contains-get_or, recursion_from_All}
 use Rattle.std.proofs.lemmas.List.Splits.{join_with_byte-slice_split}
-use Rattle.std.proofs.lemmas.Option.{get_or_from_slice_get, slice_get-get_or, slice_get_within}
+use Rattle.std.proofs.lemmas.Option.{get_or_from_slice_get, slice_get_within}
 use Rattle.std.specs.BTreeMap.{BTreeMap}
 use Rattle.std.specs.Borrow.{Bor}
-use Rattle.std.specs.List.{AllByRecursion, join_with_byte, list_all}
-use Rattle.std.specs.Prelude.{◌⊎◌, All, Option, Some, None, Result, Ok, Err, IfSome, IsSome, OnOk, String, is_some, option_and_then, option_map, string_bytes}
+use Rattle.std.specs.List.{AllByRecursion, join_with_byte, list_all, prefix_len}
+use Rattle.std.specs.Prelude.{◌⊎◌, All, Contains, Option, Some, None, Result, Ok, Err, IfSome, IsSome, OnOk, String, is_some, option_and_then, option_map, string_bytes}
 use Rattle.std.specs.Str.Pattern.{CutsPrefixes, FindsTextPrefix, IsTrimStartMatches}
 use Rattle.std.specs.declared.alloc.Global.{Global}
 use Rattle.ptree.specs.File.{FileNode, json}
@@ -21,10 +21,12 @@ use Rattle.trees.specs.declared.failure.Failure.{Failure}
 use Rattle.trees.specs.declared.source.Source.{Source}
 use Rattle.trees.specs.Documents.{IsDocumentOf}
 use Rattle.trees.specs.LockingParts.{FailsUnless}
-use Rattle.trees.specs.Npm.{listed, parts, packages_in, HasNames, HasNoLinks, HoldsNpmLock, IsNpmLock, IsPackage, IsPath, MayHaveObject}
+use Rattle.trees.specs.Npm.{is_up, leads_on, listed, parts, ups, HasNames, HasOwnNames, HoldsNpmLock, IsLeftOut, IsNpmLock, IsOnlyAliased, IsPackage, IsPath, MayHaveObject, StandsFor}
 use Rattle.trees.specs.NpmParts.{name_of, HasSteps, HoldsOnlyNpmLock, IsBehindUp, IsListedAt, Step}
 use Rattle.trees.specs.NpmPatterns.{is_file_name, pieces}
 use Rattle.trees.specs.Reading.{FailsToMake}
+use Rattle.trees.proofs.NpmLinks.{among_at, itself}
+use Rattle.trees.proofs.NpmFolders.{ups_before}
 use Rattle.trees.proofs.NpmPackages.{Entry, Item, item_seen}
 use Rattle.trees.proofs.Readings.{fails_weaker}
 
@@ -88,21 +90,29 @@ module _ (test : List ℕ → Bool) (fails : test (codes "..") ≡ false) where
       absurd (last (join_with_byte 47 (v ∷ more ++ names)) (sym (join_with_byte-slice_split 47 rest) ∙ (ap (join_with_byte 47) is ∙ ap (λ (t : List ℕ). t ++ (47 ∷ join_with_byte 47 (v ∷ more ++ names))) ups.0)))
 
 pub path_none : (path : List ℕ) → path ≡ [] → IsPath path
-path_none path none = record { up = []; names = []; is = ap parts none; each_up = All-nil IsUp; each_name = All-nil IsFile }
+path_none path none = record { up = []; names = []; is = ap parts none; each_up = All-nil IsUp; few = omega arith; each_name = All-nil IsFile }
 
-pub path_up : (path rest : List ℕ) → IsBehindUp path rest → rest ≡ codes ".." → IsPath path
-path_up [] rest behind up = path_none [] refl
-path_up (b ∷ path) rest behind up = record {
-  up = behind.up ++ codes ".." ∷ [];
-  names = [];
-  is = behind.is ∙ (ap (λ (t : List ℕ). behind.up ++ pieces t) up ∙ sym (append-nil (behind.up ++ codes ".." ∷ [])));
-  each_up = All-push IsUp behind.up (codes "..") behind.each refl;
-  each_name = All-nil IsFile;
-}
+-- how many folders up a path leads
+ups_in : (b : ℕ) (path : List ℕ) (up names : List (List ℕ)) → parts (b ∷ path) ≡ up ++ names → All IsUp up → All IsFile names → ups (b ∷ path) ≡ length up
+ups_in b path up names is each_up each_name = ap (prefix_len is_up) is ∙ ups_before up names (recursion_from_All IsUp up each_up) (recursion_from_All IsFile names each_name)
 
-pub path_down : (path rest : List ℕ) → IsBehindUp path rest → list_all is_file_name (pieces rest) ≡ true → IsPath path
-path_down [] rest behind names = path_none [] refl
-path_down (b ∷ path) rest behind names = record { up = behind.up; names = pieces rest; is = behind.is; each_up = behind.each; each_name = All-from_recursion IsFile (pieces rest) (pass_all is_file_name refl (pieces rest) names) }
+pub path_few : (path : List ℕ) → IsPath path → ups path ≤ 32
+path_few [] is = omega arith
+path_few (b ∷ path) is = omega (arith, ups_in b path is.up is.names is.is is.each_up is.each_name, is.few)
+
+pub path_up : (path rest : List ℕ) → IsBehindUp path rest → rest ≡ codes ".." → ups path ≤ 32 → IsPath path
+path_up [] rest behind up few = path_none [] refl
+path_up (b ∷ path) rest behind up few =
+    let all = behind.up ++ codes ".." ∷ [] in
+    let is : parts (b ∷ path) ≡ all ++ [] = behind.is ∙ (ap (λ (t : List ℕ). behind.up ++ pieces t) up ∙ sym (append-nil all)) in
+    let each_up = All-push IsUp behind.up (codes "..") behind.each refl in
+    record { up = all; names = []; is = is; each_up = each_up; few = omega (arith, ups_in b path all [] is each_up (All-nil IsFile), few); each_name = All-nil IsFile }
+
+pub path_down : (path rest : List ℕ) → IsBehindUp path rest → list_all is_file_name (pieces rest) ≡ true → ups path ≤ 32 → IsPath path
+path_down [] rest behind names few = path_none [] refl
+path_down (b ∷ path) rest behind names few =
+    let each_name = All-from_recursion IsFile (pieces rest) (pass_all is_file_name refl (pieces rest) names) in
+    record { up = behind.up; names = pieces rest; is = behind.is; each_up = behind.each; few = omega (arith, ups_in b path behind.up (pieces rest) behind.is behind.each each_name, few); each_name = each_name }
 
 -- and no others
 pub path_cases : (path rest : List ℕ) → IsBehindUp path rest → IsPath path → (path ≡ []) ⊎ ((rest ≡ codes "..") ⊎ (list_all is_file_name (pieces rest) ≡ true))
@@ -132,15 +142,38 @@ module _ (key : List ℕ) (d : Data) where
 pub listed_at : {X : Type 0} (P : X → Type 0) (xs : List X) (i : ℕ) (x : X) → slice_get xs i ≡ Some x → All P xs → P x
 listed_at P xs i x at all = subst P (get_or_from_slice_get xs i x x at) (all i x (slice_get_within xs i x at))
 
--- each package has a step of its own
-pub lists_all : (packages : List (List ℕ × Data)) (steps : List Step) → HasSteps packages steps → All (IsListedAt packages) steps → All HasNames packages
-lists_all packages steps has all = λ k d low.
-    let p = get_or packages k d in
-    let at : slice_get packages k ≡ Some p = slice_get-get_or packages k d low in
-    let own = has.own k p.0 p.1 at in
-    let s = own.0 in
-    let there : slice_get packages s.3 ≡ Some (name_of s, p.1) = ap (slice_get packages) own.2.node ∙ (at ∙ ap (λ (path : List ℕ). Some (path, p.1)) (sym own.2.called)) in
-    subst (λ (path : List ℕ). HasNames (path, p.1)) own.2.called (All-contains (IsListedAt packages) steps s all own.1 own.2.own p.1 there)
+-- each package that is no link has a step of its own, or that of an alias
+module _ (packages nodes : List (List ℕ × Data)) (steps : List Step) (has : HasSteps packages nodes steps) (all : All (IsListedAt packages) steps) where
+  node_listed : (i : ℕ) (p q : List ℕ × Data) → slice_get nodes i ≡ Some p → StandsFor packages p q → HasNames q
+  node_listed i p q at stands =
+      let own = has.own i p q at stands in
+      let s = own.0 in
+      let there : Contains packages (name_of s, q.1) = subst (λ (t : List ℕ). Contains packages (t, q.1)) (sym own.2.called) stands.among in
+      subst (λ (t : List ℕ). HasNames (t, q.1)) own.2.called (All-contains (IsListedAt packages) steps s all own.1 own.2.own q.1 there)
+
+  among_listed : (p q : List ℕ × Data) → Contains nodes p → StandsFor packages p q → HasNames q
+  among_listed p q c stands = (let at = among_at nodes p c in node_listed at.0 p q at.1 stands)
+
+  alias_listed : (p : List ℕ × Data) → Contains packages p → leads_on p.0 p.1 ≡ false → IsOnlyAliased packages p → HasNames p
+  alias_listed p c plain only =
+      let link = only.link in
+      let stands : StandsFor packages link p = record { among = c; at = sym only.leads.1; own = plain } in
+      elim (All-contains (λ q. Contains nodes q ⊎ IsLeftOut packages q) packages link has.drawn.all only.among) [
+        | inl node ↦ among_listed link p node stands
+        | inr left ↦ elim left [
+          | inl other ↦ absurd (other.1 (only.each link only.among only.leads))
+          | inr none ↦ absurd (false≢true (sym none.0 ∙ only.leads.0))
+        ]
+      ]
+
+  pub lists_all : All HasOwnNames packages
+  lists_all = λ k d low plain.
+      let p = get_or packages k d in
+      let c = Contains-get_or packages k d low in
+      elim (All-contains (λ q. Contains nodes q ⊎ IsLeftOut packages q) packages p has.drawn.all c) [
+        | inl node ↦ among_listed p p node (itself packages p c plain)
+        | inr left ↦ elim left [ inl link ↦ absurd (false≢true (sym plain ∙ link.0)) | inr only ↦ alias_listed p c plain only.1 ]
+      ]
 
 -- ## Packages
 
@@ -160,9 +193,9 @@ no_entries [] none = refl
 no_entries (e ∷ es) none = absurd (omega (arith, none))
 
 -- one item more
-pub packages_right : (xs : List Item) (x : Item) (path : List ℕ) → path ≡ string_bytes x.0.now → All IsPackage (map item_seen xs) → IsPackage (path, view x.1.now) → All IsPackage (map item_seen (xs ++ x ∷ []))
-packages_right xs x path is all one =
-    subst (All IsPackage) (sym (map-append item_seen xs (x ∷ []))) (All-push IsPackage (map item_seen xs) (item_seen x) all (subst (λ (t : List ℕ). IsPackage (t, view x.1.now)) is one))
+pub packages_right : (packages : List (List ℕ × Data)) (xs : List Item) (x : Item) (path : List ℕ) → path ≡ string_bytes x.0.now → All (IsPackage packages) (map item_seen xs) → IsPackage packages (path, view x.1.now) → All (IsPackage packages) (map item_seen (xs ++ x ∷ []))
+packages_right packages xs x path is all one =
+    subst (All (IsPackage packages)) (sym (map-append item_seen xs (x ∷ []))) (All-push (IsPackage packages) (map item_seen xs) (item_seen x) all (subst (λ (t : List ℕ). IsPackage packages (t, view x.1.now)) is one))
 
 -- ## Lock files
 
@@ -170,11 +203,11 @@ module _ (lock : Data) (ms : Members) (is : Some ms ≡ option_and_then as_objec
   same_packages : (l : IsNpmLock lock) → l.packages ≡ ms
   same_packages l = (let both : Some l.packages ≡ Some ms = sym l.are ∙ sym is in cc)
 
-  pub each_of : IsNpmLock lock → All IsPackage (listed ms)
-  each_of l = subst (λ (qs : Members). All IsPackage (listed qs)) (same_packages l) l.each
+  pub each_of : IsNpmLock lock → All (IsPackage (listed ms)) (listed ms)
+  each_of l = subst (λ (qs : Members). All (IsPackage (listed qs)) (listed qs)) (same_packages l) l.each
 
-  pub needs_of_lock : IsNpmLock lock → All HasNames (listed ms)
-  needs_of_lock l = subst (λ (qs : Members). All HasNames (listed qs)) (same_packages l) l.needs
+  pub needs_of_lock : IsNpmLock lock → All HasOwnNames (listed ms)
+  needs_of_lock l = subst (λ (qs : Members). All HasOwnNames (listed qs)) (same_packages l) l.needs
 
 pub no_packages : (lock : Data) → None ≡ option_and_then as_object (get (codes "packages") lock) → IsNpmLock lock → ⊥
 no_packages lock none l = (let no : None ≡ Some l.packages = none ∙ l.are in cc)
@@ -187,6 +220,6 @@ module _ (source : Source) (f : Failure) where
   fails_lock lock is says = fails_weaker (IsNpmLock lock → ⊥) ((e : Data) → HoldsNpmLock source e → ⊥) ⊥ f
       (λ none e holds. none (subst IsNpmLock (let both : Some (json e) ≡ Some (json lock) = sym holds.0 ∙ is in let same : e ≡ lock = cc in same) holds.1)) says
 
-pub only_lock : {T E : Type 0} (source : Source) (lock : Data) (r : Result T E) → IsDocumentOf Json source (json lock) → (HasNoLinks (packages_in lock) → OnOk r (IsNpmLock lock)) → OnOk r (HoldsOnlyNpmLock source)
-only_lock source lock (Ok x) is only = λ e holds none. (let both : Some (json lock) ≡ Some (json e) = sym is ∙ holds in let same : lock ≡ e = cc in subst IsNpmLock same (only (subst (λ (d : Data). HasNoLinks (packages_in d)) (sym same) none)))
+pub only_lock : {T E : Type 0} (source : Source) (lock : Data) (r : Result T E) → IsDocumentOf Json source (json lock) → OnOk r (IsNpmLock lock) → OnOk r (HoldsOnlyNpmLock source)
+only_lock source lock (Ok x) is only = λ e holds. (let both : Some (json lock) ≡ Some (json e) = sym is ∙ holds in let same : lock ≡ e = cc in subst IsNpmLock same only)
 only_lock source lock (Err e) is only = tt

@@ -1,5 +1,5 @@
 -- Which names the parts of a pattern mean.
-use Rattle.std.proofs.Common.{◌≡◌, ◌≢◌, ◌∙◌, ◌-◌, ℕ, Bool, true, false, not, List, [], ◌∷◌, ◌++◌, length, get_or, codes, inl, inr, refl, sym, ap, ap₂, subst, append-nil, append_assoc, length-append, arith}
+use Rattle.std.proofs.Common.{◌≡◌, ◌≢◌, ◌∙◌, ℕ, Bool, true, false, not, List, [], ◌∷◌, ◌++◌, length, get_or, codes, inl, inr, refl, sym, ap, ap₂, subst, append-nil, append_assoc, length-append, arith}
 use Rattle.std.proofs.lemmas.Bool.{false≢true, true≢false}
 use Rattle.std.proofs.lemmas.Bool.Decides.{Decides-at, Decides-by_and}
 use Rattle.std.proofs.lemmas.List.{nil_from_length}

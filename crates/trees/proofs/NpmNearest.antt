@@ -1,5 +1,5 @@
 -- The nearest package of a name, of those that a walk has entered.
-use Rattle.std.proofs.Common.{◌≡◌, ◌∙◌, ◌⊎◌, ◌==◌, ℕ, ◌<◌, ◌≤◌, Bool, true, false, cond, List, [], ◌∷◌, ◌++◌, map, length, get_or, zero, suc, slice_get, inl, inr, refl, sym, ap, subst, append-nil, length-append, arith}
+use Rattle.std.proofs.Common.{◌≡◌, ◌∙◌, ◌⊎◌, ◌==◌, ℕ, ◌<◌, ◌≤◌, Bool, true, false, cond, List, [], ◌∷◌, ◌++◌, length, get_or, zero, suc, slice_get, inl, inr, refl, sym, ap, subst, append-nil, length-append, arith}
 use Rattle.std.proofs.lemmas.Bool.{cases_lt, eq-eqb, eqb-true, false≢true, true≢false}
 use Rattle.std.proofs.lemmas.Cmp.{nat_cmp_total, nat_list_cmp_total, tied_itself}
 use Rattle.std.proofs.lemmas.List.{length-map}
@@ -8,16 +8,16 @@ use Rattle.std.proofs.lemmas.Map.Lookups.{exact_bytes, exact_unsigned}
 use Rattle.std.proofs.lemmas.Option.{cond_some, get_or_from_slice_get, same_Some, slice_get-get_or, slice_get_within}
 use Rattle.std.proofs.lemmas.Slice.Eq.{bytes_eq-Decides}
 use Rattle.std.specs.Cmp.Lexicographic.{slice_cmp}
-use Rattle.std.specs.List.Sorted.{IsStrictlySortedBy}
 use Rattle.std.specs.Option.{option_or}
 use Rattle.std.specs.Ordering.{bool_cmp, is_lt, nat_cmp}
 use Rattle.std.specs.Prelude.{Option, Some, None, AllPairs, Contains, All}
 use Rattle.std.specs.Str.{bytes_eq}
 use Rattle.std.specs.StrCase.Lower.{str_to_lowercase}
 use Rattle.serde_json.specs.Data.{Data}
-use Rattle.trees.specs.Npm.{folders, path_in, IsIn, IsMeant, IsNearest, IsSeen}
+use Rattle.trees.specs.Npm.{folders, path_in, AreAscending, IsIn, IsMeant, IsNearest, IsSeen, LeadsTo}
 use Rattle.trees.specs.NpmParts.{Step, chosen, folders_of, found_of, latest, lower_of, name_of, nearest_of, AreEntered, Follows, HasSteps, IsBefore, IsOwnStep, IsStep, IsStepIn, IsWithin}
-use Rattle.trees.proofs.NpmFolders.{both_above, folders_in_turn, front_as_long, front_first, in_turn, kinds_in_turn, names_in_turn, neither, one_place}
+use Rattle.trees.proofs.NpmFolders.{both_above, folders_in_turn, front_as_long, front_first, in_turn, kinds_in_turn, names_in_turn, neither}
+use Rattle.trees.proofs.NpmLinks.{leads_once, one_package}
 
 -- ## The last of a name
 
@@ -96,8 +96,8 @@ module _ (key : Step → List ℕ) (name : List ℕ) where
 -- ## One nearest package
 
 -- what is as above and as meant stands at one place
-pub one_nearest : (packages : List (List ℕ × Data)) → IsStrictlySortedBy (slice_cmp nat_cmp) (map (λ p. p.0) packages) → (path wanted : List ℕ) (i j : ℕ) → IsNearest packages path wanted i → IsNearest packages path wanted j → i ≡ j
-one_nearest packages up path wanted i j x y =
+pub one_nearest : (packages nodes : List (List ℕ × Data)) → AreAscending packages → AreAscending nodes → (path wanted : List ℕ) (i j : ℕ) → IsNearest packages nodes path wanted i → IsNearest packages nodes path wanted j → i ≡ j
+one_nearest packages nodes up rise path wanted i j x y =
     let to = x.nearest j y.folder y.name y.seen in
     let back = y.nearest i x.folder x.name x.seen in
     let folder : y.folder ≡ x.folder = both_above y.folder x.folder to.0 back.0 in
@@ -108,13 +108,15 @@ one_nearest packages up path wanted i j x y =
         | inr down ↦ neither nat_cmp_total exact_unsigned y.name x.name up'.1 down.1
       ]
     ] in
-    one_place packages up i j (path_in x.folder x.name, x.seen.is_in.1.0) (path_in y.folder y.name, y.seen.is_in.1.0) x.seen.is_in.1.1 y.seen.is_in.1.1
-    (ap (λ (f : List ℕ). path_in f x.name) (sym folder) ∙ ap (path_in y.folder) name)
+    let a = x.seen.is_in.1 in
+    let b = y.seen.is_in.1 in
+    let same = one_package packages up (path_in x.folder x.name, a.0) (path_in y.folder y.name, b.0) a.1 b.1 (ap (λ (f : List ℕ). path_in f x.name) (sym folder) ∙ ap (path_in y.folder) name) in
+    leads_once packages up nodes rise (path_in y.folder y.name, b.0) i j (subst (λ (p : List ℕ × Data). LeadsTo packages nodes p i) same a.2) b.2
 
-module _ (packages : List (List ℕ × Data)) (steps : List Step) (has : HasSteps packages steps) (k : ℕ) (entered : List Step) (are : AreEntered steps k entered) (t : Step) (at : slice_get steps k ≡ Some t) (path : List ℕ) (i : ℕ) (own : IsOwnStep path i t) (around : All (λ s. IsWithin (folders_of t) s) entered) (wanted : List ℕ) where
+module _ (packages nodes : List (List ℕ × Data)) (steps : List Step) (has : HasSteps packages nodes steps) (k : ℕ) (entered : List Step) (are : AreEntered steps k entered) (t : Step) (at : slice_get steps k ≡ Some t) (path : List ℕ) (i : ℕ) (own : IsOwnStep path i t) (around : All (λ s. IsWithin (folders_of t) s) entered) (wanted : List ℕ) where
   -- ## What is seen is entered
 
-  pub seen_entered : (j : ℕ) (folder name : List ℕ) → IsSeen packages path wanted j folder name → (s : Step) × Contains entered s × IsStepIn folder name j s
+  pub seen_entered : (j : ℕ) (folder name : List ℕ) → IsSeen packages nodes path wanted j folder name → (s : Step) × Contains entered s × IsStepIn folder name j s
   seen_entered j folder name seen =
       let other = has.others j folder name seen.is_in in
       let s = other.0 in
@@ -134,20 +136,20 @@ module _ (packages : List (List ℕ × Data)) (steps : List Step) (has : HasStep
             true≢false (subst (λ (b : Bool). is_lt (bool_cmp false b) ≡ false) own.own (subst (λ (b : Bool). is_lt (bool_cmp b t.1) ≡ false) kind (kinds_in_turn t s up same)))
 
   -- what is entered under the name but for the case is seen
-  pub entered_seen : (s : Step) → Contains entered s → lower_of s ≡ str_to_lowercase wanted → (folder : List ℕ) × (folders_of s ≡ folders folder) × IsSeen packages path wanted s.3 folder (name_of s)
+  pub entered_seen : (s : Step) → Contains entered s → lower_of s ≡ str_to_lowercase wanted → (folder : List ℕ) × (folders_of s ≡ folders folder) × IsSeen packages nodes path wanted s.3 folder (name_of s)
   entered_seen s c alike =
       let facts = All-contains (λ (x : Step). (x.1 ≡ false) × IsBefore steps k x) entered s are.each c in
       let low = slice_get_within steps facts.1.0 s facts.1.2 in
-      let step : IsStep packages s = subst (IsStep packages) (get_or_from_slice_get steps facts.1.0 s s facts.1.2) (has.each facts.1.0 s low) in
+      let step : IsStep packages nodes s = subst (IsStep packages nodes) (get_or_from_slice_get steps facts.1.0 s s facts.1.2) (has.each facts.1.0 s low) in
       let within : IsWithin (folders_of t) s = All-contains (λ (x : Step). IsWithin (folders_of t) x) entered s around c in
       elim step [
-        | inl self ↦ absurd (false≢true (sym facts.0 ∙ self.3.own))
+        | inl self ↦ absurd (false≢true (sym facts.0 ∙ self.4.own))
         | inr other ↦
             (let is = other.3 in (
               other.0,
               is.around,
               record {
-                is_in = subst (IsIn packages s.3 other.0) (sym is.called) other.2;
+                is_in = subst (IsIn packages nodes s.3 other.0) (sym is.called) other.2;
                 above = (within.0, sym own.around ∙ (within.1 ∙ ap (λ (fs : List (List ℕ)). fs ++ within.0) is.around));
                 alike = alike;
               },
@@ -158,7 +160,7 @@ module _ (packages : List (List ℕ × Data)) (steps : List Step) (has : HasStep
 
   nearest_by : (s : Step) → Contains entered s → lower_of s ≡ str_to_lowercase wanted
       → ((u : Step) → Contains entered u → lower_of u ≡ str_to_lowercase wanted → IsWithin (folders_of s) u × (folders_of u ≡ folders_of s → IsMeant wanted (name_of s) (name_of u)))
-      → IsNearest packages path wanted s.3
+      → IsNearest packages nodes path wanted s.3
   nearest_by s c alike near =
       let mine = entered_seen s c alike in
       record {
@@ -188,7 +190,7 @@ module _ (packages : List (List ℕ × Data)) (steps : List Step) (has : HasStep
     kind x c = (All-contains (λ (y : Step). (y.1 ≡ false) × IsBefore steps k y) entered x are.each c).0
 
   -- the last step of the name in lower case, where the very name is not in its folder, or is its own
-  plain : (found : ℕ × ℕ) (s : Step) → IsLatest lower_of (str_to_lowercase wanted) entered found s → ((u : Step) → Contains entered u → name_of u ≡ wanted → folders_of u ≡ folders_of s → ⊥) → IsNearest packages path wanted s.3
+  plain : (found : ℕ × ℕ) (s : Step) → IsLatest lower_of (str_to_lowercase wanted) entered found s → ((u : Step) → Contains entered u → name_of u ≡ wanted → folders_of u ≡ folders_of s → ⊥) → IsNearest packages nodes path wanted s.3
   plain found s l none =
       nearest_by s l.among l.same (λ u c alike. (around_it s u (l.last u c alike), λ same. inr (λ is. none u c is same, names_up s u l.among c (l.last u c alike) same)))
 
@@ -196,7 +198,7 @@ module _ (packages : List (List ℕ × Data)) (steps : List Step) (has : HasStep
   long s = sym (length-map s.0.items (λ x. x.now))
 
   -- the last one of the very name, around which as many folders are
-  very : (f g : ℕ × ℕ) (s v : Step) → IsLatest lower_of (str_to_lowercase wanted) entered f s → IsLatest name_of wanted entered g v → g.0 ≡ f.0 → IsNearest packages path wanted v.3
+  very : (f g : ℕ × ℕ) (s v : Step) → IsLatest lower_of (str_to_lowercase wanted) entered f s → IsLatest name_of wanted entered g v → g.0 ≡ f.0 → IsNearest packages nodes path wanted v.3
   very f g s v l m size =
       let alike : lower_of v ≡ str_to_lowercase wanted = ap str_to_lowercase m.same in
       let in' = around_it s v (l.last v m.among alike) in
@@ -210,22 +212,22 @@ module _ (packages : List (List ℕ × Data)) (steps : List Step) (has : HasStep
       let one : g.0 ≡ f.0 = omega (arith, long s, long v, ap (λ (p : ℕ × ℕ). p.0) l.is, ap (λ (p : ℕ × ℕ). p.0) m.is, ap length below.1, ap length above.1, ap length same, length-append (folders_of u) below.0, length-append (folders_of v) above.0) in
       false≢true (sym size ∙ eq-eqb g.0 f.0 one)
 
-  choose : (j : ℕ) (f g : ℕ × ℕ) (s v : Step) → IsLatest lower_of (str_to_lowercase wanted) entered f s → IsLatest name_of wanted entered g v → (b : Bool) → (g.0 == f.0) ≡ b → cond b (Some g.1) (Some f.1) ≡ Some j → IsNearest packages path wanted j
-  choose j f g s v l m true size is = (let node : v.3 ≡ j = sym (ap (λ (p : ℕ × ℕ). p.1) m.is) ∙ same_Some g.1 j is in subst (IsNearest packages path wanted) node (very f g s v l m (eqb-true g.0 f.0 size)))
-  choose j f g s v l m false size is = (let node : s.3 ≡ j = sym (ap (λ (p : ℕ × ℕ). p.1) l.is) ∙ same_Some f.1 j is in subst (IsNearest packages path wanted) node (plain f s l (far f g s v l m size)))
+  choose : (j : ℕ) (f g : ℕ × ℕ) (s v : Step) → IsLatest lower_of (str_to_lowercase wanted) entered f s → IsLatest name_of wanted entered g v → (b : Bool) → (g.0 == f.0) ≡ b → cond b (Some g.1) (Some f.1) ≡ Some j → IsNearest packages nodes path wanted j
+  choose j f g s v l m true size is = (let node : v.3 ≡ j = sym (ap (λ (p : ℕ × ℕ). p.1) m.is) ∙ same_Some g.1 j is in subst (IsNearest packages nodes path wanted) node (very f g s v l m (eqb-true g.0 f.0 size)))
+  choose j f g s v l m false size is = (let node : s.3 ≡ j = sym (ap (λ (p : ℕ × ℕ). p.1) l.is) ∙ same_Some f.1 j is in subst (IsNearest packages nodes path wanted) node (plain f s l (far f g s v l m size)))
 
-  found_by : (j : ℕ) (n m : Option (ℕ × ℕ)) → latest lower_of entered (str_to_lowercase wanted) ≡ n → latest name_of entered wanted ≡ m → chosen n m ≡ Some j → IsNearest packages path wanted j
+  found_by : (j : ℕ) (n m : Option (ℕ × ℕ)) → latest lower_of entered (str_to_lowercase wanted) ≡ n → latest name_of entered wanted ≡ m → chosen n m ≡ Some j → IsNearest packages nodes path wanted j
   found_by j None m a b is = (let no : None ≡ Some j = is in cc)
   found_by j (Some f) None a b is =
       let l = latest_some lower_of (str_to_lowercase wanted) entered are.chain f a in
       let node : l.0.3 ≡ j = sym (ap (λ (p : ℕ × ℕ). p.1) l.1.is) ∙ same_Some f.1 j is in
-      subst (IsNearest packages path wanted) node (plain f l.0 l.1 (λ u c same folder. latest_none name_of wanted entered b u c same))
+      subst (IsNearest packages nodes path wanted) node (plain f l.0 l.1 (λ u c same folder. latest_none name_of wanted entered b u c same))
   found_by j (Some f) (Some g) a b is =
       let l = latest_some lower_of (str_to_lowercase wanted) entered are.chain f a in
       let m = latest_some name_of wanted entered are.chain g b in
       choose j f g l.0 m.0 l.1 m.1 (g.0 == f.0) refl is
 
-  pub nearest_found : (j : ℕ) → nearest_of entered wanted ≡ Some j → IsNearest packages path wanted j
+  pub nearest_found : (j : ℕ) → nearest_of entered wanted ≡ Some j → IsNearest packages nodes path wanted j
   nearest_found j = found_by j (latest lower_of entered (str_to_lowercase wanted)) (latest name_of entered wanted) refl refl
 
   chosen_none : (n m : Option (ℕ × ℕ)) → chosen n m ≡ None → n ≡ None
@@ -236,10 +238,10 @@ module _ (packages : List (List ℕ × Data)) (steps : List Step) (has : HasStep
     by true gone = (let other : Some g.1 ≡ None = gone in cc)
     by false gone = (let other : Some f.1 ≡ None = gone in cc)
 
-  pub nearest_all : (j : ℕ) → IsNearest packages path wanted j → nearest_of entered wanted ≡ Some j
+  pub nearest_all : (j : ℕ) → IsNearest packages nodes path wanted j → nearest_of entered wanted ≡ Some j
   nearest_all j near = go (nearest_of entered wanted) refl where
     go : (o : Option ℕ) → nearest_of entered wanted ≡ o → o ≡ Some j
     go None is =
         let found = seen_entered j near.folder near.name near.seen in
         absurd (latest_none lower_of (str_to_lowercase wanted) entered (chosen_none (latest lower_of entered (str_to_lowercase wanted)) (latest name_of entered wanted) is) found.0 found.1 (ap str_to_lowercase found.2.called ∙ near.seen.alike))
-    go (Some m) is = ap Some (one_nearest packages has.ascending path wanted m j (nearest_found m is) near)
+    go (Some m) is = ap Some (one_nearest packages nodes has.ascending has.drawn.ascending path wanted m j (nearest_found m is) near)

@@ -15,7 +15,7 @@ use Rattle.serde_json.specs.declared.value.Value.{Value}
 use Rattle.trees.specs.declared.deps.npm.Workspaces.{Workspaces}
 use Rattle.trees.specs.Locking.{Lacks}
 use Rattle.trees.specs.NpmParts.{patterns_of, texts_of, AreSplit}
-use Rattle.trees.specs.NpmPatterns.{pattern_of, pieces, plain, IsPattern, IsOutside, IsWorkspace, LiesIn, MeanNames, Means}
+use Rattle.trees.specs.NpmPatterns.{pattern_of, pieces, IsPattern, IsOutside, IsWorkspace, LiesIn, MeanNames, Means}
 use Rattle.trees.proofs.NpmMeant.{Shown, lies_itself, lies_same, mean_none, mean_short, mean_star, none_mean, star_ends, star_mean, mean_more, more_mean}
 use Rattle.trees.proofs.SortedWords.{from_mapped}
 

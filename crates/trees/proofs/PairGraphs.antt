@@ -9,6 +9,7 @@ use Rattle.std.specs.Borrow.{Bor}
 use Rattle.std.specs.Prelude.{All, Any, Contains, filter, flat_map, String, string_bytes}
 use Rattle.std.specs.declared.alloc.Global.{Global}
 use Rattle.std.specs.Str.{bytes_eq}
+use Rattle.serde_json.specs.Data.{Data as JsonData}
 use Rattle.toml.specs.Data.{Data}
 use Rattle.ptree.specs.declared.graph.NodeIndex.{NodeIndex}
 use Rattle.ptree.specs.Graph.{edges_of, numbers_of, turned, weights_of, LacksNode}
@@ -19,8 +20,9 @@ use Rattle.trees.specs.declared.failure.Failure.{Failure}
 use Rattle.trees.specs.declared.source.Source.{Source}
 use Rattle.trees.specs.Depending.{pair_words, number, is_need, directed, edge_of, same_edge, firsts, edges_between, HoldsPairs, AreNames, StandsAbove, IsPairFile, IsRooted, IsNoName, HoldsNoGraph}
 use Rattle.trees.specs.DependingParts.{texts_of, labels_of, needs_of, paths_of, HasRoot, HoldsNone, IsNetworkOf, IsNetworkOfPairs, IsWhole, IsWithin}
-use Rattle.trees.specs.Meaning.{HasMeaning, IsGraphOf, IsLockFile, MeansTables}
+use Rattle.trees.specs.Meaning.{IsGraphOf, IsLockFile, MeansTables}
 use Rattle.trees.specs.Locking.{tables_in}
+use Rattle.trees.specs.Npm.{AreNodePaths, IsNpmLockFile, MeansPackages}
 use Rattle.trees.specs.Reading.{FailsFor}
 use Rattle.trees.specs.Shown.{shown_text}
 use Rattle.trees.proofs.Pairs.{pairs_unique}
@@ -159,33 +161,18 @@ same_count is_terminal ws labels i end so =
 pub no_paths : (n : Network) → n.paths.items ≡ [] → paths_of n ≡ []
 no_paths n none = ap (λ (paths : List (String Global)). map string_bytes paths) none
 
--- what a source means without a root
-pub any_root : (source : Source) (name : Option (Bor (List ℕ))) → HasMeaning source name → HasMeaning source None
-any_root source name (inl pairs) = inl pairs
-any_root source name (inr (inl lock)) = inr (inl lock)
-any_root source name (inr (inr npm)) = inr (inr (refl, npm.1))
-
--- a root that is asked for is one of nodes without paths
-root_held : (source : Source) (name : Option (Bor (List ℕ))) (is_inverse : Bool) (read rooted : Network) (root : ℕ) → HasMeaning source name → IsNetworkOf source is_inverse read → HasRoot source name read rooted root
-    → IsRooted source name [] (labels_of read) (needs_of read) (labels_of rooted) (needs_of rooted) root
-root_held source name is_inverse read rooted root (inl pairs) is has =
-    subst (λ paths. IsRooted source name paths (labels_of read) (needs_of read) (labels_of rooted) (needs_of rooted) root) (no_paths read (is.paths pairs.json)) has
-root_held source name is_inverse read rooted root (inr (inl lock)) is has =
-    subst (λ paths. IsRooted source name paths (labels_of read) (needs_of read) (labels_of rooted) (needs_of rooted) root) (no_paths read (is.paths lock.1.file.json)) has
-root_held source name is_inverse read rooted root (inr (inr npm)) is has =
-    subst (λ (o : Option (Bor (List ℕ))). HasRoot source o read rooted root → IsRooted source o [] (labels_of read) (needs_of read) (labels_of rooted) (needs_of rooted) root) (sym npm.0) (λ h. h) has
-
 -- what is drawn of a network
-pub graph_held : (source : Source) (name : Option (Bor (List ℕ))) (is_inverse is_terminal : Bool) (read rooted drawn : Network) (d : Dependencies) → HasMeaning source name → IsNetworkOf source is_inverse read → HasRoot source name read rooted d.root.0
+pub graph_held : (source : Source) (name : Option (Bor (List ℕ))) (is_inverse is_terminal : Bool) (read rooted drawn : Network) (d : Dependencies) → IsNetworkOf source is_inverse read → HasRoot source name read rooted d.root.0
     → drawn.labels ≡ rooted.labels → drawn.edges.items ≡ reverse rooted.edges.items → map string_bytes (weights_of d.graph) ≡ map (shown_text is_terminal) (labels_of drawn) → edges_of d.graph ≡ needs_of drawn
     → IsGraphOf source name is_inverse is_terminal d
-graph_held source name is_inverse is_terminal read rooted drawn d meaning is root labels turned texts edges = record {
+graph_held source name is_inverse is_terminal read rooted drawn d is root labels turned texts edges = record {
+  paths = paths_of read;
   names = labels_of read;
   needs = needs_of read;
   means = is.means;
   texts = labels_of rooted;
   edges = needs_of rooted;
-  rooted = root_held source name is_inverse read rooted d.root.0 meaning is root;
+  rooted = root;
   graph = record {
     weights = texts ∙ ap (λ v. map (shown_text is_terminal) (map string_bytes v.items)) labels;
     edges = edges ∙ (ap (map numbers_of) turned ∙ map_reversed numbers_of rooted.edges.items);
@@ -216,14 +203,19 @@ fails_unnamed source name is_inverse read e net is says =
     (λ none pairs held. inr (
       labels_of read,
       subst (λ ps. AreNames ps (labels_of read)) (pairs_unique means.pairs pairs (sym means.held ∙ held)) means.are,
-      subst (λ paths. IsNoName name paths (labels_of read)) (no_paths read (net.paths is.json)) none,
+      subst (λ paths. IsNoName name paths (labels_of read)) (net.means.no_paths is.json) none,
     )) says
 
 -- the packages of a lock file, of which the name means none
 pub unnamed_lock : (source : Source) (name : Option (Bor (List ℕ))) (is_inverse : Bool) (read : Network) (d : Data) → IsNetworkOf source is_inverse read → IsLockFile source d → IsNoName name (paths_of read) (labels_of read)
     → (names : List (List ℕ)) × (needs : List (ℕ × ℕ)) × MeansTables is_inverse (tables_in d) names needs × IsNoName name [] names
 unnamed_lock source name is_inverse read d net file none =
-    (labels_of read, needs_of read, net.means.tables d file, subst (λ paths. IsNoName name paths (labels_of read)) (no_paths read (net.paths file.file.json)) none)
+    (labels_of read, needs_of read, net.means.tables d file, subst (λ paths. IsNoName name paths (labels_of read)) (net.means.no_paths file.file.json) none)
+
+-- and the nodes of one of npm
+pub unnamed_npm : (source : Source) (name : Option (Bor (List ℕ))) (is_inverse : Bool) (read : Network) (lock : JsonData) → IsNetworkOf source is_inverse read → IsNpmLockFile source lock → IsNoName name (paths_of read) (labels_of read)
+    → (paths : List (List ℕ)) × (names : List (List ℕ)) × (needs : List (ℕ × ℕ)) × AreNodePaths lock paths × MeansPackages is_inverse source lock names needs × IsNoName name paths names
+unnamed_npm source name is_inverse read lock net file none = (paths_of read, labels_of read, needs_of read, net.means.npm_paths lock file, net.means.packages lock file, none)
 
 -- a source without lines of words has no pairs
 pub none_held : (source : Source) (found : List (Bor (List ℕ) × Bor (List ℕ))) → length found ≡ 0 → HoldsPairs source (map texts_of found) → HoldsNone source

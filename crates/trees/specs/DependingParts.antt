@@ -9,7 +9,7 @@ use Rattle.std.specs.Prelude.{◌≡◌, ◌≢◌, ◌<◌, ◌+◌, ◌⊎◌,
 use Rattle.ptree.specs.Graph.{numbers_of}
 use Rattle.trees.specs.declared.deps.Network.{Network}
 use Rattle.trees.specs.declared.source.Source.{Source}
-use Rattle.trees.specs.Depending.{begins_object, pair_words, same_edge, edges_between, HoldsPairs, AreNames, IsClosed, HasEach, IsUnreached, AreTops, StandsAbove, IsRooted}
+use Rattle.trees.specs.Depending.{pair_words, same_edge, edges_between, HoldsPairs, AreNames, IsClosed, HasEach, IsUnreached, AreTops, StandsAbove, IsRooted}
 use Rattle.trees.specs.Meaning.{Means}
 use Rattle.trees.specs.Naming.{is_labelled, passes_at}
 
@@ -174,10 +174,9 @@ AreTopsOf n tops = IsWhole n → AreTops (needs_of n) (length (labels_of n)) top
 abbrev pub IsTopped : List ℕ → Network → Network → ℕ → Type 0
 IsTopped label old new root = (tops : List ℕ) × All (λ t. t < length (labels_of old)) tops × AreTopsOf old tops × StandsAbove label (labels_of old) (needs_of old) tops (labels_of new) (needs_of new) root
 
--- a network has the nodes and edges that a source means, and no paths unless that is a lock file of npm
+-- a network has the nodes and edges that a source means
 pub record IsNetworkOf (source : Source) (is_inverse : Bool) (n : Network) : Type 0 where
-  pub means : Means source is_inverse (labels_of n) (needs_of n)
-  pub paths : begins_object source ≡ false → n.paths.items ≡ []
+  pub means : Means source is_inverse (paths_of n) (labels_of n) (needs_of n)
   pub whole : IsWhole n
 
 -- the root of a network is the one that is asked for

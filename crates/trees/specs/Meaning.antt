@@ -1,17 +1,17 @@
 -- Which graph a source means: its lines are pairs of words, or it is a lock file with tables of packages, or one of npm.
 use Rattle.std.specs.Borrow.{Bor}
 use Rattle.std.specs.List.{AllZip}
-use Rattle.std.specs.Prelude.{◌≡◌, ◌≢◌, ◌⊎◌, ℕ, Bool, true, List, [], map, Option, None}
+use Rattle.std.specs.Prelude.{◌≡◌, ◌≢◌, ◌⊎◌, ℕ, Bool, true, false, List, [], map, Option}
 use Rattle.serde_json.specs.Data.{Data as JsonData}
 use Rattle.toml.specs.Data.{Data}
 use Rattle.ptree.specs.File.{toml}
 use Rattle.ptree.specs.declared.value.document.DocFormat.TheVariants.{Toml}
 use Rattle.trees.specs.declared.deps.Dependencies.{Dependencies}
 use Rattle.trees.specs.declared.source.Source.{Source}
-use Rattle.trees.specs.Depending.{directed, edges_between, firsts, same_edge, AreNames, HoldsPairs, IsGraphFrom, IsNoName, IsPairFile, IsRooted, IsTextFile}
+use Rattle.trees.specs.Depending.{begins_object, directed, edges_between, firsts, same_edge, AreNames, HoldsPairs, IsGraphFrom, IsNoName, IsPairFile, IsRooted, IsTextFile}
 use Rattle.trees.specs.Documents.{IsDocumentOf}
 use Rattle.trees.specs.Locking.{Package, edges_from, entries_in, tables_in, ArePackages, IsLabel, IsLock, Leads}
-use Rattle.trees.specs.Npm.{IsNpmLockFile, MeansPackages}
+use Rattle.trees.specs.Npm.{AreNodePaths, HoldsNpmLock, IsNpmLockFile, MeansPackages}
 
 -- ## Sources
 
@@ -20,10 +20,9 @@ pub record IsLockFile (source : Source) (d : Data) : Type 0 where
   pub file : IsTextFile true source
   pub document : IsDocumentOf Toml source (toml d)
 
--- it is said what a source means: it is read as lines of two words, or is a lock file; of one of npm it is
--- said if no root is asked for
-abbrev pub HasMeaning : Source → Option (Bor (List ℕ)) → Type 0
-HasMeaning source root = IsPairFile source ⊎ (((d : Data) × IsLockFile source d) ⊎ ((root ≡ None) × ((lock : JsonData) × IsNpmLockFile source lock)))
+-- it is said what a source means: it is read as lines of two words, or is a lock file with tables, or one of npm
+abbrev pub HasMeaning : Source → Type 0
+HasMeaning source = IsPairFile source ⊎ (((d : Data) × IsLockFile source d) ⊎ ((lock : JsonData) × IsNpmLockFile source lock))
 
 -- a source is the document of a lock file, all of whose needs lead to packages
 abbrev pub HoldsLock : Source → Data → Type 0
@@ -62,20 +61,29 @@ abbrev pub HoldsNoLockGraph : Source → Option (Bor (List ℕ)) → Bool → Ty
 HoldsNoLockGraph source root is_inverse =
     (d : Data) → HoldsLock source d → (names : List (List ℕ)) × (needs : List (ℕ × ℕ)) × MeansTables is_inverse (tables_in d) names needs × IsNoName root [] names
 
--- they are those that a source means
-pub record Means (source : Source) (is_inverse : Bool) (names : List (List ℕ)) (needs : List (ℕ × ℕ)) : Type 0 where
+-- it is the document of no lock file of npm, or of one in which the name, which may be a path, means no node
+abbrev pub HoldsNoNpmGraph : Source → Option (Bor (List ℕ)) → Bool → Type 0
+HoldsNoNpmGraph source root is_inverse =
+    (lock : JsonData) → HoldsNpmLock source lock
+    → (paths : List (List ℕ)) × (names : List (List ℕ)) × (needs : List (ℕ × ℕ)) × AreNodePaths lock paths × MeansPackages is_inverse source lock names needs × IsNoName root paths names
+
+-- they are those that a source means, and so are the paths of the nodes: only nodes of a lock file of npm have some
+pub record Means (source : Source) (is_inverse : Bool) (paths names : List (List ℕ)) (needs : List (ℕ × ℕ)) : Type 0 where
   pub pairs : IsPairFile source → MeansPairs source is_inverse names needs
   pub tables : (d : Data) → IsLockFile source d → MeansTables is_inverse (tables_in d) names needs
   pub packages : (lock : JsonData) → IsNpmLockFile source lock → MeansPackages is_inverse source lock names needs
+  pub npm_paths : (lock : JsonData) → IsNpmLockFile source lock → AreNodePaths lock paths
+  pub no_paths : begins_object source ≡ false → paths ≡ []
 
 -- ## Graphs
 
 -- d is the graph that a source means, from the root that is asked for on
 pub record IsGraphOf (source : Source) (root : Option (Bor (List ℕ))) (is_inverse is_terminal : Bool) (d : Dependencies) : Type 0 where
+  pub paths : List (List ℕ)
   pub names : List (List ℕ)
   pub needs : List (ℕ × ℕ)
-  pub means : Means source is_inverse names needs
+  pub means : Means source is_inverse paths names needs
   pub texts : List (List ℕ)
   pub edges : List (ℕ × ℕ)
-  pub rooted : IsRooted source root [] names needs texts edges d.root.0
+  pub rooted : IsRooted source root paths names needs texts edges d.root.0
   pub graph : IsGraphFrom is_terminal texts edges d

@@ -1,9 +1,9 @@
 -- Which packages a package-lock.json has, their labels, and what they need.
 use Rattle.std.specs.Cmp.Lexicographic.{slice_cmp}
-use Rattle.std.specs.List.{AllZip, starts_with}
+use Rattle.std.specs.List.{AllZip, prefix_len}
 use Rattle.std.specs.List.Sorted.{IsSorted, IsStrictlySortedBy}
 use Rattle.std.specs.Ordering.{is_lt, nat_cmp}
-use Rattle.std.specs.Prelude.{◌≡◌, ◌≢◌, ◌≤◌, ◌||◌, ◌⊎◌, ◌↔◌, ℕ, nat_eq, Bool, true, false, if◌then◌else◌, List, [], ◌∷◌, ◌++◌, codes, map, length, slice_get, All, Contains, Option, Some, None, IfSome, IsSome, MatchOption, option_and_then, option_map, unwrap_or, string_bytes}
+use Rattle.std.specs.Prelude.{◌≡◌, ◌≢◌, ◌≤◌, ◌==◌, ◌-◌, ◌⊎◌, ◌↔◌, ℕ, nat_le, Bool, true, false, if◌then◌else◌, List, [], ◌∷◌, ◌++◌, codes, drop, map, length, replicate, slice_get, All, Contains, Option, Some, None, IfSome, IsSome, MatchOption, option_and_then, option_map, unwrap_or, string_bytes}
 use Rattle.std.specs.Str.{bytes_eq}
 use Rattle.std.specs.StrCase.Lower.{str_to_lowercase}
 use Rattle.serde_json.specs.Data.{Data, Members, no_members, member}
@@ -42,6 +42,14 @@ path_in folder name = home folder ++ (codes "/" ++ name)
 abbrev pub EndsWith : List ℕ → List ℕ → Type 0
 EndsWith path name = (path ≡ name) ⊎ ((front : List ℕ) × (path ≡ front ++ (codes "/" ++ name)))
 
+-- a path is that of something in a `node_modules`, under a name
+abbrev pub IsPlacedAs : List ℕ → List ℕ → Type 0
+IsPlacedAs path name = (folder : List ℕ) × IsName name × (path ≡ path_in folder name)
+
+-- a path is that of something in a `node_modules`
+abbrev pub IsPlaced : List ℕ → Type 0
+IsPlaced path = (folder : List ℕ) × (name : List ℕ) × IsName name × (path ≡ path_in folder name)
+
 -- the last name of a path is the longest that it ends with
 pub record IsLastName (path name : List ℕ) : Type 0 where
   pub is : IsName name
@@ -76,42 +84,101 @@ is_link d = unwrap_or (option_and_then as_bool (get (codes "link") d)) false
 abbrev pub AreAscending : List (List ℕ × Data) → Type 0
 AreAscending packages = IsStrictlySortedBy (slice_cmp nat_cmp) (map (λ p. p.0) packages)
 
--- no package is a link, as those to workspaces are
-abbrev pub HasNoLinks : List (List ℕ × Data) → Type 0
-HasNoLinks packages = All (λ p. is_link p.1 ≡ false) packages
+-- ## Links
+
+-- whether what is at a path is a link to what is at another one. The project is none
+abbrev pub leads_on : List ℕ → Data → Bool
+leads_on [] d = false
+leads_on (b ∷ path) d = is_link d
+
+-- the path of the package that is meant by what is at a path: that to which a link leads, or its own
+abbrev pub target : List ℕ → Data → List ℕ
+target path d = if leads_on path d then unwrap_or (text_at (codes "resolved") d) [] else path
+
+-- a package stands for the one at that path, which is no link
+pub record StandsFor (packages : List (List ℕ × Data)) (p q : List ℕ × Data) : Type 0 where
+  pub among : Contains packages q
+  pub at : q.0 ≡ target p.0 p.1
+  pub own : leads_on q.0 q.1 ≡ false
+
+-- the name of a package: the one that it gives itself, or else the last one of its path
+abbrev pub IsNameOf : List ℕ → Data → List ℕ → Type 0
+IsNameOf path d name = MatchOption (text_at (codes "name") d) (IsLastName path name) (λ given. name ≡ given)
+
+-- the name by which it is drawn: the one that it has in a `node_modules`, or else its own
+abbrev pub IsDrawnName : List ℕ → Data → List ℕ → Type 0
+IsDrawnName path d name = IsPlacedAs path name ⊎ ((IsPlaced path → ⊥) × IsNameOf path d name)
+
+-- a package is an alias: in a `node_modules` it has another name than the package that it stands for is drawn by
+pub record IsAlias (packages : List (List ℕ × Data)) (p : List ℕ × Data) : Type 0 where
+  pub name : List ℕ
+  pub placed : IsPlacedAs p.0 name
+  pub meant : List ℕ × Data
+  pub stands : StandsFor packages p meant
+  pub drawn : List ℕ
+  pub is : IsDrawnName meant.0 meant.1 drawn
+  pub other : name ≢ drawn
+
+-- a package is a link to a path
+abbrev pub LinksTo : List ℕ → List ℕ × Data → Type 0
+LinksTo path p = (leads_on p.0 p.1 ≡ true) × (target p.0 p.1 ≡ path)
+
+-- only aliases mean a package, which is not the project and in no `node_modules`: there are links to it, and each is an alias
+pub record IsOnlyAliased (packages : List (List ℕ × Data)) (p : List ℕ × Data) : Type 0 where
+  pub other : p.0 ≢ []
+  pub outside : IsPlaced p.0 → ⊥
+  pub link : List ℕ × Data
+  pub among : Contains packages link
+  pub leads : LinksTo p.0 link
+  pub each : (q : List ℕ × Data) → Contains packages q → LinksTo p.0 q → IsAlias packages q
+
+-- a package is left out: a link that is no alias, and what only aliases mean
+abbrev pub IsLeftOut : List (List ℕ × Data) → List ℕ × Data → Type 0
+IsLeftOut packages p = ((leads_on p.0 p.1 ≡ true) × (IsAlias packages p → ⊥)) ⊎ ((leads_on p.0 p.1 ≡ false) × IsOnlyAliased packages p)
+
+-- the others are the nodes, in ascending order of their paths
+pub record AreNodes (packages nodes : List (List ℕ × Data)) : Type 0 where
+  pub ascending : AreAscending nodes
+  pub each : All (λ p. Contains packages p × (IsLeftOut packages p → ⊥)) nodes
+  pub all : All (λ p. Contains nodes p ⊎ IsLeftOut packages p) packages
+
+-- a package leads to the node with a number: that is itself, or, if it is none, the one that it stands for
+abbrev pub LeadsTo : List (List ℕ × Data) → List (List ℕ × Data) → List ℕ × Data → ℕ → Type 0
+LeadsTo packages nodes p i = (slice_get nodes i ≡ Some p) ⊎ ((Contains nodes p → ⊥) × ((q : List ℕ × Data) × StandsFor packages p q × (slice_get nodes i ≡ Some q)))
 
 -- ## Folders
-
--- what is around a path: the project, or what that is in
-abbrev pub around : List ℕ → List ℕ
-around path = if bytes_eq path (codes "..") || starts_with nat_eq path (codes "../") then codes ".." else codes "."
 
 -- the parts of a path
 abbrev pub parts : List ℕ → List (List ℕ)
 parts [] = []
 parts (b ∷ path) = pieces (b ∷ path)
 
--- the folders of a path from the outermost on
+-- whether a part of a path leads up
+abbrev pub is_up : List ℕ → Bool
+is_up part = bytes_eq part (codes "..")
+
+-- how many folders up a path leads before it leads down
+abbrev pub ups : List ℕ → ℕ
+ups path = prefix_len is_up (pieces path)
+
+-- how many folders around the project are known: the one that it is in, the one that this is in, and so on
+abbrev pub most_up : ℕ
+most_up = 32
+
+-- what is around the names of a path, by how many folders that leads up: the project, or the known folders from the
+-- outermost one to that to which the path leads, of which each folder up leaves one. What leads up more is around no other path
+abbrev pub around : ℕ → List (List ℕ)
+around up = if up == 0 then codes "." ∷ [] else (if nat_le up most_up then codes ".." ∷ replicate (most_up - up) (codes "..") else codes "/" ∷ replicate up (codes ".."))
+
+-- the folders of a path from the outermost on: those around its names, and these
 abbrev pub folders : List ℕ → List (List ℕ)
-folders path = around path ∷ parts path
+folders path = around (ups path) ++ drop (ups path) (parts path)
 
 -- a folder is that of a path, or one above it
 abbrev pub IsAbove : List ℕ → List ℕ → Type 0
 IsAbove folder path = (rest : List (List ℕ)) × (folders path ≡ folders folder ++ rest)
 
--- a path is that of something in a `node_modules`
-abbrev pub IsPlaced : List ℕ → Type 0
-IsPlaced path = (folder : List ℕ) × (name : List ℕ) × IsName name × (path ≡ path_in folder name)
-
--- the package with a number is in the `node_modules` of a folder under a name
-abbrev pub IsIn : List (List ℕ × Data) → ℕ → List ℕ → List ℕ → Type 0
-IsIn packages i folder name = IsName name × ((d : Data) × (slice_get packages i ≡ Some (path_in folder name, d)))
-
 -- ## Workspaces
-
--- the name of a package: the one that it gives itself, or else the last one of its path
-abbrev pub IsNameOf : List ℕ → Data → List ℕ → Type 0
-IsNameOf path d name = MatchOption (text_at (codes "name") d) (IsLastName path name) (λ given. name ≡ given)
 
 -- patterns name a package: it is no link, and its path is that of a workspace
 abbrev pub NameWorkspace : List (List ℕ) → List (List ℕ × Data) → List ℕ → Type 0
@@ -135,9 +202,13 @@ ListsName path d name = Contains (names_in d) name ⊎ ((IsPlaced path → ⊥) 
 abbrev pub Names : List (List ℕ × Data) → List ℕ → Data → List ℕ → Type 0
 Names packages path d name = ListsName path d name ⊎ ((path ≡ []) × NameWorkspace (patterns_in d) packages name)
 
--- seen from a path, the package with a number is in the `node_modules` of a folder, which is that of the path or one above it, under a name that is the wanted one but for the case
-pub record IsSeen (packages : List (List ℕ × Data)) (path wanted : List ℕ) (i : ℕ) (folder name : List ℕ) : Type 0 where
-  pub is_in : IsIn packages i folder name
+-- what is in the `node_modules` of a folder under a name leads to the node with a number
+abbrev pub IsIn : List (List ℕ × Data) → List (List ℕ × Data) → ℕ → List ℕ → List ℕ → Type 0
+IsIn packages nodes i folder name = IsName name × ((d : Data) × Contains packages (path_in folder name, d) × LeadsTo packages nodes (path_in folder name, d) i)
+
+-- seen from a path, such a node is in a folder, which is that of the path or one above it, under a name that is the wanted one but for the case
+pub record IsSeen (packages nodes : List (List ℕ × Data)) (path wanted : List ℕ) (i : ℕ) (folder name : List ℕ) : Type 0 where
+  pub is_in : IsIn packages nodes i folder name
   pub above : IsAbove folder path
   pub alike : str_to_lowercase name ≡ str_to_lowercase wanted
 
@@ -145,30 +216,32 @@ pub record IsSeen (packages : List (List ℕ × Data)) (path wanted : List ℕ) 
 abbrev pub IsMeant : List ℕ → List ℕ → List ℕ → Type 0
 IsMeant wanted name other = (name ≡ wanted) ⊎ ((other ≢ wanted) × (is_lt (slice_cmp nat_cmp name other) ≡ false))
 
--- and no such package is in a nearer folder, nor meant rather than it in this one
-pub record IsNearest (packages : List (List ℕ × Data)) (path wanted : List ℕ) (i : ℕ) : Type 0 where
+-- and no such node is in a nearer folder, nor meant rather than it in this one
+pub record IsNearest (packages nodes : List (List ℕ × Data)) (path wanted : List ℕ) (i : ℕ) : Type 0 where
   pub folder : List ℕ
   pub name : List ℕ
-  pub seen : IsSeen packages path wanted i folder name
-  pub nearest : (j : ℕ) (above other : List ℕ) → IsSeen packages path wanted j above other → IsAbove above folder × (above ≡ folder → IsMeant wanted name other)
+  pub seen : IsSeen packages nodes path wanted i folder name
+  pub nearest : (j : ℕ) (above other : List ℕ) → IsSeen packages nodes path wanted j above other → IsAbove above folder × (above ≡ folder → IsMeant wanted name other)
 
--- a package needs another: that is the nearest one, seen from its path, for a name that it names
-pub record Needs (packages : List (List ℕ × Data)) (i j : ℕ) : Type 0 where
-  pub path : List ℕ
-  pub value : Data
-  pub is : slice_get packages i ≡ Some (path, value)
+-- a node needs another: that is the nearest one for a name that the package names for which it stands, seen from the path of that
+pub record Needs (packages nodes : List (List ℕ × Data)) (i j : ℕ) : Type 0 where
+  pub node : List ℕ × Data
+  pub is : slice_get nodes i ≡ Some node
+  pub meant : List ℕ × Data
+  pub stands : StandsFor packages node meant
   pub name : List ℕ
-  pub named : Names packages path value name
-  pub nearest : IsNearest packages path name j
+  pub named : Names packages meant.0 meant.1 name
+  pub nearest : IsNearest packages nodes meant.0 name j
 
 -- ## Lock files
 
--- a path leads up some folders from that of the project, and then down by names
+-- a path leads up to the project or a known folder around it, and then down by names
 pub record IsPath (path : List ℕ) : Type 0 where
   pub up : List (List ℕ)
   pub names : List (List ℕ)
   pub is : parts path ≡ up ++ names
   pub each_up : All (λ part. part ≡ codes "..") up
+  pub few : length up ≤ most_up
   pub each_name : All (λ part. is_file_name part ≡ true) names
 
 -- what is at a key, if anything, is a text, or an object
@@ -183,13 +256,14 @@ pub record MayBeLink (d : Data) : Type 0 where
   pub kind : IfSome (get (codes "link") d) (λ e. IsSome (as_bool e))
   pub leads : is_link d ≡ true → IsSome (text_at (codes "resolved") d)
 
--- what is at a path is a package
-pub record IsPackage (p : List ℕ × Data) : Type 0 where
+-- what is at a path is a package of a file, and stands for one
+pub record IsPackage (packages : List (List ℕ × Data)) (p : List ℕ × Data) : Type 0 where
   pub path : IsPath p.0
   pub object : IsSome (as_object p.1)
   pub name : MayHaveText (codes "name") p.1
   pub version : MayHaveText (codes "version") p.1
   pub link : MayBeLink p.1
+  pub leads : (q : List ℕ × Data) × StandsFor packages p q
 
 -- the lists in which a package names others are objects; what it is developed with counts if it is in no `node_modules`
 pub record HasLists (p : List ℕ × Data) : Type 0 where
@@ -203,6 +277,10 @@ pub record HasNames (p : List ℕ × Data) : Type 0 where
   pub lists : HasLists p
   pub workspaces : p.0 ≡ [] → MayHavePatterns p.1
 
+-- a link needs none of its own
+abbrev pub HasOwnNames : List ℕ × Data → Type 0
+HasOwnNames p = leads_on p.0 p.1 ≡ false → HasNames p
+
 -- the version of a lock file's format
 abbrev pub format_version : Data → Option ℕ
 format_version lock = option_and_then as_u64 (option_and_then as_number (get (codes "lockfileVersion") lock))
@@ -211,14 +289,13 @@ format_version lock = option_and_then as_u64 (option_and_then as_number (get (co
 abbrev pub HasPaths : Data → Type 0
 HasPaths lock = (format_version lock ≡ Some 2) ⊎ (format_version lock ≡ Some 3)
 
--- a document is a lock file without links
+-- a document is a lock file
 pub record IsNpmLock (lock : Data) : Type 0 where
-  pub links : HasNoLinks (packages_in lock)
   pub version : HasPaths lock
   pub packages : Members
   pub are : option_and_then as_object (get (codes "packages") lock) ≡ Some packages
-  pub each : All IsPackage (listed packages)
-  pub needs : All HasNames (listed packages)
+  pub each : All (IsPackage (listed packages)) (listed packages)
+  pub needs : All HasOwnNames (listed packages)
 
 -- a source is the document of one
 abbrev pub HoldsNpmLock : Source → Data → Type 0
@@ -228,11 +305,10 @@ HoldsNpmLock source lock = IsDocumentOf Json source (json lock) × IsNpmLock loc
 abbrev pub HoldsNoNpmLock : Source → Type 0
 HoldsNoNpmLock source = (lock : Data) → HoldsNpmLock source lock → ⊥
 
--- a source is read as a lock file of npm, and has this document, without links
+-- a source is read as a lock file of npm, and has this document
 pub record IsNpmLockFile (source : Source) (lock : Data) : Type 0 where
   pub file : IsNpmFile source
   pub document : IsDocumentOf Json source (json lock)
-  pub links : HasNoLinks (packages_in lock)
 
 -- ## Labels
 
@@ -240,9 +316,9 @@ pub record IsNpmLockFile (source : Source) (lock : Data) : Type 0 where
 abbrev pub IsRootName : Source → Data → List ℕ → Type 0
 IsRootName source lock root = MatchOption (text_at (codes "name") lock) (IsLastPart (string_bytes source.name) root) (λ name. root ≡ name)
 
--- the package at a path is called by the name that it has in a `node_modules`; the project by the one that is given, or else as the file
-abbrev pub IsCalled : List ℕ → List ℕ → Option (List ℕ) → List ℕ → Type 0
-IsCalled root path given name = ((path ≡ []) × (name ≡ unwrap_or given root)) ⊎ ((folder : List ℕ) × (path ≡ path_in folder name) × IsName name)
+-- what is at a path, and stands for a package, is called by the name that it has in a `node_modules`, or else by that of the package; the project as the file, if it gives itself no name
+abbrev pub IsCalled : List ℕ → List ℕ → Data → List ℕ → Type 0
+IsCalled root path d name = ((path ≡ []) × (name ≡ unwrap_or (text_at (codes "name") d) root)) ⊎ ((path ≢ []) × IsDrawnName path d name)
 
 -- the name that is given, if it is another one
 abbrev pub other_name : List ℕ → Option (List ℕ) → Option (List ℕ)
@@ -254,24 +330,41 @@ abbrev pub behind : List ℕ → Option (List ℕ) → List ℕ
 behind before None = []
 behind before (Some text) = before ++ text
 
--- a name, another one that the package gives itself, and the version
-abbrev pub label_text : List ℕ → Data → List ℕ
-label_text name d = name ++ (behind (codes "@npm:") (other_name name (text_at (codes "name") d)) ++ behind (codes "@") (text_at (codes "version") d))
+-- the own name of a package, if that is known: where its path leads up and no further, the file doesn't have it
+abbrev pub known_name : List ℕ → Option (List ℕ)
+known_name own = if bytes_eq own (codes "..") then None else Some own
 
--- the label of a package that is called by a name
-abbrev pub IsLabel : List ℕ → List ℕ × Data → List ℕ → Type 0
-IsLabel root p text = (name : List ℕ) → IsCalled root p.0 (text_at (codes "name") p.1) name → text ≡ label_text name p.1
+-- a name, the own one of a package, if that is another, and its version
+abbrev pub label_text : List ℕ → List ℕ → Data → List ℕ
+label_text name own d = name ++ (behind (codes "@npm:") (other_name name (known_name own)) ++ behind (codes "@") (text_at (codes "version") d))
+
+-- the label of what is at a path and stands for a package
+pub record IsLabel (root path : List ℕ) (meant : List ℕ × Data) (label : List ℕ) : Type 0 where
+  pub name : List ℕ
+  pub called : IsCalled root path meant.1 name
+  pub own : List ℕ
+  pub is : IsNameOf meant.0 meant.1 own
+  pub text : label ≡ label_text name own meant.1
+
+-- the label of one of some packages
+abbrev pub HasLabel : List (List ℕ × Data) → List ℕ → List ℕ × Data → List ℕ → Type 0
+HasLabel packages root p text = (meant : List ℕ × Data) × StandsFor packages p meant × IsLabel root p.0 meant text
 
 -- ## Names and edges
 
--- they are those of a lock file: the labels of its packages, in ascending order of their paths, and edges in
--- the order of those that need something, each once: what they need
+-- they are those of a lock file: the labels of its nodes, and edges in the order of those that need something, each once: what they need
 pub record MeansPackages (is_inverse : Bool) (source : Source) (lock : Data) (names : List (List ℕ)) (needs : List (ℕ × ℕ)) : Type 0 where
   pub ascending : AreAscending (packages_in lock)
+  pub nodes : List (List ℕ × Data)
+  pub drawn : AreNodes (packages_in lock) nodes
   pub root : List ℕ
   pub called : IsRootName source lock root
-  pub labels : AllZip (IsLabel root) (packages_in lock) names
+  pub labels : AllZip (HasLabel (packages_in lock) root) nodes names
   pub pairs : List (ℕ × ℕ)
   pub in_order : IsSorted nat_cmp (map (λ p. p.0) pairs)
   pub edges : needs ≡ firsts same_edge (map (directed is_inverse) pairs)
-  pub are : (i j : ℕ) → Contains pairs (i, j) ↔ Needs (packages_in lock) i j
+  pub are : (i j : ℕ) → Contains pairs (i, j) ↔ Needs (packages_in lock) nodes i j
+
+-- its nodes have these paths
+abbrev pub AreNodePaths : Data → List (List ℕ) → Type 0
+AreNodePaths lock paths = (nodes : List (List ℕ × Data)) × AreNodes (packages_in lock) nodes × (paths ≡ map (λ p. p.0) nodes)

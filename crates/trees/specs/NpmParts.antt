@@ -7,7 +7,7 @@ use Rattle.std.specs.List.{AllZip, slice_split}
 use Rattle.std.specs.List.Sorted.{IsSorted}
 use Rattle.std.specs.Option.{option_flatten, option_or}
 use Rattle.std.specs.Ordering.{bool_cmp, is_lt, nat_cmp, ordering_then}
-use Rattle.std.specs.Prelude.{◌≡◌, ◌≢◌, ◌<◌, ◌≤◌, ◌==◌, ◌⊎◌, ◌↔◌, ℕ, Bool, true, false, if◌then◌else◌, List, [], ◌∷◌, ◌++◌, codes, flat_map, length, map, slice_get, string_bytes, All, AllPairs, Contains, Option, Some, None, option_map, option_to_list, String, Vec}
+use Rattle.std.specs.Prelude.{◌≡◌, ◌≢◌, ◌<◌, ◌≤◌, ◌==◌, ◌⊎◌, ◌↔◌, ℕ, Bool, true, false, if◌then◌else◌, List, [], ◌∷◌, ◌++◌, codes, flat_map, length, map, slice_get, string_bytes, All, AllPairs, Contains, Decides, MatchOption, Option, Some, None, option_map, option_to_list, String, Vec}
 use Rattle.std.specs.Str.{bytes_eq}
 use Rattle.std.specs.StrCase.Lower.{str_to_lowercase}
 use Rattle.std.specs.declared.alloc.Global.{Global}
@@ -25,18 +25,22 @@ use Rattle.trees.specs.DependingParts.{labels_of, needs_of, IsIndexed}
 use Rattle.trees.specs.Documents.{IsDocumentOf}
 use Rattle.trees.specs.Locking.{Lacks}
 use Rattle.trees.specs.LockingParts.{AddsEdges}
-use Rattle.trees.specs.Npm.{listed, packages_in, path_in, folders, names_at, AreAscending, HasNames, HasNoLinks, IsIn, IsLabel, IsName, IsNearest, IsNpmLock, IsPlaced, ListsName, MeansPackages, Names, NameWorkspace, Needs}
+use Rattle.trees.specs.Npm.{listed, path_in, folders, names_at, AreAscending, AreNodes, HasLabel, HasNames, HasOwnNames, IsAlias, IsIn, IsName, IsNearest, IsNpmLock, IsPlaced, LeadsTo, LinksTo, ListsName, MeansPackages, Names, NameWorkspace, Needs, StandsFor}
 use Rattle.trees.specs.NpmPatterns.{pattern_of}
 
--- a network gets packages: their paths and labels
-pub record AddsPackages (root : List ℕ) (packages : List (List ℕ × Data)) (old new : Network) : Type 0 where
-  pub paths : map string_bytes new.paths.items ≡ map string_bytes old.paths.items ++ map (λ p. p.0) packages
+-- a network gets nodes: their paths, and their labels among packages
+pub record AddsPackages (packages : List (List ℕ × Data)) (root : List ℕ) (nodes : List (List ℕ × Data)) (old new : Network) : Type 0 where
+  pub paths : map string_bytes new.paths.items ≡ map string_bytes old.paths.items ++ map (λ p. p.0) nodes
   pub texts : List (List ℕ)
   pub labels : labels_of new ≡ labels_of old ++ texts
-  pub are : AllZip (IsLabel root) packages texts
+  pub are : AllZip (HasLabel packages root) nodes texts
   pub is_inverse : new.is_inverse ≡ old.is_inverse
   pub edges : new.edges ≡ old.edges
   pub sorted : new.sorted ≡ old.sorted
+
+-- it gets those of packages that are nodes
+abbrev pub AddsNodes : List (List ℕ × Data) → List ℕ → Network → Network → Type 0
+AddsNodes packages root old new = (nodes : List (List ℕ × Data)) × AreNodes packages nodes × AddsPackages packages root nodes old new
 
 -- it gets edges, in the order of the nodes that they begin at
 abbrev pub AddsInOrder : Network → Network → List (ℕ × ℕ) → Type 0
@@ -52,21 +56,21 @@ packages_of m = listed (members_view m.entries)
 
 -- nodes have these paths
 abbrev pub ArePaths : List (List ℕ × Data) → List (String Global) → Type 0
-ArePaths packages paths = map string_bytes paths ≡ map (λ p. p.0) packages
+ArePaths nodes paths = map string_bytes paths ≡ map (λ p. p.0) nodes
 
--- a network has the packages of a lock file, with their paths
+-- a network has the nodes of a lock file, with their paths
 pub record HasPackages (is_inverse : Bool) (source : Source) (lock : Data) (n : Network) : Type 0 where
   pub means : MeansPackages is_inverse source lock (labels_of n) (needs_of n)
-  pub paths : map string_bytes n.paths.items ≡ map (λ p. p.0) (packages_in lock)
+  pub paths : ArePaths means.nodes n.paths.items
   pub indexed : IsIndexed n
 
--- a source is the document of a lock file; of one without links the network has the packages
+-- a source is the document of a lock file, and the network has its packages
 abbrev pub HoldsPackages : Source → Bool → Network → Type 0
-HoldsPackages source is_inverse n = (lock : Data) × IsDocumentOf Json source (json lock) × (HasNoLinks (packages_in lock) → HasPackages is_inverse source lock n)
+HoldsPackages source is_inverse n = (lock : Data) × IsDocumentOf Json source (json lock) × HasPackages is_inverse source lock n
 
--- its document, if it has no links, is a lock file
+-- its document is a lock file
 abbrev pub HoldsOnlyNpmLock : Source → Type 0
-HoldsOnlyNpmLock source = (lock : Data) → IsDocumentOf Json source (json lock) → HasNoLinks (packages_in lock) → IsNpmLock lock
+HoldsOnlyNpmLock source = (lock : Data) → IsDocumentOf Json source (json lock) → IsNpmLock lock
 
 -- what follows each `../` at the start of a path
 pub record IsBehindUp (path rest : List ℕ) : Type 0 where
@@ -75,17 +79,25 @@ pub record IsBehindUp (path rest : List ℕ) : Type 0 where
   pub is : slice_split (λ b. b == 47) path ≡ up ++ slice_split (λ b. b == 47) rest
   pub last : (more : List ℕ) → rest ≢ codes "../" ++ more
 
--- packages without links, in order, have nodes with these paths, and this is one of them
-pub record IsNode (packages : List (List ℕ × Data)) (nodes : List (String Global)) (p : List ℕ × Data) : Type 0 where
-  pub links : HasNoLinks packages
-  pub ascending : AreAscending packages
-  pub paths : ArePaths packages nodes
-  pub place : ℕ
-  pub at : slice_get packages place ≡ Some p
-
 -- texts that are borrowed
 abbrev pub texts_of : List (Bor (List ℕ)) → List (List ℕ)
 texts_of texts = map (λ t. t.now) texts
+
+-- ## Links
+
+-- a package is one of the first
+abbrev pub IsAmongFirst : List (List ℕ × Data) → ℕ → List ℕ × Data → Type 0
+IsAmongFirst packages n p = (k : ℕ) × (k < n) × (slice_get packages k ≡ Some p)
+
+-- what is known of the links to a path among the first packages: that there is none, or whether each is an alias
+abbrev pub KnowsLinks : List (List ℕ × Data) → ℕ → List ℕ → Option Bool → Type 0
+KnowsLinks packages n path known =
+    MatchOption known ((p : List ℕ × Data) → IsAmongFirst packages n p → LinksTo path p → ⊥)
+    (λ each. ((p : List ℕ × Data) × IsAmongFirst packages n p × LinksTo path p) × Decides each ((p : List ℕ × Data) → IsAmongFirst packages n p → LinksTo path p → IsAlias packages p))
+
+-- a map has what is known of the links to each path
+abbrev pub KnowsAll : List (List ℕ × Data) → ℕ → BTreeMap (Bor (List ℕ)) Bool → Type 0
+KnowsAll packages n m = (path : List ℕ) → KnowsLinks packages n path (get_by (λ k. slice_cmp nat_cmp path k.now) m)
 
 -- ## Workspaces
 
@@ -144,27 +156,28 @@ pub record AddsStepsIn (path : List ℕ) (i : ℕ) (old new : List Step) : Type 
   pub each : All (λ s. (folder : List ℕ) × (name : List ℕ) × IsName name × (path ≡ path_in folder name) × IsStepIn folder name i s) more
   pub all : (folder name : List ℕ) → IsName name → path ≡ path_in folder name → Has more (IsStepIn folder name i)
 
--- and the one at the package itself
-pub record AddsSteps (path : List ℕ) (i : ℕ) (old new : List Step) : Type 0 where
-  pub between : List Step
-  pub others : AddsStepsIn path i old between
-  pub step : Step
-  pub is : new ≡ between ++ step ∷ []
-  pub own : IsOwnStep path i step
+-- a step is at a package for which a node stands, or enters a folder with a node
+abbrev pub IsStep : List (List ℕ × Data) → List (List ℕ × Data) → Step → Type 0
+IsStep packages nodes s =
+    ((p : List ℕ × Data) × (q : List ℕ × Data) × (slice_get nodes s.3 ≡ Some p) × StandsFor packages p q × IsOwnStep q.0 s.3 s)
+    ⊎ ((folder : List ℕ) × (name : List ℕ) × IsIn packages nodes s.3 folder name × IsStepIn folder name s.3 s)
 
--- a step is at a package itself, or enters a folder with one
-abbrev pub IsStep : List (List ℕ × Data) → Step → Type 0
-IsStep packages s =
-    ((path : List ℕ) × (d : Data) × (slice_get packages s.3 ≡ Some (path, d)) × IsOwnStep path s.3 s)
-    ⊎ ((folder : List ℕ) × (name : List ℕ) × IsIn packages s.3 folder name × IsStepIn folder name s.3 s)
+-- steps get those of a package
+pub record AddsSteps (packages nodes : List (List ℕ × Data)) (p : List ℕ × Data) (old new : List Step) : Type 0 where
+  pub more : List Step
+  pub is : new ≡ old ++ more
+  pub each : All (IsStep packages nodes) more
+  pub own : (i : ℕ) (q : List ℕ × Data) → slice_get nodes i ≡ Some p → StandsFor packages p q → Has more (IsOwnStep q.0 i)
+  pub others : (i : ℕ) (folder name : List ℕ) → IsName name → p.0 ≡ path_in folder name → LeadsTo packages nodes p i → Has more (IsStepIn folder name i)
 
--- steps in order are those of packages
-pub record HasSteps (packages : List (List ℕ × Data)) (steps : List Step) : Type 0 where
+-- steps in order are those of packages, of which these are nodes
+pub record HasSteps (packages nodes : List (List ℕ × Data)) (steps : List Step) : Type 0 where
   pub ascending : AreAscending packages
+  pub drawn : AreNodes packages nodes
   pub sorted : IsSorted step_cmp steps
-  pub each : All (IsStep packages) steps
-  pub own : (i : ℕ) (path : List ℕ) (d : Data) → slice_get packages i ≡ Some (path, d) → Has steps (IsOwnStep path i)
-  pub others : (i : ℕ) (folder name : List ℕ) → IsIn packages i folder name → Has steps (IsStepIn folder name i)
+  pub each : All (IsStep packages nodes) steps
+  pub own : (i : ℕ) (p q : List ℕ × Data) → slice_get nodes i ≡ Some p → StandsFor packages p q → Has steps (IsOwnStep q.0 i)
+  pub others : (i : ℕ) (folder name : List ℕ) → IsIn packages nodes i folder name → Has steps (IsStepIn folder name i)
 
 -- ## What is entered
 
@@ -287,21 +300,21 @@ pub record AreEntered (steps : List Step) (k : ℕ) (entered : List Step) : Type
   pub all : (s t : Step) (m : ℕ) → IsBefore steps k s → s.1 ≡ false → k ≤ m → slice_get steps m ≡ Some t → IsWithin (folders_of t) s → Contains entered s
 
 -- a walk is at a place of the steps of packages: it has the needs of those before
-pub record IsAtStep (packages : List (List ℕ × Data)) (steps : List Step) (k : ℕ) (w : Walk) : Type 0 where
+pub record IsAtStep (packages nodes : List (List ℕ × Data)) (steps : List Step) (k : ℕ) (w : Walk) : Type 0 where
   pub walks : walked w ≡ packages
   pub ready : IsReady w
   pub entered : AreEntered steps k (entered_of w)
-  pub each : (i j : ℕ) → Contains (needs_in w) (i, j) → Needs packages i j
-  pub all : (s : Step) (d : Data) (name : List ℕ) (j : ℕ) → IsBefore steps k s → s.1 ≡ true → slice_get packages s.3 ≡ Some (name_of s, d) → Names packages (name_of s) d name → IsNearest packages (name_of s) name j
+  pub each : (i j : ℕ) → Contains (needs_in w) (i, j) → Needs packages nodes i j
+  pub all : (s : Step) (d : Data) (name : List ℕ) (j : ℕ) → IsBefore steps k s → s.1 ≡ true → Contains packages (name_of s, d) → Names packages (name_of s) d name → IsNearest packages nodes (name_of s) name j
       → Contains (needs_in w) (s.3, j)
 
--- edges are the needs of packages
-abbrev pub AreNeeds : List (List ℕ × Data) → List (ℕ × ℕ) → Type 0
-AreNeeds packages es = (i j : ℕ) → Contains es (i, j) ↔ Needs packages i j
+-- edges are the needs of nodes
+abbrev pub AreNeeds : List (List ℕ × Data) → List (List ℕ × Data) → List (ℕ × ℕ) → Type 0
+AreNeeds packages nodes es = (i j : ℕ) → Contains es (i, j) ↔ Needs packages nodes i j
 
 -- what names needs is right of the package that a step is at itself
 abbrev pub IsListedAt : List (List ℕ × Data) → Step → Type 0
-IsListedAt packages s = s.1 ≡ true → (d : Data) → slice_get packages s.3 ≡ Some (name_of s, d) → HasNames (name_of s, d)
+IsListedAt packages s = s.1 ≡ true → (d : Data) → Contains packages (name_of s, d) → HasNames (name_of s, d)
 
 -- it is right of the package at a path
 pub record IsRightAt (packages : List (List ℕ × Data)) (path : List ℕ) : Type 0 where
@@ -311,11 +324,17 @@ pub record IsRightAt (packages : List (List ℕ × Data)) (path : List ℕ) : Ty
   pub at : slice_get packages place ≡ Some (path, value)
   pub names : HasNames (path, value)
 
--- the same of all packages, of which steps are
+-- the same of all packages that are no links, of which steps are
 pub record AreRight (packages : List (List ℕ × Data)) (steps : List Step) : Type 0 where
-  pub has : HasSteps packages steps
-  pub names : All HasNames packages
+  pub nodes : List (List ℕ × Data)
+  pub has : HasSteps packages nodes steps
+  pub names : All HasOwnNames packages
+
+-- and a walk is at a place of these
+pub record IsRightAtStep (packages : List (List ℕ × Data)) (steps : List Step) (k : ℕ) (w : Walk) : Type 0 where
+  pub right : AreRight packages steps
+  pub at : IsAtStep packages right.nodes steps k w
 
 -- a network gets the needs of packages, in the order of the nodes that they begin at
 abbrev pub AddsNearest : List (List ℕ × Data) → List Step → Network → Network → Type 0
-AddsNearest packages steps old new = (es : List (ℕ × ℕ)) × AddsInOrder old new es × (HasSteps packages steps → AreNeeds packages es)
+AddsNearest packages steps old new = (es : List (ℕ × ℕ)) × AddsInOrder old new es × ((nodes : List (List ℕ × Data)) → HasSteps packages nodes steps → AreNeeds packages nodes es)

@@ -36,8 +36,7 @@ use Rattle.trees.specs.Changing.{IsConverted, FailsToConvert}
 use Rattle.trees.specs.Depending.{IsNpmFile, IsPairFile, IsTextFile, HoldsNoGraph}
 use Rattle.trees.specs.Documents.{IsPartTree, NamesWrong}
 use Rattle.trees.specs.Listing.{IsListed, FailsToList}
-use Rattle.trees.specs.Meaning.{HasMeaning, HoldsNoLockGraph, IsGraphOf}
-use Rattle.trees.specs.Npm.{HoldsNoNpmLock}
+use Rattle.trees.specs.Meaning.{HasMeaning, HoldsNoLockGraph, HoldsNoNpmGraph, IsGraphOf}
 use Rattle.trees.specs.Merging.{IsMergeDrawing, IsMergeCode}
 use Rattle.trees.specs.Outlining.{text_or, HoldsOutline, FailsToOutline, IsReadBack, LosesText}
 use Rattle.trees.specs.Named.{IsReadableValue}
@@ -158,15 +157,15 @@ Draws sources source tree drawing old new result = Writes old new result (IsDraw
 -- the bytes are the drawing, as it is asked for, of a graph: the one that the source means, if that is said
 abbrev pub IsNeedsDrawing : Sources → Source → Deps → Drawing → List ℕ → Type 0
 IsNeedsDrawing sources source deps drawing bytes =
-    (d : Dependencies) × (HasMeaning source deps.root → IsGraphOf source deps.root deps.is_inverse drawing.screen.is_terminal d) × IsGraphDrawing (drawing_value sources drawing) d deps.walks bytes
+    (d : Dependencies) × (HasMeaning source → IsGraphOf source deps.root deps.is_inverse drawing.screen.is_terminal d) × IsGraphDrawing (drawing_value sources drawing) d deps.walks bytes
 
 -- what each failure before anything is written says of lines of two words, of lock files with tables of
--- packages, and, without a root, of those of npm: the source is no such file (of npm: without links), or
--- has no such root, or more than 5,000 levels are asked for, or memory ran out
+-- packages, and of those of npm: the source holds no such graph, or one without the root that is asked for,
+-- or more than 5,000 levels are asked for, or memory ran out
 pub record FailsToDepend (sources : Sources) (source : Source) (deps : Deps) (drawing : Drawing) (e : Failure) : Type 0 where
   pub pairs : IsPairFile source → FailsFor (HoldsNoGraph source deps.root ⊎ (5000 < (drawing_value sources drawing).depth)) ⊥ e
   pub lock : IsTextFile true source → FailsFor (HoldsNoLockGraph source deps.root deps.is_inverse ⊎ (5000 < (drawing_value sources drawing).depth)) ⊥ e
-  pub packages : IsNpmFile source → deps.root ≡ None → FailsFor (HoldsNoNpmLock source ⊎ (5000 < (drawing_value sources drawing).depth)) ⊥ e
+  pub packages : IsNpmFile source → FailsFor (HoldsNoNpmGraph source deps.root deps.is_inverse ⊎ (5000 < (drawing_value sources drawing).depth)) ⊥ e
 
 -- the drawing of the graph of an input is written
 abbrev pub DrawsNeeds : {A : Type 0} → Sources → Source → Deps → Drawing → Option (List ℕ) → Option (List ℕ) → Result A Failure → Type 0
@@ -225,10 +224,9 @@ abbrev pub AreSettings : Sources → List ℕ → Type 0
 AreSettings sources bytes = (said : List ℕ) × SaysSettings (effective_config sources) said × (bytes ≡ shown_lines said)
 
 -- what a command writes: those that draw an input, the drawing of its tree; `deps`, that of a graph,
--- which is known of lines of two words, of lock files with tables of packages, and of those of npm
--- without links and without a root; `indented`, the indented text; `check`, the reports; `convert`, the
--- conversion, which can be turned back; `diff`, all differences, if they are asked for; `config`, the
--- settings
+-- which is known of lines of two words, of lock files with tables of packages, and of those of npm;
+-- `indented`, the indented text; `check`, the reports; `convert`, the conversion, which can be turned back;
+-- `diff`, all differences, if they are asked for; `config`, the settings
 abbrev pub WritesOfCommand : {A : Type 0} → Sources → Command → Option (List ℕ) → Option (List ℕ) → Result A Failure → Type 0
 WritesOfCommand sources (command.Convert source convert) old new result = Converts sources source.now convert old new result × ConvertsBack sources source.now convert old new result
 WritesOfCommand sources (command.Draw source tree drawing) old new result = Draws sources source.now tree drawing old new result

@@ -1,11 +1,11 @@
 //! Dependencies of lock files and of lists of pairs.
-ghost use Rattle.std.specs.Prelude.{◌≡◌, ⊤, ℕ, List, true, None, length, map, Any, IfSome, IfOk, IfErr, OnOk, string_bytes};
+ghost use Rattle.std.specs.Prelude.{◌≡◌, ⊤, ℕ, List, true, length, map, Any, IfSome, IfOk, IfErr, OnOk, string_bytes};
 ghost use Rattle.ptree.specs.Graph.{weights_of, edges_of, LacksNode};
 ghost use Rattle.trees.specs.Depending.{HasOwnLines, HasOwnName, IsNpmFile, IsPairFile, IsTextFile, IsNoName, HoldsNoGraph};
 ghost use Rattle.trees.specs.DependingParts.{labels_of, needs_of, paths_of, HasRoot, HoldsNone, IsEmpty, IsNetworkOf, IsTopped, IsWhole};
-ghost use Rattle.trees.specs.Meaning.{HasMeaning, HoldsNoLock, HoldsNoLockGraph, IsGraphOf};
-ghost use Rattle.trees.specs.Npm.{HoldsNpmLock};
-ghost use Rattle.trees.specs.Reading.{IsInput, FailsFor, FailsToMake};
+ghost use Rattle.trees.specs.Meaning.{HasMeaning, HoldsNoLock, HoldsNoLockGraph, HoldsNoNpmGraph, IsGraphOf};
+ghost use Rattle.trees.specs.Npm.{HoldsNoNpmLock};
+ghost use Rattle.trees.specs.Reading.{IsInput, FailsFor};
 ghost use Rattle.trees.specs.Shown.{shown_text, AreShownLabels};
 
 mod npm;
@@ -96,14 +96,14 @@ pub fn read_dependencies(
     is_terminal: bool,
 ) -> Result<Dependencies, Failure>
     ensures labels { IfOk result (λ d. is_terminal ≡ true → AreShownLabels d.graph) }
-    ensures graph { HasMeaning source.now deps.entry.root → IfOk result
+    ensures graph { HasMeaning source.now → IfOk result
         (IsGraphOf source.now deps.entry.root deps.entry.is_inverse is_terminal) }
     ensures failed { IsPairFile source.now
         → IfErr result (FailsFor (HoldsNoGraph source.now deps.entry.root) ⊥) }
     ensures refused { IsTextFile true source.now → IfErr result
         (FailsFor (HoldsNoLockGraph source.now deps.entry.root deps.entry.is_inverse) ⊥) }
-    ensures npm { IsNpmFile source.now → deps.entry.root ≡ None
-        → IfErr result (FailsToMake ⊥ (HoldsNpmLock source.now)) }
+    ensures npm { IsNpmFile source.now → IfErr result
+        (FailsFor (HoldsNoNpmGraph source.now deps.entry.root deps.entry.is_inverse) ⊥) }
 {
     let mut network = Network {
         labels: Vec::new(alloc),
@@ -127,14 +127,14 @@ fn drawn(
     is_terminal: bool,
 ) -> Result<Dependencies, Failure>
     ensures labels { IfOk result (λ d. is_terminal ≡ true → AreShownLabels d.graph) }
-    ensures graph { HasMeaning source.now name.entry → IsEmpty network.old → IfOk result
+    ensures graph { HasMeaning source.now → IsEmpty network.old → IfOk result
         (IsGraphOf source.now name.entry network.old.is_inverse is_terminal) }
     ensures failed { IsPairFile source.now → IsEmpty network.old
         → IfErr result (FailsFor (HoldsNoGraph source.now name.entry) ⊥) }
     ensures refused { IsTextFile true source.now → IsEmpty network.old → IfErr result
         (FailsFor (HoldsNoLockGraph source.now name.entry network.old.is_inverse) ⊥) }
-    ensures npm { IsNpmFile source.now → name.entry ≡ None → IsEmpty network.old
-        → IfErr result (FailsToMake ⊥ (HoldsNpmLock source.now)) }
+    ensures npm { IsNpmFile source.now → IsEmpty network.old → IfErr result
+        (FailsFor (HoldsNoNpmGraph source.now name.entry network.old.is_inverse) ⊥) }
 {
     read_network(alloc, source, network)?;
     let root = root_of(alloc, source, network, name)?;
@@ -146,13 +146,13 @@ fn drawn(
 
 // Reads the dependencies of an input in one of the forms.
 fn read_network(alloc: Global, source: &Source, network: &mut Network) -> Result<(), Failure>
-    ensures held { HasMeaning source.now None → IsEmpty network.old → OnOk result
+    ensures held { HasMeaning source.now → IsEmpty network.old → OnOk result
         (IsNetworkOf source.now network.old.is_inverse network.new) }
     ensures failed { IsPairFile source.now → IfErr result (FailsFor (HoldsNone source.now) ⊥) }
     ensures refused { IsTextFile true source.now
         → IfErr result (FailsFor (HoldsNoLock source.now) ⊥) }
     ensures npm { IsNpmFile source.now → IsEmpty network.old
-        → IfErr result (FailsToMake ⊥ (HoldsNpmLock source.now)) }
+        → IfErr result (FailsFor (HoldsNoNpmLock source.now) ⊥) }
 {
     let text = source.unmarked();
     if let Some(wrong) = form_not_read(source) {
@@ -199,7 +199,6 @@ fn root_of(
         (λ r. HasRoot source.now name.entry network.old network.new r.0) }
     ensures failed { IfErr result
         (FailsFor (IsNoName name.entry (paths_of network.old) (labels_of network.old)) ⊥) }
-    ensures memory { name.entry ≡ None → IfErr result (FailsFor ⊥ ⊥) }
 {
     match name {
         Some(name) => root::named(alloc, source, network, name),

@@ -3,14 +3,15 @@ ghost use Rattle.std.specs.Cmp.Lexicographic.{slice_cmp};
 ghost use Rattle.std.specs.List.{list_all, slice_split};
 ghost use Rattle.std.specs.List.Sorted.{IsStrictlySortedBy};
 ghost use Rattle.std.specs.Ordering.{nat_cmp};
-ghost use Rattle.std.specs.Prelude.{◌≡◌, ℕ, false, true, [], ◌∷◌, ◌++◌, ◌==◌, ⊤, codes, map, List, slice_get, All, Decides, Some, MatchOption, option_and_then, option_copied, option_map, IfErr, IfSome, IfOk, OnOk, string_bytes};
+ghost use Rattle.std.specs.Prelude.{◌≡◌, ◌+◌, ℕ, false, true, [], ◌∷◌, ◌++◌, ◌==◌, ⊤, codes, length, map, List, replicate, slice_get, All, Contains, Decides, Some, MatchOption, option_and_then, option_copied, option_map, IfErr, IfNone, IfSome, IfOk, OnOk, string_bytes};
+ghost use Rattle.serde_json.specs.Data.{Data};
 ghost use Rattle.serde_json.specs.Find.{as_object, get};
 ghost use Rattle.serde_json.specs.View.{view, members_view};
 ghost use Rattle.trees.specs.DependingParts.{IsEmpty, IsIndexed};
 ghost use Rattle.trees.specs.Documents.{IsLastPart};
 ghost use Rattle.trees.specs.LockingParts.{AddsEdges, FailsUnless};
-ghost use Rattle.trees.specs.Npm.{path_in, packages_in, with_project, listed, text_at, is_link, other_name, behind, around, folders, format_version, IsLastName, IsName, IsNameOf, IsPath, IsRootName, IsCalled, IsLabel, IsNpmLock, IsPackage, AreAscending, HasNames, HasNoLinks, HasPaths, HoldsNpmLock, MayBeLink, MayHaveText};
-ghost use Rattle.trees.specs.NpmParts.{AddsPackages, AddsNearest, AddsSteps, AddsStepsIn, ArePaths, AreRight, HasPackages, HasSteps, HoldsOnlyNpmLock, HoldsPackages, IsBehindUp, IsNode, chosen, edge_of, packages_of, texts_of};
+ghost use Rattle.trees.specs.Npm.{path_in, packages_in, with_project, listed, text_at, is_link, leads_on, target, known_name, other_name, behind, around, folders, format_version, ups, IsAlias, IsDrawnName, IsLastName, IsLeftOut, IsName, IsNameOf, IsOnlyAliased, IsPath, IsRootName, IsCalled, IsLabel, IsNpmLock, IsPackage, AreAscending, AreNodes, HasOwnNames, HasPaths, HoldsNpmLock, MayBeLink, MayHaveText, StandsFor};
+ghost use Rattle.trees.specs.NpmParts.{AddsNodes, AddsPackages, AddsNearest, AddsSteps, AddsStepsIn, ArePaths, AreRight, HasPackages, HasSteps, HoldsOnlyNpmLock, HoldsPackages, IsBehindUp, KnowsAll, KnowsLinks, chosen, edge_of, packages_of, texts_of};
 ghost use Rattle.trees.specs.NpmPatterns.{is_file_name, is_glob, is_hidden, is_literal, is_part, pattern_list, pieces, plain, ArePatterns, IsOutside, IsPattern, IsPatternText, LiesIn, Means};
 ghost use Rattle.trees.specs.Reading.{FailsFor, FailsToMake};
 
@@ -25,12 +26,19 @@ use std::collections::BTreeMap;
 // The packages by their paths.
 type Packages = Map<String, Value>;
 
+// Whether all links to a path are aliases, by the paths to which some lead.
+type Aliased<'a> = BTreeMap<&'a str, bool>;
+
 // A package in `node_modules`: how many folders are around that, and the node.
 type Found = (usize, usize);
 
 // What stands in folders: whether it is the package that is the last one itself, which comes behind
 // those in its `node_modules`, its path or else its name there, and the node.
 type Step<'a> = (Vec<&'a str>, bool, &'a str, usize);
+
+// How many folders around the project are known: the one that it is in, the one that this is in, and
+// so on.
+const MOST_UP: usize = 32;
 
 const OLD: &str = "lockfileVersion 1 is not supported; npm 7 and later write newer ones";
 
@@ -54,10 +62,9 @@ pub fn package_lock(alloc: Global, source: &Source, network: &mut Network) -> Re
 
 // Adds the dependencies of a file.
 fn read(alloc: Global, source: &Source, lock: &Value, network: &mut Network) -> Result<(), Failure>
-    ensures held { HasNoLinks (packages_in (view lock.now)) → IsEmpty network.old → OnOk result
+    ensures held { IsEmpty network.old → OnOk result
         (HasPackages network.old.is_inverse source.now (view lock.now) network.new) }
-    ensures only { HasNoLinks (packages_in (view lock.now)) → IsEmpty network.old
-        → OnOk result (IsNpmLock (view lock.now)) }
+    ensures only { IsEmpty network.old → OnOk result (IsNpmLock (view lock.now)) }
     ensures failed { IsEmpty network.old
         → IfErr result (FailsUnless (IsNpmLock (view lock.now))) }
 {
@@ -71,10 +78,10 @@ fn read(alloc: Global, source: &Source, lock: &Value, network: &mut Network) -> 
     let root = root_name(source, lock);
     if packages.is_empty() {
         // npm leaves out a project of which it has nothing but the name.
-        return Ok(push_node(alloc, root, packages, "", lock, network)?);
+        return Ok(push_node(alloc, root, "", "", lock, network)?);
     }
     push_nodes(alloc, source, root, packages, network)?;
-    let steps = steps(alloc, source, packages, &network.paths)?;
+    let steps = steps(alloc, packages, &network.paths)?;
     push_needs(alloc, source, packages, &steps, network)
 }
 
@@ -116,8 +123,7 @@ fn version(lock: &Value) -> Option<u64>
     lock.get("lockfileVersion")?.as_u64()
 }
 
-// Adds the packages in ascending order of their paths. A link with another name than its package is
-// a node of its own; what only such links mean is none, except for the root.
+// Adds the packages that have nodes, in ascending order of their paths.
 fn push_nodes(
     alloc: Global,
     source: &Source,
@@ -125,62 +131,140 @@ fn push_nodes(
     packages: &Packages,
     network: &mut Network,
 ) -> Result<(), Failure>
-    ensures added { HasNoLinks (listed (members_view packages.now.entries)) → OnOk result
-        (AddsPackages root.now (listed (members_view packages.now.entries))
-        network.old network.new) }
-    ensures ascending { OnOk result
-        (AreAscending (listed (members_view packages.now.entries))) }
+    ensures added { OnOk result
+        (AddsNodes (packages_of packages.now) root.now network.old network.new) }
+    ensures ascending { OnOk result (AreAscending (packages_of packages.now)) }
     ensures only { OnOk result
-        (All IsPackage (listed (members_view packages.now.entries))) }
-    ensures failed { IfErr result
-        (FailsUnless (All IsPackage (listed (members_view packages.now.entries)))) }
+        (All (IsPackage (packages_of packages.now)) (packages_of packages.now)) }
+    ensures failed { IfErr result (FailsUnless
+        (All (IsPackage (packages_of packages.now)) (packages_of packages.now))) }
 {
     check_packages(alloc, source, packages)?;
-    let hidden = aliased(alloc, packages)?;
+    let aliased = aliased(alloc, packages)?;
     for (path, package) in packages.iter() {
-        if is_drawn(packages, &hidden, path.as_str(), package) {
-            push_node(alloc, root, packages, path.as_str(), package, network)?;
+        if let Some((meant, shown)) = drawn(packages, &aliased, path.as_str(), package) {
+            push_node(alloc, root, path.as_str(), meant, shown, network)?;
         }
     }
     Ok(())
 }
 
-// Checks the kinds of what packages have.
+// Checks the kinds of what packages have, and that links lead to packages.
 fn check_packages(alloc: Global, source: &Source, packages: &Packages) -> Result<(), Failure>
     ensures only { OnOk result
-        (All IsPackage (listed (members_view packages.now.entries))) }
-    ensures failed { IfErr result
-        (FailsUnless (All IsPackage (listed (members_view packages.now.entries)))) }
+        (All (IsPackage (packages_of packages.now)) (packages_of packages.now)) }
+    ensures failed { IfErr result (FailsUnless
+        (All (IsPackage (packages_of packages.now)) (packages_of packages.now))) }
 {
     for (path, package) in packages.iter() {
-        check_package(alloc, source, path.as_str(), package)?;
+        check_package(alloc, source, packages, path.as_str(), package)?;
     }
     Ok(())
 }
 
-// Whether what is at a path is a node. These paths are hidden.
-fn is_drawn(packages: &Packages, hidden: &[&str], path: &str, package: &Value) -> bool
-    ensures { hidden.now ≡ [] → is_link (view «package».now) ≡ false → result ≡ true }
+// Returns the package whose label a node at a path has, if there is one, with its path.
+fn drawn<'a>(
+    packages: &'a Packages,
+    aliased: &Aliased<'_>,
+    path: &'a str,
+    package: &'a Value,
+) -> Option<(&'a str, &'a Value)>
+    ensures { AreAscending (packages_of packages.now)
+        → KnowsAll (packages_of packages.now) (length (packages_of packages.now)) aliased.now
+        → Contains (packages_of packages.now) (path.now, view «package».now)
+        → MatchOption result (IsLeftOut (packages_of packages.now) (path.now, view «package».now))
+        (λ meant. (IsLeftOut (packages_of packages.now) (path.now, view «package».now) → ⊥)
+        × StandsFor (packages_of packages.now) (path.now, view «package».now)
+        (meant.0.now, view meant.1.now)) }
 {
-    if is_link(package) {
-        return is_alias(packages, path, target(path, package));
+    if is_left_out(packages, aliased, path, package) {
+        None
+    } else {
+        meant(packages, path, package)
     }
-    path.is_empty() || hidden.binary_search_by(|other| (*other).cmp(path)).is_err()
 }
 
-// Adds what is at a path.
+// Whether what is at a path is a link that is no alias, or only aliases mean it.
+fn is_left_out(packages: &Packages, aliased: &Aliased<'_>, path: &str, package: &Value) -> bool
+    ensures { AreAscending (packages_of packages.now)
+        → KnowsAll (packages_of packages.now) (length (packages_of packages.now)) aliased.now
+        → Contains (packages_of packages.now) (path.now, view «package».now) → Decides result
+        (IsLeftOut (packages_of packages.now) (path.now, view «package».now)) }
+{
+    if leads_on(path, package) {
+        !is_alias(packages, path, package)
+    } else {
+        is_only_aliased(aliased, path)
+    }
+}
+
+// Whether only aliases mean what is at a path.
+fn is_only_aliased(aliased: &Aliased<'_>, path: &str) -> bool
+    ensures { (packages : List (List ℕ × Data)) (d : Data)
+        → KnowsAll packages (length packages) aliased.now
+        → Decides result (IsOnlyAliased packages (path.now, d)) }
+{
+    if path.is_empty() || place(path).is_some() {
+        return false;
+    }
+    aliased.get(path).copied().unwrap_or(false)
+}
+
+// Returns what is known of the links of packages.
+fn aliased<'a>(alloc: Global, packages: &'a Packages) -> Result<Aliased<'a>, AllocError>
+    ensures { IfOk result
+        (KnowsAll (packages_of packages.now) (length (packages_of packages.now))) }
+{
+    let mut aliased = BTreeMap::new(alloc);
+    for (path, package) in packages.iter() {
+        if leads_on(path.as_str(), package) {
+            push_link(packages, path.as_str(), package, &mut aliased)?;
+        }
+    }
+    Ok(aliased)
+}
+
+// Adds a link to what is known of the links before it.
+fn push_link<'a>(
+    packages: &'a Packages,
+    path: &'a str,
+    package: &'a Value,
+    aliased: &mut Aliased<'a>,
+) -> Result<(), AllocError>
+    ensures { AreAscending (packages_of packages.now) → (n : ℕ)
+        → slice_get (packages_of packages.now) n ≡ Some (path.now, view «package».now)
+        → leads_on path.now (view «package».now) ≡ true
+        → KnowsAll (packages_of packages.now) n aliased.old
+        → OnOk result (KnowsAll (packages_of packages.now) (n + 1) aliased.new) }
+{
+    let meant = target(path, package);
+    let others = aliased.get(meant).copied().unwrap_or(true);
+    aliased.insert(meant, are_aliases(packages, others, path, package))?;
+    Ok(())
+}
+
+// Whether other links are aliases, as this says, and so is what is at a path.
+fn are_aliases(packages: &Packages, others: bool, path: &str, package: &Value) -> bool
+    ensures { AreAscending (packages_of packages.now)
+        → Contains (packages_of packages.now) (path.now, view «package».now) → Decides result
+        ((others ≡ true) × IsAlias (packages_of packages.now) (path.now, view «package».now)) }
+{
+    others && is_alias(packages, path, package)
+}
+
+// Adds a node with a path, and with the label of the package for which it stands, at another path.
 fn push_node(
     alloc: Global,
     root: &str,
-    packages: &Packages,
     path: &str,
+    meant: &str,
     package: &Value,
     network: &mut Network,
 ) -> Result<(), AllocError>
-    ensures { is_link (view «package».now) ≡ false → OnOk result
-        (AddsPackages root.now ((path.now, view «package».now) ∷ []) network.old network.new) }
+    ensures { (packages : List (List ℕ × Data)) (d : Data)
+        → StandsFor packages (path.now, d) (meant.now, view «package».now) → OnOk result
+        (AddsPackages packages root.now ((path.now, d) ∷ []) network.old network.new) }
 {
-    let (meant, package) = meant(packages, path, package);
     network
         .labels
         .push(label(alloc, root, path, meant, package)?)?;
@@ -188,57 +272,18 @@ fn push_node(
     Ok(())
 }
 
-// Returns the path that is meant by what is at a path, and the package there.
-fn meant<'a>(packages: &'a Packages, path: &'a str, package: &'a Value) -> (&'a str, &'a Value)
-    ensures { is_link (view «package».now) ≡ false
-        → (result.0.now ≡ path.now) × (result.1.now ≡ «package».now) }
-{
-    if !is_link(package) {
-        return (path, package);
-    }
-    let meant = target(path, package);
-    (meant, packages.get(meant).unwrap_or(package))
-}
-
-// Returns the paths of what is meant by links with names of their own alone, in ascending order.
-fn aliased<'a>(alloc: Global, packages: &'a Packages) -> Result<Vec<&'a str>, AllocError>
-    ensures { HasNoLinks (listed (members_view packages.now.entries))
-        → IfOk result (λ paths. paths.items ≡ []) }
-{
-    let mut links = links(alloc, packages)?;
-    links.sort_unstable();
-    let mut paths = Vec::new(alloc);
-    let mut before = None;
-    for (path, is_alias) in &links {
-        if *is_alias && before != Some(*path) {
-            paths.push(*path)?;
-        }
-        before = Some(*path);
-    }
-    Ok(paths)
-}
-
-// Returns the paths that links mean, and whether the links have names of their own.
-fn links<'a>(alloc: Global, packages: &'a Packages) -> Result<Vec<(&'a str, bool)>, AllocError>
-    ensures { HasNoLinks (listed (members_view packages.now.entries))
-        → IfOk result (λ links. links.items ≡ []) }
-{
-    let mut links = Vec::new(alloc);
-    for (path, package) in packages.iter() {
-        if is_link(package) {
-            let meant = target(path.as_str(), package);
-            // (a package in `node_modules` has a node whatever links mean it)
-            let is_other = place(meant).is_none() && is_alias(packages, path.as_str(), meant);
-            links.push((meant, is_other))?;
-        }
-    }
-    Ok(links)
-}
-
 // Checks the kinds of what a package has.
-fn check_package(alloc: Global, source: &Source, path: &str, package: &Value) -> Result<(), Failure>
-    ensures only { OnOk result (IsPackage (path.now, view «package».now)) }
-    ensures failed { IfErr result (FailsUnless (IsPackage (path.now, view «package».now))) }
+fn check_package(
+    alloc: Global,
+    source: &Source,
+    packages: &Packages,
+    path: &str,
+    package: &Value,
+) -> Result<(), Failure>
+    ensures only { Contains (packages_of packages.now) (path.now, view «package».now)
+        → OnOk result (IsPackage (packages_of packages.now) (path.now, view «package».now)) }
+    ensures failed { AreAscending (packages_of packages.now) → IfErr result (FailsUnless
+        (IsPackage (packages_of packages.now) (path.now, view «package».now))) }
 {
     if package.as_object().is_none() {
         return Err(wrong(alloc, source, &[path, " is not a package"]));
@@ -248,11 +293,19 @@ fn check_package(alloc: Global, source: &Source, path: &str, package: &Value) ->
     }
     check_text(alloc, source, path, package, "name")?;
     check_text(alloc, source, path, package, "version")?;
-    if may_be_link(package) {
-        Ok(())
-    } else {
-        Err(wrong(alloc, source, &["invalid link of ", path]))
+    if !may_be_link(package) {
+        return Err(wrong(alloc, source, &["invalid link of ", path]));
     }
+    if meant(packages, path, package).is_none() {
+        let parts = [
+            path,
+            " links to ",
+            target(path, package),
+            ", which is missing",
+        ];
+        return Err(wrong(alloc, source, &parts));
+    }
+    Ok(())
 }
 
 // Checks that what a package has at a key is a text.
@@ -283,7 +336,7 @@ fn may_have_text(package: &Value, key: &str) -> bool
     }
 }
 
-// Whether what says that a package is a link is a truth, and says where it leads if it is one.
+// Whether what says that a package is a link is a truth, and one that is says where it leads.
 fn may_be_link(package: &Value) -> bool
     ensures { Decides result (MayBeLink (view «package».now)) }
 {
@@ -297,12 +350,16 @@ fn may_be_link(package: &Value) -> bool
     }
 }
 
-// Whether a path is one that npm writes: of names alone, behind `..` for each folder up.
+// Whether a path is one that npm writes: of names alone, behind `..` for each folder up. It leads up
+// to folders that are known.
 fn is_path(path: &str) -> bool
     ensures { Decides result (IsPath path.now) }
 {
     if path.is_empty() {
         return true;
+    }
+    if ups(path) > MOST_UP {
+        return false;
     }
     let behind = behind_up(path);
     behind == ".." || are_names(behind)
@@ -329,16 +386,53 @@ fn is_name(part: &str) -> bool
     part != "" && part != "." && part != ".."
 }
 
-// Whether what is at a path is a link with another name than the package that it means.
-fn is_alias(packages: &Packages, path: &str, meant: &str) -> bool {
-    match (place(path), packages.get(meant)) {
-        (Some((_, name)), Some(package)) if path != meant => name != drawn_name(meant, package),
-        _ => false,
+// Whether what is at a path has another name in a `node_modules` than what it stands for.
+fn is_alias(packages: &Packages, path: &str, package: &Value) -> bool
+    ensures { AreAscending (packages_of packages.now)
+        → Contains (packages_of packages.now) (path.now, view «package».now) → Decides result
+        (IsAlias (packages_of packages.now) (path.now, view «package».now)) }
+{
+    let Some((_, name)) = place(path) else {
+        return false;
+    };
+    match meant(packages, path, package) {
+        Some((other, shown)) => name != drawn_name(other, shown),
+        None => false,
+    }
+}
+
+// Returns the package for which what is at a path stands, with its path, if there is one.
+fn meant<'a>(
+    packages: &'a Packages,
+    path: &'a str,
+    package: &'a Value,
+) -> Option<(&'a str, &'a Value)>
+    ensures found { Contains (packages_of packages.now) (path.now, view «package».now)
+        → IfSome result (λ meant. StandsFor (packages_of packages.now)
+        (path.now, view «package».now) (meant.0.now, view meant.1.now)) }
+    ensures none { AreAscending (packages_of packages.now) → IfNone result ((q : List ℕ × Data)
+        → StandsFor (packages_of packages.now) (path.now, view «package».now) q → ⊥) }
+{
+    if !leads_on(path, package) {
+        return Some((path, package));
+    }
+    let meant = target(path, package);
+    let Some(other) = packages.get(meant) else {
+        return None;
+    };
+    if leads_on(meant, other) {
+        None
+    } else {
+        Some((meant, other))
     }
 }
 
 // Returns the name by which a package is drawn: that of its place, or else its own.
-fn drawn_name<'a>(path: &'a str, package: &'a Value) -> &'a str {
+fn drawn_name<'a>(path: &'a str, package: &'a Value) -> &'a str
+    ensures is { IsDrawnName path.now (view «package».now) result.now }
+    ensures once { (name : List ℕ) → IsDrawnName path.now (view «package».now) name
+        → result.now ≡ name }
+{
     match place(path) {
         Some((_, name)) => name,
         None => name_of(path, package),
@@ -352,7 +446,17 @@ fn name_of<'a>(path: &'a str, package: &'a Value) -> &'a str
     word(package, "name").unwrap_or(last_name(path))
 }
 
-// Whether a package is a link to another one.
+// Whether what is at a path is a link to what is at another one. The project is none.
+fn leads_on(path: &str, package: &Value) -> bool
+    ensures { result ≡ leads_on path.now (view «package».now) }
+{
+    if path.is_empty() {
+        return false;
+    }
+    is_link(package)
+}
+
+// Whether a package is said to be a link to another one.
 fn is_link(package: &Value) -> bool
     ensures { result ≡ is_link (view «package».now) }
 {
@@ -369,8 +473,8 @@ fn word<'a>(package: &'a Value, key: &str) -> Option<&'a str>
     package.get(key)?.as_str()
 }
 
-// Returns the label of a package: its name and version. In a folder of another name, to which it
-// may be linked, it is an alias.
+// Returns the label of what is at a path, and stands for a package at another: its name and
+// version. In a folder of another name, to which it may be linked, it is an alias.
 fn label(
     alloc: Global,
     root: &str,
@@ -378,41 +482,33 @@ fn label(
     meant: &str,
     package: &Value,
 ) -> Result<String, AllocError>
-    ensures { path.now ≡ meant.now → IfOk result
-        (λ s. IsLabel root.now (path.now, view «package».now) (string_bytes s)) }
+    ensures { IfOk result (λ s. IsLabel root.now path.now (meant.now, view «package».now)
+        (string_bytes s)) }
 {
-    let given = given_name(path, meant, package);
-    let name = called(root, path, given);
+    let name = called(root, path, package);
+    let own = name_of(meant, package);
     let mut label = String::from_str(alloc, name)?;
-    push_behind(&mut label, "@npm:", other_name(name, given))?;
+    push_behind(&mut label, "@npm:", other_name(name, known_name(own)))?;
     push_behind(&mut label, "@", word(package, "version"))?;
     Ok(label)
 }
 
-// Returns the name that a package gives itself, or that of a package that is meant by a link.
-fn given_name<'a>(path: &str, meant: &'a str, package: &'a Value) -> Option<&'a str>
-    ensures { path.now ≡ meant.now
-        → option_copied result ≡ text_at (codes "name") (view «package».now) }
-{
-    if path == meant {
-        word(package, "name")
-    } else {
-        Some(name_of(meant, package))
-    }
-}
-
-// Returns what the package at a path is called, which may give itself a name.
-fn called<'a>(root: &'a str, path: &'a str, given: Option<&'a str>) -> &'a str
-    ensures { (name : List ℕ) → IsCalled root.now path.now (option_copied given.entry) name
-        → result.now ≡ name }
+// Returns what is at a path called that stands for a package.
+fn called<'a>(root: &'a str, path: &'a str, package: &'a Value) -> &'a str
+    ensures { IsCalled root.now path.now (view «package».now) result.now }
 {
     if path.is_empty() {
-        return given.unwrap_or(root);
+        return word(package, "name").unwrap_or(root);
     }
-    match place(path) {
-        Some((_, name)) => name,
-        None => given.unwrap_or(last_name(path)),
-    }
+    drawn_name(path, package)
+}
+
+// Returns the own name of a package, if it is known. A folder that a path leads up to has a name
+// that the file doesn't have.
+fn known_name(own: &str) -> Option<&str>
+    ensures { option_copied result ≡ known_name own.now }
+{
+    if own == ".." { None } else { Some(own) }
 }
 
 // Returns the name that is given, if it is another one.
@@ -488,27 +584,16 @@ fn place(path: &str) -> Option<(&str, &str)>
 // these paths.
 fn steps<'a>(
     alloc: Global,
-    source: &Source,
     packages: &'a Packages,
     paths: &[String],
-) -> Result<Vec<Step<'a>>, Failure>
-    ensures made { HasNoLinks (packages_of packages.now)
-        → ArePaths (packages_of packages.now) paths.now
-        → IfOk result (λ all. HasSteps (packages_of packages.now) all.items) }
-    ensures failed { IfErr result (FailsUnless (HasNoLinks (packages_of packages.now)
-        × ArePaths (packages_of packages.now) paths.now)) }
+) -> Result<Vec<Step<'a>>, AllocError>
+    ensures { (nodes : List (List ℕ × Data)) → AreNodes (packages_of packages.now) nodes
+        → ArePaths nodes paths.now
+        → IfOk result (λ all. HasSteps (packages_of packages.now) nodes all.items) }
 {
     let mut steps = Vec::new(alloc);
     for (path, package) in packages.iter() {
-        push_steps(
-            alloc,
-            source,
-            packages,
-            paths,
-            path.as_str(),
-            package,
-            &mut steps,
-        )?;
+        push_steps(alloc, packages, paths, path.as_str(), package, &mut steps)?;
     }
     steps.sort_unstable();
     Ok(steps)
@@ -517,28 +602,24 @@ fn steps<'a>(
 // Adds what stands in folders of what is at a path, if that is a node or a link to one.
 fn push_steps<'a>(
     alloc: Global,
-    source: &Source,
     packages: &'a Packages,
     paths: &[String],
     path: &'a str,
     package: &'a Value,
     steps: &mut Vec<Step<'a>>,
-) -> Result<(), Failure>
-    ensures added { HasNoLinks (packages_of packages.now) → AreAscending (packages_of packages.now)
-        → ArePaths (packages_of packages.now) paths.now → (i : ℕ)
-        → slice_get (packages_of packages.now) i ≡ Some (path.now, view «package».now)
-        → OnOk result (AddsSteps path.now i steps.old.items steps.new.items) }
-    ensures failed { IfErr result (FailsUnless
-        (IsNode (packages_of packages.now) paths.now (path.now, view «package».now))) }
+) -> Result<(), AllocError>
+    ensures { AreAscending (packages_of packages.now) → (nodes : List (List ℕ × Data))
+        → AreNodes (packages_of packages.now) nodes → ArePaths nodes paths.now
+        → Contains (packages_of packages.now) (path.now, view «package».now)
+        → OnOk result (AddsSteps (packages_of packages.now) nodes
+        (path.now, view «package».now) steps.old.items steps.new.items) }
 {
-    let meant = target(path, package);
-    let own = find_node(paths, path);
-    if own.is_none() && !is_link(package) {
+    let Some((meant, _)) = meant(packages, path, package) else {
         return Ok(());
-    }
-    let Some(node) = node_of(packages, paths, own, meant) else {
-        let parts = [path, " links to ", meant, ", which is missing"];
-        return Err(wrong(alloc, source, &parts));
+    };
+    let own = find_node(paths, path);
+    let Some(node) = own.or(find_node(paths, meant)) else {
+        return Ok(());
     };
     push_step_in(alloc, path, node, steps)?;
     if own.is_none() {
@@ -563,61 +644,75 @@ fn push_step_in<'a>(
     }
 }
 
-// Returns the node of what is there, which has one of its own or else that of the package that it
-// means, which is no link.
-fn node_of(packages: &Packages, paths: &[String], own: Option<usize>, meant: &str) -> Option<usize>
-    ensures { HasNoLinks (packages_of packages.now) → (i : ℕ) → own ≡ Some i → result ≡ Some i }
-{
-    match packages.get(meant) {
-        Some(package) if is_link(package) => None,
-        _ => own.or(find_node(paths, meant)),
-    }
-}
-
 // Returns the node with a path.
 fn find_node(paths: &[String], path: &str) -> Option<usize>
-    ensures { (i : ℕ)
+    ensures found { (i : ℕ)
         → IsStrictlySortedBy (slice_cmp nat_cmp) (map string_bytes paths.now)
         → slice_get (map string_bytes paths.now) i ≡ Some path.now → result ≡ Some i }
+    ensures only { IfSome result (λ i. slice_get (map string_bytes paths.now) i ≡ Some path.now) }
 {
     paths.binary_search_by(|p| p.as_str().cmp(path)).ok()
 }
 
 // Returns the path of a package, or that to which a link leads.
 fn target<'a>(path: &'a str, package: &'a Value) -> &'a str
-    ensures { is_link (view «package».now) ≡ false → result.now ≡ path.now }
+    ensures { result.now ≡ target path.now (view «package».now) }
 {
-    if is_link(package) {
+    if leads_on(path, package) {
         word(package, "resolved").unwrap_or("")
     } else {
         path
     }
 }
 
-// Returns the folders of a path from the outermost on. Those of the project are below one more.
+// Returns the folders of a path from the outermost on.
 fn folders<'a>(alloc: Global, path: &'a str) -> Result<Vec<&'a str>, AllocError>
     ensures { IfOk result (λ all. texts_of all.items ≡ folders path.now) }
 {
-    let mut folders = Vec::new(alloc);
-    folders.push(around(path))?;
+    let up = ups(path);
+    let mut folders = around(alloc, up)?;
     if path.is_empty() {
         return Ok(folders);
     }
-    for folder in path.split('/') {
+    for folder in path.split('/').skip(up) {
         folders.push(folder)?;
     }
     Ok(folders)
 }
 
-// Returns what is around a path: the project, or what that is in.
-fn around(path: &str) -> &'static str
-    ensures { result.now ≡ around path.now }
+// Returns how many folders up a path leads before it leads down.
+fn ups(path: &str) -> usize
+    ensures { result ≡ ups path.now }
 {
-    if path == ".." || path.starts_with("../") {
-        ".."
+    path.split('/').take_while(|part| *part == "..").count()
+}
+
+// Returns what is around the names of a path that leads up so many folders: the project, or the known
+// folders from the outermost one to that to which the path leads.
+fn around<'a>(alloc: Global, up: usize) -> Result<Vec<&'a str>, AllocError>
+    ensures { IfOk result (λ all. texts_of all.items ≡ around up) }
+{
+    if up == 0 {
+        outer(alloc, ".", 0)
+    } else if up <= MOST_UP {
+        outer(alloc, "..", MOST_UP - up)
     } else {
-        "."
+        // (such a path is refused, so this is around no other one)
+        outer(alloc, "/", up)
     }
+}
+
+// Returns a folder, and `..` so often behind it.
+fn outer<'a>(alloc: Global, first: &'a str, times: usize) -> Result<Vec<&'a str>, AllocError>
+    ensures { IfOk result
+        (λ all. texts_of all.items ≡ first.now ∷ replicate times (codes "..")) }
+{
+    let mut folders = Vec::new(alloc);
+    folders.push(first)?;
+    for _ in 0..times {
+        folders.push("..")?;
+    }
+    Ok(folders)
 }
 
 // Adds what packages need, in the order of the names: the one in the nearest `node_modules` of the
@@ -631,8 +726,9 @@ fn push_needs<'a>(
 ) -> Result<(), Failure>
     ensures added { IsIndexed network.old → OnOk result
         (AddsNearest (packages_of packages.now) steps.now network.old network.new) }
-    ensures only { HasSteps (packages_of packages.now) steps.now
-        → OnOk result (All HasNames (packages_of packages.now)) }
+    ensures only { (nodes : List (List ℕ × Data))
+        → HasSteps (packages_of packages.now) nodes steps.now
+        → OnOk result (All HasOwnNames (packages_of packages.now)) }
     ensures failed { IfErr result
         (FailsUnless (AreRight (packages_of packages.now) steps.now)) }
 {
@@ -685,8 +781,8 @@ impl<'s, 'a> Walk<'s, 'a> {
     ghost use Rattle.serde_json.specs.View.{view};
     ghost use Rattle.trees.specs.DependingParts.{IsIndexed};
     ghost use Rattle.trees.specs.LockingParts.{FailsUnless};
-    ghost use Rattle.trees.specs.Npm.{names_at, AreAscending, HasLists, HasNames, IsPlaced, MayHaveObject};
-    ghost use Rattle.trees.specs.NpmParts.{Step, nearest_of, entered_of, texts_of, packages_of, patterns_of, walked, IsReady, IsFresh, HasSteps, IsAtStep, IsListedAt, IsRightAt, AreRight, Enters, Leaves, AddsNamed, AddsDeveloped, AddsLists, AddsNames, AddsWorkspaces, AddsNearest};
+    ghost use Rattle.trees.specs.Npm.{names_at, AreAscending, HasLists, HasNames, HasOwnNames, IsPlaced, MayHaveObject};
+    ghost use Rattle.trees.specs.NpmParts.{Step, nearest_of, entered_of, texts_of, packages_of, patterns_of, walked, IsReady, IsFresh, HasSteps, IsAtStep, IsListedAt, IsRightAt, IsRightAtStep, AreRight, Enters, Leaves, AddsNamed, AddsDeveloped, AddsLists, AddsNames, AddsWorkspaces, AddsNearest};
     ghost use Rattle.trees.specs.NpmPatterns.{patterns_in, IsPattern, MayHavePatterns};
 
     // Goes these steps, and adds what packages need.
@@ -699,8 +795,9 @@ impl<'s, 'a> Walk<'s, 'a> {
     ) -> Result<(), Failure>
         ensures added { IsFresh self.old → IsIndexed network.old → OnOk result
             (AddsNearest (walked self.old) steps.now network.old network.new) }
-        ensures only { IsFresh self.old → HasSteps (walked self.old) steps.now
-            → OnOk result (All HasNames (walked self.old)) }
+        ensures only { IsFresh self.old → (nodes : List (List ℕ × Data))
+            → HasSteps (walked self.old) nodes steps.now
+            → OnOk result (All HasOwnNames (walked self.old)) }
         ensures failed { IsFresh self.old
             → IfErr result (FailsUnless (AreRight (walked self.old) steps.now)) }
     {
@@ -713,17 +810,17 @@ impl<'s, 'a> Walk<'s, 'a> {
 
     // Goes a step.
     fn go(&mut self, alloc: Global, source: &Source, step: &'s Step<'a>) -> Result<(), Failure>
-        ensures at { (packages : List (List ℕ × Data)) (steps : List Step) (k : ℕ)
-            → HasSteps packages steps → slice_get steps k ≡ Some step.now
-            → IsAtStep packages steps k self.old
-            → OnOk result (IsAtStep packages steps (k + 1) self.new) }
-        ensures only { (packages : List (List ℕ × Data)) (steps : List Step) (k : ℕ)
-            → HasSteps packages steps → slice_get steps k ≡ Some step.now
-            → IsAtStep packages steps k self.old
+        ensures at { (packages nodes : List (List ℕ × Data)) (steps : List Step) (k : ℕ)
+            → HasSteps packages nodes steps → slice_get steps k ≡ Some step.now
+            → IsAtStep packages nodes steps k self.old
+            → OnOk result (IsAtStep packages nodes steps (k + 1) self.new) }
+        ensures only { (packages nodes : List (List ℕ × Data)) (steps : List Step) (k : ℕ)
+            → HasSteps packages nodes steps → slice_get steps k ≡ Some step.now
+            → IsAtStep packages nodes steps k self.old
             → OnOk result (IsListedAt packages step.now) }
         ensures failed { (packages : List (List ℕ × Data)) (steps : List Step) (k : ℕ)
-            → slice_get steps k ≡ Some step.now → IfErr result
-            (FailsUnless (AreRight packages steps × IsAtStep packages steps k self.old)) }
+            → slice_get steps k ≡ Some step.now → IfErr result (FailsUnless
+            (IsRightAtStep packages steps k self.old)) }
     {
         self.leave(alloc, &step.0)?;
         if step.1 {

@@ -2,8 +2,7 @@ use Rattle.std.proofs.Common.{◌<◌, inl, inr, rules}
 use Rattle.std.specs.Prelude.{◌⊎◌}
 use Rattle.trees.specs.Asked.{drawing_value}
 use Rattle.trees.specs.Depending.{HoldsNoGraph}
-use Rattle.trees.specs.Meaning.{HoldsNoLockGraph}
-use Rattle.trees.specs.Npm.{HoldsNoNpmLock}
+use Rattle.trees.specs.Meaning.{HoldsNoLockGraph, HoldsNoNpmGraph}
 use Rattle.trees.specs.Reading.{FailsFor}
 use Rattle.trees.specs.Writing.{Writes, IsGraphDrawing, IsNeedsDrawing, FailsToDepend}
 use Rattle.trees.proofs.Readings.{fails_weaker}
@@ -25,7 +24,7 @@ returns-clause-written g c =
     (λ bytes drawing. (found, c.in_ok-dependencies.ensures.graph, drawing)) (λ e says. record {
       pairs = λ is. fails_weaker deep (HoldsNoGraph source deps.root ⊎ deep) ⊥ e inr says;
       lock = λ is. fails_weaker deep (HoldsNoLockGraph source deps.root deps.is_inverse ⊎ deep) ⊥ e inr says;
-      packages = λ is none. fails_weaker deep (HoldsNoNpmLock source ⊎ deep) ⊥ e inr says;
+      packages = λ is. fails_weaker deep (HoldsNoNpmGraph source deps.root deps.is_inverse ⊎ deep) ⊥ e inr says;
     }) drawn
 
 pub returns-in_err-dependencies-clause-written : goal.returns-in_err-dependencies-clause-written
@@ -38,7 +37,7 @@ returns-in_err-dependencies-clause-written g c =
     let fails : FailsToDepend sources source deps c.args.drawing e = record {
       pairs = λ is. fails_weaker (HoldsNoGraph source deps.root) (HoldsNoGraph source deps.root ⊎ deep) ⊥ e inl (c.in_err-dependencies.ensures.failed is);
       lock = λ is. fails_weaker (HoldsNoLockGraph source deps.root deps.is_inverse) (HoldsNoLockGraph source deps.root deps.is_inverse ⊎ deep) ⊥ e inl (c.in_err-dependencies.ensures.refused is);
-      packages = λ is none. fails_weaker (HoldsNoNpmLock source) (HoldsNoNpmLock source ⊎ deep) ⊥ e inl (c.in_err-dependencies.ensures.npm is none);
+      packages = λ is. fails_weaker (HoldsNoNpmGraph source deps.root deps.is_inverse) (HoldsNoNpmGraph source deps.root deps.is_inverse ⊎ deep) ⊥ e inl (c.in_err-dependencies.ensures.npm is);
     } in
     nothing_written (g.W.Sink.contents c.args.out.now) c.from_residual.result (IsNeedsDrawing sources source deps c.args.drawing) (FailsToDepend sources source deps c.args.drawing) (search rules) (search (rules, fails))
 

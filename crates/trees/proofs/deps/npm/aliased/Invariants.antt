@@ -1,8 +1,7 @@
-use Rattle.std.proofs.Common.{◌≡◌, []}
-use Rattle.serde_json.specs.View.{members_view}
-use Rattle.trees.specs.Npm.{listed, HasNoLinks}
+use Rattle.std.proofs.Common.{length}
+use Rattle.trees.specs.NpmParts.{packages_of, KnowsAll}
 use Rattle.trees.proofs.deps.npm.aliased.Given as goal
 
--- no path so far, if there are no links
+-- what is known of the links so far
 abbrev pub invariant-loop-path : goal.invariant-loop-path
-invariant-loop-path l = HasNoLinks (listed (members_view l.packages.entries)) → l.paths.items ≡ []
+invariant-loop-path l = KnowsAll (packages_of l.packages) (length l.yielded) l.aliased

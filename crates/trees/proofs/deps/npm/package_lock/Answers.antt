@@ -10,7 +10,7 @@ use Rattle.trees.proofs.deps.npm.package_lock.Goals as goal
 
 pub returns-clause-held : goal.returns-clause-held
 returns-clause-held c = λ empty.
-    held_read c.read.result c.args.source.now (view c.in_ok-lock.lock) c.args.network.now.is_inverse c.read.new.network c.in_ok-lock.ensures.value (λ none. c.read.ensures.held none empty)
+    held_read c.read.result c.args.source.now (view c.in_ok-lock.lock) c.args.network.now.is_inverse c.read.new.network c.in_ok-lock.ensures.value (c.read.ensures.held empty)
 
 pub returns-in_err-lock-clause-failed : goal.returns-in_err-lock-clause-failed
 returns-in_err-lock-clause-failed c = λ empty.
@@ -18,7 +18,7 @@ returns-in_err-lock-clause-failed c = λ empty.
     search (rules, says)
 
 pub returns-clause-only : goal.returns-clause-only
-returns-clause-only c = λ empty. only_lock c.args.source.now (view c.in_ok-lock.lock) c.read.result c.in_ok-lock.ensures.value (λ links. c.read.ensures.only links empty)
+returns-clause-only c = λ empty. only_lock c.args.source.now (view c.in_ok-lock.lock) c.read.result c.in_ok-lock.ensures.value (c.read.ensures.only empty)
 
 pub returns-clause-failed : goal.returns-clause-failed
 returns-clause-failed c = λ empty.

@@ -1,48 +1,35 @@
-use Rattle.std.proofs.Common.{◌≡◌, ◌∙◌, Some, None, true, refl, sym, ap, subst}
+use Rattle.std.proofs.Common.{◌∙◌, ℕ, List, not, true, refl, ap}
+use Rattle.serde_json.specs.Data.{Data}
 use Rattle.serde_json.specs.View.{view}
-use Rattle.trees.specs.Npm.{folders}
-use Rattle.trees.specs.NpmParts.{packages_of, AddsStepsIn, IsNode, Step}
-use Rattle.trees.proofs.NpmSteps.{path_at, plain_at, same_node, some_none}
-use Rattle.trees.proofs.LockedFailures.{fails_never}
+use Rattle.trees.specs.NpmParts.{packages_of, Step}
+use Rattle.trees.proofs.NpmLed.{steps_led, steps_own, steps_stray, steps_unled}
 use Rattle.trees.proofs.deps.npm.push_steps.Goals as goal
 
-pub returns-then-not-is_link-clause-added : goal.returns-then-not-is_link-clause-added
-returns-then-not-is_link-clause-added c = λ none up are i at.
-    let path = c.args.path.now in
-    let there = path_at (packages_of c.args.packages.now) c.args.paths.now are up i path (view c.args.package.now) at in
-    absurd (some_none c.find_node-own.result i c.is_none.result (c.find_node-own.ensures i there.0 there.1) c.is_none.ensures c.if-is_none.true)
+pub returns-in_default : goal.returns-in_default
+returns-in_default c = λ up nodes are have among. steps_stray (packages_of c.args.packages.now) nodes up are (c.args.path.now, view c.args.package.now) among c.args.steps.now.items (c.in_default.ensures.none up)
 
-pub returns-then-is_none-2-clause-added : goal.returns-then-is_none-2-clause-added
-returns-then-is_none-2-clause-added c = λ none up are i at.
-    let path = c.args.path.now in
-    let there = path_at (packages_of c.args.packages.now) c.args.paths.now are up i path (view c.args.package.now) at in
-    absurd (some_none c.find_node-own.result i c.is_none-2.result (c.find_node-own.ensures i there.0 there.1) c.is_none-2.ensures c.if-is_none-2.true)
+pub returns-in_default-or : goal.returns-in_default-or
+returns-in_default-or c = λ up nodes are have among.
+    let ps = packages_of c.args.packages.now in
+    let p : List ℕ × Data = (c.args.path.now, view c.args.package.now) in
+    let q : List ℕ × Data = (c.in-Some.meant.now, view c.in-Some.field-0-1.now) in
+    steps_unled ps nodes up are p among q (c.in-Some.ensures.found among) c.args.paths.now have c.find_node-own.result c.find_node.result c.find_node-own.ensures.found c.find_node-own.ensures.only c.find_node.ensures.found c.find_node.ensures.only c.or.result c.or.ensures
+    c.args.steps.now.items c.in_default-or.is
 
-pub returns-clause-added : goal.returns-clause-added
-returns-clause-added c = λ none up are i at.
-    let path = c.args.path.now in
-    let packages = packages_of c.args.packages.now in
-    let d = view c.args.package.now in
-    let there = path_at packages c.args.paths.now are up i path d at in
-    let plain = plain_at packages none i path d at in
-    let own = c.find_node-own.ensures i there.0 there.1 in
-    let node = same_node c.node_of.result i c.in-Some.node (c.node_of.ensures none i own) c.in-Some.is in
-    let meant = c.target-meant.ensures plain in
-    let step : Step = (c.in_ok-folders.field-0, true, c.target-meant.result, c.in-Some.node) in
-    record {
-      between = c.push_step_in.new.steps.items;
-      others = subst (λ n. AddsStepsIn path n c.args.steps.now.items c.push_step_in.new.steps.items) node c.in_ok-push_step_in.ensures;
-      step = step;
-      is = c.in_ok-push.ensures.items;
-      own = record { own = refl; called = meant; around = c.in_ok-folders.ensures ∙ ap folders meant; node = node };
-    }
+pub returns-then-is_none : goal.returns-then-is_none
+returns-then-is_none c = λ up nodes are have among.
+    let ps = packages_of c.args.packages.now in
+    let p : List ℕ × Data = (c.args.path.now, view c.args.package.now) in
+    let q : List ℕ × Data = (c.in-Some.meant.now, view c.in-Some.field-0-1.now) in
+    steps_led ps nodes up are p among q (c.in-Some.ensures.found among) c.args.paths.now have c.find_node-own.result c.find_node.result c.find_node-own.ensures.found c.find_node-own.ensures.only c.find_node.ensures.found c.find_node.ensures.only c.or.result c.or.ensures
+    c.in-Some-or.node c.in-Some-or.is c.args.steps.now.items c.push_step_in.new.steps.items c.in_ok-push_step_in.ensures (c.is_none.ensures ∙ ap not c.if-is_none.true)
 
-pub returns-in_default-clause-failed : goal.returns-in_default-clause-failed
-returns-in_default-clause-failed c =
-    let packages = packages_of c.args.packages.now in
-    let path = c.args.path.now in
-    let d = view c.args.package.now in
-    fails_never (IsNode packages c.args.paths.now (path, d)) c.wrong.result
-    (λ is. (let there = path_at packages c.args.paths.now is.paths is.ascending is.place path d is.at in
-    let own = c.find_node-own.ensures is.place there.0 there.1 in
-    let no : None ≡ Some is.place = sym c.in_default.is ∙ c.node_of.ensures is.links is.place own in cc)) c.wrong.ensures
+pub returns : goal.returns
+returns c = λ up nodes are have among.
+    let ps = packages_of c.args.packages.now in
+    let p : List ℕ × Data = (c.args.path.now, view c.args.package.now) in
+    let q : List ℕ × Data = (c.in-Some.meant.now, view c.in-Some.field-0-1.now) in
+    let step : Step = (c.in_ok-folders.field-0, true, c.in-Some.meant, c.in-Some-or.node) in
+    steps_own ps nodes up are p among q (c.in-Some.ensures.found among) c.args.paths.now have c.find_node-own.result c.find_node.result c.find_node-own.ensures.found c.find_node-own.ensures.only c.find_node.ensures.found c.find_node.ensures.only c.or.result c.or.ensures
+    c.in-Some-or.node c.in-Some-or.is c.args.steps.now.items c.push_step_in.new.steps.items c.in_ok-push_step_in.ensures (c.is_none.ensures ∙ ap not c.if-is_none.false) _ step c.in_ok-push.ensures.items
+    (record { own = refl; called = refl; around = c.in_ok-folders.ensures; node = refl })

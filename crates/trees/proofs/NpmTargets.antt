@@ -1,0 +1,67 @@
+-- What links of lock files of npm lead to.
+use Rattle.std.proofs.Common.{◌≡◌, ◌≢◌, ◌∙◌, ℕ, Bool, true, false, cond, List, [], ◌∷◌, length, slice_get, inl, inr, refl, sym, ap, ap₂, arith}
+use Rattle.std.proofs.lemmas.Bool.{false≢true}
+use Rattle.std.proofs.lemmas.List.Elements.{All-contains, All-contains_itself, All-weaker, Contains-append_right}
+use Rattle.std.proofs.lemmas.Map.Lookups.{exact_bytes}
+use Rattle.std.proofs.lemmas.Option.{same_Some}
+use Rattle.std.specs.BTreeMap.{is_at}
+use Rattle.std.specs.Cmp.{Equal-is}
+use Rattle.std.specs.Cmp.Lexicographic.{slice_cmp}
+use Rattle.std.specs.Map.{lookup}
+use Rattle.std.specs.Ordering.{is_eq, nat_cmp}
+use Rattle.std.specs.Prelude.{Option, Some, None, MatchOption, All, Contains, ◌⊎◌, String, string_bytes}
+use Rattle.std.specs.declared.alloc.Global.{Global}
+use Rattle.serde_json.specs.Data.{Data}
+use Rattle.serde_json.specs.View.{view, members_view}
+use Rattle.serde_json.specs.declared.value.Value.{Value}
+use Rattle.trees.specs.Npm.{is_link, leads_on, listed, target, AreAscending, AreNodes, IsLeftOut, StandsFor}
+use Rattle.trees.proofs.NpmLinks.{among_at}
+use Rattle.trees.proofs.NpmWalks.{value_at}
+
+-- the project is no link, and what is at another path is one as it says
+pub leads_none : (path : List ℕ) (d : Data) → path ≡ [] → false ≡ leads_on path d
+leads_none [] d none = refl
+leads_none (b ∷ path) d none = absurd (omega (arith, ap length none))
+
+pub leads_some : (path : List ℕ) (d : Data) → path ≢ [] → is_link d ≡ leads_on path d
+leads_some [] d some = absurd (some refl)
+leads_some (b ∷ path) d some = refl
+
+-- without links the nodes are the packages
+pub all_nodes : (packages : List (List ℕ × Data)) → AreAscending packages → All (λ p. leads_on p.0 p.1 ≡ false) packages → AreNodes packages packages
+all_nodes packages up own = record {
+  ascending = up;
+  each = All-weaker (λ p. Contains packages p) (λ p. Contains packages p × (IsLeftOut packages p → ⊥)) (λ p c. (c, shown p c)) packages (All-contains_itself packages);
+  all = All-weaker (λ p. Contains packages p) (λ p. Contains packages p ⊎ IsLeftOut packages p) (λ p c. inl c) packages (All-contains_itself packages);
+} where
+  no_link : (p : List ℕ × Data) → Contains packages p → leads_on p.0 p.1 ≡ true → ⊥
+  no_link p c link = false≢true (sym (All-contains (λ q. leads_on q.0 q.1 ≡ false) packages p own c) ∙ link)
+
+  shown : (p : List ℕ × Data) → Contains packages p → IsLeftOut packages p → ⊥
+  shown p c left = elim left [ inl link ↦ no_link p c link.0 | inr only ↦ no_link only.1.link only.1.among only.1.leads.0 ]
+
+-- what a map has at a path is there among its packages
+pub value_among : (path : List ℕ) (v : Value) (es : List (String Global × Value)) → Some v ≡ lookup (is_at (λ k. slice_cmp nat_cmp path (string_bytes k))) es → Contains (listed (members_view es)) (path, view v)
+value_among path v [] is = (let no : ◌≡◌ {A = Option Value} (Some v) None = is in cc)
+value_among path v (e ∷ es) is = by (value_among path v es) (is_eq (slice_cmp nat_cmp path (string_bytes e.0))) refl is where
+  by : (Some v ≡ lookup (is_at (λ k. slice_cmp nat_cmp path (string_bytes k))) es → Contains (listed (members_view es)) (path, view v)) → (b : Bool) → is_eq (slice_cmp nat_cmp path (string_bytes e.0)) ≡ b → Some v ≡ cond b (Some e.1) (lookup (is_at (λ k. slice_cmp nat_cmp path (string_bytes k))) es) → Contains ((string_bytes e.0, view e.1) ∷ listed (members_view es)) (path, view v)
+  by rest true here found =
+      let name : string_bytes e.0 ≡ path = sym (exact_bytes path (string_bytes e.0) ((Equal-is (slice_cmp nat_cmp path (string_bytes e.0))).0 here)) in
+      let value : e.1 ≡ v = sym (same_Some v e.1 found) in
+      (0, omega arith, ap₂ (λ (t : List ℕ) (d : Data). (t, d)) name (ap view value))
+  by rest false other found = Contains-append_right ((string_bytes e.0, view e.1) ∷ []) (listed (members_view es)) (path, view v) (rest found)
+
+module _ (es : List (String Global × Value)) (up : AreAscending (listed (members_view es))) (p q : List ℕ × Data) (meant : List ℕ) (is : meant ≡ target p.0 p.1) (stands : StandsFor (listed (members_view es)) p q) where
+  -- a map has what a package stands for
+  target_there : (o : Option Value) → o ≡ lookup (is_at (λ k. slice_cmp nat_cmp meant (string_bytes k))) es → MatchOption o ⊥ (λ v. view v ≡ q.1)
+  target_there o found =
+      let at = among_at (listed (members_view es)) q stands.among in
+      let there : slice_get (listed (members_view es)) at.0 ≡ Some (meant, q.1) = at.1 ∙ ap (λ (t : List ℕ). Some (t, q.1)) (stands.at ∙ sym is) in
+      value_at meant q.1 es at.0 up there o found
+
+  pub target_missing : None ≡ lookup (is_at (λ k. slice_cmp nat_cmp meant (string_bytes k))) es → ⊥
+  target_missing found = target_there None found
+
+  -- which is no link
+  pub target_linked : (v : Value) → Some v ≡ lookup (is_at (λ k. slice_cmp nat_cmp meant (string_bytes k))) es → leads_on meant (view v) ≡ true → ⊥
+  target_linked v found link = false≢true (sym stands.own ∙ (ap₂ leads_on (stands.at ∙ sym is) (sym (target_there (Some v) found)) ∙ link))
