@@ -1,11 +1,13 @@
 //! Made documents, and a configuration of all variables and a file, with the time of each step.
 
+use crate::ROOM;
 use crate::full::{FULL_TOML, FULL_VARIABLES};
+use ptree::buffered::Buffered;
 use ptree::print_config::{FileSource, PrintConfig, Sources};
 use ptree::style::Counted;
 use ptree::value::{DocFormat, draw_document_with};
 use std::alloc::{AllocError, Global};
-use std::io::{self, BufWriter, ErrorKind, Write};
+use std::io::{self, ErrorKind};
 use std::time::Instant;
 
 // How many maps stand in one another in a part of a deep document.
@@ -78,13 +80,13 @@ fn draw_out(rt: &HostRuntime, text: &str, depth: u32, times: u32) -> io::Result<
     let alloc = rt.alloc();
     let mut config = PrintConfig::default(alloc)?;
     config.depth = depth;
-    let mut out = Counted::new(BufWriter::new(alloc, io::writer(rt))?);
+    let mut out = Buffered::with_capacity(alloc, ROOM, Counted::new(io::writer(rt)))?;
     for _ in 0..times {
         draw_document_with(alloc, DocFormat::Json, text, "j", &config, false, &mut out).map_err(
             failed,
         )?;
     }
-    out.into_inner().flush()
+    out.flush().map_err(failed)
 }
 
 // Draws a document down to a level into memory, and returns it with the time.

@@ -1,6 +1,7 @@
 //! Graphs, drawn as walks and with each node expanded once, beside the same trees as items.
 
-use crate::failed;
+use crate::{ROOM, failed};
+use ptree::buffered::Buffered;
 use ptree::graph::{Graph, NodeIndex, Place, REPEATED_MARK, write_graph_once_with, write_graph_with};
 use ptree::item::StringItem;
 use ptree::output::write_tree_with;
@@ -8,7 +9,7 @@ use ptree::print_config::PrintConfig;
 use ptree::read::{pieces_readable, read_tree};
 use ptree::style::{Counted, DrawError, Sink};
 use std::alloc::{AllocError, Global};
-use std::io::{self, BufWriter, Write};
+use std::io;
 use std::str;
 use std::time::Instant;
 
@@ -351,14 +352,14 @@ pub fn count_once(rt: &HostRuntime, task: &str, shape: &str, nodes: u32, times: 
     let alloc = rt.alloc();
     let config = PrintConfig::default(alloc)?;
     let graph = once_graph(alloc, shape, nodes)?;
-    let mut out = Counted::new(BufWriter::new(alloc, io::writer(rt))?);
+    let mut out = Buffered::with_capacity(alloc, ROOM, Counted::new(io::writer(rt)))?;
     if task == "once-items" {
         if let Some(tree) = once_tree(alloc, &graph, &config)? {
             for _ in 0..times {
                 write_tree_with(alloc, &tree, &mut out, &config).map_err(failed)?;
             }
         }
-        return out.into_inner().flush();
+        return out.flush().map_err(failed);
     }
     for _ in 0..times {
         if task == "once-make" {
@@ -367,5 +368,5 @@ pub fn count_once(rt: &HostRuntime, task: &str, shape: &str, nodes: u32, times: 
             write_once(alloc, &graph, &mut out, &config).map_err(failed)?;
         }
     }
-    out.into_inner().flush()
+    out.flush().map_err(failed)
 }

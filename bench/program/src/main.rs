@@ -25,7 +25,7 @@ use std::time::Instant;
 use std::{env, str};
 
 // The size of the buffer, that of both programs.
-const ROOM: usize = 8192;
+pub const ROOM: usize = 8192;
 
 // What is to be measured.
 #[derive(Drop)]
