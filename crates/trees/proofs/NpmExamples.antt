@@ -1,12 +1,12 @@
 -- A lock file of npm with a link by computation.
 use Rattle.std.proofs.Common.{◌≡◌, ◌≢◌, ℕ, zero, suc, ◌<◌, true, List, [], ◌∷◌, ◌++◌, codes, length, get_or, inl, inr, refl, sym, ap, subst, length-append, arith}
 use Rattle.std.proofs.lemmas.Bool.{false≢true}
-use Rattle.std.proofs.lemmas.List.Elements.{All-cons, All-nil}
+use Rattle.std.proofs.lemmas.List.Elements.{All-cons, All-head, All-nil}
 use Rattle.std.specs.List.Sorted.{IsStrictlySortedBy}
 use Rattle.std.specs.Prelude.{◌⊎◌, Contains}
 use Rattle.serde_json.specs.Data.{Data, boolean, object, string, no_members, member}
 use Rattle.trees.specs.Locking.{Lacks}
-use Rattle.trees.specs.Npm.{path_in, AreNodes, HasLabel, IsAlias, IsLeftOut, IsOnlyAliased, IsPlaced, LinksTo, Needs, StandsFor}
+use Rattle.trees.specs.Npm.{path_in, AreNodes, HasLabel, IsAlias, IsLeftOut, IsNeed, IsOnlyAliased, IsPlaced, LinksTo, MayHaveNeeds, Needs, StandsFor}
 use Rattle.trees.proofs.NeedTexts.{lacks_byte}
 use Rattle.trees.proofs.NpmNearest.{cons_cases}
 
@@ -104,3 +104,10 @@ needed = record {
     nearest = λ j above other seen. (seen.above, λ same. inl refl);
   };
 }
+
+-- beside the name in its list is a text, and what is none is refused
+listed_text : MayHaveNeeds (codes "dependencies") project.1
+listed_text = All-cons IsNeed (codes "al", string (codes "file:w")) [] refl (All-nil IsNeed)
+
+listed_truth : MayHaveNeeds (codes "dependencies") (object (member (codes "dependencies") (object (member (codes "al") (boolean true) no_members)) no_members)) → ⊥
+listed_truth has = false≢true (All-head IsNeed (codes "al", boolean true) [] has)

@@ -8,7 +8,7 @@ use Rattle.std.proofs.lemmas.Option.{get_or_from_slice_get, slice_get_within}
 use Rattle.std.specs.BTreeMap.{BTreeMap}
 use Rattle.std.specs.Borrow.{Bor}
 use Rattle.std.specs.List.{AllByRecursion, join_with_byte, list_all, prefix_len}
-use Rattle.std.specs.Prelude.{◌⊎◌, All, Contains, Option, Some, None, Result, Ok, Err, IfSome, IsSome, OnOk, String, is_some, option_and_then, option_map, string_bytes}
+use Rattle.std.specs.Prelude.{◌⊎◌, All, Contains, Option, Some, None, Result, Ok, Err, IfSome, IsSome, MatchOption, OnOk, String, is_some, option_and_then, option_map, string_bytes}
 use Rattle.std.specs.Str.Pattern.{CutsPrefixes, FindsTextPrefix, IsTrimStartMatches}
 use Rattle.std.specs.declared.alloc.Global.{Global}
 use Rattle.ptree.specs.File.{FileNode, json}
@@ -21,7 +21,7 @@ use Rattle.trees.specs.declared.failure.Failure.{Failure}
 use Rattle.trees.specs.declared.source.Source.{Source}
 use Rattle.trees.specs.Documents.{IsDocumentOf}
 use Rattle.trees.specs.LockingParts.{FailsUnless}
-use Rattle.trees.specs.Npm.{is_up, leads_on, listed, parts, ups, HasNames, HasOwnNames, HoldsNpmLock, IsLeftOut, IsNpmLock, IsOnlyAliased, IsPackage, IsPath, MayHaveObject, StandsFor}
+use Rattle.trees.specs.Npm.{is_up, leads_on, listed, parts, ups, HasNames, HasOwnNames, HoldsNpmLock, IsLeftOut, IsNeed, IsNpmLock, IsOnlyAliased, IsPackage, IsPath, MayHaveNeeds, StandsFor}
 use Rattle.trees.specs.NpmParts.{name_of, HasSteps, HoldsOnlyNpmLock, IsBehindUp, IsListedAt, Step}
 use Rattle.trees.specs.NpmPatterns.{is_file_name, pieces}
 use Rattle.trees.specs.Reading.{FailsToMake}
@@ -124,19 +124,26 @@ path_cases (b ∷ path) rest behind is =
 
 -- ## Lists
 
-abbrev MayBeObject : Option Data → Type 0
-MayBeObject o = IfSome o (λ e. IsSome (as_object e))
+abbrev AreNeeds : Option Members → Type 0
+AreNeeds o = MatchOption o ⊥ (λ needs. All IsNeed (listed needs))
+
+abbrev MayBeNeeds : Option Data → Type 0
+MayBeNeeds o = IfSome o (λ e. AreNeeds (as_object e))
 
 module _ (key : List ℕ) (d : Data) where
-  pub object_none : None ≡ get key d → MayHaveObject key d
-  object_none none = subst MayBeObject none tt
+  pub list_none : None ≡ get key d → MayHaveNeeds key d
+  list_none none = subst MayBeNeeds none tt
 
   module _ (e : Data) (at : Some e ≡ get key d) where
-    pub object_some : (ms : Members) → Some ms ≡ as_object e → MayHaveObject key d
-    object_some ms is = subst MayBeObject at (sym (ap is_some is))
+    pub list_wrong : None ≡ as_object e → MayHaveNeeds key d → ⊥
+    list_wrong none has = subst AreNeeds (sym none) (subst MayBeNeeds (sym at) has)
 
-    pub object_wrong : None ≡ as_object e → MayHaveObject key d → ⊥
-    object_wrong none has = (let is : is_some (as_object e) ≡ true = subst MayBeObject (sym at) has in false≢true (ap is_some none ∙ is))
+    module _ (ms : Members) (is : Some ms ≡ as_object e) where
+      pub list_some : All IsNeed (listed ms) → MayHaveNeeds key d
+      list_some all = subst MayBeNeeds at (subst AreNeeds is all)
+
+      pub list_needs : MayHaveNeeds key d → All IsNeed (listed ms)
+      list_needs has = subst AreNeeds (sym is) (subst MayBeNeeds (sym at) has)
 
 -- the package at a place
 pub listed_at : {X : Type 0} (P : X → Type 0) (xs : List X) (i : ℕ) (x : X) → slice_get xs i ≡ Some x → All P xs → P x
@@ -193,9 +200,9 @@ no_entries [] none = refl
 no_entries (e ∷ es) none = absurd (omega (arith, none))
 
 -- one item more
-pub packages_right : (packages : List (List ℕ × Data)) (xs : List Item) (x : Item) (path : List ℕ) → path ≡ string_bytes x.0.now → All (IsPackage packages) (map item_seen xs) → IsPackage packages (path, view x.1.now) → All (IsPackage packages) (map item_seen (xs ++ x ∷ []))
-packages_right packages xs x path is all one =
-    subst (All (IsPackage packages)) (sym (map-append item_seen xs (x ∷ []))) (All-push (IsPackage packages) (map item_seen xs) (item_seen x) all (subst (λ (t : List ℕ). IsPackage packages (t, view x.1.now)) is one))
+pub each_more : (Is : List ℕ × Data → Type 0) (xs : List Item) (x : Item) (path : List ℕ) → path ≡ string_bytes x.0.now → All Is (map item_seen xs) → Is (path, view x.1.now) → All Is (map item_seen (xs ++ x ∷ []))
+each_more Is xs x path is all one =
+    subst (All Is) (sym (map-append item_seen xs (x ∷ []))) (All-push Is (map item_seen xs) (item_seen x) all (subst (λ (t : List ℕ). Is (t, view x.1.now)) is one))
 
 -- ## Lock files
 

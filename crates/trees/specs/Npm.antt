@@ -244,12 +244,14 @@ pub record IsPath (path : List ℕ) : Type 0 where
   pub few : length up ≤ most_up
   pub each_name : All (λ part. is_file_name part ≡ true) names
 
--- what is at a key, if anything, is a text, or an object
+-- what is at a key, if anything, is a text
 abbrev pub MayHaveText : List ℕ → Data → Type 0
 MayHaveText key d = IfSome (get key d) (λ e. IsSome (as_str e))
 
-abbrev pub MayHaveObject : List ℕ → Data → Type 0
-MayHaveObject key d = IfSome (get key d) (λ e. IsSome (as_object e))
+-- the name and the version of a package or of the whole file, if it has some, are texts
+pub record HasTexts (d : Data) : Type 0 where
+  pub name : MayHaveText (codes "name") d
+  pub version : MayHaveText (codes "version") d
 
 -- what says whether a package is a link is a truth, and a link says where it leads
 pub record MayBeLink (d : Data) : Type 0 where
@@ -260,17 +262,24 @@ pub record MayBeLink (d : Data) : Type 0 where
 pub record IsPackage (packages : List (List ℕ × Data)) (p : List ℕ × Data) : Type 0 where
   pub path : IsPath p.0
   pub object : IsSome (as_object p.1)
-  pub name : MayHaveText (codes "name") p.1
-  pub version : MayHaveText (codes "version") p.1
+  pub texts : HasTexts p.1
   pub link : MayBeLink p.1
   pub leads : (q : List ℕ × Data) × StandsFor packages p q
 
--- the lists in which a package names others are objects; what it is developed with counts if it is in no `node_modules`
+-- a need: a name, and beside it a text, which says what versions suit
+abbrev pub IsNeed : List ℕ × Data → Type 0
+IsNeed p = IsSome (as_str p.1)
+
+-- what is at a key, if anything, is an object of needs
+abbrev pub MayHaveNeeds : List ℕ → Data → Type 0
+MayHaveNeeds key d = IfSome (get key d) (λ e. MatchOption (as_object e) ⊥ (λ needs. All IsNeed (listed needs)))
+
+-- the lists in which a package names others have needs; what it is developed with counts if it is in no `node_modules`
 pub record HasLists (p : List ℕ × Data) : Type 0 where
-  pub needs : MayHaveObject (codes "dependencies") p.1
-  pub developed : (IsPlaced p.0 → ⊥) → MayHaveObject (codes "devDependencies") p.1
-  pub optional : MayHaveObject (codes "optionalDependencies") p.1
-  pub peers : MayHaveObject (codes "peerDependencies") p.1
+  pub needs : MayHaveNeeds (codes "dependencies") p.1
+  pub developed : (IsPlaced p.0 → ⊥) → MayHaveNeeds (codes "devDependencies") p.1
+  pub optional : MayHaveNeeds (codes "optionalDependencies") p.1
+  pub peers : MayHaveNeeds (codes "peerDependencies") p.1
 
 -- what names the needs of a package is right: its lists, and the workspaces of the project
 pub record HasNames (p : List ℕ × Data) : Type 0 where
@@ -292,6 +301,7 @@ HasPaths lock = (format_version lock ≡ Some 2) ⊎ (format_version lock ≡ So
 -- a document is a lock file
 pub record IsNpmLock (lock : Data) : Type 0 where
   pub version : HasPaths lock
+  pub texts : HasTexts lock
   pub packages : Members
   pub are : option_and_then as_object (get (codes "packages") lock) ≡ Some packages
   pub each : All (IsPackage (listed packages)) (listed packages)

@@ -10,7 +10,7 @@ ghost use Rattle.serde_json.specs.View.{view, members_view};
 ghost use Rattle.trees.specs.DependingParts.{IsEmpty, IsIndexed};
 ghost use Rattle.trees.specs.Documents.{IsLastPart};
 ghost use Rattle.trees.specs.LockingParts.{AddsEdges, FailsUnless};
-ghost use Rattle.trees.specs.Npm.{path_in, packages_in, with_project, listed, text_at, is_link, leads_on, target, known_name, other_name, behind, around, folders, format_version, ups, IsAlias, IsDrawnName, IsLastName, IsLeftOut, IsName, IsNameOf, IsOnlyAliased, IsPath, IsRootName, IsCalled, IsLabel, IsNpmLock, IsPackage, AreAscending, AreNodes, HasOwnNames, HasPaths, HoldsNpmLock, MayBeLink, MayHaveText, StandsFor};
+ghost use Rattle.trees.specs.Npm.{path_in, packages_in, with_project, listed, text_at, is_link, leads_on, target, known_name, other_name, behind, around, folders, format_version, ups, IsAlias, IsDrawnName, IsLastName, IsLeftOut, IsName, IsNameOf, IsOnlyAliased, IsPath, IsRootName, IsCalled, IsLabel, IsNpmLock, IsPackage, AreAscending, AreNodes, HasOwnNames, HasPaths, HasTexts, HoldsNpmLock, IsNeed, MayBeLink, MayHaveText, StandsFor};
 ghost use Rattle.trees.specs.NpmParts.{AddsNodes, AddsPackages, AddsNearest, AddsSteps, AddsStepsIn, ArePaths, AreRight, HasPackages, HasSteps, HoldsOnlyNpmLock, HoldsPackages, IsBehindUp, KnowsAll, KnowsLinks, chosen, edge_of, packages_of, texts_of};
 ghost use Rattle.trees.specs.NpmPatterns.{is_file_name, is_glob, is_hidden, is_literal, is_part, pattern_list, pieces, plain, ArePatterns, IsOutside, IsPattern, IsPatternText, LiesIn, Means};
 ghost use Rattle.trees.specs.Reading.{FailsFor, FailsToMake};
@@ -75,6 +75,7 @@ fn read(alloc: Global, source: &Source, lock: &Value, network: &mut Network) -> 
     if !has_paths(lock) {
         return Err(wrong(alloc, source, &[OTHER]));
     }
+    check_texts(alloc, source, "", lock)?;
     let root = root_name(source, lock);
     if packages.is_empty() {
         // npm leaves out a project of which it has nothing but the name.
@@ -286,15 +287,14 @@ fn check_package(
         (IsPackage (packages_of packages.now) (path.now, view «package».now))) }
 {
     if package.as_object().is_none() {
-        return Err(wrong(alloc, source, &[path, " is not a package"]));
+        return Err(wrong(alloc, source, &[whose(path), " is not a package"]));
     }
     if !is_path(path) {
         return Err(wrong(alloc, source, &["invalid path ", path]));
     }
-    check_text(alloc, source, path, package, "name")?;
-    check_text(alloc, source, path, package, "version")?;
+    check_texts(alloc, source, path, package)?;
     if !may_be_link(package) {
-        return Err(wrong(alloc, source, &["invalid link of ", path]));
+        return Err(wrong(alloc, source, &["invalid link of ", whose(path)]));
     }
     if meant(packages, path, package).is_none() {
         let parts = [
@@ -306,6 +306,15 @@ fn check_package(
         return Err(wrong(alloc, source, &parts));
     }
     Ok(())
+}
+
+// Checks that the name and the version of a package are texts.
+fn check_texts(alloc: Global, source: &Source, path: &str, package: &Value) -> Result<(), Failure>
+    ensures only { OnOk result (HasTexts (view «package».now)) }
+    ensures failed { IfErr result (FailsUnless (HasTexts (view «package».now))) }
+{
+    check_text(alloc, source, path, package, "name")?;
+    check_text(alloc, source, path, package, "version")
 }
 
 // Checks that what a package has at a key is a text.
@@ -322,8 +331,13 @@ fn check_text(
     if may_have_text(package, key) {
         Ok(())
     } else {
-        Err(wrong(alloc, source, &["invalid ", key, " of ", path]))
+        Err(wrong(alloc, source, &["invalid ", key, " of ", whose(path)]))
     }
+}
+
+// Returns what a message calls what is at a path.
+fn whose(path: &str) -> &str {
+    if path.is_empty() { "the project" } else { path }
 }
 
 // Whether what a package has at a key, if anything, is a text.
@@ -781,7 +795,7 @@ impl<'s, 'a> Walk<'s, 'a> {
     ghost use Rattle.serde_json.specs.View.{view};
     ghost use Rattle.trees.specs.DependingParts.{IsIndexed};
     ghost use Rattle.trees.specs.LockingParts.{FailsUnless};
-    ghost use Rattle.trees.specs.Npm.{names_at, AreAscending, HasLists, HasNames, HasOwnNames, IsPlaced, MayHaveObject};
+    ghost use Rattle.trees.specs.Npm.{names_at, AreAscending, HasLists, HasNames, HasOwnNames, IsPlaced, MayHaveNeeds};
     ghost use Rattle.trees.specs.NpmParts.{Step, nearest_of, entered_of, texts_of, packages_of, patterns_of, walked, IsReady, IsFresh, HasSteps, IsAtStep, IsListedAt, IsRightAt, IsRightAtStep, AreRight, Enters, Leaves, AddsNamed, AddsDeveloped, AddsLists, AddsNames, AddsWorkspaces, AddsNearest};
     ghost use Rattle.trees.specs.NpmPatterns.{patterns_in, IsPattern, MayHavePatterns};
 
@@ -917,9 +931,9 @@ impl<'s, 'a> Walk<'s, 'a> {
         ensures added { IsReady self.old → OnOk result
             (AddsDeveloped path.now (view «package».now) node self.old self.new) }
         ensures only { OnOk result ((IsPlaced path.now → ⊥)
-            → MayHaveObject (codes "devDependencies") (view «package».now)) }
+            → MayHaveNeeds (codes "devDependencies") (view «package».now)) }
         ensures failed { IfErr result (FailsUnless ((IsPlaced path.now → ⊥)
-            → MayHaveObject (codes "devDependencies") (view «package».now))) }
+            → MayHaveNeeds (codes "devDependencies") (view «package».now))) }
     {
         if place(path).is_some() {
             return Ok(());
@@ -939,16 +953,19 @@ impl<'s, 'a> Walk<'s, 'a> {
     ) -> Result<(), Failure>
         ensures added { IsReady self.old → OnOk result
             (AddsNamed node (names_at list.now (view «package».now)) self.old self.new) }
-        ensures only { OnOk result (MayHaveObject list.now (view «package».now)) }
+        ensures only { OnOk result (MayHaveNeeds list.now (view «package».now)) }
         ensures failed { IfErr result
-            (FailsUnless (MayHaveObject list.now (view «package».now))) }
+            (FailsUnless (MayHaveNeeds list.now (view «package».now))) }
     {
         let Some(needs) = package.get(list) else {
             return Ok(());
         };
         match needs.as_object() {
-            Some(needs) => Ok(self.push_names(alloc, node, needs)?),
-            None => Err(wrong(alloc, source, &["invalid ", list, " of ", path])),
+            Some(needs) => {
+                check_needs(alloc, source, path, list, needs)?;
+                Ok(self.push_names(alloc, node, needs)?)
+            }
+            None => Err(wrong(alloc, source, &["invalid ", list, " of ", whose(path)])),
         }
     }
 
@@ -1028,6 +1045,33 @@ impl<'s, 'a> Walk<'s, 'a> {
         let same = self.same.get(name).copied().flatten();
         Some(chosen(nearest, same))
     }
+}
+
+// Checks that beside each name of a list is a text.
+fn check_needs(
+    alloc: Global,
+    source: &Source,
+    path: &str,
+    list: &str,
+    needs: &Packages,
+) -> Result<(), Failure>
+    ensures only { OnOk result (All IsNeed (packages_of needs.now)) }
+    ensures failed { IfErr result (FailsUnless (All IsNeed (packages_of needs.now))) }
+{
+    for (name, version) in needs.iter() {
+        if !version.is_string() {
+            let words = [
+                "invalid version of ",
+                name.as_str(),
+                " in ",
+                list,
+                " of ",
+                whose(path),
+            ];
+            return Err(wrong(alloc, source, &words));
+        }
+    }
+    Ok(())
 }
 
 // Returns the node of the package of the same name, if there is one in this folder, or of this one.

@@ -1,8 +1,8 @@
-use Rattle.std.proofs.Common.{◌∙◌, ℕ, List, not, codes, ap, sym, rules}
+use Rattle.std.proofs.Common.{◌∙◌, ℕ, List, not, ap, sym, rules}
 use Rattle.std.proofs.lemmas.Bool.{false≢true}
 use Rattle.serde_json.specs.Data.{Data}
 use Rattle.serde_json.specs.View.{view}
-use Rattle.trees.specs.Npm.{IsPackage, MayHaveText}
+use Rattle.trees.specs.Npm.{HasTexts, IsPackage}
 use Rattle.trees.specs.NpmParts.{packages_of}
 use Rattle.trees.proofs.NpmLinks.{meant_none, meant_some}
 use Rattle.trees.proofs.LockedFailures.{fails_never, fails_unless}
@@ -19,16 +19,10 @@ returns-then-not-is_path-clause-failed c = λ up.
     let p : List ℕ × Data = (c.args.path.now, view c.args.package.now) in
     fails_never (IsPackage (packages_of c.args.packages.now) p) c.wrong-then-not-is_path.result (λ is. false≢true (sym c.if-not-is_path.true ∙ c.is_path.ensures.1 is.path)) c.wrong-then-not-is_path.ensures
 
-pub returns-in_err-check_text-clause-failed : goal.returns-in_err-check_text-clause-failed
-returns-in_err-check_text-clause-failed c = λ up.
+pub returns-in_err-check_texts-clause-failed : goal.returns-in_err-check_texts-clause-failed
+returns-in_err-check_texts-clause-failed c = λ up.
     let d = view c.args.package.now in
-    let says = fails_unless (MayHaveText (codes "name") d) (IsPackage (packages_of c.args.packages.now) (c.args.path.now, d)) c.in_err-check_text.field-0.0 (λ is. is.name) c.in_err-check_text.ensures.failed in
-    search (rules, says)
-
-pub returns-in_err-check_text-2-clause-failed : goal.returns-in_err-check_text-2-clause-failed
-returns-in_err-check_text-2-clause-failed c = λ up.
-    let d = view c.args.package.now in
-    let says = fails_unless (MayHaveText (codes "version") d) (IsPackage (packages_of c.args.packages.now) (c.args.path.now, d)) c.in_err-check_text-2.field-0.0 (λ is. is.version) c.in_err-check_text-2.ensures.failed in
+    let says = fails_unless (HasTexts d) (IsPackage (packages_of c.args.packages.now) (c.args.path.now, d)) c.in_err-check_texts.field-0.0 (λ is. is.texts) c.in_err-check_texts.ensures.failed in
     search (rules, says)
 
 pub returns-then-not-may_be_link-clause-failed : goal.returns-then-not-may_be_link-clause-failed
@@ -48,8 +42,7 @@ returns-clause-only c = λ among.
     record {
       path = c.is_path.ensures.0 c.if-not-is_path.false;
       object = some_object (view c.args.package.now) c.as_object.result c.as_object.ensures (c.is_none.ensures ∙ ap not c.if-is_none.false);
-      name = c.in_ok-check_text.ensures.only;
-      version = c.in_ok-check_text-2.ensures.only;
+      texts = c.in_ok-check_texts.ensures.only;
       link = c.may_be_link.ensures.0 c.if-not-may_be_link.false;
       leads = meant_some (packages_of c.args.packages.now) p c.meant.result (c.is_none-2.ensures ∙ ap not c.if-is_none-2.false) (c.meant.ensures.found among);
     }

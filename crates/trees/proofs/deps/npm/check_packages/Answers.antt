@@ -8,7 +8,7 @@ use Rattle.trees.specs.Npm.{IsPackage}
 use Rattle.trees.specs.NpmParts.{packages_of}
 use Rattle.trees.proofs.LockedFailures.{fails_unless}
 use Rattle.trees.proofs.NpmLinks.{at_among}
-use Rattle.trees.proofs.NpmLocks.{listed_at, packages_right}
+use Rattle.trees.proofs.NpmLocks.{each_more, listed_at}
 use Rattle.trees.proofs.NpmPackages.{Item, all_seen, ascending, package_turn}
 use Rattle.trees.proofs.deps.npm.check_packages.Goals as goal
 
@@ -26,7 +26,7 @@ loop-path-preserved c =
     let path = c.as_str.result.now in
     let d = view c.in-Some.package.now in
     let at : slice_get ps n ≡ Some (path, d) = package_turn entries n x turn.1 ∙ ap (λ (p : List ℕ). Some (p, d)) (sym c.as_str.ensures.value) in
-    packages_right ps c.loop-path.yielded x path c.as_str.ensures.value c.loop-path.invariant (c.in_ok-check_package.ensures.only (at_among ps n (path, d) at))
+    each_more (IsPackage ps) c.loop-path.yielded x path c.as_str.ensures.value c.loop-path.invariant (c.in_ok-check_package.ensures.only (at_among ps n (path, d) at))
 
 pub returns-in_err-check_package-clause-failed : goal.returns-in_err-check_package-clause-failed
 returns-in_err-check_package-clause-failed c =

@@ -3,7 +3,7 @@ use Rattle.std.proofs.lemmas.Bool.{false≢true}
 use Rattle.std.proofs.lemmas.List.Elements.{All-nil}
 use Rattle.std.specs.Prelude.{All}
 use Rattle.serde_json.specs.View.{view, members_view}
-use Rattle.trees.specs.Npm.{listed, HasOwnNames, IsNpmLock, IsPackage}
+use Rattle.trees.specs.Npm.{listed, HasOwnNames, HasTexts, IsNpmLock, IsPackage}
 use Rattle.trees.specs.NpmParts.{AddsNearest, AreRight, HasPackages, HasSteps}
 use Rattle.trees.proofs.LockedEntries.{ok_more}
 use Rattle.trees.proofs.LockedFailures.{err_unless, fails_never, fails_unless}
@@ -42,6 +42,7 @@ returns-then-is_empty-clause-only c = λ empty.
     let none = sym (no_entries c.in-Some.packages.now.entries (c.if-is_empty.ensures.0 refl)) in
     record {
       version = c.has_paths.ensures.0 c.if-not-has_paths.false;
+      texts = c.in_ok-check_texts.ensures.only;
       packages = ms;
       are = sym c.in-Some.ensures.members;
       each = subst (All (IsPackage (listed ms))) none (All-nil (IsPackage (listed ms)));
@@ -50,6 +51,12 @@ returns-then-is_empty-clause-only c = λ empty.
 
 pub returns-then-not-has_paths-clause-failed : goal.returns-then-not-has_paths-clause-failed
 returns-then-not-has_paths-clause-failed c = λ empty. fails_never (IsNpmLock (view c.args.lock.now)) c.wrong-then-not-has_paths.result (λ l. false≢true (sym c.if-not-has_paths.true ∙ c.has_paths.ensures.1 l.version)) c.wrong-then-not-has_paths.ensures
+
+pub returns-in_err-check_texts-clause-failed : goal.returns-in_err-check_texts-clause-failed
+returns-in_err-check_texts-clause-failed c = λ empty.
+    let lock = view c.args.lock.now in
+    let says = fails_unless (HasTexts lock) (IsNpmLock lock) c.in_err-check_texts.field-0.0 (λ l. l.texts) c.in_err-check_texts.ensures.failed in
+    search (rules, says)
 
 pub returns-in_err-push_nodes-clause-failed : goal.returns-in_err-push_nodes-clause-failed
 returns-in_err-push_nodes-clause-failed c = λ empty.
@@ -76,4 +83,4 @@ returns-clause-only c = λ empty.
     let steps = c.in_ok-steps.ensures adds.0 adds.1 (paths_first ps root adds.0 c.args.network.now c.push_nodes.new.network empty adds.2 c.deref.result.now c.deref.ensures.value) in
     let has = subst (HasSteps ps adds.0) (sym c.deref-2.ensures.value) steps in
     ok_more c.push_needs.result (All HasOwnNames ps) (IsNpmLock (view c.args.lock.now))
-    (λ names. record { version = c.has_paths.ensures.0 c.if-not-has_paths.false; packages = members_view c.in-Some.packages.now.entries; are = sym c.in-Some.ensures.members; each = c.in_ok-push_nodes.ensures.only; needs = names }) (c.push_needs.ensures.only adds.0 has)
+    (λ names. record { version = c.has_paths.ensures.0 c.if-not-has_paths.false; texts = c.in_ok-check_texts.ensures.only; packages = members_view c.in-Some.packages.now.entries; are = sym c.in-Some.ensures.members; each = c.in_ok-push_nodes.ensures.only; needs = names }) (c.push_needs.ensures.only adds.0 has)

@@ -4,10 +4,8 @@ use Rattle.trees.specs.NpmParts.{AddsDeveloped}
 use Rattle.trees.proofs.LockedEntries.{ok_more}
 use Rattle.trees.proofs.NpmWalks.{named_none, placed_none, placed_some}
 use Rattle.std.proofs.Common.{codes}
-use Rattle.std.proofs.lemmas.Result.{IfErr-weaker}
-use Rattle.trees.specs.LockingParts.{FailsUnless}
-use Rattle.trees.specs.Npm.{IsPlaced, MayHaveObject}
-use Rattle.trees.proofs.LockedFailures.{fails_unless}
+use Rattle.trees.specs.Npm.{IsPlaced, MayHaveNeeds}
+use Rattle.trees.proofs.LockedFailures.{err_unless}
 use Rattle.trees.proofs.deps.npm.Walk.push_developed.Goals as goal
 
 pub returns-then-is_some-clause-added : goal.returns-then-is_some-clause-added
@@ -23,12 +21,11 @@ returns-then-is_some-clause-only c = λ out. absurd (out (placed_some c.args.pat
 
 pub returns-clause-only : goal.returns-clause-only
 returns-clause-only c =
-    let developed = MayHaveObject (codes "devDependencies") (view c.args.package.now) in
+    let developed = MayHaveNeeds (codes "devDependencies") (view c.args.package.now) in
     ok_more c.push_list.result developed ((IsPlaced c.args.path.now → ⊥) → developed) (λ has out. has) c.push_list.ensures.only
 
 pub returns-clause-failed : goal.returns-clause-failed
 returns-clause-failed c =
-    let developed = MayHaveObject (codes "devDependencies") (view c.args.package.now) in
+    let developed = MayHaveNeeds (codes "devDependencies") (view c.args.package.now) in
     let out = placed_none c.args.path.now c.place.result (sym c.is_some.ensures ∙ c.if-is_some.false) c.place.ensures.found in
-    IfErr-weaker c.push_list.result (FailsUnless developed) (FailsUnless ((IsPlaced c.args.path.now → ⊥) → developed))
-    (λ f says. fails_unless developed ((IsPlaced c.args.path.now → ⊥) → developed) f (λ all. all out) says) c.push_list.ensures.failed
+    err_unless c.push_list.result developed ((IsPlaced c.args.path.now → ⊥) → developed) (λ all. all out) c.push_list.ensures.failed

@@ -5,10 +5,8 @@ use Rattle.trees.specs.NpmParts.{AddsLists}
 use Rattle.trees.proofs.LockedEntries.{ok_more}
 use Rattle.trees.proofs.NpmWalks.{developed_ready, lists_named, named_both}
 use Rattle.std.proofs.Common.{rules}
-use Rattle.std.proofs.lemmas.Result.{IfErr-weaker}
-use Rattle.trees.specs.LockingParts.{FailsUnless}
-use Rattle.trees.specs.Npm.{HasLists, IsPlaced, MayHaveObject}
-use Rattle.trees.proofs.LockedFailures.{fails_unless}
+use Rattle.trees.specs.Npm.{HasLists, IsPlaced, MayHaveNeeds}
+use Rattle.trees.proofs.LockedFailures.{err_unless, fails_unless}
 use Rattle.trees.proofs.deps.npm.Walk.push_lists.Goals as goal
 
 pub returns-clause-added : goal.returns-clause-added
@@ -29,29 +27,28 @@ returns-clause-added c = λ ready.
 pub returns-in_err-push_list-clause-failed : goal.returns-in_err-push_list-clause-failed
 returns-in_err-push_list-clause-failed c =
     let d = view c.args.package.now in
-    let says = fails_unless (MayHaveObject (codes "dependencies") d) (HasLists (c.args.path.now, d)) c.in_err-push_list.field-0.0 (λ all. all.needs) c.in_err-push_list.ensures.failed in
+    let says = fails_unless (MayHaveNeeds (codes "dependencies") d) (HasLists (c.args.path.now, d)) c.in_err-push_list.field-0.0 (λ all. all.needs) c.in_err-push_list.ensures.failed in
     search (rules, says)
 
 pub returns-in_err-push_developed-clause-failed : goal.returns-in_err-push_developed-clause-failed
 returns-in_err-push_developed-clause-failed c =
     let d = view c.args.package.now in
-    let says = fails_unless ((IsPlaced c.args.path.now → ⊥) → MayHaveObject (codes "devDependencies") d) (HasLists (c.args.path.now, d)) c.in_err-push_developed.field-0.0 (λ all. all.developed) c.in_err-push_developed.ensures.failed in
+    let says = fails_unless ((IsPlaced c.args.path.now → ⊥) → MayHaveNeeds (codes "devDependencies") d) (HasLists (c.args.path.now, d)) c.in_err-push_developed.field-0.0 (λ all. all.developed) c.in_err-push_developed.ensures.failed in
     search (rules, says)
 
 pub returns-in_err-push_list-2-clause-failed : goal.returns-in_err-push_list-2-clause-failed
 returns-in_err-push_list-2-clause-failed c =
     let d = view c.args.package.now in
-    let says = fails_unless (MayHaveObject (codes "optionalDependencies") d) (HasLists (c.args.path.now, d)) c.in_err-push_list-2.field-0.0 (λ all. all.optional) c.in_err-push_list-2.ensures.failed in
+    let says = fails_unless (MayHaveNeeds (codes "optionalDependencies") d) (HasLists (c.args.path.now, d)) c.in_err-push_list-2.field-0.0 (λ all. all.optional) c.in_err-push_list-2.ensures.failed in
     search (rules, says)
 
 pub returns-clause-only : goal.returns-clause-only
 returns-clause-only c =
     let d = view c.args.package.now in
-    ok_more c.push_list-3.result (MayHaveObject (codes "peerDependencies") d) (HasLists (c.args.path.now, d))
+    ok_more c.push_list-3.result (MayHaveNeeds (codes "peerDependencies") d) (HasLists (c.args.path.now, d))
     (λ last. record { needs = c.in_ok-push_list.ensures.only; developed = c.in_ok-push_developed.ensures.only; optional = c.in_ok-push_list-2.ensures.only; peers = last }) c.push_list-3.ensures.only
 
 pub returns-clause-failed : goal.returns-clause-failed
 returns-clause-failed c =
     let d = view c.args.package.now in
-    IfErr-weaker c.push_list-3.result (FailsUnless (MayHaveObject (codes "peerDependencies") d)) (FailsUnless (HasLists (c.args.path.now, d)))
-    (λ f says. fails_unless (MayHaveObject (codes "peerDependencies") d) (HasLists (c.args.path.now, d)) f (λ all. all.peers) says) c.push_list-3.ensures.failed
+    err_unless c.push_list-3.result (MayHaveNeeds (codes "peerDependencies") d) (HasLists (c.args.path.now, d)) (λ all. all.peers) c.push_list-3.ensures.failed
