@@ -1,12 +1,14 @@
 -- Paths, indented text and folders of packages by computation.
 use Rattle.std.proofs.Common.{◌≡◌, true, false, None, [], ◌∷◌, ◌++◌, codes, refl}
+use Rattle.std.proofs.lemmas.List.Elements.{All-nil, All-cons}
 use Rattle.std.specs.Char.{encode_utf8}
 use Rattle.std.specs.Prelude.{replicate}
 use Rattle.std.specs.Str.{chars}
-use Rattle.trees.specs.Depending.{edges_between, ArePairs}
+use Rattle.trees.specs.Depending.{edges_between, is_other_line, ArePairs}
 use Rattle.trees.specs.Listing.{unmarked, path_lines, path_names, given_paths, are_wrong}
 use Rattle.trees.specs.Npm.{folders, path_in}
 use Rattle.trees.specs.Outlining.{filled_lines, first_indent, first_bullet}
+use Rattle.trees.proofs.Pairs.{IsNoComment}
 
 -- what the page on the programs says of names
 starts : path_names (codes "././a/") ≡ codes "a" ∷ []
@@ -63,7 +65,14 @@ no_bullet = refl
 -- words stand between white space, and lines without words don't count
 paired : ArePairs (codes " a  b" ++ 13 ∷ 10 ∷ 32 ∷ 10 ∷ codes "b" ++ 9 ∷ codes "a") ((codes "a", codes "b") ∷ (codes "b", codes "a") ∷ [])
 unfolding chars encode_utf8
-paired = refl
+paired = record { words = refl; own = All-cons IsNoComment (codes "a", codes "b") ((codes "b", codes "a") ∷ []) (λ is. cc) (All-cons IsNoComment (codes "b", codes "a") [] (λ is. cc) (All-nil IsNoComment)) }
+
+-- which lines are those of a go.mod
+go_line : is_other_line (codes "go 1.21.3") ≡ true
+go_line = refl
+
+go_pair : is_other_line (codes "go go@1.21") ≡ false
+go_pair = refl
 
 -- a pair that stands twice is one edge, and a word twice none
 needed : edges_between false (codes "a" ∷ codes "b" ∷ codes "c" ∷ []) ((codes "c", codes "a") ∷ (codes "a", codes "b") ∷ (codes "c", codes "a") ∷ (codes "b", codes "b") ∷ []) ≡ (2, 0) ∷ (0, 1) ∷ []

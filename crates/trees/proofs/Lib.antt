@@ -82,4 +82,5 @@ pub mod SourceTexts
 pub mod StyledTrees
 pub mod Told
 pub mod Tops
+pub mod Understood
 pub mod Writings

@@ -1,6 +1,6 @@
 -- Words of lines.
 use Rattle.std.specs.Prelude.{filter}
-use Rattle.std.proofs.Common.{◌≡◌, ◌∙◌, ℕ, ◌<◌, not, Bool, true, false, List, [], ◌∷◌, ◌++◌, length, length-append, map, refl, sym, ap, subst, append_assoc, arith}
+use Rattle.std.proofs.Common.{◌≡◌, ◌∙◌, ℕ, ◌<◌, not, Bool, true, false, List, [], ◌∷◌, ◌++◌, length, length-append, map, codes, refl, sym, ap, subst, append_assoc, arith}
 use Rattle.std.proofs.lemmas.Bool.{not-false}
 use Rattle.std.proofs.lemmas.List.{append-nil}
 use Rattle.std.proofs.lemmas.List.Elements.{All-from_recursion}
@@ -127,3 +127,9 @@ more_words cs text v middle w rest x end e first second third =
     let two = two_words cs text v middle w rest e first second in
     let three = first_word two.0 rest x end two.1 third in
     ap are_no_pair (two.2 ∙ ap (λ ws. v ∷ w ∷ ws) three.2)
+
+-- of a comment
+pub comment_words : (ws : List (List ℕ)) → are_no_pair (codes "#" ∷ ws) ≡ true
+comment_words [] = refl
+comment_words (w ∷ []) = refl
+comment_words (w ∷ x ∷ ws) = refl

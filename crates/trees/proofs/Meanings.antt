@@ -1,27 +1,24 @@
 -- Networks that a source means.
-use Rattle.std.proofs.Common.{◌≡◌, ◌∙◌, ℕ, ◌+◌, ◌≤◌, ◌<◌, Bool, true, false, List, [], ◌∷◌, length, get_or, map, Some, inl, inr, sym, subst, arith}
-use Rattle.std.proofs.lemmas.Bool.{false≢true}
+use Rattle.std.proofs.Common.{◌≡◌, ◌∙◌, ℕ, ◌+◌, ◌≤◌, ◌<◌, Bool, true, List, [], ◌∷◌, length, get_or, map, Result, Ok, Err, inl, inr, sym, subst, arith}
 use Rattle.std.proofs.lemmas.List.{length-map}
 use Rattle.std.proofs.lemmas.List.Elements.{All-nil, All-cons, All-append, All-map, All-weaker, Contains-get_or}
 use Rattle.std.proofs.lemmas.Option.{slice_get_within}
 use Rattle.std.proofs.lemmas.Slice.Zip.{AllZip-long}
 use Rattle.std.specs.List.{AllZip}
-use Rattle.std.specs.Prelude.{All, codes}
+use Rattle.std.specs.Prelude.{All, OnOk}
 use Rattle.serde_json.specs.Data.{Data as JsonData}
 use Rattle.toml.specs.Data.{Data}
-use Rattle.ptree.specs.File.{json, toml}
-use Rattle.ptree_trees.specs.Parts.{has_part}
 use Rattle.trees.specs.declared.deps.Network.{Network}
 use Rattle.trees.specs.declared.source.Source.{Source}
-use Rattle.trees.specs.Depending.{begins_object, source_text, directed, same_edge, IsNpmFile}
+use Rattle.trees.specs.Depending.{directed, same_edge, IsNpmFile, IsPairFile, IsTextFile}
 use Rattle.trees.specs.DependingParts.{labels_of, needs_of, IsNetworkOf, IsNetworkOfPairs, IsWithin}
 use Rattle.trees.specs.Locking.{Package, edges_from, entries_in, tables_in, IsLabel, Leads}
-use Rattle.trees.specs.LockingParts.{HoldsLocked}
-use Rattle.trees.specs.Meaning.{HasMeaning, MeansTables, NeedPlaces}
-use Rattle.trees.specs.Npm.{packages_in, HasLabel, IsNpmLockFile, MeansPackages, Needs}
-use Rattle.trees.specs.NpmParts.{HasPackages, HoldsPackages}
-use Rattle.trees.proofs.OtherFiles.{other_part}
+use Rattle.trees.specs.LockingParts.{HasLocked, HoldsLocked}
+use Rattle.trees.specs.Meaning.{as_pairs, as_lock, as_npm_lock, HoldsLock, MeansTables, NeedPlaces}
+use Rattle.trees.specs.Npm.{packages_in, HasLabel, MeansPackages, Needs}
+use Rattle.trees.specs.NpmParts.{HoldsOnlyNpmLock, HoldsPackages}
 use Rattle.trees.proofs.PairGraphs.{all_firsts, directed_within, network_whole, no_paths}
+use Rattle.trees.proofs.Understood.{same_document}
 
 -- ## Edges of lock files
 
@@ -73,70 +70,38 @@ packages_within is_inverse source lock names needs is =
 
 -- ## Sources
 
--- a text is only one document
-same_document : (d e : Data) → Some (toml d) ≡ Some (toml e) → d ≡ e
-same_document d e is = cc
+-- what follows of two facts of a success
+pub ok_both : {T E : Type 0} (r : Result T E) (P Q R : Type 0) → (P → Q → R) → OnOk r P → OnOk r Q → OnOk r R
+ok_both (Ok x) P Q R f p q = f p q
+ok_both (Err e) P Q R f p q = tt
 
-same_lock : (d e : JsonData) → Some (json d) ≡ Some (json e) → d ≡ e
-same_lock d e is = cc
-
--- of a source that begins no object, and has tables of packages or not
-module _ (source : Source) (is_inverse : Bool) (n : Network) (text : begins_object source ≡ false) where
-  -- it is no lock file of npm
-  no_npm : IsNpmFile source → ⊥
-  no_npm is = false≢true (sym text ∙ is.json)
-
-  -- the network of its tables is what it means
-  pub tables_meant : has_part (codes "[[package]]") (source_text source) ≡ true → HoldsLocked source is_inverse n → IsNetworkOf source is_inverse n
-  tables_meant has held =
-      let locked = held.2 in
-      record {
-        means = record {
-          pairs = λ is. absurd (other_part source has is);
-          tables = λ d is. subst (λ e. MeansTables is_inverse (tables_in e) (labels_of n) (needs_of n)) (same_document held.0 d (sym held.1 ∙ is.document)) locked.means;
-          packages = λ lock is. absurd (no_npm is.file);
-          npm_paths = λ lock is. absurd (no_npm is.file);
-          no_paths = λ _. no_paths n locked.paths;
-        };
-        whole = record { indexed = locked.indexed; within = tables_within is_inverse (tables_in held.0) (labels_of n) (needs_of n) locked.means };
-      }
-
-  -- that of its pairs is what another one means
-  pub pairs_meant : has_part (codes "[[package]]") (source_text source) ≡ false → IsNetworkOfPairs source is_inverse n → IsNetworkOf source is_inverse n
-  pairs_meant lacks is = record {
-    means = record {
-      pairs = λ _. record { pairs = is.pairs; held = is.held; some = is.some; are = is.has.names; edges = is.has.needs.edges };
-      tables = λ d lock. absurd (false≢true (sym lacks ∙ lock.file.toml));
-      packages = λ lock is. absurd (no_npm is.file);
-      npm_paths = λ lock is. absurd (no_npm is.file);
-      no_paths = λ _. no_paths n is.has.needs.paths;
-    };
+module _ (source : Source) (is_inverse : Bool) (n : Network) where
+  -- of a source that is read as lines of two words, the network of its pairs is what it means
+  pub pairs_meant : IsPairFile source → IsNetworkOfPairs source is_inverse n → IsNetworkOf source is_inverse n
+  pairs_meant file is = record {
+    understood = as_pairs is.pairs file is.held is.some;
+    means = (record { are = is.has.names; edges = is.has.needs.edges }, no_paths n is.has.needs.paths);
     whole = network_whole source is_inverse n is;
   }
 
--- that of its packages is what one means that begins an object
-module _ (source : Source) (is_inverse : Bool) (n : Network) (object : begins_object source ≡ true) (held : HoldsPackages source is_inverse n) where
-  no_text : begins_object source ≡ false → ⊥
-  no_text other = false≢true (sym other ∙ object)
-
-  lock_held : (lock : JsonData) → IsNpmLockFile source lock → HasPackages is_inverse source lock n
-  lock_held lock is =
-      let same = same_lock held.0 lock (sym held.1 ∙ is.document) in
-      subst (λ l. HasPackages is_inverse source l n) same held.2
-
-  pub packages_meant : HasMeaning source → IsNetworkOf source is_inverse n
-  packages_meant (inl is) = absurd (no_text is.json)
-  packages_meant (inr (inl lock)) = absurd (no_text lock.1.file.json)
-  packages_meant (inr (inr npm)) =
-      let lock = npm.0 in
-      let has = lock_held lock npm.1 in
+  -- of one that is read as a lock file with tables, that of its tables
+  pub tables_meant : IsTextFile true source → (d : Data) × HoldsLock source d → HoldsLocked source is_inverse n → IsNetworkOf source is_inverse n
+  tables_meant file lock held =
+      let d = lock.0 in
+      let locked : HasLocked is_inverse (tables_in d) n = subst (λ e. HasLocked is_inverse (tables_in e) n) (same_document held.0 d (sym held.1 ∙ lock.1.0)) held.2 in
       record {
-        means = record {
-          pairs = λ is. absurd (no_text is.json);
-          tables = λ d is. absurd (no_text is.file.json);
-          packages = λ e is. (lock_held e is).means;
-          npm_paths = λ e is. let it = lock_held e is in (it.means.nodes, it.means.drawn, it.paths);
-          no_paths = λ other. absurd (no_text other);
-        };
+        understood = as_lock d file lock.1;
+        means = (locked.means, no_paths n locked.paths);
+        whole = record { indexed = locked.indexed; within = tables_within is_inverse (tables_in d) (labels_of n) (needs_of n) locked.means };
+      }
+
+  -- and of one of npm, that of its packages
+  pub packages_meant : IsNpmFile source → HoldsOnlyNpmLock source → HoldsPackages source is_inverse n → IsNetworkOf source is_inverse n
+  packages_meant file only held =
+      let lock = held.0 in
+      let has = held.2 in
+      record {
+        understood = as_npm_lock lock file (held.1, only lock held.1);
+        means = (has.means, (has.means.nodes, has.means.drawn, has.paths));
         whole = record { indexed = has.indexed; within = packages_within is_inverse source lock (labels_of n) (needs_of n) has.means };
       }

@@ -13,11 +13,10 @@ use Rattle.std.specs.Prelude.{Option, Some, None, MatchBool, MatchOption, unwrap
 use Rattle.std.specs.Str.{bytes_eq, IsUtf8, NoCharPasses}
 use Rattle.std.specs.Str.Pattern.{FindsBy, FindsCharPrefix, FindsTextPrefix, GetsRange, HasPrefixMatch, LacksTextAt, StripsPrefix}
 use Rattle.ptree_trees.specs.Parts.{begins_with}
-use Rattle.ptree_trees.proofs.PartTexts.{begins}
+use Rattle.ptree_trees.proofs.PartTexts.{begins, begun}
 use Rattle.trees.specs.Listing.{is_empty}
 use Rattle.trees.specs.Naming.{ends_name, is_called, is_labelled, is_version, own_name, version_text, without_front}
 use Rattle.trees.proofs.Networks.{eqb_flips}
-use Rattle.trees.proofs.OtherFiles.{begins_by_test}
 
 -- ## Fronts
 
@@ -157,6 +156,10 @@ strip_is part text x cut = cut.1.1 ∙ ap (λ (t : List ℕ). part ++ t) (sym cu
 
 begins_not : (part text : List ℕ) → ((rest : List ℕ) → text ≢ part ++ rest) → begins_with part text ≡ false
 begins_not part text other = false_from_ne_true (begins_with part text) (λ is. let b = begins part text is in other b.0 b.1)
+
+-- a test for the beginning of a text
+begins_by_test : (part text : List ℕ) → HasPrefixMatch (FindsTextPrefix part) text → begins_with part text ≡ true
+begins_by_test part text m = subst (λ (t : List ℕ). begins_with part t ≡ true) (sym m.1.1) (begun part (drop m.0 text))
 
 -- `starts_with` at a text
 pub starts_is : (part text : List ℕ) (r : Bool) → MatchBool r (HasPrefixMatch (FindsTextPrefix part) text) (FindsTextPrefix part text None) → r ≡ begins_with part text

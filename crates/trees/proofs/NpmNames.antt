@@ -26,6 +26,15 @@ last_ends path text part = go part.0 part.1 part.2 where
     subst (Lacks (47 ∷ [])) (sym same) (lacks_byte 47 (drop p.1 path) (λ i low. NoCharPasses-char 47 (drop p.1 path) i found.0 (omega arith) low)),
   )
 
+-- a path has one last part
+pub last_same : (path one other : List ℕ) → IsLastPart path one → IsLastPart path other → one ≡ other
+last_same path one other part part' =
+    let last = last_ends path other part' in
+    elim last.0 [
+      | inl is ↦ part_alone path one part (subst (Lacks (47 ∷ [])) (sym is) last.1) ∙ is
+      | inr is ↦ part_behind path is.0 other one part is.1 last.1
+    ]
+
 ends_front : (path name : List ℕ) → EndsWith path name → (front : List ℕ) × (path ≡ front ++ name)
 ends_front path name ends = elim ends [ inl e ↦ ([], e) | inr e ↦ (e.0 ++ 47 ∷ [], e.1 ∙ sym (append_assoc e.0 (47 ∷ []) name)) ]
 

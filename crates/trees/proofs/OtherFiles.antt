@@ -1,35 +1,37 @@
--- Sources that are no lines of two words.
-use Rattle.std.proofs.Common.{◌≡◌, ◌∙◌, ℕ, ◌<◌, true, List, [], length, get_or, drop, sym, ap, subst}
+-- Sources that are lists of other programs, and those that are none.
+use Rattle.std.proofs.Common.{◌≡◌, ◌∙◌, ℕ, ◌<◌, ◌||◌, Bool, true, false, List, [], ◌∷◌, ◌++◌, length, get_or, map, sym, ap}
 use Rattle.std.proofs.lemmas.Bool.{false≢true}
-use Rattle.std.proofs.lemmas.List.Folds.{list_any_at}
+use Rattle.std.proofs.lemmas.List.{map-append}
+use Rattle.std.proofs.lemmas.List.Folds.{list_any-append, list_any_at}
+use Rattle.std.specs.Borrow.{Bor}
 use Rattle.std.specs.List.{list_any}
-use Rattle.std.specs.Prelude.{codes, string_bytes}
+use Rattle.std.specs.Prelude.{string_bytes}
 use Rattle.std.specs.Str.{bytes_eq}
 use Rattle.std.specs.Str.Lines.{lines}
-use Rattle.std.specs.Str.Pattern.{FindsTextPrefix, HasPrefixMatch}
-use Rattle.ptree_trees.specs.Parts.{begins_with, has_part}
-use Rattle.ptree_trees.proofs.PartTexts.{begun}
 use Rattle.trees.specs.declared.source.Source.{Source}
-use Rattle.trees.specs.Depending.{source_text, other_names, other_starts, is_other_line, HasOwnLines, HasOwnName, IsPairFile}
+use Rattle.trees.specs.Depending.{source_text, other_names, is_other_line, IsOwn}
 use Rattle.trees.specs.Documents.{IsLastPart}
+use Rattle.trees.proofs.NpmNames.{last_same}
 
--- a test for the beginning of a text
-pub begins_by_test : (part text : List ℕ) → HasPrefixMatch (FindsTextPrefix part) text → begins_with part text ≡ true
-begins_by_test part text m = subst (λ (t : List ℕ). begins_with part t ≡ true) (sym m.1.1) (begun part (drop m.0 text))
+module _ (source : Source) where
+  -- a file with another name
+  pub other_named : (label : List ℕ) → IsLastPart (string_bytes source.name) label → list_any (bytes_eq label) other_names ≡ true → IsOwn source → ⊥
+  other_named label last other own = false≢true (sym (own.name label last) ∙ other)
 
--- a file with another name
-pub other_named : (source : Source) (label : List ℕ) → IsLastPart (string_bytes source.name) label → list_any (bytes_eq label) other_names ≡ true → HasOwnName source → HasOwnLines source → ⊥
-other_named source label last other name own = false≢true (sym (name label last) ∙ other)
+  -- one with a line of another
+  pub other_lined : (k : ℕ) (line : List ℕ) → k < length (lines (source_text source)) → line ≡ get_or (lines (source_text source)) k line → is_other_line line ≡ true → IsOwn source → ⊥
+  other_lined k line low at other own = false≢true (sym own.lines ∙ list_any_at is_other_line (lines (source_text source)) k line low (ap is_other_line (sym at) ∙ other))
 
--- one with a line of another
-pub other_lined : (source : Source) (k : ℕ) (line : List ℕ) → k < length (lines (source_text source)) → line ≡ get_or (lines (source_text source)) k line → is_other_line line ≡ true → HasOwnName source → HasOwnLines source → ⊥
-other_lined source k line low at other name own =
-    false≢true (sym own ∙ list_any_at is_other_line (lines (source_text source)) k line low (ap is_other_line (sym at) ∙ other))
+  -- one with neither
+  pub own_file : (label : List ℕ) → IsLastPart (string_bytes source.name) label → list_any (bytes_eq label) other_names ≡ false → list_any is_other_line (lines (source_text source)) ≡ false → IsOwn source
+  own_file label last none own = record { name = λ part is. ap (λ l. list_any (bytes_eq l) other_names) (last_same (string_bytes source.name) part label is last) ∙ none; lines = own }
 
--- one with a part of TOML
-pub other_part : (source : Source) → has_part (codes "[[package]]") (source_text source) ≡ true → IsPairFile source → ⊥
-other_part source has is = false≢true (sym is.toml ∙ has)
+-- the lines so far, and one more
+abbrev pub NoneOf : List (Bor (List ℕ)) → Type 0
+NoneOf passed = list_any is_other_line (map (λ x. x.now) passed) ≡ false
 
--- a line that begins as one of those of other files
-pub begun_line : (k : ℕ) (line : List ℕ) → k < length other_starts → HasPrefixMatch (FindsTextPrefix (get_or other_starts k [])) line → is_other_line line ≡ true
-begun_line k line low m = list_any_at (λ start. begins_with start line) other_starts k [] low (begins_by_test (get_or other_starts k []) line m)
+pub none_more : (passed : List (Bor (List ℕ))) (line : Bor (List ℕ)) → NoneOf passed → is_other_line line.now ≡ false → NoneOf (passed ++ line ∷ [])
+none_more passed line none own =
+    let now = λ (x : Bor (List ℕ)). x.now in
+    ap (list_any is_other_line) (map-append now passed (line ∷ []))
+    ∙ (list_any-append is_other_line (map now passed) (line.now ∷ []) ∙ (ap (λ (b : Bool). b || list_any is_other_line (line.now ∷ [])) none ∙ ap (λ (b : Bool). b || false) own))

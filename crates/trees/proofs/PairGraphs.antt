@@ -9,24 +9,17 @@ use Rattle.std.specs.Borrow.{Bor}
 use Rattle.std.specs.Prelude.{All, Any, Contains, filter, flat_map, String, string_bytes}
 use Rattle.std.specs.declared.alloc.Global.{Global}
 use Rattle.std.specs.Str.{bytes_eq}
-use Rattle.serde_json.specs.Data.{Data as JsonData}
-use Rattle.toml.specs.Data.{Data}
 use Rattle.ptree.specs.declared.graph.NodeIndex.{NodeIndex}
 use Rattle.ptree.specs.Graph.{edges_of, numbers_of, turned, weights_of, LacksNode}
 use Rattle.ptree.proofs.Config.FieldLists.{Contains-map}
 use Rattle.trees.specs.declared.deps.Dependencies.{Dependencies}
 use Rattle.trees.specs.declared.deps.Network.{Network}
-use Rattle.trees.specs.declared.failure.Failure.{Failure}
 use Rattle.trees.specs.declared.source.Source.{Source}
-use Rattle.trees.specs.Depending.{pair_words, number, is_need, directed, edge_of, same_edge, firsts, edges_between, HoldsPairs, AreNames, StandsAbove, IsPairFile, IsRooted, IsNoName, HoldsNoGraph}
+use Rattle.trees.specs.Depending.{pair_words, number, is_need, directed, edge_of, same_edge, firsts, edges_between, HoldsPairs, AreNames, StandsAbove, IsRooted}
 use Rattle.trees.specs.DependingParts.{texts_of, labels_of, needs_of, paths_of, HasRoot, HoldsNone, IsNetworkOf, IsNetworkOfPairs, IsWhole, IsWithin}
-use Rattle.trees.specs.Meaning.{IsGraphOf, IsLockFile, MeansTables}
-use Rattle.trees.specs.Locking.{tables_in}
-use Rattle.trees.specs.Npm.{AreNodePaths, IsNpmLockFile, MeansPackages}
-use Rattle.trees.specs.Reading.{FailsFor}
+use Rattle.trees.specs.Meaning.{IsGraphOf}
 use Rattle.trees.specs.Shown.{shown_text}
 use Rattle.trees.proofs.Pairs.{pairs_unique}
-use Rattle.trees.proofs.Readings.{fails_weaker}
 
 -- ## Words of pairs
 
@@ -166,6 +159,7 @@ pub graph_held : (source : Source) (name : Option (Bor (List ℕ))) (is_inverse 
     → drawn.labels ≡ rooted.labels → drawn.edges.items ≡ reverse rooted.edges.items → map string_bytes (weights_of d.graph) ≡ map (shown_text is_terminal) (labels_of drawn) → edges_of d.graph ≡ needs_of drawn
     → IsGraphOf source name is_inverse is_terminal d
 graph_held source name is_inverse is_terminal read rooted drawn d is root labels turned texts edges = record {
+  understood = is.understood;
   paths = paths_of read;
   names = labels_of read;
   needs = needs_of read;
@@ -188,36 +182,7 @@ graph_whole source name read rooted drawn root whole has labels turned =
     (subst (λ v. All (IsWithin (length (map string_bytes v.items))) (needs_of drawn)) (sym labels)
     (subst (All (IsWithin (length (labels_of rooted)))) (sym (ap (map numbers_of) turned ∙ map_reversed numbers_of rooted.edges.items)) (All-permutation (IsWithin (length (labels_of rooted))) (needs_of rooted) (reverse (needs_of rooted)) (IsPermutation-reverse (needs_of rooted)) within)))
 
--- ## Failures
-
--- a source without pairs has no graph
-pub fails_without : (source : Source) (name : Option (Bor (List ℕ))) (e : Failure) → FailsFor (HoldsNone source) ⊥ e → FailsFor (HoldsNoGraph source name) ⊥ e
-fails_without source name e says = fails_weaker (HoldsNone source) (HoldsNoGraph source name) ⊥ e (λ none pairs held. inl (none pairs held)) says
-
--- nor has one in which the name means no word
-pub fails_unnamed : (source : Source) (name : Option (Bor (List ℕ))) (is_inverse : Bool) (read : Network) (e : Failure) → IsNetworkOf source is_inverse read → IsPairFile source → FailsFor (IsNoName name (paths_of read) (labels_of read)) ⊥ e
-    → FailsFor (HoldsNoGraph source name) ⊥ e
-fails_unnamed source name is_inverse read e net is says =
-    let means = net.means.pairs is in
-    fails_weaker (IsNoName name (paths_of read) (labels_of read)) (HoldsNoGraph source name) ⊥ e
-    (λ none pairs held. inr (
-      labels_of read,
-      subst (λ ps. AreNames ps (labels_of read)) (pairs_unique means.pairs pairs (sym means.held ∙ held)) means.are,
-      subst (λ paths. IsNoName name paths (labels_of read)) (net.means.no_paths is.json) none,
-    )) says
-
--- the packages of a lock file, of which the name means none
-pub unnamed_lock : (source : Source) (name : Option (Bor (List ℕ))) (is_inverse : Bool) (read : Network) (d : Data) → IsNetworkOf source is_inverse read → IsLockFile source d → IsNoName name (paths_of read) (labels_of read)
-    → (names : List (List ℕ)) × (needs : List (ℕ × ℕ)) × MeansTables is_inverse (tables_in d) names needs × IsNoName name [] names
-unnamed_lock source name is_inverse read d net file none =
-    (labels_of read, needs_of read, net.means.tables d file, subst (λ paths. IsNoName name paths (labels_of read)) (net.means.no_paths file.file.json) none)
-
--- and the nodes of one of npm
-pub unnamed_npm : (source : Source) (name : Option (Bor (List ℕ))) (is_inverse : Bool) (read : Network) (lock : JsonData) → IsNetworkOf source is_inverse read → IsNpmLockFile source lock → IsNoName name (paths_of read) (labels_of read)
-    → (paths : List (List ℕ)) × (names : List (List ℕ)) × (needs : List (ℕ × ℕ)) × AreNodePaths lock paths × MeansPackages is_inverse source lock names needs × IsNoName name paths names
-unnamed_npm source name is_inverse read lock net file none = (paths_of read, labels_of read, needs_of read, net.means.npm_paths lock file, net.means.packages lock file, none)
-
 -- a source without lines of words has no pairs
 pub none_held : (source : Source) (found : List (Bor (List ℕ) × Bor (List ℕ))) → length found ≡ 0 → HoldsPairs source (map texts_of found) → HoldsNone source
-none_held source [] empty held = λ pairs other. pairs_unique pairs [] (sym other ∙ held)
+none_held source [] empty held = λ pairs other. pairs_unique pairs [] (sym other.words ∙ held.words)
 none_held source (p ∷ found) empty held = absurd (omega arith)

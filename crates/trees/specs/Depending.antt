@@ -1,6 +1,6 @@
 -- Which graph is drawn of lines of two words.
 use Rattle.std.specs.Borrow.{Bor}
-use Rattle.std.specs.Prelude.{◌≡◌, ◌<◌, ◌↔◌, ◌⊎◌, ℕ, ◌==◌, ◌&&◌, not, Bool, true, false, if◌then◌else◌, List, [], ◌∷◌, ◌++◌, filter, flat_map, length, map, reverse, All, AllPairs, Contains, Option, Some, None, codes, string_bytes}
+use Rattle.std.specs.Prelude.{◌≡◌, ◌≢◌, ◌<◌, ◌↔◌, ℕ, ◌==◌, ◌&&◌, ◌||◌, not, Bool, true, false, if◌then◌else◌, List, [], ◌∷◌, ◌++◌, filter, flat_map, length, map, reverse, All, AllPairs, Contains, Option, Some, None, codes, string_bytes}
 use Rattle.std.specs.Char.{is_whitespace}
 use Rattle.std.specs.Cmp.Lexicographic.{slice_cmp}
 use Rattle.std.specs.List.{list_any, position_or_len, slice_split}
@@ -27,41 +27,42 @@ source_text source = unmarked (string_bytes source.text)
 abbrev pub other_names : List (List ℕ)
 other_names = codes "pnpm-lock.yaml" ∷ codes "yarn.lock" ∷ codes "Cargo.toml" ∷ codes "package.json" ∷ codes "pyproject.toml" ∷ codes "go.mod" ∷ []
 
--- the beginnings of lines that only lock files of pnpm and yarn have
+-- the beginnings of lines that only lock files of pnpm and yarn, and `go.mod` have
 abbrev pub other_starts : List (List ℕ)
-other_starts = codes "lockfileVersion:" ∷ codes "# yarn lockfile " ∷ codes "__metadata:" ∷ []
+other_starts = codes "lockfileVersion:" ∷ codes "# yarn lockfile " ∷ codes "__metadata:" ∷ codes "go 1." ∷ []
 
 -- whether a line begins so
 abbrev pub is_other_line : List ℕ → Bool
 is_other_line line = list_any (λ start. begins_with start line) other_starts
 
 -- a source is no list of another program, by its name and its lines
-abbrev pub HasOwnName : Source → Type 0
-HasOwnName source = (label : List ℕ) → IsLastPart (string_bytes source.name) label → list_any (bytes_eq label) other_names ≡ false
+pub record IsOwn (source : Source) : Type 0 where
+  pub name : (label : List ℕ) → IsLastPart (string_bytes source.name) label → list_any (bytes_eq label) other_names ≡ false
+  pub lines : list_any is_other_line (lines (source_text source)) ≡ false
 
-abbrev pub HasOwnLines : Source → Type 0
-HasOwnLines source = list_any is_other_line (lines (source_text source)) ≡ false
+-- whether its text begins so, behind white space
+abbrev pub begins_as : List ℕ → Source → Bool
+begins_as start source = begins_with start (trim_start (source_text source))
 
--- whether its text begins as an object of JSON
-abbrev pub begins_object : Source → Bool
-begins_object source = begins_with (codes "{") (trim_start (source_text source))
+-- whether it has tables of packages, or says that there are none, as a poetry.lock does
+abbrev pub has_tables : Source → Bool
+has_tables source = has_part (codes "[[package]]") (source_text source) || has_part (codes "package = []") (source_text source)
 
--- a source is no list of another program and no JSON, and it has tables of packages or not
-pub record IsTextFile (has_tables : Bool) (source : Source) : Type 0 where
-  pub name : HasOwnName source
-  pub lines : HasOwnLines source
-  pub json : begins_object source ≡ false
-  pub toml : has_part (codes "[[package]]") (source_text source) ≡ has_tables
+-- a source is no list of another program and no object of JSON, and it has tables of packages or not
+pub record IsTextFile (is_lock : Bool) (source : Source) : Type 0 where
+  pub own : IsOwn source
+  pub json : begins_as (codes "{") source ≡ false
+  pub toml : has_tables source ≡ is_lock
 
 -- it is read as a lock file of npm
 pub record IsNpmFile (source : Source) : Type 0 where
-  pub name : HasOwnName source
-  pub lines : HasOwnLines source
-  pub json : begins_object source ≡ true
+  pub own : IsOwn source
+  pub json : begins_as (codes "{") source ≡ true
 
--- it is read as lines of two words: nothing says that it is a lock file
-abbrev pub IsPairFile : Source → Type 0
-IsPairFile source = IsTextFile false source
+-- it is read as lines of two words: nothing says that it is a lock file, or other JSON or TOML
+pub record IsPairFile (source : Source) : Type 0 where
+  pub file : IsTextFile false source
+  pub list : begins_as (codes "[") source ≡ false
 
 -- ## Lines
 
@@ -82,9 +83,10 @@ word_lines text = filter has_words (map words_of (lines text))
 abbrev pub pair_words : List ℕ × List ℕ → List (List ℕ)
 pair_words p = p.0 ∷ p.1 ∷ []
 
--- the lines of a text that have words are these pairs
-abbrev pub ArePairs : List ℕ → List (List ℕ × List ℕ) → Type 0
-ArePairs text pairs = word_lines text ≡ map pair_words pairs
+-- the lines of a text that have words are these pairs, and none of them is a comment
+pub record ArePairs (text : List ℕ) (pairs : List (List ℕ × List ℕ)) : Type 0 where
+  pub words : word_lines text ≡ map pair_words pairs
+  pub own : All (λ p. p.0 ≢ codes "#") pairs
 
 -- the lines of the source are these pairs
 abbrev pub HoldsPairs : Source → List (List ℕ × List ℕ) → Type 0
@@ -169,7 +171,3 @@ pub record IsGraphFrom (is_terminal : Bool) (texts : List (List ℕ)) (all : Lis
 abbrev pub IsNoName : Option (Bor (List ℕ)) → List (List ℕ) → List (List ℕ) → Type 0
 IsNoName None paths names = ⊥
 IsNoName (Some name) paths names = LacksRoot names paths name.now
-
--- the source holds no pairs, or the name that is asked for means none of their words
-abbrev pub HoldsNoGraph : Source → Option (Bor (List ℕ)) → Type 0
-HoldsNoGraph source root = (pairs : List (List ℕ × List ℕ)) → HoldsPairs source pairs → (pairs ≡ []) ⊎ ((names : List (List ℕ)) × AreNames pairs names × IsNoName root [] names)

@@ -5,12 +5,12 @@ use Rattle.std.specs.Ordering.{nat_cmp, ordering_then}
 use Rattle.std.specs.declared.cmp.Ordering.{Ordering}
 use Rattle.std.specs.List.{list_any, range_with_len}
 use Rattle.std.specs.Str.{bytes_eq}
-use Rattle.std.specs.Prelude.{◌≡◌, ◌≢◌, ◌<◌, ◌+◌, ◌⊎◌, ◌||◌, ℕ, Bool, not, true, false, if◌then◌else◌, List, [], ◌∷◌, ◌++◌, count_by, filter, length, map, slice_index_or, All, AllPairs, Contains, Option, Some, None, string_bytes}
+use Rattle.std.specs.Prelude.{◌≡◌, ◌≢◌, ◌<◌, ◌+◌, ◌⊎◌, ◌||◌, ℕ, Bool, not, true, false, if◌then◌else◌, List, [], ◌∷◌, ◌++◌, count_by, filter, length, map, slice_index_or, All, AllPairs, Contains, Option, Some, None, codes, string_bytes}
 use Rattle.ptree.specs.Graph.{numbers_of}
 use Rattle.trees.specs.declared.deps.Network.{Network}
 use Rattle.trees.specs.declared.source.Source.{Source}
 use Rattle.trees.specs.Depending.{pair_words, same_edge, edges_between, HoldsPairs, AreNames, IsClosed, HasEach, IsUnreached, AreTops, StandsAbove, IsRooted}
-use Rattle.trees.specs.Meaning.{Means}
+use Rattle.trees.specs.Meaning.{IsUnderstood, Means}
 use Rattle.trees.specs.Naming.{is_labelled, passes_at}
 
 -- ## Lines
@@ -24,11 +24,11 @@ abbrev pub found_words : Option (Bor (List ℕ) × Bor (List ℕ)) → List (Lis
 found_words None = []
 found_words (Some p) = pair_words (texts_of p)
 
--- whether there are words, but not two
+-- whether words are no pair: neither none nor two, or those of a comment
 abbrev pub are_no_pair : List (List ℕ) → Bool
 are_no_pair [] = false
 are_no_pair (v ∷ []) = true
-are_no_pair (v ∷ w ∷ []) = false
+are_no_pair (v ∷ w ∷ []) = bytes_eq v (codes "#")
 are_no_pair (v ∷ w ∷ x ∷ ws) = true
 
 -- ## Networks
@@ -176,7 +176,8 @@ IsTopped label old new root = (tops : List ℕ) × All (λ t. t < length (labels
 
 -- a network has the nodes and edges that a source means
 pub record IsNetworkOf (source : Source) (is_inverse : Bool) (n : Network) : Type 0 where
-  pub means : Means source is_inverse (paths_of n) (labels_of n) (needs_of n)
+  pub understood : IsUnderstood source
+  pub means : Means source understood is_inverse (paths_of n) (labels_of n) (needs_of n)
   pub whole : IsWhole n
 
 -- the root of a network is the one that is asked for

@@ -11,7 +11,7 @@ use Rattle.serde_json.specs.Find.{get, as_bool, as_number, as_object, as_str, as
 use Rattle.ptree.specs.File.{json}
 use Rattle.ptree.specs.declared.value.document.DocFormat.TheVariants.{Json}
 use Rattle.trees.specs.declared.source.Source.{Source}
-use Rattle.trees.specs.Depending.{directed, firsts, same_edge, IsNpmFile}
+use Rattle.trees.specs.Depending.{directed, firsts, same_edge}
 use Rattle.trees.specs.Documents.{IsDocumentOf, IsLastPart}
 use Rattle.trees.specs.Locking.{Lacks, non_empty}
 use Rattle.trees.specs.NpmPatterns.{is_file_name, patterns_in, pieces, IsWorkspace, MayHavePatterns}
@@ -310,15 +310,6 @@ pub record IsNpmLock (lock : Data) : Type 0 where
 -- a source is the document of one
 abbrev pub HoldsNpmLock : Source → Data → Type 0
 HoldsNpmLock source lock = IsDocumentOf Json source (json lock) × IsNpmLock lock
-
--- it is the document of none
-abbrev pub HoldsNoNpmLock : Source → Type 0
-HoldsNoNpmLock source = (lock : Data) → HoldsNpmLock source lock → ⊥
-
--- a source is read as a lock file of npm, and has this document
-pub record IsNpmLockFile (source : Source) (lock : Data) : Type 0 where
-  pub file : IsNpmFile source
-  pub document : IsDocumentOf Json source (json lock)
 
 -- ## Labels
 

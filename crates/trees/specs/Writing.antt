@@ -33,10 +33,9 @@ use Rattle.trees.specs.declared.pieces.Pieces.{Pieces}
 use Rattle.trees.specs.declared.source.Source.{Source}
 use Rattle.trees.specs.Asked.{drawing_value, reading_value}
 use Rattle.trees.specs.Changing.{IsConverted, FailsToConvert}
-use Rattle.trees.specs.Depending.{IsNpmFile, IsPairFile, IsTextFile, HoldsNoGraph}
 use Rattle.trees.specs.Documents.{IsPartTree, NamesWrong}
 use Rattle.trees.specs.Listing.{IsListed, FailsToList}
-use Rattle.trees.specs.Meaning.{HasMeaning, HoldsNoLockGraph, HoldsNoNpmGraph, IsGraphOf}
+use Rattle.trees.specs.Meaning.{HoldsNoGraph, IsGraphOf}
 use Rattle.trees.specs.Merging.{IsMergeDrawing, IsMergeCode}
 use Rattle.trees.specs.Outlining.{text_or, HoldsOutline, FailsToOutline, IsReadBack, LosesText}
 use Rattle.trees.specs.Named.{IsReadableValue}
@@ -154,18 +153,15 @@ FailsToGive source (given.Outline outline) e = FailsToOutline source outline e
 abbrev pub Draws : {A : Type 0} → Sources → Source → Given → Drawing → Option (List ℕ) → Option (List ℕ) → Result A Failure → Type 0
 Draws sources source tree drawing old new result = Writes old new result (IsDrawingOf sources drawing (IsGiven source tree)) (FailsToGive source tree)
 
--- the bytes are the drawing, as it is asked for, of a graph: the one that the source means, if that is said
+-- the bytes are the drawing, as it is asked for, of the graph that the source means
 abbrev pub IsNeedsDrawing : Sources → Source → Deps → Drawing → List ℕ → Type 0
 IsNeedsDrawing sources source deps drawing bytes =
-    (d : Dependencies) × (HasMeaning source → IsGraphOf source deps.root deps.is_inverse drawing.screen.is_terminal d) × IsGraphDrawing (drawing_value sources drawing) d deps.walks bytes
+    (d : Dependencies) × IsGraphOf source deps.root deps.is_inverse drawing.screen.is_terminal d × IsGraphDrawing (drawing_value sources drawing) d deps.walks bytes
 
--- what each failure before anything is written says of lines of two words, of lock files with tables of
--- packages, and of those of npm: the source holds no such graph, or one without the root that is asked for,
--- or more than 5,000 levels are asked for, or memory ran out
-pub record FailsToDepend (sources : Sources) (source : Source) (deps : Deps) (drawing : Drawing) (e : Failure) : Type 0 where
-  pub pairs : IsPairFile source → FailsFor (HoldsNoGraph source deps.root ⊎ (5000 < (drawing_value sources drawing).depth)) ⊥ e
-  pub lock : IsTextFile true source → FailsFor (HoldsNoLockGraph source deps.root deps.is_inverse ⊎ (5000 < (drawing_value sources drawing).depth)) ⊥ e
-  pub packages : IsNpmFile source → FailsFor (HoldsNoNpmGraph source deps.root deps.is_inverse ⊎ (5000 < (drawing_value sources drawing).depth)) ⊥ e
+-- what each failure before anything is written says: the source is not understood, or means no graph with the
+-- root that is asked for, or more than 5,000 levels are asked for, or memory ran out
+abbrev pub FailsToDepend : Sources → Source → Deps → Drawing → Failure → Type 0
+FailsToDepend sources source deps drawing = FailsFor (HoldsNoGraph source deps.root deps.is_inverse ⊎ (5000 < (drawing_value sources drawing).depth)) ⊥
 
 -- the drawing of the graph of an input is written
 abbrev pub DrawsNeeds : {A : Type 0} → Sources → Source → Deps → Drawing → Option (List ℕ) → Option (List ℕ) → Result A Failure → Type 0
@@ -223,8 +219,7 @@ AreReports sources inputs pieces is_terminal bytes = (said : List ℕ) × Adds (
 abbrev pub AreSettings : Sources → List ℕ → Type 0
 AreSettings sources bytes = (said : List ℕ) × SaysSettings (effective_config sources) said × (bytes ≡ shown_lines said)
 
--- what a command writes: those that draw an input, the drawing of its tree; `deps`, that of a graph,
--- which is known of lines of two words, of lock files with tables of packages, and of those of npm;
+-- what a command writes: those that draw an input, the drawing of its tree; `deps`, that of its graph;
 -- `indented`, the indented text; `check`, the reports; `convert`, the conversion, which can be turned back;
 -- `diff`, all differences, if they are asked for; `config`, the settings
 abbrev pub WritesOfCommand : {A : Type 0} → Sources → Command → Option (List ℕ) → Option (List ℕ) → Result A Failure → Type 0

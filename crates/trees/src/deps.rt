@@ -1,10 +1,12 @@
 //! Dependencies of lock files and of lists of pairs.
-ghost use Rattle.std.specs.Prelude.{◌≡◌, ⊤, ℕ, List, true, length, map, Any, IfSome, IfOk, IfErr, OnOk, string_bytes};
+ghost use Rattle.std.specs.List.{list_any};
+ghost use Rattle.std.specs.Prelude.{◌≡◌, ⊤, ℕ, List, true, length, map, Any, IfOk, IfErr, MatchOption, OnOk, is_some, string_bytes};
+ghost use Rattle.std.specs.Str.{bytes_eq};
 ghost use Rattle.ptree.specs.Graph.{weights_of, edges_of, LacksNode};
-ghost use Rattle.trees.specs.Depending.{HasOwnLines, HasOwnName, IsNpmFile, IsPairFile, IsTextFile, IsNoName, HoldsNoGraph};
-ghost use Rattle.trees.specs.DependingParts.{labels_of, needs_of, paths_of, HasRoot, HoldsNone, IsEmpty, IsNetworkOf, IsTopped, IsWhole};
-ghost use Rattle.trees.specs.Meaning.{HasMeaning, HoldsNoLock, HoldsNoLockGraph, HoldsNoNpmGraph, IsGraphOf};
-ghost use Rattle.trees.specs.Npm.{HoldsNoNpmLock};
+ghost use Rattle.trees.specs.Depending.{begins_as, has_tables, is_other_line, other_names, IsNoName, IsOwn};
+ghost use Rattle.trees.specs.DependingParts.{labels_of, needs_of, paths_of, HasRoot, IsEmpty, IsNetworkOf, IsTopped, IsWhole};
+ghost use Rattle.trees.specs.LockingParts.{FailsUnless};
+ghost use Rattle.trees.specs.Meaning.{HoldsNoGraph, IsGraphOf, IsUnderstood};
 ghost use Rattle.trees.specs.Reading.{IsInput, FailsFor};
 ghost use Rattle.trees.specs.Shown.{shown_text, AreShownLabels};
 
@@ -28,6 +30,8 @@ const YARN: &str = "lock files of yarn are not supported";
 const MANIFEST: &str = "not a lock file; use the one beside it";
 
 const GO: &str = "not a lock file; use what `go mod graph` prints";
+
+const NEITHER: &str = "neither a lock file nor lines of two words";
 
 /// What is drawn: a graph, and the node at the root.
 #[derive(Drop)]
@@ -96,14 +100,10 @@ pub fn read_dependencies(
     is_terminal: bool,
 ) -> Result<Dependencies, Failure>
     ensures labels { IfOk result (λ d. is_terminal ≡ true → AreShownLabels d.graph) }
-    ensures graph { HasMeaning source.now → IfOk result
+    ensures graph { IfOk result
         (IsGraphOf source.now deps.entry.root deps.entry.is_inverse is_terminal) }
-    ensures failed { IsPairFile source.now
-        → IfErr result (FailsFor (HoldsNoGraph source.now deps.entry.root) ⊥) }
-    ensures refused { IsTextFile true source.now → IfErr result
-        (FailsFor (HoldsNoLockGraph source.now deps.entry.root deps.entry.is_inverse) ⊥) }
-    ensures npm { IsNpmFile source.now → IfErr result
-        (FailsFor (HoldsNoNpmGraph source.now deps.entry.root deps.entry.is_inverse) ⊥) }
+    ensures failed { IfErr result
+        (FailsFor (HoldsNoGraph source.now deps.entry.root deps.entry.is_inverse) ⊥) }
 {
     let mut network = Network {
         labels: Vec::new(alloc),
@@ -127,14 +127,10 @@ fn drawn(
     is_terminal: bool,
 ) -> Result<Dependencies, Failure>
     ensures labels { IfOk result (λ d. is_terminal ≡ true → AreShownLabels d.graph) }
-    ensures graph { HasMeaning source.now → IsEmpty network.old → IfOk result
+    ensures graph { IsEmpty network.old → IfOk result
         (IsGraphOf source.now name.entry network.old.is_inverse is_terminal) }
-    ensures failed { IsPairFile source.now → IsEmpty network.old
-        → IfErr result (FailsFor (HoldsNoGraph source.now name.entry) ⊥) }
-    ensures refused { IsTextFile true source.now → IsEmpty network.old → IfErr result
-        (FailsFor (HoldsNoLockGraph source.now name.entry network.old.is_inverse) ⊥) }
-    ensures npm { IsNpmFile source.now → IsEmpty network.old → IfErr result
-        (FailsFor (HoldsNoNpmGraph source.now name.entry network.old.is_inverse) ⊥) }
+    ensures failed { IsEmpty network.old → IfErr result
+        (FailsFor (HoldsNoGraph source.now name.entry network.old.is_inverse) ⊥) }
 {
     read_network(alloc, source, network)?;
     let root = root_of(alloc, source, network, name)?;
@@ -146,46 +142,80 @@ fn drawn(
 
 // Reads the dependencies of an input in one of the forms.
 fn read_network(alloc: Global, source: &Source, network: &mut Network) -> Result<(), Failure>
-    ensures held { HasMeaning source.now → IsEmpty network.old → OnOk result
+    ensures held { IsEmpty network.old → OnOk result
         (IsNetworkOf source.now network.old.is_inverse network.new) }
-    ensures failed { IsPairFile source.now → IfErr result (FailsFor (HoldsNone source.now) ⊥) }
-    ensures refused { IsTextFile true source.now
-        → IfErr result (FailsFor (HoldsNoLock source.now) ⊥) }
-    ensures npm { IsNpmFile source.now → IsEmpty network.old
-        → IfErr result (FailsFor (HoldsNoNpmLock source.now) ⊥) }
+    ensures failed { IsEmpty network.old
+        → IfErr result (FailsUnless (IsUnderstood source.now)) }
 {
-    let text = source.unmarked();
     if let Some(wrong) = form_not_read(source) {
         Err(source.wrong(alloc, wrong)?)
-    } else if text.trim_start().starts_with('{') {
+    } else if begins_as(source, "{") {
         npm::package_lock(alloc, source, network)
-    } else if text.contains("[[package]]") {
+    } else if has_tables(source) {
         packages::toml_lock(alloc, source, network)
+    } else if begins_as(source, "[") {
+        Err(source.wrong(alloc, NEITHER)?)
     } else {
         pairs::pairs(alloc, source, network)
     }
 }
 
-// Says of a file that is no lock file, or looks like pairs of words, that it is not read.
-fn form_not_read(source: &Source) -> Option<&'static str>
-    ensures { IfSome result (λ _. HasOwnName source.now → HasOwnLines source.now → ⊥) }
+// Whether an input begins with a text, behind white space.
+fn begins_as(source: &Source, start: &str) -> bool
+    ensures { result ≡ begins_as start.now source.now }
 {
-    match source.label() {
-        "pnpm-lock.yaml" => return Some(PNPM),
-        "yarn.lock" => return Some(YARN),
-        "Cargo.toml" | "package.json" | "pyproject.toml" => return Some(MANIFEST),
-        "go.mod" => return Some(GO),
-        _ => {}
+    source.unmarked().trim_start().starts_with(start)
+}
+
+// Whether an input has tables of packages, or says as a poetry.lock does that there are none.
+fn has_tables(source: &Source) -> bool
+    ensures { result ≡ has_tables source.now }
+{
+    let text = source.unmarked();
+    text.contains("[[package]]") || text.contains("package = []")
+}
+
+// Says of an input that is a list of another program, by its name or a line, that it is not read.
+fn form_not_read(source: &Source) -> Option<&'static str>
+    ensures { MatchOption result (IsOwn source.now) (λ _. IsOwn source.now → ⊥) }
+{
+    if let Some(wrong) = name_not_read(source.label()) {
+        return Some(wrong);
     }
     for line in source.unmarked().lines() {
-        if line.starts_with("lockfileVersion:") {
-            return Some(PNPM);
-        }
-        if line.starts_with("# yarn lockfile ") || line.starts_with("__metadata:") {
-            return Some(YARN);
+        if let Some(wrong) = line_not_read(line) {
+            return Some(wrong);
         }
     }
     None
+}
+
+// Says so of a file with such a name.
+fn name_not_read(name: &str) -> Option<&'static str>
+    ensures { is_some result ≡ list_any (bytes_eq name.now) other_names }
+{
+    match name {
+        "pnpm-lock.yaml" => Some(PNPM),
+        "yarn.lock" => Some(YARN),
+        "Cargo.toml" | "package.json" | "pyproject.toml" => Some(MANIFEST),
+        "go.mod" => Some(GO),
+        _ => None,
+    }
+}
+
+// Says so of a text with such a line.
+fn line_not_read(line: &str) -> Option<&'static str>
+    ensures { is_some result ≡ is_other_line line.now }
+{
+    if line.starts_with("lockfileVersion:") {
+        Some(PNPM)
+    } else if line.starts_with("# yarn lockfile ") || line.starts_with("__metadata:") {
+        Some(YARN)
+    } else if line.starts_with("go 1.") {
+        Some(GO)
+    } else {
+        None
+    }
 }
 
 // Returns the node with a name, or else what nothing needs.

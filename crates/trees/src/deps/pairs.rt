@@ -2,7 +2,7 @@
 ghost use Rattle.std.specs.Cmp.Lexicographic.{slice_cmp};
 ghost use Rattle.std.specs.List.Sorted.{IsStrictlySortedBy};
 ghost use Rattle.std.specs.Ordering.{nat_cmp};
-ghost use Rattle.std.specs.Prelude.{◌≡◌, true, map, Contains, IfOk, IfErr, OnOk, OnErr};
+ghost use Rattle.std.specs.Prelude.{◌≡◌, false, true, map, Contains, IfOk, IfErr, OnOk, OnErr};
 ghost use Rattle.trees.specs.Depending.{words_of, number, AreNames, HoldsPairs};
 ghost use Rattle.trees.specs.DependingParts.{texts_of, found_words, are_no_pair, HasPairs, HoldsNone, IsEmpty, IsNetworkOfPairs};
 ghost use Rattle.trees.specs.Reading.{FailsFor, FailsToMake};
@@ -16,7 +16,8 @@ use std::alloc::{AllocError, Global};
 ///
 /// # Errors
 ///
-/// `Input` with the line that has another number of words, or if there is none, and `Memory`.
+/// `Input` with the line that has another number of words or is a comment, or if there is none, and
+/// `Memory`.
 pub fn pairs(alloc: Global, source: &Source, network: &mut Network) -> Result<(), Failure>
     ensures held { IsEmpty network.old → OnOk result
         (IsNetworkOfPairs source.now network.old.is_inverse network.new) }
@@ -82,12 +83,16 @@ fn push_pairs(
 // Returns the two words of a line, or nothing of a blank one, or else what is wrong with it.
 fn pair(line: &str) -> Result<Option<(&str, &str)>, &'static str>
     ensures words { IfOk result (λ found. words_of line.now ≡ found_words found) }
+    ensures right { OnOk result (are_no_pair (words_of line.now) ≡ false) }
     ensures wrong { OnErr result (are_no_pair (words_of line.now) ≡ true) }
 {
     let mut words = line.split_whitespace();
     let Some(first) = words.next() else {
         return Ok(None);
     };
+    if first == "#" {
+        return Err("expected two words, found a comment");
+    }
     let Some(second) = words.next() else {
         return Err("expected two words, found one");
     };

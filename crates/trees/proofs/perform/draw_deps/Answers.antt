@@ -1,8 +1,7 @@
 use Rattle.std.proofs.Common.{◌<◌, inl, inr, rules}
 use Rattle.std.specs.Prelude.{◌⊎◌}
 use Rattle.trees.specs.Asked.{drawing_value}
-use Rattle.trees.specs.Depending.{HoldsNoGraph}
-use Rattle.trees.specs.Meaning.{HoldsNoLockGraph, HoldsNoNpmGraph}
+use Rattle.trees.specs.Meaning.{HoldsNoGraph}
 use Rattle.trees.specs.Reading.{FailsFor}
 use Rattle.trees.specs.Writing.{Writes, IsGraphDrawing, IsNeedsDrawing, FailsToDepend}
 use Rattle.trees.proofs.Readings.{fails_weaker}
@@ -21,11 +20,7 @@ returns-clause-written g c =
     let old = g.W.Sink.contents c.args.out.now in
     let drawn : Writes old (g.W.Sink.contents c.draw-drawn.new.out) c.draw-drawn.result (IsGraphDrawing (drawing_value sources c.args.drawing) found deps.walks) (FailsFor deep ⊥) = search rules in
     writes_weaker old (g.W.Sink.contents c.draw-drawn.new.out) c.draw-drawn.result (IsGraphDrawing (drawing_value sources c.args.drawing) found deps.walks) (IsNeedsDrawing sources source deps c.args.drawing) (FailsFor deep ⊥) (FailsToDepend sources source deps c.args.drawing)
-    (λ bytes drawing. (found, c.in_ok-dependencies.ensures.graph, drawing)) (λ e says. record {
-      pairs = λ is. fails_weaker deep (HoldsNoGraph source deps.root ⊎ deep) ⊥ e inr says;
-      lock = λ is. fails_weaker deep (HoldsNoLockGraph source deps.root deps.is_inverse ⊎ deep) ⊥ e inr says;
-      packages = λ is. fails_weaker deep (HoldsNoNpmGraph source deps.root deps.is_inverse ⊎ deep) ⊥ e inr says;
-    }) drawn
+    (λ bytes drawing. (found, c.in_ok-dependencies.ensures.graph, drawing)) (λ e says. fails_weaker deep (HoldsNoGraph source deps.root deps.is_inverse ⊎ deep) ⊥ e inr says) drawn
 
 pub returns-in_err-dependencies-clause-written : goal.returns-in_err-dependencies-clause-written
 returns-in_err-dependencies-clause-written g c =
@@ -34,11 +29,7 @@ returns-in_err-dependencies-clause-written g c =
     let deps = c.args.deps in
     let deep : Type 0 = 5000 < (drawing_value sources c.args.drawing).depth in
     let e = c.in_err-dependencies.field-0.0 in
-    let fails : FailsToDepend sources source deps c.args.drawing e = record {
-      pairs = λ is. fails_weaker (HoldsNoGraph source deps.root) (HoldsNoGraph source deps.root ⊎ deep) ⊥ e inl (c.in_err-dependencies.ensures.failed is);
-      lock = λ is. fails_weaker (HoldsNoLockGraph source deps.root deps.is_inverse) (HoldsNoLockGraph source deps.root deps.is_inverse ⊎ deep) ⊥ e inl (c.in_err-dependencies.ensures.refused is);
-      packages = λ is. fails_weaker (HoldsNoNpmGraph source deps.root deps.is_inverse) (HoldsNoNpmGraph source deps.root deps.is_inverse ⊎ deep) ⊥ e inl (c.in_err-dependencies.ensures.npm is);
-    } in
+    let fails : FailsToDepend sources source deps c.args.drawing e = fails_weaker (HoldsNoGraph source deps.root deps.is_inverse) (HoldsNoGraph source deps.root deps.is_inverse ⊎ deep) ⊥ e inl c.in_err-dependencies.ensures.failed in
     nothing_written (g.W.Sink.contents c.args.out.now) c.from_residual.result (IsNeedsDrawing sources source deps c.args.drawing) (FailsToDepend sources source deps c.args.drawing) (search rules) (search (rules, fails))
 
 -- the labels are as a terminal may get them
