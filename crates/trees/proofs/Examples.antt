@@ -35,8 +35,15 @@ zeros = refl
 mixed : are_wrong true None (codes "a" ∷ [] ∷ codes "/b" ∷ []) ≡ true
 mixed = refl
 
-alike : are_wrong true None (codes "/a" ∷ [] ∷ codes "//b" ∷ []) ≡ false
+alike : are_wrong false None (codes "/a" ∷ [] ∷ codes "//b" ∷ []) ≡ false
 alike = refl
+
+-- the last one has its zero byte, and lacks it
+ended : are_wrong true None (path_lines true (97 ∷ 0 ∷ 98 ∷ 0 ∷ [])) ≡ false
+ended = refl
+
+cut : are_wrong true None (path_lines true (97 ∷ 0 ∷ 98 ∷ [])) ≡ true
+cut = refl
 
 -- ## Indented text
 

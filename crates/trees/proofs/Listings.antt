@@ -14,9 +14,9 @@ use Rattle.ptree_trees.proofs.PartTexts.{begins}
 use Rattle.ptree_trees.proofs.PathTrees.{names_have}
 use Rattle.trees.specs.declared.command.Paths.{Paths}
 use Rattle.trees.specs.declared.source.Source.{Source}
-use Rattle.trees.specs.Listing.{byte_order_mark, unmarked, source_lines, path_names, given_paths, is_absolute, is_relative, is_quoted, is_wrong_path, are_wrong, root_text, IsFolders, HasPaths, IsListing}
+use Rattle.trees.specs.Listing.{byte_order_mark, unmarked, source_lines, path_names, given_paths, is_absolute, is_relative, is_quoted, is_cut_off, is_wrong_path, are_wrong, root_text, IsFolders, HasPaths, IsListing}
 use Rattle.trees.proofs.PathNames.{own_count}
-use Rattle.trees.specs.ListingParts.{own_names, is_first_absolute, beside, is_unlike, is_wrong_line}
+use Rattle.trees.specs.ListingParts.{own_names, is_first_absolute, beside, is_unlike, is_wrong_line, are_wrong_lines}
 
 -- ## Texts
 
@@ -123,24 +123,25 @@ any_none [] = refl
 any_none (l ∷ lines) = any_none lines
 
 -- of the values of a list
-any_map : (w : List ℕ → Bool) (lines : List (Bor (List ℕ))) → list_any (λ l. w l.now) lines ≡ list_any w (map (λ l. l.now) lines)
+pub any_map : (w : List ℕ → Bool) (lines : List (Bor (List ℕ))) → list_any (λ l. w l.now) lines ≡ list_any w (map (λ l. l.now) lines)
 any_map w [] = refl
 any_map w (l ∷ lines) = ap (λ (x : Bool). w l.now || x) (any_map w lines)
 
--- one line is wrong beside the first exactly if the paths are wrong
-wrong_is : (ends : Bool) (label : Option (Bor (List ℕ))) (lines : List (List ℕ)) → list_any (is_wrong_line ends (beside label (is_first_absolute lines))) lines ≡ are_wrong ends label lines
-wrong_is ends None lines = any_or (is_wrong_path ends) (is_unlike (Some (is_first_absolute lines))) lines ∙ ap (λ (x : Bool). list_any (is_wrong_path ends) lines || x) (unlike_first lines)
-wrong_is ends (Some label) lines = any_or (is_wrong_path ends) (is_unlike None) lines ∙ ap (λ (x : Bool). list_any (is_wrong_path ends) lines || x) (any_none lines)
+-- the last line is cut off, or one is wrong beside the first, exactly if the paths are wrong
+wrong_is : (ends : Bool) (label : Option (Bor (List ℕ))) (lines : List (List ℕ)) → are_wrong_lines ends (beside label (is_first_absolute lines)) lines ≡ are_wrong ends label lines
+wrong_is ends None lines =
+    ap (λ (x : Bool). is_cut_off ends lines || x) (any_or (is_wrong_path ends) (is_unlike (Some (is_first_absolute lines))) lines ∙ ap (λ (x : Bool). list_any (is_wrong_path ends) lines || x) (unlike_first lines))
+wrong_is ends (Some label) lines =
+    ap (λ (x : Bool). is_cut_off ends lines || x) (any_or (is_wrong_path ends) (is_unlike None) lines ∙ ap (λ (x : Bool). list_any (is_wrong_path ends) lines || x) (any_none lines))
 
 -- the same of the lines of an input
 pub wrong_lines : (source : Source) (paths : Paths) (lines : List (Bor (List ℕ))) (first : Bool) (others : Option Bool) → map (λ l. l.now) lines ≡ source_lines source paths
     → first ≡ is_first_absolute (map (λ l. l.now) lines) → others ≡ beside paths.label first
-    → list_any (λ l. is_wrong_line paths.ends_in_zero others l.now) lines ≡ are_wrong paths.ends_in_zero paths.label (source_lines source paths)
+    → are_wrong_lines paths.ends_in_zero others (map (λ l. l.now) lines) ≡ are_wrong paths.ends_in_zero paths.label (source_lines source paths)
 wrong_lines source paths lines first others same is asks =
     let ends = paths.ends_in_zero in
-    ap (λ (o : Option Bool). list_any (λ l. is_wrong_line ends o l.now) lines) (asks ∙ ap (beside paths.label) is)
-    ∙ (any_map (is_wrong_line ends (beside paths.label (is_first_absolute (map (λ l. l.now) lines)))) lines
-    ∙ (wrong_is ends paths.label (map (λ l. l.now) lines) ∙ ap (are_wrong ends paths.label) same))
+    ap (λ (o : Option Bool). are_wrong_lines ends o (map (λ l. l.now) lines)) (asks ∙ ap (beside paths.label) is)
+    ∙ (wrong_is ends paths.label (map (λ l. l.now) lines) ∙ ap (are_wrong ends paths.label) same)
 
 -- a path has more names than there are levels if what is left of it has
 deep_names : (path left : List ℕ) → own_names left ≡ path_names path → ltb 5000 (length (path_names path)) ≡ ltb 5000 (length (names 47 left))
@@ -185,12 +186,15 @@ stands false f paths h = λ ns n. names_have false (texts_below f ns) (next_name
 
 -- the root's text is that of paths that are right
 root_is : (ends : Bool) (label : Option (Bor (List ℕ))) (lines : List (List ℕ)) → are_wrong ends label lines ≡ false → root_text label (is_first_absolute lines) ≡ root_text label (list_any is_absolute lines)
-root_is ends None lines h = ap (root_text None) (same_first lines (or_parts (list_any (is_wrong_path ends) lines) (list_any is_absolute lines && list_any is_relative lines) h).1)
+root_is ends None lines h =
+    let alike = list_any is_absolute lines && list_any is_relative lines in
+    let right = (or_parts (is_cut_off ends lines) (list_any (is_wrong_path ends) lines || alike) h).1 in
+    ap (root_text None) (same_first lines (or_parts (list_any (is_wrong_path ends) lines) alike right).1)
 root_is ends (Some label) lines h = refl
 
 -- a tree with the root and the folders of lines of which none is wrong is that of the input
 pub listing : (source : Source) (paths : Paths) (t : Tree) (lines : List (Bor (List ℕ))) (first : Bool) (others : Option Bool) → map (λ l. l.now) lines ≡ source_lines source paths
-    → first ≡ is_first_absolute (map (λ l. l.now) lines) → others ≡ beside paths.label first → list_any (λ l. is_wrong_line paths.ends_in_zero others l.now) lines ≡ false
+    → first ≡ is_first_absolute (map (λ l. l.now) lines) → others ≡ beside paths.label first → are_wrong_lines paths.ends_in_zero others (map (λ l. l.now) lines) ≡ false
     → t.text ≡ root_text paths.label first → IsFolders paths.is_sorted t.children (given_paths (map (λ l. l.now) lines)) → IsListing source paths t
 listing source paths t lines first others same is asks right root folders =
     let fits : are_wrong paths.ends_in_zero paths.label (source_lines source paths) ≡ false = sym (wrong_lines source paths lines first others same is asks) ∙ right in

@@ -16,7 +16,7 @@ use Rattle.trees.specs.declared.command.Document.{Document}
 use Rattle.trees.specs.declared.failure.Failure.{Failure}
 use Rattle.trees.specs.declared.failure.Failure.TheVariants.{Usage, Input, Said, Output, Memory}
 use Rattle.trees.specs.declared.source.Source.{Source}
-use Rattle.trees.specs.Documents.{IsDocumentOf, node_at, IsPosition, IsStep, FindsPart, steps_in, LeadsBy, IsPartAsked, IsFirstMissing, SaysMissing, NamesMissing, NamesWrongIn}
+use Rattle.trees.specs.Documents.{IsDocumentOf, node_at, IsNumber, IsStep, FindsPart, steps_in, LeadsBy, IsPartAsked, IsFirstMissing, SaysMissing, NamesMissing, NamesWrongIn}
 use Rattle.trees.specs.Reading.{IsInput, FailsToMake}
 
 -- nothing has both keys and positions
@@ -88,7 +88,7 @@ at_its_position whole text n None is no_key at = no_step whole text n is no_key 
 at_its_position whole text n (Some part) is no_key at = (at_position n, is, at)
 
 -- what stands at the position that a text says
-pub at_said : {V D : Type 0} (file : D → FileNode) (seen : V → D) (whole : FileNode) (text : List ℕ) (n : ℕ) (part : Option V) → IsPosition text n → node_at (at_key text) whole ≡ None
+pub at_said : {V D : Type 0} (file : D → FileNode) (seen : V → D) (whole : FileNode) (text : List ℕ) (n : ℕ) (part : Option V) → IsNumber text n → node_at (at_key text) whole ≡ None
     → node_at (at_position n) whole ≡ option_map file (option_map seen part) → FindsPart whole text (option_map (λ v. file (seen v)) part)
 at_said file seen whole text n part is no_key at = at_its_position whole text n (option_map (λ v. file (seen v)) part) is no_key (at ∙ option_map-option_map file seen part)
 

@@ -34,14 +34,14 @@ abbrev pub node_at : StepValue → FileNode → Option FileNode
 node_at s (json d) = option_map json (json_at_step s d)
 node_at s (toml d) = option_map toml (toml_at_step s d)
 
--- the digits of a text are a position
-abbrev pub IsPosition : List ℕ → ℕ → Type 0
-IsPosition text n = IsNumeral 10 text × (digits_value 10 text ≡ n) × (n < 2 ^ 64)
+-- the digits of a text say a number of 64 bits
+abbrev pub IsNumber : List ℕ → ℕ → Type 0
+IsNumber text n = IsNumeral 10 text × (digits_value 10 text ≡ n) × (n < 2 ^ 64)
 
 -- a text is a step: to the value at this key, or to the element at this position, counted from 0
 abbrev pub IsStep : List ℕ → StepValue → Type 0
 IsStep text (at_key key) = key ≡ text
-IsStep text (at_position n) = IsPosition text n
+IsStep text (at_position n) = IsNumber text n
 
 -- what stands at the step that a text is, or none
 abbrev pub FindsPart : FileNode → List ℕ → Option FileNode → Type 0

@@ -46,3 +46,5 @@ pub mod Settings
 pub mod Writing
 -- documents, their parts and trees
 pub mod Documents
+-- the words of a call
+pub mod Words

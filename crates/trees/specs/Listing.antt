@@ -1,6 +1,6 @@
 -- What is drawn of paths.
 use Rattle.std.specs.Borrow.{Bor}
-use Rattle.std.specs.Prelude.{◌≡◌, ◌⊎◌, ℕ, ◌==◌, ◌&&◌, ◌||◌, not, nat_lt, Bool, true, false, if◌then◌else◌, List, [], ◌∷◌, drop, filter, length, map, codes, Option, Some, None, is_none, string_bytes}
+use Rattle.std.specs.Prelude.{◌≡◌, ◌⊎◌, ℕ, ◌-◌, ◌==◌, ◌&&◌, ◌||◌, not, nat_lt, Bool, true, false, if◌then◌else◌, List, [], ◌∷◌, drop, filter, get_or, length, map, codes, Option, Some, None, is_none, string_bytes}
 use Rattle.std.specs.List.{list_all, list_any, slice_split}
 use Rattle.std.specs.Str.Lines.{lines}
 use Rattle.ptree.specs.Tree.{Forest, Tree}
@@ -91,9 +91,14 @@ is_quoted (b ∷ path) = b == 34
 abbrev pub is_wrong_path : Bool → List ℕ → Bool
 is_wrong_path ends_in_zero path = list_any (λ b. b == 0) path || (nat_lt 5000 (length (path_names path)) || (not ends_in_zero && is_quoted path))
 
--- whether paths are wrong: one is by itself, or without a label only some begin with a slash
+-- whether paths end in a zero byte, but the last one does not: behind the last zero byte is a text
+abbrev pub is_cut_off : Bool → List (List ℕ) → Bool
+is_cut_off ends_in_zero lines = ends_in_zero && not (is_empty (get_or lines (length lines - 1) []))
+
+-- whether paths are wrong: the last one is cut off, or one is wrong by itself, or without a label only some
+-- begin with a slash
 abbrev pub are_wrong : Bool → Option (Bor (List ℕ)) → List (List ℕ) → Bool
-are_wrong ends_in_zero label lines = list_any (is_wrong_path ends_in_zero) lines || (is_none label && (list_any is_absolute lines && list_any is_relative lines))
+are_wrong ends_in_zero label lines = is_cut_off ends_in_zero lines || (list_any (is_wrong_path ends_in_zero) lines || (is_none label && (list_any is_absolute lines && list_any is_relative lines)))
 
 -- ## Trees
 

@@ -1,5 +1,5 @@
 //! Documents as trees, with floats and dates as the crates of their formats write them.
-ghost use Rattle.std.specs.Prelude.{◌≡◌, ◌<◌, ◌∷◌, ◌++◌, ⊤, ℕ, true, [], map, length, codes, option_map, string_bytes, IfOk, IfErr, OnOk, MatchOption};
+ghost use Rattle.std.specs.Prelude.{◌≡◌, ◌<◌, ◌∷◌, ◌++◌, ⊤, true, [], map, length, codes, option_map, string_bytes, IfOk, IfErr, OnOk, MatchOption};
 ghost use Rattle.serde_json.specs.View as json_view;
 ghost use Rattle.toml.specs.View as toml_view;
 ghost use Rattle.ptree.specs.declared.value.document.DocFormat.{DocFormat};
@@ -7,12 +7,13 @@ ghost use Rattle.ptree.specs.declared.value.document.DocFormat.TheVariants.{Json
 ghost use Rattle.ptree.specs.File.{FileNode, json, toml};
 ghost use Rattle.ptree.specs.Tree.{tree_of};
 ghost use Rattle.ptree_trees.specs.RefusedPath.{Path, step_of, path_of};
-ghost use Rattle.trees.specs.Documents.{IsDocumentOf, IsPosition, FindsPart, steps_in, LeadsBy, IsPartAsked, IsFirstRefused, IsAllowed, IsNodeTree, IsRootText, IsTreeIn, IsPartTree, refused_kind, step_text, steps_text, path_text, place_text, NamesRefused, NamesLine, SaysMissing, NamesMissing, NamesWrongIn, NamesWrong};
+ghost use Rattle.trees.specs.Documents.{IsDocumentOf, FindsPart, steps_in, LeadsBy, IsPartAsked, IsFirstRefused, IsAllowed, IsNodeTree, IsRootText, IsTreeIn, IsPartTree, refused_kind, step_text, steps_text, path_text, place_text, NamesRefused, NamesLine, SaysMissing, NamesMissing, NamesWrongIn, NamesWrong};
 ghost use Rattle.trees.specs.Reading.{IsInput, Says, FailsToMake};
 
 use crate::command::Document;
 use crate::failure::Failure;
 use crate::source::{Source, behind};
+use crate::words::number;
 use ptree::item::StringItem;
 use ptree::print_config::{FileSource, syntax_line};
 use ptree_trees::documents::{Step, json_refused_path, json_tree, toml_refused_path, toml_tree};
@@ -78,7 +79,7 @@ impl Value for serde_json::Value {
     fn part(&self, key: &str) -> Option<&serde_json::Value> {
         match self.get(key) {
             Some(part) => Some(part),
-            None => self.get(position(key)?),
+            None => self.get(number(key)?),
         }
     }
 
@@ -107,7 +108,7 @@ impl Value for toml::Value {
     fn part(&self, key: &str) -> Option<&toml::Value> {
         match self.get(key) {
             Some(part) => Some(part),
-            None => self.get(position(key)?),
+            None => self.get(number(key)?),
         }
     }
 
@@ -118,17 +119,6 @@ impl Value for toml::Value {
     fn tree(&self, alloc: Global, label: &str) -> Result<StringItem, AllocError> {
         toml_tree(alloc, label, self)
     }
-}
-
-// Returns the position, counted from 0, that a key of digits says. Any other key says none, as one
-// with a sign.
-fn position(key: &str) -> Option<usize>
-    ensures { MatchOption result ((n : ℕ) → IsPosition key.now n → ⊥) (IsPosition key.now) }
-{
-    if key.starts_with('+') {
-        return None;
-    }
-    key.parse::<usize>().ok()
 }
 
 /// Returns the tree of a document, or of the part that is asked for.

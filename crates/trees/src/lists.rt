@@ -7,8 +7,8 @@ ghost use Rattle.ptree.specs.Tree.{Tree, tree_of, height};
 ghost use Rattle.ptree_trees.specs.Indented.{begins_blank, AreLineTexts};
 ghost use Rattle.ptree_trees.specs.Parts.{begins_with};
 ghost use Rattle.ptree_trees.specs.Paths.{names, names_of};
-ghost use Rattle.trees.specs.Listing.{byte_order_mark, path_lines, source_lines, from_first, path_names, given_paths, is_absolute, is_relative, is_quoted, are_wrong, root_text, IsFolders, HasPaths, IsListing};
-ghost use Rattle.trees.specs.ListingParts.{own_names, IsBehindStart, is_first_absolute, beside, is_unlike, is_wrong_line};
+ghost use Rattle.trees.specs.Listing.{byte_order_mark, path_lines, source_lines, from_first, path_names, given_paths, is_absolute, is_relative, is_quoted, is_cut_off, are_wrong, root_text, IsFolders, HasPaths, IsListing};
+ghost use Rattle.trees.specs.ListingParts.{own_names, IsBehindStart, is_first_absolute, beside, is_unlike, is_wrong_line, are_wrong_lines};
 ghost use Rattle.trees.specs.Outlining.{is_filled, filled_lines, text_of_lines, line_indent, first_indent, line_bullet, first_bullet, IsRightForm, labelled_lines, IsFormWithin, HoldsOutline, HoldsNoOtherOutline, FailsToOutline, IsKeptText, IsKeptRoot, AreKeptTexts, LosesText, IsReadBack};
 ghost use Rattle.trees.specs.Reading.{FailsFor, FailsToMake};
 ghost use Rattle.trees.specs.Writing.{IsShownForm, IsIndented};
@@ -35,10 +35,10 @@ use std::alloc::{AllocError, Global};
 ///
 /// # Errors
 ///
-/// `Input` with the number of the path if it holds a zero byte, or has more names than there are
-/// levels, or if it is a line that begins with a quotation mark, as one does that git quotes, or if
-/// it begins with `/` and those before it don't, or the reverse, and there is no label. `Memory` if
-/// memory ran out.
+/// `Input` with the number of the path if it is the last one and lacks the zero byte in which paths
+/// end, or if it holds a zero byte, or has more names than there are levels, or if it is a line that
+/// begins with a quotation mark, as one does that git quotes, or if it begins with `/` and those
+/// before it don't, or the reverse, and there is no label. `Memory` if memory ran out.
 pub fn paths(alloc: Global, source: &Source, paths: Paths<'_>) -> Result<StringItem, Failure>
     ensures listing { IfOk result (λ t. IsListing source.now paths.entry (tree_of t)) }
     // Each path stands in the tree, and nothing else.
@@ -107,7 +107,7 @@ fn beside(label: Option<&str>, are_absolute: bool) -> Option<bool>
     }
 }
 
-// Fails if a path is wrong, with the number of the first one.
+// Fails if the last path is cut off, or else one is wrong, with its number.
 fn check_lines(
     alloc: Global,
     source: &Source,
@@ -116,16 +116,30 @@ fn check_lines(
     ends_in_zero: bool,
 ) -> Result<(), Failure>
     ensures right { OnOk result
-        (list_any (λ l. is_wrong_line ends_in_zero others l.now) lines.now ≡ false) }
+        (are_wrong_lines ends_in_zero others (map (λ l. l.now) lines.now) ≡ false) }
     ensures failed { IfErr result (FailsFor
-        (list_any (λ l. is_wrong_line ends_in_zero others l.now) lines.now ≡ true) ⊥) }
+        (are_wrong_lines ends_in_zero others (map (λ l. l.now) lines.now) ≡ true) ⊥) }
 {
+    if is_cut_off(lines, ends_in_zero) {
+        let wrong = "the path has no zero byte at its end; without -0 paths are lines";
+        return Err(source.wrong_at(alloc, lines.len(), wrong)?);
+    }
     for (i, line) in lines.iter().enumerate() {
         if let Some(wrong) = wrong_line(line, others, ends_in_zero) {
             return Err(source.wrong_at(alloc, i.saturating_add(1), wrong)?);
         }
     }
     Ok(())
+}
+
+// Whether paths end in a zero byte, but the last one does not.
+fn is_cut_off(lines: &[&str], ends_in_zero: bool) -> bool
+    ensures { result ≡ is_cut_off ends_in_zero (map (λ l. l.now) lines.now) }
+{
+    match lines.last() {
+        Some(path) => ends_in_zero && !path.is_empty(),
+        None => false,
+    }
 }
 
 // Returns what is wrong with a path, if anything.

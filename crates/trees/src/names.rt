@@ -77,9 +77,11 @@ impl CommandName {
         None
     }
 
-    /// Returns the command that draws a file with such a name.
+    /// Returns the command that draws a file with such a name. An option is no file.
     pub fn of_file(name: &str) -> Option<CommandName> {
-        if name.ends_with(".json") {
+        if name.starts_with('-') {
+            None
+        } else if name.ends_with(".json") {
             Some(CommandName::Json)
         } else if name.ends_with(".toml") {
             Some(CommandName::Toml)

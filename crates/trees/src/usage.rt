@@ -53,6 +53,9 @@ pub enum Usage<'a> {
     /// A text cannot be the root of an outline.
     Label,
 
+    /// Standard input is named twice.
+    InputTwice,
+
     /// `config` is given a file.
     ConfigFile,
 
@@ -102,6 +105,7 @@ impl<'a> Usage<'a> {
             Usage::Unit => ("--unit needs a number from 1 to 99, or tab", "", ""),
             Usage::Bullet => ("", Opt::Bullet.word(), ONE_LINE),
             Usage::Label => ("", Opt::Label.word(), ONE_LINE),
+            Usage::InputTwice => ("standard input can be read only once", "", ""),
             Usage::ConfigFile => ("config takes no file", "", ""),
             Usage::TwoFiles => ("diff needs two files", "", ""),
             Usage::OneFile => ("more than one file", "", ""),

@@ -1,7 +1,9 @@
 //! Reads the words of a call: the command, its options and its files.
-ghost use Rattle.std.specs.Prelude.{[], IfOk};
+ghost use Rattle.std.specs.Prelude.{ℕ, [], IfOk, MatchOption};
 ghost use Rattle.ptree_trees.specs.Indented.{IsUnit};
+ghost use Rattle.trees.specs.Documents.{IsNumber};
 ghost use Rattle.trees.specs.Outlining.{text_or, IsRightBullet, HasRightOptions};
+ghost use Rattle.trees.specs.Words.{NamesInputOnce};
 
 use crate::command::{
     Command, Convert, Deps, Diff, Document, Drawing, Indented, Outline, Paths, Tree,
@@ -29,6 +31,7 @@ pub struct Words<'a> {
 
     // The files, of which `-` is standard input.
     files: Vec<&'a str>,
+    ghost once: { NamesInputOnce files.items },
 }
 
 impl<'a> Words<'a> {
@@ -40,8 +43,8 @@ impl<'a> Words<'a> {
     ///
     /// # Errors
     ///
-    /// If there is no such command, or it has no such option, or a value is missing or too much,
-    /// and `Memory`.
+    /// If there is no such command, or it has no such option, or a value is missing or too much, or
+    /// standard input is named twice, and `Memory`.
     pub fn parse(alloc: Global, words: &'a [String]) -> Result<Words<'a>, Usage<'a>> {
         let (name, others) = split_command(words)?;
         let mut call = Words {
@@ -51,7 +54,7 @@ impl<'a> Words<'a> {
         };
         call.push_words(others)?;
         if call.files.is_empty() && name != CommandName::Config {
-            call.files.push("-")?;
+            call.push_file("-")?;
         }
         Ok(call)
     }
@@ -66,7 +69,7 @@ impl<'a> Words<'a> {
                 self.given.push((option, word))?;
                 waiting = None;
             } else if only_files || !word.starts_with('-') || word == "-" {
-                self.files.push(word)?;
+                self.push_file(word)?;
             } else if word == "--" {
                 only_files = true;
             } else {
@@ -76,6 +79,15 @@ impl<'a> Words<'a> {
         if let Some(option) = waiting {
             return Err(Usage::NoValue(option));
         }
+        Ok(())
+    }
+
+    // Takes a file. Standard input can be read only once.
+    fn push_file(&mut self, word: &'a str) -> Result<(), Usage<'a>> {
+        if word == "-" && self.files.contains(&"-") {
+            return Err(Usage::InputTwice);
+        }
+        self.files.push(word)?;
         Ok(())
     }
 
@@ -115,7 +127,9 @@ impl<'a> Words<'a> {
     }
 
     /// Returns the paths of the inputs, of which `-` is standard input.
-    pub fn inputs(&self) -> &[&'a str] {
+    pub fn inputs(&self) -> &[&'a str]
+        ensures { NamesInputOnce result.now }
+    {
         self.files.as_slice()
     }
 
@@ -275,9 +289,9 @@ impl<'a> Words<'a> {
         let Some(word) = self.value(Opt::Depth) else {
             return Ok(None);
         };
-        match word.parse::<u32>() {
-            Ok(depth) => Ok(Some(depth)),
-            Err(_) => Err(Usage::Depth(word)),
+        match number(word) {
+            Some(depth) if depth <= u32::MAX as usize => Ok(Some(depth as u32)),
+            _ => Err(Usage::Depth(word)),
         }
     }
 
@@ -300,13 +314,23 @@ fn parse_unit(word: &str) -> Result<&'static str, Usage<'static>>
     if word == "tab" {
         return Ok("\t");
     }
-    match word.parse::<usize>() {
-        Ok(n) if 0 < n => match BLANKS.get(..n) {
+    match number(word) {
+        Some(n) if 0 < n => match BLANKS.get(..n) {
             Some(unit) => Ok(unit),
             None => Err(Usage::Unit),
         },
         _ => Err(Usage::Unit),
     }
+}
+
+/// Returns the number that a word of digits says. Any other word says none, as one with a sign.
+pub fn number(word: &str) -> Option<usize>
+    ensures { MatchOption result ((n : ℕ) → IsNumber word.now n → ⊥) (IsNumber word.now) }
+{
+    if word.starts_with('+') {
+        return None;
+    }
+    word.parse::<usize>().ok()
 }
 
 // Returns the command that the first word names, and its words: those behind it, or all if the

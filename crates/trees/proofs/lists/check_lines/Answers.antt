@@ -1,20 +1,33 @@
-use Rattle.std.proofs.Common.{◌≡◌, ◌∙◌, ℕ, Bool, true, false, List, [], get_or, take, subst, rules}
-use Rattle.std.proofs.lemmas.Bool.{or_from}
+use Rattle.std.proofs.Common.{◌≡◌, ◌∙◌, ℕ, Bool, true, false, List, [], get_or, map, take, sym, subst, rules}
+use Rattle.std.proofs.lemmas.Bool.{or_from, or_left, or_right}
 use Rattle.std.proofs.lemmas.List.{take_all}
 use Rattle.std.proofs.lemmas.List.Folds.{list_any_more, list_any_at}
 use Rattle.std.specs.Borrow.{Bor}
 use Rattle.std.specs.List.{list_any}
-use Rattle.trees.specs.ListingParts.{is_wrong_line}
+use Rattle.trees.specs.Listing.{is_cut_off}
+use Rattle.trees.specs.ListingParts.{is_wrong_line, are_wrong_lines}
+use Rattle.trees.proofs.Listings.{any_map}
 use Rattle.trees.proofs.Readings.{fails_by_input}
 use Rattle.trees.proofs.lists.check_lines.Goals as goal
+
+pub returns-then-is_cut_off-clause-failed : goal.returns-then-is_cut_off-clause-failed
+returns-then-is_cut_off-clause-failed c =
+    let texts = map (λ (l : Bor (List ℕ)). l.now) c.args.lines.now in
+    let others = c.args.others in
+    let cut : is_cut_off c.args.ends_in_zero texts ≡ true = search rules in
+    fails_by_input (are_wrong_lines c.args.ends_in_zero others texts ≡ true) ⊥ c.in_ok-wrong_at.field-0 c.in_ok-wrong_at.ensures.input
+    (or_left (is_cut_off c.args.ends_in_zero texts) (list_any (is_wrong_line c.args.ends_in_zero others) texts) cut)
 
 pub returns-in-Some-clause-failed : goal.returns-in-Some-clause-failed
 returns-in-Some-clause-failed c =
     let lines = c.args.lines.now in
+    let texts = map (λ (l : Bor (List ℕ)). l.now) lines in
     let i = c.loop-i.i in
-    let wrong : Bor (List ℕ) → Bool = λ x. is_wrong_line c.args.ends_in_zero c.args.others x.now in
-    let here : wrong (get_or lines i (record { ref_ptr = (0, 0); now = [] })) ≡ true = search rules in
-    fails_by_input (list_any wrong lines ≡ true) ⊥ c.in_ok-wrong_at.field-0 c.in_ok-wrong_at.ensures.input (list_any_at wrong lines i _ c.loop-i-test.true here)
+    let wrong : List ℕ → Bool = is_wrong_line c.args.ends_in_zero c.args.others in
+    let here : wrong (get_or lines i (record { ref_ptr = (0, 0); now = [] })).now ≡ true = search rules in
+    let some : list_any wrong texts ≡ true = sym (any_map wrong lines) ∙ list_any_at (λ (x : Bor (List ℕ)). wrong x.now) lines i _ c.loop-i-test.true here in
+    fails_by_input (are_wrong_lines c.args.ends_in_zero c.args.others texts ≡ true) ⊥ c.in_ok-wrong_at-2.field-0 c.in_ok-wrong_at-2.ensures.input
+    (or_right (is_cut_off c.args.ends_in_zero texts) (list_any wrong texts) some)
 
 pub loop-i-preserved : goal.loop-i-preserved
 loop-i-preserved c =
@@ -27,5 +40,9 @@ loop-i-preserved c =
 
 pub returns-clause-right : goal.returns-clause-right
 returns-clause-right c =
-    let wrong : Bor (List ℕ) → Bool = λ x. is_wrong_line c.args.ends_in_zero c.args.others x.now in
-    subst (λ (ls : List (Bor (List ℕ))). list_any wrong ls ≡ false) (take_all c.loop-i.i c.args.lines.now c.loop-i-test.false) c.loop-i.invariant
+    let lines = c.args.lines.now in
+    let texts = map (λ (l : Bor (List ℕ)). l.now) lines in
+    let wrong : List ℕ → Bool = is_wrong_line c.args.ends_in_zero c.args.others in
+    let whole : is_cut_off c.args.ends_in_zero texts ≡ false = search rules in
+    let none : list_any (λ (x : Bor (List ℕ)). wrong x.now) lines ≡ false = subst (λ (ls : List (Bor (List ℕ))). list_any (λ x. wrong x.now) ls ≡ false) (take_all c.loop-i.i lines c.loop-i-test.false) c.loop-i.invariant in
+    or_from (is_cut_off c.args.ends_in_zero texts) (list_any wrong texts) whole (sym (any_map wrong lines) ∙ none)

@@ -1,10 +1,9 @@
 use Rattle.std.proofs.Common.{◌≡◌, ◌∙◌, ℕ, true, false, List, map, ap, sym, subst, rules}
 use Rattle.std.specs.Borrow.{Bor}
-use Rattle.std.specs.List.{list_any}
 use Rattle.ptree.specs.Tree.{Tree, tree_of}
 use Rattle.ptree_trees.specs.Paths.{names_of}
 use Rattle.trees.specs.Listing.{source_lines, path_lines, given_paths, are_wrong, root_text, IsFolders}
-use Rattle.trees.specs.ListingParts.{is_first_absolute, beside, is_wrong_line}
+use Rattle.trees.specs.ListingParts.{is_first_absolute, beside, are_wrong_lines}
 use Rattle.trees.proofs.Listings.{wrong_lines, listing, stands}
 use Rattle.trees.proofs.Readings.{fails_weaker}
 use Rattle.trees.proofs.lists.paths.Goals as goal
@@ -20,7 +19,7 @@ returns-in_err-check_lines-clause-failed c =
     let is : first ≡ is_first_absolute (map (λ (l : Bor (List ℕ)). l.now) lines) = search rules in
     let asks : others ≡ beside paths.label first = search rules in
     let wrong = wrong_lines source paths lines first others same is asks in
-    let one : (ls : List (Bor (List ℕ))) → Type 0 = λ ls. list_any (λ (l : Bor (List ℕ)). is_wrong_line paths.ends_in_zero others l.now) ls ≡ true in
+    let one : (ls : List (Bor (List ℕ))) → Type 0 = λ ls. are_wrong_lines paths.ends_in_zero others (map (λ (l : Bor (List ℕ)). l.now) ls) ≡ true in
     let says = fails_weaker (one c.as_slice-2.result.now) (are_wrong paths.ends_in_zero paths.label (source_lines source paths) ≡ true) ⊥ c.in_err-check_lines.field-0.0 (λ h. sym wrong ∙ subst one c.as_slice-2.ensures.value h) c.in_err-check_lines.ensures.failed in
     search (rules, says)
 
@@ -35,7 +34,7 @@ returns-clause-listing c =
     let same : map (λ (l : Bor (List ℕ)). l.now) lines ≡ source_lines source paths = c.in_ok-lines.ensures ∙ ap (path_lines paths.ends_in_zero) c.unmarked.ensures in
     let is : first ≡ is_first_absolute (map (λ (l : Bor (List ℕ)). l.now) lines) = search rules in
     let asks : others ≡ beside paths.label first = search rules in
-    let right : list_any (λ (l : Bor (List ℕ)). is_wrong_line paths.ends_in_zero others l.now) lines ≡ false = search rules in
+    let right : are_wrong_lines paths.ends_in_zero others (map (λ (l : Bor (List ℕ)). l.now) lines) ≡ false = search rules in
     let root : t.text ≡ root_text paths.label first = search rules in
     let named : names_of 47 c.as_slice-4.result.now ≡ given_paths (map (λ (l : Bor (List ℕ)). l.now) lines) =
     ap (names_of 47) c.as_slice-4.ensures.value ∙ (c.in_ok-given.ensures ∙ ap (λ (ls : List (Bor (List ℕ))). given_paths (map (λ l. l.now) ls)) c.as_slice-3.ensures.value) in

@@ -9,6 +9,6 @@ use Rattle.trees.proofs.document.Serde_jsonValueValue.part.Goals as goal
 pub returns-in-Some : goal.returns-in-Some
 returns-in-Some c = (at_key c.args.key.now, refl, ap (option_map json) (sym c.in-Some.ensures))
 
-pub returns-in_ok-position-in-None : goal.returns-in_ok-position-in-None
-returns-in_ok-position-in-None c =
-    at_said json (λ (v : Bor Value). view v.now) (json (view c.args.self.now)) c.args.key.now c.in_ok-position-in-None.field-0 c.get-in-None.result c.in_ok-position-in-None.ensures (ap (option_map json) (sym c.in-None.ensures)) (ap (option_map json) (sym c.get-in-None.ensures))
+pub returns-in_ok-number-in-None : goal.returns-in_ok-number-in-None
+returns-in_ok-number-in-None c =
+    at_said json (λ (v : Bor Value). view v.now) (json (view c.args.self.now)) c.args.key.now c.in_ok-number-in-None.field-0 c.get-in-None.result c.in_ok-number-in-None.ensures (ap (option_map json) (sym c.in-None.ensures)) (ap (option_map json) (sym c.get-in-None.ensures))
