@@ -13,7 +13,7 @@ use Rattle.ptree.proofs.Trees.ItemTrees.{map_twice}
 use Rattle.toml.specs.Data.{Data, as_table}
 use Rattle.toml.specs.View.{view, members_view}
 use Rattle.toml.specs.declared.value.Value.{Value}
-use Rattle.trees.specs.Locking.{Package, package_cmp, tables_in, AreLed, ArePackages, HasTables, IsLed, IsLock, IsPackage, Leads, NeedsLead}
+use Rattle.trees.specs.Locking.{Package, package_cmp, tables_in, AreLed, ArePackages, HasFormat, HasTables, IsLed, IsLock, IsPackage, Leads, NeedsLead}
 use Rattle.trees.specs.LockingParts.{locked_of, package_of, table_of, AreLocked}
 use Rattle.trees.proofs.LockedEntries.{values_seen}
 use Rattle.trees.proofs.LockedTuples.{Tuple}
@@ -49,8 +49,8 @@ all_leading tables ps n end all led =
 
 -- ## Lock files
 
-pub lock_of : (d : Data) (tables : List Data) (ps : List Tuple) → HasTables d → tables ≡ tables_in d → AreLocked tables ps → All (NeedsLead (map package_of ps)) tables → IsLock d
-lock_of d tables ps has same found led =
+pub lock_of : (d : Data) (tables : List Data) (ps : List Tuple) → HasFormat d → HasTables d → tables ≡ tables_in d → AreLocked tables ps → All (NeedsLead (map package_of ps)) tables → IsLock d
+lock_of d tables ps format has same found led =
     let locked = map (locked_of tables) ps in
     let packages : map package_of ps ≡ map (λ l. l.1) locked = map_twice (locked_of tables) (λ l. l.1) ps in
     let are : ArePackages tables locked = record {
@@ -59,6 +59,7 @@ lock_of d tables ps has same found led =
       ascending = subst (IsStrictlySortedBy package_cmp) packages found.ascending;
     } in
     record {
+      format = format;
       tables = has;
       locked = locked;
       are = subst (λ ts. ArePackages ts locked) same are;

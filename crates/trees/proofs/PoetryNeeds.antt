@@ -1,5 +1,5 @@
 -- Packages that the names in a poetry.lock lead to.
-use Rattle.std.proofs.Common.{◌≡◌, ◌∙◌, ℕ, zero, suc, ◌<◌, ◌||◌, Bool, true, false, cond, List, [], ◌∷◌, ◌++◌, codes, flat_map, length, get_or, map, refl, sym, ap, subst, string_bytes, String}
+use Rattle.std.proofs.Common.{◌≡◌, ◌∙◌, ℕ, zero, suc, ◌<◌, ◌||◌, Bool, true, false, cond, List, [], ◌∷◌, ◌++◌, flat_map, length, get_or, map, refl, sym, ap, subst, string_bytes, String}
 use Rattle.std.proofs.lemmas.Bool.{false≢true, true_from_ne_false}
 use Rattle.std.proofs.lemmas.List.{append-nil}
 use Rattle.std.proofs.lemmas.List.Concat.{flat_map-append}
@@ -12,7 +12,7 @@ use Rattle.std.specs.Option.{option_and}
 use Rattle.std.specs.Prelude.{◌↔◌, Option, Some, None, option_map, slice_get}
 use Rattle.std.specs.declared.alloc.Global.{Global}
 use Rattle.ptree.proofs.Trees.ItemTrees.{map_twice}
-use Rattle.toml.specs.Data.{Data, string, integer, float, boolean, datetime, array, table, Members, as_table, get}
+use Rattle.toml.specs.Data.{Data, string, integer, float, boolean, datetime, array, table, Members, as_table}
 use Rattle.toml.specs.View.{view, members_view}
 use Rattle.toml.specs.declared.value.Value.{Value}
 use Rattle.trees.specs.declared.deps.Network.{Network}
@@ -20,7 +20,7 @@ use Rattle.trees.specs.declared.deps.packages.Fault.TheVariants.{Missing, Severa
 use Rattle.trees.specs.declared.deps.packages.Needing.{Needing}
 use Rattle.trees.specs.Depending.{directed}
 use Rattle.trees.specs.DependingParts.{AddsEdge, IsIndexed}
-use Rattle.trees.specs.Locking.{Package, Known, called, entries_of, is_as, is_locked, locked_entries, members_in, name_entry, normal_name, own_entries, source_text, without_revision, IsLed, IsNeeded, IsNeedTable, Leads, NameLeads, OwnLead}
+use Rattle.trees.specs.Locking.{Package, Known, called, entries_of, is_as, is_locked, locked_entries, members_in, name_entry, normal_name, own_entries, source_in, without_revision, IsLed, IsNeeded, IsNeedTable, Leads, NameLeads, OwnLead}
 use Rattle.trees.specs.LockingParts.{packages_of, AddsEntries, IsFaulty, IsPlaceOf, NameLed}
 use Rattle.trees.proofs.LockedEdges.{needs_none, needs_more}
 use Rattle.trees.proofs.LockedEntries.{is_table, no_entries, both_entries}
@@ -61,13 +61,13 @@ module _ (packages : List Package) (name : List ℕ) where
   -- ## Entries
 
   pub entry_leads : (at : ℕ) → IsNeeded packages known at → Leads packages (name_entry name) at
-  entry_leads at is = (known, record { name = refl; version = refl; source = refl }, is)
+  entry_leads at is = (known, record { name = refl; version = refl; source = refl; kind = refl }, is)
 
   known_called : (k : Known) → IsNeedTable (name_entry name) k → k ≡ known
   known_called k is =
       let own : k.name ≡ name = (let both : Some name ≡ Some k.name = is.name in cc) in
       let version : k.version ≡ None = none_string k.version is.version in
-      let source : k.source ≡ None = is.source ∙ ap (λ (o : Option (List ℕ)). option_map (λ (s : Data). without_revision (source_text s)) (option_and o (get (codes "source") (name_entry name)))) version in
+      let source : k.source ≡ None = is.source ∙ ap (λ (o : Option (List ℕ)). option_map without_revision (option_and o (source_in (name_entry name)))) version in
       ap (λ (n : List ℕ). record k { name = n }) own ∙ (ap (λ (v : Option (List ℕ)). record k { name = name; version = v }) version ∙ ap (λ (s : Option (List ℕ)). record known { source = s }) source) where
         none_string : (o : Option (List ℕ)) → None ≡ option_map string o → o ≡ None
         none_string None e = refl

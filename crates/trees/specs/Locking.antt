@@ -5,10 +5,10 @@ use Rattle.std.specs.List.{before_first, dedup, list_any}
 use Rattle.std.specs.List.Sorted.{IsPermutation, IsStrictlySortedBy}
 use Rattle.std.specs.Option.{option_and, option_and_then, option_or}
 use Rattle.std.specs.Ordering.{nat_cmp, ordering_then}
-use Rattle.std.specs.Prelude.{◌≡◌, ◌≢◌, ◌+◌, ◌<◌, ◌⊎◌, ◌==◌, ◌&&◌, ◌||◌, if◌then◌else◌, ℕ, Bool, not, true, false, is_some, List, [], ◌∷◌, ◌++◌, codes, flat_map, length, map, All, Contains, HoldsAt, Option, Some, None, IfSome, IsSome, MatchOption, option_map, unwrap_or}
+use Rattle.std.specs.Prelude.{◌≡◌, ◌≢◌, ◌+◌, ◌<◌, ◌⊎◌, ◌==◌, ◌&&◌, ◌||◌, if◌then◌else◌, ℕ, Bool, true, false, is_none, is_some, pos, List, [], ◌∷◌, ◌++◌, codes, flat_map, length, map, All, Contains, HoldsAt, Option, Some, None, IfSome, IsSome, MatchOption, option_map, unwrap_or}
 use Rattle.std.specs.Str.{bytes_eq, chars, encode_utf8_all}
 use Rattle.std.specs.declared.cmp.Ordering.{Ordering}
-use Rattle.toml.specs.Data.{Data, string, array, table, Items, no_items, item, Members, no_members, member, get, get_member, same_key, as_array, as_str, as_table}
+use Rattle.toml.specs.Data.{Data, string, array, table, Items, no_items, item, Members, no_members, member, get, get_member, same_key, as_array, as_integer, as_str, as_table}
 use Rattle.trees.specs.Listing.{is_empty}
 
 -- ## Packages
@@ -116,27 +116,27 @@ abbrev pub first_value : Members → Option Data
 first_value no_members = None
 first_value (member key d rest) = Some d
 
--- the text of a source: of a table the one at `url`, or else at its first key
-abbrev pub source_text : Data → List ℕ
-source_text (string text) = text
-source_text (table parts) = unwrap_or (option_and_then as_str (option_or (get_member (codes "url") parts) (first_value parts))) []
-source_text _ = []
+-- the text of a source, if it has one: of a table the one at `url`, or else at its first key
+abbrev pub source_text : Data → Option (List ℕ)
+source_text (string text) = Some text
+source_text (table parts) = option_and_then as_str (option_or (get_member (codes "url") parts) (first_value parts))
+source_text _ = None
 
--- the text of a table's source, or the empty one
+-- the text of a table's source, if it has one
+abbrev pub source_in : Data → Option (List ℕ)
+source_in d = option_and_then source_text (get (codes "source") d)
+
+-- that, or the empty one
 abbrev pub source_of : Data → List ℕ
-source_of d = unwrap_or (option_map source_text (get (codes "source") d)) []
+source_of d = unwrap_or (source_in d) []
 
 -- the version in a package's table; there may be none if the source is a folder, or another table
 abbrev pub IsVersion : Data → List ℕ → Type 0
 IsVersion d version = (text_at (codes "version") d ≡ Some version) ⊎ ((get (codes "version") d ≡ None) × IsSome (option_and_then as_table (get (codes "source") d)) × (version ≡ []))
 
--- whether a value is the source of a package: a text or a table
-abbrev pub is_source : Data → Bool
-is_source d = is_some (as_str d) || is_some (as_table d)
-
--- whether a table has another source
+-- whether a table has a source without a text
 abbrev pub has_wrong_source : Data → Bool
-has_wrong_source d = unwrap_or (option_map (λ s. not (is_source s)) (get (codes "source") d)) false
+has_wrong_source d = is_some (get (codes "source") d) && is_none (source_in d)
 
 -- the package of a table, which no other one replaces
 pub record IsPackage (d : Data) (p : Package) : Type 0 where
@@ -146,11 +146,12 @@ pub record IsPackage (d : Data) (p : Package) : Type 0 where
   pub kind : has_wrong_source d ≡ false
   pub whole : get (codes "replace") d ≡ None
 
--- a table says what is known: its name and, if they are there, its version and with that its source
+-- a table says what is known: its name and, if they are there, its version and with that its source, which has a text
 pub record IsNeedTable (d : Data) (known : Known) : Type 0 where
   pub name : text_at (codes "name") d ≡ Some known.name
   pub version : get (codes "version") d ≡ option_map string known.version
-  pub source : known.source ≡ option_map (λ s. without_revision (source_text s)) (option_and known.version (get (codes "source") d))
+  pub source : known.source ≡ option_map without_revision (option_and known.version (source_in d))
+  pub kind : has_wrong_source d ≡ false
 
 -- what is known of the package that an entry needs
 abbrev pub IsNeed : Data → Known → Type 0
@@ -212,6 +213,31 @@ Leads packages entry at = (known : Known) × IsNeed entry known × IsNeeded pack
 abbrev pub edges_from : ℕ → List (List ℕ) → List (ℕ × ℕ)
 edges_from node [] = []
 edges_from node (places ∷ more) = map (λ at. (node, at)) places ++ edges_from (node + 1) more
+
+-- ## Formats
+
+-- the version of a uv.lock is 1, and that of a Cargo.lock 3 or 4
+abbrev pub IsFormat : Data → Type 0
+IsFormat d = (as_integer d ≡ Some (pos 1)) ⊎ ((as_integer d ≡ Some (pos 3)) ⊎ (as_integer d ≡ Some (pos 4)))
+
+-- a value is a text that begins so
+abbrev pub BeginsAs : List ℕ → Data → Type 0
+BeginsAs start d = (rest : List ℕ) × (as_str d ≡ Some (start ++ rest))
+
+-- the version of a poetry.lock begins with `1.` or `2.`
+abbrev pub IsPoetryFormat : Data → Type 0
+IsPoetryFormat d = BeginsAs (codes "1.") d ⊎ BeginsAs (codes "2.") d
+
+-- what is at `metadata`: a table, whose version and hash, if it has them, are that of a poetry.lock and a text
+pub record IsMetadata (d : Data) : Type 0 where
+  pub table : IsSome (as_table d)
+  pub version : IfSome (get (codes "lock-version") d) IsPoetryFormat
+  pub hash : IfSome (get (codes "content-hash") d) (λ h. IsSome (as_str h))
+
+-- the format of a lock file is known: what it says of that, if anything, is so
+pub record HasFormat (d : Data) : Type 0 where
+  pub version : IfSome (get (codes "version") d) IsFormat
+  pub metadata : IfSome (get (codes "metadata") d) IsMetadata
 
 -- ## Lock files
 
@@ -294,9 +320,10 @@ pub record NeedsLead (packages : List Package) (d : Data) : Type 0 where
   pub optional : IfSome (get (codes "optional-dependencies") d) (AreLed packages)
   pub dev : IfSome (get (codes "dev-dependencies") d) (AreLed packages)
 
--- a document is a lock file: of its tables no two have the same package, and all needs lead to packages
--- of these, but for those in a poetry.lock of which there is no package
+-- a document is a lock file of a known format: of its tables no two have the same package, and all needs lead
+-- to packages of these, but for those in a poetry.lock of which there is no package
 pub record IsLock (d : Data) : Type 0 where
+  pub format : HasFormat d
   pub tables : HasTables d
   pub locked : List (Data × Package)
   pub are : ArePackages (tables_in d) locked

@@ -1,11 +1,11 @@
 //! Lock files with tables `[[package]]`: `Cargo.lock`, `poetry.lock` and `uv.lock`.
 ghost use Rattle.std.specs.List.{list_any};
 ghost use Rattle.std.specs.List.Sorted.{IsStrictlySortedBy};
-ghost use Rattle.std.specs.Prelude.{◌≡◌, ◌<◌, ◌++◌, ◌∷◌, [], if◌then◌else◌, ℕ, length, map, option_copied, option_map, All, Decides, IfOk, IfErr, List, MatchOption, OnOk, codes, string_bytes};
+ghost use Rattle.std.specs.Prelude.{◌≡◌, ◌<◌, ◌++◌, ◌∷◌, [], if◌then◌else◌, ℕ, length, map, option_copied, option_map, All, Decides, IfOk, IfErr, IfSome, IsSome, List, MatchOption, OnOk, codes, string_bytes};
 ghost use Rattle.std.specs.Str.{encode_utf8_all};
-ghost use Rattle.toml.specs.Data.{Data, get};
+ghost use Rattle.toml.specs.Data.{Data, as_str, get};
 ghost use Rattle.toml.specs.View.{table_view, view};
-ghost use Rattle.trees.specs.Locking.{are_dashes, between, changed_at, completed, has_table_of_needs, has_wrong_source, is_behind_name, label_text, non_empty, normal_char, normal_name, normal_table, normal_value, package_cmp, same_version, tables_in, has_hash, ArePackages, HasTables, HasTwin, IsLabel, IsLock, IsPackage, IsVersion, NeedsLead, text_at, source_of, source_text, with_root, without_revision};
+ghost use Rattle.trees.specs.Locking.{are_dashes, between, changed_at, completed, has_table_of_needs, has_wrong_source, is_behind_name, label_text, non_empty, normal_char, normal_name, normal_table, normal_value, package_cmp, same_version, tables_in, has_hash, ArePackages, BeginsAs, HasFormat, HasTables, HasTwin, IsFormat, IsLabel, IsLock, IsMetadata, IsPackage, IsPoetryFormat, IsVersion, NeedsLead, text_at, source_in, source_of, source_text, with_root, without_revision};
 ghost use Rattle.trees.specs.DependingParts.{IsEmpty, IsIndexed};
 ghost use Rattle.trees.specs.LockingParts.{locked_at, package_at, package_of, AddsAll, AddsLabels, AreLocked, FailsUnless, HasLocked, HoldsLocked, Loses, StandOnce};
 ghost use Rattle.trees.specs.Meaning.{HoldsLock};
@@ -14,7 +14,7 @@ ghost use Rattle.trees.specs.Reading.{FailsToMake};
 use crate::deps::{Network, wrong};
 use crate::document::toml_value;
 use crate::failure::Failure;
-use crate::source::Source;
+use crate::source::{Source, behind};
 use std::alloc::{AllocError, Global};
 use toml::{Table, Value};
 
@@ -22,6 +22,10 @@ use toml::{Table, Value};
 type Package<'a> = (&'a str, &'a str, &'a str, usize);
 
 const REPLACED: &str = " is replaced, which is not supported";
+
+const VERSIONS: &str = "versions other than 1, 3 and 4 are not supported";
+
+const LOCK_VERSIONS: &str = "lock-versions other than 1.x and 2.x are not supported";
 
 /// Adds the dependencies of a lock file with tables `[[package]]`.
 ///
@@ -50,10 +54,102 @@ fn read(
     ensures only { OnOk result (IsLock (view lock.old)) }
     ensures failed { IfErr result (FailsUnless (IsLock (view lock.old))) }
 {
+    if let Some(why) = unknown_format(lock) {
+        return Err(wrong(alloc, input, &[why]));
+    }
     let tables = tables(alloc, input, lock)?;
     let packages = packages(alloc, input, tables)?;
     push_labels(alloc, tables, &packages, &mut network.labels)?;
     push_edges(alloc, input, tables, &packages, network)
+}
+
+// Returns what is not known of the format of a lock file, if anything is.
+fn unknown_format(lock: &Value) -> Option<&'static str>
+    ensures { MatchOption result (HasFormat (view lock.now))
+        (λ _. HasFormat (view lock.now) → ⊥) }
+{
+    if !has_version(lock) {
+        return Some(VERSIONS);
+    }
+    match lock.get("metadata") {
+        Some(metadata) => wrong_metadata(metadata),
+        None => None,
+    }
+}
+
+// Whether the version of a lock file, if it has one, is that of a `uv.lock` or a `Cargo.lock`.
+fn has_version(lock: &Value) -> bool
+    ensures { Decides result (IfSome (get (codes "version") (view lock.now)) IsFormat) }
+{
+    match lock.get("version") {
+        Some(version) => is_format(version),
+        None => true,
+    }
+}
+
+// Whether a version is that of a `uv.lock`, or one of those of a `Cargo.lock`.
+fn is_format(version: &Value) -> bool
+    ensures { Decides result (IsFormat (view version.now)) }
+{
+    match version.as_integer() {
+        Some(number) => number == 1 || number == 3 || number == 4,
+        None => false,
+    }
+}
+
+// Returns what is wrong with the `metadata` of a lock file, if anything is.
+fn wrong_metadata(metadata: &Value) -> Option<&'static str>
+    ensures { MatchOption result (IsMetadata (view metadata.now))
+        (λ _. IsMetadata (view metadata.now) → ⊥) }
+{
+    if !metadata.is_table() {
+        Some("metadata is not a table")
+    } else if !has_poetry_version(metadata) {
+        Some(LOCK_VERSIONS)
+    } else if !may_have_hash(metadata) {
+        Some("content-hash is not a text")
+    } else {
+        None
+    }
+}
+
+// Whether the version in `metadata`, if there is one, is that of a `poetry.lock`.
+fn has_poetry_version(metadata: &Value) -> bool
+    ensures { Decides result
+        (IfSome (get (codes "lock-version") (view metadata.now)) IsPoetryFormat) }
+{
+    match metadata.get("lock-version") {
+        Some(version) => is_poetry_format(version),
+        None => true,
+    }
+}
+
+// Whether a version is one of those of a `poetry.lock`.
+fn is_poetry_format(version: &Value) -> bool
+    ensures { Decides result (IsPoetryFormat (view version.now)) }
+{
+    begins_as(version, "1.") || begins_as(version, "2.")
+}
+
+// Whether a value is a text that begins so.
+fn begins_as(value: &Value, start: &str) -> bool
+    ensures { Decides result (BeginsAs start.now (view value.now)) }
+{
+    match value.as_str() {
+        Some(text) => behind(text, start).is_some(),
+        None => false,
+    }
+}
+
+// Whether the hash in `metadata`, if there is one, is a text.
+fn may_have_hash(metadata: &Value) -> bool
+    ensures { Decides result
+        (IfSome (get (codes "content-hash") (view metadata.now)) (λ h. IsSome (as_str h))) }
+{
+    match metadata.get("content-hash") {
+        Some(hash) => hash.is_str(),
+        None => true,
+    }
 }
 
 // Returns the tables of packages. The first versions of Cargo.lock have one of them as `[root]`. In
@@ -282,14 +378,11 @@ fn package<'a>(
     }
 }
 
-// Whether a table has a source that is neither a text nor a table.
+// Whether a table has a source without a text.
 fn has_wrong_source(table: &Value) -> bool
     ensures { result ≡ has_wrong_source (view table.now) }
 {
-    match table.get("source") {
-        Some(source) => !(source.is_str() || source.is_table()),
-        None => false,
-    }
+    table.get("source").is_some() && source_in(table).is_none()
 }
 
 // Whether two packages have one name and version.
@@ -322,31 +415,25 @@ fn version(table: &Value) -> Option<&str>
 fn source_of(table: &Value) -> &str
     ensures { result.now ≡ source_of (view table.now) }
 {
-    match table.get("source") {
-        Some(source) => text_of_source(source),
-        None => "",
-    }
+    source_in(table).unwrap_or("")
 }
 
-// Returns the text of a source: a text, or the URL or the first text of a table.
-fn text_of_source(source: &Value) -> &str
-    ensures { result.now ≡ source_text (view source.now) }
+// Returns the text of a table's source, if it has one.
+fn source_in(table: &Value) -> Option<&str>
+    ensures { option_copied result ≡ source_in (view table.now) }
+{
+    text_of_source(table.get("source")?)
+}
+
+// Returns the text of a source, if it has one: itself, or the URL or the first text of a table.
+fn text_of_source(source: &Value) -> Option<&str>
+    ensures { option_copied result ≡ source_text (view source.now) }
 {
     match source {
-        Value::String(text) => text.as_str(),
-        Value::Table(parts) => match source.get("url").or(parts.values().next()) {
-            Some(part) => part.as_str().unwrap_or(""),
-            None => "",
-        },
-        _ => "",
+        Value::String(text) => Some(text.as_str()),
+        Value::Table(parts) => source.get("url").or(parts.values().next())?.as_str(),
+        _ => None,
     }
-}
-
-// Returns the text of a source without a revision.
-fn source_without_revision(source: &Value) -> &str
-    ensures { result.now ≡ without_revision (source_text (view source.now)) }
-{
-    without_revision(text_of_source(source))
 }
 
 // Returns a source without the `#` and the revision at its end. Needs in a Cargo.lock have none
@@ -754,11 +841,14 @@ impl<'a> Need<'a> {
             → IsFound result known }
     {
         let name = word(table, "name")?;
+        if has_wrong_source(table) {
+            return None;
+        }
         match table.get("version") {
             Some(version) => Some(Need {
                 name,
                 version: Some(version.as_str()?),
-                source: table.get("source").map(source_without_revision),
+                source: source_in(table).map(without_revision),
             }),
             None => Some(Need::of(name)),
         }

@@ -6,11 +6,14 @@ use Rattle.toml.specs.View.{view}
 use Rattle.trees.specs.Locking.{HasTables, IsLock, NeedsLead}
 use Rattle.trees.specs.LockingParts.{package_of, AddsAll, AddsLabels, FailsUnless, HasLocked}
 use Rattle.trees.proofs.LockedEntries.{ok_more}
-use Rattle.trees.proofs.LockedFailures.{fails_leading, fails_unless, fails_unread}
+use Rattle.trees.proofs.LockedFailures.{fails_leading, fails_never, fails_unless, fails_unread}
 use Rattle.trees.proofs.LockedLed.{lock_of}
 use Rattle.trees.proofs.LockedNetworks.{labelled, labelled_indexed, locked_held}
 use Rattle.trees.proofs.LockedTuples.{Tuple}
 use Rattle.trees.proofs.deps.packages.read.Goals as goal
+
+pub returns-in-Some-clause-failed : goal.returns-in-Some-clause-failed
+returns-in-Some-clause-failed c = fails_never (IsLock (view c.args.lock.now)) c.wrong.result (λ lock. c.in-Some.ensures lock.format) c.wrong.ensures
 
 pub returns-in_err-tables-clause-failed : goal.returns-in_err-tables-clause-failed
 returns-in_err-tables-clause-failed c =
@@ -51,5 +54,5 @@ returns-clause-only c =
     let d = view c.args.lock.now in
     let tables = map view c.in_ok-tables.tables.now in
     let ps = c.in_ok-packages.packages.items in
-    ok_more c.push_edges.result (All (NeedsLead (map package_of ps)) tables) (IsLock d) (λ led. lock_of d tables ps c.in_ok-tables.ensures.has c.in_ok-tables.ensures.tables c.in_ok-packages.ensures.locked led)
+    ok_more c.push_edges.result (All (NeedsLead (map package_of ps)) tables) (IsLock d) (λ led. lock_of d tables ps c.in_default.ensures c.in_ok-tables.ensures.has c.in_ok-tables.ensures.tables c.in_ok-packages.ensures.locked led)
     (subst (λ (qs : List Tuple). OnOk c.push_edges.result (All (NeedsLead (map package_of qs)) tables)) c.deref-2.ensures.value c.push_edges.ensures.led)
