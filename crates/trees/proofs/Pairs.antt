@@ -70,9 +70,9 @@ module _ (found : List (Bor (List ℕ) × Bor (List ℕ))) (passed : List (ℕ �
   found_same is = record { words = words_more [] is ∙ append-nil (map pair_words (map texts_of found)); own = so.own }
 
   -- one with a pair
-  pub found_more : (p : Bor (List ℕ) × Bor (List ℕ)) → words_of line.1.now ≡ pair_words (texts_of p) → are_no_pair (words_of line.1.now) ≡ false → AreFound (found ++ p ∷ []) (passed ++ line ∷ [])
-  found_more p is right =
-      let texts : map texts_of (found ++ p ∷ []) ≡ map texts_of found ++ texts_of p ∷ [] = map-append texts_of found (p ∷ []) in
+  pub found_more : (p : Bor (List ℕ) × Bor (List ℕ)) (all : List (Bor (List ℕ) × Bor (List ℕ))) → all ≡ found ++ p ∷ [] → words_of line.1.now ≡ pair_words (texts_of p) → are_no_pair (words_of line.1.now) ≡ false → AreFound all (passed ++ line ∷ [])
+  found_more p all pushed is right =
+      let texts : map texts_of all ≡ map texts_of found ++ texts_of p ∷ [] = ap (map texts_of) pushed ∙ map-append texts_of found (p ∷ []) in
       let own : IsNoComment (texts_of p) = λ same. false≢true (sym right ∙ (ap are_no_pair is ∙ (bytes_eq-Decides p.0.now (codes "#")).1 same)) in
       record {
         words = words_more (pair_words (texts_of p)) is ∙ (sym (map-append pair_words (map texts_of found) (texts_of p ∷ [])) ∙ ap (map pair_words) (sym texts));

@@ -1,12 +1,11 @@
-use Rattle.std.proofs.Common.{◌∙◌, ℕ, List, [], ◌∷◌, ◌++◌, ap, subst, sym}
+use Rattle.std.proofs.Common.{◌∙◌, ℕ, List, ap}
 use Rattle.std.proofs.lemmas.Iterator.Consumers.{YieldsList-from_enumerate, YieldsList-turn, YieldsList-end}
 use Rattle.std.proofs.lemmas.Iterator.Splits.{YieldsList-from_lines}
-use Rattle.std.specs.Borrow.{Bor}
 use Rattle.std.specs.Prelude.{string_bytes}
 use Rattle.trees.specs.Depending.{HoldsPairs}
 use Rattle.trees.specs.Listing.{unmarked}
 use Rattle.trees.specs.DependingParts.{found_words}
-use Rattle.trees.proofs.Pairs.{AreFound, found_more, found_same, wrong_line, passed_all}
+use Rattle.trees.proofs.Pairs.{found_more, found_same, wrong_line, passed_all}
 use Rattle.trees.proofs.Readings.{fails_by_input}
 use Rattle.trees.proofs.deps.pairs.line_pairs.Goals as goal
 
@@ -15,9 +14,7 @@ loop-i-preserved c = found_same c.loop-i.found.items c.loop-i.yielded (c.in-Some
 
 pub loop-i-preserved-in_ok-push-in-Ok-Some : goal.loop-i-preserved-in_ok-push-in-Ok-Some
 loop-i-preserved-in_ok-push-in-Ok-Some c =
-    let line : ℕ × Bor (List ℕ) = (c.in-Some.i, c.in-Some.line) in
-    subst (λ found. AreFound found (c.loop-i.yielded ++ line ∷ [])) (sym c.in_ok-push-in-Ok-Some.ensures.items)
-    (found_more c.loop-i.found.items c.loop-i.yielded line c.loop-i.invariant c.in-Ok-Some.words (c.in-Ok-Some.ensures.words ∙ ap found_words c.in-Ok-Some.field-0-is) c.in-Ok-Some.ensures.right)
+    found_more c.loop-i.found.items c.loop-i.yielded (c.in-Some.i, c.in-Some.line) c.loop-i.invariant c.in-Ok-Some.words c.push.new.self.items c.in_ok-push-in-Ok-Some.ensures.items (c.in-Ok-Some.ensures.words ∙ ap found_words c.in-Ok-Some.field-0-is) c.in-Ok-Some.ensures.right
 
 pub returns-in-Err-clause-failed : goal.returns-in-Err-clause-failed
 returns-in-Err-clause-failed c =
