@@ -1,11 +1,15 @@
--- Paths, indented text and folders of packages by computation.
-use Rattle.std.proofs.Common.{◌≡◌, true, false, None, [], ◌∷◌, ◌++◌, codes, refl}
+-- Paths, first differences, indented text and folders of packages by computation.
+use Rattle.std.proofs.Common.{◌≡◌, true, false, Some, None, [], ◌∷◌, ◌++◌, codes, refl}
 use Rattle.std.proofs.lemmas.List.Elements.{All-nil, All-cons}
 use Rattle.std.specs.Char.{encode_utf8}
+use Rattle.std.specs.Fmt.{digits}
 use Rattle.std.specs.Prelude.{replicate}
 use Rattle.std.specs.Str.{chars}
+use Rattle.ptree.specs.Tree.{none, item, tree}
+use Rattle.trees.specs.declared.compare.Side.TheVariants.{Left, Right}
 use Rattle.trees.specs.Depending.{edges_between, is_other_line, ArePairs}
 use Rattle.trees.specs.Listing.{unmarked, path_lines, path_names, given_paths, are_wrong}
+use Rattle.trees.specs.Merging.{way_text, place_line, side_line}
 use Rattle.trees.specs.Npm.{folders, path_in}
 use Rattle.trees.specs.Outlining.{filled_lines, first_indent, first_bullet}
 use Rattle.trees.proofs.Pairs.{IsNoComment}
@@ -44,6 +48,22 @@ ended = refl
 
 cut : are_wrong true None (path_lines true (97 ∷ 0 ∷ 98 ∷ [])) ≡ true
 cut = refl
+
+-- ## First differences
+
+-- what the page says of a plan: its first child has a child more
+longer : way_text (tree (codes "plan") (item (codes "fence") none none)) (0 ∷ 0 ∷ []) ≡ codes "plan / fence / "
+unfolding chars encode_utf8
+longer = refl
+
+brush : place_line (0 ∷ 0 ∷ []) ++ (side_line Left None ++ side_line Right (Some (codes "brush"))) ≡ codes "child 1\n- (nothing)\n+ brush\n"
+unfolding chars encode_utf8 digits
+brush = refl
+
+-- two roots
+roots : way_text (tree (codes "a") none) [] ++ (place_line [] ++ (side_line Left (Some (codes "a")) ++ side_line Right (Some (codes "\\")))) ≡ codes "root\n- a\n+ \\\\\n"
+unfolding chars encode_utf8
+roots = refl
 
 -- ## Indented text
 

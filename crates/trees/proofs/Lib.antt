@@ -1,6 +1,7 @@
 pub mod Beginnings
 pub mod Conversions
 pub mod DeepLines
+pub mod Differences
 pub mod DistinctTexts
 pub mod Examples
 pub mod Fronts

@@ -1,6 +1,5 @@
 -- Drawings of merges, which are refusals.
-use Rattle.std.proofs.Common.{◌≡◌, ℕ, Bool, false, inl, inr, Option, List, Result, Ok, Err, subst}
-use Rattle.std.proofs.KnownBytes.{Appends-nil}
+use Rattle.std.proofs.Common.{◌≡◌, ℕ, Bool, false, inr, Option, List, Result, Ok, Err, subst}
 use Rattle.std.proofs.lemmas.Bool.{false≢true}
 use Rattle.std.specs.Prelude.{IsErr, IfErr}
 use Rattle.ptree.specs.declared.print_config.OutputKind.TheVariants.{Unknown}
@@ -18,7 +17,6 @@ use Rattle.trees.specs.Merging.{styled_tree_of, look_of, ShowsBoth, IsMergeDrawi
 use Rattle.trees.specs.Reading.{IsWriting}
 use Rattle.trees.specs.Writing.{WritesRefusal}
 use Rattle.trees.proofs.StyledTrees.{shape_of_item}
-use Rattle.trees.proofs.Writings.{writes_weaker}
 
 -- the drawing of an item that shows two trees is that of their merge
 pub merge_drawing : (config : ConfigValue) (is_terminal : Bool) (look : Look) (t u : Tree) (s : StyledItem) (bytes : List ℕ) → look ≡ look_of config is_terminal → ShowsBoth look t u (styled_tree_of s)
@@ -28,25 +26,6 @@ merge_drawing config is_terminal look t u s bytes same shows drawn = (
   subst (λ (k : Look). ShowsBoth k t u (styled_tree_of s)) same shows,
   subst (λ (x : Shape). IsDrawing (look_by config Unknown false) x config.depth bytes) (shape_of_item s) drawn,
 )
-
--- a call that fails before it writes has appended nothing
-pub refuses_early : {A : Type 0} (old : Option (List ℕ)) (r : Result A Failure) (Is : List ℕ → Type 0) (Fails : Failure → Type 0) → (Fails Said → ⊥) → IsErr r → IfErr r Fails → WritesRefusal old old r Is Fails
-refuses_early old (Ok x) Is Fails none err says = absurd (false≢true err)
-refuses_early old (Err (Usage wrong)) Is Fails none err says = inl (says, Appends-nil old)
-refuses_early old (Err (Input wrong)) Is Fails none err says = inl (says, Appends-nil old)
-refuses_early old (Err Said) Is Fails none err says = absurd (none says)
-refuses_early old (Err (Output kind)) Is Fails none err says = inl (says, Appends-nil old)
-refuses_early old (Err Memory) Is Fails none err says = inl (says, Appends-nil old)
-
--- what is written is also what follows of it
-pub refusal_weaker : {A : Type 0} (old new : Option (List ℕ)) (r : Result A Failure) (Is Js : List ℕ → Type 0) (Fails Gives : Failure → Type 0)
-    → ((bytes : List ℕ) → Is bytes → Js bytes) → ((e : Failure) → Fails e → Gives e) → WritesRefusal old new r Is Fails → WritesRefusal old new r Js Gives
-refusal_weaker old new (Ok x) Is Js Fails Gives more why h = h
-refusal_weaker {A} old new (Err (Usage wrong)) Is Js Fails Gives more why h = writes_weaker {A = A} old new (Err (Usage wrong)) Is Js Fails Gives more why h
-refusal_weaker {A} old new (Err (Input wrong)) Is Js Fails Gives more why h = writes_weaker {A = A} old new (Err (Input wrong)) Is Js Fails Gives more why h
-refusal_weaker old new (Err Said) Is Js Fails Gives more why h = (h.0, more h.0 h.1, h.2)
-refusal_weaker {A} old new (Err (Output kind)) Is Js Fails Gives more why h = writes_weaker {A = A} old new (Err (Output kind)) Is Js Fails Gives more why h
-refusal_weaker {A} old new (Err Memory) Is Js Fails Gives more why h = writes_weaker {A = A} old new (Err Memory) Is Js Fails Gives more why h
 
 -- a call that fails in writing has appended a prefix
 pub refuses_part : {A : Type 0} (old new : Option (List ℕ)) (r : Result A Failure) (Is : List ℕ → Type 0) (Fails : Failure → Type 0) (bytes : List ℕ) → IsErr r → IfErr r IsWriting → Is bytes → AppendsPart old new bytes

@@ -26,10 +26,11 @@ use Rattle.trees.specs.declared.failure.Failure.{Failure}
 use Rattle.trees.specs.declared.failure.Failure.TheVariants.{Usage, Input, Said, Output, Memory}
 use Rattle.trees.specs.declared.source.Source.{Source}
 use Rattle.trees.specs.Asked.{asked_config, drawing_value}
-use Rattle.trees.specs.Merging.{IsMergeDrawing, IsMergeCode}
+use Rattle.trees.specs.Merging.{IsComparison, IsMergeCode}
 use Rattle.trees.specs.Outlining.{text_or}
 use Rattle.trees.specs.Shown.{shown_lines, shown_on, AreShownLabels, is_raw, IsNone, IsLookCode, IsShown, ShowsOnly}
 use Rattle.trees.specs.Writing.{Writes, WritesRefusal, IsGraphDrawing, IsDrawingOf, IsShownForm, IsIndentation, ShowsDrawing, ShowsMerged}
+use Rattle.trees.proofs.Differences.{difference_calm}
 use Rattle.trees.proofs.ShownDrawings.{tree_shown, graph_shown}
 use Rattle.trees.proofs.ShownMerges.{merge_drawing_shown}
 use Rattle.trees.proofs.ShownTexts.{feed_calm, lines_calm, escaped_calm, none_shown, both_shown, calm_shown, code_shown}
@@ -127,33 +128,30 @@ nothing_shown b Code a = λ on. ([], none_shown Code, nothing_yet a [])
 pub drawing_nothing : (sources : Sources) (drawing : Drawing) (a : Option (List ℕ)) → ShowsDrawing sources drawing a a
 drawing_nothing sources drawing a = nothing_shown drawing.screen.is_terminal (IsLookCode (look_by (drawing_value sources drawing) Unknown false)) a
 
--- two trees in one
-pub merged_shown : {A : Type 0} (sources : Sources) (drawing : Drawing) (t u : Tree) (old new : Option (List ℕ)) (r : Result A Failure)
-    → WritesRefusal old new r (IsMergeDrawing (drawing_value sources drawing) drawing.screen.is_terminal t u) (λ e. e ≡ Memory) → ShowsMerged sources drawing old new
-merged_shown {A} sources drawing t u old new r = by_result r where
+-- two trees, compared
+pub comparison_shown : {A : Type 0} (all : Bool) (sources : Sources) (drawing : Drawing) (t u : Tree) (old new : Option (List ℕ)) (r : Result A Failure)
+    → WritesRefusal old new r (IsComparison all (drawing_value sources drawing) drawing.screen.is_terminal t u) (λ e. e ≡ Memory) → ShowsMerged sources drawing old new
+comparison_shown {A} all sources drawing t u old new r = by_result r where
   value : ConfigValue
   value = drawing_value sources drawing
 
   b : Bool
   b = drawing.screen.is_terminal
 
-  shows : (bytes : List ℕ) → IsMergeDrawing value b t u bytes → b ≡ true → IsShown (IsMergeCode value) bytes
-  shows bytes is on = merge_drawing_shown b (asked_config drawing (effective_config sources)) t u bytes is on
+  shows : (all : Bool) (bytes : List ℕ) → IsComparison all value b t u bytes → b ≡ true → IsShown (IsMergeCode value) bytes
+  shows true bytes is on = merge_drawing_shown b (asked_config drawing (effective_config sources)) t u bytes is on
+  shows false bytes is on = calm_shown (IsMergeCode value) bytes (difference_calm t u bytes is)
 
-  fails : (e : Failure) → Writes {A = A} old new (Err e) (IsMergeDrawing value b t u) (λ f. f ≡ Memory) → ShowsMerged sources drawing old new
-  fails e h = writes_shown {A = A} b (IsMergeCode value) old new (Err e) (IsMergeDrawing value b t u) (λ f. f ≡ Memory) shows h
+  fails : (e : Failure) → Writes {A = A} old new (Err e) (IsComparison all value b t u) (λ f. f ≡ Memory) → ShowsMerged sources drawing old new
+  fails e h = writes_shown {A = A} b (IsMergeCode value) old new (Err e) (IsComparison all value b t u) (λ f. f ≡ Memory) (shows all) h
 
-  by_result : (r : Result A Failure) → WritesRefusal old new r (IsMergeDrawing value b t u) (λ e. e ≡ Memory) → ShowsMerged sources drawing old new
+  by_result : (r : Result A Failure) → WritesRefusal old new r (IsComparison all value b t u) (λ e. e ≡ Memory) → ShowsMerged sources drawing old new
   by_result (Ok x) h = λ on. ([], none_shown (IsMergeCode value), ([], whole [], h))
-  by_result (Err Said) h = λ on. (h.0, shows h.0 h.1 on, (h.0, whole h.0, h.2))
+  by_result (Err Said) h = λ on. (h.0, shows all h.0 h.1 on, (h.0, whole h.0, h.2))
   by_result (Err (Usage wrong)) h = fails (Usage wrong) h
   by_result (Err (Input wrong)) h = fails (Input wrong) h
   by_result (Err (Output kind)) h = fails (Output kind) h
   by_result (Err Memory) h = fails Memory h
-
--- what is said of a difference
-pub said_shown : (sources : Sources) (drawing : Drawing) (text : List ℕ) (old new : Option (List ℕ)) → NoCharPasses is_raw text → AppendsPart old new text → ShowsMerged sources drawing old new
-said_shown sources drawing text old new calm part = λ on. (text, calm_shown (IsMergeCode (drawing_value sources drawing)) text calm, part)
 
 -- no difference
 pub merged_nothing : (sources : Sources) (drawing : Drawing) (a : Option (List ℕ)) → ShowsMerged sources drawing a a

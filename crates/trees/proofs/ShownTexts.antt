@@ -1,16 +1,11 @@
 -- Texts that a terminal may get.
-use Rattle.std.specs.Prelude.{◌==◌, ◌||◌, ◌&&◌, not, ◌⊎◌, All, codes, nat_lt, if◌then◌else◌, Result, Ok, Err, String, string_bytes}
-use Rattle.std.specs.declared.alloc.Global.{Global}
+use Rattle.std.specs.Prelude.{◌==◌, ◌||◌, ◌&&◌, not, ◌⊎◌, All, codes, nat_lt}
 use Rattle.std.specs.List.{concat, list_all}
-use Rattle.std.specs.Fmt.{decimal}
-use Rattle.std.specs.Int.Digits.{digits_of, AllBelowBase}
-use Rattle.std.specs.Result.{is_ok}
+use Rattle.std.specs.Fmt.{decimal, digits, digits_onto, digit_glyph}
 use Rattle.std.specs.Str.{chars, encode_utf8_all, NonePass, NoCharPasses}
-use Rattle.std.proofs.Common.{◌≡◌, ◌≢◌, ◌<◌, ◌≤◌, ◌+◌, ◌^◌, ℕ, ◌++◌, map, Bool, true, false, cond, eqb, List, [], ◌∷◌, flat_map, inl, inr, refl, sym, ap, ◌∙◌, subst, arith}
+use Rattle.std.proofs.Common.{◌≡◌, ◌≢◌, ◌<◌, ◌/◌, ◌%◌, ℕ, zero, suc, ◌++◌, Bool, true, false, cond, eqb, List, [], ◌∷◌, flat_map, inl, inr, refl, sym, ap, ◌∙◌, subst, arith}
 use Rattle.std.proofs.lemmas.Bool.{false≢true, ne_eqb}
 use Rattle.std.proofs.lemmas.Bool.Decides.{nat_tests}
-use Rattle.std.proofs.lemmas.Fmt.{decimal-digits_of}
-use Rattle.std.proofs.lemmas.Int.Digits.{all_below_base_digits_of}
 use Rattle.std.proofs.lemmas.List.{append-nil}
 use Rattle.std.proofs.lemmas.List.Elements.{All-nil, All-cons, All-head, All-tail, All-append}
 use Rattle.std.proofs.lemmas.List.Folds.{concat-append}
@@ -23,7 +18,7 @@ use Rattle.ptree.proofs.Drawing.Inserted.{is_feed, inserted_feed, inserted-appen
 use Rattle.ptree.proofs.Styles.PaintedTexts.{no_line_feed_start, no_line_feed_end}
 use Rattle.ptree_trees.specs.Escape.{is_hidden, escape_char, escaped_text}
 use Rattle.ptree_trees.proofs.Escapes.{none_append, form_shown, text_shown}
-use Rattle.trees.specs.Shown.{shown_char, shown_lines, is_raw, StaysShown, IsCodeOf, IsLookCode, IsShown}
+use Rattle.trees.specs.Shown.{shown_char, shown_lines, is_raw, IsCodeOf, IsLookCode, IsShown}
 
 -- ## Texts
 
@@ -42,29 +37,24 @@ ascii_text (b ∷ bs) h = by_test (nat_lt b 128) (is_raw b) refl refl h (λ k. a
   by_test false y e f k rest = absurd (false≢true k)
 
 -- a digit is not raw
-digit_calm : (c : ℕ) → 48 ≤ c → c ≤ 57 → is_raw c ≡ false
-digit_calm c low high = grind (arith, nat_tests)
+digit_calm : (n : ℕ) → NoCharPasses is_raw (digit_glyph false (n % 10) ∷ [])
+digit_calm n = ascii_calm is_raw (digit_glyph false (n % 10)) (grind (arith, nat_tests)) (grind (arith, nat_tests))
 
--- nor are digits
-digits_calm : (ds : List ℕ) → AllBelowBase 10 ds → NoCharPasses is_raw (map (λ d. 48 + d) ds)
-digits_calm [] h = NoCharPasses-nil is_raw
-digits_calm (d ∷ ds) h =
-    let low = h.0 in
-    NoCharPasses-append is_raw ((48 + d) ∷ []) (map (λ d. 48 + d) ds) (ascii_calm is_raw (48 + d) (omega arith) (digit_calm (48 + d) (omega arith) (omega arith))) (digits_calm ds h.1)
+-- digits before a text that is not raw
+digits_calm : (k n : ℕ) (text : List ℕ) → NoCharPasses is_raw text → NoCharPasses is_raw (digits_onto k 10 false n text)
+digits_calm zero n text h = h
+digits_calm (suc k) n text h =
+    let more = NoCharPasses-append is_raw (digit_glyph false (n % 10) ∷ []) text (digit_calm n) h in
+    by_test (n / 10 == 0) more (digits_calm k (n / 10) (digit_glyph false (n % 10) ∷ text) more) where
+      by_test : (b : Bool) → NoCharPasses is_raw (digit_glyph false (n % 10) ∷ text) → NoCharPasses is_raw (digits_onto k 10 false (n / 10) (digit_glyph false (n % 10) ∷ text))
+          → NoCharPasses is_raw (cond b (digit_glyph false (n % 10) ∷ text) (digits_onto k 10 false (n / 10) (digit_glyph false (n % 10) ∷ text)))
+      by_test true one more = one
+      by_test false one more = more
 
 -- nor is a number
-pub number_calm : (n : ℕ) → 0 < n → n < 2 ^ 64 → NoCharPasses is_raw (decimal n)
-number_calm n some fits = subst (NoCharPasses is_raw) (sym (decimal-digits_of n some fits)) (digits_calm (digits_of 10 n) (all_below_base_digits_of 10 n (omega arith)))
-
--- a text behind one without a raw character
-pub behind_calm : (a b c : List ℕ) → c ≡ a ++ b → NoCharPasses is_raw b → NoCharPasses is_raw a → NoCharPasses is_raw c
-behind_calm a b c is h k = subst (NoCharPasses is_raw) (sym is) (NoCharPasses-append is_raw a b k h)
-
--- what stays without a raw character, if such a text is added at the end
-pub stays_behind : {A E : Type 0} (first old new : String Global) (r : Result A E) (text : List ℕ) → string_bytes new ≡ (if is_ok r then string_bytes old ++ text else string_bytes old) → NoCharPasses is_raw text
-    → (NoCharPasses is_raw (string_bytes first) → NoCharPasses is_raw (string_bytes old)) → StaysShown first new r
-stays_behind first old new (Ok x) text is h before = λ k. behind_calm (string_bytes old) text (string_bytes new) is h (before k)
-stays_behind first old new (Err e) text is h before = tt
+pub number_calm : (n : ℕ) → NoCharPasses is_raw (decimal n)
+unfolding digits
+number_calm n = digits_calm 64 n [] (NoCharPasses-nil is_raw)
 
 -- a line feed is one byte
 feed_byte : encode_utf8_all (10 ∷ []) ≡ 10 ∷ []

@@ -1,8 +1,8 @@
 -- What is written.
-use Rattle.std.proofs.Common.{◌≡◌, ◌≢◌, ℕ, inl, inr, Option, Some, None, List, Result, Ok, Err, refl, sym, subst, append-nil}
+use Rattle.std.proofs.Common.{◌≡◌, ℕ, true, false, inl, inr, Option, Some, None, List, Result, Ok, Err, sym, subst, append-nil}
 use Rattle.std.proofs.KnownBytes.{Appends-nil}
 use Rattle.std.proofs.lemmas.Bool.{false≢true}
-use Rattle.std.specs.Prelude.{IsErr, IfErr, ⊤}
+use Rattle.std.specs.Prelude.{IsErr, IfErr}
 use Rattle.ptree.specs.declared.print_config.Sources.{Sources}
 use Rattle.ptree.specs.declared.value.document.DocFormat.TheVariants.{Toml, Json}
 use Rattle.ptree.specs.Tree.{Tree}
@@ -18,7 +18,8 @@ use Rattle.trees.specs.Documents.{IsPartTree}
 use Rattle.trees.specs.Listing.{IsWrongList}
 use Rattle.trees.specs.Outlining.{outline_lines, IsFormOf, IsRightForm, HoldsOutline}
 use Rattle.trees.specs.Reading.{IsInput}
-use Rattle.trees.specs.Writing.{Writes, WritesSaid, IsTreeDrawing, IsDrawingOf, FailsToGive}
+use Rattle.trees.specs.Telling.{TellsWhether}
+use Rattle.trees.specs.Writing.{AppendsSome, Writes, WritesOr, WritesSaid, IsTreeDrawing, IsDrawingOf, FailsToGive}
 use Rattle.trees.proofs.Readings.{fails_by_memory}
 
 -- what is written is also what follows of it
@@ -48,20 +49,36 @@ gives_memory source (given.Paths paths) e is = fails_by_memory (IsWrongList sour
 gives_memory source (given.Outline outline) e is =
     fails_by_memory ((t : Tree) → HoldsOutline source outline t → ⊥) ((form : Form) → IsFormOf outline (outline_lines source) form → IsRightForm form → ⊥) e is
 
--- what is said is also what follows of it
-pub said_weaker : {A : Type 0} (old new : Option (List ℕ)) (r : Result A Failure) (Is Js : List ℕ → Type 0) → ((bytes : List ℕ) → Is bytes → Js bytes) → WritesSaid old new r Is → WritesSaid old new r Js
-said_weaker old new (Ok x) Is Js more h = (h.0, more h.0 h.1, h.2)
-said_weaker old new (Err Said) Is Js more h = (h.0, more h.0 h.1, h.2)
-said_weaker {A} old new (Err (Usage wrong)) Is Js more h = writes_weaker {A = A} old new (Err (Usage wrong)) Is Js (λ e. ⊤) (λ e. ⊤) more (λ e k. k) h
-said_weaker {A} old new (Err (Input wrong)) Is Js more h = writes_weaker {A = A} old new (Err (Input wrong)) Is Js (λ e. ⊤) (λ e. ⊤) more (λ e k. k) h
-said_weaker {A} old new (Err (Output kind)) Is Js more h = writes_weaker {A = A} old new (Err (Output kind)) Is Js (λ e. ⊤) (λ e. ⊤) more (λ e k. k) h
-said_weaker {A} old new (Err Memory) Is Js more h = writes_weaker {A = A} old new (Err Memory) Is Js (λ e. ⊤) (λ e. ⊤) more (λ e k. k) h
+-- what a call that may refuse has written is also what follows of it
+pub or_weaker : {A : Type 0} (Done Other : Type 0) (old new : Option (List ℕ)) (r : Result A Failure) (Is Js : List ℕ → Type 0) (Fails Gives : Failure → Type 0)
+    → (Done → Other) → ((bytes : List ℕ) → Is bytes → Js bytes) → ((e : Failure) → Fails e → Gives e) → WritesOr Done old new r Is Fails → WritesOr Other old new r Js Gives
+or_weaker Done Other old new (Ok x) Is Js Fails Gives done more why h = done h
+or_weaker Done Other old new (Err Said) Is Js Fails Gives done more why h = (h.0, more h.0 h.1, h.2)
+or_weaker {A} Done Other old new (Err (Usage wrong)) Is Js Fails Gives done more why h = writes_weaker {A = A} old new (Err (Usage wrong)) Is Js Fails Gives more why h
+or_weaker {A} Done Other old new (Err (Input wrong)) Is Js Fails Gives done more why h = writes_weaker {A = A} old new (Err (Input wrong)) Is Js Fails Gives more why h
+or_weaker {A} Done Other old new (Err (Output kind)) Is Js Fails Gives done more why h = writes_weaker {A = A} old new (Err (Output kind)) Is Js Fails Gives more why h
+or_weaker {A} Done Other old new (Err Memory) Is Js Fails Gives done more why h = writes_weaker {A = A} old new (Err Memory) Is Js Fails Gives more why h
 
--- a call that fails before it says anything
-pub said_nothing : {A : Type 0} (old : Option (List ℕ)) (r : Result A Failure) (Is : List ℕ → Type 0) → IsErr r → IfErr r (λ e. e ≢ Said) → WritesSaid old old r Is
-said_nothing old (Ok x) Is err unsaid = absurd (false≢true err)
-said_nothing old (Err Said) Is err unsaid = absurd (unsaid refl)
-said_nothing old (Err (Usage wrong)) Is err unsaid = inl (tt, Appends-nil old)
-said_nothing old (Err (Input wrong)) Is err unsaid = inl (tt, Appends-nil old)
-said_nothing old (Err (Output kind)) Is err unsaid = inl (tt, Appends-nil old)
-said_nothing old (Err Memory) Is err unsaid = inl (tt, Appends-nil old)
+-- the same where success has written what a refusal has
+pub said_weaker : {A : Type 0} (old new : Option (List ℕ)) (r : Result A Failure) (Is Js : List ℕ → Type 0) (Fails Gives : Failure → Type 0)
+    → ((bytes : List ℕ) → Is bytes → Js bytes) → ((e : Failure) → Fails e → Gives e) → WritesSaid old new r Is Fails → WritesSaid old new r Js Gives
+said_weaker old new r Is Js Fails Gives more why = or_weaker (AppendsSome old new Is) (AppendsSome old new Js) old new r Is Js Fails Gives (λ done. (done.0, more done.0 done.1, done.2)) more why
+
+-- a call that never succeeds may say anything of success
+pub or_never : {A : Type 0} (Done Other : Type 0) (old new : Option (List ℕ)) (r : Result A Failure) (Is : List ℕ → Type 0) (Fails : Failure → Type 0)
+    → TellsWhether r (true ≡ false) → WritesOr Done old new r Is Fails → WritesOr Other old new r Is Fails
+or_never Done Other old new (Ok x) Is Fails tells h = absurd (false≢true (sym tells))
+or_never Done Other old new (Err Said) Is Fails tells h = h
+or_never Done Other old new (Err (Usage wrong)) Is Fails tells h = h
+or_never Done Other old new (Err (Input wrong)) Is Fails tells h = h
+or_never Done Other old new (Err (Output kind)) Is Fails tells h = h
+or_never Done Other old new (Err Memory) Is Fails tells h = h
+
+-- a call that fails before it writes has appended nothing
+pub fails_early : {A : Type 0} (Done : Type 0) (old : Option (List ℕ)) (r : Result A Failure) (Is : List ℕ → Type 0) (Fails : Failure → Type 0) → (Fails Said → ⊥) → IsErr r → IfErr r Fails → WritesOr Done old old r Is Fails
+fails_early Done old (Ok x) Is Fails none err says = absurd (false≢true err)
+fails_early Done old (Err (Usage wrong)) Is Fails none err says = inl (says, Appends-nil old)
+fails_early Done old (Err (Input wrong)) Is Fails none err says = inl (says, Appends-nil old)
+fails_early Done old (Err Said) Is Fails none err says = absurd (none says)
+fails_early Done old (Err (Output kind)) Is Fails none err says = inl (says, Appends-nil old)
+fails_early Done old (Err Memory) Is Fails none err says = inl (says, Appends-nil old)

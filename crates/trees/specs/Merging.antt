@@ -1,15 +1,18 @@
--- Merges of two trees, and how they are shown.
-use Rattle.std.specs.Prelude.{◌≡◌, ◌⊎◌, ℕ, Bool, true, false, if◌then◌else◌, List, [], ◌∷◌, ◌++◌, Option, Some, None, option_map, unwrap_or, codes, string_bytes}
+-- The first difference of two trees, their merges, and how these are shown.
+use Rattle.std.specs.Prelude.{◌≡◌, ◌⊎◌, ◌+◌, ◌-◌, ℕ, Bool, true, false, if◌then◌else◌, List, [], ◌∷◌, ◌++◌, length, Option, Some, None, option_map, slice_get, unwrap_or, codes, decimal, string_bytes}
 use Rattle.std.specs.Str.{bytes_eq}
 use Rattle.ptree.specs.declared.print_config.OutputKind.TheVariants.{Unknown}
 use Rattle.ptree.specs.declared.style.color.Color.TheVariants.{Red, Green}
+use Rattle.ptree.specs.Address.{Address}
 use Rattle.ptree.specs.Color.{ColorValue, color_of}
 use Rattle.ptree.specs.Config.{ConfigValue, is_styled}
 use Rattle.ptree.specs.Drawing.{look_by, IsDrawing}
 use Rattle.ptree.specs.Shape.{Shape, unfolded_shape}
 use Rattle.ptree.specs.Style.{StyleValue, plain_value, style_of, painted_text}
 use Rattle.ptree.specs.Texts.{line_feed}
-use Rattle.ptree.specs.Tree.{Forest, none, item, Tree}
+use Rattle.ptree.specs.Tree.{Forest, none, item, Tree, tree_kids}
+use Rattle.ptree_trees.specs.Difference.{text_at_address, DifferAt, AreSameBefore}
+use Rattle.ptree_trees.specs.Escape.{escaped_text}
 use Rattle.ptree_trees.specs.declared.styled.StyledItem.{StyledItem}
 use Rattle.ptree_trees.specs.declared.styled.StyledItem.TheOpen.{StyledItem-F}
 use Rattle.ptree_trees.specs.declared.styled.StyledItem.TheFolds.{fold-StyledItem}
@@ -17,6 +20,34 @@ use Rattle.trees.specs.declared.compare.Look.{Look}
 use Rattle.trees.specs.declared.compare.Side.{Side}
 use Rattle.trees.specs.declared.compare.Side.TheVariants.{Left, Right}
 use Rattle.trees.specs.Shown.{shown_text, IsCodeOf, IsLookCode}
+
+-- the mark before a text that is in one tree alone
+abbrev pub side_mark : Side → List ℕ
+side_mark Left = codes "- "
+side_mark Right = codes "+ "
+
+-- ## First differences
+
+-- the texts above an address, from the root on: each escaped, with ` / ` behind it
+abbrev pub way_text : Tree → Address → List ℕ
+way_text t [] = []
+way_text t (i ∷ rest) = (escaped_text t.text ++ codes " / ") ++ unwrap_or (option_map (λ c. way_text c rest) (slice_get (tree_kids t) i)) []
+
+-- the line that says which child an address leads to, counted from 1, or that it is the root's
+abbrev pub place_line : Address → List ℕ
+place_line a = unwrap_or (option_map (λ i. codes "child " ++ (decimal (i + 1) ++ codes "\n")) (slice_get a (length a - 1))) (codes "root\n")
+
+-- the line of a side: the text that stands there, escaped, or that nothing does
+abbrev pub side_line : Side → Option (List ℕ) → List ℕ
+side_line side None = side_mark side ++ codes "(nothing)\n"
+side_line side (Some text) = side_mark side ++ (escaped_text text ++ codes "\n")
+
+-- what is said of the first address at which two trees differ: the texts above it, which child it is, and what stands
+-- there in each
+abbrev pub TellsDifference : Tree → Tree → List ℕ → Type 0
+TellsDifference t u said =
+    (a : Address) × DifferAt t u a × AreSameBefore t u a
+    × (said ≡ way_text t a ++ (place_line a ++ (side_line Left (text_at_address t a) ++ side_line Right (text_at_address u a))))
 
 -- ## Merges
 
@@ -82,11 +113,6 @@ shape_of_styled = unfolded_shape own_text (λ t. styled_trees t.children)
 
 -- ## Merges as they are shown
 
--- the mark before a text that is in one tree alone
-abbrev pub side_mark : Side → List ℕ
-side_mark Left = codes "- "
-side_mark Right = codes "+ "
-
 -- its colour
 abbrev pub side_color : Side → ColorValue
 side_color Left = color_of Red
@@ -140,6 +166,12 @@ look_of config is_terminal = record { is_colored = is_styled config.styled Unkno
 abbrev pub IsMergeDrawing : ConfigValue → Bool → Tree → Tree → List ℕ → Type 0
 IsMergeDrawing config is_terminal t u bytes =
     (shown : StyledTree) × ShowsBoth (look_of config is_terminal) t u shown × IsDrawing (look_by config Unknown false) (shape_of_styled shown) config.depth bytes
+
+-- the bytes are what `diff` writes of two trees: the drawing of a merge of them, if all differences are asked for, or
+-- else what is said of the first one
+abbrev pub IsComparison : Bool → ConfigValue → Bool → Tree → Tree → List ℕ → Type 0
+IsComparison true config is_terminal t u bytes = IsMergeDrawing config is_terminal t u bytes
+IsComparison false config is_terminal t u bytes = TellsDifference t u bytes
 
 -- a code of such a drawing on a terminal: one of its look, or of a text that is in one tree alone
 abbrev pub IsMergeCode : ConfigValue → List ℕ → Type 0

@@ -1,5 +1,5 @@
 -- What a terminal may get.
-use Rattle.std.specs.Prelude.{◌≡◌, ◌⊎◌, ℕ, ◌==◌, ◌||◌, ◌&&◌, not, Bool, true, false, if◌then◌else◌, List, [], ◌∷◌, flat_map, All, Option, Result, OnOk, String, string_bytes}
+use Rattle.std.specs.Prelude.{◌≡◌, ◌⊎◌, ℕ, ◌==◌, ◌||◌, ◌&&◌, not, Bool, true, false, if◌then◌else◌, List, [], ◌∷◌, flat_map, All, Option, String, string_bytes}
 use Rattle.std.specs.declared.alloc.Global.{Global}
 use Rattle.std.specs.List.{concat}
 use Rattle.std.specs.Str.{chars, encode_utf8_all, NoCharPasses}
@@ -49,10 +49,6 @@ AreShownLabels graph = All (λ label. NoCharPasses is_hidden (string_bytes label
 -- a terminal would act on the character and not show it, and it is no line feed
 abbrev pub is_raw : ℕ → Bool
 is_raw c = is_hidden c && not (c == 10)
-
--- a text that had no raw character has none, unless memory ran out
-abbrev pub StaysShown : {A E : Type 0} → String Global → String Global → Result A E → Type 0
-StaysShown old new result = OnOk result (NoCharPasses is_raw (string_bytes old) → NoCharPasses is_raw (string_bytes new))
 
 -- texts without a raw character and texts of which Code holds, joined: a terminal acts on line feeds
 -- and on the latter alone

@@ -1,6 +1,6 @@
 -- What calls write.
 use Rattle.std.specs.Io.KnownBytes.{Appends}
-use Rattle.std.specs.Prelude.{◌≡◌, ◌<◌, ◌≤◌, ◌⊎◌, ⊤, ℕ, Bool, true, false, if◌then◌else◌, List, [], Option, None, Result, Ok, Err, IsErr, OnOk, codes, string_bytes, IsTrue}
+use Rattle.std.specs.Prelude.{◌≡◌, ◌<◌, ◌≤◌, ◌⊎◌, ⊤, ℕ, Bool, true, false, if◌then◌else◌, List, [], Option, None, Result, Ok, Err, IsErr, OnOk, codes, string_bytes}
 use Rattle.ptree.specs.declared.print_config.OutputKind.TheVariants.{Unknown}
 use Rattle.ptree.specs.declared.print_config.Sources.{Sources}
 use Rattle.ptree.specs.declared.print_config.StyleWhen.TheVariants.{Never}
@@ -36,38 +36,40 @@ use Rattle.trees.specs.Changing.{IsConverted, FailsToConvert}
 use Rattle.trees.specs.Documents.{IsPartTree, NamesWrong}
 use Rattle.trees.specs.Listing.{IsListed, FailsToList}
 use Rattle.trees.specs.Meaning.{HoldsNoGraph, IsGraphOf}
-use Rattle.trees.specs.Merging.{IsMergeDrawing, IsMergeCode}
+use Rattle.trees.specs.Merging.{IsComparison, IsMergeDrawing, IsMergeCode}
 use Rattle.trees.specs.Outlining.{text_or, HoldsOutline, FailsToOutline, IsReadBack, LosesText}
 use Rattle.trees.specs.Named.{IsReadableValue}
 use Rattle.trees.specs.Reading.{IsWriting, HoldsDrawing, FailsFor, FailsToMake, FailsToRead, IsReport, Adds}
 use Rattle.trees.specs.Settings.{SaysSettings}
 use Rattle.trees.specs.Shown.{shown_lines, shown_on, shown_text, IsNone, ShowsOnly, IsLookCode}
 
+-- bytes of which Is holds were appended
+abbrev pub AppendsSome : Option (List ℕ) → Option (List ℕ) → (List ℕ → Type 0) → Type 0
+AppendsSome old new Is = (bytes : List ℕ) × Is bytes × Appends old new bytes
+
 -- Success has appended bytes of which Is holds. A failure of which Fails holds has appended nothing; or
 -- the output failed or memory ran out, and a prefix of such bytes was appended.
 abbrev pub Writes : {A : Type 0} → Option (List ℕ) → Option (List ℕ) → Result A Failure → (List ℕ → Type 0) → (Failure → Type 0) → Type 0
-Writes old new (Ok x) Is Fails = (bytes : List ℕ) × Is bytes × Appends old new bytes
+Writes old new (Ok x) Is Fails = AppendsSome old new Is
 Writes old new (Err e) Is Fails = (Fails e × Appends old new []) ⊎ (IsWriting e × (bytes : List ℕ) × Is bytes × AppendsPart old new bytes)
 
--- Success has appended nothing, and `Said` bytes of which Is holds. Any other failure has appended what
--- `Writes` says.
-abbrev pub WritesRefusal : {A : Type 0} → Option (List ℕ) → Option (List ℕ) → Result A Failure → (List ℕ → Type 0) → (Failure → Type 0) → Type 0
-WritesRefusal old new (Ok x) Is Fails = Appends old new []
-WritesRefusal old new (Err Said) Is Fails = (bytes : List ℕ) × Is bytes × Appends old new bytes
-WritesRefusal {A} old new (Err (Usage wrong)) Is Fails = Writes {A = A} old new (Err (Usage wrong)) Is Fails
-WritesRefusal {A} old new (Err (Input wrong)) Is Fails = Writes {A = A} old new (Err (Input wrong)) Is Fails
-WritesRefusal {A} old new (Err (Output kind)) Is Fails = Writes {A = A} old new (Err (Output kind)) Is Fails
-WritesRefusal {A} old new (Err Memory) Is Fails = Writes {A = A} old new (Err Memory) Is Fails
+-- Success has appended what Done says, and `Said` bytes of which Is holds. Any other failure has appended
+-- what `Writes` says.
+abbrev pub WritesOr : {A : Type 0} → Type 0 → Option (List ℕ) → Option (List ℕ) → Result A Failure → (List ℕ → Type 0) → (Failure → Type 0) → Type 0
+WritesOr Done old new (Ok x) Is Fails = Done
+WritesOr Done old new (Err Said) Is Fails = AppendsSome old new Is
+WritesOr {A} Done old new (Err (Usage wrong)) Is Fails = Writes {A = A} old new (Err (Usage wrong)) Is Fails
+WritesOr {A} Done old new (Err (Input wrong)) Is Fails = Writes {A = A} old new (Err (Input wrong)) Is Fails
+WritesOr {A} Done old new (Err (Output kind)) Is Fails = Writes {A = A} old new (Err (Output kind)) Is Fails
+WritesOr {A} Done old new (Err Memory) Is Fails = Writes {A = A} old new (Err Memory) Is Fails
 
--- Success and `Said` have appended bytes of which Is holds, and any other failure nothing or, if the
--- output failed or memory ran out, a prefix of such bytes.
-abbrev pub WritesSaid : {A : Type 0} → Option (List ℕ) → Option (List ℕ) → Result A Failure → (List ℕ → Type 0) → Type 0
-WritesSaid old new (Ok x) Is = (bytes : List ℕ) × Is bytes × Appends old new bytes
-WritesSaid old new (Err Said) Is = (bytes : List ℕ) × Is bytes × Appends old new bytes
-WritesSaid {A} old new (Err (Usage wrong)) Is = Writes {A = A} old new (Err (Usage wrong)) Is (λ e. ⊤)
-WritesSaid {A} old new (Err (Input wrong)) Is = Writes {A = A} old new (Err (Input wrong)) Is (λ e. ⊤)
-WritesSaid {A} old new (Err (Output kind)) Is = Writes {A = A} old new (Err (Output kind)) Is (λ e. ⊤)
-WritesSaid {A} old new (Err Memory) Is = Writes {A = A} old new (Err Memory) Is (λ e. ⊤)
+-- the same where success has appended nothing
+abbrev pub WritesRefusal : {A : Type 0} → Option (List ℕ) → Option (List ℕ) → Result A Failure → (List ℕ → Type 0) → (Failure → Type 0) → Type 0
+WritesRefusal old new result = WritesOr (Appends old new []) old new result
+
+-- the same where success has appended such bytes too
+abbrev pub WritesSaid : {A : Type 0} → Option (List ℕ) → Option (List ℕ) → Result A Failure → (List ℕ → Type 0) → (Failure → Type 0) → Type 0
+WritesSaid old new result Is = WritesOr (AppendsSome old new Is) old new result Is
 
 -- after a usage error and after an error of an input, what a call writes to is as it was
 abbrev pub LeavesIfWrong : {A W : Type 0} → W → W → Result A Failure → Type 0
@@ -193,27 +195,30 @@ ConvertsBack sources source back old new result =
     → back.pieces ≡ there.drawing.pieces → back.drawing.pieces ≡ there.pieces → IsReadableValue (reading_value sources back.pieces)
     → IsConversion sources first there (string_bytes source.text) → OnOk result (Appends old new (string_bytes first.text))
 
--- the bytes are the drawing, as it is asked for, of a merge of the trees whose drawings two sources hold
-abbrev pub IsMergeOf : Sources → Source → Source → Diff → List ℕ → Type 0
-IsMergeOf sources left right diff bytes =
+-- the bytes are what `diff` writes of the trees whose drawings two sources hold
+abbrev pub IsComparisonOf : Sources → Source → Source → Diff → List ℕ → Type 0
+IsComparisonOf sources left right diff bytes =
     let config = reading_value sources diff.drawing.pieces in
     (t : Tree) × (u : Tree) × HoldsDrawing config left t × HoldsDrawing config right u
-    × IsMergeDrawing (drawing_value sources diff.drawing) diff.drawing.screen.is_terminal t u bytes
+    × IsComparison diff.shows_all (drawing_value sources diff.drawing) diff.drawing.screen.is_terminal t u bytes
 
--- what each failure before anything is drawn says: what reading one of the sources says
+-- what each failure before anything is written says: what reading one of the sources says
 abbrev pub FailsToCompare : Sources → Source → Source → Diff → Failure → Type 0
 FailsToCompare sources left right diff e =
     let config = reading_value sources diff.drawing.pieces in
     FailsToRead config left e ⊎ FailsToRead config right e
 
--- if all differences are asked for: `Said` has written such a drawing, and success nothing
+-- `Said` has written this, and success nothing
 abbrev pub Compares : {A : Type 0} → Sources → Source → Source → Diff → Option (List ℕ) → Option (List ℕ) → Result A Failure → Type 0
-Compares sources left right diff old new result =
-    IsTrue diff.shows_all → WritesRefusal old new result (IsMergeOf sources left right diff) (FailsToCompare sources left right diff)
+Compares sources left right diff old new result = WritesRefusal old new result (IsComparisonOf sources left right diff) (FailsToCompare sources left right diff)
 
 -- the bytes are what `check` writes: a report on each input, in their order, for a terminal escaped
 abbrev pub AreReports : Sources → List Source → Option Pieces → Bool → List ℕ → Type 0
 AreReports sources inputs pieces is_terminal bytes = (said : List ℕ) × Adds (IsReport (reading_value sources pieces)) inputs [] said × (bytes ≡ shown_on is_terminal said)
+
+-- what each failure before anything is written says: the pieces are not readable, or memory ran out
+abbrev pub FailsToCheck : Sources → Option Pieces → Failure → Type 0
+FailsToCheck sources pieces = FailsFor ⊥ (IsReadableValue (reading_value sources pieces) → ⊥)
 
 -- the bytes are what `config` writes: a text, escaped, that ends with the settings that hold
 abbrev pub AreSettings : Sources → List ℕ → Type 0
@@ -221,15 +226,15 @@ AreSettings sources bytes = (said : List ℕ) × SaysSettings (effective_config 
 
 -- what a command writes: those that draw an input, the drawing of its tree; `deps`, that of its graph;
 -- `indented`, the indented text; `check`, the reports; `convert`, the conversion, which can be turned back;
--- `diff`, all differences, if they are asked for; `config`, the settings
+-- `diff`, the first difference or all; `config`, the settings
 abbrev pub WritesOfCommand : {A : Type 0} → Sources → Command → Option (List ℕ) → Option (List ℕ) → Result A Failure → Type 0
 WritesOfCommand sources (command.Convert source convert) old new result = Converts sources source.now convert old new result × ConvertsBack sources source.now convert old new result
 WritesOfCommand sources (command.Draw source tree drawing) old new result = Draws sources source.now tree drawing old new result
 WritesOfCommand sources (command.Deps source deps drawing) old new result = DrawsNeeds sources source.now deps drawing old new result
 WritesOfCommand sources (command.Indented source indented) old new result = Writes old new result (IsIndentation sources source.now indented) (FailsToIndent sources source.now indented)
-WritesOfCommand sources (command.Check inputs pieces screen) old new result = WritesSaid old new result (AreReports sources inputs.now pieces screen.is_terminal)
+WritesOfCommand sources (command.Check inputs pieces screen) old new result = WritesSaid old new result (AreReports sources inputs.now pieces screen.is_terminal) (FailsToCheck sources pieces)
 WritesOfCommand sources (command.Diff left right diff) old new result = Compares sources left.now right.now diff old new result
-WritesOfCommand sources command.Config old new result = WritesSaid old new result (AreSettings sources)
+WritesOfCommand sources command.Config old new result = WritesSaid old new result (AreSettings sources) (λ e. e ≡ Memory)
 
 -- on a terminal nothing is written that it acts on, but line feeds and the codes of a drawing's styles
 abbrev pub ShowsDrawing : Sources → Drawing → Option (List ℕ) → Option (List ℕ) → Type 0

@@ -1,11 +1,9 @@
 //! Compares two trees.
 ghost use Rattle.std.specs.Prelude.{◌≡◌, ◌↔◌, ◌++◌, map, option_map, IfOk, IfSome, OnOk, None, string_bytes};
-ghost use Rattle.std.specs.Str.{NoCharPasses};
 ghost use Rattle.ptree.specs.Style.{style_of};
 ghost use Rattle.ptree.specs.Tree.{tree_of};
-ghost use Rattle.trees.specs.Merging.{ShowsMerge, ShowsBoth, styled_forest, styled_tree_of, side_mark, side_style, marked_tree, roots_text};
+ghost use Rattle.trees.specs.Merging.{TellsDifference, way_text, place_line, side_line, ShowsMerge, ShowsBoth, styled_forest, styled_tree_of, side_mark, side_style, marked_tree, roots_text};
 ghost use Rattle.trees.specs.MergingParts.{ArePlaces, IsFoundAt};
-ghost use Rattle.trees.specs.Shown.{is_raw, StaysShown};
 
 use crate::screen::shown_text;
 use ptree::item::StringItem;
@@ -15,8 +13,9 @@ use ptree_trees::escape::escaped;
 use ptree_trees::styled::StyledItem;
 use std::alloc::{AllocError, Global};
 
-/// Returns what is said of the first difference of two trees, or `None` if they are equal: the path
-/// of texts to it, and what stands there in each. The texts are escaped, each on one line.
+/// Returns what is said of the first difference of two trees, or `None` if they are equal: the texts
+/// above it, which child it is, and what stands there in each. The texts are escaped, each on one
+/// line.
 ///
 /// # Errors
 ///
@@ -27,69 +26,72 @@ pub fn first(
     right: &StringItem,
 ) -> Result<Option<String>, AllocError>
     ensures equal { IfOk result (λ o. (o ≡ None) ↔ (tree_of left.now ≡ tree_of right.now)) }
-    ensures shown { IfOk result (λ o. IfSome o (λ s. NoCharPasses is_raw (string_bytes s))) }
+    ensures tells { IfOk result (λ o. IfSome o (λ s.
+        TellsDifference (tree_of left.now) (tree_of right.now) (string_bytes s))) }
 {
     let Some(found) = first_difference(alloc, left, right)? else {
         return Ok(None);
     };
     let mut said = String::new(alloc);
-    push_path(alloc, &mut said, left, &found)?;
+    push_way(alloc, &mut said, left, &found.address)?;
+    push_place(&mut said, &found.address)?;
     push_side(alloc, &mut said, Side::Left, found.left)?;
     push_side(alloc, &mut said, Side::Right, found.right)?;
     Ok(Some(said))
 }
 
-// Adds the texts of the items above a difference, and which child it is, counted from 1.
-fn push_path(
+// Adds the texts of the items above an address, from the root on.
+fn push_way(
     alloc: Global,
     said: &mut String,
-    left: &StringItem,
-    found: &Difference<'_>,
+    root: &StringItem,
+    address: &[usize],
 ) -> Result<(), AllocError>
-    ensures { StaysShown said.old said.new result }
+    ensures { OnOk result (string_bytes said.new
+        ≡ string_bytes said.old ++ way_text (tree_of root.now) address.now) }
 {
-    let mut item = Some(left);
-    for position in &found.address {
-        let Some(above) = item else {
-            break;
+    let mut item = root;
+    for position in address {
+        let text = escaped(alloc, item.text.as_str())?;
+        write!(said, "{text} / ")?;
+        let Some(child) = item.children.get(*position) else {
+            return Ok(());
         };
-        said.push_str(escaped(alloc, above.text.as_str())?.as_str())?;
-        said.push_str(" / ")?;
-        item = above.children.get(*position);
+        item = child;
     }
-    push_place(alloc, said, found.address.last().copied())
+    Ok(())
 }
 
-// Adds which child differs, counted from 1, or that the root does.
-fn push_place(alloc: Global, said: &mut String, position: Option<usize>) -> Result<(), AllocError>
-    ensures { StaysShown said.old said.new result }
+// Adds which child an address leads to, counted from 1, or that it is the root's.
+fn push_place(said: &mut String, address: &[usize]) -> Result<(), AllocError>
+    ensures { OnOk result (string_bytes said.new
+        ≡ string_bytes said.old ++ place_line address.now) }
 {
-    match position {
+    match address.last() {
         Some(position) => {
-            said.push_str("child ")?;
-            said.push_str(position.saturating_add(1).to_string(alloc)?.as_str())?;
-            said.push_str("\n")
+            let child = *position as u128 + 1;
+            writeln!(said, "child {child}")
         }
-        None => said.push_str("root\n"),
+        None => writeln!(said, "root"),
     }
 }
 
-// Adds the line of a side.
+// Adds the line of a side: the text that stands there, or that nothing does.
 fn push_side(
     alloc: Global,
     said: &mut String,
     side: Side,
     item: Option<&StringItem>,
 ) -> Result<(), AllocError>
-    ensures { StaysShown said.old said.new result }
+    ensures { OnOk result (string_bytes said.new ≡ string_bytes said.old
+        ++ side_line side (option_map (λ s. (tree_of s.now).text) item.entry)) }
 {
-    said.push_str(side.mark())?;
-    let text = match item {
-        Some(item) => escaped(alloc, item.text.as_str())?,
-        None => String::from_str(alloc, "(nothing)")?,
+    let mark = side.mark();
+    let Some(item) = item else {
+        return writeln!(said, "{mark}(nothing)");
     };
-    said.push_str(text.as_str())?;
-    said.push_str("\n")
+    let text = escaped(alloc, item.text.as_str())?;
+    writeln!(said, "{mark}{text}")
 }
 
 /// How the texts of both trees are shown.

@@ -13,11 +13,11 @@ ghost use Rattle.ptree_trees.specs.Parts.{has_part};
 ghost use Rattle.trees.specs.Asked.{drawing_value, reading_value, with_drawing};
 ghost use Rattle.trees.specs.Changing.{IsPart, IsKept, IsConverted, FailsToConvert};
 ghost use Rattle.trees.specs.Listing.{IsListed, FailsToList};
-ghost use Rattle.trees.specs.Merging.{IsMergeDrawing};
+ghost use Rattle.trees.specs.Merging.{IsComparison, IsMergeDrawing};
 ghost use Rattle.trees.specs.Reading.{HoldsDrawing, HoldsNoOther, HoldsSome, IsRedrawn, FailsFor, FailsToRead, FailsToMake, NamesPlace, IsReport, Adds, item_word, count_line};
 ghost use Rattle.trees.specs.Shown.{IsNone, ShowsOnly};
 ghost use Rattle.trees.specs.Telling.{TellsWhether, TellsOnlyIf, TellsOfTexts, TellsOfCommand};
-ghost use Rattle.trees.specs.Writing.{WritesSaid, AreReports, AreSettings, Writes, IsTreeDrawing, IsGraphDrawing, WritesDrawn, IsIndentation, FailsToIndent, IsGiven, FailsToGive, Draws, DrawsNeeds, Converts, ConvertsBack, WritesOfCommand, ShowsOfCommand, ShowsDrawing, ShowsMerged, LeavesIfWrong, WritesRefusal, Compares};
+ghost use Rattle.trees.specs.Writing.{WritesSaid, AreReports, FailsToCheck, AreSettings, Writes, IsTreeDrawing, IsGraphDrawing, WritesDrawn, IsIndentation, FailsToIndent, IsGiven, FailsToGive, Draws, DrawsNeeds, Converts, ConvertsBack, WritesOfCommand, ShowsOfCommand, ShowsDrawing, ShowsMerged, LeavesIfWrong, WritesRefusal, Compares};
 
 use crate::command::{Command, Convert, Deps, Diff, Drawing, Indented, Paths, Tree};
 use crate::compare::{self, Look};
@@ -89,7 +89,7 @@ fn say<W: Sink>(out: &mut W, text: &str, is_refusal: bool) -> Result<(), Failure
     ensures told { TellsWhether result (is_refusal ≡ false) }
     ensures part { AppendsPart (W.contents out.old) (W.contents out.new) text.now }
     ensures written { WritesSaid (W.contents out.old) (W.contents out.new) result
-        (λ bytes. bytes ≡ text.now) }
+        (λ bytes. bytes ≡ text.now) (λ e. e ≡ Failure.Memory) }
     ensures quiet { LeavesIfWrong out.old out.new result }
 {
     write_text(out, text)?;
@@ -428,7 +428,8 @@ fn check<W: Sink>(
     ensures told { TellsWhether result
         (All (HoldsSome (reading_value found.now.sources pieces)) sources.now) }
     ensures written { WritesSaid (W.contents out.old) (W.contents out.new) result
-        (AreReports found.now.sources sources.now pieces screen.is_terminal) }
+        (AreReports found.now.sources sources.now pieces screen.is_terminal)
+        (FailsToCheck found.now.sources pieces) }
     ensures quiet { LeavesIfWrong out.old out.new result }
     ensures shown { ShowsOnly screen.is_terminal IsNone (W.contents out.old) (W.contents out.new) }
 {
@@ -451,7 +452,7 @@ fn push_checks(
     ensures reports { IfOk result (λ _.
         Adds (IsReport (reading_value found.now.sources pieces)) sources.now
         (string_bytes said.old) (string_bytes said.new)) }
-    ensures unsaid { IfErr result (λ e. e ≢ Failure.Said) }
+    ensures failed { IfErr result (FailsToCheck found.now.sources pieces) }
 {
     let mut are_drawings = true;
     for source in sources {
@@ -475,7 +476,7 @@ fn push_check(
     ensures report { IfOk result (λ _. (more : List ℕ)
         × (string_bytes said.new ≡ string_bytes said.old ++ more)
         × IsReport (reading_value found.now.sources pieces) source.now more) }
-    ensures unsaid { IfErr result (λ e. e ≢ Failure.Said) }
+    ensures failed { IfErr result (FailsToCheck found.now.sources pieces) }
 {
     match read_drawing(alloc, source, pieces, found) {
         Ok(tree) => {
@@ -616,9 +617,8 @@ fn show_difference<W: Sink>(
     found: &Surroundings,
 ) -> Result<(), Failure>
     ensures told { TellsWhether result (tree_of left.now ≡ tree_of right.now) }
-    ensures written { IsTrue diff.shows_all
-        → WritesRefusal (W.contents out.old) (W.contents out.new) result
-        (IsMergeDrawing (drawing_value found.now.sources diff.drawing)
+    ensures written { WritesRefusal (W.contents out.old) (W.contents out.new) result
+        (IsComparison diff.shows_all (drawing_value found.now.sources diff.drawing)
         diff.drawing.screen.is_terminal (tree_of left.now) (tree_of right.now))
         (λ e. e ≡ Failure.Memory) }
     ensures quiet { LeavesIfWrong out.old out.new result }
@@ -662,7 +662,7 @@ fn write_both<W: Sink>(
 fn show_settings<W: Sink>(alloc: Global, out: &mut W, found: &Surroundings) -> Result<(), Failure>
     ensures told { TellsWhether result (first_fault found.now.sources ≡ None) }
     ensures written { WritesSaid (W.contents out.old) (W.contents out.new) result
-        (AreSettings found.now.sources) }
+        (AreSettings found.now.sources) (λ e. e ≡ Failure.Memory) }
     ensures quiet { LeavesIfWrong out.old out.new result }
     // In a file too.
     ensures shown { ShowsOnly true IsNone (W.contents out.old) (W.contents out.new) }

@@ -1,7 +1,10 @@
 use Rattle.std.proofs.Common.{◌≡◌, [], false, not, string_bytes, rules, subst, sym}
 use Rattle.trees.specs.Telling.{TellsWhether}
-use Rattle.trees.specs.Writing.{AreReports}
-use Rattle.trees.proofs.Writings.{said_nothing, said_weaker}
+use Rattle.trees.specs.declared.failure.Failure.TheVariants.{Memory}
+use Rattle.trees.specs.Named.{IsReadableValue}
+use Rattle.trees.specs.Writing.{AppendsSome, AreReports, FailsToCheck}
+use Rattle.trees.proofs.Readings.{fails_by_memory}
+use Rattle.trees.proofs.Writings.{fails_early, said_weaker}
 use Rattle.trees.specs.Asked.{reading_value}
 use Rattle.trees.specs.Reading.{IsReport, Adds}
 use Rattle.trees.specs.Shown.{IsNone}
@@ -39,12 +42,18 @@ returns-clause-written g c =
     let empty : string_bytes c.new-said.result ≡ [] = search rules in
     let lines = subst (λ a. Adds (IsReport (reading_value sources c.args.pieces)) inputs a (string_bytes c.push_checks.new.said)) empty c.in_ok-are_drawings.ensures.reports in
     let reports : AreReports sources inputs c.args.pieces b text = (_, lines, search rules) in
-    said_weaker old new c.say.result (λ bytes. bytes ≡ text) (AreReports sources inputs c.args.pieces b) (λ bytes is. subst (AreReports sources inputs c.args.pieces b) (sym is) reports) c.say.ensures.written
+    let are = AreReports sources inputs c.args.pieces b in
+    said_weaker old new c.say.result (λ bytes. bytes ≡ text) are (λ e. e ≡ Memory) (FailsToCheck sources c.args.pieces) (λ bytes e. subst are (sym e) reports)
+    (fails_by_memory ⊥ (IsReadableValue (reading_value sources c.args.pieces) → ⊥)) c.say.ensures.written
 
 pub returns-in_err-are_drawings-clause-written : goal.returns-in_err-are_drawings-clause-written
 returns-in_err-are_drawings-clause-written g c =
-    said_nothing (g.W.Sink.contents c.args.out.now) c.from_residual.result (AreReports c.args.found.now.sources c.args.sources.now c.args.pieces c.args.screen.is_terminal) (search rules) (search rules)
+    let old = g.W.Sink.contents c.args.out.now in
+    let are = AreReports c.args.found.now.sources c.args.sources.now c.args.pieces c.args.screen.is_terminal in
+    fails_early (AppendsSome old old are) old c.from_residual.result are (FailsToCheck c.args.found.now.sources c.args.pieces) (λ e. e) (search rules) (search rules)
 
 pub returns-in_err-said-clause-written : goal.returns-in_err-said-clause-written
 returns-in_err-said-clause-written g c =
-    said_nothing (g.W.Sink.contents c.args.out.now) c.from_residual-in_err-said.result (AreReports c.args.found.now.sources c.args.sources.now c.args.pieces c.args.screen.is_terminal) (search rules) (search rules)
+    let old = g.W.Sink.contents c.args.out.now in
+    let are = AreReports c.args.found.now.sources c.args.sources.now c.args.pieces c.args.screen.is_terminal in
+    fails_early (AppendsSome old old are) old c.from_residual-in_err-said.result are (FailsToCheck c.args.found.now.sources c.args.pieces) (λ e. e) (search rules) (search rules)

@@ -3,8 +3,9 @@ use Rattle.ptree.specs.Loading.{first_fault}
 use Rattle.trees.specs.Telling.{TellsWhether}
 use Rattle.trees.specs.Shown.{IsNone, shown_lines}
 use Rattle.trees.proofs.Shown.{lines_part_shown, nothing_shown}
-use Rattle.trees.specs.Writing.{AreSettings}
-use Rattle.trees.proofs.Writings.{said_nothing, said_weaker}
+use Rattle.trees.specs.declared.failure.Failure.TheVariants.{Memory}
+use Rattle.trees.specs.Writing.{AppendsSome, AreSettings}
+use Rattle.trees.proofs.Writings.{fails_early, said_weaker}
 use Rattle.trees.proofs.Told.{tells_same, none_or_some}
 use Rattle.trees.proofs.perform.show_settings.Goals as goal
 
@@ -34,11 +35,17 @@ returns-clause-written g c =
     let sources = c.args.found.now.sources in
     let text = c.as_str-2.result.now in
     let shown : text ≡ shown_lines (string_bytes c.in_ok-report.report.text) = search rules in
-    said_weaker (g.W.Sink.contents c.args.out.now) (g.W.Sink.contents c.say.new.out) c.say.result (λ bytes. bytes ≡ text) (AreSettings sources)
-    (λ bytes is. (string_bytes c.in_ok-report.report.text, c.in_ok-report.ensures.settings, is ∙ shown)) c.say.ensures.written
+    said_weaker (g.W.Sink.contents c.args.out.now) (g.W.Sink.contents c.say.new.out) c.say.result (λ bytes. bytes ≡ text) (AreSettings sources) (λ e. e ≡ Memory) (λ e. e ≡ Memory)
+    (λ bytes is. (string_bytes c.in_ok-report.report.text, c.in_ok-report.ensures.settings, is ∙ shown)) (λ e memory. memory) c.say.ensures.written
 
 pub returns-in_err-report-clause-written : goal.returns-in_err-report-clause-written
-returns-in_err-report-clause-written g c = said_nothing (g.W.Sink.contents c.args.out.now) c.from_residual.result (AreSettings c.args.found.now.sources) (search rules) (search rules)
+returns-in_err-report-clause-written g c =
+    let old = g.W.Sink.contents c.args.out.now in
+    let are = AreSettings c.args.found.now.sources in
+    fails_early (AppendsSome old old are) old c.from_residual.result are (λ e. e ≡ Memory) (λ e. (cc)) (search rules) (search rules)
 
 pub returns-in_err-said-clause-written : goal.returns-in_err-said-clause-written
-returns-in_err-said-clause-written g c = said_nothing (g.W.Sink.contents c.args.out.now) c.from_residual-in_err-said.result (AreSettings c.args.found.now.sources) (search rules) (search rules)
+returns-in_err-said-clause-written g c =
+    let old = g.W.Sink.contents c.args.out.now in
+    let are = AreSettings c.args.found.now.sources in
+    fails_early (AppendsSome old old are) old c.from_residual-in_err-said.result are (λ e. e ≡ Memory) (λ e. (cc)) (search rules) (search rules)

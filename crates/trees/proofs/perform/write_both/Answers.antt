@@ -1,4 +1,5 @@
-use Rattle.std.proofs.Common.{◌≡◌, false, ap, rules}
+use Rattle.std.specs.Io.KnownBytes.{Appends}
+use Rattle.std.proofs.Common.{◌≡◌, [], false, ap, rules}
 use Rattle.std.specs.Prelude.{IsErr, IfErr}
 use Rattle.ptree.specs.declared.print_config.OutputKind.TheVariants.{Unknown}
 use Rattle.ptree.specs.Config.{config_of, is_styled}
@@ -7,14 +8,16 @@ use Rattle.trees.specs.declared.compare.Look.{Look}
 use Rattle.trees.specs.declared.failure.Failure.TheVariants.{Memory}
 use Rattle.trees.specs.Merging.{IsMergeDrawing, ShowsBoth, look_of, styled_tree_of}
 use Rattle.trees.specs.Reading.{IsWriting}
-use Rattle.trees.proofs.MergeDrawings.{merge_drawing, refuses_early, refuses_part}
+use Rattle.trees.proofs.MergeDrawings.{merge_drawing, refuses_part}
+use Rattle.trees.proofs.Writings.{fails_early}
 use Rattle.trees.proofs.perform.write_both.Goals as goal
 
 pub returns-in_err-both-clause-written : goal.returns-in_err-both-clause-written
 returns-in_err-both-clause-written g c =
     let err : IsErr c.from_residual.result = search rules in
     let says : IfErr c.from_residual.result (λ e. e ≡ Memory) = search rules in
-    refuses_early (g.W.Sink.contents c.args.out.now) c.from_residual.result (IsMergeDrawing (config_of c.args.config.now) c.args.is_terminal (tree_of c.args.left.now) (tree_of c.args.right.now)) (λ e. e ≡ Memory)
+    let old = g.W.Sink.contents c.args.out.now in
+    fails_early (Appends old old []) old c.from_residual.result (IsMergeDrawing (config_of c.args.config.now) c.args.is_terminal (tree_of c.args.left.now) (tree_of c.args.right.now)) (λ e. e ≡ Memory)
     (λ e. (cc)) err says
 
 pub returns-in_err-written-clause-written : goal.returns-in_err-written-clause-written
