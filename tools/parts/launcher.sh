@@ -59,10 +59,11 @@ launch() {
     (cd "$there" && echo input | CDPATH=/ PATH=$there/path:$PATH "$@") >"$scratch/out" 2>"$scratch/err"
 }
 
-# Checks a call of the launcher. Arguments: name, how often it must build, the source that the program must print.
+# Checks a call of the launcher. Arguments: name, how often it must build, the source that the program must print, and the path by
+# which it is called, if that is another one.
 expect_launch() {
     local got builds
-    launch bin/ptree_cli a 'b c'
+    launch "${4:-bin/ptree_cli}" a 'b c'
     got=$?
     builds=$(grep -c run "$there/calls")
     if [ $got = 3 ] && [ "$builds" = "$2" ] && [ "$(cat "$scratch/out")" = "$3 <a> <b c>"$'\ninput' ]; then
@@ -90,6 +91,8 @@ check_changes() {
     expect_launch 'a first call builds' 1 one
     chmod a-x "$there/bin/build"
     expect_launch 'a second call does without bin/build' 0 one
+    ln -sfn "$there/bin" "$scratch/linked"
+    expect_launch 'a call through a link to its folder' 0 one "$scratch/linked/ptree_cli"
     chmod a+x "$there/bin/build"
     touch "$source" "$there/crates.txt"
     expect_launch 'a source is touched' 0 one

@@ -24,9 +24,9 @@ commands:
   diff      show the first difference between two drawings
   config    show the settings in use, and where each comes from
 
-options of commands that draw:
+options of most commands:
   --depth N       draw at most N levels below the root
-  --as PIECES     draw with these pieces
+  --as PIECES     draw, or read a drawing, with these pieces
   --color WHEN    auto, always or never
 
 PIECES is one of utf, utf-bold, utf-dashed, utf-double, ascii, ascii-plus, tree,

@@ -60,7 +60,8 @@ fn is_deep(line: &str, unit: &str) -> bool
     false
 }
 
-/// Whether what is below a node has more levels, each node expanded once, or wherever it stands.
+/// Whether what is below a node has more levels, each node expanded once, or wherever it stands. It
+/// takes time for each edge.
 ///
 /// # Errors
 ///
@@ -72,40 +73,72 @@ pub fn has_more_below(
     walks: bool,
 ) -> Result<bool, AllocError> {
     let once = graph.expanded_once(root, LEVELS.saturating_add(1))?;
-    if has_deeper_place(alloc, once.places.as_slice(), walks)? {
+    let places = once.places.as_slice();
+    if has_deeper_place(alloc, places, walks)? {
         return Ok(true);
     }
-    Ok(walks && has_longer_walk(alloc, graph, root)?)
+    Ok(walks && has_longer_walk(alloc, graph, root, places)?)
 }
 
-// Whether a walk from a node has more steps than there are levels.
+// A node to which walks lead: the edges to it that are not followed yet, and the most steps of a
+// walk over the others.
+#[derive(Clone, Copy)]
+struct Walked {
+    left: usize,
+    steps: u32,
+}
+
+// Whether a walk from a node has more steps than there are levels, if none comes back to where it
+// was. An edge is followed when all those to its start are.
 fn has_longer_walk(
     alloc: Global,
     graph: &Graph<String>,
     root: NodeIndex,
+    places: &[Place],
 ) -> Result<bool, AllocError> {
-    let mut ends = vec![in alloc; root.0]?;
-    for _step in 0..=LEVELS {
-        ends = next_ends(alloc, graph, &ends)?;
-    }
-    Ok(!ends.is_empty())
-}
-
-// Returns the nodes that are one step behind these, each once.
-fn next_ends(
-    alloc: Global,
-    graph: &Graph<String>,
-    ends: &[usize],
-) -> Result<Vec<usize>, AllocError> {
-    let mut next = Vec::new(alloc);
-    for end in ends {
-        for node in &graph.neighbors(NodeIndex(*end))? {
-            next.push(node.0)?;
+    let mut nodes = unwalked(alloc, places)?;
+    let mut ready = vec![in alloc; root.0]?;
+    // Each node is ready once.
+    for _ in 0..nodes.len() {
+        let Some(node) = ready.pop() else {
+            return Ok(false);
+        };
+        let steps = nodes.get(node).map_or(0, |walked| walked.steps);
+        if steps > LEVELS {
+            return Ok(true);
+        }
+        for next in &graph.neighbors(NodeIndex(node))? {
+            if is_last_walk(&mut nodes, next.0, steps.saturating_add(1)) {
+                ready.push(next.0)?;
+            }
         }
     }
-    next.sort_unstable();
-    next.dedup();
-    Ok(next)
+    Ok(false)
+}
+
+// Returns the nodes of places, each with an edge for each place, and no walk yet.
+fn unwalked(alloc: Global, places: &[Place]) -> Result<Vec<Walked>, AllocError> {
+    let mut len = 0usize;
+    for place in places {
+        len = len.max(place.node.0.saturating_add(1));
+    }
+    let mut nodes = vec![in alloc; Walked { left: 0, steps: 0 }; len]?;
+    for place in places {
+        if let Some(node) = nodes.get_mut(place.node.0) {
+            node.left = node.left.saturating_add(1);
+        }
+    }
+    Ok(nodes)
+}
+
+// Follows an edge to a node. Whether no other is left.
+fn is_last_walk(nodes: &mut [Walked], node: usize, steps: u32) -> bool {
+    let Some(node) = nodes.get_mut(node) else {
+        return false;
+    };
+    node.steps = node.steps.max(steps);
+    node.left = node.left.saturating_sub(1);
+    node.left == 0
 }
 
 // Whether one of the places of a drawing is deeper than there are levels or, if all walks are
