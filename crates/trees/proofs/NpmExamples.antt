@@ -4,9 +4,9 @@ use Rattle.std.proofs.lemmas.Bool.{false≢true}
 use Rattle.std.proofs.lemmas.List.Elements.{All-cons, All-head, All-nil}
 use Rattle.std.specs.List.Sorted.{IsStrictlySortedBy}
 use Rattle.std.specs.Prelude.{◌⊎◌, Contains}
-use Rattle.serde_json.specs.Data.{Data, boolean, object, string, no_members, member}
+use Rattle.serde_json.specs.Data.{Data, array, boolean, object, string, Items, no_items, item, no_members, member}
 use Rattle.trees.specs.Locking.{Lacks}
-use Rattle.trees.specs.Npm.{path_in, AreNodes, HasLabel, IsAlias, IsLeftOut, IsNeed, IsOnlyAliased, IsPlaced, LinksTo, MayHaveNeeds, Needs, StandsFor}
+use Rattle.trees.specs.Npm.{path_in, AreNodes, HasLabel, IsAlias, IsInstalled, IsLeftOut, IsNeed, IsOnlyAliased, IsPlaced, LinksTo, MayHaveNeeds, Needs, StandsFor}
 use Rattle.trees.proofs.NeedTexts.{lacks_byte}
 use Rattle.trees.proofs.NpmNearest.{cons_cases}
 
@@ -105,9 +105,23 @@ needed = record {
   };
 }
 
+-- the link is in the `node_modules` of the project
+installed : IsInstalled packages al.0
+installed = ([], codes "al", inl al_name, refl, inl refl)
+
 -- beside the name in its list is a text, and what is none is refused
 listed_text : MayHaveNeeds (codes "dependencies") project.1
 listed_text = All-cons IsNeed (codes "al", string (codes "file:w")) [] refl (All-nil IsNeed)
 
 listed_truth : MayHaveNeeds (codes "dependencies") (object (member (codes "dependencies") (object (member (codes "al") (boolean true) no_members)) no_members)) → ⊥
 listed_truth has = false≢true (All-head IsNeed (codes "al", boolean true) [] has)
+
+-- an empty list has no needs, and another one is refused
+abbrev developed : Items → Data
+developed items = object (member (codes "devDependencies") (array items) no_members)
+
+listed_none : MayHaveNeeds (codes "devDependencies") (developed no_items)
+listed_none = refl
+
+listed_names : MayHaveNeeds (codes "devDependencies") (developed (item (string (codes "al")) no_items)) → ⊥
+listed_names has = cc

@@ -1,5 +1,5 @@
 -- Which documents are lock files of npm, and which are not.
-use Rattle.std.proofs.Common.{◌≡◌, ◌≢◌, ◌∙◌, ◌&&◌, ℕ, ◌≤◌, Bool, true, false, List, [], ◌∷◌, ◌++◌, length, get_or, codes, map, slice_get, inl, inr, refl, sym, ap, subst, append-nil, append_assoc, arith}
+use Rattle.std.proofs.Common.{◌≡◌, ◌≢◌, ◌∙◌, ◌&&◌, ℕ, ◌≤◌, Bool, true, false, List, [], ◌∷◌, ◌++◌, eqb, eqb-true, length, get_or, codes, map, slice_get, inl, inr, refl, sym, ap, subst, append-nil, append_assoc, arith}
 use Rattle.std.proofs.lemmas.Bool.{false≢true, and_parts}
 use Rattle.std.proofs.lemmas.List.{map-append}
 use Rattle.std.proofs.lemmas.List.Elements.{All-contains, All-from_recursion, All-nil, All-push, Contains-get_or, recursion_from_All}
@@ -8,20 +8,20 @@ use Rattle.std.proofs.lemmas.Option.{get_or_from_slice_get, slice_get_within}
 use Rattle.std.specs.BTreeMap.{BTreeMap}
 use Rattle.std.specs.Borrow.{Bor}
 use Rattle.std.specs.List.{AllByRecursion, join_with_byte, list_all, prefix_len}
-use Rattle.std.specs.Prelude.{◌⊎◌, All, Contains, Option, Some, None, Result, Ok, Err, IfSome, IsSome, MatchOption, OnOk, String, is_some, option_and_then, option_map, string_bytes}
+use Rattle.std.specs.Prelude.{◌⊎◌, All, Contains, Decides, Option, Some, None, Result, Ok, Err, IfSome, IsSome, OnOk, String, is_some, option_and_then, option_map, string_bytes}
 use Rattle.std.specs.Str.Pattern.{CutsPrefixes, FindsTextPrefix, IsTrimStartMatches}
 use Rattle.std.specs.declared.alloc.Global.{Global}
 use Rattle.ptree.specs.File.{FileNode, json}
 use Rattle.ptree.specs.declared.value.document.DocFormat.TheVariants.{Json}
-use Rattle.serde_json.specs.Data.{Data, Members}
-use Rattle.serde_json.specs.Find.{as_object, get}
-use Rattle.serde_json.specs.View.{view, members_view}
+use Rattle.serde_json.specs.Data.{Data, array, Items, no_items, item, Members}
+use Rattle.serde_json.specs.Find.{as_array, as_object, get}
+use Rattle.serde_json.specs.View.{items_view, view, members_view}
 use Rattle.serde_json.specs.declared.value.Value.{Value}
 use Rattle.trees.specs.declared.failure.Failure.{Failure}
 use Rattle.trees.specs.declared.source.Source.{Source}
 use Rattle.trees.specs.Documents.{IsDocumentOf}
 use Rattle.trees.specs.LockingParts.{FailsUnless}
-use Rattle.trees.specs.Npm.{is_up, leads_on, listed, parts, ups, HasNames, HasOwnNames, HoldsNpmLock, IsLeftOut, IsNeed, IsNpmLock, IsOnlyAliased, IsPackage, IsPath, MayHaveNeeds, StandsFor}
+use Rattle.trees.specs.Npm.{is_up, leads_on, listed, parts, ups, HasNames, HasOwnNames, HoldsNpmLock, IsLeftOut, IsNpmLock, IsOnlyAliased, IsPackage, IsPath, StandsFor}
 use Rattle.trees.specs.NpmParts.{name_of, HasSteps, HoldsOnlyNpmLock, IsBehindUp, IsListedAt, Step}
 use Rattle.trees.specs.NpmPatterns.{is_file_name, pieces}
 use Rattle.trees.specs.Reading.{FailsToMake}
@@ -124,26 +124,17 @@ path_cases (b ∷ path) rest behind is =
 
 -- ## Lists
 
-abbrev AreNeeds : Option Members → Type 0
-AreNeeds o = MatchOption o ⊥ (λ needs. All IsNeed (listed needs))
+as_list : (d : Data) (ds : Items) → Some ds ≡ as_array d → d ≡ array ds
+as_list (array es) ds is = (let both : Some ds ≡ Some es = is in cc)
+as_list d ds is = (let no : ◌≡◌ {A = Option Items} (Some ds) None = is in cc)
 
-abbrev MayBeNeeds : Option Data → Type 0
-MayBeNeeds o = IfSome o (λ e. AreNeeds (as_object e))
-
-module _ (key : List ℕ) (d : Data) where
-  pub list_none : None ≡ get key d → MayHaveNeeds key d
-  list_none none = subst MayBeNeeds none tt
-
-  module _ (e : Data) (at : Some e ≡ get key d) where
-    pub list_wrong : None ≡ as_object e → MayHaveNeeds key d → ⊥
-    list_wrong none has = subst AreNeeds (sym none) (subst MayBeNeeds (sym at) has)
-
-    module _ (ms : Members) (is : Some ms ≡ as_object e) where
-      pub list_some : All IsNeed (listed ms) → MayHaveNeeds key d
-      list_some all = subst MayBeNeeds at (subst AreNeeds is all)
-
-      pub list_needs : MayHaveNeeds key d → All IsNeed (listed ms)
-      list_needs has = subst AreNeeds (sym is) (subst MayBeNeeds (sym at) has)
+-- a value is a list without elements
+pub list_sized : (d : Data) (vs : List Value) → Some (items_view vs) ≡ as_array d → Decides (eqb (length vs) 0) (d ≡ array no_items)
+list_sized d [] is = (λ _. as_list d no_items is, λ _. refl)
+list_sized d (v ∷ vs) is = (
+  λ yes. absurd (omega (arith, eqb-true _ 0 yes)),
+  λ empty. (let no : Some (item (view v) (items_view vs)) ≡ Some no_items = is ∙ ap as_array empty in cc),
+)
 
 -- the package at a place
 pub listed_at : {X : Type 0} (P : X → Type 0) (xs : List X) (i : ℕ) (x : X) → slice_get xs i ≡ Some x → All P xs → P x
@@ -151,17 +142,17 @@ listed_at P xs i x at all = subst P (get_or_from_slice_get xs i x x at) (all i x
 
 -- each package that is no link has a step of its own, or that of an alias
 module _ (packages nodes : List (List ℕ × Data)) (steps : List Step) (has : HasSteps packages nodes steps) (all : All (IsListedAt packages) steps) where
-  node_listed : (i : ℕ) (p q : List ℕ × Data) → slice_get nodes i ≡ Some p → StandsFor packages p q → HasNames q
+  node_listed : (i : ℕ) (p q : List ℕ × Data) → slice_get nodes i ≡ Some p → StandsFor packages p q → HasNames packages q
   node_listed i p q at stands =
       let own = has.own i p q at stands in
       let s = own.0 in
       let there : Contains packages (name_of s, q.1) = subst (λ (t : List ℕ). Contains packages (t, q.1)) (sym own.2.called) stands.among in
-      subst (λ (t : List ℕ). HasNames (t, q.1)) own.2.called (All-contains (IsListedAt packages) steps s all own.1 own.2.own q.1 there)
+      subst (λ (t : List ℕ). HasNames packages (t, q.1)) own.2.called (All-contains (IsListedAt packages) steps s all own.1 own.2.own q.1 there)
 
-  among_listed : (p q : List ℕ × Data) → Contains nodes p → StandsFor packages p q → HasNames q
+  among_listed : (p q : List ℕ × Data) → Contains nodes p → StandsFor packages p q → HasNames packages q
   among_listed p q c stands = (let at = among_at nodes p c in node_listed at.0 p q at.1 stands)
 
-  alias_listed : (p : List ℕ × Data) → Contains packages p → leads_on p.0 p.1 ≡ false → IsOnlyAliased packages p → HasNames p
+  alias_listed : (p : List ℕ × Data) → Contains packages p → leads_on p.0 p.1 ≡ false → IsOnlyAliased packages p → HasNames packages p
   alias_listed p c plain only =
       let link = only.link in
       let stands : StandsFor packages link p = record { among = c; at = sym only.leads.1; own = plain } in
@@ -173,7 +164,7 @@ module _ (packages nodes : List (List ℕ × Data)) (steps : List Step) (has : H
         ]
       ]
 
-  pub lists_all : All HasOwnNames packages
+  pub lists_all : All (HasOwnNames packages) packages
   lists_all = λ k d low plain.
       let p = get_or packages k d in
       let c = Contains-get_or packages k d low in
@@ -213,8 +204,8 @@ module _ (lock : Data) (ms : Members) (is : Some ms ≡ option_and_then as_objec
   pub each_of : IsNpmLock lock → All (IsPackage (listed ms)) (listed ms)
   each_of l = subst (λ (qs : Members). All (IsPackage (listed qs)) (listed qs)) (same_packages l) l.each
 
-  pub needs_of_lock : IsNpmLock lock → All HasOwnNames (listed ms)
-  needs_of_lock l = subst (λ (qs : Members). All HasOwnNames (listed qs)) (same_packages l) l.needs
+  pub needs_of_lock : IsNpmLock lock → All (HasOwnNames (listed ms)) (listed ms)
+  needs_of_lock l = subst (λ (qs : Members). All (HasOwnNames (listed qs)) (listed qs)) (same_packages l) l.needs
 
 pub no_packages : (lock : Data) → None ≡ option_and_then as_object (get (codes "packages") lock) → IsNpmLock lock → ⊥
 no_packages lock none l = (let no : None ≡ Some l.packages = none ∙ l.are in cc)

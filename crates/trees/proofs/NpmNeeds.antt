@@ -81,7 +81,7 @@ module _ (packages nodes : List (List ℕ × Data)) (steps : List Step) (has : H
       let place = among_at packages q c in (place.0, ap (λ (ps : List (List ℕ × Data)). slice_get ps place.0) walked_left ∙ (place.1 ∙ ap (λ (t : List ℕ). Some (t, q.1)) (sym called)))
 
   -- what is right of all packages is so of that one
-  pub right_left : s.1 ≡ true → All HasOwnNames packages → IsRightAt (walked mid) (name_of s)
+  pub right_left : s.1 ≡ true → All (HasOwnNames packages) packages → IsRightAt (walked mid) (name_of s)
   right_left kind names =
       let own = own_at packages nodes steps has k s at kind in
       let q = own.1 in
@@ -92,7 +92,7 @@ module _ (packages nodes : List (List ℕ × Data)) (steps : List Step) (has : H
         place = place.0;
         value = q.1;
         at = place.1;
-        names = subst (λ (t : List ℕ). HasNames (t, q.1)) (sym called) (All-contains HasOwnNames packages q names own.3.among own.3.own);
+        names = subst (λ (ps : List (List ℕ × Data)). HasNames ps (name_of s, q.1)) (sym walked_left) (subst (λ (t : List ℕ). HasNames packages (t, q.1)) (sym called) (All-contains (HasOwnNames packages) packages q names own.3.among own.3.own));
       }
 
   -- a folder is entered

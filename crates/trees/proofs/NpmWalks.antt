@@ -15,12 +15,11 @@ use Rattle.std.specs.List.Sorted.{IsStrictlySortedBy}
 use Rattle.std.specs.Map.{lookup}
 use Rattle.std.specs.Option.{option_flatten}
 use Rattle.std.specs.Ordering.{is_eq, nat_cmp, ordering_reverse}
-use Rattle.std.specs.Prelude.{nat_eq, Option, Some, None, MatchOption, IfSome, is_some, All, String, string_bytes, flat_map, option_and_then, option_map, option_to_list, unwrap_or}
+use Rattle.std.specs.Prelude.{nat_eq, Option, Some, None, MatchOption, IfSome, is_some, All, String, string_bytes, flat_map, option_map, option_to_list}
 use Rattle.std.specs.Str.{bytes_eq}
 use Rattle.std.specs.declared.alloc.Global.{Global}
 use Rattle.std.specs.declared.cmp.Ordering.TheVariants.{Less}
-use Rattle.serde_json.specs.Data.{Data, Members}
-use Rattle.serde_json.specs.Find.{as_object, get}
+use Rattle.serde_json.specs.Data.{Data}
 use Rattle.serde_json.specs.View.{view, members_view}
 use Rattle.serde_json.specs.declared.value.Value.{Value}
 use Rattle.trees.specs.declared.deps.npm.Walk.{Walk}
@@ -159,14 +158,6 @@ value_at path d es i up at (Some v) is = (let both : Some v ≡ Some (lookup_at 
 
 -- ## Lists of names
 
-pub names_none : (key : List ℕ) (d : Data) → get key d ≡ None → names_at key d ≡ []
-names_none key d none = ap (λ (o : Option Data). map (λ (p : List ℕ × Data). p.0) (unwrap_or (option_map listed (option_and_then as_object o)) [])) none
-
-pub names_some : (key : List ℕ) (d e : Data) (ms : Members) → get key d ≡ Some e → as_object e ≡ Some ms → names_at key d ≡ map (λ p. p.0) (listed ms)
-names_some key d e ms some is =
-    ap (λ (o : Option Data). map (λ (p : List ℕ × Data). p.0) (unwrap_or (option_map listed (option_and_then as_object o)) [])) some
-    ∙ ap (λ (o : Option Members). map (λ (p : List ℕ × Data). p.0) (unwrap_or (option_map listed o) [])) is
-
 pub placed_some : (path : List ℕ) (r : Option (Bor (List ℕ) × Bor (List ℕ))) → is_some r ≡ true → IfSome r (λ p. IsName p.1.now × (path ≡ path_in p.0.now p.1.now)) → IsPlaced path
 placed_some path None is placed = absurd (false≢true is)
 placed_some path (Some p) is placed = (p.0.now, p.1.now, placed.0, placed.1)
@@ -176,29 +167,18 @@ placed_none path None is found placed = found placed.0 placed.1 placed.2 placed.
 placed_none path (Some p) is found placed = false≢true (sym is)
 
 -- the names of all lists
-pub lists_named : (path : List ℕ) (d : Data) (node : ℕ) (a b c e : Walk) → AddsNamed node (names_at (codes "dependencies") d) a b → AddsDeveloped path d node b c → AddsNamed node (names_at (codes "optionalDependencies") d ++ names_at (codes "peerDependencies") d) c e → AddsLists path d node a e
-lists_named path d node a b c e first developed last =
-    let needed = names_at (codes "dependencies") d in
+pub lists_named : (path : List ℕ) (d : Data) (node : ℕ) (a b c : Walk) → AddsDeveloped path d node a b → AddsNamed node (names_in d) b c → AddsLists path d node a c
+lists_named path d node a b c developed last =
     let beside = names_at (codes "devDependencies") d in
-    let others = names_at (codes "optionalDependencies") d ++ names_at (codes "peerDependencies") d in
     elim developed [
-      | inl in' ↦ (names_in d, λ name. (λ c. inl c, λ named. elim named [ inl c ↦ c | inr out ↦ absurd (out.0 in'.0) ]), named_both node needed others a c e (subst (λ (names : List (List ℕ)). AddsNamed node names a c) (append-nil needed) (named_both node needed [] a b c first in'.1)) last)
+      | inl in' ↦ (names_in d, λ name. (λ c. inl c, λ named. elim named [ inl c ↦ c | inr out ↦ absurd (out.0 in'.0) ]), named_both node [] (names_in d) a b c in'.1 last)
       | inr out ↦ (
-        needed ++ (beside ++ others),
+        beside ++ names_in d,
         λ name. (
-          λ c. elim (Contains-append_cases needed (beside ++ others) name c) [
-            | inl one ↦ inl (Contains-append_left needed others name one)
-            | inr more ↦ elim (Contains-append_cases beside others name more) [ inl own ↦ inr (out.0, own) | inr other ↦ inl (Contains-append_right needed others name other) ]
-          ],
-          λ named. elim named [
-            | inl c ↦ elim (Contains-append_cases needed others name c) [
-              | inl one ↦ Contains-append_left needed (beside ++ others) name one
-              | inr other ↦ Contains-append_right needed (beside ++ others) name (Contains-append_right beside others name other)
-            ]
-            | inr own ↦ Contains-append_right needed (beside ++ others) name (Contains-append_left beside others name own.1)
-          ],
+          λ c. elim (Contains-append_cases beside (names_in d) name c) [ inl own ↦ inr (out.0, own) | inr other ↦ inl other ],
+          λ named. elim named [ inl c ↦ Contains-append_right beside (names_in d) name c | inr own ↦ Contains-append_left beside (names_in d) name own.1 ],
         ),
-        named_both node needed (beside ++ others) a b e first (named_both node beside others b c e out.1 last),
+        named_both node beside (names_in d) a b c out.1 last,
       )
     ]
 

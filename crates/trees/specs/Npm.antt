@@ -6,7 +6,7 @@ use Rattle.std.specs.Ordering.{is_lt, nat_cmp}
 use Rattle.std.specs.Prelude.{◌≡◌, ◌≢◌, ◌≤◌, ◌==◌, ◌-◌, ◌⊎◌, ◌↔◌, ℕ, nat_le, Bool, true, false, if◌then◌else◌, List, [], ◌∷◌, ◌++◌, codes, drop, map, length, replicate, slice_get, All, Contains, Option, Some, None, IfSome, IsSome, MatchOption, option_and_then, option_map, unwrap_or, string_bytes}
 use Rattle.std.specs.Str.{bytes_eq}
 use Rattle.std.specs.StrCase.Lower.{str_to_lowercase}
-use Rattle.serde_json.specs.Data.{Data, Members, no_members, member}
+use Rattle.serde_json.specs.Data.{Data, array, no_items, Members, no_members, member}
 use Rattle.serde_json.specs.Find.{get, as_bool, as_number, as_object, as_str, as_u64}
 use Rattle.ptree.specs.File.{json}
 use Rattle.ptree.specs.declared.value.document.DocFormat.TheVariants.{Json}
@@ -83,6 +83,10 @@ is_link d = unwrap_or (option_and_then as_bool (get (codes "link") d)) false
 -- packages in ascending order of their paths, each path once
 abbrev pub AreAscending : List (List ℕ × Data) → Type 0
 AreAscending packages = IsStrictlySortedBy (slice_cmp nat_cmp) (map (λ p. p.0) packages)
+
+-- of packages, the one at a path is installed: it is in the `node_modules` of the project, or of a folder at which there is another
+abbrev pub IsInstalled : List (List ℕ × Data) → List ℕ → Type 0
+IsInstalled packages path = (folder : List ℕ) × (name : List ℕ) × IsName name × (path ≡ path_in folder name) × ((folder ≡ []) ⊎ Contains (map (λ p. p.0) packages) folder)
 
 -- ## Links
 
@@ -194,13 +198,13 @@ names_at key d = map (λ p. p.0) (unwrap_or (option_map listed (option_and_then 
 abbrev pub names_in : Data → List (List ℕ)
 names_in d = names_at (codes "dependencies") d ++ (names_at (codes "optionalDependencies") d ++ names_at (codes "peerDependencies") d)
 
--- the lists of the package at a path name another, that of what it is developed with if it is in no `node_modules`
-abbrev pub ListsName : List ℕ → Data → List ℕ → Type 0
-ListsName path d name = Contains (names_in d) name ⊎ ((IsPlaced path → ⊥) × Contains (names_at (codes "devDependencies") d) name)
+-- of packages, the lists of the one at a path name another, that of what it is developed with unless it is installed
+abbrev pub ListsName : List (List ℕ × Data) → List ℕ → Data → List ℕ → Type 0
+ListsName packages path d name = Contains (names_in d) name ⊎ ((IsInstalled packages path → ⊥) × Contains (names_at (codes "devDependencies") d) name)
 
 -- of packages, the one at a path names another: its lists do, or it is the project and has that as a workspace
 abbrev pub Names : List (List ℕ × Data) → List ℕ → Data → List ℕ → Type 0
-Names packages path d name = ListsName path d name ⊎ ((path ≡ []) × NameWorkspace (patterns_in d) packages name)
+Names packages path d name = ListsName packages path d name ⊎ ((path ≡ []) × NameWorkspace (patterns_in d) packages name)
 
 -- what is in the `node_modules` of a folder under a name leads to the node with a number
 abbrev pub IsIn : List (List ℕ × Data) → List (List ℕ × Data) → ℕ → List ℕ → List ℕ → Type 0
@@ -270,25 +274,25 @@ pub record IsPackage (packages : List (List ℕ × Data)) (p : List ℕ × Data)
 abbrev pub IsNeed : List ℕ × Data → Type 0
 IsNeed p = IsSome (as_str p.1)
 
--- what is at a key, if anything, is an object of needs
+-- what is at a key, if anything, is an object of needs, or an empty list
 abbrev pub MayHaveNeeds : List ℕ → Data → Type 0
-MayHaveNeeds key d = IfSome (get key d) (λ e. MatchOption (as_object e) ⊥ (λ needs. All IsNeed (listed needs)))
+MayHaveNeeds key d = IfSome (get key d) (λ e. MatchOption (as_object e) (e ≡ array no_items) (λ needs. All IsNeed (listed needs)))
 
--- the lists in which a package names others have needs; what it is developed with counts if it is in no `node_modules`
-pub record HasLists (p : List ℕ × Data) : Type 0 where
+-- the lists in which one of packages names others have needs; what it is developed with counts unless it is installed
+pub record HasLists (packages : List (List ℕ × Data)) (p : List ℕ × Data) : Type 0 where
   pub needs : MayHaveNeeds (codes "dependencies") p.1
-  pub developed : (IsPlaced p.0 → ⊥) → MayHaveNeeds (codes "devDependencies") p.1
+  pub developed : (IsInstalled packages p.0 → ⊥) → MayHaveNeeds (codes "devDependencies") p.1
   pub optional : MayHaveNeeds (codes "optionalDependencies") p.1
   pub peers : MayHaveNeeds (codes "peerDependencies") p.1
 
 -- what names the needs of a package is right: its lists, and the workspaces of the project
-pub record HasNames (p : List ℕ × Data) : Type 0 where
-  pub lists : HasLists p
+pub record HasNames (packages : List (List ℕ × Data)) (p : List ℕ × Data) : Type 0 where
+  pub lists : HasLists packages p
   pub workspaces : p.0 ≡ [] → MayHavePatterns p.1
 
 -- a link needs none of its own
-abbrev pub HasOwnNames : List ℕ × Data → Type 0
-HasOwnNames p = leads_on p.0 p.1 ≡ false → HasNames p
+abbrev pub HasOwnNames : List (List ℕ × Data) → List ℕ × Data → Type 0
+HasOwnNames packages p = leads_on p.0 p.1 ≡ false → HasNames packages p
 
 -- the version of a lock file's format
 abbrev pub format_version : Data → Option ℕ
@@ -305,7 +309,7 @@ pub record IsNpmLock (lock : Data) : Type 0 where
   pub packages : Members
   pub are : option_and_then as_object (get (codes "packages") lock) ≡ Some packages
   pub each : All (IsPackage (listed packages)) (listed packages)
-  pub needs : All HasOwnNames (listed packages)
+  pub needs : All (HasOwnNames (listed packages)) (listed packages)
 
 -- a source is the document of one
 abbrev pub HoldsNpmLock : Source → Data → Type 0

@@ -25,7 +25,7 @@ use Rattle.trees.specs.DependingParts.{labels_of, needs_of, IsIndexed}
 use Rattle.trees.specs.Documents.{IsDocumentOf}
 use Rattle.trees.specs.Locking.{Lacks}
 use Rattle.trees.specs.LockingParts.{AddsEdges}
-use Rattle.trees.specs.Npm.{listed, path_in, folders, names_at, AreAscending, AreNodes, HasLabel, HasNames, HasOwnNames, IsAlias, IsIn, IsName, IsNearest, IsNpmLock, IsPlaced, LeadsTo, LinksTo, ListsName, MeansPackages, Names, NameWorkspace, Needs, StandsFor}
+use Rattle.trees.specs.Npm.{listed, path_in, folders, names_at, AreAscending, AreNodes, HasLabel, HasNames, HasOwnNames, IsAlias, IsIn, IsInstalled, IsName, IsNearest, IsNpmLock, LeadsTo, LinksTo, ListsName, MeansPackages, Names, NameWorkspace, Needs, StandsFor}
 use Rattle.trees.specs.NpmPatterns.{pattern_of}
 
 -- a network gets nodes: their paths, and their labels among packages
@@ -256,11 +256,11 @@ pub record AddsNamed (node : ℕ) (names : List (List ℕ)) (old new : Walk) : T
   pub packages : new.packages ≡ old.packages
   pub needs : needs_in new ≡ needs_in old ++ flat_map (edges_by (entered_of old) node) names
 
--- those that a package is developed with
+-- those that a package is developed with, unless it is installed
 abbrev pub AddsDeveloped : List ℕ → Data → ℕ → Walk → Walk → Type 0
 AddsDeveloped path d node old new =
-    (IsPlaced path × AddsNamed node [] old new)
-    ⊎ ((IsPlaced path → ⊥) × AddsNamed node (names_at (codes "devDependencies") d) old new)
+    (IsInstalled (walked old) path × AddsNamed node [] old new)
+    ⊎ ((IsInstalled (walked old) path → ⊥) × AddsNamed node (names_at (codes "devDependencies") d) old new)
 
 -- the needs of exactly the names that are so
 abbrev pub AddsAll : (List ℕ → Type 0) → ℕ → Walk → Walk → Type 0
@@ -268,7 +268,7 @@ AddsAll Is node old new = (names : List (List ℕ)) × ((name : List ℕ) → Co
 
 -- those in the lists of a package, the workspaces of patterns, and all that a package names
 abbrev pub AddsLists : List ℕ → Data → ℕ → Walk → Walk → Type 0
-AddsLists path d = AddsAll (ListsName path d)
+AddsLists path d node old new = AddsAll (ListsName (walked old) path d) node old new
 
 abbrev pub AddsWorkspaces : List (List ℕ) → ℕ → Walk → Walk → Type 0
 AddsWorkspaces patterns node old new = AddsAll (NameWorkspace patterns (walked old)) node old new
@@ -314,7 +314,7 @@ AreNeeds packages nodes es = (i j : ℕ) → Contains es (i, j) ↔ Needs packag
 
 -- what names needs is right of the package that a step is at itself
 abbrev pub IsListedAt : List (List ℕ × Data) → Step → Type 0
-IsListedAt packages s = s.1 ≡ true → (d : Data) → Contains packages (name_of s, d) → HasNames (name_of s, d)
+IsListedAt packages s = s.1 ≡ true → (d : Data) → Contains packages (name_of s, d) → HasNames packages (name_of s, d)
 
 -- it is right of the package at a path
 pub record IsRightAt (packages : List (List ℕ × Data)) (path : List ℕ) : Type 0 where
@@ -322,13 +322,13 @@ pub record IsRightAt (packages : List (List ℕ × Data)) (path : List ℕ) : Ty
   pub place : ℕ
   pub value : Data
   pub at : slice_get packages place ≡ Some (path, value)
-  pub names : HasNames (path, value)
+  pub names : HasNames packages (path, value)
 
 -- the same of all packages that are no links, of which steps are
 pub record AreRight (packages : List (List ℕ × Data)) (steps : List Step) : Type 0 where
   pub nodes : List (List ℕ × Data)
   pub has : HasSteps packages nodes steps
-  pub names : All HasOwnNames packages
+  pub names : All (HasOwnNames packages) packages
 
 -- and a walk is at a place of these
 pub record IsRightAtStep (packages : List (List ℕ × Data)) (steps : List Step) (k : ℕ) (w : Walk) : Type 0 where

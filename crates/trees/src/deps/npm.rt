@@ -4,13 +4,13 @@ ghost use Rattle.std.specs.List.{list_all, slice_split};
 ghost use Rattle.std.specs.List.Sorted.{IsStrictlySortedBy};
 ghost use Rattle.std.specs.Ordering.{nat_cmp};
 ghost use Rattle.std.specs.Prelude.{◌≡◌, ◌+◌, ℕ, false, true, [], ◌∷◌, ◌++◌, ◌==◌, ⊤, codes, length, map, List, replicate, slice_get, All, Contains, Decides, Some, MatchOption, option_and_then, option_copied, option_map, IfErr, IfNone, IfSome, IfOk, OnOk, string_bytes};
-ghost use Rattle.serde_json.specs.Data.{Data};
+ghost use Rattle.serde_json.specs.Data.{Data, array, no_items};
 ghost use Rattle.serde_json.specs.Find.{as_object, get};
 ghost use Rattle.serde_json.specs.View.{view, members_view};
 ghost use Rattle.trees.specs.DependingParts.{IsEmpty, IsIndexed};
 ghost use Rattle.trees.specs.Documents.{IsLastPart};
 ghost use Rattle.trees.specs.LockingParts.{AddsEdges, FailsUnless};
-ghost use Rattle.trees.specs.Npm.{path_in, packages_in, with_project, listed, text_at, is_link, leads_on, target, known_name, other_name, behind, around, folders, format_version, ups, IsAlias, IsDrawnName, IsLastName, IsLeftOut, IsName, IsNameOf, IsOnlyAliased, IsPath, IsRootName, IsCalled, IsLabel, IsNpmLock, IsPackage, AreAscending, AreNodes, HasOwnNames, HasPaths, HasTexts, HoldsNpmLock, IsNeed, MayBeLink, MayHaveText, StandsFor};
+ghost use Rattle.trees.specs.Npm.{path_in, packages_in, with_project, listed, text_at, is_link, leads_on, target, known_name, other_name, behind, around, folders, format_version, ups, IsAlias, IsDrawnName, IsInstalled, IsLastName, IsLeftOut, IsName, IsNameOf, IsOnlyAliased, IsPath, IsRootName, IsCalled, IsLabel, IsNpmLock, IsPackage, AreAscending, AreNodes, HasOwnNames, HasPaths, HasTexts, HoldsNpmLock, IsNeed, MayBeLink, MayHaveText, StandsFor};
 ghost use Rattle.trees.specs.NpmParts.{AddsNodes, AddsPackages, AddsNearest, AddsSteps, AddsStepsIn, ArePaths, AreRight, HasPackages, HasSteps, HoldsOnlyNpmLock, HoldsPackages, IsBehindUp, KnowsAll, KnowsLinks, chosen, edge_of, packages_of, texts_of};
 ghost use Rattle.trees.specs.NpmPatterns.{is_file_name, is_glob, is_hidden, is_literal, is_part, pattern_list, pieces, plain, ArePatterns, IsOutside, IsPattern, IsPatternText, LiesIn, Means};
 ghost use Rattle.trees.specs.Reading.{FailsFor, FailsToMake};
@@ -594,6 +594,16 @@ fn place(path: &str) -> Option<(&str, &str)>
     }
 }
 
+// Whether what is at a path is in the `node_modules` of the project, or of a package.
+fn is_installed(packages: &Packages, path: &str) -> bool
+    ensures { Decides result (IsInstalled (packages_of packages.now) path.now) }
+{
+    match place(path) {
+        Some((folder, _)) => folder.is_empty() || packages.contains_key(folder),
+        None => false,
+    }
+}
+
 // Returns what stands in folders, those of a folder after those of the folders above. Nodes have
 // these paths.
 fn steps<'a>(
@@ -742,7 +752,7 @@ fn push_needs<'a>(
         (AddsNearest (packages_of packages.now) steps.now network.old network.new) }
     ensures only { (nodes : List (List ℕ × Data))
         → HasSteps (packages_of packages.now) nodes steps.now
-        → OnOk result (All HasOwnNames (packages_of packages.now)) }
+        → OnOk result (All (HasOwnNames (packages_of packages.now)) (packages_of packages.now)) }
     ensures failed { IfErr result
         (FailsUnless (AreRight (packages_of packages.now) steps.now)) }
 {
@@ -795,7 +805,7 @@ impl<'s, 'a> Walk<'s, 'a> {
     ghost use Rattle.serde_json.specs.View.{view};
     ghost use Rattle.trees.specs.DependingParts.{IsIndexed};
     ghost use Rattle.trees.specs.LockingParts.{FailsUnless};
-    ghost use Rattle.trees.specs.Npm.{names_at, AreAscending, HasLists, HasNames, HasOwnNames, IsPlaced, MayHaveNeeds};
+    ghost use Rattle.trees.specs.Npm.{names_at, AreAscending, HasLists, HasNames, HasOwnNames, IsInstalled, MayHaveNeeds};
     ghost use Rattle.trees.specs.NpmParts.{Step, nearest_of, entered_of, texts_of, packages_of, patterns_of, walked, IsReady, IsFresh, HasSteps, IsAtStep, IsListedAt, IsRightAt, IsRightAtStep, AreRight, Enters, Leaves, AddsNamed, AddsDeveloped, AddsLists, AddsNames, AddsWorkspaces, AddsNearest};
     ghost use Rattle.trees.specs.NpmPatterns.{patterns_in, IsPattern, MayHavePatterns};
 
@@ -811,7 +821,7 @@ impl<'s, 'a> Walk<'s, 'a> {
             (AddsNearest (walked self.old) steps.now network.old network.new) }
         ensures only { IsFresh self.old → (nodes : List (List ℕ × Data))
             → HasSteps (walked self.old) nodes steps.now
-            → OnOk result (All HasOwnNames (walked self.old)) }
+            → OnOk result (All (HasOwnNames (walked self.old)) (walked self.old)) }
         ensures failed { IsFresh self.old
             → IfErr result (FailsUnless (AreRight (walked self.old) steps.now)) }
     {
@@ -884,7 +894,7 @@ impl<'s, 'a> Walk<'s, 'a> {
             → OnOk result (AddsNames path.now d node self.old self.new) }
         ensures only { AreAscending (walked self.old) → (i : ℕ) (d : Data)
             → slice_get (walked self.old) i ≡ Some (path.now, d)
-            → OnOk result (HasNames (path.now, d)) }
+            → OnOk result (HasNames (walked self.old) (path.now, d)) }
         ensures failed { IfErr result (FailsUnless (IsRightAt (walked self.old) path.now)) }
     {
         let Some(package) = self.packages.get(path) else {
@@ -910,16 +920,18 @@ impl<'s, 'a> Walk<'s, 'a> {
     ) -> Result<(), Failure>
         ensures added { IsReady self.old → OnOk result
             (AddsLists path.now (view «package».now) node self.old self.new) }
-        ensures only { OnOk result (HasLists (path.now, view «package».now)) }
-        ensures failed { IfErr result (FailsUnless (HasLists (path.now, view «package».now))) }
+        ensures only { OnOk result
+            (HasLists (walked self.old) (path.now, view «package».now)) }
+        ensures failed { IfErr result
+            (FailsUnless (HasLists (walked self.old) (path.now, view «package».now))) }
     {
-        self.push_list(alloc, source, node, path, package, "dependencies")?;
         self.push_developed(alloc, source, node, path, package)?;
+        self.push_list(alloc, source, node, path, package, "dependencies")?;
         self.push_list(alloc, source, node, path, package, "optionalDependencies")?;
         self.push_list(alloc, source, node, path, package, "peerDependencies")
     }
 
-    // Adds what it is developed with, if it is not in a `node_modules`.
+    // Adds what it is developed with, unless it is installed.
     fn push_developed(
         &mut self,
         alloc: Global,
@@ -930,12 +942,12 @@ impl<'s, 'a> Walk<'s, 'a> {
     ) -> Result<(), Failure>
         ensures added { IsReady self.old → OnOk result
             (AddsDeveloped path.now (view «package».now) node self.old self.new) }
-        ensures only { OnOk result ((IsPlaced path.now → ⊥)
+        ensures only { OnOk result ((IsInstalled (walked self.old) path.now → ⊥)
             → MayHaveNeeds (codes "devDependencies") (view «package».now)) }
-        ensures failed { IfErr result (FailsUnless ((IsPlaced path.now → ⊥)
+        ensures failed { IfErr result (FailsUnless ((IsInstalled (walked self.old) path.now → ⊥)
             → MayHaveNeeds (codes "devDependencies") (view «package».now))) }
     {
-        if place(path).is_some() {
+        if is_installed(self.packages, path) {
             return Ok(());
         }
         self.push_list(alloc, source, node, path, package, "devDependencies")
@@ -965,6 +977,7 @@ impl<'s, 'a> Walk<'s, 'a> {
                 check_needs(alloc, source, path, list, needs)?;
                 Ok(self.push_names(alloc, node, needs)?)
             }
+            None if is_empty_list(needs) => Ok(()),
             None => Err(wrong(alloc, source, &["invalid ", list, " of ", whose(path)])),
         }
     }
@@ -1044,6 +1057,16 @@ impl<'s, 'a> Walk<'s, 'a> {
         let nearest = self.nearest.get(lower).copied().flatten()?;
         let same = self.same.get(name).copied().flatten();
         Some(chosen(nearest, same))
+    }
+}
+
+// Whether a value is a list without elements, which npm takes for no needs.
+fn is_empty_list(value: &Value) -> bool
+    ensures { Decides result (view value.now ≡ array no_items) }
+{
+    match value.as_array() {
+        Some(items) => items.as_slice().is_empty(),
+        None => false,
     }
 }
 

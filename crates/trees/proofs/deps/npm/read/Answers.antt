@@ -46,7 +46,7 @@ returns-then-is_empty-clause-only c = λ empty.
       packages = ms;
       are = sym c.in-Some.ensures.members;
       each = subst (All (IsPackage (listed ms))) none (All-nil (IsPackage (listed ms)));
-      needs = subst (All HasOwnNames) none (All-nil HasOwnNames);
+      needs = subst (All (HasOwnNames (listed ms))) none (All-nil (HasOwnNames (listed ms)));
     }
 
 pub returns-then-not-has_paths-clause-failed : goal.returns-then-not-has_paths-clause-failed
@@ -82,5 +82,5 @@ returns-clause-only c = λ empty.
     let adds = c.in_ok-push_nodes.ensures.added in
     let steps = c.in_ok-steps.ensures adds.0 adds.1 (paths_first ps root adds.0 c.args.network.now c.push_nodes.new.network empty adds.2 c.deref.result.now c.deref.ensures.value) in
     let has = subst (HasSteps ps adds.0) (sym c.deref-2.ensures.value) steps in
-    ok_more c.push_needs.result (All HasOwnNames ps) (IsNpmLock (view c.args.lock.now))
+    ok_more c.push_needs.result (All (HasOwnNames ps) ps) (IsNpmLock (view c.args.lock.now))
     (λ names. record { version = c.has_paths.ensures.0 c.if-not-has_paths.false; texts = c.in_ok-check_texts.ensures.only; packages = members_view c.in-Some.packages.now.entries; are = sym c.in-Some.ensures.members; each = c.in_ok-push_nodes.ensures.only; needs = names }) (c.push_needs.ensures.only adds.0 has)

@@ -35,10 +35,11 @@ returns-then-step-clause-only c = λ packages nodes steps k has at was.
     let leaves = subst (λ (fs : List (Bor (List ℕ))). Leaves (texts_of fs) old mid) c.deref.ensures.value (c.in_ok-leave.ensures was.ready) in
     let own = own_at packages nodes steps has k s at c.if-step.true in
     let q = own.1 in
-    let up = subst AreAscending (sym (walked_left packages nodes steps has k s at old mid was leaves)) has.ascending in
+    let all = walked_left packages nodes steps has k s at old mid was leaves in
+    let up = subst AreAscending (sym all) has.ascending in
     let place = package_at packages nodes steps has k s at old mid was leaves q own.3.among own.4.called in
-    ok_more c.push_needs.result (HasNames (name_of s, q.1)) (IsListedAt packages s)
-    (λ lists kind d there. subst (λ (x : Data). HasNames (name_of s, x)) (sym (same_at packages has.ascending q own.3.among (name_of s) d own.4.called there)) lists) (c.push_needs.ensures.only up place.0 q.1 place.1)
+    ok_more c.push_needs.result (HasNames (walked mid) (name_of s, q.1)) (IsListedAt packages s)
+    (λ lists kind d there. subst (λ (ps : List (List ℕ × Data)). HasNames ps (name_of s, d)) all (subst (λ (x : Data). HasNames (walked mid) (name_of s, x)) (sym (same_at packages has.ascending q own.3.among (name_of s) d own.4.called there)) lists)) (c.push_needs.ensures.only up place.0 q.1 place.1)
 
 pub returns-in_ok-enter-clause-only : goal.returns-in_ok-enter-clause-only
 returns-in_ok-enter-clause-only c = λ packages nodes steps k has at was kind d there. absurd (false≢true (sym c.if-step.false ∙ kind))

@@ -43,22 +43,25 @@ returns-in_default-clause-only c = λ up i d at. absurd (value_at c.args.path.no
 pub returns-then-is_empty-clause-only : goal.returns-then-is_empty-clause-only
 returns-then-is_empty-clause-only c = λ up i d at.
     let path = c.args.path.now in
+    let ps = walked c.args.self.now in
     let same = value_at path d c.args.self.now.packages.now.entries i up at (Some c.in-Some.package.now) c.in-Some.ensures.value in
-    ok_more c.push_workspaces.result (MayHavePatterns (view c.in-Some.package.now)) (HasNames (path, d))
-    (λ are. subst (λ (x : Data). HasNames (path, x)) same (record { lists = c.in_ok-push_lists.ensures.only; workspaces = λ none. are })) c.push_workspaces.ensures.only
+    ok_more c.push_workspaces.result (MayHavePatterns (view c.in-Some.package.now)) (HasNames ps (path, d))
+    (λ are. subst (λ (x : Data). HasNames ps (path, x)) same (record { lists = c.in_ok-push_lists.ensures.only; workspaces = λ none. are })) c.push_workspaces.ensures.only
 
 pub returns-else-is_empty-clause-only : goal.returns-else-is_empty-clause-only
 returns-else-is_empty-clause-only c = λ up i d at.
     let path = c.args.path.now in
+    let ps = walked c.args.self.now in
     let same = value_at path d c.args.self.now.packages.now.entries i up at (Some c.in-Some.package.now) c.in-Some.ensures.value in
     let some = λ (none : path ≡ []). false≢true (sym c.if-is_empty.false ∙ (c.is_empty.ensures ∙ ap (λ (t : List ℕ). eqb (length t) 0) none)) in
-    subst (λ (x : Data). HasNames (path, x)) same (record { lists = c.in_ok-push_lists.ensures.only; workspaces = λ none. absurd (some none) })
+    subst (λ (x : Data). HasNames ps (path, x)) same (record { lists = c.in_ok-push_lists.ensures.only; workspaces = λ none. absurd (some none) })
 
 pub returns-in_err-push_lists-clause-failed : goal.returns-in_err-push_lists-clause-failed
 returns-in_err-push_lists-clause-failed c =
     let path = c.args.path.now in
-    let says = fails_unless (HasLists (path, view c.in-Some.package.now)) (IsRightAt (walked c.args.self.now) path) c.in_err-push_lists.field-0.0
-    (λ is. subst (λ (e : Data). HasLists (path, e)) (sym (value_at path is.value c.args.self.now.packages.now.entries is.place is.ascending is.at (Some c.in-Some.package.now) c.in-Some.ensures.value)) is.names.lists) c.in_err-push_lists.ensures.failed in
+    let ps = walked c.args.self.now in
+    let says = fails_unless (HasLists ps (path, view c.in-Some.package.now)) (IsRightAt ps path) c.in_err-push_lists.field-0.0
+    (λ is. subst (λ (e : Data). HasLists ps (path, e)) (sym (value_at path is.value c.args.self.now.packages.now.entries is.place is.ascending is.at (Some c.in-Some.package.now) c.in-Some.ensures.value)) is.names.lists) c.in_err-push_lists.ensures.failed in
     search (rules, says)
 
 pub returns-then-is_empty-clause-failed : goal.returns-then-is_empty-clause-failed
