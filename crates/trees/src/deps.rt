@@ -1,6 +1,6 @@
 //! Dependencies of lock files and of lists of pairs.
 ghost use Rattle.std.specs.List.{list_any};
-ghost use Rattle.std.specs.Prelude.{◌≡◌, ⊤, ℕ, List, true, length, map, Any, IfOk, IfErr, MatchOption, OnOk, is_some, string_bytes};
+ghost use Rattle.std.specs.Prelude.{◌≡◌, ⊤, true, length, map, Any, IfOk, IfErr, MatchOption, OnOk, is_some, string_bytes};
 ghost use Rattle.std.specs.Str.{bytes_eq};
 ghost use Rattle.ptree.specs.Graph.{weights_of, edges_of, LacksNode};
 ghost use Rattle.trees.specs.Depending.{begins_as, has_tables, is_other_line, other_names, IsNoName, IsOwn};

@@ -128,11 +128,11 @@ fn has_poetry_version(metadata: &Value) -> bool
 fn is_poetry_format(version: &Value) -> bool
     ensures { Decides result (IsPoetryFormat (view version.now)) }
 {
-    begins_as(version, "1.") || begins_as(version, "2.")
+    has_start(version, "1.") || has_start(version, "2.")
 }
 
 // Whether a value is a text that begins so.
-fn begins_as(value: &Value, start: &str) -> bool
+fn has_start(value: &Value, start: &str) -> bool
     ensures { Decides result (BeginsAs start.now (view value.now)) }
 {
     match value.as_str() {
