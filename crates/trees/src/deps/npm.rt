@@ -1,6 +1,6 @@
 //! Lock files of npm.
 ghost use Rattle.std.specs.Cmp.Lexicographic.{slice_cmp};
-ghost use Rattle.std.specs.List.{list_all, slice_split};
+ghost use Rattle.std.specs.List.{list_all};
 ghost use Rattle.std.specs.List.Sorted.{IsStrictlySortedBy};
 ghost use Rattle.std.specs.Ordering.{nat_cmp};
 ghost use Rattle.std.specs.Prelude.{◌≡◌, ◌+◌, ℕ, false, true, [], ◌∷◌, ◌++◌, ◌==◌, ⊤, codes, length, map, List, replicate, slice_get, All, Contains, Decides, Some, MatchOption, option_and_then, option_copied, option_map, IfErr, IfNone, IfSome, IfOk, OnOk, string_bytes};
@@ -11,7 +11,7 @@ ghost use Rattle.trees.specs.DependingParts.{IsEmpty, IsIndexed};
 ghost use Rattle.trees.specs.Documents.{IsLastPart};
 ghost use Rattle.trees.specs.LockingParts.{AddsEdges, FailsUnless};
 ghost use Rattle.trees.specs.Npm.{path_in, packages_in, with_project, listed, text_at, is_link, leads_on, target, known_name, other_name, behind, around, folders, format_version, ups, IsAlias, IsDrawnName, IsInstalled, IsLastName, IsLeftOut, IsName, IsNameOf, IsOnlyAliased, IsPath, IsRootName, IsCalled, IsLabel, IsNpmLock, IsPackage, AreAscending, AreNodes, HasOwnNames, HasPaths, HasTexts, HoldsNpmLock, IsNeed, MayBeLink, MayHaveText, StandsFor};
-ghost use Rattle.trees.specs.NpmParts.{AddsNodes, AddsPackages, AddsNearest, AddsSteps, AddsStepsIn, ArePaths, AreRight, HasPackages, HasSteps, HoldsOnlyNpmLock, HoldsPackages, IsBehindUp, KnowsAll, KnowsLinks, chosen, edge_of, packages_of, texts_of};
+ghost use Rattle.trees.specs.NpmParts.{AddsNodes, AddsPackages, AddsNearest, AddsSteps, AddsStepsIn, ArePaths, AreRight, HasPackages, HasSteps, HoldsOnlyNpmLock, HoldsPackages, IsBehindUp, KnowsAll, chosen, edge_of, packages_of, texts_of};
 ghost use Rattle.trees.specs.NpmPatterns.{is_file_name, is_glob, is_hidden, is_literal, is_part, pattern_list, pieces, plain, ArePatterns, IsOutside, IsPattern, IsPatternText, LiesIn, Means};
 ghost use Rattle.trees.specs.Reading.{FailsFor, FailsToMake};
 
