@@ -3,6 +3,7 @@ pub mod Conversions
 pub mod DeepLines
 pub mod Differences
 pub mod DistinctTexts
+pub mod Elements
 pub mod Examples
 pub mod Fronts
 pub mod GivenPaths

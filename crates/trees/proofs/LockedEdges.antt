@@ -8,6 +8,7 @@ use Rattle.trees.specs.declared.deps.Network.{Network}
 use Rattle.trees.specs.Depending.{directed, same_edge, firsts}
 use Rattle.trees.specs.DependingParts.{needs_of, added, AddsEdge, IsIndexed}
 use Rattle.trees.specs.LockingParts.{AddsEdges, AddsNeeds}
+use Rattle.trees.proofs.Elements.{zip_both}
 use Rattle.trees.proofs.Networks.{edge_exact, edge_flips, firsts_push}
 
 -- ## Edges
@@ -50,12 +51,7 @@ module _ (node : ℕ) where
     a.0 ++ b.0,
     zip_both R xs ys a.0 b.0 a.1 b.1,
     subst (AddsEdges old m) (sym (map-append (λ (t : ℕ). (node, t)) a.0 b.0)) (edges_both old n m (map (λ t. (node, t)) a.0) (map (λ t. (node, t)) b.0) a.2 b.2),
-  ) where
-    zip_both : {X Y : Type 0} (R : X → Y → Type 0) (xs ys : List X) (vs ws : List Y) → AllZip R xs vs → AllZip R ys ws → AllZip R (xs ++ ys) (vs ++ ws)
-    zip_both R [] ys [] ws a b = b
-    zip_both R [] ys (v ∷ vs) ws a b = absurd a
-    zip_both R (x ∷ xs) ys [] ws a b = absurd a
-    zip_both R (x ∷ xs) ys (v ∷ vs) ws a b = (a.0, zip_both R xs ys vs ws a.1 b)
+  )
 
   -- one more element
   pub needs_more : {X : Type 0} (R : X → ℕ → Type 0) (xs : List X) (x : X) (at : ℕ) (old n m : Network) → AddsNeeds node (AllZip R xs) old n → R x at → (IsIndexed n → AddsEdge n m (directed n.is_inverse (node, at))) → AddsNeeds node (AllZip R (xs ++ x ∷ [])) old m

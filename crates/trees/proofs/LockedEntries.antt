@@ -82,6 +82,7 @@ pub all_lists : (lists : List (Bor Value)) (es : List (String Global × Value)) 
 all_lists lists es all =
     ap (flat_map entries_of) (map_twice (λ (v : Bor Value). v.now) view lists ∙ (ap (map view) all ∙ sym (values_seen es)))
 
+-- what a call has done is also what follows of it
 pub ok_more : {T E : Type 0} (r : Result T E) (P Q : Type 0) → (P → Q) → OnOk r P → OnOk r Q
 ok_more (Ok x) P Q f is = f is
 ok_more (Err e) P Q f is = tt

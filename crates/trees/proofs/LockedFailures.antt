@@ -1,20 +1,20 @@
 -- Which tables are no lock file.
-use Rattle.std.proofs.Common.{◌≡◌, ◌∙◌, ℕ, zero, suc, ◌+◌, ◌-◌, ◌<◌, ◌≤◌, true, false, List, [], ◌∷◌, length, get_or, map, inl, inr, refl, sym, ap, subst, arith}
+use Rattle.std.proofs.Common.{◌≡◌, ◌∙◌, ℕ, ◌+◌, ◌-◌, ◌<◌, ◌≤◌, true, false, List, [], ◌∷◌, length, get_or, map, inl, inr, refl, sym, ap, subst, arith}
 use Rattle.std.proofs.lemmas.Bool.{false≢true}
 use Rattle.std.proofs.lemmas.Cmp.{eq_by_cmp_equiv, tied_itself}
 use Rattle.std.proofs.lemmas.List.{get_or_default, get_or-map, length-map}
-use Rattle.std.proofs.lemmas.List.Elements.{All-head, All-tail, All-contains, All-map, All-weaker}
-use Rattle.std.proofs.lemmas.List.Sorted.{All-permutation, Contains-permutation, IsPermutation-map, IsPermutation-sym, IsPermutation-trans}
-use Rattle.std.proofs.lemmas.Map.Keys.{sorted_tail, apart_from_distinct, IsDistinct-from_sorted, IsDistinct-IsPermutation}
-use Rattle.std.proofs.lemmas.Map.Views.{All-after_first}
+use Rattle.std.proofs.lemmas.List.Elements.{All-head, All-tail, All-map, All-weaker}
+use Rattle.std.proofs.lemmas.List.Sorted.{All-permutation, list_any-IsPermutation, IsPermutation-map, IsPermutation-sym, IsPermutation-trans}
+use Rattle.std.proofs.lemmas.Map.Keys.{apart_from_distinct, IsDistinct-from_sorted, IsDistinct-IsPermutation}
+use Rattle.std.proofs.lemmas.Map.Lookups.{btree_set_from_contains}
 use Rattle.std.proofs.lemmas.Result.{IfErr-weaker}
+use Rattle.std.specs.BTreeMap.{is_at}
 use Rattle.std.specs.Borrow.{Bor}
-use Rattle.std.specs.List.{All, Contains}
-use Rattle.std.specs.List.Sorted.{IsPermutation, IsStrictlySortedBy}
+use Rattle.std.specs.List.{All}
+use Rattle.std.specs.List.Sorted.{IsPermutation}
 use Rattle.std.specs.Option.{option_and_then}
 use Rattle.std.specs.Ordering.{eq_by_cmp, is_eq}
-use Rattle.std.specs.Prelude.{◌⊎◌, ⊤, Option, Some, None, is_some, unwrap_or, codes, Result, IfErr}
-use Rattle.std.specs.declared.cmp.Ordering.TheVariants.{Less, Equal}
+use Rattle.std.specs.Prelude.{⊤, Option, Some, None, is_some, unwrap_or, codes, Result, IfErr}
 use Rattle.toml.specs.Data.{Data, get, as_array, as_str}
 use Rattle.toml.specs.View.{view}
 use Rattle.toml.specs.declared.value.Value.{Value}
@@ -28,7 +28,7 @@ use Rattle.trees.specs.LockingParts.{package_of, table_of, AreLocked, FailsUnles
 use Rattle.trees.specs.Meaning.{HoldsLock}
 use Rattle.trees.specs.Reading.{FailsFor, FailsToMake}
 use Rattle.trees.proofs.LockedPackages.{nothing, package_total}
-use Rattle.trees.proofs.LockedTables.{AreRead, all_moved, each_moved}
+use Rattle.trees.proofs.LockedTables.{AreRead, all_moved, each_moved, one_package}
 use Rattle.trees.proofs.LockedTuples.{Tuple, no_tuple}
 use Rattle.trees.proofs.Readings.{fails_weaker}
 use Rattle.trees.proofs.SourceTexts.{seen}
@@ -117,46 +117,12 @@ module _ (tables : List Data) where
 
 -- ## Order
 
-first_or : (x y : Package) (ys : List Package) → Contains (y ∷ ys) x → (y ≡ x) ⊎ Contains ys x
-first_or x y ys c = by c.0 c.1 c.2 where
-  by : (k : ℕ) → k < length (y ∷ ys) → get_or (y ∷ ys) k x ≡ x → (y ≡ x) ⊎ Contains ys x
-  by zero low is = inl is
-  by (suc k) low is = inr (k, omega arith, is)
-
-behind_first : (x y : Package) (ys : List Package) → Contains ys x → Contains (y ∷ ys) x
-behind_first x y ys c = (suc c.0, omega (arith, c.1), c.2)
-
-above : (p : Package) (ps : List Package) → IsStrictlySortedBy package_cmp (p ∷ ps) → (x : Package) → Contains ps x → package_cmp p x ≡ Less
-above p ps up x c = All-contains (λ q. package_cmp p q ≡ Less) ps x (All-after_first package_cmp p ps up) c
-
-not_itself : (p q : Package) → p ≡ q → package_cmp p q ≡ Less → ⊥
-not_itself p q e less = (let no : Less ≡ Equal = sym less ∙ (ap (λ (r : Package). package_cmp r q) e ∙ tied_itself package_total q) in cc)
-
-not_both : (p q : Package) → package_cmp p q ≡ Less → package_cmp q p ≡ Less → ⊥
-not_both p q less more = not_itself p p refl (package_total.trans p q p less more)
-
--- packages in order that have the same elements
-sorted_same : (ps qs : List Package) → IsStrictlySortedBy package_cmp ps → IsStrictlySortedBy package_cmp qs → ((x : Package) → Contains ps x → Contains qs x) → ((x : Package) → Contains qs x → Contains ps x) → ps ≡ qs
-sorted_same [] [] a b to from = refl
-sorted_same [] (q ∷ qs) a b to from = absurd (omega (arith, (from q (0, omega arith, refl)).1))
-sorted_same (p ∷ ps) [] a b to from = absurd (omega (arith, (to p (0, omega arith, refl)).1))
-sorted_same (p ∷ ps) (q ∷ qs) a b to from =
-    ap (λ (x : Package). x ∷ ps) first
-    ∙ ap (λ (xs : List Package). q ∷ xs) (sorted_same ps qs (sorted_tail package_cmp p ps a) (sorted_tail package_cmp q qs b)
-    (λ x c. elim (first_or x q qs (to x (behind_first x p ps c))) [ inl e ↦ absurd (not_itself p x (first ∙ e) (above p ps a x c)) | inr behind ↦ behind ])
-    (λ x c. elim (first_or x p ps (from x (behind_first x q qs c))) [ inl e ↦ absurd (not_itself q x (sym first ∙ e) (above q qs b x c)) | inr behind ↦ behind ])) where
-      first : p ≡ q
-      first = elim (first_or p q qs (to p (0, omega arith, refl))) [
-        | inl same ↦ sym same
-        | inr behind ↦ elim (first_or q p ps (from q (0, omega arith, refl))) [ inl same ↦ same | inr other ↦ absurd (not_both p q (above p ps a q other) (above q qs b p behind)) ]
-      ]
-
 -- the packages of tables are determined
 pub same_packages : (tables : List Data) (ps : List Tuple) (locked : List (Data × Package)) → AreLocked tables ps → ArePackages tables locked → map (λ l. l.1) locked ≡ map package_of ps
 same_packages tables ps locked found are =
     let same = moved tables ps found.each found.all locked are in
     let qs = map (λ (l : Data × Package). l.1) locked in
-    sorted_same qs (map package_of ps) are.ascending found.ascending (λ x. Contains-permutation qs (map package_of ps) x same) (λ x. Contains-permutation (map package_of ps) qs x (IsPermutation-sym qs (map package_of ps) same))
+    btree_set_from_contains package_total (record { keys = qs }) (record { keys = map package_of ps }) are.ascending found.ascending (λ p. list_any-IsPermutation (is_at (package_cmp p)) qs (map package_of ps) same) one_package
 
 -- ## Lock files
 

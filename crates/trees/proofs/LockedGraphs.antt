@@ -11,7 +11,7 @@ use Rattle.trees.specs.LockingParts.{package_of, table_of, AddsEdges, AddsNeeds,
 use Rattle.trees.specs.Meaning.{NeedPlaces}
 use Rattle.trees.proofs.LockedEdges.{edges_none, edges_both}
 use Rattle.trees.proofs.LockedTuples.{Tuple}
-use Rattle.trees.proofs.Reports.{zip_push}
+use Rattle.trees.proofs.Elements.{zip_push}
 
 edges_push : (k : ℕ) (all : List (List ℕ)) (places : List ℕ) (n : ℕ) → n ≡ k + length all → edges_from k (all ++ places ∷ []) ≡ edges_from k all ++ map (λ at. (n, at)) places
 edges_push k [] places n e =

@@ -9,7 +9,7 @@ use Rattle.trees.specs.Locking.{Package, label_text, same_version, source_of, Ha
 use Rattle.trees.specs.LockingParts.{locked_at, locked_of, package_at, package_of, table_of, AddsLabels}
 use Rattle.trees.proofs.LockedPackages.{nothing}
 use Rattle.trees.proofs.LockedTuples.{Tuple, no_tuple}
-use Rattle.trees.proofs.Reports.{zip_push}
+use Rattle.trees.proofs.Elements.{zip_push}
 
 -- a test of two packages, at their places
 pub same_at : (ps : List Tuple) (i j : ℕ) (d e : Tuple) (r : Bool) → i < length ps → j < length ps → r ≡ same_version (package_of (get_or ps i d)) (package_of (get_or ps j e)) → r ≡ same_version (package_at ps i) (package_at ps j)

@@ -1,11 +1,10 @@
 -- Which needs lead to no package.
-use Rattle.std.proofs.Common.{◌≡◌, ◌∙◌, ℕ, zero, suc, ◌<◌, List, [], ◌∷◌, length, get_or, map, sym, ap, subst, arith}
+use Rattle.std.proofs.Common.{◌≡◌, ◌∙◌, ℕ, ◌<◌, List, length, get_or, map, sym, ap, subst, arith}
 use Rattle.std.proofs.lemmas.Bool.{false≢true}
 use Rattle.std.proofs.lemmas.List.{get_or-map, length-map}
-use Rattle.std.proofs.lemmas.List.Elements.{All-head, All-tail}
 use Rattle.std.proofs.lemmas.Option.{slice_get-map}
 use Rattle.std.specs.List.{All}
-use Rattle.std.specs.Prelude.{Option, Some, None, IfSome, is_some, option_map, slice_get, String}
+use Rattle.std.specs.Prelude.{Some, None, is_some, option_map, slice_get, String}
 use Rattle.std.specs.declared.alloc.Global.{Global}
 use Rattle.toml.specs.Data.{Data, as_array, as_table}
 use Rattle.toml.specs.View.{view, items_view, members_view}
@@ -15,6 +14,7 @@ use Rattle.trees.specs.declared.deps.packages.Fault.TheVariants.{Missing, Severa
 use Rattle.trees.specs.declared.deps.packages.Need.{Need}
 use Rattle.trees.specs.Locking.{Package, Known, values_of, AreLed, IsLed, IsNeed, IsNeeded, Leads}
 use Rattle.trees.specs.LockingParts.{known_of, IsFaulty, IsFound}
+use Rattle.trees.proofs.Elements.{listed_at}
 use Rattle.trees.proofs.LockedEntries.{list_entries, values_seen}
 use Rattle.trees.proofs.LockedPackages.{nothing}
 
@@ -46,18 +46,9 @@ module _ (packages : List Package) where
   pub no_groups : (d : Data) → None ≡ as_table d → AreLed packages d → ⊥
   no_groups d none led = (let no : None ≡ Some led.0 = none ∙ led.1 in cc)
 
-  got : (ds : List Data) (k : ℕ) (d : Data) → All (IsLed packages) ds → slice_get ds k ≡ Some d → IsLed packages d
-  got [] k d all at = (let no : ⊥ = cc in absurd no)
-  got (e ∷ ds) zero d all at = (let same : e ≡ d = cc in subst (IsLed packages) same (All-head (IsLed packages) e ds all))
-  got (e ∷ ds) (suc k) d all at = got ds k d (All-tail (IsLed packages) e ds all) at
-
   -- a list of a table
   pub list_led : (d : Data) (es : List (String Global × Value)) (k : ℕ) (v : Value) → Some (members_view es) ≡ as_table d → slice_get (map (λ e. e.1) es) k ≡ Some v → AreLed packages d → IsLed packages (view v)
   list_led d es k v is at led =
       let vs = map (λ (e : String Global × Value). e.1) es in
       let same : led.0 ≡ members_view es = (let both : Some led.0 ≡ Some (members_view es) = sym led.1 ∙ sym is in cc) in
-      got (map view vs) k (view v) (subst (All (IsLed packages)) (ap values_of same ∙ values_seen es) led.2) (slice_get-map view vs k ∙ ap (option_map view) at)
-
-  -- a value that is there, but is not so
-  pub not_there : (Is : Data → Type 0) (o : Option Data) (d : Data) → Some d ≡ o → (Is d → ⊥) → IfSome o Is → ⊥
-  not_there Is o d at none is = none (subst (λ (p : Option Data). IfSome p Is) (sym at) is)
+      listed_at (IsLed packages) (map view vs) k (view v) (slice_get-map view vs k ∙ ap (option_map view) at) (subst (All (IsLed packages)) (ap values_of same ∙ values_seen es) led.2)

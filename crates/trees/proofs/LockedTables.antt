@@ -5,7 +5,7 @@ use Rattle.std.proofs.lemmas.List.{get_or-map, length-map, map-append, take_all,
 use Rattle.std.proofs.lemmas.List.Elements.{All-push}
 use Rattle.std.proofs.lemmas.List.Sorted.{All-permutation, IsPermutation-map}
 use Rattle.std.proofs.lemmas.Map.Keys.{sorted_from_all_adjacent}
-use Rattle.std.proofs.lemmas.Map.Lookups.{exact_bytes}
+use Rattle.std.proofs.lemmas.Map.Lookups.{CmpEqualImpliesEq, exact_bytes, exact_pairs}
 use Rattle.std.specs.Cmp.Lexicographic.{slice_cmp}
 use Rattle.std.specs.List.{All}
 use Rattle.std.specs.List.Sorted.{IsPermutation, IsSorted, IsStrictlySortedBy}
@@ -51,19 +51,11 @@ without_last Equal Equal Greater d is = refl
 without_last Equal Greater c d is = refl
 without_last Greater b c d is = refl
 
-both_equal : (a b : Ordering) → ordering_then a b ≡ Equal → (a ≡ Equal) × (b ≡ Equal)
-both_equal Less b e = cc
-both_equal Equal b e = (refl, e)
-both_equal Greater b e = cc
-
-one_package : (p q : Package) → package_cmp p q ≡ Equal → p ≡ q
+-- packages that the order takes for equal are the same
+pub one_package : CmpEqualImpliesEq package_cmp
 one_package p q e =
-    let outer = both_equal (slice_cmp nat_cmp p.name q.name) _ e in
-    let inner = both_equal (slice_cmp nat_cmp p.version q.version) (slice_cmp nat_cmp p.source q.source) outer.1 in
-    let name : p.name ≡ q.name = exact_bytes p.name q.name outer.0 in
-    let version : p.version ≡ q.version = exact_bytes p.version q.version inner.0 in
-    let source : p.source ≡ q.source = exact_bytes p.source q.source inner.1 in
-    ap (λ (n : List ℕ). record p { name = n }) name ∙ (ap (λ (v : List ℕ). record p { name = q.name; version = v }) version ∙ ap (λ (t : List ℕ). record q { source = t }) source)
+    let texts = exact_pairs (slice_cmp nat_cmp) _ exact_bytes (exact_pairs (slice_cmp nat_cmp) (slice_cmp nat_cmp) exact_bytes exact_bytes) (p.name, (p.version, p.source)) (q.name, (q.version, q.source)) e in
+    ap (λ (t : List ℕ × (List ℕ × List ℕ)). record p { name = t.0; version = t.1.0; source = t.1.1 }) texts
 
 risen : (p q : Package) (o : Ordering) → package_cmp q p ≡ o → is_lt o ≡ false → p ≢ q → package_cmp p q ≡ Less
 risen p q Less e is other = absurd (false≢true (sym is))

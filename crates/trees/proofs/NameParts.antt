@@ -1,5 +1,6 @@
 -- Names and versions in texts.
 use Rattle.std.proofs.Common.{◌≡◌, ◌≢◌, ◌∙◌, ℕ, suc, ◌+◌, ◌-◌, ◌<◌, ◌≤◌, ◌&&◌, ◌||◌, Bool, true, false, cond, eqb, eqb-true, List, [], ◌∷◌, ◌++◌, length, get_or, take, drop, codes, inl, inr, refl, sym, ap, subst, arith, append_assoc, length-append}
+use Rattle.std.proofs.Math.Bool.{or-false}
 use Rattle.std.proofs.lemmas.Bool.{and_left, cond-false, cond-true, eq-eqb, false≢true, false_from_ne_true, ne_eqb, or_cases, or_from, or_left, or_right}
 use Rattle.std.proofs.lemmas.List.{append-nil, get_or-take, length-drop, length-take, nil_from_length, take_all}
 use Rattle.std.proofs.lemmas.List.Sums.{position_or_len_is}
@@ -43,10 +44,7 @@ left_short c (b ∷ text) = by (eqb b c) where
 -- the characters that end a name are those bytes
 set_is : (c : ℕ) → char_set_contains (32 ∷ 64 ∷ []) c ≡ ends_name c
 set_is c =
-    ap (λ (x : Bool). x || (eqb 64 c || false)) (eqb_flips 32 c) ∙ (ap (λ (y : Bool). eqb c 32 || (y || false)) (eqb_flips 64 c) ∙ ap (λ (z : Bool). eqb c 32 || z) (alone (eqb c 64))) where
-      alone : (b : Bool) → (b || false) ≡ b
-      alone true = refl
-      alone false = refl
+    ap (λ (x : Bool). x || (eqb 64 c || false)) (eqb_flips 32 c) ∙ (ap (λ (y : Bool). eqb c 32 || (y || false)) (eqb_flips 64 c) ∙ ap (λ (z : Bool). eqb c 32 || z) (or-false (eqb c 64)))
 
 end_low : (c : ℕ) → ends_name c ≡ true → c < 128
 end_low c is = elim (or_cases (eqb c 32) (eqb c 64) is) [

@@ -2,6 +2,7 @@
 use Rattle.std.proofs.Common.{◌≡◌, ◌≢◌, ◌∙◌, ℕ, List, [], ◌∷◌, ◌++◌, codes, refl, sym, ap, subst, arith}
 use Rattle.std.proofs.lemmas.Bool.{false≢true}
 use Rattle.std.proofs.lemmas.List.{append-nil, append_cancel_right}
+use Rattle.std.proofs.lemmas.Option.{IfSome_then}
 use Rattle.std.specs.Prelude.{Option, Some, None, IfSome, IsSome, MatchOption}
 use Rattle.toml.specs.Data.{Data, as_str}
 use Rattle.trees.specs.declared.deps.packages.Need.{Need}
@@ -77,10 +78,6 @@ alone_only name rest r lacks found v s whole =
 
 -- ## Texts
 
-first_of : (P Q : List ℕ → Type 0) (o : Option (List ℕ)) → IfSome o (λ s. P s × Q s) → IfSome o P
-first_of P Q None is = tt
-first_of P Q (Some s) is = is.0
-
 -- a name and what is behind it
 pub text_only : (text name rest : List ℕ) (r : Option Need) → text ≡ name ++ (codes " " ++ rest) → Lacks (codes " ") name → ((v : List ℕ) (s : Option (List ℕ)) → IsRest rest v s → IsFound r (known_whole name v s))
     → (whole : Known) → IsNeedText text whole → IsFound r (unrevised whole)
@@ -96,7 +93,7 @@ text_only text name rest r is lacks found whole says = by whole.version whole.so
         is = sym cut.1 ∙ ap (λ (t : List ℕ). t ++ behind) (append-nil version);
         lacks = v.1;
         some = v.0;
-        given = first_of (λ t. t ≢ []) (λ t. IsSome (Some version)) source s;
+        given = IfSome_then source s (λ t both. both.0);
       } in
       subst (IsFound r) (ap (λ (n : List ℕ). known_whole n version source) (sym cut.0)) (found version source parts)
 

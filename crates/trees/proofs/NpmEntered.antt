@@ -1,5 +1,5 @@
 -- What a walk through folders of packages of npm has entered.
-use Rattle.std.proofs.Common.{◌≡◌, ◌∙◌, ◌⊎◌, ℕ, ◌≤◌, ◌+◌, true, false, List, [], ◌∷◌, ◌++◌, length, get_or, slice_get, inl, inr, refl, sym, ap, subst, length-append, arith}
+use Rattle.std.proofs.Common.{◌≡◌, ◌∙◌, ◌⊎◌, ℕ, ◌≤◌, ◌+◌, true, false, List, [], ◌∷◌, ◌++◌, length, get_or, slice_get, inl, inr, refl, sym, ap, subst, arith}
 use Rattle.std.proofs.lemmas.Bool.{cases_lt, false≢true}
 use Rattle.std.proofs.lemmas.List.{get_or_append_left, get_or_push, length_push, take_at}
 use Rattle.std.proofs.lemmas.List.Elements.{All-contains, All-nil, All-push, All-take, All-weaker, Contains-append_cases, Contains-append_left, Contains-push}
@@ -11,6 +11,7 @@ use Rattle.std.specs.List.Sorted.{IsSorted}
 use Rattle.std.specs.Ordering.{is_lt, nat_cmp}
 use Rattle.std.specs.Prelude.{Some, All, AllPairs, Contains}
 use Rattle.trees.specs.NpmParts.{Step, step_cmp, folders_of, AreEntered, Follows, IsBefore, IsWithin}
+use Rattle.trees.proofs.Elements.{pairs_front}
 use Rattle.trees.proofs.NpmFolders.{between, folders_in_turn, in_turn, within_both}
 
 -- ## Steps before a place
@@ -36,11 +37,6 @@ entered_none steps = record {
   chain = λ i j d less low. absurd (omega arith);
   all = λ s t m b kind low at within. absurd (omega (arith, b.1));
 }
-
-pairs_front : {X : Type 0} (R : X → X → Type 0) (xs ys : List X) → AllPairs R (xs ++ ys) → AllPairs R xs
-pairs_front R xs ys pairs = λ i j d less low.
-    subst (λ x. R x (get_or xs j d)) (get_or_append_left xs ys d i (omega (arith, less, low)))
-    (subst (R (get_or (xs ++ ys) i d)) (get_or_append_left xs ys d j low) (pairs i j d less (omega (arith, low, length-append xs ys))))
 
 module _ (steps : List Step) (up : IsSorted step_cmp steps) (k : ℕ) (t : Step) (at : slice_get steps k ≡ Some t) where
   -- what is around a later step is around this one

@@ -4,7 +4,6 @@ use Rattle.std.proofs.lemmas.Bool.{false≢true, and_parts}
 use Rattle.std.proofs.lemmas.List.{map-append}
 use Rattle.std.proofs.lemmas.List.Elements.{All-contains, All-from_recursion, All-nil, All-push, Contains-get_or, recursion_from_All}
 use Rattle.std.proofs.lemmas.List.Splits.{join_with_byte-slice_split}
-use Rattle.std.proofs.lemmas.Option.{get_or_from_slice_get, slice_get_within}
 use Rattle.std.specs.BTreeMap.{BTreeMap}
 use Rattle.std.specs.Borrow.{Bor}
 use Rattle.std.specs.List.{AllByRecursion, join_with_byte, list_all, prefix_len}
@@ -25,6 +24,7 @@ use Rattle.trees.specs.Npm.{is_up, leads_on, listed, parts, ups, HasNames, HasOw
 use Rattle.trees.specs.NpmParts.{name_of, HasSteps, HoldsOnlyNpmLock, IsBehindUp, IsListedAt, Step}
 use Rattle.trees.specs.NpmPatterns.{is_file_name, pieces}
 use Rattle.trees.specs.Reading.{FailsToMake}
+pub use Rattle.trees.proofs.Elements.{listed_at}
 use Rattle.trees.proofs.NpmLinks.{among_at, itself}
 use Rattle.trees.proofs.NpmFolders.{ups_before}
 use Rattle.trees.proofs.NpmPackages.{Entry, Item, item_seen}
@@ -135,10 +135,6 @@ list_sized d (v ∷ vs) is = (
   λ yes. absurd (omega (arith, eqb-true _ 0 yes)),
   λ empty. (let no : Some (item (view v) (items_view vs)) ≡ Some no_items = is ∙ ap as_array empty in cc),
 )
-
--- the package at a place
-pub listed_at : {X : Type 0} (P : X → Type 0) (xs : List X) (i : ℕ) (x : X) → slice_get xs i ≡ Some x → All P xs → P x
-listed_at P xs i x at all = subst P (get_or_from_slice_get xs i x x at) (all i x (slice_get_within xs i x at))
 
 -- each package that is no link has a step of its own, or that of an alias
 module _ (packages nodes : List (List ℕ × Data)) (steps : List Step) (has : HasSteps packages nodes steps) (all : All (IsListedAt packages) steps) where

@@ -3,13 +3,15 @@ use Rattle.std.proofs.Common.{◌≡◌, ◌∙◌, ◌⊎◌, ℕ, ◌+◌, ◌
 use Rattle.std.proofs.lemmas.Bool.{false≢true}
 use Rattle.std.proofs.lemmas.List.{append-nil, get_or-map, length-map, map-append, take_more}
 use Rattle.std.proofs.lemmas.List.Elements.{All-nil, All-push, Contains-push, Contains-push_cases}
+use Rattle.std.proofs.lemmas.Map.Iter.{iter_end, iter_turn}
 use Rattle.std.proofs.lemmas.Option.{slice_get-map}
 use Rattle.std.specs.Borrow.{Bor}
 use Rattle.std.specs.Cmp.Lexicographic.{slice_cmp}
 use Rattle.std.specs.List.{AllByRecursion, AllZip, Contains}
 use Rattle.std.specs.List.Sorted.{IsSorted, IsStrictlySortedBy}
 use Rattle.std.specs.Map.{keys_of}
-use Rattle.std.specs.Map.Iter.{deref_pair}
+use Rattle.std.specs.Iterator.{Yields}
+use Rattle.std.specs.Map.Iter.{deref_pair, TakesFirst}
 use Rattle.std.specs.Ordering.{is_lt, nat_cmp, ordering_then}
 use Rattle.std.specs.Prelude.{Option, Some, None, Result, Ok, Err, IfSome, OnOk, String, string_bytes, string_cmp, option_and_then, option_map, unwrap_or, fold}
 use Rattle.std.specs.BTreeMap.{BTreeMap}
@@ -32,6 +34,7 @@ use Rattle.trees.specs.Documents.{IsDocumentOf}
 use Rattle.trees.specs.LockingParts.{AddsEdges}
 use Rattle.trees.specs.Npm.{text_at, listed, with_project, packages_in, path_in, behind, known_name, other_name, label_text, IsLabel, IsLeftOut, IsRootName, AreAscending, AreNodes, HasLabel, StandsFor}
 use Rattle.trees.specs.NpmParts.{edge_of, AddsPackages, AddsInOrder, AreNeeds, ArePaths, HasPackages, HoldsPackages}
+use Rattle.trees.proofs.Elements.{zip_both}
 use Rattle.trees.proofs.LockedEdges.{edges_none, edges_both, edges_one, first_edges}
 use Rattle.trees.proofs.LockedPackages.{then_first}
 use Rattle.trees.proofs.Networks.{indexed_none}
@@ -92,12 +95,6 @@ label_made name own l0 l1 l2 other version d first second third o v =
     ∙ (ap (λ x. name ++ (behind (codes "@npm:") x ++ end)) o ∙ ap (λ x. name ++ (behind (codes "@npm:") (other_name name (known_name own)) ++ behind (codes "@") x)) v))))
 
 -- ## Networks
-
-zip_both : {X Y : Type 0} (R : X → Y → Type 0) (xs ys : List X) (vs ws : List Y) → AllZip R xs vs → AllZip R ys ws → AllZip R (xs ++ ys) (vs ++ ws)
-zip_both R [] ys [] ws a b = b
-zip_both R [] ys (v ∷ vs) ws a b = absurd a
-zip_both R (x ∷ xs) ys [] ws a b = absurd a
-zip_both R (x ∷ xs) ys (v ∷ vs) ws a b = (a.0, zip_both R xs ys vs ws a.1 b)
 
 module _ (packages : List (List ℕ × Data)) (root : List ℕ) where
   pub packages_none : (n : Network) → AddsPackages packages root [] n n
@@ -248,3 +245,18 @@ package_turn es n x at = ap (λ (ps : List (List ℕ × Data)). slice_get ps n) 
 
 pub packages_size : (es : List Entry) → length (listed (members_view es)) ≡ length es
 packages_size es = ap length (listed_entries es) ∙ length-map es entry_seen
+
+-- ## Loops
+
+-- a `for` over packages
+module _ (es : List Entry) (xs : List Item) (s t u : List Entry) (r : Option Item) (begun : s ≡ es) (so : Yields (TakesFirst deref_pair) s xs t) (next : TakesFirst deref_pair t r u) where
+  -- the package that it is at
+  pub turn_at : (x : Item) → r ≡ Some x → (path : List ℕ) → path ≡ string_bytes x.0.now → slice_get (listed (members_view es)) (length xs) ≡ Some (path, view x.1.now)
+  turn_at x is path same = package_turn es (length xs) x (iter_turn deref_pair es xs s t u r begun so x is next).1 ∙ ap (λ (p : List ℕ). Some (p, view x.1.now)) (sym same)
+
+  -- at its end all are seen
+  pub end_all : r ≡ None → map item_seen xs ≡ listed (members_view es)
+  end_all none = all_seen xs es (iter_end deref_pair es xs s t u r begun so none next).0
+
+  pub end_long : r ≡ None → length xs ≡ length (listed (members_view es))
+  end_long none = (iter_end deref_pair es xs s t u r begun so none next).1 ∙ sym (packages_size es)

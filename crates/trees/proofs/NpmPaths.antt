@@ -1,5 +1,6 @@
 -- Paths of packages of npm.
 use Rattle.std.proofs.Common.{◌≡◌, ◌≢◌, ◌∙◌, ℕ, ◌+◌, ◌-◌, ◌<◌, ◌||◌, Bool, true, false, eqb, List, [], ◌∷◌, ◌++◌, length, get_or, take, drop, codes, refl, sym, ap, subst, append_assoc, length-append, arith}
+use Rattle.std.proofs.Math.Bool.{or-true}
 use Rattle.std.proofs.Math.Seq.{drop-append_seam, get_or-append_seam}
 use Rattle.std.proofs.lemmas.Bool.{false≢true}
 use Rattle.std.proofs.lemmas.List.{append_cancel_right, take-append-drop, take_all}
@@ -16,13 +17,9 @@ use Rattle.trees.proofs.NeedTexts.{lacks_byte}
 
 -- ## Slashes
 
-or_true : (b : Bool) → (b || true) ≡ true
-or_true true = refl
-or_true false = refl
-
 any_slash : (before after : List ℕ) → list_any (λ b. eqb b 47) (before ++ 47 ∷ after) ≡ true
 any_slash [] after = refl
-any_slash (b ∷ before) after = ap (λ (x : Bool). eqb b 47 || x) (any_slash before after) ∙ or_true (eqb b 47)
+any_slash (b ∷ before) after = ap (λ (x : Bool). eqb b 47 || x) (any_slash before after) ∙ or-true (eqb b 47)
 
 -- a text in which a test finds no slash
 no_slash : (text : List ℕ) → list_any (λ b. eqb b 47) text ≡ false → Lacks (47 ∷ []) text

@@ -9,6 +9,7 @@ use Rattle.ptree.proofs.Trees.ItemTrees.{map_twice}
 use Rattle.std.proofs.Math.ListN.{get_or-map}
 use Rattle.std.proofs.lemmas.List.{append-nil, length-map, map-append}
 use Rattle.std.proofs.lemmas.List.Elements.{All-nil, All-cons, All-head, All-tail, All-append, filter-append}
+use Rattle.std.proofs.lemmas.List.FromFn.{get_or-enumerate_from, length-enumerate_from}
 use Rattle.std.proofs.lemmas.Slice.Eq.{bytes_eq-Decides}
 use Rattle.trees.specs.Depending.{words_of, has_words, pair_words, ArePairs}
 use Rattle.trees.specs.DependingParts.{texts_of, are_no_pair}
@@ -34,9 +35,7 @@ none_among ([] ∷ ls) pairs (suc k) d low wrong own e = none_among ls pairs k d
 
 -- what stands in a numbered list
 in_numbered : {X : Type 0} (xs : List X) (n k : ℕ) (x : ℕ × X) → k < length (enumerate_from n xs) → x ≡ get_or (enumerate_from n xs) k x → (k < length xs) × (x.1 ≡ get_or xs k x.1)
-in_numbered [] n k x low is = absurd (omega arith)
-in_numbered (y ∷ xs) n zero x low is = (omega arith, ap (λ p. p.1) is)
-in_numbered (y ∷ xs) n (suc k) x low is = let rest = in_numbered xs (n + 1) k x (omega arith) is in (omega arith, rest.1)
+in_numbered xs n k x low is = (let within : k < length xs = omega (arith, low, length-enumerate_from n xs) in (within, ap (λ p. p.1) (is ∙ get_or-enumerate_from n xs k x within)))
 
 pub numbered : {X : Type 0} (xs : List X) (n : ℕ) → map (λ p. p.1) (enumerate_from n xs) ≡ xs
 numbered [] n = refl

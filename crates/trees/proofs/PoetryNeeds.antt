@@ -1,12 +1,12 @@
 -- Packages that the names in a poetry.lock lead to.
-use Rattle.std.proofs.Common.{◌≡◌, ◌∙◌, ℕ, zero, suc, ◌<◌, ◌||◌, Bool, true, false, cond, List, [], ◌∷◌, ◌++◌, flat_map, length, get_or, map, refl, sym, ap, subst, string_bytes, String}
-use Rattle.std.proofs.lemmas.Bool.{false≢true, true_from_ne_false}
+use Rattle.std.proofs.Common.{◌≡◌, ◌∙◌, ℕ, Bool, true, false, cond, List, [], ◌∷◌, ◌++◌, flat_map, map, refl, sym, ap, subst, string_bytes, String}
 use Rattle.std.proofs.lemmas.List.{append-nil}
 use Rattle.std.proofs.lemmas.List.Concat.{flat_map-append}
-use Rattle.std.proofs.lemmas.List.Elements.{All-head, All-tail, All-nil, All-cons}
+use Rattle.std.proofs.lemmas.List.Elements.{All-head, All-nil, All-cons}
+use Rattle.std.proofs.lemmas.List.Folds.{list_any_at, list_any_none}
 use Rattle.std.proofs.lemmas.Option.{slice_get-map}
 use Rattle.std.specs.Borrow.{Bor}
-use Rattle.std.specs.List.{All, list_any}
+use Rattle.std.specs.List.{All}
 use Rattle.std.specs.Map.Iter.{deref_pair}
 use Rattle.std.specs.Option.{option_and}
 use Rattle.std.specs.Prelude.{◌↔◌, Option, Some, None, option_map, slice_get}
@@ -22,6 +22,7 @@ use Rattle.trees.specs.Depending.{directed}
 use Rattle.trees.specs.DependingParts.{AddsEdge, IsIndexed}
 use Rattle.trees.specs.Locking.{Package, Known, called, entries_of, is_as, is_locked, locked_entries, members_in, name_entry, normal_name, own_entries, source_in, without_revision, IsLed, IsNeeded, IsNeedTable, Leads, NameLeads, OwnLead}
 use Rattle.trees.specs.LockingParts.{packages_of, AddsEntries, IsFaulty, IsPlaceOf, NameLed}
+use Rattle.trees.proofs.Elements.{listed_at}
 use Rattle.trees.proofs.LockedEdges.{needs_none, needs_more}
 use Rattle.trees.proofs.LockedEntries.{is_table, no_entries, both_entries}
 use Rattle.trees.proofs.LockedLed.{IsOne}
@@ -29,34 +30,18 @@ use Rattle.trees.proofs.LockedPackages.{nothing}
 
 -- ## Packages of a name
 
-both_false : (a b : Bool) → (a || b) ≡ false → (a ≡ false) × (b ≡ false)
-both_false true b e = absurd (false≢true (sym e))
-both_false false b e = (refl, e)
-
-module _ (test : Package → Bool) where
-  none_any : (ps : List Package) → All (λ p. test p ≡ false) ps → list_any test ps ≡ false
-  none_any [] all = refl
-  none_any (p ∷ ps) all = ap (λ (b : Bool). b || list_any test ps) (All-head (λ p. test p ≡ false) p ps all) ∙ none_any ps (All-tail (λ p. test p ≡ false) p ps all)
-
-  any_none : (ps : List Package) → list_any test ps ≡ false → All (λ p. test p ≡ false) ps
-  any_none [] none = All-nil (λ p. test p ≡ false)
-  any_none (p ∷ ps) none = (let parts = both_false (test p) (list_any test ps) none in All-cons (λ p. test p ≡ false) p ps parts.0 (any_none ps parts.1))
-
-  one_any : (ps : List Package) (k : ℕ) (p : Package) → k < length ps → test (get_or ps k p) ≡ true → list_any test ps ≡ true
-  one_any ps k p low is = true_from_ne_false (list_any test ps) (λ none. false≢true (sym (any_none ps none k p low) ∙ is))
-
 module _ (packages : List Package) (name : List ℕ) where
   abbrev known : Known
   known = called name
 
   pub found_locked : (at : ℕ) → IsNeeded packages known at → is_locked packages name ≡ true
-  found_locked at is = one_any (is_as known) packages at nothing is.below (is.is nothing)
+  found_locked at is = list_any_at (is_as known) packages at nothing is.below (is.is nothing)
 
   pub missing_locked : IsFaulty packages known Missing → is_locked packages name ≡ false
-  missing_locked none = none_any (is_as known) packages none
+  missing_locked none = list_any_none (is_as known) packages none
 
   several_locked : IsFaulty packages known Several → is_locked packages name ≡ true
-  several_locked many = (let one = many.0 in one_any (is_as known) packages one.0 one.1 one.2 (ap (is_as known) one.3 ∙ one.4))
+  several_locked many = (let one = many.0 in list_any_at (is_as known) packages one.0 one.1 one.2 (ap (is_as known) one.3 ∙ one.4))
 
   -- ## Entries
 
@@ -132,11 +117,7 @@ items_seen xs es all = map_twice deref_pair entry_seen xs ∙ (ap (map entry_see
 -- the item of a turn
 pub item_led : (packages : List Package) (es : List Entry) (n : ℕ) (x : Item) → slice_get es n ≡ Some (deref_pair x) → All (NameLeads packages) (members_in (members_view es)) → NameLeads packages (item_seen x)
 item_led packages es n x at all =
-    got (map entry_seen es) n (item_seen x) (subst (All (NameLeads packages)) (entries_seen es) all) (slice_get-map entry_seen es n ∙ ap (option_map entry_seen) at) where
-      got : (ms : List (List ℕ × Data)) (k : ℕ) (m : List ℕ × Data) → All (NameLeads packages) ms → slice_get ms k ≡ Some m → NameLeads packages m
-      got [] k m led is = (let no : ⊥ = cc in absurd no)
-      got (l ∷ ms) zero m led is = (let same : l ≡ m = cc in subst (NameLeads packages) same (All-head (NameLeads packages) l ms led))
-      got (l ∷ ms) (suc k) m led is = got ms k m (All-tail (NameLeads packages) l ms led) is
+    listed_at (NameLeads packages) (map entry_seen es) n (item_seen x) (slice_get-map entry_seen es n ∙ ap (option_map entry_seen) at) (subst (All (NameLeads packages)) (entries_seen es) all)
 
 module _ (needing : Needing) where
   -- the entries of names

@@ -5,22 +5,11 @@ use Rattle.std.proofs.Common.{◌≡◌, ℕ, ◌+◌, ◌<◌, ◌++◌, Result
 use Rattle.std.proofs.lemmas.List.{append-nil, take_more}
 use Rattle.std.proofs.lemmas.List.Folds.{concat-append}
 use Rattle.trees.specs.Reading.{Adds}
-
--- one pair more
-pub zip_push : {X Y : Type 0} (R : X → Y → Type 0) (xs : List X) (ys : List Y) (x : X) (y : Y) → AllZip R xs ys → R x y → AllZip R (xs ++ x ∷ []) (ys ++ y ∷ [])
-zip_push R [] [] x y h r = (r, tt)
-zip_push R [] (w ∷ ys) x y h r = absurd h
-zip_push R (v ∷ xs) [] x y h r = absurd h
-zip_push R (v ∷ xs) (w ∷ ys) x y h r = (h.0, zip_push R xs ys x y h.1 r)
+use Rattle.trees.proofs.Elements.{zip_push}
 
 -- nothing is added of none
 pub adds_nothing : {X : Type 0} (R : X → List ℕ → Type 0) (a : List ℕ) → Adds R [] a a
 adds_nothing R a = ([], sym (append-nil a), tt)
-
--- what a call has done is also what follows of it
-pub on_ok_more : {A E : Type 0} (r : Result A E) (P Q : Type 0) → (P → Q) → OnOk r P → OnOk r Q
-on_ok_more (Ok x) P Q more h = more h
-on_ok_more (Err e) P Q more h = tt
 
 -- what a call leaves on success
 pub on_ok_is : {A E X : Type 0} (r : Result A E) (new a b : X) → new ≡ (if is_ok r then a else b) → OnOk r (new ≡ a)

@@ -1,9 +1,9 @@
 -- Nodes that a name means, and what stands above nodes.
 use Rattle.std.proofs.Common.{◌≡◌, ◌≢◌, ◌∙◌, ℕ, zero, suc, ◌+◌, ◌<◌, ◌≤◌, ◌||◌, Bool, true, false, cond, List, [], ◌∷◌, ◌++◌, length, get_or, map, inl, inr, refl, sym, ap, subst, arith}
 use Rattle.std.proofs.lemmas.Bool.{cases_eq, cond-false, cond-true, false≢true, false_from_ne_true}
-use Rattle.std.proofs.lemmas.List.{append-nil, length-map, map-append, nil_from_length}
+use Rattle.std.proofs.lemmas.List.{append-nil, length-map, map-append, map-id, nil_from_length}
 use Rattle.std.proofs.lemmas.List.Elements.{All-head, filter-append, filter_passes}
-use Rattle.std.proofs.lemmas.List.FromFn.{get_or-range_with_len, length-range_with_len}
+use Rattle.std.proofs.lemmas.List.FromFn.{get_or-range_with_len, length-range_with_len, map-range_with_len_more}
 use Rattle.std.proofs.lemmas.Option.{slice_get_read}
 use Rattle.std.proofs.lemmas.Result.{IfOk-weaker, IfErr-weaker}
 use Rattle.std.specs.List.{range_with_len}
@@ -21,15 +21,8 @@ use Rattle.trees.proofs.Readings.{fails_weaker}
 -- ## Numbers that pass a test
 
 -- one number more
-range_suc : (a n : ℕ) → range_with_len a (suc n) ≡ range_with_len a n ++ (a + n) ∷ []
-range_suc a zero = ap (λ (k : ℕ). k ∷ []) (omega arith)
-range_suc a (suc n) = ap (λ (ks : List ℕ). a ∷ ks) (range_suc (a + 1) n ∙ ap (λ (k : ℕ). range_with_len (a + 1) n ++ k ∷ []) (omega arith))
-
 range_more : (n : ℕ) → range_with_len 0 (n + 1) ≡ range_with_len 0 n ++ n ∷ []
-range_more n =
-    let next : n + 1 ≡ suc n = omega arith in
-    let last : 0 + n ≡ n = omega arith in
-    ap (range_with_len 0) next ∙ (range_suc 0 n ∙ ap (λ (k : ℕ). range_with_len 0 n ++ k ∷ []) last)
+range_more n = sym (map-id (range_with_len 0 (n + 1))) ∙ (map-range_with_len_more (λ k. k) 0 n n (omega arith) ∙ ap (λ ks. ks ++ n ∷ []) (map-id (range_with_len 0 n)))
 
 module _ (test : ℕ → Bool) where
   pub passing_more : (n : ℕ) (b : Bool) → test n ≡ b → passing test (n + 1) ≡ passing test n ++ cond b (n ∷ []) []

@@ -1,8 +1,8 @@
 -- Words in ascending order.
-use Rattle.std.proofs.Common.{◌≡◌, ◌≢◌, ◌∙◌, ℕ, zero, suc, ◌+◌, ◌<◌, Bool, false, List, [], ◌∷◌, length, get_or, map, inl, inr, refl, sym, ap, subst, arith}
+use Rattle.std.proofs.Common.{◌≡◌, ◌≢◌, ◌∙◌, ℕ, ◌+◌, ◌<◌, Bool, false, List, [], ◌∷◌, length, get_or, map, inl, inr, refl, sym, ap, subst, arith}
 use Rattle.std.proofs.Math.ListN.{get_or-map}
-use Rattle.std.proofs.lemmas.Bool.{cases_lt, false_from_ne_true, false≢true}
-use Rattle.std.proofs.lemmas.Cmp.{nat_list_cmp_total}
+use Rattle.std.proofs.lemmas.Bool.{cases_lt, false≢true}
+use Rattle.std.proofs.lemmas.Cmp.{nat_list_cmp_total, tied_itself}
 use Rattle.std.proofs.lemmas.List.{length-map}
 use Rattle.std.proofs.lemmas.List.Filters.{dedup_is}
 use Rattle.std.proofs.lemmas.List.Kept.{Any-dedup, Contains-from_dedup, IsStrictlySortedBy-dedup}
@@ -10,14 +10,16 @@ use Rattle.std.proofs.lemmas.List.Sorted.{Contains-permutation, IsPermutation-sy
 use Rattle.std.proofs.lemmas.List.Sums.{position_or_len_is}
 use Rattle.std.proofs.lemmas.Map.Keys.{Less-from_sorted, sorted_from_all_adjacent}
 use Rattle.std.proofs.lemmas.Map.Lookups.{exact_bytes}
+use Rattle.std.proofs.lemmas.Map.Text.{is_eq-slice_cmp}
+use Rattle.std.proofs.lemmas.Option.{get_or_from_slice_get, slice_get_cases, slice_get-map}
 use Rattle.std.proofs.lemmas.Slice.Eq.{bytes_eq-Decides}
 use Rattle.std.specs.Borrow.{Bor}
 use Rattle.std.specs.Cmp.Lexicographic.{slice_cmp, on_texts, on_texts_equal, texts_ties}
 use Rattle.std.specs.List.{HoldsAt, dedup}
 use Rattle.std.specs.List.Retain.{IsFiltered, DiffersFromLast}
 use Rattle.std.specs.List.Sorted.{IsBinarySearchResult, IsPermutation, IsSearchInRange, IsSorted, IsStrictlySortedBy, IsPartitionPoint, IsNonDecreasingBy}
-use Rattle.std.specs.Ordering.{is_lt, nat_cmp, ordering_index, ordering_reverse}
-use Rattle.std.specs.Prelude.{Contains, Decides, Result, Ok, Err, flat_map, is_ok}
+use Rattle.std.specs.Ordering.{is_eq, is_lt, nat_cmp, ordering_index, ordering_reverse}
+use Rattle.std.specs.Prelude.{Contains, Decides, Result, Ok, Err, flat_map, is_ok, option_map}
 use Rattle.std.specs.Str.{bytes_eq}
 use Rattle.std.specs.declared.cmp.Ordering.{Ordering}
 use Rattle.std.specs.declared.cmp.Ordering.TheVariants.{Less, Equal, Greater}
@@ -27,16 +29,11 @@ use Rattle.trees.specs.DependingParts.{texts_of}
 
 -- ## Elements of mapped lists
 
-mapped_at : {X Y : Type 0} (f : X → Y) (xs : List X) (y : Y) (k : ℕ) → k < length (map f xs) → get_or (map f xs) k y ≡ y → (x : X) × Contains xs x × (f x ≡ y)
-mapped_at f [] y k low is = absurd (omega arith)
-mapped_at f (x ∷ xs) y zero low is = (x, (0, omega arith, refl), is)
-mapped_at f (x ∷ xs) y (suc k) low is =
-    let rest = mapped_at f xs y k (omega arith) is in
-    let c = rest.1 in
-    (rest.0, (suc c.0, omega arith, c.2), rest.2)
-
 pub from_mapped : {X Y : Type 0} (f : X → Y) (xs : List X) (y : Y) → Contains (map f xs) y → (x : X) × Contains xs x × (f x ≡ y)
-from_mapped f xs y c = mapped_at f xs y c.0 c.1 c.2
+from_mapped f xs y c = elim (slice_get_cases xs c.0).1 [
+  | inl here ↦ (here.0, (c.0, here.1, here.3), sym (get_or_from_slice_get (map f xs) c.0 (f here.0) y (slice_get-map f xs c.0 ∙ ap (option_map f) here.2)) ∙ c.2)
+  | inr past ↦ absurd (omega (arith, c.1, past.0, length-map xs f))
+]
 
 -- ## Texts
 
@@ -93,15 +90,11 @@ names_are ps found sorted names words moved up once =
 -- ## Numbers
 
 equal_self : (w : List ℕ) → slice_cmp nat_cmp w w ≢ Less
-equal_self w less =
-    let back : slice_cmp nat_cmp w w ≡ ordering_reverse (slice_cmp nat_cmp w w) = nat_list_cmp_total.antisymm w w in
-    let other : Less ≡ Greater = sym less ∙ (back ∙ ap ordering_reverse less) in
-    cc
+equal_self w less = (let no : Less ≡ Equal = sym less ∙ tied_itself nat_list_cmp_total w in cc)
 
 -- a word that is below another is not that
 below_other : (w x : List ℕ) → slice_cmp nat_cmp x w ≡ Less → bytes_eq w x ≡ false
-below_other w x less =
-    false_from_ne_true (bytes_eq w x) (λ same. equal_self w (subst (λ (y : List ℕ). slice_cmp nat_cmp y w ≡ Less) (sym ((bytes_eq-Decides w x).0 same)) less))
+below_other w x less = sym (is_eq-slice_cmp w x) ∙ ap is_eq (nat_list_cmp_total.antisymm w x ∙ ap ordering_reverse less)
 
 -- a word that a search finds is there first
 pub number_found : (names : List Text) (w : List ℕ) (i : ℕ) → IsStrictlySortedBy (slice_cmp nat_cmp) (map own names) → i < length names → HoldsAt (λ y. slice_cmp nat_cmp y.now w ≡ Equal) names i → i ≡ number (map own names) w

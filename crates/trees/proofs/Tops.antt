@@ -1,6 +1,6 @@
 -- Nodes that lead to all others.
 use Rattle.std.proofs.Common.{◌≡◌, ◌∙◌, ℕ, ◌+◌, ◌-◌, ◌<◌, ◌≤◌, ◌&&◌, Bool, true, false, eqb, eq-eqb, List, [], ◌∷◌, ◌++◌, length, get_or, reverse, set, take, inl, inr, refl, sym, ap, subst, arith, length-set}
-use Rattle.std.proofs.lemmas.List.{get_or_append_left, get_or_default, get_or_push, get_or-reverse, length_push, length-append, length-reverse, take_all, take_more}
+use Rattle.std.proofs.lemmas.List.{get_or_append_left, get_or_default, get_or_push, get_or-reverse, length_push, length-reverse, take_all, take_more}
 use Rattle.std.proofs.lemmas.List.Elements.{All-contains, All-contains_itself, All-push, All-weaker, Contains-append_left, Contains-push}
 use Rattle.std.proofs.lemmas.List.Folds.{list_any_at}
 use Rattle.std.proofs.lemmas.List.Quantifiers.{all_pairs_push}
@@ -12,6 +12,7 @@ use Rattle.std.specs.Prelude.{All, AllPairs, Contains}
 use Rattle.trees.specs.declared.deps.Network.{Network}
 use Rattle.trees.specs.Depending.{same_edge, IsClosed, HasEach, IsUnreached, AreTops}
 use Rattle.trees.specs.DependingParts.{labels_of, needs_of, edge_cmp, is_marked, HasMarked, IsWithin, IsIndexed, IsWhole, Reaches, AreFirsts}
+use Rattle.trees.proofs.Elements.{pairs_front}
 use Rattle.trees.proofs.Marks.{front_of, mark_kept, mark_there, mark_only, mark_low, mark_same, unmarked}
 use Rattle.trees.proofs.Networks.{edge_exact}
 use Rattle.trees.proofs.Reached.{edges_total}
@@ -19,14 +20,6 @@ use Rattle.trees.proofs.Reached.{edges_total}
 -- ## Pairs of elements
 
 module _ {X : Type 0} (R : X → X → Type 0) where
-  -- those of a shorter list
-  pairs_front : (xs ys : List X) → AllPairs R (xs ++ ys) → AllPairs R xs
-  pairs_front xs ys pairs i j d less low =
-      let first = get_or_append_left xs ys d i (omega arith) in
-      let second = get_or_append_left xs ys d j low in
-      let long = length-append xs ys in
-      subst (λ (x : X). R x (get_or xs j d)) first (subst (λ (y : X). R (get_or (xs ++ ys) i d) y) second (pairs i j d less (omega arith)))
-
   -- those with the last element
   pairs_last : (xs : List X) (y : X) → AllPairs R (xs ++ y ∷ []) → All (λ x. R x y) xs
   pairs_last xs y pairs k d low =

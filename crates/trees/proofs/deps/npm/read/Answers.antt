@@ -3,13 +3,23 @@ use Rattle.std.proofs.lemmas.Bool.{false≢true}
 use Rattle.std.proofs.lemmas.List.Elements.{All-nil}
 use Rattle.std.specs.Prelude.{All}
 use Rattle.serde_json.specs.View.{view, members_view}
+use Rattle.trees.specs.DependingParts.{IsEmpty}
 use Rattle.trees.specs.Npm.{listed, HasOwnNames, HasTexts, IsNpmLock, IsPackage}
 use Rattle.trees.specs.NpmParts.{AddsNearest, AreRight, HasPackages, HasSteps}
 use Rattle.trees.proofs.LockedEntries.{ok_more}
 use Rattle.trees.proofs.LockedFailures.{err_unless, fails_never, fails_unless}
 use Rattle.trees.proofs.NpmLocks.{each_of, needs_of_lock, no_entries, no_packages}
 use Rattle.trees.proofs.NpmPackages.{alone_stands, packages_held, packages_indexed, paths_first, project_left_out, project_there, project_held}
+use Rattle.trees.proofs.deps.npm.read.Goals.{After-deref-2}
 use Rattle.trees.proofs.deps.npm.read.Goals as goal
+
+-- the steps of the nodes
+steps_are : (c : After-deref-2) → IsEmpty c.args.network.now → HasSteps (listed (members_view c.in-Some.packages.now.entries)) c.in_ok-push_nodes.ensures.added.0 c.deref-2.result.now
+steps_are c empty =
+    let ps = listed (members_view c.in-Some.packages.now.entries) in
+    let adds = c.in_ok-push_nodes.ensures.added in
+    subst (HasSteps ps adds.0) (sym c.deref-2.ensures.value)
+    (c.in_ok-steps.ensures adds.0 adds.1 (paths_first ps c.root_name-root.result.now adds.0 c.args.network.now c.push_nodes.new.network empty adds.2 c.deref.result.now c.deref.ensures.value))
 
 pub returns-then-is_empty-clause-held : goal.returns-then-is_empty-clause-held
 returns-then-is_empty-clause-held c = λ empty.
@@ -27,8 +37,7 @@ returns-clause-held c = λ empty.
     let ps = listed (members_view c.in-Some.packages.now.entries) in
     let are = c.in-Some.ensures.all ∙ project_there lock c.in-Some.packages.now.entries (λ zero. false≢true (c.if-is_empty.ensures.1 zero)) in
     let adds = c.in_ok-push_nodes.ensures.added in
-    let steps = c.in_ok-steps.ensures adds.0 adds.1 (paths_first ps root adds.0 old n empty adds.2 c.deref.result.now c.deref.ensures.value) in
-    let has = subst (HasSteps ps adds.0) (sym c.deref-2.ensures.value) steps in
+    let has = steps_are (goal.at.returns-clause-held c).After-deref-2 empty in
     ok_more c.push_needs.result (AddsNearest ps c.deref-2.result.now n new) (HasPackages old.is_inverse c.args.source.now lock new)
     (λ more. packages_held ps root adds.0 old n empty adds.2 c.args.source.now lock new are c.in_ok-push_nodes.ensures.ascending adds.1 c.root_name-root.ensures more.0 more.1 (more.2 adds.0 has))
     (c.push_needs.ensures.added (packages_indexed ps root adds.0 old n empty adds.2))
@@ -69,18 +78,14 @@ returns-clause-failed c = λ empty.
     let lock = view c.args.lock.now in
     let ms = members_view c.in-Some.packages.now.entries in
     let ps = listed ms in
-    let root = c.root_name-root.result.now in
     let adds = c.in_ok-push_nodes.ensures.added in
-    let steps = c.in_ok-steps.ensures adds.0 adds.1 (paths_first ps root adds.0 c.args.network.now c.push_nodes.new.network empty adds.2 c.deref.result.now c.deref.ensures.value) in
-    let has = subst (HasSteps ps adds.0) (sym c.deref-2.ensures.value) steps in
+    let has = steps_are (goal.at.returns-clause-failed c).After-deref-2 empty in
     err_unless c.push_needs.result (AreRight ps c.deref-2.result.now) (IsNpmLock lock) (λ l. record { nodes = adds.0; has = has; names = needs_of_lock lock ms c.in-Some.ensures.members l }) c.push_needs.ensures.failed
 
 pub returns-clause-only : goal.returns-clause-only
 returns-clause-only c = λ empty.
     let ps = listed (members_view c.in-Some.packages.now.entries) in
-    let root = c.root_name-root.result.now in
     let adds = c.in_ok-push_nodes.ensures.added in
-    let steps = c.in_ok-steps.ensures adds.0 adds.1 (paths_first ps root adds.0 c.args.network.now c.push_nodes.new.network empty adds.2 c.deref.result.now c.deref.ensures.value) in
-    let has = subst (HasSteps ps adds.0) (sym c.deref-2.ensures.value) steps in
+    let has = steps_are (goal.at.returns-clause-only c).After-deref-2 empty in
     ok_more c.push_needs.result (All (HasOwnNames ps) ps) (IsNpmLock (view c.args.lock.now))
     (λ names. record { version = c.has_paths.ensures.0 c.if-not-has_paths.false; texts = c.in_ok-check_texts.ensures.only; packages = members_view c.in-Some.packages.now.entries; are = sym c.in-Some.ensures.members; each = c.in_ok-push_nodes.ensures.only; needs = names }) (c.push_needs.ensures.only adds.0 has)

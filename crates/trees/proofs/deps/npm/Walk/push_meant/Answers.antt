@@ -1,12 +1,10 @@
 use Rattle.std.proofs.Common.{◌∙◌, ℕ, List, sym, subst}
 use Rattle.std.proofs.lemmas.Bool.{false≢true}
-use Rattle.std.proofs.lemmas.Map.Iter.{iter_end}
-use Rattle.std.specs.Map.Iter.{deref_pair}
 use Rattle.serde_json.specs.Data.{Data}
 use Rattle.serde_json.specs.View.{view}
 use Rattle.trees.specs.Npm.{IsNameOf, NameWorkspace}
 use Rattle.trees.specs.NpmParts.{patterns_of, AddsAll}
-use Rattle.trees.proofs.NpmPackages.{all_seen}
+use Rattle.trees.proofs.NpmPackages.{end_all}
 use Rattle.trees.proofs.NpmGiven.{meant_more, meant_none, meant_same}
 use Rattle.trees.proofs.deps.npm.Walk.push_meant.Goals as goal
 
@@ -32,7 +30,6 @@ loop-path-preserved c = λ right ready.
 
 pub returns : goal.returns
 returns c = λ right ready.
-    let entries = c.args.self.now.packages.now.entries in
     let start = c.into_iter-path-iterator.ensures.into_iter_gives ∙ c.iter-path-items.ensures.rest in
-    let end = iter_end deref_pair entries c.loop-path.yielded c.into_iter-path-iterator.result c.loop-path.path-iterator c.next.new.self c.next.result start c.loop-path.yielded_by c.in-None.is c.next.ensures.steps in
-    subst (λ (ps : List (List ℕ × Data)). AddsAll (NameWorkspace (patterns_of c.args.patterns.now) ps) c.args.node c.args.self.now c.loop-path.self) (all_seen c.loop-path.yielded entries end.0) (c.loop-path.invariant right ready)
+    let all = end_all c.args.self.now.packages.now.entries c.loop-path.yielded c.into_iter-path-iterator.result c.loop-path.path-iterator c.next.new.self c.next.result start c.loop-path.yielded_by c.next.ensures.steps c.in-None.is in
+    subst (λ (ps : List (List ℕ × Data)). AddsAll (NameWorkspace (patterns_of c.args.patterns.now) ps) c.args.node c.args.self.now c.loop-path.self) all (c.loop-path.invariant right ready)
