@@ -1,15 +1,17 @@
 -- Packages that the names in a poetry.lock lead to.
-use Rattle.std.proofs.Common.{◌≡◌, ◌∙◌, ℕ, Bool, true, false, cond, List, [], ◌∷◌, ◌++◌, flat_map, map, refl, sym, ap, subst, string_bytes, String}
+use Rattle.std.proofs.Common.{◌≡◌, ◌∙◌, ℕ, Bool, true, false, cond, List, [], ◌∷◌, ◌++◌, flat_map, length, map, refl, sym, ap, subst, string_bytes, String}
 use Rattle.std.proofs.lemmas.List.{append-nil}
 use Rattle.std.proofs.lemmas.List.Concat.{flat_map-append}
 use Rattle.std.proofs.lemmas.List.Elements.{All-head, All-nil, All-cons}
 use Rattle.std.proofs.lemmas.List.Folds.{list_any_at, list_any_none}
+use Rattle.std.proofs.lemmas.Map.Iter.{iter_end, iter_turn}
 use Rattle.std.proofs.lemmas.Option.{slice_get-map}
 use Rattle.std.specs.Borrow.{Bor}
 use Rattle.std.specs.List.{All}
-use Rattle.std.specs.Map.Iter.{deref_pair}
+use Rattle.std.specs.Iterator.{Yields}
+use Rattle.std.specs.Map.Iter.{deref_pair, TakesFirst}
 use Rattle.std.specs.Option.{option_and}
-use Rattle.std.specs.Prelude.{◌↔◌, Option, Some, None, option_map, slice_get}
+use Rattle.std.specs.Prelude.{◌↔◌, Option, Some, None, option_map}
 use Rattle.std.specs.declared.alloc.Global.{Global}
 use Rattle.ptree.proofs.Trees.ItemTrees.{map_twice}
 use Rattle.toml.specs.Data.{Data, string, integer, float, boolean, datetime, array, table, Members, as_table}
@@ -110,14 +112,18 @@ entries_seen : (es : List Entry) → members_in (members_view es) ≡ map entry_
 entries_seen [] = refl
 entries_seen (e ∷ es) = ap (λ ms. entry_seen e ∷ ms) (entries_seen es)
 
--- all items of a table
-pub items_seen : (xs : List Item) (es : List Entry) → map deref_pair xs ≡ es → map item_seen xs ≡ members_in (members_view es)
-items_seen xs es all = map_twice deref_pair entry_seen xs ∙ (ap (map entry_seen) all ∙ sym (entries_seen es))
+-- a `for` over the entries of a table
+module _ (es : List Entry) (xs : List Item) (s t u : List Entry) (r : Option Item) (begun : s ≡ es) (so : Yields (TakesFirst deref_pair) s xs t) (next : TakesFirst deref_pair t r u) where
+  -- the entry that it is at
+  pub turn_led : (packages : List Package) (x : Item) → r ≡ Some x → (name : List ℕ) → name ≡ string_bytes x.0.now → All (NameLeads packages) (members_in (members_view es)) → NameLeads packages (name, view x.1.now)
+  turn_led packages x is name same all =
+      let at = (iter_turn deref_pair es xs s t u r begun so x is next).1 in
+      subst (λ (n : List ℕ). NameLeads packages (n, view x.1.now)) (sym same)
+      (listed_at (NameLeads packages) (map entry_seen es) (length xs) (item_seen x) (slice_get-map entry_seen es (length xs) ∙ ap (option_map entry_seen) at) (subst (All (NameLeads packages)) (entries_seen es) all))
 
--- the item of a turn
-pub item_led : (packages : List Package) (es : List Entry) (n : ℕ) (x : Item) → slice_get es n ≡ Some (deref_pair x) → All (NameLeads packages) (members_in (members_view es)) → NameLeads packages (item_seen x)
-item_led packages es n x at all =
-    listed_at (NameLeads packages) (map entry_seen es) n (item_seen x) (slice_get-map entry_seen es n ∙ ap (option_map entry_seen) at) (subst (All (NameLeads packages)) (entries_seen es) all)
+  -- at its end all are seen
+  pub end_all : r ≡ None → map item_seen xs ≡ members_in (members_view es)
+  end_all none = map_twice deref_pair entry_seen xs ∙ (ap (map entry_seen) (iter_end deref_pair es xs s t u r begun so none next).0 ∙ sym (entries_seen es))
 
 module _ (needing : Needing) where
   -- the entries of names

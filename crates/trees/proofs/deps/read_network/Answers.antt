@@ -1,18 +1,17 @@
 use Rattle.std.proofs.Common.{◌≡◌, ◌∙◌, Result, false, codes, sym}
-use Rattle.std.proofs.lemmas.Result.{IfErr-weaker}
+use Rattle.std.proofs.lemmas.Result.{IfErr-weaker, on_ok_weaker}
 use Rattle.std.specs.Prelude.{IfErr}
 use Rattle.serde_json.specs.Data.{Data as JsonData}
 use Rattle.toml.specs.Data.{Data}
 use Rattle.trees.specs.declared.failure.Failure.{Failure}
 use Rattle.trees.specs.declared.source.Source.{Source}
 use Rattle.trees.specs.Depending.{begins_as, has_tables, IsTextFile}
-use Rattle.trees.specs.DependingParts.{IsNetworkOf, IsNetworkOfPairs}
+use Rattle.trees.specs.DependingParts.{IsNetworkOf}
 use Rattle.trees.specs.LockingParts.{FailsUnless, HoldsLocked}
 use Rattle.trees.specs.Meaning.{HoldsLock, IsUnderstood}
 use Rattle.trees.specs.Npm.{HoldsNpmLock}
 use Rattle.trees.specs.NpmParts.{HoldsOnlyNpmLock, HoldsPackages}
 use Rattle.trees.specs.Reading.{FailsFor}
-use Rattle.trees.proofs.LockedEntries.{ok_more}
 use Rattle.trees.proofs.Meanings.{ok_both, packages_meant, pairs_meant, tables_meant}
 use Rattle.trees.proofs.Readings.{fails_by_input, fails_weaker}
 use Rattle.trees.proofs.Understood.{lock_alone, never_list, never_other, npm_alone}
@@ -72,4 +71,4 @@ returns-else-begins_as-2-clause-held c = λ empty.
     let new = c.pairs.new.network in
     let at = goal.at.returns-else-begins_as-2-clause-held c in
     let file : IsTextFile false source = record { own = c.in_default.ensures; json = text_is at.After-has_tables; toml = lacks_tables at.After-begins_as-else-has_tables } in
-    ok_more c.pairs.result (IsNetworkOfPairs source inverse new) (IsNetworkOf source inverse new) (pairs_meant source inverse new (record { file = file; list = sym c.begins_as-else-has_tables.ensures ∙ c.if-begins_as-2.false })) (c.pairs.ensures.held empty)
+    on_ok_weaker c.pairs.result (pairs_meant source inverse new (record { file = file; list = sym c.begins_as-else-has_tables.ensures ∙ c.if-begins_as-2.false })) (c.pairs.ensures.held empty)

@@ -1,7 +1,7 @@
 use Rattle.std.proofs.Common.{codes, rules}
+use Rattle.std.proofs.lemmas.Result.{on_ok_weaker}
 use Rattle.serde_json.specs.View.{view}
 use Rattle.trees.specs.Npm.{HasTexts, MayHaveText}
-use Rattle.trees.proofs.LockedEntries.{ok_more}
 use Rattle.trees.proofs.LockedFailures.{err_unless, fails_unless}
 use Rattle.trees.proofs.deps.npm.check_texts.Goals as goal
 
@@ -14,7 +14,7 @@ returns-in_err-check_text-clause-failed c =
 pub returns-clause-only : goal.returns-clause-only
 returns-clause-only c =
     let d = view c.args.package.now in
-    ok_more c.check_text-2.result (MayHaveText (codes "version") d) (HasTexts d) (λ last. record { name = c.in_ok-check_text.ensures.only; version = last }) c.check_text-2.ensures.only
+    on_ok_weaker c.check_text-2.result (λ last. record { name = c.in_ok-check_text.ensures.only; version = last }) c.check_text-2.ensures.only
 
 pub returns-clause-failed : goal.returns-clause-failed
 returns-clause-failed c =

@@ -1,12 +1,12 @@
 use Rattle.std.proofs.Common.{◌∙◌, [], ◌∷◌, refl, rules, sym, subst}
 use Rattle.std.proofs.lemmas.Bool.{false≢true}
 use Rattle.std.proofs.lemmas.List.Elements.{All-nil}
+use Rattle.std.proofs.lemmas.Result.{on_ok_weaker}
 use Rattle.std.specs.Prelude.{All}
 use Rattle.serde_json.specs.View.{view, members_view}
 use Rattle.trees.specs.DependingParts.{IsEmpty}
 use Rattle.trees.specs.Npm.{listed, HasOwnNames, HasTexts, IsNpmLock, IsPackage}
-use Rattle.trees.specs.NpmParts.{AddsNearest, AreRight, HasPackages, HasSteps}
-use Rattle.trees.proofs.LockedEntries.{ok_more}
+use Rattle.trees.specs.NpmParts.{AreRight, HasSteps}
 use Rattle.trees.proofs.LockedFailures.{err_unless, fails_never, fails_unless}
 use Rattle.trees.proofs.NpmLocks.{each_of, needs_of_lock, no_entries, no_packages}
 use Rattle.trees.proofs.NpmPackages.{alone_stands, packages_held, packages_indexed, paths_first, project_left_out, project_there, project_held}
@@ -38,7 +38,7 @@ returns-clause-held c = λ empty.
     let are = c.in-Some.ensures.all ∙ project_there lock c.in-Some.packages.now.entries (λ zero. false≢true (c.if-is_empty.ensures.1 zero)) in
     let adds = c.in_ok-push_nodes.ensures.added in
     let has = steps_are (goal.at.returns-clause-held c).After-deref-2 empty in
-    ok_more c.push_needs.result (AddsNearest ps c.deref-2.result.now n new) (HasPackages old.is_inverse c.args.source.now lock new)
+    on_ok_weaker c.push_needs.result
     (λ more. packages_held ps root adds.0 old n empty adds.2 c.args.source.now lock new are c.in_ok-push_nodes.ensures.ascending adds.1 c.root_name-root.ensures more.0 more.1 (more.2 adds.0 has))
     (c.push_needs.ensures.added (packages_indexed ps root adds.0 old n empty adds.2))
 
@@ -87,5 +87,5 @@ returns-clause-only c = λ empty.
     let ps = listed (members_view c.in-Some.packages.now.entries) in
     let adds = c.in_ok-push_nodes.ensures.added in
     let has = steps_are (goal.at.returns-clause-only c).After-deref-2 empty in
-    ok_more c.push_needs.result (All (HasOwnNames ps) ps) (IsNpmLock (view c.args.lock.now))
+    on_ok_weaker c.push_needs.result
     (λ names. record { version = c.has_paths.ensures.0 c.if-not-has_paths.false; texts = c.in_ok-check_texts.ensures.only; packages = members_view c.in-Some.packages.now.entries; are = sym c.in-Some.ensures.members; each = c.in_ok-push_nodes.ensures.only; needs = names }) (c.push_needs.ensures.only adds.0 has)

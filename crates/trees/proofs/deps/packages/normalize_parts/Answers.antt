@@ -1,7 +1,7 @@
 use Rattle.std.proofs.Common.{◌∙◌, codes, sym, ap}
+use Rattle.std.proofs.lemmas.Result.{on_ok_weaker}
 use Rattle.toml.specs.View.{members_view}
 use Rattle.trees.specs.Locking.{normal_value}
-use Rattle.trees.proofs.LockedEntries.{ok_more}
 use Rattle.trees.proofs.PoetryTables.{members_changed, members_same}
 use Rattle.trees.proofs.deps.packages.normalize_parts.Goals as goal
 
@@ -9,7 +9,7 @@ pub returns-in-Some : goal.returns-in-Some
 returns-in-Some c =
     let es = c.args.parts.now.entries in
     let w = c.normalize_name.new.name in
-    ok_more c.normalize_name.result _ _
+    on_ok_weaker c.normalize_name.result
     (λ is. ap members_view (c.get_mut.follows.holds w).0 ∙ members_changed (codes "name") normal_value es c.in-Some.name.now w (sym c.in-Some.ensures.value) is) c.normalize_name.ensures
 
 pub returns-in-None : goal.returns-in-None

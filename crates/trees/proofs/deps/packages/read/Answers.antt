@@ -1,11 +1,10 @@
 use Rattle.std.proofs.Common.{List, map, subst, rules}
-use Rattle.std.proofs.lemmas.Result.{IfErr-weaker}
+use Rattle.std.proofs.lemmas.Result.{IfErr-weaker, on_ok_weaker}
 use Rattle.std.specs.List.{All}
 use Rattle.std.specs.Prelude.{IfErr, OnOk}
 use Rattle.toml.specs.View.{view}
 use Rattle.trees.specs.Locking.{HasTables, IsLock, NeedsLead}
 use Rattle.trees.specs.LockingParts.{package_of, AddsAll, AddsLabels, FailsUnless, HasLocked}
-use Rattle.trees.proofs.LockedEntries.{ok_more}
 use Rattle.trees.proofs.LockedFailures.{fails_leading, fails_never, fails_unless, fails_unread}
 use Rattle.trees.proofs.LockedLed.{lock_of}
 use Rattle.trees.proofs.LockedNetworks.{labelled, labelled_indexed, locked_held}
@@ -38,7 +37,7 @@ returns-clause-held c = λ empty.
     let added = subst (λ (qs : List Tuple). OnOk c.push_edges.result (AddsAll tables qs (labelled tables ps old labels empty) new)) c.deref-2.ensures.value
     (c.push_edges.ensures.added (labelled_indexed tables ps old labels empty)) in
     subst (λ ts. OnOk c.push_edges.result (HasLocked old.is_inverse ts new)) c.in_ok-tables.ensures.tables
-    (ok_more c.push_edges.result (AddsAll tables ps (labelled tables ps old labels empty) new) (HasLocked old.is_inverse tables new) (locked_held tables ps old labels empty new c.in_ok-packages.ensures.locked texts) added)
+    (on_ok_weaker c.push_edges.result (locked_held tables ps old labels empty new c.in_ok-packages.ensures.locked texts) added)
 
 pub returns-clause-failed : goal.returns-clause-failed
 returns-clause-failed c =
@@ -54,5 +53,5 @@ returns-clause-only c =
     let d = view c.args.lock.now in
     let tables = map view c.in_ok-tables.tables.now in
     let ps = c.in_ok-packages.packages.items in
-    ok_more c.push_edges.result (All (NeedsLead (map package_of ps)) tables) (IsLock d) (λ led. lock_of d tables ps c.in_default.ensures c.in_ok-tables.ensures.has c.in_ok-tables.ensures.tables c.in_ok-packages.ensures.locked led)
+    on_ok_weaker c.push_edges.result (λ led. lock_of d tables ps c.in_default.ensures c.in_ok-tables.ensures.has c.in_ok-tables.ensures.tables c.in_ok-packages.ensures.locked led)
     (subst (λ (qs : List Tuple). OnOk c.push_edges.result (All (NeedsLead (map package_of qs)) tables)) c.deref-2.ensures.value c.push_edges.ensures.led)

@@ -1,12 +1,10 @@
 use Rattle.std.proofs.Common.{rules}
-use Rattle.std.proofs.lemmas.Result.{IfErr-weaker}
-use Rattle.toml.specs.Data.{Data}
+use Rattle.std.proofs.lemmas.Result.{IfErr-weaker, on_ok_weaker}
 use Rattle.toml.specs.View.{view}
 use Rattle.trees.specs.Locking.{IsLock}
 use Rattle.trees.specs.LockingParts.{FailsUnless}
 use Rattle.trees.specs.Meaning.{HoldsLock}
 use Rattle.trees.specs.Reading.{FailsToMake}
-use Rattle.trees.proofs.LockedEntries.{ok_more}
 use Rattle.trees.proofs.LockedFailures.{fails_document, fails_lock}
 use Rattle.trees.proofs.deps.packages.toml_lock.Goals as goal
 
@@ -24,4 +22,4 @@ returns-clause-failed c =
 pub returns-clause-only : goal.returns-clause-only
 returns-clause-only c =
     let d = view c.in_ok-lock.lock in
-    ok_more c.read.result (IsLock d) ((e : Data) × HoldsLock c.args.input.now e) (λ lock. (d, (c.in_ok-lock.ensures.value, lock))) c.read.ensures.only
+    on_ok_weaker c.read.result (λ lock. (d, (c.in_ok-lock.ensures.value, lock))) c.read.ensures.only

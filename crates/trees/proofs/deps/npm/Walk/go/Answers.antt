@@ -1,10 +1,10 @@
-use Rattle.std.proofs.Common.{◌∙◌, ◌+◌, List, ℕ, sym, subst}
+use Rattle.std.proofs.Common.{◌∙◌, List, ℕ, sym, subst}
 use Rattle.std.proofs.lemmas.Bool.{false≢true}
+use Rattle.std.proofs.lemmas.Result.{on_ok_weaker}
 use Rattle.std.specs.Borrow.{Bor}
 use Rattle.serde_json.specs.Data.{Data}
 use Rattle.trees.specs.Npm.{AreAscending, HasNames}
-use Rattle.trees.specs.NpmParts.{name_of, texts_of, walked, AddsNames, IsAtStep, IsListedAt, IsRightAt, IsRightAtStep, Leaves}
-use Rattle.trees.proofs.LockedEntries.{ok_more}
+use Rattle.trees.specs.NpmParts.{name_of, texts_of, walked, IsRightAt, IsRightAtStep, Leaves}
 use Rattle.trees.proofs.LockedFailures.{err_unless}
 use Rattle.trees.proofs.NpmNeeds.{at_other, at_own, own_at, package_at, right_left, same_at, walked_left}
 use Rattle.trees.proofs.deps.npm.Walk.go.Goals as goal
@@ -19,7 +19,7 @@ returns-then-step-clause-at c = λ packages nodes steps k has at was.
     let q = own.1 in
     let up = subst AreAscending (sym (walked_left packages nodes steps has k s at old mid was leaves)) has.ascending in
     let place = package_at packages nodes steps has k s at old mid was leaves q own.3.among own.4.called in
-    ok_more c.push_needs.result (AddsNames (name_of s) q.1 s.3 mid c.push_needs.new.self) (IsAtStep packages nodes steps (k + 1) c.push_needs.new.self)
+    on_ok_weaker c.push_needs.result
     (at_own packages nodes steps has k s at old mid was leaves c.push_needs.new.self c.if-step.true own.0 q own.2 own.3 own.4) (c.push_needs.ensures.added up leaves.ready place.0 q.1 place.1)
 
 pub returns-in_ok-enter-clause-at : goal.returns-in_ok-enter-clause-at
@@ -38,7 +38,7 @@ returns-then-step-clause-only c = λ packages nodes steps k has at was.
     let all = walked_left packages nodes steps has k s at old mid was leaves in
     let up = subst AreAscending (sym all) has.ascending in
     let place = package_at packages nodes steps has k s at old mid was leaves q own.3.among own.4.called in
-    ok_more c.push_needs.result (HasNames (walked mid) (name_of s, q.1)) (IsListedAt packages s)
+    on_ok_weaker c.push_needs.result
     (λ lists kind d there. subst (λ (ps : List (List ℕ × Data)). HasNames ps (name_of s, d)) all (subst (λ (x : Data). HasNames (walked mid) (name_of s, x)) (sym (same_at packages has.ascending q own.3.among (name_of s) d own.4.called there)) lists)) (c.push_needs.ensures.only up place.0 q.1 place.1)
 
 pub returns-in_ok-enter-clause-only : goal.returns-in_ok-enter-clause-only

@@ -1,13 +1,13 @@
 use Rattle.std.proofs.Common.{◌≡◌, ◌∙◌, ℕ, List, [], eqb, eqb-true, length, rules, sym, ap, subst}
 use Rattle.std.proofs.lemmas.Bool.{false≢true}
 use Rattle.std.proofs.lemmas.List.{nil_from_length}
+use Rattle.std.proofs.lemmas.Result.{on_ok_weaker}
 use Rattle.std.specs.Prelude.{Some, None, OnOk}
 use Rattle.serde_json.specs.Data.{Data}
 use Rattle.serde_json.specs.View.{view}
 use Rattle.trees.specs.Npm.{HasLists, HasNames}
-use Rattle.trees.specs.NpmParts.{walked, AddsNames, AddsWorkspaces, IsRightAt}
-use Rattle.trees.specs.NpmPatterns.{patterns_in, MayHavePatterns}
-use Rattle.trees.proofs.LockedEntries.{ok_more}
+use Rattle.trees.specs.NpmParts.{walked, AddsNames, IsRightAt}
+use Rattle.trees.specs.NpmPatterns.{MayHavePatterns}
 use Rattle.trees.proofs.LockedFailures.{err_unless, fails_unless}
 use Rattle.trees.proofs.NpmWalks.{names_alone, names_with, value_at}
 use Rattle.trees.proofs.deps.npm.Walk.push_needs.Goals as goal
@@ -26,7 +26,7 @@ returns-then-is_empty-clause-added c = λ up ready i d at.
     let lists = c.in_ok-push_lists.ensures.added ready in
     let none = nil_from_length path (eqb-true _ 0 (sym c.is_empty.ensures ∙ c.if-is_empty.true)) in
     subst (λ (x : Data). OnOk c.push_workspaces.result (AddsNames path x c.args.node old new)) same
-    (ok_more c.push_workspaces.result (AddsWorkspaces (patterns_in e) c.args.node mid new) (AddsNames path e c.args.node old new) (names_with path e c.args.node old mid lists new none) (c.push_workspaces.ensures.added lists.2.ready))
+    (on_ok_weaker c.push_workspaces.result (names_with path e c.args.node old mid lists new none) (c.push_workspaces.ensures.added lists.2.ready))
 
 pub returns-else-is_empty-clause-added : goal.returns-else-is_empty-clause-added
 returns-else-is_empty-clause-added c = λ up ready i d at.
@@ -45,7 +45,7 @@ returns-then-is_empty-clause-only c = λ up i d at.
     let path = c.args.path.now in
     let ps = walked c.args.self.now in
     let same = value_at path d c.args.self.now.packages.now.entries i up at (Some c.in-Some.package.now) c.in-Some.ensures.value in
-    ok_more c.push_workspaces.result (MayHavePatterns (view c.in-Some.package.now)) (HasNames ps (path, d))
+    on_ok_weaker c.push_workspaces.result
     (λ are. subst (λ (x : Data). HasNames ps (path, x)) same (record { lists = c.in_ok-push_lists.ensures.only; workspaces = λ none. are })) c.push_workspaces.ensures.only
 
 pub returns-else-is_empty-clause-only : goal.returns-else-is_empty-clause-only

@@ -12,7 +12,14 @@ use Rattle.trees.proofs.LockedFailures.{fails_never}
 use Rattle.trees.proofs.LockedLed.{more_led, IsOne}
 use Rattle.trees.proofs.LockedNeeds.{entry_led, no_list}
 use Rattle.trees.proofs.Readings.{fails_weaker}
+use Rattle.trees.proofs.deps.packages.Needing.push_list.Goals.{After-loop-need}
 use Rattle.trees.proofs.deps.packages.Needing.push_list.Goals as goal
+
+-- at the end of the list all its entries are seen
+all_seen : (c : After-loop-need) → entries_of (view c.args.needs.now) ≡ map view (take c.loop-need.need-index c.deref-need-items.result.now)
+all_seen c =
+    list_entries (view c.args.needs.now) c.in-Some.needs.now.items c.in-Some.ensures
+    ∙ (ap (map view) (sym c.deref-need-items.ensures.value) ∙ sym (ap (map view) (take_all c.loop-need.need-index c.deref-need-items.result.now c.loop-need-test.false)))
 
 pub loop-need-init : goal.loop-need-init
 loop-need-init c = (no_entries c.args.self.now c.args.network.now, All-nil (IsOne (packages_of c.args.self.now)))
@@ -44,14 +51,10 @@ returns-in_err-at-clause-failed c =
 
 pub returns-clause-added : goal.returns-clause-added
 returns-clause-added c =
-    let items = c.deref-need-items.result.now in
-    let all : entries_of (view c.args.needs.now) ≡ map view (take c.loop-need.need-index items) =
-    list_entries (view c.args.needs.now) c.in-Some.needs.now.items c.in-Some.ensures ∙ (ap (map view) (sym c.deref-need-items.ensures.value) ∙ sym (ap (map view) (take_all c.loop-need.need-index items c.loop-need-test.false))) in
+    let all = all_seen (goal.at.returns-clause-added c).After-loop-need in
     subst (λ es. AddsEntries c.args.self.now es c.args.network.now c.loop-need.network) (sym all) c.loop-need.invariant.0
 
 pub returns-clause-led : goal.returns-clause-led
 returns-clause-led c =
-    let items = c.deref-need-items.result.now in
-    let all : entries_of (view c.args.needs.now) ≡ map view (take c.loop-need.need-index items) =
-    list_entries (view c.args.needs.now) c.in-Some.needs.now.items c.in-Some.ensures ∙ (ap (map view) (sym c.deref-need-items.ensures.value) ∙ sym (ap (map view) (take_all c.loop-need.need-index items c.loop-need-test.false))) in
+    let all = all_seen (goal.at.returns-clause-led c).After-loop-need in
     record { list = sym (ap is_some c.in-Some.ensures); each = subst (All (IsOne (packages_of c.args.self.now))) (sym all) c.loop-need.invariant.1 }

@@ -1,11 +1,11 @@
 use Rattle.std.proofs.Common.{◌++◌, codes, rules}
-use Rattle.std.proofs.lemmas.Result.{IfErr-weaker}
+use Rattle.std.proofs.lemmas.Result.{IfErr-weaker, on_ok_weaker}
 use Rattle.std.specs.Prelude.{IfSome}
 use Rattle.toml.specs.Data.{get}
 use Rattle.toml.specs.View.{view}
-use Rattle.trees.specs.Locking.{entries_at, grouped, entries_in, own_entries, AreLed, NeedsLead, OwnLead}
-use Rattle.trees.specs.LockingParts.{packages_of, AddsEntries, FailsUnless}
-use Rattle.trees.proofs.LockedEntries.{both_entries, ok_more}
+use Rattle.trees.specs.Locking.{entries_at, grouped, own_entries, AreLed, NeedsLead, OwnLead}
+use Rattle.trees.specs.LockingParts.{packages_of, FailsUnless}
+use Rattle.trees.proofs.LockedEntries.{both_entries}
 use Rattle.trees.proofs.LockedFailures.{fails_unless}
 use Rattle.trees.proofs.deps.packages.Needing.push_needs.Goals as goal
 
@@ -39,12 +39,12 @@ returns-clause-added c =
     let own = entries_at (own_entries (packages_of self)) (codes "dependencies") d in
     let optional = entries_at grouped (codes "optional-dependencies") d in
     let dev = entries_at grouped (codes "dev-dependencies") d in
-    ok_more c.push_groups-2.result (AddsEntries self dev m o) (AddsEntries self (entries_in (packages_of self) d) old o)
+    on_ok_weaker c.push_groups-2.result
     (λ last. both_entries self (own ++ optional) dev old m o (both_entries self own optional old n m c.in_ok-push_own.ensures.added c.in_ok-push_groups.ensures.added) last) c.push_groups-2.ensures.added
 
 pub returns-clause-led : goal.returns-clause-led
 returns-clause-led c =
     let d = view c.args.table.now in
     let packages = packages_of c.args.self.now in
-    ok_more c.push_groups-2.result (IfSome (get (codes "dev-dependencies") d) (AreLed packages)) (NeedsLead packages d)
+    on_ok_weaker c.push_groups-2.result
     (λ last. record { own = c.in_ok-push_own.ensures.led; optional = c.in_ok-push_groups.ensures.led; dev = last }) c.push_groups-2.ensures.led

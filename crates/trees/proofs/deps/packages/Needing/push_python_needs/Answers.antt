@@ -1,15 +1,13 @@
-use Rattle.std.proofs.Common.{◌≡◌, ◌∙◌, ℕ, List, [], ◌∷◌, ◌++◌, length, map, sym, subst, rules}
+use Rattle.std.proofs.Common.{◌≡◌, ◌∙◌, ℕ, List, [], ◌∷◌, ◌++◌, map, sym, subst, rules}
 use Rattle.std.proofs.lemmas.List.{map-append}
 use Rattle.std.proofs.lemmas.List.Elements.{All-nil, All-push}
-use Rattle.std.proofs.lemmas.Map.Iter.{iter_end, iter_turn}
 use Rattle.std.specs.List.{All}
-use Rattle.std.specs.Map.Iter.{deref_pair}
 use Rattle.toml.specs.View.{view, members_view}
 use Rattle.trees.specs.Locking.{locked_entries, members_in, NameLeads}
 use Rattle.trees.specs.LockingParts.{packages_of, AddsEntries}
 use Rattle.trees.proofs.LockedEntries.{no_entries}
 use Rattle.trees.proofs.LockedFailures.{fails_unless}
-use Rattle.trees.proofs.PoetryNeeds.{Item, item_seen, item_led, items_seen, more_names, names_entries}
+use Rattle.trees.proofs.PoetryNeeds.{Item, end_all, item_seen, more_names, names_entries, turn_led}
 use Rattle.trees.proofs.deps.packages.Needing.push_python_needs.Goals as goal
 
 pub loop-name-init : goal.loop-name-init
@@ -31,25 +29,19 @@ loop-name-preserved c =
 pub returns-in_err-push_python_need-clause-failed : goal.returns-in_err-push_python_need-clause-failed
 returns-in_err-push_python_need-clause-failed c =
     let packages = packages_of c.args.self.now in
-    let entries = c.args.needs.now.entries in
-    let start = c.into_iter-name-iterator.ensures.into_iter_gives ∙ c.iter-name-items.ensures.rest in
-    let x : Item = (c.in-Some.name, c.in-Some.need) in
-    let turn = iter_turn deref_pair entries c.loop-name.yielded c.into_iter-name-iterator.result c.loop-name.name-iterator c.next.new.self c.next.result start c.loop-name.yielded_by x c.in-Some.is c.next.ensures.steps in
-    let says = fails_unless (NameLeads packages (c.as_str.result.now, view c.in-Some.need.now)) (All (NameLeads packages) (members_in (members_view entries))) c.in_err-push_python_need.field-0.0
-    (λ all. subst (λ (t : List ℕ). NameLeads packages (t, view c.in-Some.need.now)) (sym c.as_str.ensures.value) (item_led packages entries (length c.loop-name.yielded) x turn.1 all)) c.in_err-push_python_need.ensures.failed in
+    let name = c.as_str.result.now in
+    let says = fails_unless (NameLeads packages (name, view c.in-Some.need.now)) (All (NameLeads packages) (members_in (members_view c.args.needs.now.entries))) c.in_err-push_python_need.field-0.0
+    (turn_led c.args.needs.now.entries c.loop-name.yielded c.into_iter-name-iterator.result c.loop-name.name-iterator c.next.new.self c.next.result (c.into_iter-name-iterator.ensures.into_iter_gives ∙ c.iter-name-items.ensures.rest) c.loop-name.yielded_by c.next.ensures.steps
+    packages (c.in-Some.name, c.in-Some.need) c.in-Some.is name c.as_str.ensures.value) c.in_err-push_python_need.ensures.failed in
     search (rules, says)
 
 pub returns-clause-added : goal.returns-clause-added
 returns-clause-added c =
     let self = c.args.self.now in
-    let entries = c.args.needs.now.entries in
-    let start = c.into_iter-name-iterator.ensures.into_iter_gives ∙ c.iter-name-items.ensures.rest in
-    let end = iter_end deref_pair entries c.loop-name.yielded c.into_iter-name-iterator.result c.loop-name.name-iterator c.next.new.self c.next.result start c.loop-name.yielded_by c.in-None.is c.next.ensures.steps in
-    subst (λ ms. AddsEntries self (names_entries self ms) c.args.network.now c.loop-name.network) (items_seen c.loop-name.yielded entries end.0) c.loop-name.invariant.0
+    let all = end_all c.args.needs.now.entries c.loop-name.yielded c.into_iter-name-iterator.result c.loop-name.name-iterator c.next.new.self c.next.result (c.into_iter-name-iterator.ensures.into_iter_gives ∙ c.iter-name-items.ensures.rest) c.loop-name.yielded_by c.next.ensures.steps c.in-None.is in
+    subst (λ ms. AddsEntries self (names_entries self ms) c.args.network.now c.loop-name.network) all c.loop-name.invariant.0
 
 pub returns-clause-led : goal.returns-clause-led
 returns-clause-led c =
-    let entries = c.args.needs.now.entries in
-    let start = c.into_iter-name-iterator.ensures.into_iter_gives ∙ c.iter-name-items.ensures.rest in
-    let end = iter_end deref_pair entries c.loop-name.yielded c.into_iter-name-iterator.result c.loop-name.name-iterator c.next.new.self c.next.result start c.loop-name.yielded_by c.in-None.is c.next.ensures.steps in
-    subst (All (NameLeads (packages_of c.args.self.now))) (items_seen c.loop-name.yielded entries end.0) c.loop-name.invariant.1
+    let all = end_all c.args.needs.now.entries c.loop-name.yielded c.into_iter-name-iterator.result c.loop-name.name-iterator c.next.new.self c.next.result (c.into_iter-name-iterator.ensures.into_iter_gives ∙ c.iter-name-items.ensures.rest) c.loop-name.yielded_by c.next.ensures.steps c.in-None.is in
+    subst (All (NameLeads (packages_of c.args.self.now))) all c.loop-name.invariant.1

@@ -1,11 +1,10 @@
 use Rattle.std.proofs.Common.{sym, subst}
-use Rattle.std.proofs.lemmas.Result.{IfErr-weaker}
+use Rattle.std.proofs.lemmas.Result.{IfErr-weaker, on_ok_weaker}
 use Rattle.std.specs.List.{All}
 use Rattle.std.specs.Prelude.{OnOk}
 use Rattle.toml.specs.View.{view, members_view}
 use Rattle.trees.specs.Locking.{members_in, IsLed, NameLeads, OwnLead}
 use Rattle.trees.specs.LockingParts.{packages_of, AddsEntries, FailsUnless}
-use Rattle.trees.proofs.LockedEntries.{ok_more}
 use Rattle.trees.proofs.LockedFailures.{fails_unless}
 use Rattle.trees.proofs.PoetryNeeds.{own_table, own_list, lead_table, table_lead}
 use Rattle.trees.proofs.deps.packages.Needing.push_table_or_list.Goals as goal
@@ -17,7 +16,7 @@ returns-in-Some-clause-added c =
 
 pub returns-in-Some-clause-led : goal.returns-in-Some-clause-led
 returns-in-Some-clause-led c =
-    ok_more c.push_python_needs.result _ _ (lead_table (packages_of c.args.self.now) (view c.args.needs.now) (members_view c.in-Some.table.now.entries) c.in-Some.ensures) c.push_python_needs.ensures.led
+    on_ok_weaker c.push_python_needs.result (lead_table (packages_of c.args.self.now) (view c.args.needs.now) (members_view c.in-Some.table.now.entries) c.in-Some.ensures) c.push_python_needs.ensures.led
 
 pub returns-in-Some-clause-failed : goal.returns-in-Some-clause-failed
 returns-in-Some-clause-failed c =
@@ -34,7 +33,7 @@ returns-in-None-clause-added c =
 
 pub returns-in-None-clause-led : goal.returns-in-None-clause-led
 returns-in-None-clause-led c =
-    ok_more c.push_list.result _ _ (own_list (packages_of c.args.self.now) (view c.args.needs.now) c.in-None.ensures).1.1 c.push_list.ensures.led
+    on_ok_weaker c.push_list.result (own_list (packages_of c.args.self.now) (view c.args.needs.now) c.in-None.ensures).1.1 c.push_list.ensures.led
 
 pub returns-in-None-clause-failed : goal.returns-in-None-clause-failed
 returns-in-None-clause-failed c =
