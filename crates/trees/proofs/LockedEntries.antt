@@ -3,7 +3,7 @@ use Rattle.std.proofs.Common.{◌≡◌, ◌∙◌, ℕ, ◌+◌, ◌<◌, List,
 use Rattle.std.proofs.lemmas.List.{map-append, append-nil, take_more}
 use Rattle.std.proofs.lemmas.List.Concat.{flat_map-append}
 use Rattle.std.specs.Borrow.{Bor}
-use Rattle.std.specs.Prelude.{Some, Result, Ok, Err, OnOk, String, flat_map}
+use Rattle.std.specs.Prelude.{Some, String, flat_map}
 use Rattle.std.specs.declared.alloc.Global.{Global}
 use Rattle.ptree.proofs.Trees.ItemTrees.{map_twice}
 use Rattle.toml.specs.Data.{Data, string, integer, float, boolean, datetime, array, table, Members, as_array, as_table}
@@ -81,8 +81,3 @@ pub all_lists : (lists : List (Bor Value)) (es : List (String Global × Value)) 
     → flat_map entries_of (map (λ v. view v.now) lists) ≡ flat_map entries_of (values_of (members_view es))
 all_lists lists es all =
     ap (flat_map entries_of) (map_twice (λ (v : Bor Value). v.now) view lists ∙ (ap (map view) all ∙ sym (values_seen es)))
-
--- what a call has done is also what follows of it
-pub ok_more : {T E : Type 0} (r : Result T E) (P Q : Type 0) → (P → Q) → OnOk r P → OnOk r Q
-ok_more (Ok x) P Q f is = f is
-ok_more (Err e) P Q f is = tt

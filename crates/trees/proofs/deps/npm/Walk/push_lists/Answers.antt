@@ -1,8 +1,7 @@
 use Rattle.std.proofs.Common.{◌++◌, codes}
+use Rattle.std.proofs.lemmas.Result.{on_ok_weaker}
 use Rattle.serde_json.specs.View.{view}
 use Rattle.trees.specs.Npm.{names_at}
-use Rattle.trees.specs.NpmParts.{AddsLists}
-use Rattle.trees.proofs.LockedEntries.{ok_more}
 use Rattle.trees.proofs.NpmWalks.{developed_ready, lists_named, named_both}
 use Rattle.trees.proofs.deps.npm.Walk.push_lists.Goals as goal
 
@@ -21,5 +20,5 @@ returns-clause-added c = λ ready.
     let second = c.in_ok-push_list-2.ensures.added first.ready in
     let optional = names_at (codes "optionalDependencies") d in
     let peers = names_at (codes "peerDependencies") d in
-    ok_more c.push_list-3.result _ (AddsLists path d node a z)
+    on_ok_weaker c.push_list-3.result
     (λ third. lists_named path d node a b z developed (named_both node (names_at (codes "dependencies") d) (optional ++ peers) b x z first (named_both node optional peers x y z second third))) (c.push_list-3.ensures.added second.ready)
