@@ -15,7 +15,7 @@ pairs_front R xs ys pairs = λ i j d less low.
     subst (λ x. R x (get_or xs j d)) (get_or_append_left xs ys d i (omega (arith, less, low)))
     (subst (R (get_or (xs ++ ys) i d)) (get_or_append_left xs ys d j low) (pairs i j d less (omega (arith, low, length-append xs ys))))
 
--- lists that go on
+-- lists side by side that both go on
 pub zip_both : {X Y : Type 0} (R : X → Y → Type 0) (xs ys : List X) (vs ws : List Y) → AllZip R xs vs → AllZip R ys ws → AllZip R (xs ++ ys) (vs ++ ws)
 zip_both R [] ys [] ws a b = b
 zip_both R [] ys (v ∷ vs) ws a b = absurd a

@@ -115,8 +115,6 @@ module _ (tables : List Data) where
         let one : get_or qs k nothing ≡ get_or qs (k + 1) nothing = get_or-map package_of ps k d nothing (omega arith) ∙ (same ∙ sym (get_or-map package_of ps (k + 1) d nothing low)) in
         false≢true (sym apart ∙ (ap (eq_by_cmp package_cmp (get_or qs k nothing)) (sym one) ∙ ap is_eq (tied_itself package_total (get_or qs k nothing))))
 
--- ## Order
-
 -- the packages of tables are determined
 pub same_packages : (tables : List Data) (ps : List Tuple) (locked : List (Data × Package)) → AreLocked tables ps → ArePackages tables locked → map (λ l. l.1) locked ≡ map package_of ps
 same_packages tables ps locked found are =
