@@ -94,13 +94,20 @@ def make(house, folder):
     return crate, libraries
 
 
+def proved_at(out):
+    """The time at which a library was proved whose folder `out` this is, or 0."""
+    stamp = os.path.join(out, "rlib", "stamp")
+    return os.path.getmtime(stamp) if os.path.isfile(stamp) else 0
+
+
 def build(house, folder, words=()):
-    """Makes a program's crate, proves and builds it, and runs it with the words. What is kept of the libraries' proofs is taken along.
-    Returns the program's path."""
+    """Makes a program's crate, proves and builds it, and runs it with the words. What is kept of the libraries' proofs is taken along, if it
+    is newer than what is there. Returns the program's path."""
     crate, libraries = make(house, folder)
     for library in libraries:
         of, to = (os.path.join(top, "crates", library, "out") for top in (TOP, house))
-        if os.path.isdir(of) and not os.path.isdir(to):
+        if os.path.isdir(of) and (not os.path.isdir(to) or proved_at(of) > proved_at(to)):
+            shutil.rmtree(to, ignore_errors=True)
             shutil.copytree(of, to, copy_function=link_or_copy)
     name = os.path.basename(crate)
     print(f"proving and building {name}", file=sys.stderr)
