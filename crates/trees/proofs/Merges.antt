@@ -2,8 +2,10 @@
 use Rattle.std.specs.List.{slice_range}
 use Rattle.std.specs.Prelude.{option_map}
 use Rattle.std.specs.Str.{bytes_eq}
-use Rattle.std.proofs.Common.{◌≡◌, ◌∙◌, ℕ, ◌+◌, ◌<◌, ◌≤◌, ◌++◌, true, List, [], ◌∷◌, length, get_or, map, take, drop, Option, Some, None, string_bytes, ap, refl, sym, subst, append_assoc, append-nil}
-use Rattle.std.proofs.lemmas.List.{take_more, take_all, map-append}
+use Rattle.std.proofs.Common.{◌≡◌, ◌≢◌, ◌∙◌, ℕ, ◌+◌, ◌-◌, ◌<◌, ◌≤◌, ◌++◌, true, false, All, List, [], ◌∷◌, length, get_or, map, take, drop, Option, Some, None, string_bytes, ap, refl, sym, subst, append_assoc, append-nil, arith}
+use Rattle.std.proofs.lemmas.Bool.{false≢true}
+use Rattle.std.proofs.lemmas.List.{take_more, take_all, map-append, get_or_default, get_or-take, get_or-drop, length-take-le, length-drop}
+use Rattle.std.proofs.lemmas.List.Elements.{All-map, All-head, All-tail, All-weaker}
 use Rattle.std.proofs.lemmas.List.Folds.{drop_split}
 use Rattle.std.proofs.lemmas.Option.{slice_get_read}
 use Rattle.std.proofs.lemmas.Slice.Eq.{bytes_eq-Decides}
@@ -18,8 +20,8 @@ use Rattle.ptree_trees.specs.declared.styled.StyledItem.{StyledItem}
 use Rattle.trees.specs.declared.compare.Look.{Look}
 use Rattle.trees.specs.declared.compare.Side.{Side}
 use Rattle.trees.specs.declared.compare.Side.TheVariants.{Left, Right}
-use Rattle.trees.specs.Merging.{shared, alone, nothing, left_forest, right_forest, StyledForest, StyledTree, styled, styled_forest, styled_tree_of, side_style, marked_text, marked_forest, marked_tree, shown_merge, roots_text, ShowsMerge, ShowsBoth}
-use Rattle.trees.specs.MergingParts.{text_at}
+use Rattle.trees.specs.Merging.{shared, alone, nothing, left_forest, right_forest, root_texts, next_shared, StyledForest, StyledTree, styled, styled_forest, styled_tree_of, side_style, marked_text, marked_forest, marked_tree, shown_merge, roots_text, ShowsMerge, ShowsBoth}
+use Rattle.trees.specs.MergingParts.{text_at, LacksText}
 use Rattle.trees.specs.Shown.{shown_text}
 use Rattle.trees.proofs.StyledTrees.{styled_tree, tree_of_parts}
 
@@ -70,6 +72,35 @@ text_found ys at y text l is there =
     let some = sym there ∙ ap (option_map (λ s. (tree_of s).text)) (slice_get_read ys (length ys) at y refl l is) in
     cc
 
+-- the texts of a forest's roots
+root_texts_of : (ts : List Tree) → root_texts (forest ts) ≡ map (λ t. t.text) ts
+root_texts_of [] = refl
+root_texts_of (t ∷ ts) = ap (λ xs. t.text ∷ xs) (root_texts_of ts)
+
+-- items of which none has a text: some of those behind a position
+lacks_all : (ys : List StringItem) (from n : ℕ) (text : List ℕ) → n ≤ length ys - from → LacksText ys from (from + n) text
+    → All (λ (t : Tree). t.text ≢ text) (map tree_of (take n (drop from ys)))
+lacks_all ys from n text few lacks = All-map (λ (t : Tree). t.text ≢ text) tree_of (take n (drop from ys)) (λ k d l same.
+    let long : length (take n (drop from ys)) ≤ n = omega (arith, length-take-le n (drop from ys) (omega (arith, length-drop from ys, few))) in
+    let low : k < n = omega arith in
+    let within : from + k < length ys = omega arith in
+    let is : get_or (take n (drop from ys)) k d ≡ get_or ys (from + k) d = get_or-take n (drop from ys) k d low ∙ get_or-drop from ys k d in
+    let y = get_or ys (from + k) d in
+    let there : text_at ys (from + k) ≡ Some (tree_of y).text = ap (option_map (λ s. (tree_of s).text)) (slice_get_read ys (length ys) (from + k) y refl within (get_or_default ys (from + k) d y within)) in
+    lacks (from + k) (omega arith) (omega arith) (there ∙ ap Some (ap (λ (s : StringItem). (tree_of s).text) (sym is) ∙ same)))
+
+-- those that are passed over have not the text of the one that is found
+pub passed_apart : (ys : List StringItem) (from at : ℕ) (text own : List ℕ) → from ≤ at → at ≤ length ys → LacksText ys from at text → own ≡ text → All (λ (t : Tree). t.text ≢ own) (map tree_of (slice_range ys from at))
+passed_apart ys from at text own in_order within lacks e =
+    let sum : from + (at - from) ≡ at = omega arith in
+    lacks_all ys from (at - from) own (omega arith) (subst (λ (n : ℕ). LacksText ys from n own) (sym sum) (subst (LacksText ys from at) (sym e) lacks))
+
+-- nor have all that are left, if none is found
+pub rest_apart : (ys : List StringItem) (from : ℕ) (text own : List ℕ) → from ≤ length ys → LacksText ys from (length ys) text → own ≡ text → All (λ (t : Tree). t.text ≢ own) (map tree_of (drop from ys))
+rest_apart ys from text own within lacks e =
+    let all : take (length ys - from) (drop from ys) ≡ drop from ys = take_all (length ys - from) (drop from ys) (omega (arith, length-drop from ys)) in
+    subst (λ (zs : List StringItem). All (λ (t : Tree). t.text ≢ own) (map tree_of zs)) all (passed_apart ys from (length ys) text own within (omega arith) lacks e)
+
 -- an item is pushed onto those that are shown
 pub pushed_shown : (mid new : List StyledItem) (s : StyledItem) (shown : List StyledTree) → new ≡ mid ++ s ∷ [] → map styled_tree_of mid ≡ shown → map styled_tree_of new ≡ shown ++ styled_tree_of s ∷ []
 pushed_shown mid new s shown made before = ap (map styled_tree_of) made ∙ map-append styled_tree_of mid (s ∷ []) ∙ ap (λ ts. ts ++ styled_tree_of s ∷ []) before
@@ -91,29 +122,39 @@ pub record ShowsBut (look : Look) (ts us left right : List Tree) (made : List St
 
 module _ (look : Look) where
   -- nothing shows a merge of nothing
-  pub shows_none : Shows look [] [] []
-  shows_none = record { merge = nothing; left = refl; right = refl; is = refl }
+  abbrev pub shows_none : Shows look [] [] []
+  shows_none = record { merge = nothing; left = refl; right = refl; next = tt; is = refl }
 
-  -- a tree before the left ones
-  shows_left : (t : Tree) (ts us : List Tree) (rest : List StyledTree) → Shows look ts us rest → Shows look (t ∷ ts) us (marked_tree look Left t ∷ rest)
-  shows_left t ts us rest h = record {
+  -- a tree before the left ones whose text no right one has
+  shows_left : (t : Tree) (ts us : List Tree) (rest : List StyledTree) → All (λ u. u.text ≢ t.text) us → Shows look ts us rest → Shows look (t ∷ ts) us (marked_tree look Left t ∷ rest)
+  shows_left t ts us rest lacks h = record {
     merge = alone Left t.text t.children h.merge;
     left = ap (item t.text t.children) h.left;
     right = h.right;
+    next = (subst (λ (f : Forest). All (λ u. u ≢ t.text) (root_texts f)) (sym h.right) (subst (All (λ u. u ≢ t.text)) (sym (root_texts_of us)) (All-map (λ u. u ≢ t.text) (λ u. u.text) us lacks)), h.next);
     is = ap (styled (marked_text look Left t.text) (side_style look Left) (marked_forest look Left t.children)) h.is;
   }
 
-  -- trees before the right ones
-  shows_right : (over ts us : List Tree) (rest : List StyledTree) → Shows look ts us rest → Shows look ts (over ++ us) (map (marked_tree look Right) over ++ rest)
-  shows_right [] ts us rest h = h
-  shows_right (u ∷ over) ts us rest h =
-      let k = shows_right over ts us rest h in
-      record {
-        merge = alone Right u.text u.children k.merge;
-        left = k.left;
-        right = ap (item u.text u.children) k.right;
-        is = ap (styled (marked_text look Right u.text) (side_style look Right) (marked_forest look Right u.children)) k.is;
-      }
+  -- a merge of the same with the same next text
+  abbrev SameNext : (ts us : List Tree) (rest : List StyledTree) → Option (List ℕ) → Type 0
+  SameNext ts us rest next = (k : Shows look ts us rest) × (next_shared k.merge ≡ next)
+
+  -- trees before the right ones that don't have the next text
+  shows_right : (over ts us : List Tree) (rest : List StyledTree) (h : Shows look ts us rest) → All (λ u. next_shared h.merge ≢ Some u.text) over
+      → SameNext ts (over ++ us) (map (marked_tree look Right) over ++ rest) (next_shared h.merge)
+  shows_right [] ts us rest h apart = (h, refl)
+  shows_right (u ∷ over) ts us rest h apart =
+      let more = shows_right over ts us rest h (All-tail (λ v. next_shared h.merge ≢ Some v.text) u over apart) in
+      let k = more.0 in (
+        record {
+          merge = alone Right u.text u.children k.merge;
+          left = k.left;
+          right = ap (item u.text u.children) k.right;
+          next = ((λ same. All-head (λ v. next_shared h.merge ≢ Some v.text) u over apart (sym more.1 ∙ same)), k.next);
+          is = ap (styled (marked_text look Right u.text) (side_style look Right) (marked_forest look Right u.children)) k.is;
+        },
+        more.1,
+      )
 
   -- the text of two roots with one text
   one_text : (t u : List ℕ) → t ≡ u → roots_text look t u ≡ shown_text look.is_escaped t
@@ -122,12 +163,13 @@ module _ (look : Look) where
       rw same refl
 
   -- a tree with the same text before both
-  shows_both : (t u : Tree) (s : StyledTree) (ts us : List Tree) (rest : List StyledTree) → t.text ≡ u.text → ShowsBoth look t u s → Shows look ts us rest → Shows look (t ∷ ts) (u ∷ us) (s ∷ rest)
+  abbrev shows_both : (t u : Tree) (s : StyledTree) (ts us : List Tree) (rest : List StyledTree) → t.text ≡ u.text → ShowsBoth look t u s → Shows look ts us rest → Shows look (t ∷ ts) (u ∷ us) (s ∷ rest)
   shows_both t u s ts us rest same both h = record {
     merge = shared t.text both.below.merge h.merge;
     left = ap (λ (f : Forest). item t.text f (left_forest h.merge)) both.below.left ∙ ap (item t.text t.children) h.left;
     right = ap (λ (x : List ℕ). item x (right_forest both.below.merge) (right_forest h.merge)) same
         ∙ ap (λ (f : Forest). item u.text f (right_forest h.merge)) both.below.right ∙ ap (item u.text u.children) h.right;
+    next = (both.below.next, h.next);
     is = ap (λ (x : List ℕ). styled x s.style s.children (styled_forest rest)) (both.text ∙ one_text t.text u.text same)
         ∙ ap (λ (o : Option StyleValue). styled (shown_text look.is_escaped t.text) o s.children (styled_forest rest)) both.style
         ∙ ap (λ (f : StyledForest). styled (shown_text look.is_escaped t.text) None f (styled_forest rest)) both.below.is
@@ -137,23 +179,23 @@ module _ (look : Look) where
   module _ (ts us : List Tree) where
     -- a tree of each goes with the other, behind right ones that are passed over
     pub step_both : (t u : Tree) (over left right ls rs : List Tree) (s : StyledTree) (made new : List StyledTree) → left ≡ t ∷ ls → right ≡ over ++ u ∷ rs → new ≡ (made ++ map (marked_tree look Right) over) ++ s ∷ []
-        → t.text ≡ u.text → ShowsBoth look t u s → ShowsBut look ts us left right made → ShowsBut look ts us ls rs new
-    step_both t u over left right ls rs s made new e f is same both h = record {
+        → t.text ≡ u.text → All (λ v. v.text ≢ t.text) over → ShowsBoth look t u s → ShowsBut look ts us left right made → ShowsBut look ts us ls rs new
+    step_both t u over left right ls rs s made new e f is same apart both h = record {
       go = λ rest k.
-          let passed = shows_right over (t ∷ ls) (u ∷ rs) (s ∷ rest) (shows_both t u s ls rs rest same both k) in
-          let all = h.go (map (marked_tree look Right) over ++ s ∷ rest) (rw (e, f) passed) in
+          let passed = shows_right over (t ∷ ls) (u ∷ rs) (s ∷ rest) (shows_both t u s ls rs rest same both k) (All-weaker (λ v. v.text ≢ t.text) (λ v. Some t.text ≢ Some v.text) (λ v other e. let same : v.text ≡ t.text = (cc) in other same) over apart) in
+          let all = h.go (map (marked_tree look Right) over ++ s ∷ rest) (rw (e, f) passed.0) in
           rw (is, append_assoc, append_assoc) all;
     }
 
     -- a left tree goes with none
     pub step_left : (t : Tree) (left ls right : List Tree) (s : StyledTree) (made new : List StyledTree) → left ≡ t ∷ ls → new ≡ made ++ s ∷ [] → s ≡ marked_tree look Left t
-        → ShowsBut look ts us left right made → ShowsBut look ts us ls right new
-    step_left t left ls right s made new e is marks h = record {
-      go = λ rest k. rw (is, append_assoc, marks) (h.go (marked_tree look Left t ∷ rest) (rw e (shows_left t ls right rest k)));
+        → All (λ u. u.text ≢ t.text) right → ShowsBut look ts us left right made → ShowsBut look ts us ls right new
+    step_left t left ls right s made new e is marks lacks h = record {
+      go = λ rest k. rw (is, append_assoc, marks) (h.go (marked_tree look Left t ∷ rest) (rw e (shows_left t ls right rest lacks k)));
     }
 
     -- the right trees that are left go with none
     pub step_end : (left right : List Tree) (made new : List StyledTree) → left ≡ [] → new ≡ made ++ map (marked_tree look Right) right → ShowsBut look ts us left right made → Shows look ts us new
     step_end left right made new e is h =
-        let passed = shows_right right [] [] [] shows_none in
-        rw is (h.go (map (marked_tree look Right) right) (rw e (simp append-nil at passed)))
+        let passed = shows_right right [] [] [] shows_none (λ k d l none. let no : false ≡ true = (cc) in false≢true no) in
+        rw is (h.go (map (marked_tree look Right) right) (rw e (simp append-nil at passed.0)))

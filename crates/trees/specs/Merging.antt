@@ -1,5 +1,5 @@
 -- The first difference of two trees, their merges, and how these are shown.
-use Rattle.std.specs.Prelude.{◌≡◌, ◌⊎◌, ◌+◌, ◌-◌, ℕ, Bool, true, false, if◌then◌else◌, List, [], ◌∷◌, ◌++◌, length, Option, Some, None, option_map, slice_get, unwrap_or, codes, decimal, string_bytes}
+use Rattle.std.specs.Prelude.{◌≡◌, ◌≢◌, ◌⊎◌, ◌+◌, ◌-◌, ⊤, ℕ, All, Bool, true, false, if◌then◌else◌, List, [], ◌∷◌, ◌++◌, length, Option, Some, None, option_map, slice_get, unwrap_or, codes, decimal, string_bytes}
 use Rattle.std.specs.Str.{bytes_eq}
 use Rattle.ptree.specs.declared.print_config.OutputKind.TheVariants.{Unknown}
 use Rattle.ptree.specs.declared.style.color.Color.TheVariants.{Red, Green}
@@ -71,6 +71,26 @@ right_forest nothing = none
 right_forest (shared t below rest) = item t (right_forest below) (right_forest rest)
 right_forest (alone Left t c rest) = right_forest rest
 right_forest (alone Right t c rest) = item t c (right_forest rest)
+
+-- the texts of a forest's roots
+abbrev pub root_texts : Forest → List (List ℕ)
+root_texts none = []
+root_texts (item t c r) = t ∷ root_texts r
+
+-- the text that is in both and comes next, behind what is in the right one alone
+abbrev pub next_shared : Merge → Option (List ℕ)
+next_shared nothing = None
+next_shared (shared t below rest) = Some t
+next_shared (alone Left t c rest) = None
+next_shared (alone Right t c rest) = next_shared rest
+
+-- each tree of the left forest goes with the next one of the right forest that has its text: it is in one alone only if
+-- none that is left has its text, and none that is passed over has it
+abbrev pub TakesNext : Merge → Type 0
+TakesNext nothing = ⊤
+TakesNext (shared t below rest) = TakesNext below × TakesNext rest
+TakesNext (alone Left t c rest) = All (λ u. u ≢ t) (root_texts (right_forest rest)) × TakesNext rest
+TakesNext (alone Right t c rest) = (next_shared rest ≢ Some t) × TakesNext rest
 
 -- ## Styled trees
 
@@ -150,6 +170,7 @@ pub record ShowsMerge (look : Look) (l r : Forest) (shown : StyledForest) : Type
   pub merge : Merge
   pub left : left_forest merge ≡ l
   pub right : right_forest merge ≡ r
+  pub next : TakesNext merge
   pub is : shown ≡ shown_merge look merge
 
 -- what is shown is a merge of two trees

@@ -1,9 +1,9 @@
 //! Compares two trees.
-ghost use Rattle.std.specs.Prelude.{◌≡◌, ◌↔◌, ◌++◌, map, option_map, IfOk, IfSome, OnOk, None, string_bytes};
+ghost use Rattle.std.specs.Prelude.{◌≡◌, ◌↔◌, ◌++◌, length, map, option_map, IfOk, IfSome, MatchOption, OnOk, None, string_bytes};
 ghost use Rattle.ptree.specs.Style.{style_of};
 ghost use Rattle.ptree.specs.Tree.{tree_of};
 ghost use Rattle.trees.specs.Merging.{TellsDifference, way_text, place_line, side_line, ShowsMerge, ShowsBoth, styled_forest, styled_tree_of, side_mark, side_style, marked_tree, roots_text};
-ghost use Rattle.trees.specs.MergingParts.{ArePlaces, IsFoundAt};
+ghost use Rattle.trees.specs.MergingParts.{ArePlaces, AreAllOrNone, HasPlaces, IsFoundAt, LacksText};
 
 use crate::screen::shown_text;
 use ptree::item::StringItem;
@@ -209,7 +209,7 @@ struct Places<'a> {
 
     // Their texts with their positions, ascending. It is empty until it is needed.
     sorted: Vec<(&'a str, usize)>,
-    ghost places: { ArePlaces items.now sorted.items },
+    ghost places: { AreAllOrNone items.now sorted.items },
 }
 
 impl<'a> Places<'a> {
@@ -225,7 +225,9 @@ impl<'a> Places<'a> {
 
     // Returns the position of the first item with a text, from a position on.
     fn next_with(&mut self, from: usize, text: &str) -> Result<Option<usize>, AllocError>
-        ensures found { IfOk result (λ o. IfSome o (IsFoundAt self.old.items.now from text.now)) }
+        ensures found { IfOk result (λ o. MatchOption o
+            (LacksText self.old.items.now from (length self.old.items.now) text.now)
+            (IsFoundAt self.old.items.now from text.now)) }
         ensures kept { self.new.items.now ≡ self.old.items.now }
     {
         let Some(item) = self.items.get(from) else {
@@ -252,7 +254,8 @@ fn sorted_places<'a>(
     alloc: Global,
     items: &'a [StringItem],
 ) -> Result<Vec<(&'a str, usize)>, AllocError>
-    ensures { IfOk result (λ v. ArePlaces items.now v.items) }
+    ensures places { IfOk result (λ v. ArePlaces items.now v.items) }
+    ensures all { IfOk result (λ v. HasPlaces items.now (length items.now) v.items) }
 {
     let mut places = Vec::new(alloc);
     for (i, item) in items.iter().enumerate() {

@@ -7,9 +7,9 @@ use Rattle.ptree.specs.Tree.{Forest, tree_of, forest}
 use Rattle.ptree.proofs.Trees.OutlineItems.{item_text, left_more}
 use Rattle.ptree_trees.specs.Styled.{HasParts}
 use Rattle.trees.specs.declared.compare.Side.TheVariants.{Right}
-use Rattle.trees.specs.MergingParts.{IsFoundAt}
+use Rattle.trees.specs.MergingParts.{IsFoundAt, LacksText}
 use Rattle.trees.specs.Merging.{styled_tree_of, marked_tree, styled_forest, roots_text, ShowsBoth, ShowsMerge}
-use Rattle.trees.proofs.Merges.{forest_below, pushed_shown, whole_both, items_passed, text_found, step_both, step_left, step_end}
+use Rattle.trees.proofs.Merges.{passed_apart, rest_apart, forest_below, pushed_shown, whole_both, items_passed, text_found, step_both, step_left, step_end}
 use Rattle.trees.proofs.compare.+both.Goals.{both_children-in-Some+in_ok-push_right-in-Some+in_ok-both-in-Some+in_ok-push-in-Some, both_children-in-None+in_ok-marked-in-None+in_ok-push-in-None}
 use Rattle.trees.proofs.compare.+both.Goals as goal
 
@@ -38,6 +38,7 @@ both_children-loop-child-preserved t c =
     let before = c.loop-child.invariant in
     let kept : c.next_with.new.self.items.now ≡ ys = c.in_ok-at.ensures.kept ∙ before.items in
     let first = left_more tree_of xs i x c.loop-child-test.true c.child-item.is in
+    let own : (tree_of x).text ≡ text = item_text x ∙ sym c.as_str.ensures.value in
     elim c.match-branch-2.branch [
       | both_children-in-Some+in_ok-push_right-in-Some+in_ok-both-in-Some+in_ok-push-in-Some w ↦
           let at = w.in-Some.at in
@@ -49,20 +50,23 @@ both_children-loop-child-preserved t c =
           let pushed : c.match-branch-2.made.items ≡ w.push_right.new.made.items ++ s ∷ [] = ap (λ v. v.items) w.made-is ∙ w.in_ok-push-in-Some.ensures.items in
           let is : y ≡ get_or ys at y = w.index-others-at.is in
           let next : c.match-branch-2.taken ≡ at + 1 = search rules in
-          let texts = item_text x ∙ sym c.as_str.ensures.value ∙ text_found ys at y text found.within is found.same in
+          let texts = own ∙ text_found ys at y text found.within is found.same in
           rw next (record {
             within = omega (arith, found.within);
             items = kept;
             shows = step_both look (map tree_of xs) (map tree_of ys) (tree_of x) (tree_of y) (map tree_of over) _ _ _ _ (styled_tree_of s) made new first (items_passed ys taken at y found.behind found.within is)
-                (pushed_shown w.push_right.new.made.items c.match-branch-2.made.items s _ pushed passed) texts w.in_ok-both-in-Some.ensures before.shows;
+                (pushed_shown w.push_right.new.made.items c.match-branch-2.made.items s _ pushed passed) texts
+                (passed_apart ys taken at text (tree_of x).text found.behind (omega (arith, found.within)) found.first own) w.in_ok-both-in-Some.ensures before.shows;
           })
       | both_children-in-None+in_ok-marked-in-None+in_ok-push-in-None w ↦
           let s = w.in_ok-marked-in-None.field-0 in
+          let lacks = subst (λ (zs : List StringItem). LacksText zs taken (length zs) text) before.items (rw w.in-None.is at c.in_ok-at.ensures.found) in
           let pushed : c.match-branch-2.made.items ≡ c.loop-child.made.items ++ s ∷ [] = ap (λ v. v.items) w.made-is ∙ w.in_ok-push-in-None.ensures.items in
           rw w.taken-is (record {
             within = before.within;
             items = kept;
-            shows = step_left look (map tree_of xs) (map tree_of ys) (tree_of x) _ _ _ (styled_tree_of s) made new first (pushed_shown c.loop-child.made.items c.match-branch-2.made.items s made pushed refl) (search rules) before.shows;
+            shows = step_left look (map tree_of xs) (map tree_of ys) (tree_of x) _ _ _ (styled_tree_of s) made new first (pushed_shown c.loop-child.made.items c.match-branch-2.made.items s made pushed refl) (search rules)
+                (rest_apart ys taken text (tree_of x).text before.within lacks own) before.shows;
           })
     ]
 
