@@ -1,5 +1,5 @@
 -- Packages in ascending order, and those that are as known.
-use Rattle.std.proofs.Common.{◌≡◌, ◌∙◌, ℕ, ◌+◌, ◌<◌, ◌≤◌, ◌&&◌, true, false, List, [], ◌∷◌, length, get_or, inl, inr, refl, sym, ap, subst, arith}
+use Rattle.std.proofs.Common.{◌≡◌, ◌∙◌, ℕ, ◌+◌, ◌<◌, ◌≤◌, true, false, List, [], ◌∷◌, length, get_or, inl, inr, refl, sym, ap, subst, arith}
 use Rattle.std.proofs.lemmas.Bool.{false≢true, false_from_ne_true, and_parts, and_from, cases_lt}
 use Rattle.std.proofs.lemmas.Cmp.{nat_list_cmp_total, on_total, then_total, tied_itself}
 use Rattle.std.proofs.lemmas.List.{get_or_default}
@@ -8,7 +8,6 @@ use Rattle.std.proofs.lemmas.Map.Lookups.{exact_bytes}
 use Rattle.std.proofs.lemmas.Slice.Eq.{bytes_eq-Decides}
 use Rattle.std.specs.Cmp.{IsTotalOrder}
 use Rattle.std.specs.Cmp.Lexicographic.{slice_cmp}
-use Rattle.std.specs.List.{HoldsAt}
 use Rattle.std.specs.List.Sorted.{IsStrictlySortedBy}
 use Rattle.std.specs.Ordering.{is_lt, nat_cmp, ordering_reverse, ordering_then}
 use Rattle.std.specs.Prelude.{Option, Some, None, unwrap_or, is_some}
@@ -17,8 +16,8 @@ use Rattle.std.specs.declared.cmp.Ordering.{Ordering}
 use Rattle.std.specs.declared.cmp.Ordering.TheVariants.{Less, Equal, Greater}
 use Rattle.trees.specs.declared.deps.packages.Fault.TheVariants.{Missing, Several}
 use Rattle.trees.specs.Listing.{is_empty}
-use Rattle.trees.specs.Locking.{Package, Known, package_cmp, is_known, is_as, is_in_folder, IsNeeded}
-use Rattle.trees.specs.LockingParts.{least, IsNamed, IsStart, IsAt, IsFaulty}
+use Rattle.trees.specs.Locking.{Package, Known, package_cmp, is_known, is_as, is_in_folder, is_of, IsNeeded}
+use Rattle.trees.specs.LockingParts.{least, AreBehind, IsFaulty, IsNext, IsStart, NoneIs}
 
 -- ## Texts
 
@@ -95,72 +94,52 @@ lower p q r order is = by (package_cmp p q) refl where
   by Equal e = ap is_lt (package_total.congr p q r e) ∙ is
   by Greater e = absurd (false≢true (sym order ∙ ap is_lt (package_total.antisymm q p ∙ ap ordering_reverse e)))
 
--- the parts of being as known
-record IsAs (known : Known) (p : Package) : Type 0 where
+-- the name and the version are those that are known
+record IsOf (known : Known) (p : Package) : Type 0 where
   name : known.name ≡ p.name
   version : is_known known.version p.version ≡ true
-  source : is_known known.source p.source ≡ true
 
-parts_as : (known : Known) (p : Package) → is_as known p ≡ true → IsAs known p
-parts_as known p is =
-    let outer = and_parts (bytes_eq known.name p.name && is_known known.version p.version) (is_known known.source p.source) is in
-    let inner = and_parts (bytes_eq known.name p.name) (is_known known.version p.version) outer.0 in
-    record { name = (bytes_eq-Decides known.name p.name).0 inner.0; version = inner.1; source = outer.1 }
+parts_of : (known : Known) (p : Package) → is_of known p ≡ true → IsOf known p
+parts_of known p is =
+    let both = and_parts (bytes_eq known.name p.name) (is_known known.version p.version) is in
+    record { name = (bytes_eq-Decides known.name p.name).0 both.0; version = both.1 }
 
-from_parts : (known : Known) (p : Package) → IsAs known p → is_as known p ≡ true
-from_parts known p is =
-    and_from (bytes_eq known.name p.name && is_known known.version p.version) (is_known known.source p.source)
-    (and_from (bytes_eq known.name p.name) (is_known known.version p.version) (same_bytes known.name p.name is.name) is.version) is.source
+of_as : (known : Known) (p : Package) → is_as known p ≡ true → is_of known p ≡ true
+of_as known p is = (and_parts (is_of known p) (is_known known.source p.source) is).0
 
--- one that is as known is not below the least
-as_behind : (known : Known) (p : Package) → is_as known p ≡ true → is_lt (package_cmp p (least known)) ≡ false
-as_behind known p is =
-    let parts = parts_as known p is in
+-- one that is so is not below the least
+of_behind : (known : Known) (p : Package) → is_of known p ≡ true → is_lt (package_cmp p (least known)) ≡ false
+of_behind known p is =
+    let parts = parts_of known p is in
     then_both (text_cmp p.name known.name) _ (ap is_lt (itself p.name known.name (sym parts.name)))
-    (then_both (text_cmp p.version (unwrap_or known.version [])) (text_cmp p.source (unwrap_or known.source [])) (not_below_known known.version p.version parts.version) (not_below_known known.source p.source parts.source))
+    (then_both (text_cmp p.version (unwrap_or known.version [])) (text_cmp p.source []) (not_below_known known.version p.version parts.version) (none_below p.source))
 
--- of two packages in order with one name, what is known of the versions decides
-module _ (known : Known) (p q : Package) (a : is_lt (package_cmp p (least known)) ≡ false) (b : is_lt (package_cmp q p) ≡ false) (is : is_as known q ≡ true) where
+-- a package between the least and one that is so
+module _ (known : Known) (p q : Package) (a : is_lt (package_cmp p (least known)) ≡ false) (b : is_lt (package_cmp q p) ≡ false) (is : is_of known q ≡ true) where
   between_name : p.name ≡ known.name
   between_name =
       same_text p.name known.name (then_first (text_cmp p.name known.name) _ a)
-      (subst (λ (z : List ℕ). is_lt (text_cmp z p.name) ≡ false) (sym (parts_as known q is).name) (then_first (text_cmp q.name p.name) _ b))
+      (subst (λ (z : List ℕ). is_lt (text_cmp z p.name) ≡ false) (sym (parts_of known q is).name) (then_first (text_cmp q.name p.name) _ b))
 
-  rest_least : is_lt (ordering_then (text_cmp p.version (unwrap_or known.version [])) (text_cmp p.source (unwrap_or known.source []))) ≡ false
+  rest_least : is_lt (ordering_then (text_cmp p.version (unwrap_or known.version [])) (text_cmp p.source [])) ≡ false
   rest_least = then_second (text_cmp p.name known.name) _ (itself p.name known.name between_name) a
 
   rest_other : is_lt (ordering_then (text_cmp q.version p.version) (text_cmp q.source p.source)) ≡ false
-  rest_other = then_second (text_cmp q.name p.name) _ (itself q.name p.name (sym (parts_as known q is).name ∙ sym between_name)) b
+  rest_other = then_second (text_cmp q.name p.name) _ (itself q.name p.name (sym (parts_of known q is).name ∙ sym between_name)) b
 
   between_version : is_known known.version p.version ≡ true
-  between_version = known_between known.version p.version q.version (parts_as known q is).version (then_first _ _ rest_least) (then_first _ _ rest_other)
+  between_version = known_between known.version p.version q.version (parts_of known q is).version (then_first _ _ rest_least) (then_first _ _ rest_other)
 
-  -- where a version is known, the sources are in order
-  module _ (some : is_some known.version ≡ true) where
-    versions : q.version ≡ p.version
-    versions = known_same known.version q.version p.version some (parts_as known q is).version between_version
-
-    source_other : is_lt (text_cmp q.source p.source) ≡ false
-    source_other = then_second (text_cmp q.version p.version) _ (itself q.version p.version versions) rest_other
-
-    source_least : is_lt (text_cmp p.source (unwrap_or known.source [])) ≡ false
-    source_least = then_second (text_cmp p.version (unwrap_or known.version [])) _ (tied_known known.version p.version some between_version) rest_least where
-      tied_known : (o : Option (List ℕ)) (x : List ℕ) → is_some o ≡ true → is_known o x ≡ true → text_cmp x (unwrap_or o []) ≡ Equal
-      tied_known None x some is = absurd (false≢true some)
-      tied_known (Some t) x some is = itself x t (sym ((bytes_eq-Decides t x).0 is))
-
-  as_between : IsNamed known → is_as known p ≡ true
-  as_between named = from_parts known p (record { name = sym between_name; version = between_version; source = sources known.version refl }) where
-    sources : (o : Option (List ℕ)) → known.version ≡ o → is_known known.source p.source ≡ true
-    sources None e = ap (λ (o : Option (List ℕ)). is_known o p.source) (named e) ∙ same_bytes p.source p.source refl
-    sources (Some v) e = known_between known.source p.source q.source (parts_as known q is).source (source_least (ap is_some e)) (source_other (ap is_some e))
+  pub of_between : is_of known p ≡ true
+  of_between = and_from (bytes_eq known.name p.name) (is_known known.version p.version) (same_bytes known.name p.name (sym between_name)) between_version
 
   -- the one in a folder is the first
   folder_first : is_in_folder known q ≡ true → is_in_folder known p ≡ true
   folder_first folder =
       let both = and_parts (is_some known.version) (is_empty q.source) folder in
-      let none : q.source ≡ [] = empty_is q.source both.1 in
-      let first : [] ≡ p.source = same_text [] p.source (subst (λ (z : List ℕ). is_lt (text_cmp z p.source) ≡ false) none (source_other both.0)) (none_below p.source) in
+      let versions : q.version ≡ p.version = known_same known.version q.version p.version both.0 (parts_of known q is).version between_version in
+      let order : is_lt (text_cmp q.source p.source) ≡ false = then_second (text_cmp q.version p.version) _ (itself q.version p.version versions) rest_other in
+      let first : [] ≡ p.source = same_text [] p.source (subst (λ (z : List ℕ). is_lt (text_cmp z p.source) ≡ false) (empty_is q.source both.1) order) (none_below p.source) in
       and_from (is_some known.version) (is_empty p.source) both.0 (ap is_empty (sym first)) where
         empty_is : (x : List ℕ) → is_empty x ≡ true → x ≡ []
         empty_is [] e = refl
@@ -179,51 +158,55 @@ in_order ps up j k le low = elim (cases_lt j k) [
   | inr ge ↦ ap is_lt (ap (λ (i : ℕ). package_cmp (get_or ps k nothing) (get_or ps i nothing)) (let same : j ≡ k = omega arith in same) ∙ tied_itself package_total (get_or ps k nothing))
 ]
 
-module _ (ps : List Package) (known : Known) where
-  -- the package at a place is as known
-  abbrev pub Has : ℕ → Type 0
-  Has k = (k < length ps) × (is_as known (get_or ps k nothing) ≡ true)
+module _ (ps : List Package) (known : Known) (up : IsStrictlySortedBy package_cmp ps) where
+  -- none is as known from a place on whose package has not the name and the version
+  pub none_behind : (from at : ℕ) (p : Package) → AreBehind ps known from → from ≤ at → p ≡ get_or ps at nothing → is_of known p ≡ false → NoneIs ps known from at → NoneIs ps known from (length ps)
+  none_behind from at p behind le is other none = λ k d low high. elim (cases_lt k at) [
+    | inl lt ↦ none k d low lt
+    | inr ge ↦ false_from_ne_true (is_as known (get_or ps k d)) (λ has.
+        let so : is_of known (get_or ps k nothing) ≡ true = of_as known (get_or ps k nothing) (ap (is_as known) (get_or_default ps k nothing d high) ∙ has) in
+        let first = of_between known (get_or ps at nothing) (get_or ps k nothing) (behind at nothing le (omega arith)) (in_order ps up at k ge high) so in
+        false≢true (sym other ∙ (ap (is_of known) is ∙ first)))
+  ]
 
-  holds_as : (k : ℕ) → Has k → HoldsAt (λ p. is_as known p ≡ true) ps k
-  holds_as k has = λ d. ap (is_as known) (get_or_default ps k d nothing has.0) ∙ has.1
-
-  module _ (named : IsNamed known) (up : IsStrictlySortedBy package_cmp ps) (at : ℕ) (start : IsStart ps known at) where
-    none_before : (k : ℕ) → Has k → at ≤ k
-    none_before k has = elim (cases_lt k at) [
-      | inl lt ↦ absurd (false≢true (sym (as_behind known (get_or ps k nothing) has.1) ∙ start.before k nothing (omega arith) lt))
+  module _ (start : ℕ) (is : IsStart ps known start) where
+    -- a package that is as known is none of the first
+    not_first : (k : ℕ) → k < length ps → is_as known (get_or ps k nothing) ≡ true → start ≤ k
+    not_first k low has = elim (cases_lt k start) [
+      | inl lt ↦ absurd (false≢true (sym (of_behind known (get_or ps k nothing) (of_as known (get_or ps k nothing) has)) ∙ is.before k nothing (omega arith) lt))
       | inr ge ↦ ge
     ]
 
-    has_between : (j k : ℕ) → at ≤ j → j ≤ k → Has k → Has j
-    has_between j k low le has =
-        let within : j < length ps = omega (arith, has.0) in
-        (within, as_between known (get_or ps j nothing) (get_or ps k nothing) (start.behind j nothing low within) (in_order ps up j k le has.0) has.1 named)
+    pub missing : NoneIs ps known start (length ps) → IsFaulty ps known Missing
+    missing none = λ k d low. false_from_ne_true (is_as known (get_or ps k d)) (λ has.
+        false≢true (sym (none k d (not_first k low (ap (is_as known) (get_or_default ps k nothing d low) ∙ has)) low) ∙ has))
 
-    pub missing : (IsAt ps known at → ⊥) → IsFaulty ps known Missing
-    missing none = λ k d low. false_from_ne_true (is_as known (get_or ps k d)) (λ is.
-        let has : Has k = (low, ap (is_as known) (get_or_default ps k nothing d low) ∙ is) in
-        let first : Has at = has_between at k (omega arith) (none_before k has) has in
-        none (first.0, holds_as at first))
+    module _ (at : ℕ) (first : IsNext ps known start at) where
+      not_before : (k : ℕ) → k < length ps → is_as known (get_or ps k nothing) ≡ true → at ≤ k
+      not_before k low has = elim (cases_lt k at) [
+        | inl lt ↦ absurd (false≢true (sym (first.others k nothing (not_first k low has) lt) ∙ has))
+        | inr ge ↦ ge
+      ]
 
-    pub alone : IsAt ps known at → (IsAt ps known (at + 1) → ⊥) → IsNeeded ps known at
-    alone is none = record {
-      below = is.0;
-      is = is.1;
-      only = inr (λ k low other.
-          let has : Has k = (low, other nothing) in
-          elim (cases_lt at k) [
-            | inl lt ↦ (let next : Has (at + 1) = has_between (at + 1) k (omega arith) (omega arith) has in absurd (none (next.0, holds_as (at + 1) next)))
-            | inr ge ↦ (let le : at ≤ k = none_before k has in omega arith)
-          ]);
-    }
+      pub behind_next : AreBehind ps known (at + 1)
+      behind_next = (let later = first.later in λ k d low high. is.behind k d (omega arith) high)
 
-    pub several : IsAt ps known at → IsAt ps known (at + 1) → is_in_folder known (get_or ps at nothing) ≡ false → IsFaulty ps known Several
-    several is next other = (
-      (at, get_or ps at nothing, is.0, get_or_default ps at (get_or ps at nothing) nothing is.0, is.1 nothing),
-      λ k needed.
-          let has : Has k = (needed.below, needed.is nothing) in
-          elim needed.only [
-            | inl folder ↦ false≢true (sym other ∙ folder_first known (get_or ps at nothing) (get_or ps k nothing) (start.behind at nothing (omega arith) is.0) (in_order ps up at k (none_before k has) has.0) has.1 (folder nothing))
-            | inr only ↦ (let one : at ≡ k = only at is.0 is.1 in let two : at + 1 ≡ k = only (at + 1) next.0 next.1 in omega arith)
-          ],
-    )
+      pub alone : NoneIs ps known (at + 1) (length ps) → IsNeeded ps known at
+      alone none = record {
+        below = first.below;
+        is = first.is;
+        only = inr (λ k low has. elim (cases_lt at k) [
+          | inl lt ↦ absurd (false≢true (sym (none k nothing (omega arith) low) ∙ has nothing))
+          | inr ge ↦ (let le : at ≤ k = not_before k low (has nothing) in omega arith)
+        ]);
+      }
+
+      pub several : (next : ℕ) → IsNext ps known (at + 1) next → is_in_folder known (get_or ps at nothing) ≡ false → IsFaulty ps known Several
+      several next second other = (
+        (at, get_or ps at nothing, first.below, get_or_default ps at (get_or ps at nothing) nothing first.below, first.is nothing),
+        λ k needed. elim needed.only [
+          | inl folder ↦ false≢true (sym other ∙ folder_first known (get_or ps at nothing) (get_or ps k nothing) (is.behind at nothing first.later first.below)
+              (in_order ps up at k (not_before k needed.below (needed.is nothing)) needed.below) (of_as known (get_or ps k nothing) (needed.is nothing)) (folder nothing))
+          | inr only ↦ (let one : at ≡ k = only at first.below first.is in let two : next ≡ k = only next second.below second.is in let later = second.later in omega arith)
+        ],
+      )

@@ -1,12 +1,13 @@
 -- Packages as the code has them, and the search for the first that can be as known.
-use Rattle.std.proofs.Common.{◌≡◌, ◌∙◌, ℕ, ◌<◌, ◌≤◌, Bool, true, false, List, [], length, get_or, map, sym, ap, arith}
+use Rattle.std.proofs.Common.{◌≡◌, ◌∙◌, ℕ, ◌+◌, ◌<◌, ◌≤◌, Bool, true, false, List, [], length, get_or, map, sym, ap, subst, arith}
 use Rattle.std.proofs.lemmas.List.{get_or-map, length-map}
+use Rattle.std.proofs.lemmas.List.Elements.{AllWithin-more}
 use Rattle.std.specs.Borrow.{Bor}
 use Rattle.std.specs.List.Sorted.{IsStrictlySortedBy, IsPartitionedBy, IsPartitionPoint}
 use Rattle.std.specs.Ordering.{is_lt}
-use Rattle.trees.specs.Locking.{Package, Known, package_cmp}
-use Rattle.trees.specs.LockingParts.{package_of, least, IsStart}
-use Rattle.trees.proofs.LockedPackages.{nothing, in_order, lower}
+use Rattle.trees.specs.Locking.{Package, Known, is_as, is_of, package_cmp}
+use Rattle.trees.specs.LockingParts.{package_of, least, AreBehind, IsStart, NoneIs}
+use Rattle.trees.proofs.LockedPackages.{nothing, in_order, lower, none_behind}
 
 -- a package as the code has it
 abbrev pub Tuple : Type 0
@@ -33,3 +34,14 @@ module _ (ps : List Tuple) (known : Known) where
     before = λ k d zero low. ap (λ (p : Package). is_lt (package_cmp p (least known))) (get_or-map package_of ps k no_tuple d (omega arith)) ∙ point.0 k no_tuple zero low;
     behind = λ k d from low. (let within : k < length ps = omega (arith, length-map ps package_of) in ap (λ (p : Package). is_lt (package_cmp p (least known))) (get_or-map package_of ps k no_tuple d within) ∙ point.1 k no_tuple from within);
   }
+
+  -- one more that is not as known
+  pub none_more : (from at : ℕ) (d : Tuple) → at < length ps → is_as known (package_of (get_or ps at d)) ≡ false → NoneIs (map package_of ps) known from at → NoneIs (map package_of ps) known from (at + 1)
+  none_more from at d low other none = AllWithin-more (λ p. is_as known p ≡ false) (map package_of ps) from at none (λ e. ap (is_as known) (get_or-map package_of ps at d e low) ∙ other)
+
+  -- one that has not the name and the version, and so all behind it
+  pub none_from : IsStrictlySortedBy package_cmp (map package_of ps) → (from at : ℕ) (d : Tuple) → AreBehind (map package_of ps) known from → from ≤ at → at < length ps → is_of known (package_of (get_or ps at d)) ≡ false
+      → NoneIs (map package_of ps) known from at → NoneIs (map package_of ps) known from (length ps)
+  none_from up from at d behind le low other none =
+      subst (NoneIs (map package_of ps) known from) (length-map ps package_of)
+      (none_behind (map package_of ps) known up from at (package_of (get_or ps at d)) behind le (sym (get_or-map package_of ps at d nothing low)) other none)

@@ -10,7 +10,6 @@ use Rattle.std.specs.Borrow.{Bor}
 use Rattle.std.specs.List.{All}
 use Rattle.std.specs.Iterator.{Yields}
 use Rattle.std.specs.Map.Iter.{deref_pair, TakesFirst}
-use Rattle.std.specs.Option.{option_and}
 use Rattle.std.specs.Prelude.{◌↔◌, Option, Some, None, option_map}
 use Rattle.std.specs.declared.alloc.Global.{Global}
 use Rattle.ptree.proofs.Trees.ItemTrees.{map_twice}
@@ -22,7 +21,7 @@ use Rattle.trees.specs.declared.deps.packages.Fault.TheVariants.{Missing, Severa
 use Rattle.trees.specs.declared.deps.packages.Needing.{Needing}
 use Rattle.trees.specs.Depending.{directed}
 use Rattle.trees.specs.DependingParts.{AddsEdge, IsIndexed}
-use Rattle.trees.specs.Locking.{Package, Known, called, entries_of, is_as, is_locked, locked_entries, members_in, name_entry, normal_name, own_entries, source_in, without_revision, IsLed, IsNeeded, IsNeedTable, Leads, NameLeads, OwnLead}
+use Rattle.trees.specs.Locking.{Package, Known, called, entries_of, is_as, is_locked, locked_entries, members_in, name_entry, normal_name, own_entries, IsLed, IsNeeded, IsNeedTable, Leads, NameLeads, OwnLead}
 use Rattle.trees.specs.LockingParts.{packages_of, AddsEntries, IsFaulty, IsPlaceOf, NameLed}
 use Rattle.trees.proofs.Elements.{listed_at}
 use Rattle.trees.proofs.LockedEdges.{needs_none, needs_more}
@@ -54,8 +53,7 @@ module _ (packages : List Package) (name : List ℕ) where
   known_called k is =
       let own : k.name ≡ name = (let both : Some name ≡ Some k.name = is.name in cc) in
       let version : k.version ≡ None = none_string k.version is.version in
-      let source : k.source ≡ None = is.source ∙ ap (λ (o : Option (List ℕ)). option_map without_revision (option_and o (source_in (name_entry name)))) version in
-      ap (λ (n : List ℕ). record k { name = n }) own ∙ (ap (λ (v : Option (List ℕ)). record k { name = name; version = v }) version ∙ ap (λ (s : Option (List ℕ)). record known { source = s }) source) where
+      ap (λ (n : List ℕ). record k { name = n }) own ∙ (ap (λ (v : Option (List ℕ)). record k { name = name; version = v }) version ∙ ap (λ (s : Option (List ℕ)). record known { source = s }) is.source) where
         none_string : (o : Option (List ℕ)) → None ≡ option_map string o → o ≡ None
         none_string None e = refl
         none_string (Some t) e = (let no : ⊥ = cc in absurd no)

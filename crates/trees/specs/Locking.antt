@@ -3,7 +3,7 @@ use Rattle.std.specs.Char.{to_ascii_lowercase}
 use Rattle.std.specs.Cmp.Lexicographic.{slice_cmp}
 use Rattle.std.specs.List.{before_first, dedup, list_any}
 use Rattle.std.specs.List.Sorted.{IsPermutation, IsStrictlySortedBy}
-use Rattle.std.specs.Option.{option_and, option_and_then, option_or}
+use Rattle.std.specs.Option.{option_and_then, option_or}
 use Rattle.std.specs.Ordering.{nat_cmp, ordering_then}
 use Rattle.std.specs.Prelude.{◌≡◌, ◌≢◌, ◌+◌, ◌<◌, ◌⊎◌, ◌==◌, ◌&&◌, ◌||◌, if◌then◌else◌, ℕ, Bool, true, false, is_none, is_some, pos, List, [], ◌∷◌, ◌++◌, codes, flat_map, length, map, All, Contains, HoldsAt, Option, Some, None, IfSome, IsSome, MatchOption, option_map, unwrap_or}
 use Rattle.std.specs.Str.{bytes_eq, chars, encode_utf8_all}
@@ -57,9 +57,13 @@ called name = record { name = name; version = None; source = None }
 abbrev pub is_known : Option (List ℕ) → List ℕ → Bool
 is_known known text = bytes_eq (unwrap_or known text) text
 
+-- whether a package has the name and the version that are known
+abbrev pub is_of : Known → Package → Bool
+is_of known p = bytes_eq known.name p.name && is_known known.version p.version
+
 -- whether a package is as known
 abbrev pub is_as : Known → Package → Bool
-is_as known p = bytes_eq known.name p.name && is_known known.version p.version && is_known known.source p.source
+is_as known p = is_of known p && is_known known.source p.source
 
 -- whether a version means a package in a folder: that has no source to be named with
 abbrev pub is_in_folder : Known → Package → Bool
@@ -146,11 +150,11 @@ pub record IsPackage (d : Data) (p : Package) : Type 0 where
   pub kind : has_wrong_source d ≡ false
   pub whole : get (codes "replace") d ≡ None
 
--- a table says what is known: its name and, if they are there, its version and with that its source, which has a text
+-- a table says what is known: its name and, if they are there, its version and its source, which has a text
 pub record IsNeedTable (d : Data) (known : Known) : Type 0 where
   pub name : text_at (codes "name") d ≡ Some known.name
   pub version : get (codes "version") d ≡ option_map string known.version
-  pub source : known.source ≡ option_map without_revision (option_and known.version (source_in d))
+  pub source : known.source ≡ option_map without_revision (source_in d)
   pub kind : has_wrong_source d ≡ false
 
 -- what is known of the package that an entry needs

@@ -4,7 +4,7 @@ use Rattle.std.specs.List.{AllAdjacentBelow, AllWithin, AllZip}
 use Rattle.std.specs.List.Sorted.{IsPermutation, IsStrictlySortedBy}
 use Rattle.std.specs.Ordering.{is_lt}
 use Rattle.std.specs.Str.{bytes_eq}
-use Rattle.std.specs.Prelude.{◌≡◌, ◌≢◌, ◌<◌, if◌then◌else◌, ℕ, Bool, true, false, List, [], ◌++◌, codes, fold, length, map, slice_index_or, string_bytes, String, All, Any, HoldsAt, Option, Some, None, IfSome, unwrap_or, option_copied}
+use Rattle.std.specs.Prelude.{◌≡◌, ◌≢◌, ◌<◌, ◌≤◌, if◌then◌else◌, ℕ, Bool, true, false, List, [], ◌++◌, codes, fold, length, map, slice_index_or, string_bytes, String, All, Any, HoldsAt, Option, Some, None, IfSome, unwrap_or, option_copied}
 use Rattle.std.specs.declared.alloc.Global.{Global}
 use Rattle.toml.specs.Data.{Data, boolean, get}
 use Rattle.trees.specs.declared.deps.Network.{Network}
@@ -44,22 +44,29 @@ pub record AreLocked (tables : List Data) (ps : List (Bor (List ℕ) × Bor (Lis
 abbrev pub known_of : Need → Known
 known_of need = record { name = need.name.now; version = option_copied need.version; source = option_copied need.source }
 
--- a source is known only with a version
-abbrev pub IsNamed : Known → Type 0
-IsNamed known = known.version ≡ None → known.source ≡ None
-
 -- the least of the packages that can be as known
 abbrev pub least : Known → Package
-least known = record { name = known.name; version = unwrap_or known.version []; source = unwrap_or known.source [] }
+least known = record { name = known.name; version = unwrap_or known.version []; source = [] }
+
+-- no package from a place on is below it
+abbrev pub AreBehind : List Package → Known → ℕ → Type 0
+AreBehind packages known at = AllWithin (λ p. is_lt (package_cmp p (least known)) ≡ false) packages at (length packages)
 
 -- the packages before a place are below the least, and no others
 pub record IsStart (packages : List Package) (known : Known) (at : ℕ) : Type 0 where
   pub before : AllWithin (λ p. is_lt (package_cmp p (least known)) ≡ true) packages 0 at
-  pub behind : AllWithin (λ p. is_lt (package_cmp p (least known)) ≡ false) packages at (length packages)
+  pub behind : AreBehind packages known at
 
--- the package at a place is as known
-abbrev pub IsAt : List Package → Known → ℕ → Type 0
-IsAt packages known at = (at < length packages) × HoldsAt (λ p. is_as known p ≡ true) packages at
+-- no package from a place to another is as known
+abbrev pub NoneIs : List Package → Known → ℕ → ℕ → Type 0
+NoneIs packages known from to = AllWithin (λ p. is_as known p ≡ false) packages from to
+
+-- the package at a place is the first from another on that is as known
+pub record IsNext (packages : List Package) (known : Known) (from at : ℕ) : Type 0 where
+  pub later : from ≤ at
+  pub below : at < length packages
+  pub is : HoldsAt (λ p. is_as known p ≡ true) packages at
+  pub others : NoneIs packages known from at
 
 -- why not one package is needed
 abbrev pub IsFaulty : List Package → Known → Fault → Type 0

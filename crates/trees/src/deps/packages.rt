@@ -787,7 +787,7 @@ impl<'p> Needing<'p> {
     }
 }
 
-// What is known of a package that is needed. A source is known only with a version.
+// What is known of a package that is needed.
 #[derive(Clone, Copy)]
 struct Need<'a> {
     name: &'a str,
@@ -803,13 +803,12 @@ enum Fault {
 }
 
 impl<'a> Need<'a> {
-    ghost use Rattle.std.specs.List.{HoldsAt};
     ghost use Rattle.std.specs.List.Sorted.{IsStrictlySortedBy};
     ghost use Rattle.std.specs.Ordering.{is_lt};
-    ghost use Rattle.std.specs.Prelude.{◌≡◌, ◌≢◌, ◌<◌, ◌^◌, ℕ, [], length, map, List, Option, Some, None, IfSome, IfOk, IfErr, MatchOption};
+    ghost use Rattle.std.specs.Prelude.{◌≡◌, ◌≢◌, ◌<◌, ℕ, [], length, map, List, Option, Some, None, IfSome, IfOk, IfErr, MatchOption};
     ghost use Rattle.toml.specs.View.{view};
-    ghost use Rattle.trees.specs.Locking.{Known, called, package_cmp, is_as, unrevised, IsNeed, IsNeedTable, IsNeedText, IsNeeded};
-    ghost use Rattle.trees.specs.LockingParts.{package_of, known_of, known_whole, least, IsNamed, IsAt, IsFaulty, IsFound, IsRest, IsStart, IsWhole, IsBehind};
+    ghost use Rattle.trees.specs.Locking.{Known, called, package_cmp, is_as, is_of, unrevised, IsNeed, IsNeedTable, IsNeedText, IsNeeded};
+    ghost use Rattle.trees.specs.LockingParts.{package_of, known_of, known_whole, least, AreBehind, IsFaulty, IsFound, IsNext, IsRest, IsStart, NoneIs, IsWhole, IsBehind};
 
     // Returns a need of which only the name is known.
     fn of(name: &'a str) -> Need<'a>
@@ -825,7 +824,6 @@ impl<'a> Need<'a> {
     // Returns the need of an entry: a text, or a table in a uv.lock.
     fn read(entry: &'a Value) -> Option<Need<'a>>
         ensures need { IfSome result (λ need. IsNeed (view entry.now) (known_of need)) }
-        ensures named { IfSome result (λ need. IsNamed (known_of need)) }
         ensures only { (known : Known) → IsNeed (view entry.now) known → IsFound result known }
     {
         match entry.as_str() {
@@ -844,14 +842,15 @@ impl<'a> Need<'a> {
         if has_wrong_source(table) {
             return None;
         }
-        match table.get("version") {
-            Some(version) => Some(Need {
-                name,
-                version: Some(version.as_str()?),
-                source: source_in(table).map(without_revision),
-            }),
-            None => Some(Need::of(name)),
-        }
+        let version = match table.get("version") {
+            Some(version) => Some(version.as_str()?),
+            None => None,
+        };
+        Some(Need {
+            name,
+            version,
+            source: source_in(table).map(without_revision),
+        })
     }
 
     // Returns the need of a text: `name`, `name version` or `name version (source)`.
@@ -899,22 +898,20 @@ impl<'a> Need<'a> {
 
     // Returns the position of the package that is needed, or why there is not one.
     fn find(&self, packages: &[Package<'_>]) -> Result<usize, Fault>
-        requires named { IsNamed (known_of self.now) }
-        requires ascending { IsStrictlySortedBy package_cmp (map package_of packages.now) }
+        requires { IsStrictlySortedBy package_cmp (map package_of packages.now) }
         ensures found { IfOk result
             (IsNeeded (map package_of packages.now) (known_of self.now)) }
         ensures failed { IfErr result
             (IsFaulty (map package_of packages.now) (known_of self.now)) }
     {
-        let at = self.start(packages);
-        let Some(first) = self.at(packages, at) else {
+        let Some(at) = self.next(packages, self.start(packages)) else {
             return Err(Fault::Missing);
         };
         // A package in a folder has no source, so it cannot be named with one.
-        if self.version.is_some() && first.2.is_empty() {
+        if self.version.is_some() && packages[at].2.is_empty() {
             return Ok(at);
         }
-        match self.at(packages, at.saturating_add(1)) {
+        match self.next(packages, at + 1) {
             Some(_) => Err(Fault::Several),
             None => Ok(at),
         }
@@ -928,19 +925,24 @@ impl<'a> Need<'a> {
         packages.partition_point(|package| self.is_behind(package))
     }
 
-    // Returns the package at a position, if it is as known.
-    fn at<'p, 'q>(&self, packages: &'p [Package<'q>], at: usize) -> Option<&'p Package<'q>>
-        ensures known { MatchOption result
-            (IsAt (map package_of packages.now) (known_of self.now) at → ⊥)
-            (λ p. IsAt (map package_of packages.now) (known_of self.now) at
-            × HoldsAt (λ q. q ≡ package_of p.now) (map package_of packages.now) at) }
-        ensures fits { length packages.now < 2 ^ 64 }
+    // Returns the position of the first package from one on that is as known.
+    fn next(&self, packages: &[Package<'_>], from: usize) -> Option<usize>
+        requires ascending { IsStrictlySortedBy package_cmp (map package_of packages.now) }
+        requires behind { AreBehind (map package_of packages.now) (known_of self.now) from }
+        ensures next { MatchOption result
+            (NoneIs (map package_of packages.now) (known_of self.now) from (length packages.now))
+            (IsNext (map package_of packages.now) (known_of self.now) from) }
+        ensures below { IfSome result (λ at. at < length packages.now) }
     {
-        if at < packages.len() && self.is(&packages[at]) {
-            Some(&packages[at])
-        } else {
-            None
+        for at in from..packages.len() {
+            if !self.is_of(&packages[at]) {
+                return None;
+            }
+            if self.is(&packages[at]) {
+                return Some(at);
+            }
         }
+        None
     }
 
     // Whether a package is below all that can be as known.
@@ -948,17 +950,20 @@ impl<'a> Need<'a> {
         ensures { result
             ≡ is_lt (package_cmp (package_of locked.now) (least (known_of self.now))) }
     {
-        let (version, source) = (self.version.unwrap_or(""), self.source.unwrap_or(""));
-        *locked < (self.name, version, source, 0)
+        *locked < (self.name, self.version.unwrap_or(""), "", 0)
+    }
+
+    // Whether a package has the name and the version that are known.
+    fn is_of(&self, locked: &Package<'_>) -> bool
+        ensures { result ≡ is_of (known_of self.now) (package_of locked.now) }
+    {
+        self.name == locked.0 && self.version.unwrap_or(locked.1) == locked.1
     }
 
     // Whether a package is as known.
     fn is(&self, locked: &Package<'_>) -> bool
         ensures { result ≡ is_as (known_of self.now) (package_of locked.now) }
     {
-        let (name, version, source, _) = *locked;
-        self.name == name
-            && self.version.unwrap_or(version) == version
-            && self.source.unwrap_or(source) == source
+        self.is_of(locked) && self.source.unwrap_or(locked.2) == locked.2
     }
 }
