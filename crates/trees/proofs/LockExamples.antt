@@ -1,5 +1,5 @@
 -- Lock files by computation.
-use Rattle.std.proofs.Common.{◌≡◌, ℕ, zero, suc, ◌<◌, true, List, [], ◌∷◌, codes, length, get_or, inl, inr, refl, ap, arith}
+use Rattle.std.proofs.Common.{◌≡◌, ℕ, zero, suc, ◌<◌, true, false, List, [], ◌∷◌, codes, length, get_or, inl, inr, refl, ap, arith}
 use Rattle.std.proofs.lemmas.Bool.{false≢true}
 use Rattle.std.proofs.lemmas.List.Elements.{All-cons, All-nil}
 use Rattle.std.proofs.lemmas.List.Sorted.{IsPermutation-refl}
@@ -50,10 +50,10 @@ are = record {
   ascending = ((refl, tt), (tt, tt));
 }
 
-needs : All (NeedsLead packages) (first ∷ second ∷ [])
-needs = All-cons (NeedsLead packages) first (second ∷ [])
+needs : All (NeedsLead false packages) (first ∷ second ∷ [])
+needs = All-cons (NeedsLead false packages) first (second ∷ [])
     (record { own = record { list = refl; each = All-cons (λ entry. (at : ℕ) × Leads packages entry at) (string (codes "b")) [] (1, leads) (All-nil (λ entry. (at : ℕ) × Leads packages entry at)) }; optional = tt; dev = tt })
-    (All-cons (NeedsLead packages) second [] (record { own = tt; optional = tt; dev = tt }) (All-nil (NeedsLead packages)))
+    (All-cons (NeedsLead false packages) second [] (record { own = tt; optional = tt; dev = tt }) (All-nil (NeedsLead false packages)))
 
 lock : IsLock (table (member (codes "package") (array (item first (item second no_items))) no_members))
 lock = record { format = record { version = tt; metadata = tt }; tables = refl; locked = (first, a) ∷ (second, b) ∷ []; are = are; needs = needs }

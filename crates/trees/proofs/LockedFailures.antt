@@ -23,7 +23,7 @@ use Rattle.ptree.specs.declared.value.document.DocFormat.TheVariants.{Toml}
 use Rattle.trees.specs.declared.failure.Failure.{Failure}
 use Rattle.trees.specs.declared.source.Source.{Source}
 use Rattle.trees.specs.Documents.{IsDocumentOf}
-use Rattle.trees.specs.Locking.{Package, has_wrong_source, package_cmp, source_of, tables_in, text_at, without_revision, ArePackages, HasTables, IsLock, IsPackage, NeedsLead}
+use Rattle.trees.specs.Locking.{Package, has_hash, has_wrong_source, package_cmp, source_of, tables_in, text_at, without_revision, ArePackages, HasTables, IsLock, IsPackage, NeedsLead}
 use Rattle.trees.specs.LockingParts.{package_of, table_of, AreLocked, FailsUnless, StandOnce}
 use Rattle.trees.specs.Meaning.{HoldsLock}
 use Rattle.trees.specs.Reading.{FailsFor, FailsToMake}
@@ -156,9 +156,9 @@ module _ (d : Data) where
     pub fails_unread : FailsToMake ⊥ (ArePackages tables) f → FailsUnless (IsLock d) f
     fails_unread says = fails_weaker ((locked : List (Data × Package)) → ArePackages tables locked → ⊥) (IsLock d → ⊥) ⊥ f (λ none lock. none lock.locked (are_of lock)) says
 
-    pub fails_leading : (ps : List Tuple) → AreLocked tables ps → FailsUnless (All (NeedsLead (map package_of ps)) tables) f → FailsUnless (IsLock d) f
-    fails_leading ps found says = fails_unless (All (NeedsLead (map package_of ps)) tables) (IsLock d) f
-        (λ lock. subst (λ qs. All (NeedsLead qs) tables) (same_packages tables ps lock.locked found (are_of lock)) (subst (All (NeedsLead (map (λ l. l.1) lock.locked))) (sym all) lock.needs)) says
+    pub fails_leading : (ps : List Tuple) → AreLocked tables ps → FailsUnless (All (NeedsLead (has_hash d) (map package_of ps)) tables) f → FailsUnless (IsLock d) f
+    fails_leading ps found says = fails_unless (All (NeedsLead (has_hash d) (map package_of ps)) tables) (IsLock d) f
+        (λ lock. subst (λ qs. All (NeedsLead (has_hash d) qs) tables) (same_packages tables ps lock.locked found (are_of lock)) (subst (All (NeedsLead (has_hash d) (map (λ l. l.1) lock.locked))) (sym all) lock.needs)) says
 
 -- ## Sources
 

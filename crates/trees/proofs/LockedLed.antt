@@ -1,5 +1,5 @@
 -- What a lock file has.
-use Rattle.std.proofs.Common.{◌≡◌, ◌∙◌, ℕ, ◌+◌, ◌<◌, ◌≤◌, List, [], ◌∷◌, length, get_or, map, take, sym, ap, subst}
+use Rattle.std.proofs.Common.{◌≡◌, ◌∙◌, ℕ, ◌+◌, ◌<◌, ◌≤◌, Bool, List, [], ◌∷◌, length, get_or, map, take, sym, ap, subst}
 use Rattle.std.proofs.lemmas.List.{map-append, take_all, take_more}
 use Rattle.std.proofs.lemmas.List.Elements.{All-map, All-push, All-weaker}
 use Rattle.std.proofs.lemmas.List.Sorted.{All-permutation, IsPermutation-sym}
@@ -13,7 +13,7 @@ use Rattle.ptree.proofs.Trees.ItemTrees.{map_twice}
 use Rattle.toml.specs.Data.{Data, as_table}
 use Rattle.toml.specs.View.{view, members_view}
 use Rattle.toml.specs.declared.value.Value.{Value}
-use Rattle.trees.specs.Locking.{Package, package_cmp, tables_in, AreLed, ArePackages, HasFormat, HasTables, IsLed, IsLock, IsPackage, Leads, NeedsLead}
+use Rattle.trees.specs.Locking.{Package, has_hash, package_cmp, tables_in, AreLed, ArePackages, HasFormat, HasTables, IsLed, IsLock, IsPackage, Leads, NeedsLead}
 use Rattle.trees.specs.LockingParts.{locked_of, package_of, table_of, AreLocked}
 use Rattle.trees.proofs.LockedEntries.{values_seen}
 use Rattle.trees.proofs.LockedTuples.{Tuple}
@@ -39,17 +39,17 @@ module _ (packages : List Package) where
 -- ## Packages
 
 -- what a package needs leads to packages
-abbrev pub IsLeading : List Data → List Tuple → Tuple → Type 0
-IsLeading tables ps p = NeedsLead (map package_of ps) (table_of tables p)
+abbrev pub IsLeading : Bool → List Data → List Tuple → Tuple → Type 0
+IsLeading hash tables ps p = NeedsLead hash (map package_of ps) (table_of tables p)
 
-pub all_leading : (tables : List Data) (ps : List Tuple) (n : ℕ) → length ps ≤ n → IsPermutation tables (map (table_of tables) ps) → All (IsLeading tables ps) (take n ps) → All (NeedsLead (map package_of ps)) tables
-all_leading tables ps n end all led =
-    All-permutation (NeedsLead (map package_of ps)) (map (table_of tables) ps) tables (IsPermutation-sym tables (map (table_of tables) ps) all)
-    (All-map (NeedsLead (map package_of ps)) (table_of tables) ps (subst (All (IsLeading tables ps)) (take_all n ps end) led))
+pub all_leading : (hash : Bool) (tables : List Data) (ps : List Tuple) (n : ℕ) → length ps ≤ n → IsPermutation tables (map (table_of tables) ps) → All (IsLeading hash tables ps) (take n ps) → All (NeedsLead hash (map package_of ps)) tables
+all_leading hash tables ps n end all led =
+    All-permutation (NeedsLead hash (map package_of ps)) (map (table_of tables) ps) tables (IsPermutation-sym tables (map (table_of tables) ps) all)
+    (All-map (NeedsLead hash (map package_of ps)) (table_of tables) ps (subst (All (IsLeading hash tables ps)) (take_all n ps end) led))
 
 -- ## Lock files
 
-pub lock_of : (d : Data) (tables : List Data) (ps : List Tuple) → HasFormat d → HasTables d → tables ≡ tables_in d → AreLocked tables ps → All (NeedsLead (map package_of ps)) tables → IsLock d
+pub lock_of : (d : Data) (tables : List Data) (ps : List Tuple) → HasFormat d → HasTables d → tables ≡ tables_in d → AreLocked tables ps → All (NeedsLead (has_hash d) (map package_of ps)) tables → IsLock d
 lock_of d tables ps format has same found led =
     let locked = map (locked_of tables) ps in
     let packages : map package_of ps ≡ map (λ l. l.1) locked = map_twice (locked_of tables) (λ l. l.1) ps in
@@ -63,5 +63,5 @@ lock_of d tables ps format has same found led =
       tables = has;
       locked = locked;
       are = subst (λ ts. ArePackages ts locked) same are;
-      needs = subst (λ qs. All (NeedsLead qs) (tables_in d)) packages (subst (All (NeedsLead (map package_of ps))) same led);
+      needs = subst (λ qs. All (NeedsLead (has_hash d) qs) (tables_in d)) packages (subst (All (NeedsLead (has_hash d) (map package_of ps))) same led);
     }

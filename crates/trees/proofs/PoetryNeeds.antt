@@ -10,10 +10,10 @@ use Rattle.std.specs.Borrow.{Bor}
 use Rattle.std.specs.List.{All}
 use Rattle.std.specs.Iterator.{Yields}
 use Rattle.std.specs.Map.Iter.{deref_pair, TakesFirst}
-use Rattle.std.specs.Prelude.{◌↔◌, Option, Some, None, option_map}
+use Rattle.std.specs.Prelude.{Option, Some, None, option_map}
 use Rattle.std.specs.declared.alloc.Global.{Global}
 use Rattle.ptree.proofs.Trees.ItemTrees.{map_twice}
-use Rattle.toml.specs.Data.{Data, string, integer, float, boolean, datetime, array, table, Members, as_table}
+use Rattle.toml.specs.Data.{Data, string, Members, as_table}
 use Rattle.toml.specs.View.{view, members_view}
 use Rattle.toml.specs.declared.value.Value.{Value}
 use Rattle.trees.specs.declared.deps.Network.{Network}
@@ -21,7 +21,7 @@ use Rattle.trees.specs.declared.deps.packages.Fault.TheVariants.{Missing, Severa
 use Rattle.trees.specs.declared.deps.packages.Needing.{Needing}
 use Rattle.trees.specs.Depending.{directed}
 use Rattle.trees.specs.DependingParts.{AddsEdge, IsIndexed}
-use Rattle.trees.specs.Locking.{Package, Known, called, entries_of, is_as, is_locked, locked_entries, members_in, name_entry, normal_name, own_entries, IsLed, IsNeeded, IsNeedTable, Leads, NameLeads, OwnLead}
+use Rattle.trees.specs.Locking.{Package, Known, called, is_as, is_locked, locked_entries, members_in, name_entry, normal_name, IsNeeded, IsNeedTable, Leads, NameLeads, OwnLead}
 use Rattle.trees.specs.LockingParts.{packages_of, AddsEntries, IsFaulty, IsPlaceOf, NameLed}
 use Rattle.trees.proofs.Elements.{listed_at}
 use Rattle.trees.proofs.LockedEdges.{needs_none, needs_more}
@@ -134,24 +134,11 @@ module _ (needing : Needing) where
       (sym (flat_map-append (λ (l : List ℕ × Data). locked_entries (packages_of needing) l.0) ms (m ∷ []) ∙ ap (λ es. names_entries ms ++ es) (append-nil (locked_entries (packages_of needing) m.0))))
       (both_entries needing (names_entries ms) (locked_entries (packages_of needing) m.0) old n new a b)
 
--- ## Lists and tables
+-- ## Tables of needs
 
-module _ (packages : List Package) where
-  pub own_table : (d : Data) (ms : Members) → Some ms ≡ as_table d → own_entries packages d ≡ flat_map (λ m. locked_entries packages m.0) (members_in ms)
-  own_table d ms e = ap (own_entries packages) (is_table d ms e)
+module _ (packages : List Package) (d : Data) (ms : Members) (e : Some ms ≡ as_table d) where
+  pub lead_table : All (NameLeads packages) (members_in ms) → OwnLead true packages d
+  lead_table all = subst (OwnLead true packages) (sym (is_table d ms e)) all
 
-  pub lead_table : (d : Data) (ms : Members) → Some ms ≡ as_table d → All (NameLeads packages) (members_in ms) → OwnLead packages d
-  lead_table d ms e all = subst (OwnLead packages) (sym (is_table d ms e)) all
-
-  pub table_lead : (d : Data) (ms : Members) → Some ms ≡ as_table d → OwnLead packages d → All (NameLeads packages) (members_in ms)
-  table_lead d ms e own = subst (OwnLead packages) (is_table d ms e) own
-
-  -- any other value is as a list
-  pub own_list : (d : Data) → None ≡ as_table d → (own_entries packages d ≡ entries_of d) × (OwnLead packages d ↔ IsLed packages d)
-  own_list (string s) e = (refl, (λ led. led, λ led. led))
-  own_list (integer z) e = (refl, (λ led. led, λ led. led))
-  own_list (float x) e = (refl, (λ led. led, λ led. led))
-  own_list (boolean b) e = (refl, (λ led. led, λ led. led))
-  own_list (datetime dt) e = (refl, (λ led. led, λ led. led))
-  own_list (array ds) e = (refl, (λ led. led, λ led. led))
-  own_list (table ms) e = (let no : ⊥ = cc in absurd no)
+  pub table_lead : OwnLead true packages d → All (NameLeads packages) (members_in ms)
+  table_lead own = subst (OwnLead true packages) (is_table d ms e) own

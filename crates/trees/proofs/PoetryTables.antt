@@ -1,8 +1,7 @@
 -- Tables of packages whose names are brought into the form that names are compared in.
-use Rattle.std.proofs.Common.{◌≡◌, ◌∙◌, ℕ, zero, suc, ◌+◌, ◌<◌, ◌≤◌, ◌||◌, Bool, true, false, cond, List, [], ◌∷◌, length, get_or, set, map, refl, ap, subst, string_bytes, String, arith}
+use Rattle.std.proofs.Common.{◌≡◌, ◌∙◌, ℕ, zero, suc, ◌+◌, ◌<◌, ◌≤◌, Bool, true, false, cond, List, [], ◌∷◌, length, get_or, set, map, refl, ap, subst, string_bytes, String, arith}
 use Rattle.std.specs.BTreeMap.{is_at}
 use Rattle.std.specs.Cmp.Lexicographic.{slice_cmp}
-use Rattle.std.specs.List.{list_any}
 use Rattle.std.specs.Map.{lookup, set_value}
 use Rattle.std.specs.Ordering.{nat_cmp}
 use Rattle.std.specs.Prelude.{Some, None, ⊤}
@@ -10,7 +9,7 @@ use Rattle.std.specs.declared.alloc.Global.{Global}
 use Rattle.toml.specs.Data.{Data, string, integer, float, boolean, datetime, array, table, member, as_table, same_key}
 use Rattle.toml.specs.View.{view, members_view}
 use Rattle.toml.specs.declared.value.Value.{Value}
-use Rattle.trees.specs.Locking.{changed_at, has_table_of_needs, normal_table}
+use Rattle.trees.specs.Locking.{changed_at, normal_table}
 
 -- ## Members
 
@@ -80,36 +79,3 @@ all_normal n (v ∷ vs) [] end first = absurd first
 all_normal zero (v ∷ vs) (w ∷ ws) end first = absurd (omega arith)
 all_normal (suc n) (v ∷ vs) (w ∷ ws) end first =
     ap (λ (d : Data). d ∷ map view ws) first.0 ∙ ap (λ (ds : List Data). normal_table (view v) ∷ ds) (all_normal n vs ws (omega arith) first.1)
-
--- ## Tables of needs
-
--- none of the first tables has one
-abbrev pub NoneOf : List Value → ℕ → Type 0
-NoneOf [] n = ⊤
-NoneOf (v ∷ vs) zero = ⊤
-NoneOf (v ∷ vs) (suc n) = (has_table_of_needs (view v) ≡ false) × NoneOf vs n
-
-pub none_of : (vs : List Value) → NoneOf vs 0
-none_of [] = tt
-none_of (v ∷ vs) = tt
-
-next_of : (n : ℕ) (vs : List Value) (d : Value) → n < length vs → NoneOf vs n → has_table_of_needs (view (get_or vs n d)) ≡ false → NoneOf vs (suc n)
-next_of n [] d low none is = tt
-next_of zero (v ∷ vs) d low none is = (is, none_of vs)
-next_of (suc n) (v ∷ vs) d low none is = (none.0, next_of n vs d (omega arith) none.1 is)
-
-pub more_of : (n : ℕ) (vs : List Value) (d : Value) → n < length vs → NoneOf vs n → has_table_of_needs (view (get_or vs n d)) ≡ false → NoneOf vs (n + 1)
-more_of n vs d low none is = subst (λ (k : ℕ). NoneOf vs k) (let same : suc n ≡ n + 1 = omega arith in same) (next_of n vs d low none is)
-
-pub none_at_all : (n : ℕ) (vs : List Value) → length vs ≤ n → NoneOf vs n → list_any has_table_of_needs (map view vs) ≡ false
-none_at_all n [] end none = refl
-none_at_all zero (v ∷ vs) end none = absurd (omega arith)
-none_at_all (suc n) (v ∷ vs) end none = ap (λ (b : Bool). b || list_any has_table_of_needs (map view vs)) none.0 ∙ none_at_all n vs (omega arith) none.1
-
-pub one_of : (n : ℕ) (vs : List Value) (d : Value) → n < length vs → has_table_of_needs (view (get_or vs n d)) ≡ true → list_any has_table_of_needs (map view vs) ≡ true
-one_of n [] d low is = absurd (omega arith)
-one_of zero (v ∷ vs) d low is = ap (λ (b : Bool). b || list_any has_table_of_needs (map view vs)) is
-one_of (suc n) (v ∷ vs) d low is = by (has_table_of_needs (view v)) (one_of n vs d (omega arith) is) where
-  by : (b : Bool) → list_any has_table_of_needs (map view vs) ≡ true → (b || list_any has_table_of_needs (map view vs)) ≡ true
-  by true more = refl
-  by false more = more

@@ -245,13 +245,9 @@ pub record HasFormat (d : Data) : Type 0 where
 
 -- ## Lock files
 
--- whether a lock file has a hash of what it was made from, as a poetry.lock has
+-- whether a lock file has a hash of what it was made from, as each poetry.lock has
 abbrev pub has_hash : Data → Bool
 has_hash d = is_some (option_and_then (get (codes "content-hash")) (get (codes "metadata") d))
-
--- whether a package's table has its dependencies in a table, as in a poetry.lock
-abbrev pub has_table_of_needs : Data → Bool
-has_table_of_needs d = is_some (option_and_then as_table (get (codes "dependencies") d))
 
 -- members, of which the first at a key is changed
 abbrev pub changed_at : List ℕ → (Data → Data) → Members → Members
@@ -270,7 +266,7 @@ normal_table d = d
 
 -- tables, in a poetry.lock with their names as names are compared
 abbrev pub completed : Bool → List Data → List Data
-completed hash tables = if hash || list_any has_table_of_needs tables then map normal_table tables else tables
+completed hash tables = if hash then map normal_table tables else tables
 
 -- tables, and before them a root, if there is one
 abbrev pub with_root : Option Data → List Data → List Data
@@ -313,14 +309,14 @@ pub record NameLeads (packages : List Package) (m : List ℕ × Data) : Type 0 w
   pub behind : is_behind_name m.1 ≡ true
   pub each : All (λ entry. (at : ℕ) × Leads packages entry at) (locked_entries packages m.0)
 
--- a value is a list of entries that lead to packages, or a table of such names
-abbrev pub OwnLead : List Package → Data → Type 0
-OwnLead packages (table needs) = All (NameLeads packages) (members_in needs)
-OwnLead packages d = IsLed packages d
+-- a value is a list of entries that lead to packages, or in a poetry.lock a table of such names
+abbrev pub OwnLead : Bool → List Package → Data → Type 0
+OwnLead true packages (table needs) = All (NameLeads packages) (members_in needs)
+OwnLead hash packages d = IsLed packages d
 
 -- what a package's table needs leads to packages
-pub record NeedsLead (packages : List Package) (d : Data) : Type 0 where
-  pub own : IfSome (get (codes "dependencies") d) (OwnLead packages)
+pub record NeedsLead (hash : Bool) (packages : List Package) (d : Data) : Type 0 where
+  pub own : IfSome (get (codes "dependencies") d) (OwnLead hash packages)
   pub optional : IfSome (get (codes "optional-dependencies") d) (AreLed packages)
   pub dev : IfSome (get (codes "dev-dependencies") d) (AreLed packages)
 
@@ -331,7 +327,7 @@ pub record IsLock (d : Data) : Type 0 where
   pub tables : HasTables d
   pub locked : List (Data × Package)
   pub are : ArePackages (tables_in d) locked
-  pub needs : All (NeedsLead (map (λ l. l.1) locked)) (tables_in d)
+  pub needs : All (NeedsLead (has_hash d) (map (λ l. l.1) locked)) (tables_in d)
 
 -- ## Labels
 

@@ -1,11 +1,10 @@
 //! Lock files with tables `[[package]]`: `Cargo.lock`, `poetry.lock` and `uv.lock`.
-ghost use Rattle.std.specs.List.{list_any};
 ghost use Rattle.std.specs.List.Sorted.{IsStrictlySortedBy};
 ghost use Rattle.std.specs.Prelude.{◌≡◌, ◌<◌, ◌++◌, ◌∷◌, [], if◌then◌else◌, ℕ, length, map, option_copied, option_map, All, Decides, IfOk, IfErr, IfSome, IsSome, List, MatchOption, OnOk, codes, string_bytes};
 ghost use Rattle.std.specs.Str.{encode_utf8_all};
 ghost use Rattle.toml.specs.Data.{Data, as_str, get};
 ghost use Rattle.toml.specs.View.{table_view, view};
-ghost use Rattle.trees.specs.Locking.{are_dashes, between, changed_at, completed, has_table_of_needs, has_wrong_source, is_behind_name, label_text, non_empty, normal_char, normal_name, normal_table, normal_value, package_cmp, same_version, tables_in, has_hash, ArePackages, BeginsAs, HasFormat, HasTables, HasTwin, IsFormat, IsLabel, IsLock, IsMetadata, IsPackage, IsPoetryFormat, IsVersion, NeedsLead, text_at, source_in, source_of, source_text, with_root, without_revision};
+ghost use Rattle.trees.specs.Locking.{are_dashes, between, changed_at, completed, has_wrong_source, is_behind_name, label_text, non_empty, normal_char, normal_name, normal_table, normal_value, package_cmp, same_version, tables_in, has_hash, ArePackages, BeginsAs, HasFormat, HasTables, HasTwin, IsFormat, IsLabel, IsLock, IsMetadata, IsPackage, IsPoetryFormat, IsVersion, NeedsLead, text_at, source_in, source_of, source_text, with_root, without_revision};
 ghost use Rattle.trees.specs.DependingParts.{IsEmpty, IsIndexed};
 ghost use Rattle.trees.specs.LockingParts.{locked_at, package_at, package_of, AddsAll, AddsLabels, AreLocked, FailsUnless, HasLocked, HoldsLocked, Loses, StandOnce};
 ghost use Rattle.trees.specs.Meaning.{HoldsLock};
@@ -57,10 +56,11 @@ fn read(
     if let Some(why) = unknown_format(lock) {
         return Err(wrong(alloc, input, &[why]));
     }
+    let has_hash = has_hash(lock);
     let tables = tables(alloc, input, lock)?;
     let packages = packages(alloc, input, tables)?;
     push_labels(alloc, tables, &packages, &mut network.labels)?;
-    push_edges(alloc, input, tables, &packages, network)
+    push_edges(alloc, input, has_hash, tables, &packages, network)
 }
 
 // Returns what is not known of the format of a lock file, if anything is.
@@ -192,7 +192,7 @@ fn put_root(root: Option<Value>, tables: &mut Vec<Value>) -> Result<(), AllocErr
     }
 }
 
-// Whether a lock file has a hash of what it was made from, as a `poetry.lock` has.
+// Whether a lock file has a hash of what it was made from, as each `poetry.lock` has.
 fn has_hash(lock: &Value) -> bool
     ensures { result ≡ has_hash (view lock.now) }
 {
@@ -202,33 +202,11 @@ fn has_hash(lock: &Value) -> bool
     }
 }
 
-// Whether some packages have their dependencies in tables.
-fn has_tables_of_needs(tables: &[Value]) -> bool
-    ensures { result ≡ list_any has_table_of_needs (map view tables.now) }
-{
-    for table in tables {
-        if has_table_of_needs(table) {
-            return true;
-        }
-    }
-    false
-}
-
-// Whether a package has its dependencies in a table, as in `poetry.lock`.
-fn has_table_of_needs(table: &Value) -> bool
-    ensures { result ≡ has_table_of_needs (view table.now) }
-{
-    match table.get("dependencies") {
-        Some(needs) => needs.is_table(),
-        None => false,
-    }
-}
-
-// Brings the names of Python packages into the form that names are compared in.
+// Brings the names in a `poetry.lock` into the form that names are compared in.
 fn normalize(alloc: Global, has_hash: bool, tables: &mut [Value]) -> Result<(), AllocError>
     ensures { OnOk result (map view tables.new ≡ completed has_hash (map view tables.old)) }
 {
-    if has_hash || has_tables_of_needs(tables) {
+    if has_hash {
         normalize_all(alloc, tables)
     } else {
         Ok(())
@@ -451,6 +429,7 @@ fn without_revision(source: &str) -> &str
 fn push_edges<'p>(
     alloc: Global,
     input: &'p Source,
+    has_hash: bool,
     tables: &[Value],
     packages: &'p [Package<'p>],
     network: &mut Network,
@@ -459,13 +438,14 @@ fn push_edges<'p>(
     ensures added { IsIndexed network.old → OnOk result
         (AddsAll (map view tables.now) packages.now network.old network.new) }
     ensures led { OnOk result
-        (All (NeedsLead (map package_of packages.now)) (map view tables.now)) }
-    ensures failed { IfErr result
-        (FailsUnless (All (NeedsLead (map package_of packages.now)) (map view tables.now))) }
+        (All (NeedsLead has_hash (map package_of packages.now)) (map view tables.now)) }
+    ensures failed { IfErr result (FailsUnless
+        (All (NeedsLead has_hash (map package_of packages.now)) (map view tables.now))) }
 {
     for (node, locked) in packages.iter().enumerate() {
         let needing = Needing {
             input,
+            has_hash,
             packages,
             node,
             name: locked.0,
@@ -559,6 +539,9 @@ fn is_behind_name(need: &Value) -> bool
 struct Needing<'p> {
     input: &'p Source,
 
+    // Whether its lock file has a hash, as each `poetry.lock` has.
+    has_hash: bool,
+
     // All packages.
     packages: &'p [Package<'p>],
 
@@ -581,9 +564,10 @@ impl<'p> Needing<'p> {
         requires { IsStrictlySortedBy package_cmp (packages_of self.now) }
         ensures added { OnOk result (AddsEntries self.now
             (entries_in (packages_of self.now) (view table.now)) network.old network.new) }
-        ensures led { OnOk result (NeedsLead (packages_of self.now) (view table.now)) }
-        ensures failed { IfErr result
-            (FailsUnless (NeedsLead (packages_of self.now) (view table.now))) }
+        ensures led { OnOk result
+            (NeedsLead self.now.has_hash (packages_of self.now) (view table.now)) }
+        ensures failed { IfErr result (FailsUnless
+            (NeedsLead self.now.has_hash (packages_of self.now) (view table.now))) }
     {
         self.push_own(alloc, table, network)?;
         self.push_groups(alloc, table, "optional-dependencies", network)?;
@@ -596,10 +580,11 @@ impl<'p> Needing<'p> {
         ensures added { OnOk result (AddsEntries self.now
             (entries_at (own_entries (packages_of self.now)) (codes "dependencies")
             (view table.now)) network.old network.new) }
-        ensures led { OnOk result (IfSome
-            (get (codes "dependencies") (view table.now)) (OwnLead (packages_of self.now))) }
-        ensures failed { IfErr result (FailsUnless (IfSome
-            (get (codes "dependencies") (view table.now)) (OwnLead (packages_of self.now)))) }
+        ensures led { OnOk result (IfSome (get (codes "dependencies") (view table.now))
+            (OwnLead self.now.has_hash (packages_of self.now))) }
+        ensures failed { IfErr result (FailsUnless
+            (IfSome (get (codes "dependencies") (view table.now))
+            (OwnLead self.now.has_hash (packages_of self.now)))) }
     {
         match table.get("dependencies") {
             Some(needs) => self.push_table_or_list(alloc, needs, network),
@@ -617,13 +602,14 @@ impl<'p> Needing<'p> {
         requires { IsStrictlySortedBy package_cmp (packages_of self.now) }
         ensures added { OnOk result (AddsEntries self.now
             (own_entries (packages_of self.now) (view needs.now)) network.old network.new) }
-        ensures led { OnOk result (OwnLead (packages_of self.now) (view needs.now)) }
-        ensures failed { IfErr result
-            (FailsUnless (OwnLead (packages_of self.now) (view needs.now))) }
+        ensures led { OnOk result
+            (OwnLead self.now.has_hash (packages_of self.now) (view needs.now)) }
+        ensures failed { IfErr result (FailsUnless
+            (OwnLead self.now.has_hash (packages_of self.now) (view needs.now))) }
     {
         match needs.as_table() {
-            Some(table) => self.push_python_needs(alloc, table, network),
-            None => self.push_list(alloc, needs, network),
+            Some(table) if self.has_hash => self.push_python_needs(alloc, table, network),
+            _ => self.push_list(alloc, needs, network),
         }
     }
 

@@ -10,4 +10,4 @@ use Rattle.trees.proofs.deps.packages.push_edges.Given as goal
 abbrev pub invariant-loop-node : goal.invariant-loop-node
 invariant-loop-node l =
     (IsIndexed l.fn.network → AddsFirst (map view l.tables) l.packages l.node l.fn.network l.network)
-    × All (IsLeading (map view l.tables) l.packages) (take l.node l.packages)
+    × All (IsLeading l.has_hash (map view l.tables) l.packages) (take l.node l.packages)

@@ -1,9 +1,9 @@
-use Rattle.std.proofs.Common.{List, map, subst, rules}
+use Rattle.std.proofs.Common.{Bool, List, map, subst, rules}
 use Rattle.std.proofs.lemmas.Result.{IfErr-weaker, on_ok_weaker}
 use Rattle.std.specs.List.{All}
 use Rattle.std.specs.Prelude.{IfErr, OnOk}
 use Rattle.toml.specs.View.{view}
-use Rattle.trees.specs.Locking.{HasTables, IsLock, NeedsLead}
+use Rattle.trees.specs.Locking.{has_hash, HasTables, IsLock, NeedsLead}
 use Rattle.trees.specs.LockingParts.{package_of, AddsAll, AddsLabels, FailsUnless, HasLocked}
 use Rattle.trees.proofs.LockedFailures.{fails_leading, fails_never, fails_unless, fails_unread}
 use Rattle.trees.proofs.LockedLed.{lock_of}
@@ -44,9 +44,10 @@ returns-clause-failed c =
     let d = view c.args.lock.now in
     let tables = map view c.in_ok-tables.tables.now in
     let ps = c.in_ok-packages.packages.items in
-    IfErr-weaker c.push_edges.result (FailsUnless (All (NeedsLead (map package_of ps)) tables)) (FailsUnless (IsLock d))
+    IfErr-weaker c.push_edges.result (FailsUnless (All (NeedsLead (has_hash d) (map package_of ps)) tables)) (FailsUnless (IsLock d))
     (λ f says. fails_leading d tables c.in_ok-tables.ensures.tables f ps c.in_ok-packages.ensures.locked says)
-    (subst (λ (qs : List Tuple). IfErr c.push_edges.result (FailsUnless (All (NeedsLead (map package_of qs)) tables))) c.deref-2.ensures.value c.push_edges.ensures.failed)
+    (subst (λ (hash : Bool). IfErr c.push_edges.result (FailsUnless (All (NeedsLead hash (map package_of ps)) tables))) c.has_hash-has_hash.ensures
+    (subst (λ (qs : List Tuple). IfErr c.push_edges.result (FailsUnless (All (NeedsLead c.has_hash-has_hash.result (map package_of qs)) tables))) c.deref-2.ensures.value c.push_edges.ensures.failed))
 
 pub returns-clause-only : goal.returns-clause-only
 returns-clause-only c =
@@ -54,4 +55,5 @@ returns-clause-only c =
     let tables = map view c.in_ok-tables.tables.now in
     let ps = c.in_ok-packages.packages.items in
     on_ok_weaker c.push_edges.result (λ led. lock_of d tables ps c.in_default.ensures c.in_ok-tables.ensures.has c.in_ok-tables.ensures.tables c.in_ok-packages.ensures.locked led)
-    (subst (λ (qs : List Tuple). OnOk c.push_edges.result (All (NeedsLead (map package_of qs)) tables)) c.deref-2.ensures.value c.push_edges.ensures.led)
+    (subst (λ (hash : Bool). OnOk c.push_edges.result (All (NeedsLead hash (map package_of ps)) tables)) c.has_hash-has_hash.ensures
+    (subst (λ (qs : List Tuple). OnOk c.push_edges.result (All (NeedsLead c.has_hash-has_hash.result (map package_of qs)) tables)) c.deref-2.ensures.value c.push_edges.ensures.led))

@@ -12,21 +12,21 @@ use Rattle.trees.proofs.deps.packages.Needing.push_needs.Goals as goal
 pub returns-in_err-push_own-clause-failed : goal.returns-in_err-push_own-clause-failed
 returns-in_err-push_own-clause-failed c =
     let d = view c.args.table.now in
-    let says = fails_unless (IfSome (get (codes "dependencies") d) (OwnLead (packages_of c.args.self.now))) (NeedsLead (packages_of c.args.self.now) d) c.in_err-push_own.field-0.0 (λ all. all.own) c.in_err-push_own.ensures.failed in
+    let says = fails_unless (IfSome (get (codes "dependencies") d) (OwnLead c.args.self.now.has_hash (packages_of c.args.self.now))) (NeedsLead c.args.self.now.has_hash (packages_of c.args.self.now) d) c.in_err-push_own.field-0.0 (λ all. all.own) c.in_err-push_own.ensures.failed in
     search (rules, says)
 
 pub returns-in_err-push_groups-clause-failed : goal.returns-in_err-push_groups-clause-failed
 returns-in_err-push_groups-clause-failed c =
     let d = view c.args.table.now in
-    let says = fails_unless (IfSome (get (codes "optional-dependencies") d) (AreLed (packages_of c.args.self.now))) (NeedsLead (packages_of c.args.self.now) d) c.in_err-push_groups.field-0.0 (λ all. all.optional) c.in_err-push_groups.ensures.failed in
+    let says = fails_unless (IfSome (get (codes "optional-dependencies") d) (AreLed (packages_of c.args.self.now))) (NeedsLead c.args.self.now.has_hash (packages_of c.args.self.now) d) c.in_err-push_groups.field-0.0 (λ all. all.optional) c.in_err-push_groups.ensures.failed in
     search (rules, says)
 
 pub returns-clause-failed : goal.returns-clause-failed
 returns-clause-failed c =
     let d = view c.args.table.now in
     let packages = packages_of c.args.self.now in
-    IfErr-weaker c.push_groups-2.result (FailsUnless (IfSome (get (codes "dev-dependencies") d) (AreLed packages))) (FailsUnless (NeedsLead packages d))
-    (λ f says. fails_unless (IfSome (get (codes "dev-dependencies") d) (AreLed packages)) (NeedsLead packages d) f (λ all. all.dev) says) c.push_groups-2.ensures.failed
+    IfErr-weaker c.push_groups-2.result (FailsUnless (IfSome (get (codes "dev-dependencies") d) (AreLed packages))) (FailsUnless (NeedsLead c.args.self.now.has_hash packages d))
+    (λ f says. fails_unless (IfSome (get (codes "dev-dependencies") d) (AreLed packages)) (NeedsLead c.args.self.now.has_hash packages d) f (λ all. all.dev) says) c.push_groups-2.ensures.failed
 
 pub returns-clause-added : goal.returns-clause-added
 returns-clause-added c =
