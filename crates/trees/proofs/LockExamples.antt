@@ -1,5 +1,5 @@
 -- Lock files by computation.
-use Rattle.std.proofs.Common.{◌≡◌, ℕ, zero, suc, ◌<◌, true, false, List, [], ◌∷◌, codes, length, get_or, inl, inr, refl, ap, arith}
+use Rattle.std.proofs.Common.{◌≡◌, ◌∙◌, ℕ, zero, suc, ◌<◌, true, false, List, [], ◌∷◌, codes, length, get_or, inl, inr, refl, ap, arith}
 use Rattle.std.proofs.lemmas.Bool.{false≢true}
 use Rattle.std.proofs.lemmas.List.Elements.{All-cons, All-nil}
 use Rattle.std.proofs.lemmas.List.Sorted.{IsPermutation-refl}
@@ -8,7 +8,7 @@ use Rattle.std.specs.List.Sorted.{IsStrictlySortedBy}
 use Rattle.std.specs.Prelude.{Option, None, pos, unwrap_or, All}
 use Rattle.std.specs.Str.{chars}
 use Rattle.toml.specs.Data.{Data, string, integer, array, table, no_items, item, no_members, member}
-use Rattle.trees.specs.Locking.{Package, Known, is_as, name_entry, normal_name, own_entries, tables_in, Leads, ArePackages, HasFormat, IsLock, IsPackage, NeedsLead}
+use Rattle.trees.specs.Locking.{Package, Known, are_digits, is_as, name_entry, normal_name, own_entries, tables_in, Leads, ArePackages, HasFormat, IsLock, IsPackage, NeedsLead}
 use Rattle.trees.proofs.NeedTexts.{lacks_byte, text_alone}
 
 -- two packages, of which the first needs the second
@@ -70,7 +70,7 @@ versioned d = table (member (codes "version") d no_members)
 abbrev poetry : Data → Data
 poetry d = table (member (codes "metadata") (table (member (codes "lock-version") d no_members)) no_members)
 
--- the version of a Cargo.lock may be 4, and that of a poetry.lock 2.1; 2, a text and 10.0 are not known
+-- the version of a Cargo.lock may be 4, and that of a poetry.lock 2.1; 2, a text, 10.0 and 2.banana are not known
 fourth : HasFormat (versioned (integer (pos 4)))
 fourth = record { version = inr (inr refl); metadata = tt }
 
@@ -81,12 +81,20 @@ no_text : HasFormat (versioned (string (codes "4"))) → ⊥
 no_text is = elim is.version [ inl e ↦ cc | inr other ↦ elim other [ inl e ↦ cc | inr e ↦ cc ] ]
 
 newest : HasFormat (poetry (string (codes "2.1")))
-newest = record { version = tt; metadata = record { table = refl; version = inr (codes "1", refl); hash = tt } }
+newest = record { version = tt; metadata = record { table = refl; version = inr (codes "1", refl, refl); hash = tt } }
 
 not_tenth : HasFormat (poetry (string (codes "10.0"))) → ⊥
 not_tenth is =
     let byte : ℕ → Option (List ℕ) → ℕ = λ k text. get_or (unwrap_or text []) k 0 in
     elim is.metadata.version [ inl first ↦ omega (arith, ap (byte 1) first.1) | inr second ↦ omega (arith, ap (byte 0) second.1) ]
+
+not_word : HasFormat (poetry (string (codes "2.banana"))) → ⊥
+not_word is =
+    let byte : ℕ → Option (List ℕ) → ℕ = λ k text. get_or (unwrap_or text []) k 0 in
+    elim is.metadata.version [
+      | inl first ↦ omega (arith, ap (byte 0) first.1)
+      | inr second ↦ (let same : codes "banana" ≡ second.0 = cc in false≢true (ap are_digits same ∙ second.2))
+    ]
 
 -- ## Names of Python packages
 

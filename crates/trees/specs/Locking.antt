@@ -1,11 +1,11 @@
 -- Which packages a lock file with tables `[[package]]` has, their labels, and which of them an entry needs.
-use Rattle.std.specs.Char.{to_ascii_lowercase}
+use Rattle.std.specs.Char.{is_ascii_digit, to_ascii_lowercase}
 use Rattle.std.specs.Cmp.Lexicographic.{slice_cmp}
-use Rattle.std.specs.List.{before_first, dedup, list_any}
+use Rattle.std.specs.List.{before_first, dedup, list_all, list_any}
 use Rattle.std.specs.List.Sorted.{IsPermutation, IsStrictlySortedBy}
 use Rattle.std.specs.Option.{option_and_then, option_or}
 use Rattle.std.specs.Ordering.{nat_cmp, ordering_then}
-use Rattle.std.specs.Prelude.{◌≡◌, ◌≢◌, ◌+◌, ◌<◌, ◌⊎◌, ◌==◌, ◌&&◌, ◌||◌, if◌then◌else◌, ℕ, Bool, true, false, is_none, is_some, pos, List, [], ◌∷◌, ◌++◌, codes, flat_map, length, map, All, Contains, HoldsAt, Option, Some, None, IfSome, IsSome, MatchOption, option_map, unwrap_or}
+use Rattle.std.specs.Prelude.{◌≡◌, ◌≢◌, ◌+◌, ◌<◌, ◌⊎◌, ◌==◌, ◌&&◌, ◌||◌, if◌then◌else◌, ℕ, Bool, true, false, not, is_none, is_some, pos, List, [], ◌∷◌, ◌++◌, codes, flat_map, length, map, All, Contains, HoldsAt, Option, Some, None, IfSome, IsSome, MatchOption, option_map, unwrap_or}
 use Rattle.std.specs.Str.{bytes_eq, chars, encode_utf8_all}
 use Rattle.std.specs.declared.cmp.Ordering.{Ordering}
 use Rattle.toml.specs.Data.{Data, string, array, table, Items, no_items, item, Members, no_members, member, get, get_member, same_key, as_array, as_integer, as_str, as_table}
@@ -224,13 +224,17 @@ edges_from node (places ∷ more) = map (λ at. (node, at)) places ++ edges_from
 abbrev pub IsFormat : Data → Type 0
 IsFormat d = (as_integer d ≡ Some (pos 1)) ⊎ ((as_integer d ≡ Some (pos 3)) ⊎ (as_integer d ≡ Some (pos 4)))
 
--- a value is a text that begins so
-abbrev pub BeginsAs : List ℕ → Data → Type 0
-BeginsAs start d = (rest : List ℕ) × (as_str d ≡ Some (start ++ rest))
+-- whether a text is one or more digits
+abbrev pub are_digits : List ℕ → Bool
+are_digits text = not (is_empty text) && list_all is_ascii_digit text
 
--- the version of a poetry.lock begins with `1.` or `2.`
+-- a value is a text that begins so, and then has digits
+abbrev pub IsRelease : List ℕ → Data → Type 0
+IsRelease start d = (digits : List ℕ) × (as_str d ≡ Some (start ++ digits)) × (are_digits digits ≡ true)
+
+-- the version of a poetry.lock is `1.` or `2.` and then digits
 abbrev pub IsPoetryFormat : Data → Type 0
-IsPoetryFormat d = BeginsAs (codes "1.") d ⊎ BeginsAs (codes "2.") d
+IsPoetryFormat d = IsRelease (codes "1.") d ⊎ IsRelease (codes "2.") d
 
 -- what is at `metadata`: a table, whose version and hash, if it has them, are that of a poetry.lock and a text
 pub record IsMetadata (d : Data) : Type 0 where

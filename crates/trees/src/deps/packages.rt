@@ -4,7 +4,7 @@ ghost use Rattle.std.specs.Prelude.{◌≡◌, ◌<◌, ◌++◌, ◌∷◌, [],
 ghost use Rattle.std.specs.Str.{encode_utf8_all};
 ghost use Rattle.toml.specs.Data.{Data, as_str, get};
 ghost use Rattle.toml.specs.View.{table_view, view};
-ghost use Rattle.trees.specs.Locking.{are_dashes, between, changed_at, completed, has_wrong_source, is_behind_name, label_text, non_empty, normal_char, normal_name, normal_table, normal_value, package_cmp, same_version, tables_in, has_hash, ArePackages, BeginsAs, HasFormat, HasTables, HasTwin, IsFormat, IsLabel, IsLock, IsMetadata, IsPackage, IsPoetryFormat, IsVersion, NeedsLead, text_at, source_in, source_of, source_text, with_root, without_revision};
+ghost use Rattle.trees.specs.Locking.{are_dashes, are_digits, between, changed_at, completed, has_wrong_source, is_behind_name, label_text, non_empty, normal_char, normal_name, normal_table, normal_value, package_cmp, same_version, tables_in, has_hash, ArePackages, HasFormat, HasTables, HasTwin, IsFormat, IsLabel, IsLock, IsMetadata, IsPackage, IsPoetryFormat, IsRelease, IsVersion, NeedsLead, text_at, source_in, source_of, source_text, with_root, without_revision};
 ghost use Rattle.trees.specs.DependingParts.{IsEmpty, IsIndexed};
 ghost use Rattle.trees.specs.LockingParts.{locked_at, package_at, package_of, AddsAll, AddsLabels, AreLocked, FailsUnless, HasLocked, HoldsLocked, Loses, StandOnce};
 ghost use Rattle.trees.specs.Meaning.{HoldsLock};
@@ -128,17 +128,27 @@ fn has_poetry_version(metadata: &Value) -> bool
 fn is_poetry_format(version: &Value) -> bool
     ensures { Decides result (IsPoetryFormat (view version.now)) }
 {
-    has_start(version, "1.") || has_start(version, "2.")
+    is_release(version, "1.") || is_release(version, "2.")
 }
 
-// Whether a value is a text that begins so.
-fn has_start(value: &Value, start: &str) -> bool
-    ensures { Decides result (BeginsAs start.now (view value.now)) }
+// Whether a value is a text that begins so, and then has digits.
+fn is_release(value: &Value, start: &str) -> bool
+    ensures { Decides result (IsRelease start.now (view value.now)) }
 {
-    match value.as_str() {
-        Some(text) => behind(text, start).is_some(),
+    let Some(text) = value.as_str() else {
+        return false;
+    };
+    match behind(text, start) {
+        Some(rest) => are_digits(rest),
         None => false,
     }
+}
+
+// Whether a text is one or more digits.
+fn are_digits(text: &str) -> bool
+    ensures { result ≡ are_digits text.now }
+{
+    !text.is_empty() && text.as_bytes().iter().all(|byte| byte.is_ascii_digit())
 }
 
 // Whether the hash in `metadata`, if there is one, is a text.
