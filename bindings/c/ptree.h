@@ -213,7 +213,8 @@ uint32_t ptree_draw_with(const struct ptree_item *items, size_t items_count, con
                          struct ptree_found *found);
 
 /* Draws items one by one, as many complete entries at a call as fit, and keeps none of them: so a tree of any size can be drawn with
- * little memory, while its items are made. Give the items in the order of drawing, in as many calls as you like.
+ * little memory, while its items are made. Give the items in the order of drawing, in as many calls as you like, and with each call the
+ * texts of its own items: it takes time for all texts that it gets.
  *
  * `path` says for each level from 1 on whether the last item there is its parent's last child. Give the same bytes to all calls of a
  * drawing. At first they may be anything; there must be as many as the greatest level of the call's items. Each call updates them for
