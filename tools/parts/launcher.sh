@@ -91,8 +91,8 @@ check_changes() {
     expect_launch 'a first call builds' 1 one
     chmod a-x "$there/bin/build"
     expect_launch 'a second call does without bin/build' 0 one
-    ln -sfn "$there/bin" "$scratch/linked"
-    expect_launch 'a call through a link to its folder' 0 one "$scratch/linked/ptree_cli"
+    ln -sfn "$there/bin" "$scratch/linked_bin"
+    expect_launch 'a call through a link to its folder' 0 one "$scratch/linked_bin/ptree_cli"
     chmod a+x "$there/bin/build"
     touch "$source" "$there/crates.txt"
     expect_launch 'a source is touched' 0 one
