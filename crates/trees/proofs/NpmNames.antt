@@ -1,4 +1,4 @@
--- The last names of paths, and the names of packages.
+-- The last names of paths, and the names and labels of packages.
 use Rattle.std.proofs.Common.{◌≡◌, ◌≢◌, ◌∙◌, ℕ, ◌+◌, ◌-◌, List, [], ◌∷◌, ◌++◌, length, get_or, take, drop, codes, inl, inr, refl, sym, ap, ap₂, subst, append_assoc, length-append, arith}
 use Rattle.std.proofs.Math.Seq.{drop-append_seam, get_or-append_seam}
 use Rattle.std.proofs.lemmas.List.{take_all}
@@ -11,7 +11,7 @@ use Rattle.std.specs.Str.Pattern.{RFindsChar, GetsRange}
 use Rattle.serde_json.specs.Data.{Data}
 use Rattle.trees.specs.Documents.{IsLastPart}
 use Rattle.trees.specs.Locking.{Lacks}
-use Rattle.trees.specs.Npm.{text_at, EndsWith, IsLastName, IsNameOf, IsScoped}
+use Rattle.trees.specs.Npm.{behind, known_name, label_text, other_name, text_at, EndsWith, IsLastName, IsNameOf, IsScoped}
 use Rattle.trees.proofs.NeedTexts.{lacks_byte}
 use Rattle.trees.proofs.NpmPaths.{one_cut, slash_at, part_behind, part_alone, at_scope}
 
@@ -147,3 +147,17 @@ name_once path d a b = go (text_at (codes "name") d) where
   go : (o : Option (List ℕ)) → MatchOption o (IsLastName path a) (λ given. a ≡ given) → MatchOption o (IsLastName path b) (λ given. b ≡ given) → a ≡ b
   go None x y = last_once path a b x y
   go (Some given) x y = x ∙ sym y
+
+-- ## Labels
+
+-- a label of three parts
+pub label_made : (name own l0 l1 l2 : List ℕ) (other version : Option (List ℕ)) (d : Data) → l0 ≡ name → l1 ≡ l0 ++ behind (codes "@npm:") other → l2 ≡ l1 ++ behind (codes "@") version → other ≡ other_name name (known_name own)
+    → version ≡ text_at (codes "version") d → l2 ≡ label_text name own d
+label_made name own l0 l1 l2 other version d first second third o v =
+    let npm = behind (codes "@npm:") other in
+    let end = behind (codes "@") version in
+    third
+    ∙ (ap (λ (t : List ℕ). t ++ end) second
+    ∙ (append_assoc l0 npm end
+    ∙ (ap (λ (t : List ℕ). t ++ (npm ++ end)) first
+    ∙ (ap (λ x. name ++ (behind (codes "@npm:") x ++ end)) o ∙ ap (λ x. name ++ (behind (codes "@npm:") (other_name name (known_name own)) ++ behind (codes "@") x)) v))))

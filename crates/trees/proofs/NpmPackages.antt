@@ -1,5 +1,5 @@
 -- Packages of lock files of npm, and networks that get them.
-use Rattle.std.proofs.Common.{◌≡◌, ◌∙◌, ◌⊎◌, ℕ, ◌+◌, ◌<◌, Bool, List, [], ◌∷◌, ◌++◌, length, get_or, take, map, slice_get, codes, inl, inr, refl, sym, ap, subst, append_assoc, arith}
+use Rattle.std.proofs.Common.{◌≡◌, ◌∙◌, ◌⊎◌, ℕ, ◌+◌, ◌<◌, Bool, List, [], ◌∷◌, ◌++◌, length, get_or, take, map, slice_get, inl, inr, refl, sym, ap, subst, append_assoc, arith}
 use Rattle.std.proofs.lemmas.Bool.{false≢true}
 use Rattle.std.proofs.lemmas.List.{append-nil, get_or-map, length-map, map-append, take_more}
 use Rattle.std.proofs.lemmas.List.Elements.{All-nil, All-push, Contains-push, Contains-push_cases}
@@ -32,7 +32,7 @@ use Rattle.trees.specs.Depending.{directed, same_edge}
 use Rattle.trees.specs.DependingParts.{labels_of, needs_of, added, AddsEdge, IsEmpty, IsIndexed}
 use Rattle.trees.specs.Documents.{IsDocumentOf}
 use Rattle.trees.specs.LockingParts.{AddsEdges}
-use Rattle.trees.specs.Npm.{text_at, listed, with_project, packages_in, path_in, behind, known_name, other_name, label_text, IsLabel, IsLeftOut, IsRootName, AreAscending, AreNodes, HasLabel, StandsFor}
+use Rattle.trees.specs.Npm.{listed, with_project, packages_in, path_in, IsLabel, IsLeftOut, IsRootName, AreAscending, AreNodes, HasLabel, StandsFor}
 use Rattle.trees.specs.NpmParts.{edge_of, AddsPackages, AddsInOrder, AreNeeds, ArePaths, HasPackages, HoldsPackages}
 use Rattle.trees.proofs.Elements.{zip_both}
 use Rattle.trees.proofs.LockedEdges.{edges_none, edges_both, edges_one, first_edges}
@@ -79,20 +79,6 @@ pub packages_found : (lock : Data) (o : Option Data) (d : Data) (r : Option (Bor
 packages_found lock o d None is found = tt
 packages_found lock o d (Some m) is found =
     ap (with_project lock) (ap (λ x. unwrap_or (option_map listed (option_and_then as_object x)) []) (sym is) ∙ ap (λ x. unwrap_or (option_map listed x) []) (sym found))
-
--- ## Labels
-
--- a label of three parts
-pub label_made : (name own l0 l1 l2 : List ℕ) (other version : Option (List ℕ)) (d : Data) → l0 ≡ name → l1 ≡ l0 ++ behind (codes "@npm:") other → l2 ≡ l1 ++ behind (codes "@") version → other ≡ other_name name (known_name own)
-    → version ≡ text_at (codes "version") d → l2 ≡ label_text name own d
-label_made name own l0 l1 l2 other version d first second third o v =
-    let npm = behind (codes "@npm:") other in
-    let end = behind (codes "@") version in
-    third
-    ∙ (ap (λ (t : List ℕ). t ++ end) second
-    ∙ (append_assoc l0 npm end
-    ∙ (ap (λ (t : List ℕ). t ++ (npm ++ end)) first
-    ∙ (ap (λ x. name ++ (behind (codes "@npm:") x ++ end)) o ∙ ap (λ x. name ++ (behind (codes "@npm:") (other_name name (known_name own)) ++ behind (codes "@") x)) v))))
 
 -- ## Networks
 

@@ -2,7 +2,7 @@ use Rattle.std.proofs.Common.{◌∙◌, string_bytes, ap}
 use Rattle.std.specs.Prelude.{option_copied}
 use Rattle.serde_json.specs.View.{view}
 use Rattle.trees.specs.Npm.{other_name}
-use Rattle.trees.proofs.NpmPackages.{label_made}
+use Rattle.trees.proofs.NpmNames.{label_made}
 use Rattle.trees.proofs.deps.npm.label.Goals as goal
 
 pub returns : goal.returns
