@@ -1,6 +1,6 @@
 //! Callers that read drawings.
-ghost use Rattle.std.specs.Prelude.{◌≡◌, ◌≤◌, ◌<◌, ◌-◌, false, IfOk, IsOkUnless, IfSome, IsTrue, IsSomeAnd, string_bytes};
-ghost use Rattle.ptree.specs.Continuation.{HasContinuation, first_lines};
+ghost use Rattle.std.specs.Prelude.{◌≡◌, ◌↔◌, ◌≤◌, ◌<◌, ◌-◌, false, IfOk, IsOkUnless, IfSome, IsTrue, IsSomeAnd, string_bytes};
+ghost use Rattle.ptree.specs.Continuation.{HasContinuation, IsFollowedBy, first_lines};
 ghost use Rattle.ptree.specs.declared.read.ReadError.{ReadError};
 ghost use Rattle.ptree.specs.DrawnForm.{IsDrawnForm};
 ghost use Rattle.ptree.specs.Drawing.{look_by, written_look};
@@ -12,7 +12,7 @@ ghost use Rattle.ptree.specs.declared.print_config.OutputKind.{OutputKind};
 use ptree::item::StringItem;
 use ptree::presets::Preset;
 use ptree::print_config::{ASCII_CHARS_TICK, IndentChars, PrintConfig, StaticIndentChars};
-use ptree::read::{ReadError, pieces_readable, read_tree, read_tree_or_line};
+use ptree::read::{ReadError, lines_that_follow, pieces_readable, read_tree, read_tree_or_line};
 use std::alloc::{AllocError, Global};
 
 /// Draws a tree and reads it back. Whatever its texts, what comes back is the tree.
@@ -91,6 +91,21 @@ pub fn wrong_line(
         Err(ReadError::End) => Ok(None),
         Err(ReadError::Memory) => Err(AllocError),
     }
+}
+
+/// Whether a line can follow a text: some drawing begins with both.
+pub fn can_follow(
+    alloc: Global,
+    text: &str,
+    line: &str,
+    config: &PrintConfig,
+) -> Result<bool, AllocError>
+    requires { HasReadablePieces config.now }
+    ensures { IfOk result (λ can. IsTrue can
+        ↔ IsFollowedBy (written_look config.now) config.now.depth text.now line.now) }
+{
+    let lines = vec![in alloc; String::from_str(alloc, line)?]?;
+    Ok(lines_that_follow(alloc, text, &lines, config)?[0])
 }
 
 /// Reads where the configuration allows it, and else returns none.

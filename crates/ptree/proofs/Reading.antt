@@ -19,6 +19,8 @@ pub mod SkippedPieces
 pub mod OpenLines
 pub mod OwnLines
 pub mod LineTexts
+pub mod AfterLines
 pub mod Scanning
+pub mod OpenDrawings
 pub mod LineFeedSearch
 pub mod PrefixVectors

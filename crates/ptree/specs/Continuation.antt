@@ -1,5 +1,5 @@
 -- Which lines are the first lines of a drawing.
-use Rattle.std.specs.Prelude.{◌≤◌, ◌-◌, ◌+◌, ℕ, zero, suc, nat_eq, if◌then◌else◌, List, [], ◌∷◌, ◌++◌}
+use Rattle.std.specs.Prelude.{◌≡◌, ◌↔◌, ◌<◌, ◌≤◌, ◌-◌, ◌+◌, ℕ, zero, suc, nat_eq, Bool, true, false, if◌then◌else◌, List, [], ◌∷◌, ◌++◌, length, slice_index_or}
 use Rattle.ptree.specs.Drawing.{Look}
 use Rattle.ptree.specs.DrawnForm.{IsDrawnForm}
 use Rattle.ptree.specs.Texts.{line_feed}
@@ -31,3 +31,12 @@ pub record IsFirstWrongLine (look : Look) (depth : ℕ) (x : List ℕ) (n : ℕ)
 pub record EndsWrong (look : Look) (depth : ℕ) (x : List ℕ) : Type 0 where
   pub lines : HasContinuation look depth (first_lines (line_count x) x)
   pub wrong : (t : Tree) → IsDrawnForm look depth x t → ⊥
+
+-- some drawing within the depth begins with this text, this line and a line feed
+abbrev pub IsFollowedBy : Look → ℕ → List ℕ → List ℕ → Type 0
+IsFollowedBy look depth text line = HasContinuation look depth (text ++ (line ++ line_feed ∷ []))
+
+-- a flag for each text, which says whether Is holds of it
+pub record AreFlags (Is : List ℕ → Type 0) (texts : List (List ℕ)) (flags : List Bool) : Type 0 where
+  pub count : length flags ≡ length texts
+  pub each : (i : ℕ) → i < length texts → (slice_index_or flags i false ≡ true) ↔ Is (slice_index_or texts i [])

@@ -1,74 +1,21 @@
 -- With which pieces a drawing can go on after some lines.
-use Rattle.std.proofs.Common.{◌≡◌, ◌≢◌, ℕ, suc, ◌+◌, ◌<◌, ◌⊎◌, Bool, true, false, cond, List, [], ◌∷◌, ◌++◌, length, get_or, inl, inr, refl, sym, ap, ◌∙◌, subst, append_assoc, arith}
-use Rattle.std.proofs.lemmas.Bool.{cases_lt, eq-eqb, ne_eqb}
-use Rattle.std.proofs.lemmas.List.{append-nil, get_or_default}
+use Rattle.std.proofs.Common.{◌≡◌, ◌≢◌, ℕ, suc, ◌+◌, ◌<◌, ◌⊎◌, Bool, true, false, List, [], ◌∷◌, ◌++◌, codes, length, map, get_or, Result, Ok, Err, String, Global, string_bytes, inl, inr, refl, sym, ap, ◌∙◌, subst, append_assoc, arith}
+use Rattle.std.proofs.lemmas.Bool.{cases_lt}
+use Rattle.std.proofs.lemmas.List.{append-nil, get_or_default, get_or-map, length-map}
+use Rattle.std.specs.Prelude.{◌↔◌, Contains, IfOk}
 use Rattle.ptree.specs.declared.print_config.OutputKind.TheVariants.{Unknown}
 use Rattle.ptree.specs.Config.{ConfigValue}
-use Rattle.ptree.specs.Continuation.{HasContinuation, IsFirstWrongLine, EndsWrong, first_lines, line_count}
+use Rattle.ptree.specs.Continuation.{HasContinuation, IsFollowedBy, AreFlags}
 use Rattle.ptree.specs.Drawing.{Look, look_by, effective_style}
-use Rattle.ptree.specs.DrawnForm.{IsDrawnForm}
 use Rattle.ptree.specs.Pieces.{Pieces, turning_piece, passing_piece, passing_all, pieces_from}
 use Rattle.ptree.specs.Readable.{IsReadable, IsReadableWith}
 use Rattle.ptree.specs.Spelled.{ArePassing, ArePiecesAt}
 use Rattle.ptree.specs.Style.{style_codes}
-use Rattle.ptree.specs.Tree.{Tree}
-use Rattle.ptree.proofs.Drawing.Inserted.{is_feed}
 use Rattle.ptree.proofs.Pieces.Prefixes.{apart_not_both_starts, same_kind, same_prefix}
-use Rattle.ptree.proofs.Reading.Continuations.{goes_on_before}
-use Rattle.ptree.proofs.Reading.FirstLines.{first_rest, count_other}
 use Rattle.ptree.proofs.Styles.PaintedTexts.{plain_codes}
-use Rattle.trees.specs.Expected.{CanFollow, IsBeginning, IsUncoloured, ListsBeginnings, IsLastLine, AddsListed, EndsPieces, AreFronts, HasFronts}
-use Rattle.trees.proofs.DistinctTexts.{all_contained, distinct_at, adds_both}
+use Rattle.trees.specs.Expected.{CanFollow, IsBeginning, IsUncoloured, ListsBeginnings, IsLastLine, AreDistinct, AddsListed, AddsTexts, IsFlagged, EndsPieces, EndsFront, AreFronts, HasFronts}
+use Rattle.trees.proofs.DistinctTexts.{all_contained, distinct_at, adds_same, adds_both, texts_both}
 use Rattle.trees.proofs.NextFronts.{lets_front, IsPlainLook, each_let}
-
--- ## Whole lines
-
--- a line feed counts as a line
-count_feed : (b : ℕ) (x : List ℕ) → b ≡ 10 → line_count (b ∷ x) ≡ suc (line_count x)
-count_feed b x e =
-    let one : 1 + line_count x ≡ suc (line_count x) = omega arith in
-    ap (λ c. cond c (1 + line_count x) (line_count x)) (eq-eqb b 10 e) ∙ one
-
--- whole lines are at least one
-counts_some : (x : List ℕ) → (n : ℕ) × (line_count (x ++ 10 ∷ []) ≡ suc n)
-counts_some [] = (0, count_feed 10 [] refl)
-counts_some (b ∷ x) = elim (is_feed b) [
-  | inl feed ↦ (line_count (x ++ 10 ∷ []), count_feed b (x ++ 10 ∷ []) feed)
-  | inr other ↦ let (n, is) = counts_some x in (n, count_other b (x ++ 10 ∷ []) other ∙ is)
-]
-
--- whole lines are their own first lines
-whole_lines : (x : List ℕ) → first_lines (line_count (x ++ 10 ∷ [])) (x ++ 10 ∷ []) ≡ x ++ 10 ∷ []
-whole_lines [] = refl
-whole_lines (b ∷ x) =
-    let y : List ℕ = x ++ 10 ∷ [] in
-    elim (is_feed b) [
-      | inl feed ↦
-          ap (λ n. first_lines n (b ∷ y)) (count_feed b y feed)
-          ∙ (ap (λ c. b ∷ first_lines (cond c (line_count y) (suc (line_count y))) y) (eq-eqb b 10 feed) ∙ ap (λ z. b ∷ z) (whole_lines x))
-      | inr other ↦
-          let (n, is) = counts_some x in
-          ap (λ m. first_lines m (b ∷ y)) (count_other b y other ∙ is)
-          ∙ (ap (λ c. b ∷ first_lines (cond c n (suc n)) y) (ne_eqb b 10 other) ∙ (ap (λ m. b ∷ first_lines m y) (sym is) ∙ ap (λ z. b ∷ z) (whole_lines x)))
-    ]
-
--- ## Which lines can follow
-
--- a drawing begins with itself
-pub begins_itself : (k : Look) (depth : ℕ) (x : List ℕ) (t : Tree) → IsDrawnForm k depth x t → HasContinuation k depth x
-begins_itself k depth x t form = (t, [], subst (λ z. IsDrawnForm k depth z t) (sym (append-nil x)) form)
-
--- if only its end is wrong, a drawing begins with whole lines
-pub begins_incomplete : (k : Look) (depth : ℕ) (x y : List ℕ) → x ≡ y ++ 10 ∷ [] → EndsWrong k depth x → HasContinuation k depth x
-begins_incomplete k depth x y is ends =
-    let all : first_lines (line_count x) x ≡ x = ap (λ z. first_lines (line_count z) z) is ∙ (whole_lines y ∙ sym is) in
-    subst (HasContinuation k depth) all ends.lines
-
--- no drawing begins with a text that has a wrong line
-pub none_begins : (k : Look) (depth : ℕ) (x : List ℕ) (n : ℕ) → IsFirstWrongLine k depth x n → HasContinuation k depth x → ⊥
-none_begins k depth x n first goes =
-    let (rest, is) = first_rest n x in
-    first.wrong (goes_on_before k depth (first_lines n x) rest (subst (HasContinuation k depth) is goes))
 
 -- ## Pieces
 
@@ -111,32 +58,80 @@ one_piece p same front text (true, is) = is ∙ ap (λ z. front ++ z) same
 
 -- the pieces of an item behind one of the first fronts, with which a drawing can go on
 abbrev pub IsBehind : ConfigValue → List ℕ → Pieces → List (List ℕ) → ℕ → List ℕ → Type 0
-IsBehind config lines p fronts n text = CanFollow config lines text × ((k : ℕ) × (k < n) × EndsPieces p (get_or fronts k []) text)
+IsBehind config lines p fronts n text = CanFollow config lines text × EndsFront p fronts n text
 
 -- behind none of them there is none
-pub behind_none : (config : ConfigValue) (lines : List ℕ) (p : Pieces) (fronts : List (List ℕ)) (text : List ℕ) → IsBehind config lines p fronts 0 text → ⊥
-behind_none config lines p fronts text so = omega (arith, so.1.1)
+pub behind_none : (p : Pieces) (fronts : List (List ℕ)) (text : List ℕ) → EndsFront p fronts 0 text → ⊥
+behind_none p fronts text so = omega (arith, so.1)
 
 -- the pieces behind one front more
-pub next_listed : (config : ConfigValue) (lines : List ℕ) (p : Pieces) → IsReadable p
-    → (fronts : List (List ℕ)) → AreFronts p fronts → (i : ℕ) (front : List ℕ) → i < length fronts → front ≡ get_or fronts i [] → (a b : List ℕ)
-    → AddsListed (IsBehind config lines p fronts i) [] a → AddsListed (λ text. CanFollow config lines text × EndsPieces p front text) a b
-    → AddsListed (IsBehind config lines p fronts (i + 1)) [] b
-next_listed config lines p readable fronts are i front low is a b before added =
+pub next_items : (p : Pieces) → IsReadable p → (fronts : List (List ℕ)) → AreFronts p fronts → (i : ℕ) (front : List ℕ) → i < length fronts → front ≡ get_or fronts i [] → (a b : List (List ℕ))
+    → AddsTexts (EndsFront p fronts i) [] a → AddsTexts (EndsPieces p front) a b → AddsTexts (EndsFront p fronts (i + 1)) [] b
+next_items p readable fronts are i front low is a b before added =
     let (n, passes) = subst (λ z. (level : ℕ) × ArePassing p level z) (sym is) (are.0 i [] low) in
-    adds_both (IsBehind config lines p fronts i) (λ text. CanFollow config lines text × EndsPieces p front text) (IsBehind config lines p fronts (i + 1))
-    (λ text so. (so.0, (so.1.0, omega (arith, so.1.1), so.1.2)))
-    (λ text new. (new.0, (i, omega arith, subst (λ z. EndsPieces p z text) is new.1)))
-    (λ text so. elim (cases_lt so.1.0 i) [
-      | inl less ↦ inl (so.0, (so.1.0, less, so.1.2))
-      | inr more ↦
-          let same : so.1.0 ≡ i = omega (arith, so.1.1, more) in
-          inr (so.0, subst (λ z. EndsPieces p z text) (ap (λ k. get_or fronts k []) same ∙ sym is) so.1.2)
+    texts_both (EndsFront p fronts i) (EndsPieces p front) (EndsFront p fronts (i + 1))
+    (λ text so. (so.0, omega (arith, so.1), so.2))
+    (λ text new. (i, omega arith, subst (λ z. EndsPieces p z text) is new))
+    (λ text so. elim (cases_lt so.0 i) [
+      | inl less ↦ inl (so.0, less, so.2)
+      | inr more ↦ let same : so.0 ≡ i = omega (arith, so.1, more) in inr (subst (λ z. EndsPieces p z text) (ap (λ k. get_or fronts k []) same ∙ sym is) so.2)
     ])
     (λ x y so new.
-    let (m, passed) = are.0 so.1.0 [] (omega (arith, so.1.1)) in
-    behind_apart p readable m n (get_or fronts so.1.0 []) front x y passed passes (λ e. distinct_at fronts so.1.0 i are.1 so.1.1 low (e ∙ is)) so.1.2 new.1)
+    let (m, passed) = are.0 so.0 [] (omega (arith, so.1)) in
+    behind_apart p readable m n (get_or fronts so.0 []) front x y passed passes (λ e. distinct_at fronts so.0 i are.1 so.1 low (e ∙ is)) so.2 new)
     [] a b before added
+
+-- ## Flags
+
+-- of no texts none has its flag set
+pub flagged_none : (texts : List (List ℕ)) (flags : List Bool) (text : List ℕ) → IsFlagged texts flags 0 text → ⊥
+flagged_none texts flags text so = omega (arith, so.1)
+
+-- one text more, if its flag is set
+pub next_flagged : (texts : List (List ℕ)) (flags : List Bool) → AreDistinct texts → (i : ℕ) (text : List ℕ) → i < length texts → text ≡ get_or texts i [] → (a b : List ℕ) → AddsListed (IsFlagged texts flags i) [] a
+    → AddsListed (λ x. (get_or flags i false ≡ true) × (x ≡ text)) a b → AddsListed (IsFlagged texts flags (i + 1)) [] b
+next_flagged texts flags once i text low is a b before added =
+    adds_both (IsFlagged texts flags i) (λ x. (get_or flags i false ≡ true) × (x ≡ text)) (IsFlagged texts flags (i + 1))
+    (λ x so. (so.0, omega (arith, so.1), so.2, so.3))
+    (λ x new. (i, omega arith, new.0, new.1 ∙ is))
+    (λ x so. elim (cases_lt so.0 i) [
+      | inl less ↦ inl (so.0, less, so.2, so.3)
+      | inr more ↦
+          let same : so.0 ≡ i = omega (arith, so.1, more) in
+          inr (subst (λ k. get_or flags k false ≡ true) same so.2, so.3 ∙ (ap (λ k. get_or texts k []) same ∙ sym is))
+    ])
+    (λ x y so new e. distinct_at texts so.0 i once so.1 low (sym so.3 ∙ (e ∙ (new.1 ∙ is))))
+    [] a b before added
+
+-- the flags of lines that begin with the pieces of items list those with which a drawing can go on
+pub follows_listed : (config : ConfigValue) (lines : List ℕ) (p : Pieces) (fronts texts : List (List ℕ)) (n : ℕ) (flags : List Bool) (listed : List ℕ) → AddsTexts (EndsFront p fronts n) [] texts
+    → AreFlags (IsFollowedBy (look_by config Unknown false) config.depth lines) (map (λ text. text ++ codes "x") texts) flags → AddsListed (IsFlagged texts flags (length flags)) [] listed
+    → AddsListed (IsBehind config lines p fronts n) [] listed
+follows_listed config lines p fronts texts n flags listed h are added =
+    let within : (x : List ℕ) → Contains texts x ↔ EndsFront p fronts n x = subst (λ z. (x : List ℕ) → Contains z x ↔ EndsFront p fronts n x) (sym h.1) h.2 in
+    adds_same (IsFlagged texts flags (length flags)) (IsBehind config lines p fronts n) [] listed
+    (λ x so.
+    let low : so.0 < length texts = omega (arith, so.1, count) in
+    (subst (CanFollow config lines) (sym so.3) ((follows so.0 low).0 so.2), (within x).0 (so.0, low, get_or_default texts so.0 x [] low ∙ sym so.3)))
+    (λ x so.
+    let (k, low, there) = (within x).1 so.1 in
+    let is : x ≡ get_or texts k [] = sym (get_or_default texts k [] x low ∙ there) in
+    (k, omega (arith, low, count), (follows k low).1 (subst (CanFollow config lines) is so.0), is)) added
+  where
+    count : length flags ≡ length texts
+    count = are.count ∙ length-map texts (λ text. text ++ codes "x")
+
+    follows : (k : ℕ) → k < length texts → (get_or flags k false ≡ true) ↔ CanFollow config lines (get_or texts k [])
+    follows k low =
+        let x : List ℕ = get_or texts k [] in
+        let line : get_or (map (λ text. text ++ codes "x") texts) k [] ≡ x ++ codes "x" = get_or-map (λ text. text ++ codes "x") texts k [] [] low in
+        subst (λ z. (get_or flags k false ≡ true) ↔ HasContinuation (look_by config Unknown false) config.depth (lines ++ z)) (ap (λ z. z ++ 10 ∷ []) line ∙ append_assoc x (codes "x") (10 ∷ []))
+        (are.each k (rw length-map low))
+
+-- what is made of a list is what is made of its texts
+pub if_listed : {E : Type 0} (P Q : List ℕ → Type 0) (r : Result (String Global) E) → ((x : List ℕ) → P x → Q x) → IfOk r (λ s. P (string_bytes s)) → IfOk r (λ s. Q (string_bytes s))
+if_listed P Q (Ok s) f h = f (string_bytes s) h
+if_listed P Q (Err e) f h = tt
 
 -- drawings that are not coloured have no codes
 plain_look : (config : ConfigValue) → IsUncoloured config → IsPlainLook (look_by config Unknown false)

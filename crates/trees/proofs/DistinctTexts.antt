@@ -44,12 +44,24 @@ IsListOf P xs = (x : List ℕ) → Contains xs x ↔ P x
 one_text : (P : List ℕ → Type 0) (text : List ℕ) → P text → ((x : List ℕ) → P x → x ≡ text) → IsListOf P (text ∷ [])
 one_text P text holds only x = (λ there. subst P (sym (contains_one x text there)) holds, λ p. subst (Contains (text ∷ [])) (sym (only x p)) (Contains-push [] text))
 
+-- exactly the texts of which P holds are in a list, each once
+abbrev pub IsListOnce : (List ℕ → Type 0) → List (List ℕ) → Type 0
+IsListOnce P xs = IsListOf P xs × AreDistinct xs
+
 -- those of one of two kinds are in two lists
 list_both : (P Q R : List ℕ → Type 0) → ((x : List ℕ) → P x → R x) → ((x : List ℕ) → Q x → R x) → ((x : List ℕ) → R x → P x ⊎ Q x) → (xs ys : List (List ℕ))
     → IsListOf P xs → IsListOf Q ys → IsListOf R (xs ++ ys)
 list_both P Q R f g back xs ys h k x = (
   λ there. elim (Contains-append_cases xs ys x there) [ inl l ↦ f x ((h x).0 l) | inr r ↦ g x ((k x).0 r) ],
   λ holds. elim (back x holds) [ inl p ↦ Contains-append_left xs ys x ((h x).1 p) | inr q ↦ Contains-append_right xs ys x ((k x).1 q) ],
+)
+
+-- each once, if the two lists have none in common
+list_both_once : (P Q R : List ℕ → Type 0) → ((x : List ℕ) → P x → R x) → ((x : List ℕ) → Q x → R x) → ((x : List ℕ) → R x → P x ⊎ Q x) → ((x y : List ℕ) → P x → Q y → x ≢ y) → (xs ys : List (List ℕ))
+    → IsListOnce P xs → IsListOnce Q ys → IsListOnce R (xs ++ ys)
+list_both_once P Q R f g back apart xs ys h k = (
+  list_both P Q R f g back xs ys h.0 k.0,
+  distinct_both xs ys h.1 k.1 (all_apart P Q apart xs ys (all_contained P xs (λ x there. (h.0 x).0 there)) (all_contained Q ys (λ x there. (k.0 x).0 there))),
 )
 
 -- ## Lists
@@ -74,12 +86,13 @@ adds_same P Q a b f g h = (h.0, h.1, λ x. (λ there. f x ((h.2 x).0 there), λ 
 -- texts of two kinds that have none in common are added
 pub adds_both : (P Q R : List ℕ → Type 0) → ((x : List ℕ) → P x → R x) → ((x : List ℕ) → Q x → R x) → ((x : List ℕ) → R x → P x ⊎ Q x) → ((x y : List ℕ) → P x → Q y → x ≢ y)
     → (a b c : List ℕ) → AddsListed P a b → AddsListed Q b c → AddsListed R a c
-adds_both P Q R f g back apart a b c (xs, first, p, d) (ys, second, q, e) = (
-  xs ++ ys,
-  second ∙ (ap (λ z. z ++ listed_texts ys) first ∙ (append_assoc a (listed_texts xs) (listed_texts ys) ∙ ap (λ z. a ++ z) (sym (flat_map-append (λ text. codes "\n  " ++ text) xs ys)))),
-  list_both P Q R f g back xs ys p q,
-  distinct_both xs ys d e (all_apart P Q apart xs ys (all_contained P xs (λ x there. (p x).0 there)) (all_contained Q ys (λ x there. (q x).0 there))),
-)
+adds_both P Q R f g back apart a b c (xs, first, p, d) (ys, second, q, e) =
+    let once = list_both_once P Q R f g back apart xs ys (p, d) (q, e) in (
+      xs ++ ys,
+      second ∙ (ap (λ z. z ++ listed_texts ys) first ∙ (append_assoc a (listed_texts xs) (listed_texts ys) ∙ ap (λ z. a ++ z) (sym (flat_map-append (λ text. codes "\n  " ++ text) xs ys)))),
+      once.0,
+      once.1,
+    )
 
 -- ## Texts
 
@@ -99,6 +112,13 @@ texts_two Is a b c x y first second apart p q only = (
   list_both (λ z. z ≡ x) (λ z. z ≡ y) Is (λ z e. subst Is (sym e) p) (λ z e. subst Is (sym e) q) only (x ∷ []) (y ∷ []) (one_text (λ z. z ≡ x) x refl (λ z e. e)) (one_text (λ z. z ≡ y) y refl (λ z e. e)),
   (All-cons (λ z. x ≢ z) y [] apart (All-nil (λ z. x ≢ z)), (All-nil (λ z. y ≢ z), tt)),
 )
+
+-- texts of two kinds that have none in common are added
+pub texts_both : (P Q R : List ℕ → Type 0) → ((x : List ℕ) → P x → R x) → ((x : List ℕ) → Q x → R x) → ((x : List ℕ) → R x → P x ⊎ Q x) → ((x y : List ℕ) → P x → Q y → x ≢ y)
+    → (a b c : List (List ℕ)) → AddsTexts P a b → AddsTexts Q b c → AddsTexts R a c
+texts_both P Q R f g back apart a b c (xs, first, p, d) (ys, second, q, e) =
+    let once = list_both_once P Q R f g back apart xs ys (p, d) (q, e) in
+    (xs ++ ys, second ∙ (ap (λ z. z ++ ys) first ∙ append_assoc a xs ys), once.0, once.1)
 
 -- a text behind others
 pub bytes_push : (a b : List (String Global)) (s : String Global) (text : List ℕ) → b ≡ a ++ s ∷ [] → string_bytes s ≡ text → map string_bytes b ≡ map string_bytes a ++ text ∷ []

@@ -4,10 +4,12 @@ pub mod DeepLines
 pub mod Differences
 pub mod DistinctTexts
 pub mod Elements
+pub mod EscapedLines
 pub mod Examples
 pub mod Fronts
 pub mod GivenPaths
 pub mod FrontsTried
+pub mod LevelSteps
 pub mod LineCuts
 pub mod LineWords
 pub mod Listings

@@ -1,14 +1,14 @@
 -- Texts cut at their line feeds.
-use Rattle.std.proofs.Common.{◌≡◌, ◌≢◌, ℕ, ◌<◌, ◌⊎◌, inl, inr, Option, Some, None, List, [], ◌∷◌, ◌++◌, take, drop, refl, sym, ap, ◌∙◌, subst, append_assoc, arith}
-use Rattle.std.proofs.lemmas.List.{append-nil, append_cancel_right, take-append-drop}
+use Rattle.std.proofs.Common.{◌≡◌, ◌≢◌, ℕ, ◌⊎◌, inl, inr, Option, Some, None, List, [], ◌∷◌, ◌++◌, take, drop, refl, sym, ap, ◌∙◌, subst, append_assoc}
+use Rattle.std.proofs.lemmas.List.{append-nil, append_cancel_right}
 use Rattle.std.proofs.lemmas.List.Elements.{All-push}
-use Rattle.std.proofs.lemmas.Str.Pattern.{drop_at_char, NoCharPasses-char}
 use Rattle.std.specs.Borrow.{Bor}
 use Rattle.std.specs.Prelude.{MatchOption, unwrap_or}
 use Rattle.std.specs.Str.Pattern.{RFindsChar}
 use Rattle.ptree.specs.Drawing.{with_inserted}
 use Rattle.ptree.specs.Texts.{HasNoLineFeed}
-use Rattle.ptree.proofs.Drawing.Inserted.{is_feed, inserted_feed, inserted_other, no_line_feed_from_reads}
+use Rattle.ptree.proofs.Drawing.Inserted.{is_feed, inserted_feed, inserted_other}
+use Rattle.ptree.proofs.Reading.LineEnds.{last_feed, no_feed}
 use Rattle.ptree.proofs.Reading.OwnBytes.{holds_line_feed}
 use Rattle.trees.specs.Expected.{IsLastLine}
 
@@ -98,14 +98,8 @@ stripped text (Some x) whole left ends is front e = ap (λ (y : Bor (List ℕ)).
 
 -- what is behind the last line feed is the last line
 pub behind_last : (text line : List ℕ) (i j : ℕ) → RFindsChar 10 text (Some (i, j)) → line ≡ drop j text → IsLastLine text line
-behind_last text line i j h is =
-    let low : 10 < 128 = omega arith in
-    inr (
-      take i text,
-      sym (take-append-drop i text) ∙ ap (λ z. take i text ++ z) (drop_at_char 10 text i j h.1 low ∙ ap (λ z. 10 ∷ z) (sym is)),
-      subst HasNoLineFeed (sym is) (no_line_feed_from_reads (drop j text) (λ k inside. NoCharPasses-char 10 (drop j text) k h.0 low inside)),
-    )
+behind_last text line i j h is = let (cut, one) = last_feed text line i j h is in inr (take i text, cut, one)
 
 -- one line has none
 pub no_last : (text : List ℕ) → RFindsChar 10 text None → IsLastLine text []
-no_last text h = inl (no_line_feed_from_reads text (λ k inside. NoCharPasses-char 10 text k h (omega arith) inside), refl)
+no_last text h = inl (no_feed text h, refl)

@@ -1,21 +1,21 @@
 -- Which needs lead to no package.
-use Rattle.std.proofs.Common.{◌≡◌, ◌∙◌, ℕ, ◌<◌, List, length, get_or, map, sym, ap, subst, arith}
+use Rattle.std.proofs.Common.{◌≡◌, ◌∙◌, ℕ, ◌<◌, Bool, false, List, length, get_or, map, refl, sym, ap, subst, arith}
 use Rattle.std.proofs.lemmas.Bool.{false≢true}
 use Rattle.std.proofs.lemmas.List.{get_or-map, length-map}
 use Rattle.std.proofs.lemmas.Option.{slice_get-map}
 use Rattle.std.specs.List.{All}
 use Rattle.std.specs.Prelude.{Some, None, is_some, option_map, slice_get, String}
 use Rattle.std.specs.declared.alloc.Global.{Global}
-use Rattle.toml.specs.Data.{Data, as_array, as_table}
+use Rattle.toml.specs.Data.{Data, table, Members, as_array, as_table}
 use Rattle.toml.specs.View.{view, items_view, members_view}
 use Rattle.toml.specs.declared.value.Value.{Value}
 use Rattle.trees.specs.declared.deps.packages.Fault.{Fault}
 use Rattle.trees.specs.declared.deps.packages.Fault.TheVariants.{Missing, Several}
 use Rattle.trees.specs.declared.deps.packages.Need.{Need}
-use Rattle.trees.specs.Locking.{Package, Known, values_of, AreLed, IsLed, IsNeed, IsNeeded, Leads}
+use Rattle.trees.specs.Locking.{Package, Known, values_of, AreLed, IsLed, IsNeed, IsNeeded, Leads, OwnLead}
 use Rattle.trees.specs.LockingParts.{known_of, IsFaulty, IsFound}
 use Rattle.trees.proofs.Elements.{listed_at}
-use Rattle.trees.proofs.LockedEntries.{list_entries, values_seen}
+use Rattle.trees.proofs.LockedEntries.{is_table, list_entries, values_seen}
 use Rattle.trees.proofs.LockedPackages.{nothing}
 
 module _ (packages : List Package) where
@@ -34,6 +34,10 @@ module _ (packages : List Package) where
 
   pub no_list : (d : Data) → None ≡ as_array d → IsLed packages d → ⊥
   no_list d none led = false≢true (ap is_some none ∙ led.list)
+
+  -- a table, where there is no hash
+  pub table_unhashed : (hash : Bool) (d : Data) (ms : Members) → hash ≡ false → Some ms ≡ as_table d → OwnLead hash packages d → ⊥
+  table_unhashed hash d ms none e own = no_list (table ms) refl (subst (IsLed packages) (is_table d ms e) (subst (λ h. OwnLead h packages d) none own))
 
   -- an entry of a list
   pub entry_led : (d : Data) (vs : List Value) (i : ℕ) (v : Value) → Some (items_view vs) ≡ as_array d → i < length vs → v ≡ get_or vs i v → IsLed packages d → (at : ℕ) × Leads packages (view v) at

@@ -71,9 +71,9 @@ line_texts form [] line kept = tt
 line_texts form (l ∷ o) line kept = (line_text form.bullet.now l.text line kept.0, line_texts form o line kept.1)
 
 -- so if one of them cannot, not all are read again
-pub loses_text : (indented : Indented) (t : Tree) (form : Form) → form.bullet.now ≡ text_or indented.bullet [] → (indented.is_terminal ≡ false → AreLineTexts form (outline t) → ⊥) → LosesText indented t
+pub loses_text : (indented : Indented) (t : Tree) (form : Form) → form.bullet.now ≡ text_or indented.bullet [] → (AreLineTexts form (outline t) → ⊥) → LosesText indented t
 loses_text indented t form same wrong right kept =
-    wrong right.1 (line_texts form (outline t) (subst IsLineText (sym same) right.0.bullet.0) (subst (λ (b : List ℕ). AllByRecursion (λ (l : Line). IsKeptText b l.text) (outline t)) (sym same) kept.texts))
+    wrong (line_texts form (outline t) (subst IsLineText (sym same) right.bullet.0) (subst (λ (b : List ℕ). AllByRecursion (λ (l : Line). IsKeptText b l.text) (outline t)) (sym same) kept.texts))
 
 -- ## Texts one by one
 

@@ -25,11 +25,11 @@ source_text source = unmarked (string_bytes source.text)
 
 -- the names of files that are other lists of dependencies, or none
 abbrev pub other_names : List (List ℕ)
-other_names = codes "pnpm-lock.yaml" ∷ codes "yarn.lock" ∷ codes "Cargo.toml" ∷ codes "package.json" ∷ codes "pyproject.toml" ∷ codes "go.mod" ∷ []
+other_names = codes "pnpm-lock.yaml" ∷ codes "yarn.lock" ∷ codes "pdm.lock" ∷ codes "composer.lock" ∷ codes "Cargo.toml" ∷ codes "package.json" ∷ codes "pyproject.toml" ∷ codes "go.mod" ∷ []
 
--- the beginnings of lines that only lock files of pnpm and yarn, and `go.mod` have
+-- the beginnings of lines that only lock files of pnpm, yarn, PDM and Composer, and `go.mod` have
 abbrev pub other_starts : List (List ℕ)
-other_starts = codes "lockfileVersion:" ∷ codes "# yarn lockfile " ∷ codes "__metadata:" ∷ codes "go 1." ∷ []
+other_starts = codes "lockfileVersion:" ∷ codes "# yarn lockfile " ∷ codes "__metadata:" ∷ codes "go 1." ∷ codes "lock_version = " ∷ codes "    \"_readme\": [" ∷ []
 
 -- whether a line begins so
 abbrev pub is_other_line : List ℕ → Bool

@@ -16,11 +16,12 @@ use Rattle.ptree_trees.specs.WrittenDocument.{IsJsonTree, IsTomlTree}
 use Rattle.trees.specs.declared.command.Document.{Document}
 use Rattle.trees.specs.declared.failure.Failure.{Failure}
 use Rattle.trees.specs.declared.source.Source.{Source}
+use Rattle.trees.specs.Listing.{unmarked}
 use Rattle.trees.specs.Reading.{IsInput, Says, SaysAt}
 
--- the document of a text, if it is one of the format
+-- the document of a text, if it is one of the format; a byte order mark before it doesn't count
 abbrev pub document_in : DocFormat → List ℕ → Option FileNode
-document_in Json text = option_map json (read text)
+document_in Json text = option_map json (read (unmarked text))
 document_in Toml text = toml_document text
 
 -- the source's text is this document
@@ -142,11 +143,16 @@ abbrev pub IsFirstMissing : List (List ℕ) → FileNode → List ℕ → Type 0
 IsFirstMissing steps whole key =
     (front : List (List ℕ)) × (behind : List (List ℕ)) × (part : FileNode) × (steps ≡ front ++ key ∷ behind) × LeadsBy front whole part × FindsPart part key None
 
+-- keys as they are shown: the empty text as two quotation marks
+abbrev pub shown_keys : List ℕ → List ℕ
+shown_keys [] = codes "''"
+shown_keys (b ∷ keys) = b ∷ keys
+
 -- the failure says that nothing is at some keys, and which of these steps is the first that leads to
 -- nothing
 abbrev pub SaysMissing : Source → List ℕ → List (List ℕ) → FileNode → Failure → Type 0
 SaysMissing source at steps whole e =
-    (key : List ℕ) × IsFirstMissing steps whole key × Says source (codes "nothing at " ++ (at ++ (codes ": there is no " ++ key))) e
+    (key : List ℕ) × IsFirstMissing steps whole key × Says source (codes "nothing at " ++ (shown_keys at ++ (codes ": there is no " ++ shown_keys key))) e
 
 -- the same of the keys asked for
 abbrev pub NamesMissing : Source → Option (Bor (List ℕ)) → FileNode → Failure → Type 0

@@ -1,5 +1,5 @@
 -- What could stand in the place of a wrong line.
-use Rattle.std.specs.Prelude.{◌≡◌, ◌≢◌, ◌↔◌, ◌⊎◌, ◌<◌, ◌≤◌, ◌-◌, ⊤, ℕ, suc, Bool, false, List, [], ◌∷◌, ◌++◌, length, All, Contains, flat_map, codes}
+use Rattle.std.specs.Prelude.{◌≡◌, ◌≢◌, ◌↔◌, ◌⊎◌, ◌<◌, ◌≤◌, ◌-◌, ⊤, ℕ, suc, Bool, true, false, List, [], ◌∷◌, ◌++◌, length, slice_index_or, All, Contains, flat_map, codes}
 use Rattle.ptree.specs.declared.print_config.OutputKind.TheVariants.{Unknown}
 use Rattle.ptree.specs.Config.{ConfigValue, is_styled}
 use Rattle.ptree.specs.Continuation.{HasContinuation, first_lines, line_count}
@@ -106,6 +106,14 @@ AddsTexts Is old new = (texts : List (List ℕ)) × (new ≡ old ++ texts) × ((
 -- a text, and an item's piece behind it
 abbrev pub EndsPieces : Pieces → List ℕ → List ℕ → Type 0
 EndsPieces p front text = (last : Bool) × (text ≡ front ++ turning_piece p last)
+
+-- a text of the first n ones, and an item's piece behind it
+abbrev pub EndsFront : Pieces → List (List ℕ) → ℕ → List ℕ → Type 0
+EndsFront p fronts n text = (k : ℕ) × (k < n) × EndsPieces p (slice_index_or fronts k []) text
+
+-- one of the first n texts, and its flag is set
+abbrev pub IsFlagged : List (List ℕ) → List Bool → ℕ → List ℕ → Type 0
+IsFlagged texts flags n text = (k : ℕ) × (k < n) × (slice_index_or flags k false ≡ true) × (text ≡ slice_index_or texts k [])
 
 -- a text, and the passing piece behind it of an item whose own line goes on so
 abbrev pub EndsBelow : Pieces → List ℕ → List ℕ → List ℕ → Type 0

@@ -16,6 +16,8 @@ pub mod Changing
 pub mod Listing
 -- what the parts of reading paths do
 pub mod ListingParts
+-- how many levels there are
+pub mod Levels
 -- merges of two trees
 pub mod Merging
 -- what the parts of merging do

@@ -249,7 +249,7 @@ pub record HasFormat (d : Data) : Type 0 where
 
 -- ## Lock files
 
--- whether a lock file has a hash of what it was made from, as each poetry.lock has
+-- whether a lock file has a hash of what it was made from, as Poetry writes it
 abbrev pub has_hash : Data → Bool
 has_hash d = is_some (option_and_then (get (codes "content-hash")) (get (codes "metadata") d))
 

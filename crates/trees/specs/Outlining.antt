@@ -141,9 +141,9 @@ pub record HasRightOptions (indented : Indented) : Type 0 where
 abbrev pub CanReadBack : Indented → Type 0
 CanReadBack indented = HasRightOptions indented × (indented.is_terminal ≡ false)
 
--- not all texts of t are read again, though what is written can be
+-- not all texts of t are read again, though the options are right; where it is written doesn't count
 abbrev pub LosesText : Indented → Tree → Type 0
-LosesText indented t = CanReadBack indented → AreKeptTexts indented.bullet t → ⊥
+LosesText indented t = HasRightOptions indented → AreKeptTexts indented.bullet t → ⊥
 
 -- the options of `outline` are those of `indented`, and no label is given
 pub record HasSameOptions (indented : Indented) (outline : Outline) : Type 0 where

@@ -1,6 +1,7 @@
 -- What calls write.
 use Rattle.std.specs.Io.KnownBytes.{Appends}
-use Rattle.std.specs.Prelude.{◌≡◌, ◌<◌, ◌≤◌, ◌⊎◌, ⊤, ℕ, Bool, true, false, if◌then◌else◌, List, [], Option, None, Result, Ok, Err, IsErr, OnOk, codes, string_bytes}
+use Rattle.std.specs.List.{AllByRecursion}
+use Rattle.std.specs.Prelude.{◌≡◌, ◌<◌, ◌≤◌, ◌⊎◌, ⊤, ℕ, Bool, true, false, if◌then◌else◌, List, [], ◌++◌, Option, None, Result, Ok, Err, IsErr, OnOk, codes, string_bytes}
 use Rattle.ptree.specs.declared.print_config.OutputKind.TheVariants.{Unknown}
 use Rattle.ptree.specs.declared.print_config.Sources.{Sources}
 use Rattle.ptree.specs.declared.print_config.StyleWhen.TheVariants.{Never}
@@ -9,11 +10,12 @@ use Rattle.ptree.specs.Config.{ConfigValue}
 use Rattle.ptree.specs.Drawing.{look_by, IsDrawing}
 use Rattle.ptree.specs.Graph.{edges_of, neighbors_of, node_shape}
 use Rattle.ptree.specs.Loading.{effective_config}
+use Rattle.ptree.specs.Outline.{outline}
 use Rattle.ptree.specs.Occurrence.{OccurrenceTree, IsExpandedOnce, occurrence_shape}
 use Rattle.ptree.specs.Tree.{Tree, tree_of, shape_of_tree}
 use Rattle.ptree.specs.Writing.{AppendsPart}
 use Rattle.ptree_trees.specs.Escape.{escaped_text, mapped_tree}
-use Rattle.ptree_trees.specs.Indented.{IsIndentedForm}
+use Rattle.ptree_trees.specs.Indented.{IsLineText, IsIndentedForm}
 use Rattle.ptree_trees.specs.declared.indented.Form.{Form}
 use Rattle.trees.specs.declared.command.Command.{Command}
 use Rattle.trees.specs.declared.command.Command.TheVariants as command
@@ -34,6 +36,7 @@ use Rattle.trees.specs.declared.source.Source.{Source}
 use Rattle.trees.specs.Asked.{drawing_value, reading_value}
 use Rattle.trees.specs.Changing.{IsConverted, FailsToConvert}
 use Rattle.trees.specs.Documents.{IsPartTree, NamesWrong}
+use Rattle.trees.specs.Levels.{HasMoreLevels}
 use Rattle.trees.specs.Listing.{IsListed, FailsToList}
 use Rattle.trees.specs.Meaning.{HoldsNoGraph, IsGraphOf}
 use Rattle.trees.specs.Merging.{IsComparison, IsMergeDrawing, IsMergeCode}
@@ -98,11 +101,15 @@ IsGraphDrawing config found false bytes =
     (t : OccurrenceTree) × IsExpandedOnce (neighbors_of (edges_of found.graph)) found.root.0 config.depth t
     × IsDrawing (look_by config Unknown false) (occurrence_shape string_bytes found.graph (codes " (*)") t) config.depth bytes
 
+-- more than 5,000 levels of a graph are asked for, and there are more
+abbrev pub IsGraphTooDeep : ConfigValue → Dependencies → Bool → Type 0
+IsGraphTooDeep config found walks = (5000 < config.depth) × HasMoreLevels (edges_of found.graph) found.root.0 walks
+
 -- a tree, a graph, or a merge of two trees is drawn. Of a merge the call never succeeds, and of a graph
--- it says that the input is wrong only if more than 5,000 levels are asked for
+-- it says that the input is wrong only if it is too deep
 abbrev pub WritesDrawn : {A : Type 0} → ConfigValue → Bool → Drawn → Option (List ℕ) → Option (List ℕ) → Result A Failure → Type 0
 WritesDrawn config is_terminal (drawn.Tree item) old new result = Writes old new result (IsTreeDrawing config is_terminal (tree_of item.now)) (λ e. e ≡ Memory)
-WritesDrawn config is_terminal (drawn.Graph source found walks) old new result = Writes old new result (IsGraphDrawing config found.now walks) (FailsFor (5000 < config.depth) ⊥)
+WritesDrawn config is_terminal (drawn.Graph source found walks) old new result = Writes old new result (IsGraphDrawing config found.now walks) (FailsFor (IsGraphTooDeep config found.now walks) ⊥)
 WritesDrawn config is_terminal (drawn.Both left right) old new result =
     IsErr result × WritesRefusal old new result (IsMergeDrawing config is_terminal (tree_of left.now) (tree_of right.now)) (λ e. e ≡ Memory)
 
@@ -116,6 +123,10 @@ IsDrawingOf sources drawing Is bytes = (t : Tree) × Is t × IsTreeDrawing (draw
 -- the bullet escaped
 abbrev pub IsShownForm : Bool → List ℕ → List ℕ → Tree → List ℕ → Type 0
 IsShownForm is_terminal unit bullet t bytes = (form : Form) × (form.unit.now ≡ unit) × (form.bullet.now ≡ shown_text is_terminal bullet) × IsIndentedForm form bytes (shown_tree is_terminal t)
+
+-- each text of a tree as it is written, with the bullet before it, can stand after an indent
+abbrev pub AreShownTexts : Bool → List ℕ → Tree → Type 0
+AreShownTexts is_terminal bullet t = AllByRecursion (λ l. IsLineText (shown_text is_terminal bullet ++ l.text)) (outline (shown_tree is_terminal t))
 
 -- the bytes are what `indented` writes of a tree
 abbrev pub IsIndented : Indented → Tree → List ℕ → Type 0
@@ -160,10 +171,15 @@ abbrev pub IsNeedsDrawing : Sources → Source → Deps → Drawing → List ℕ
 IsNeedsDrawing sources source deps drawing bytes =
     (d : Dependencies) × IsGraphOf source deps.root deps.is_inverse drawing.screen.is_terminal d × IsGraphDrawing (drawing_value sources drawing) d deps.walks bytes
 
+-- the source means a graph that is too deep for what is asked
+abbrev pub MeansTooDeep : Sources → Source → Deps → Drawing → Type 0
+MeansTooDeep sources source deps drawing =
+    (d : Dependencies) × IsGraphOf source deps.root deps.is_inverse drawing.screen.is_terminal d × IsGraphTooDeep (drawing_value sources drawing) d deps.walks
+
 -- what each failure before anything is written says: the source is not understood, or means no graph with the
--- root that is asked for, or more than 5,000 levels are asked for, or memory ran out
+-- root that is asked for, or one that is too deep, or memory ran out
 abbrev pub FailsToDepend : Sources → Source → Deps → Drawing → Failure → Type 0
-FailsToDepend sources source deps drawing = FailsFor (HoldsNoGraph source deps.root deps.is_inverse ⊎ (5000 < (drawing_value sources drawing).depth)) ⊥
+FailsToDepend sources source deps drawing = FailsFor (HoldsNoGraph source deps.root deps.is_inverse ⊎ MeansTooDeep sources source deps drawing) ⊥
 
 -- the drawing of the graph of an input is written
 abbrev pub DrawsNeeds : {A : Type 0} → Sources → Source → Deps → Drawing → Option (List ℕ) → Option (List ℕ) → Result A Failure → Type 0

@@ -27,6 +27,10 @@ const PNPM: &str = "lock files of pnpm are not supported";
 
 const YARN: &str = "lock files of yarn are not supported";
 
+const PDM: &str = "lock files of PDM are not supported";
+
+const COMPOSER: &str = "lock files of Composer are not supported";
+
 const MANIFEST: &str = "not a lock file; use the one beside it";
 
 const GO: &str = "not a lock file; use what `go mod graph` prints";
@@ -197,6 +201,8 @@ fn name_not_read(name: &str) -> Option<&'static str>
     match name {
         "pnpm-lock.yaml" => Some(PNPM),
         "yarn.lock" => Some(YARN),
+        "pdm.lock" => Some(PDM),
+        "composer.lock" => Some(COMPOSER),
         "Cargo.toml" | "package.json" | "pyproject.toml" => Some(MANIFEST),
         "go.mod" => Some(GO),
         _ => None,
@@ -213,6 +219,10 @@ fn line_not_read(line: &str) -> Option<&'static str>
         Some(YARN)
     } else if line.starts_with("go 1.") {
         Some(GO)
+    } else if line.starts_with("lock_version = ") {
+        Some(PDM)
+    } else if line.starts_with("    \"_readme\": [") {
+        Some(COMPOSER)
     } else {
         None
     }

@@ -7,7 +7,7 @@ ghost use Rattle.ptree.specs.declared.value.document.DocFormat.TheVariants.{Json
 ghost use Rattle.ptree.specs.File.{FileNode, json, toml};
 ghost use Rattle.ptree.specs.Tree.{tree_of};
 ghost use Rattle.ptree_trees.specs.RefusedPath.{Path, step_of, path_of};
-ghost use Rattle.trees.specs.Documents.{IsDocumentOf, FindsPart, steps_in, LeadsBy, IsPartAsked, IsFirstRefused, IsAllowed, IsNodeTree, IsRootText, IsTreeIn, IsPartTree, refused_kind, step_text, steps_text, path_text, place_text, NamesRefused, NamesLine, SaysMissing, NamesMissing, NamesWrongIn, NamesWrong};
+ghost use Rattle.trees.specs.Documents.{IsDocumentOf, FindsPart, steps_in, LeadsBy, IsPartAsked, IsFirstRefused, IsAllowed, IsNodeTree, IsRootText, IsTreeIn, IsPartTree, refused_kind, step_text, steps_text, path_text, place_text, shown_keys, NamesRefused, NamesLine, SaysMissing, NamesMissing, NamesWrongIn, NamesWrong};
 ghost use Rattle.trees.specs.Reading.{IsInput, Says, FailsToMake};
 
 use crate::command::Document;
@@ -267,7 +267,7 @@ pub fn toml_value(alloc: Global, source: &Source) -> Result<toml::Value, Failure
     }
 }
 
-/// Returns the value of a JSON document.
+/// Returns the value of a JSON document, before which a byte order mark doesn't count.
 ///
 /// # Errors
 ///
@@ -278,11 +278,12 @@ pub fn json_value(alloc: Global, source: &Source) -> Result<serde_json::Value, F
     ensures failed { IfErr result (FailsToMake ⊥ (IsDocumentOf Json source.now)) }
     ensures line { IfErr result (NamesLine source.now) }
 {
-    match serde_json::Value::from_str(alloc, source.text.as_str()) {
+    match serde_json::Value::from_str(alloc, source.unmarked()) {
         Ok(value) => Ok(value),
         Err(e) if e.is_memory() => Err(Failure::Memory),
         Err(e) => {
-            let line = wrong_line(alloc, FileSource::Json(source.text.clone()?))?;
+            let text = String::from_str(alloc, source.unmarked())?;
+            let line = wrong_line(alloc, FileSource::Json(text))?;
             let wrong = if e.is_eof() {
                 "the JSON is incomplete"
             } else {
@@ -319,10 +320,19 @@ fn root_label<'a>(source: &'a Source, document: Document<'a>) -> &'a str
 fn missing(alloc: Global, source: &Source, at: &str, key: &str) -> Result<Failure, AllocError>
     ensures input { IfOk result IsInput }
     ensures says { IfOk result (Says source.now
-        (codes "nothing at " ++ (at.now ++ (codes ": there is no " ++ key.now)))) }
+        (codes "nothing at "
+        ++ (shown_keys at.now ++ (codes ": there is no " ++ shown_keys key.now)))) }
 {
+    let (at, key) = (shown_keys(at), shown_keys(key));
     let wrong = format!(in alloc; "nothing at {at}: there is no {key}")?;
     source.wrong(alloc, wrong.as_str())
+}
+
+// Returns keys as they are shown: the empty text as two quotation marks.
+fn shown_keys(keys: &str) -> &str
+    ensures { result.now ≡ shown_keys keys.now }
+{
+    if keys.is_empty() { "''" } else { keys }
 }
 
 // Says that what a strict call refuses is at a path, which goes on behind the keys `at`.

@@ -1,19 +1,19 @@
 //! What could stand in the place of a wrong line.
-ghost use Rattle.std.specs.Prelude.{◌≡◌, ◌≢◌, ◌↔◌, ◌⊎◌, ℕ, Bool, List, [], ◌∷◌, ◌++◌, map, IsTrue, IfOk, MatchOption, OnOk, string_bytes};
+ghost use Rattle.std.specs.Prelude.{◌≡◌, ◌≢◌, ◌↔◌, ◌⊎◌, ℕ, Bool, List, [], ◌∷◌, ◌++◌, length, map, codes, IsTrue, IfOk, MatchOption, OnOk, string_bytes};
 ghost use Rattle.ptree.specs.Config.{config_of};
 ghost use Rattle.ptree.specs.Pieces.{passing_piece, config_pieces, pieces_of};
 ghost use Rattle.ptree.specs.Readable.{IsReadable, HasReadablePieces};
 ghost use Rattle.ptree.specs.Texts.{line_feed, IsPrefixOf};
-ghost use Rattle.trees.specs.Expected.{CanFollow, ListsBeginnings, IsTooDeep, IsLastLine, AddsListed, EndsPieces, EndsBelow, ShowsLast, ShowsSibling, AddsBeside, AreFronts, HasFronts, AddsTexts};
+ghost use Rattle.trees.specs.Expected.{ListsBeginnings, IsTooDeep, IsLastLine, AddsListed, IsFlagged, EndsPieces, EndsFront, EndsBelow, ShowsLast, ShowsSibling, AddsBeside, AreDistinct, AreFronts, HasFronts, AddsTexts};
 
 use crate::levels;
 use crate::source::behind;
 use ptree::output::Indent;
 use ptree::print_config::PrintConfig;
-use ptree::read::{ReadError, read_tree_or_line};
+use ptree::read::lines_that_follow;
 use std::alloc::{AllocError, Global};
 
-// How many levels are tried. Each takes a reading of the text before.
+// How many levels are tried.
 const LEVELS: u8 = 32;
 
 /// Returns the prefixes of an item's line that could follow these lines of a drawing, each once, on
@@ -32,11 +32,10 @@ pub fn beginnings(alloc: Global, before: &str, config: &PrintConfig) -> Result<S
 {
     let indent = Indent::from_config(alloc, config)?;
     let fronts = fronts(alloc, last_line(before), &indent)?;
-    let mut found = String::new(alloc);
-    for front in &fronts {
-        push_items(alloc, &mut found, before, front.as_str(), &indent, config)?;
-    }
-    Ok(found)
+    let prefixes = prefixes(alloc, &fronts, &indent)?;
+    let lines = with_text(alloc, &prefixes)?;
+    let flags = lines_that_follow(alloc, before, &lines, config)?;
+    listed(alloc, &prefixes, &flags)
 }
 
 // Returns the passing pieces behind which an item could follow this line, from the root on.
@@ -145,47 +144,66 @@ fn push_below(
     Ok(())
 }
 
-// Adds the prefixes of items that could follow behind these passing pieces.
+// Returns the prefixes of items behind these passing pieces.
+fn prefixes(alloc: Global, fronts: &[String], indent: &Indent) -> Result<Vec<String>, AllocError>
+    requires readable { IsReadable (pieces_of indent.now) }
+    requires fronts { AreFronts (pieces_of indent.now) (map string_bytes fronts.now) }
+    ensures { IfOk result (λ prefixes. AddsTexts
+        (EndsFront (pieces_of indent.now) (map string_bytes fronts.now) (length fronts.now)) []
+        (map string_bytes prefixes.items)) }
+{
+    let mut prefixes = Vec::new(alloc);
+    for front in fronts {
+        push_items(alloc, &mut prefixes, front.as_str(), indent)?;
+    }
+    Ok(prefixes)
+}
+
+// Adds the prefixes of items behind these passing pieces.
 fn push_items(
     alloc: Global,
-    found: &mut String,
-    before: &str,
+    prefixes: &mut Vec<String>,
     front: &str,
     indent: &Indent,
-    config: &PrintConfig,
 ) -> Result<(), AllocError>
-    requires { HasReadablePieces config.now }
-    ensures { OnOk result (AddsListed (λ text. CanFollow (config_of config.now) before.now text
-        × EndsPieces (pieces_of indent.now) front.now text)
-        (string_bytes found.old) (string_bytes found.new)) }
+    ensures { OnOk result (AddsTexts (EndsPieces (pieces_of indent.now) front.now)
+        (map string_bytes prefixes.old.items) (map string_bytes prefixes.new.items)) }
 {
     let (regular, last) = (&indent.regular_prefix, &indent.last_regular_prefix);
-    push_item(alloc, found, before, front, regular.as_str(), config)?;
+    prefixes.push(format!(in alloc; "{front}{regular}")?)?;
     if last == regular {
         return Ok(());
     }
-    push_item(alloc, found, before, front, last.as_str(), config)?;
-    Ok(())
+    Ok(prefixes.push(format!(in alloc; "{front}{last}")?)?)
 }
 
-// Adds the prefix of an item behind these passing pieces, if it could follow.
-fn push_item(
-    alloc: Global,
-    found: &mut String,
-    before: &str,
-    front: &str,
-    piece: &str,
-    config: &PrintConfig,
-) -> Result<(), AllocError>
-    requires { HasReadablePieces config.now }
-    ensures { OnOk result (AddsListed (λ text. CanFollow (config_of config.now) before.now text
-        × (text ≡ front.now ++ piece.now)) (string_bytes found.old) (string_bytes found.new)) }
+// Returns lines that begin with these prefixes: each with a text behind it.
+fn with_text(alloc: Global, prefixes: &[String]) -> Result<Vec<String>, AllocError>
+    ensures { IfOk result (λ lines. map string_bytes lines.items
+        ≡ map (λ prefix. prefix ++ codes "x") (map string_bytes prefixes.now)) }
 {
-    let beginning = format!(in alloc; "{front}{piece}")?;
-    if can_follow(alloc, before, beginning.as_str(), config)? {
-        write!(found, "\n  {beginning}")?;
+    let mut lines = Vec::new(alloc);
+    for prefix in prefixes {
+        lines.push(format!(in alloc; "{prefix}x")?)?;
     }
-    Ok(())
+    Ok(lines)
+}
+
+// Lists the prefixes whose flags are set.
+fn listed(alloc: Global, prefixes: &[String], flags: &[bool]) -> Result<String, AllocError>
+    requires each_once { AreDistinct (map string_bytes prefixes.now) }
+    requires count { length flags.now ≡ length prefixes.now }
+    ensures { IfOk result (λ listed. AddsListed
+        (IsFlagged (map string_bytes prefixes.now) flags.now (length flags.now)) []
+        (string_bytes listed)) }
+{
+    let mut listed = String::new(alloc);
+    for (i, prefix) in prefixes.iter().enumerate() {
+        if flags[i] {
+            write!(listed, "\n  {prefix}")?;
+        }
+    }
+    Ok(listed)
 }
 
 // Returns the last of whole lines, or nothing if it is the first, since a root may look like pieces.
@@ -246,24 +264,4 @@ fn passing<'a>(indent: &'a Indent, line: &'a str) -> Option<(&'a str, &'a str)>
         return Some((child, rest));
     }
     Some((last, behind(line, last)?))
-}
-
-// Whether an item whose line begins so can follow lines of a drawing.
-fn can_follow(
-    alloc: Global,
-    before: &str,
-    beginning: &str,
-    config: &PrintConfig,
-) -> Result<bool, AllocError>
-    requires { HasReadablePieces config.now }
-    ensures { IfOk result (λ can.
-        IsTrue can ↔ CanFollow (config_of config.now) before.now beginning.now) }
-{
-    let text = format!(in alloc; "{before}{beginning}x\n")?;
-    match read_tree_or_line(alloc, text.as_str(), config) {
-        Ok(_) => Ok(true),
-        Err(ReadError::End) => Ok(true),
-        Err(ReadError::Line(_)) => Ok(false),
-        Err(ReadError::Memory) => Err(AllocError),
-    }
 }

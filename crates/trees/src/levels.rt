@@ -1,7 +1,10 @@
 //! How many levels a drawing may have.
-ghost use Rattle.std.specs.Prelude.{◌≡◌, ◌↔◌, ◌==◌, length, nat_lt, All, Any, IsTrue, MatchOption};
+ghost use Rattle.std.specs.Prelude.{◌≡◌, ◌↔◌, ◌==◌, ℕ, length, nat_lt, All, Any, IsTrue, IfOk, MatchOption, OnOk, if◌then◌else◌};
 ghost use Rattle.std.specs.List.{slice_split};
+ghost use Rattle.ptree.specs.Graph.{edges_of, neighbors_of};
+ghost use Rattle.ptree.specs.Occurrence.{occurrence_kids, trees_in};
 ghost use Rattle.ptree_trees.specs.Paths.{names};
+ghost use Rattle.trees.specs.Levels.{HasLevel, HasMoreLevels, LeadTo, AreRight, IsWalked, walks_from};
 ghost use Rattle.trees.specs.ListingParts.{IsDeep};
 
 use crate::source::behind;
@@ -60,8 +63,8 @@ fn is_deep(line: &str, unit: &str) -> bool
     false
 }
 
-/// Whether what is below a node has more levels, each node expanded once, or wherever it stands. It
-/// takes time for each edge.
+/// Whether what is drawn of a graph from a node on has more levels, each node expanded once, or all
+/// walks. It takes time for each edge, and calls itself for each level.
 ///
 /// # Errors
 ///
@@ -71,98 +74,112 @@ pub fn has_more_below(
     graph: &Graph<String>,
     root: NodeIndex,
     walks: bool,
-) -> Result<bool, AllocError> {
-    let once = graph.expanded_once(root, LEVELS.saturating_add(1))?;
-    let places = once.places.as_slice();
-    if has_deeper_place(alloc, places, walks)? {
-        return Ok(true);
+) -> Result<bool, AllocError>
+    ensures { IfOk result (λ has_more.
+        IsTrue has_more ↔ HasMoreLevels (edges_of graph.now) root.0 walks) }
+{
+    if walks {
+        let mut known = Vec::new(alloc);
+        return Ok(longest_walk(graph, root, LEVELS, &mut known)?.is_none());
     }
-    Ok(walks && has_longer_walk(alloc, graph, root, places)?)
+    let once = graph.expanded_once(root, LEVELS + 1)?;
+    Ok(has_level(once.places.as_slice(), 1, LEVELS + 1))
 }
 
-// A node to which walks lead: the edges to it that are not followed yet, and the most steps of a
-// walk over the others.
-#[derive(Clone, Copy)]
-struct Walked {
-    left: usize,
-    steps: u32,
-}
-
-// Whether a walk from a node has more steps than there are levels, if none comes back to where it
-// was. An edge is followed when all those to its start are.
-fn has_longer_walk(
-    alloc: Global,
-    graph: &Graph<String>,
-    root: NodeIndex,
-    places: &[Place],
-) -> Result<bool, AllocError> {
-    let mut nodes = unwalked(alloc, places)?;
-    let mut ready = vec![in alloc; root.0]?;
-    // Each node is ready once.
-    for _ in 0..nodes.len() {
-        let Some(node) = ready.pop() else {
-            return Ok(false);
+// Whether an occurrence is so many levels below one of the first trees that places are.
+fn has_level(places: &[Place], trees: usize, level: u32) -> bool
+    ensures { IsTrue result ↔ Any (HasLevel occurrence_kids level) (trees_in trees places.now) }
+{
+    let mut rest = places;
+    let mut left = trees;
+    while left > 0 {
+        let Some((place, after)) = rest.split_first() else {
+            return false;
         };
-        let steps = nodes.get(node).map_or(0, |walked| walked.steps);
-        if steps > LEVELS {
-            return Ok(true);
-        }
-        for next in &graph.neighbors(NodeIndex(node))? {
-            if is_last_walk(&mut nodes, next.0, steps.saturating_add(1)) {
-                ready.push(next.0)?;
-            }
-        }
-    }
-    Ok(false)
-}
-
-// Returns the nodes of places, each with an edge for each place, and no walk yet.
-fn unwalked(alloc: Global, places: &[Place]) -> Result<Vec<Walked>, AllocError> {
-    let mut len = 0usize;
-    for place in places {
-        len = len.max(place.node.0.saturating_add(1));
-    }
-    let mut nodes = vec![in alloc; Walked { left: 0, steps: 0 }; len]?;
-    for place in places {
-        if let Some(node) = nodes.get_mut(place.node.0) {
-            node.left = node.left.saturating_add(1);
-        }
-    }
-    Ok(nodes)
-}
-
-// Follows an edge to a node. Whether no other is left.
-fn is_last_walk(nodes: &mut [Walked], node: usize, steps: u32) -> bool {
-    let Some(node) = nodes.get_mut(node) else {
-        return false;
-    };
-    node.steps = node.steps.max(steps);
-    node.left = node.left.saturating_sub(1);
-    node.left == 0
-}
-
-// Whether one of the places of a drawing is deeper than there are levels or, if all walks are
-// drawn, is below a place of its node.
-fn has_deeper_place(alloc: Global, places: &[Place], walks: bool) -> Result<bool, AllocError> {
-    // The last place below each of those that are above the next one, and its node.
-    let mut above = Vec::new(alloc);
-    for (i, place) in places.iter().enumerate() {
-        let level = above.partition_point(|(last, _)| *last >= i);
-        above.truncate(level);
-        if level > LEVELS as usize || (walks && has_node(&above, place.node)) {
-            return Ok(true);
-        }
-        above.push((i.saturating_add(place.below()), place.node))?;
-    }
-    Ok(false)
-}
-
-// Whether a place is one of a node.
-fn has_node(places: &[(usize, NodeIndex)], node: NodeIndex) -> bool {
-    for (_, other) in places {
-        if *other == node {
+        let below = place.below();
+        if level == 0 || has_level(after, below, level - 1) {
             return true;
         }
+        left = (left - 1).saturating_sub(below);
+        rest = &after[below.min(after.len())..];
     }
     false
+}
+
+// What is known of the walks from a node.
+#[derive(Clone, Copy)]
+enum Walks {
+    Unknown,
+
+    // The node is on the way to the one that is looked at.
+    Open,
+
+    // The longest walk has so many steps.
+    Longest(u32),
+}
+
+// Returns the steps of the longest walk from a node, or `None` if there is one of more steps than
+// these. A node on the way to itself has walks of any length.
+#[cycle(walk)]
+fn longest_walk(
+    graph: &Graph<String>,
+    node: NodeIndex,
+    most: u32,
+    known: &mut Vec<Walks>,
+) -> Result<Option<u32>, AllocError>
+    requires right { AreRight (neighbors_of (edges_of graph.now)) known.old.items }
+    requires open { LeadTo (neighbors_of (edges_of graph.now)) known.old.items 1 node.0 }
+    ensures { IfOk result (IsWalked (neighbors_of (edges_of graph.now)) node.0 most
+        known.old.items known.new.items) }
+{
+    match known.get(node.0).copied().unwrap_or(Walks::Unknown) {
+        Walks::Open => Ok(None),
+        Walks::Longest(steps) => Ok(if steps > most { None } else { Some(steps) }),
+        Walks::Unknown => {
+            set_walks(known, node, Walks::Open)?;
+            let Some(steps) = longest_below(graph, node, most, known)? else {
+                return Ok(None);
+            };
+            set_walks(known, node, Walks::Longest(steps))?;
+            Ok(Some(steps))
+        }
+    }
+}
+
+// Does what `longest_walk` does, for a node that is open.
+#[cycle(walk)]
+fn longest_below(
+    graph: &Graph<String>,
+    node: NodeIndex,
+    most: u32,
+    known: &mut Vec<Walks>,
+) -> Result<Option<u32>, AllocError>
+    requires right { AreRight (neighbors_of (edges_of graph.now)) known.old.items }
+    requires open { LeadTo (neighbors_of (edges_of graph.now)) known.old.items 0 node.0 }
+    ensures { IfOk result (IsWalked (neighbors_of (edges_of graph.now)) node.0 most
+        known.old.items known.new.items) }
+{
+    let mut longest = 0u32;
+    for next in &graph.neighbors(node)? {
+        if most == 0 {
+            return Ok(None);
+        }
+        let Some(steps) = longest_walk(graph, *next, most - 1, known)? else {
+            return Ok(None);
+        };
+        longest = longest.max(steps + 1);
+    }
+    Ok(Some(longest))
+}
+
+// Sets what is known of the walks from a node.
+fn set_walks(known: &mut Vec<Walks>, node: NodeIndex, walks: Walks) -> Result<(), AllocError>
+    ensures { OnOk result ((v : ℕ) → walks_from known.new.items v
+        ≡ (if v == node.0 then walks else walks_from known.old.items v)) }
+{
+    if node.0 >= known.len() {
+        known.resize(node.0.saturating_add(1), Walks::Unknown)?;
+    }
+    known[node.0] = walks;
+    Ok(())
 }

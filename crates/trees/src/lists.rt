@@ -1,17 +1,16 @@
 //! Trees of paths and of indented text, and the indented text of a tree.
-ghost use Rattle.std.specs.Prelude.{◌≡◌, ◌≢◌, ◌≤◌, ◌↔◌, ℕ, ◌==◌, ◌&&◌, ◌++◌, ◌∷◌, not, true, false, List, [], map, is_some, string_bytes, MatchOption, IsTrue, IfOk, IfErr, IsErrOf, OnOk};
+ghost use Rattle.std.specs.Prelude.{◌≡◌, ◌≢◌, ◌≤◌, ◌↔◌, ⊤, ℕ, ◌==◌, ◌&&◌, ◌++◌, ◌∷◌, not, true, false, List, [], map, is_some, string_bytes, MatchOption, IsTrue, IfOk, IfErr, IsErrOf, OnOk};
 ghost use Rattle.std.specs.List.{list_any, slice_split};
-ghost use Rattle.ptree.specs.Outline.{outline};
 ghost use Rattle.ptree.specs.Texts.{line_feed};
 ghost use Rattle.ptree.specs.Tree.{Tree, tree_of, height};
-ghost use Rattle.ptree_trees.specs.Indented.{begins_blank, AreLineTexts};
+ghost use Rattle.ptree_trees.specs.Indented.{begins_blank};
 ghost use Rattle.ptree_trees.specs.Parts.{begins_with};
 ghost use Rattle.ptree_trees.specs.Paths.{names, names_of};
 ghost use Rattle.trees.specs.Listing.{byte_order_mark, path_lines, source_lines, from_first, path_names, given_paths, is_absolute, is_relative, is_quoted, is_cut_off, are_wrong, root_text, IsFolders, HasPaths, IsListing};
 ghost use Rattle.trees.specs.ListingParts.{own_names, IsBehindStart, is_first_absolute, beside, is_unlike, is_wrong_line, are_wrong_lines};
 ghost use Rattle.trees.specs.Outlining.{is_filled, filled_lines, text_of_lines, line_indent, first_indent, line_bullet, first_bullet, IsRightForm, labelled_lines, IsFormWithin, HoldsOutline, HoldsNoOtherOutline, FailsToOutline, IsKeptText, IsKeptRoot, AreKeptTexts, LosesText, IsReadBack};
 ghost use Rattle.trees.specs.Reading.{FailsFor, FailsToMake};
-ghost use Rattle.trees.specs.Writing.{IsShownForm, IsIndented};
+ghost use Rattle.trees.specs.Writing.{IsShownForm, AreShownTexts, IsIndented};
 
 use crate::command::{Indented, Outline, Paths};
 use crate::failure::Failure;
@@ -443,13 +442,43 @@ fn read_within(
     ensures failed { IfErr result (FailsToMake ⊥ (IsFormWithin form.now text.now)) }
 {
     if let Some(line) = deep_line(text, form.unit) {
-        let line = line_of(source.unmarked(), line.saturating_sub(above));
-        return Err(source.wrong_at(alloc, line, TOO_DEEP)?);
+        return Err(wrong_to(alloc, source, text, form, above, line)?);
     }
     match read_indented(alloc, text, form) {
         Ok(tree) => Ok(tree),
         Err(wrong) => Err(wrong_indent(alloc, source, wrong, form, above)?),
     }
+}
+
+// Says what is wrong with a text up to this line, which is too deep: a line before it, if that
+// continues no indented form, or else this one.
+fn wrong_to(
+    alloc: Global,
+    source: &Source,
+    text: &str,
+    form: &Form<'_>,
+    above: usize,
+    line: usize,
+) -> Result<Failure, AllocError>
+    requires { IsRightForm form.now }
+    ensures { IfOk result (FailsFor ⊤ ⊥) }
+{
+    match read_indented(alloc, before_line(text, line), form) {
+        Ok(_) | Err(IndentError::End) => {
+            let line = line_of(source.unmarked(), line.saturating_sub(above));
+            source.wrong_at(alloc, line, TOO_DEEP)
+        }
+        Err(wrong) => wrong_indent(alloc, source, wrong, form, above),
+    }
+}
+
+// Returns the lines of a text before one, which is counted from 1.
+fn before_line(text: &str, line: usize) -> &str {
+    let mut len = 0usize;
+    for before in text.split('\n').take(line.saturating_sub(1)) {
+        len = len.saturating_add(before.len()).saturating_add(1);
+    }
+    text.get(..len).unwrap_or("")
 }
 
 // Says why a text has no indented form, of which `above` lines were put above those of the input.
@@ -515,7 +544,7 @@ pub fn indented(
         IsIndented indented.entry (tree_of tree.now) (string_bytes text)) }
     ensures back { height (tree_of tree.now).children ≤ 5000 → IfOk result (λ text.
         IsReadBack indented.entry (tree_of tree.now) (string_bytes text)) }
-    // `Input` says, but of a terminal, that `outline` would make another text of one in the tree.
+    // `Input` says that `outline` would make another text of one in the tree, were none escaped.
     ensures failed { IfErr result (FailsFor (LosesText indented.entry (tree_of tree.now)) ⊥) }
 {
     check_texts(alloc, source, tree, indented.bullet)?;
@@ -603,8 +632,8 @@ fn shown_form(
 ) -> Result<String, WriteError>
     ensures form { IfOk result (λ text. IsShownForm is_terminal
         form.now.unit.now form.now.bullet.now (tree_of tree.now) (string_bytes text)) }
-    ensures text { is_terminal ≡ false → IsErrOf result WriteError.Text
-        → AreLineTexts form.now (outline (tree_of tree.now)) → ⊥ }
+    ensures text { IsErrOf result WriteError.Text
+        → AreShownTexts is_terminal form.now.bullet.now (tree_of tree.now) → ⊥ }
 {
     if is_terminal {
         return escaped_form(alloc, tree, form);
@@ -614,8 +643,10 @@ fn shown_form(
 
 // Returns the indented form of a tree with its texts, and the bullet, escaped.
 fn escaped_form(alloc: Global, tree: &StringItem, form: &Form<'_>) -> Result<String, WriteError>
-    ensures { IfOk result (λ text. IsShownForm true
+    ensures form { IfOk result (λ text. IsShownForm true
         form.now.unit.now form.now.bullet.now (tree_of tree.now) (string_bytes text)) }
+    ensures text { IsErrOf result WriteError.Text
+        → AreShownTexts true form.now.bullet.now (tree_of tree.now) → ⊥ }
 {
     let bullet = escaped(alloc, form.bullet)?;
     let tree = escaped_item(alloc, tree)?;

@@ -17,7 +17,7 @@ ghost use Rattle.trees.specs.Merging.{IsComparison, IsMergeDrawing};
 ghost use Rattle.trees.specs.Reading.{HoldsDrawing, HoldsNoOther, HoldsSome, IsRedrawn, FailsFor, FailsToRead, FailsToMake, NamesPlace, IsReport, Adds, item_word, count_line};
 ghost use Rattle.trees.specs.Shown.{IsNone, ShowsOnly};
 ghost use Rattle.trees.specs.Telling.{TellsWhether, TellsOnlyIf, TellsOfTexts, TellsOfCommand};
-ghost use Rattle.trees.specs.Writing.{WritesSaid, AreReports, FailsToCheck, AreSettings, Writes, IsTreeDrawing, IsGraphDrawing, WritesDrawn, IsIndentation, FailsToIndent, IsGiven, FailsToGive, Draws, DrawsNeeds, Converts, ConvertsBack, WritesOfCommand, ShowsOfCommand, ShowsDrawing, ShowsMerged, LeavesIfWrong, WritesRefusal, Compares};
+ghost use Rattle.trees.specs.Writing.{WritesSaid, AreReports, FailsToCheck, AreSettings, Writes, IsTreeDrawing, IsGraphDrawing, IsGraphTooDeep, WritesDrawn, IsIndentation, FailsToIndent, IsGiven, FailsToGive, Draws, DrawsNeeds, Converts, ConvertsBack, WritesOfCommand, ShowsOfCommand, ShowsDrawing, ShowsMerged, LeavesIfWrong, WritesRefusal, Compares};
 
 use crate::command::{Command, Convert, Deps, Diff, Drawing, Indented, Paths, Tree};
 use crate::compare::{self, Look};
@@ -330,7 +330,7 @@ fn write_graph<W: Sink>(
 ) -> Result<(), Failure>
     ensures written { Writes (W.contents out.old) (W.contents out.new) result
         (IsGraphDrawing (config_of config.now) dependencies.now walks)
-        (FailsFor (5000 < (config_of config.now).depth) ⊥) }
+        (FailsFor (IsGraphTooDeep (config_of config.now) dependencies.now walks) ⊥) }
     ensures quiet { LeavesIfWrong out.old out.new result }
 {
     let Dependencies { graph, root } = dependencies;

@@ -12,7 +12,7 @@ use ptree::output::{
     print_tree, print_tree_to, print_tree_with, tree_bytes, tree_text, write_tree, write_tree_with,
 };
 use ptree::print_config::{FileSource, PrintConfig, Sources};
-use ptree::read::read_tree;
+use ptree::read::{lines_that_follow, read_tree};
 use ptree::style::Counted;
 use std::alloc::{AllocError, Global};
 
@@ -113,6 +113,29 @@ fn try_read(
     }
 }
 
+// The call that says which lines can follow a drawing, for as many lines as it has children.
+fn try_followed(
+    alloc: Global,
+    tree: &StringItem,
+    config: &PrintConfig,
+    drawing: &str,
+) -> Result<(), Deviation>
+    requires { HasReadablePieces config.now }
+{
+    let mut lines = Vec::new(alloc);
+    for _ in &tree.children {
+        lines.push(String::from_str(alloc, "a")?)?;
+    }
+    let flags = made(
+        lines_that_follow(alloc, drawing, &lines, config),
+        "`lines_that_follow` succeeds",
+    )?;
+    expect(
+        flags.len() == lines.len() && !flags.contains(&true),
+        "a line without pieces follows no drawing",
+    )
+}
+
 // The calls of a tree under a configuration.
 fn try_drawn(alloc: Global, tree: &StringItem, config: &PrintConfig) -> Result<(), Deviation>
     requires { HasReadablePieces config.now }
@@ -125,7 +148,8 @@ fn try_drawn(alloc: Global, tree: &StringItem, config: &PrintConfig) -> Result<(
     try_written(alloc, tree, config)?;
     try_shown(alloc, tree, config)?;
     try_under(alloc, tree)?;
-    try_read(alloc, tree, config, drawing.as_str())
+    try_read(alloc, tree, config, drawing.as_str())?;
+    try_followed(alloc, tree, config, drawing.as_str())
 }
 
 // The copy of a tree, and its items.

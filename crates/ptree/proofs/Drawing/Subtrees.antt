@@ -32,7 +32,7 @@ before_behind [] b c h = h
 before_behind (i ∷ a) b c h = inr (refl, before_behind a b c h)
 
 -- the steps after an address are those from the item there
-at-append : {X : Type 0} (kids : X → List X) (x y : X) (a b : Address) → at kids x a ≡ Some y → at kids x (a ++ b) ≡ at kids y b
+pub at-append : {X : Type 0} (kids : X → List X) (x y : X) (a b : Address) → at kids x a ≡ Some y → at kids x (a ++ b) ≡ at kids y b
 at-append kids x y [] b h = let same : x ≡ y = cc in ap (λ z. at kids z b) same
 at-append kids x y (i ∷ a) b h = step kids y (slice_get (kids x) i) a b (λ c. at-append kids c y a b) h
   where

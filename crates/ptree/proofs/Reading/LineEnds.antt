@@ -1,6 +1,9 @@
 -- Parts of a drawing that hold no line feed.
-use Rattle.std.proofs.Common.{◌≡◌, ◌≢◌, ℕ, zero, suc, Bool, not, List, [], ◌∷◌, ◌++◌, refl, sym, ap, ◌∙◌}
+use Rattle.std.proofs.Common.{◌≡◌, ◌≢◌, ℕ, zero, suc, ◌<◌, Some, None, Bool, not, List, [], ◌∷◌, ◌++◌, take, drop, refl, sym, ap, ◌∙◌, subst, arith}
+use Rattle.std.proofs.lemmas.List.{take-append-drop}
 use Rattle.std.proofs.lemmas.List.Elements.{All-nil, All-head, All-tail, All-append}
+use Rattle.std.proofs.lemmas.Str.Pattern.{drop_at_char, NoCharPasses-char}
+use Rattle.std.specs.Str.Pattern.{RFindsChar}
 use Rattle.ptree.specs.Drawing.{Look, continued_prefix}
 use Rattle.ptree.specs.Flags.{has_later, last_flags, pieces_by}
 use Rattle.ptree.specs.Outline.{Line}
@@ -8,6 +11,7 @@ use Rattle.ptree.specs.Pieces.{Pieces, turning_piece, passing_piece, passing_all
 use Rattle.ptree.specs.Readable.{IsReadable, IsReadableWith}
 use Rattle.ptree.specs.Style.{StyleValue, start_codes, end_codes, painted_text}
 use Rattle.ptree.specs.Texts.{HasNoLineFeed}
+use Rattle.ptree.proofs.Drawing.Inserted.{no_line_feed_from_reads}
 use Rattle.ptree.proofs.Styles.PaintedTexts.{no_line_feed_start, no_line_feed_end}
 
 -- ## Lists
@@ -21,6 +25,18 @@ first_feed_after_prefix (b ∷ a) x (c ∷ g) e h is =
     let tails : a ++ x ≡ g ++ 10 ∷ e = cc in
     let rest = first_feed_after_prefix a x g e (All-tail (λ c. c ≢ 10) b a h) tails in
     (rest.0, ap (λ z. z ∷ g) (sym heads) ∙ ap (λ z. b ∷ z) rest.1, rest.2)
+
+-- what is behind the last line feed holds none
+pub last_feed : (text part : List ℕ) (i j : ℕ) → RFindsChar 10 text (Some (i, j)) → part ≡ drop j text → (text ≡ take i text ++ 10 ∷ part) × HasNoLineFeed part
+last_feed text part i j h is =
+    let low : 10 < 128 = omega arith in (
+      sym (take-append-drop i text) ∙ ap (λ z. take i text ++ z) (drop_at_char 10 text i j h.1 low ∙ ap (λ z. 10 ∷ z) (sym is)),
+      subst HasNoLineFeed (sym is) (no_line_feed_from_reads (drop j text) (λ k inside. NoCharPasses-char 10 (drop j text) k h.0 low inside)),
+    )
+
+-- where none is found, there is none
+pub no_feed : (text : List ℕ) → RFindsChar 10 text None → HasNoLineFeed text
+no_feed text h = no_line_feed_from_reads text (λ k inside. NoCharPasses-char 10 text k h (omega arith) inside)
 
 -- ## Items
 

@@ -1,5 +1,5 @@
 -- Reading a text line by line.
-use Rattle.std.proofs.Common.{◌≡◌, ◌≢◌, ℕ, zero, suc, ◌+◌, ◌-◌, ◌<◌, ◌≤◌, ◌⊎◌, inl, inr, List, [], ◌∷◌, ◌++◌, length, length-append, refl, sym, ap, ◌∙◌, subst, append_assoc, add-one, arith}
+use Rattle.std.proofs.Common.{◌≡◌, ◌≢◌, ℕ, ◌+◌, ◌-◌, ◌<◌, ◌≤◌, ◌⊎◌, inl, inr, List, [], ◌∷◌, ◌++◌, length, length-append, refl, sym, ap, ◌∙◌, subst, append_assoc, add-one, arith}
 use Rattle.std.proofs.lemmas.List.{append-nil}
 use Rattle.std.proofs.lemmas.List.Elements.{All-nil, All-append}
 use Rattle.ptree.specs.declared.read.lines.Flags.{Flags}
@@ -7,22 +7,20 @@ use Rattle.ptree.specs.Continuation.{HasContinuation, IsFirstWrongLine, EndsWron
 use Rattle.ptree.specs.Drawing.{Look, with_inserted, continued_prefix}
 use Rattle.ptree.specs.DrawnForm.{IsDrawnForm}
 use Rattle.ptree.specs.Flags.{pieces_by, passing_by}
+use Rattle.ptree.specs.OpenDrawing.{NoneNext}
 use Rattle.ptree.specs.Outline.{Line, line, outline}
-use Rattle.ptree.specs.Pieces.{turning_piece, passing_all}
 use Rattle.ptree.specs.Reached.{Allows, IsOutlineWithin, lines_text, own_prefix, Reached, ArePath, IsFurtherLine, IsOwnLine, NoLine}
 use Rattle.ptree.specs.Readable.{IsReadableWith}
-use Rattle.ptree.specs.Spelled.{ArePiecesAt, ArePassing}
 use Rattle.ptree.specs.Style.{start_codes, end_codes, painted_text}
 use Rattle.ptree.specs.Texts.{HasNoLineFeed}
 use Rattle.ptree.specs.Tree.{Tree}
+use Rattle.ptree.proofs.Reading.AfterLines.{one_feed, further_line, own_line, after_further, after_own, next_wrong, next_open}
 use Rattle.ptree.proofs.Reading.Continuations.{goes_on_nothing}
-use Rattle.ptree.proofs.Reading.LineEnds.{first_feed_after_prefix, no_feed_passing, no_feed_painted, no_feed_continued}
+use Rattle.ptree.proofs.Reading.LineEnds.{first_feed_after_prefix, no_feed_painted}
 use Rattle.ptree.proofs.Reading.FirstLines.{first_rest, first_next, first_more, count_none, count_line}
-use Rattle.ptree.proofs.Reading.OpenItems.{open_lines}
 use Rattle.ptree.proofs.Reading.NextLines.{line_split, form_outline}
-use Rattle.ptree.proofs.Reading.ReachedLines.{root_reached, further_reached, own_reached, own_is_not_further}
-use Rattle.ptree.proofs.Reading.ReachedEnds.{wrong_line, reached_goes_on, reached_end, reached_none, reached_short, feedless_ends_no_line}
-use Rattle.ptree.proofs.Reading.SpelledForms.{passing_at}
+use Rattle.ptree.proofs.Reading.ReachedLines.{root_reached}
+use Rattle.ptree.proofs.Reading.ReachedEnds.{reached_goes_on, reached_end, reached_none, reached_short, feedless_ends_no_line}
 use Rattle.ptree.proofs.Styles.PaintedTexts.{no_line_feed_start, no_line_feed_end}
 
 -- the first n lines of x were read, and rest is left
@@ -32,25 +30,9 @@ pub record ScanSo (k : Look) (depth : ℕ) (x rest : List ℕ) (n : ℕ) (done :
   pub room : n + length rest ≤ length x
   pub reached : Reached k depth (first_lines n x) done level own fs
 
--- what is before an item's own text holds no line feed
-feedless_own : (k : Look) → IsReadableWith k.pieces k.marker → (n : ℕ) (pieces : List ℕ) → ArePiecesAt k.pieces n pieces → HasNoLineFeed (own_prefix k pieces)
-feedless_own k readable zero pieces at = absurd at
-feedless_own k readable (suc n) pieces (above, last, len, is) =
-    All-append (λ c. c ≢ 10) (painted_text k.branch pieces) (start_codes k.leaf)
-    (no_feed_painted k.branch pieces (subst HasNoLineFeed (sym is) (All-append (λ c. c ≢ 10) (passing_all k.pieces above) (turning_piece k.pieces last) (no_feed_passing k.pieces readable.pieces above) (readable.pieces.no_line_feed last).0)))
-    (no_line_feed_start k.leaf)
-
--- nor does what is before the root's
-feedless_root : (k : Look) → HasNoLineFeed (own_prefix k [])
+-- what is before the root's text holds no line feed
+pub feedless_root : (k : Look) → HasNoLineFeed (own_prefix k [])
 feedless_root k = All-append (λ c. c ≢ 10) (painted_text k.branch []) (start_codes k.leaf) (no_feed_painted k.branch [] (All-nil (λ c. c ≢ 10))) (no_line_feed_start k.leaf)
-
--- two texts before a line feed, regrouped
-one_feed : (a b more : List ℕ) → a ++ (b ++ 10 ∷ more) ≡ (a ++ b) ++ 10 ∷ more
-one_feed a b more = sym (append_assoc a b (10 ∷ more))
-
--- a line feed after a prefix and two texts, regrouped
-prefix_feed : (f a b : List ℕ) → (f ++ (a ++ b)) ++ 10 ∷ [] ≡ f ++ (a ++ b ++ 10 ∷ [])
-prefix_feed f a b = append_assoc f (a ++ b) (10 ∷ [])
 
 -- one line more was read
 scan_next : (k : Look) (depth : ℕ) (x rest new more : List ℕ) (n : ℕ) (done : List Line) (level : ℕ) (own : List ℕ) (fs : List Flags) → x ≡ first_lines n x ++ rest → line_count x ≡ n + line_count rest → n + length rest ≤ length x
@@ -77,28 +59,15 @@ module _ {k : Look} {depth : ℕ} {x rest own : List ℕ} {n : ℕ} {done : List
   pub scan_further : {new more shown : List ℕ} {m : ℕ} {fs' : List Flags} → IsReadableWith k.pieces k.marker → IsFurtherLine k fs rest new more fs' → ArePath k.pieces fs' m shown
       → ScanSo k depth x more (n + 1) done level (own ++ 10 ∷ new) fs'
   scan_further {new} {more} {shown} {m} {fs'} readable f path =
-      let passing = f.passing in
-      let (above, len, is) = f.are_passing in
-      let cp : List ℕ = continued_prefix k passing in
-      let level_is : length fs ≡ level = h.reached.count in
-      let feedless : HasNoLineFeed cp = subst (λ z. HasNoLineFeed (continued_prefix k z)) (sym is) (no_feed_continued k readable above) in
-      let reached = further_reached k readable depth (first_lines n x) done level own new passing fs fs' h.reached f.one (subst (λ z. ArePassing k.pieces z passing) level_is f.are_passing)
-      (λ o. let both = f.cuts o in (λ a. let c = both.0 a in (c.0, ap (passing_by k.pieces o) (sym level_is) ∙ c.1), λ c. both.1 (c.0, ap (passing_by k.pieces o) level_is ∙ c.1))) (open_lines fs' path.some) (f.count ∙ level_is) in
-      scan_next k depth x rest (cp ++ new) more n done level (own ++ 10 ∷ new) fs' h.text_is h.count h.room (All-append (λ c. c ≢ 10) cp new feedless f.one) (f.text_is ∙ one_feed cp new more)
-      (subst (λ z. Reached k depth z done level (own ++ 10 ∷ new) fs') (sym (prefix_feed (first_lines n x) cp new)) reached)
+      let (one, is) = further_line k readable fs fs' rest new more f in
+      scan_next k depth x rest (continued_prefix k f.passing ++ new) more n done level (own ++ 10 ∷ new) fs' h.text_is h.count h.room one is (after_further h.reached readable f path)
 
   -- an item's own line was read
   pub scan_own : {new more shown : List ℕ} {m : ℕ} {fs' : List Flags} (text : List ℕ) → IsReadableWith k.pieces k.marker → IsOwnLine k depth fs rest new more fs' → ArePath k.pieces fs' m shown
       → own ≡ text ++ end_codes k.leaf → ScanSo k depth x more (n + 1) (done ++ line level text ∷ []) (length fs') new fs'
   scan_own {new} {more} {shown} {m} {fs'} text readable f path closed =
-      let pieces = f.pieces in
-      let level_is = h.reached.count in
-      let high = f.high in
-      let prefix : List ℕ = own_prefix k pieces in
-      let feedless : HasNoLineFeed prefix = feedless_own k readable (length fs') pieces f.are_pieces in
-      let reached = own_reached k readable depth (first_lines n x) done level own text pieces new (length fs') fs fs' h.reached closed f.one f.low (omega (arith, high, level_is)) f.deep f.are_pieces f.cuts (open_lines fs' path.some) refl in
-      scan_next k depth x rest (prefix ++ new) more n (done ++ line level text ∷ []) (length fs') new fs' h.text_is h.count h.room (All-append (λ c. c ≢ 10) prefix new feedless f.one) (f.text_is ∙ one_feed prefix new more)
-      (subst (λ z. Reached k depth z (done ++ line level text ∷ []) (length fs') new fs') (sym (prefix_feed (first_lines n x) prefix new)) reached)
+      let (one, is) = own_line k readable depth fs fs' rest new more f in
+      scan_next k depth x rest (own_prefix k f.pieces ++ new) more n (done ++ line level text ∷ []) (length fs') new fs' h.text_is h.count h.room one is (after_own h.reached text readable f path closed)
 
   -- what was read, under equal names
   pub scan_moved : {done' : List Line} {level' : ℕ} {own' : List ℕ} → done' ≡ done → level' ≡ level → own' ≡ own → ScanSo k depth x rest n done' level' own' fs
@@ -109,24 +78,16 @@ module _ {k : Look} {depth : ℕ} {x rest own : List ℕ} {n : ℕ} {done : List
 
 -- no drawing continues the first n lines with the next one
 abbrev pub NoneWith : Look → ℕ → List ℕ → List ℕ → ℕ → Type 0
-NoneWith k depth x rest n = (new more : List ℕ) → HasNoLineFeed new → rest ≡ new ++ 10 ∷ more → HasContinuation k depth (first_lines n x ++ new ++ 10 ∷ []) → ⊥
+NoneWith k depth x rest n = NoneNext k depth (first_lines n x) rest
 
 module _ {k : Look} {depth : ℕ} {x rest own : List ℕ} {n : ℕ} {done : List Line} {level : ℕ} {fs : List Flags} (h : ScanSo k depth x rest n done level own fs) where
   -- a line that is neither an own line nor a further one cannot continue the drawing
   pub scan_wrong : IsReadableWith k.pieces k.marker → NoLine k depth fs rest → NoneWith k depth x rest n
-  scan_wrong readable (inl none) new more one e goes = feedless_ends_no_line new more rest none e
-  scan_wrong readable (inr wrong) new more one e goes =
-      let level_is = h.reached.count in
-      wrong_line k readable depth (first_lines n x) done level own fs rest new more h.reached e
-      (λ o z a f. wrong.no_further o z a (f ∙ ap (λ y. continued_prefix k (passing_by k.pieces o y) ++ z) (sym level_is)))
-      (λ text m o z closed low high deep a f. wrong.no_own m o z low (omega (arith, high, level_is)) deep a f) goes
+  scan_wrong readable wrong = next_wrong h.reached readable wrong
 
   -- an item's own line cannot continue a text that is not closed
   pub scan_open : {next behind : List ℕ} {fs' : List Flags} → IsReadableWith k.pieces k.marker → IsOwnLine k depth fs rest next behind fs' → ((text : List ℕ) → own ≢ text ++ end_codes k.leaf) → NoneWith k depth x rest n
-  scan_open {next} {behind} {fs'} readable f never new more one e goes =
-      wrong_line k readable depth (first_lines n x) done level own fs rest new more h.reached e
-      (λ o z a g. own_is_not_further k readable level (length fs') f.pieces (passing_by k.pieces o level) (next ++ 10 ∷ behind) z f.are_pieces (passing_at k.pieces o level) (sym f.text_is ∙ g))
-      (λ text m o z closed low high deep a g. never text closed) goes
+  scan_open readable f never = next_open h.reached readable f never
 
   -- a text that ends within a line is no drawing
   pub scan_short : (rest ≡ [] → ⊥) → HasNoLineFeed rest → (t : Tree) → IsDrawnForm k depth x t → ⊥

@@ -42,6 +42,8 @@ const MOST_UP: usize = 32;
 
 const OLD: &str = "lockfileVersion 1 is not supported; npm 7 and later write newer ones";
 
+const NO_PACKAGES: &str = "no object at packages, as a lock file of npm has";
+
 const OTHER: &str = "no lockfileVersion 2 or 3, as a lock file of npm has";
 
 /// Adds the dependencies of a `package-lock.json`.
@@ -70,7 +72,7 @@ fn read(alloc: Global, source: &Source, lock: &Value, network: &mut Network) -> 
 {
     let Some(packages) = packages_of(lock) else {
         let is_old = lock.get("dependencies").is_some() && lock.get("lockfileVersion").is_some();
-        return Err(wrong(alloc, source, &[if is_old { OLD } else { "no packages" }]));
+        return Err(wrong(alloc, source, &[if is_old { OLD } else { NO_PACKAGES }]));
     };
     if !has_paths(lock) {
         return Err(wrong(alloc, source, &[OTHER]));

@@ -26,6 +26,8 @@ const VERSIONS: &str = "versions other than 1, 3 and 4 are not supported";
 
 const LOCK_VERSIONS: &str = "lock-versions other than 1.x and 2.x are not supported";
 
+const NO_HASH: &str = " has a table of dependencies, but metadata has no content-hash";
+
 /// Adds the dependencies of a lock file with tables `[[package]]`.
 ///
 /// # Errors
@@ -202,7 +204,7 @@ fn put_root(root: Option<Value>, tables: &mut Vec<Value>) -> Result<(), AllocErr
     }
 }
 
-// Whether a lock file has a hash of what it was made from, as each `poetry.lock` has.
+// Whether a lock file has a hash of what it was made from, as Poetry writes it.
 fn has_hash(lock: &Value) -> bool
     ensures { result ≡ has_hash (view lock.now) }
 {
@@ -549,7 +551,7 @@ fn is_behind_name(need: &Value) -> bool
 struct Needing<'p> {
     input: &'p Source,
 
-    // Whether its lock file has a hash, as each `poetry.lock` has.
+    // Whether its lock file has a hash, as Poetry writes it.
     has_hash: bool,
 
     // All packages.
@@ -619,7 +621,8 @@ impl<'p> Needing<'p> {
     {
         match needs.as_table() {
             Some(table) if self.has_hash => self.push_python_needs(alloc, table, network),
-            _ => self.push_list(alloc, needs, network),
+            Some(_) => Err(wrong(alloc, self.input, &[self.name, NO_HASH])),
+            None => self.push_list(alloc, needs, network),
         }
     }
 

@@ -98,7 +98,16 @@ fn pair(line: &str) -> Result<Option<(&str, &str)>, &'static str>
     };
     match words.next() {
         None => Ok(Some((first, second))),
-        Some(_) => Err("expected two words, found more"),
+        Some(_) => Err(more_than_two(second)),
+    }
+}
+
+// Says what a line of more than two words is, by its second word.
+fn more_than_two(second: &str) -> &'static str {
+    if second == "=" {
+        "expected two words, found TOML without [[package]]"
+    } else {
+        "expected two words, found more"
     }
 }
 

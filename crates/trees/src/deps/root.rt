@@ -6,7 +6,7 @@ ghost use Rattle.trees.specs.Reading.{FailsFor};
 
 use crate::deps::{Network, wrong};
 use crate::failure::Failure;
-use crate::source::Source;
+use crate::source::{Source, behind};
 use crate::suggest::Nearest;
 use ptree::graph::NodeIndex;
 use std::alloc::{AllocError, Global};
@@ -147,13 +147,24 @@ fn unknown(alloc: Global, source: &Source, network: &Network, name: &str) -> Fai
         nearest.try_word(parts(label.as_str()).0);
         nearest.try_word(label.as_str());
     }
-    match nearest.word {
+    match longer(network, name).or(nearest.word) {
         Some(near) => {
             let parts = ["no package is named ", name, "; did you mean ", near, "?"];
             wrong(alloc, source, &parts)
         }
         None => wrong(alloc, source, &["no package is named ", name]),
     }
+}
+
+// Returns the first label that is a name, which may have blanks, with a version.
+fn longer<'a>(network: &'a Network, name: &str) -> Option<&'a str> {
+    for label in &network.labels {
+        match behind(label.as_str(), name) {
+            Some(rest) if rest.starts_with([' ', '@']) => return Some(label.as_str()),
+            _ => {}
+        }
+    }
+    None
 }
 
 // Says which nodes have a name, with their paths if they have some.

@@ -1,6 +1,6 @@
 use Rattle.std.proofs.Common.{◌≡◌, ◌∷◌, ◌++◌, codes, rules}
 use Rattle.std.proofs.lemmas.Result.{IfErr-weaker}
-use Rattle.trees.specs.Documents.{steps_in}
+use Rattle.trees.specs.Documents.{shown_keys, steps_in}
 use Rattle.trees.specs.Reading.{Says}
 use Rattle.trees.proofs.Parts.{missing_first, says_below}
 use Rattle.trees.proofs.document.+part_below.Goals as goal
@@ -9,7 +9,7 @@ pub returns-in_default-clause-missing : goal.returns-in_default-clause-missing
 returns-in_default-clause-missing g t c input =
     let key = c.split_step.result.0.now in
     let missing = missing_first c.args.last.now key c.split_step.result.1 (g.V.Value.node c.args.value.now) c.split_step.ensures c.in_default.ensures in
-    let says : Says c.args.source.now (codes "nothing at " ++ (c.args.at.now ++ (codes ": there is no " ++ key))) c.in_ok-missing.field-0 = search rules in
+    let says : Says c.args.source.now (codes "nothing at " ++ (shown_keys c.args.at.now ++ (codes ": there is no " ++ shown_keys key))) c.in_ok-missing.field-0 = search rules in
     (key, missing, says)
 
 pub returns-in-Some-rest-clause-missing : goal.returns-in-Some-rest-clause-missing

@@ -3,6 +3,7 @@ use Rattle.ptree.specs.Tree.{tree_of}
 use Rattle.ptree_trees.specs.declared.indented.Form.{Form}
 use Rattle.trees.specs.Outlining.{text_or, AreKeptTexts, LosesText}
 use Rattle.trees.specs.Writing.{IsIndented}
+use Rattle.trees.proofs.EscapedLines.{shown_texts}
 use Rattle.trees.proofs.OutlineTexts.{text_or_is}
 use Rattle.trees.proofs.OutlinesBack.{loses_text, outline_back}
 use Rattle.trees.proofs.Readings.{fails_by_input}
@@ -22,4 +23,4 @@ returns-in_ok-wrong-in-Err-Text-clause-failed c =
     let t = tree_of c.args.tree.now in
     let form : Form = record { unit = indented.unit; bullet = c.unwrap_or.result } in
     let same : c.unwrap_or.result.now ≡ text_or indented.bullet [] = search (rules, text_or_is indented.bullet) in
-    fails_by_input (LosesText indented t) ⊥ c.in_ok-wrong-in-Err-Text.field-0 c.in_ok-wrong-in-Err-Text.ensures.input (loses_text indented t form same (λ file fits. c.in-Err-Text.ensures.text file (ap Err c.in-Err-Text.field-0-is) fits))
+    fails_by_input (LosesText indented t) ⊥ c.in_ok-wrong-in-Err-Text.field-0 c.in_ok-wrong-in-Err-Text.ensures.input (loses_text indented t form same (λ fits. c.in-Err-Text.ensures.text (ap Err c.in-Err-Text.field-0-is) (shown_texts indented.is_terminal form c.args.tree.now c.unwrap_or.utf8 fits)))
