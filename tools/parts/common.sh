@@ -49,27 +49,6 @@ need_crate() {
     fi
 }
 
-# Prints the processor time, in microseconds, that a call takes: the least of three. Arguments: how many variables its environment has
-# beside PTREE_INDENT, and the call. Its drawing goes to the scratch folder.
-time_of() {
-    python3 - "$scratch/out" "$@" <<'END'
-import os, subprocess, sys
-
-out, count, *call = sys.argv[1:]
-variables = {f"E{i}": "x" for i in range(int(count))} | {"PTREE_INDENT": "9"}
-
-
-def time():
-    with open(out, "wb") as file:
-        running = subprocess.Popen(call, env=variables, stdout=file, stderr=file)
-    used = os.wait4(running.pid, 0)[2]
-    return used.ru_utime + used.ru_stime
-
-
-print(int(1e6 * min(time() for _ in range(3))))
-END
-}
-
 # Checks what a call wrote. Arguments: name, actual status, expected status, and as printf formats the expected standard output and
 # standard error.
 expect_written() {

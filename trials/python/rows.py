@@ -5,7 +5,7 @@
 
 The folder of a file, `trees` or `sources`, says what its rows are of. With --damage each answer is also changed, one at a time, which must
 be noticed. CRATE is the folder of the program of trials/rows, which makes by `rt try` the calls that the library for C has not: those of a
-builder, of a graph's neighbours, also where it is turned round, and of a `Value`.
+builder, of a graph's neighbours, also where it is turned round, of a `Value`, and of the lines that can follow a text.
 
 The library for C draws outlines by code of its own, and graphs by the calls of the library. So each tree is drawn twice: as an outline, and
 as the graph that has its walks.
@@ -236,11 +236,12 @@ def spelled(config):
 
 
 def in_toml(config):
-    """A file that sets what rows about a `Value` set."""
+    """A file that sets what rows about a `Value`, or about the lines that can follow a text, set."""
     flags = [f"{flag} = true" for flag in c.FLAGS if getattr(config.leaf, flag)]
-    made = "\n".join([f'indent = {config.indent}\nstyled = "{config.styled}"\n[leaf]', *flags, ""])
-    if changed(config, indent=3, styled="tty", leaf=changed(config.leaf, **dict.fromkeys(c.FLAGS, False))) != ptree.Config():
-        raise Trouble("a setting that rows about a value have not")
+    depth = [f"depth = {config.depth}"] if config.depth is not None else []
+    made = "\n".join([*depth, f'indent = {config.indent}\nstyled = "{config.styled}"\n[leaf]', *flags, ""])
+    if changed(config, depth=None, indent=3, styled="tty", leaf=changed(config.leaf, **dict.fromkeys(c.FLAGS, False))) != ptree.Config():
+        raise Trouble("a setting that rows of this kind have not")
     return made
 
 
@@ -340,12 +341,16 @@ class Trees(Row):
     def __init__(self, program):
         super().__init__(program)
         self.text = self.edited = self.word = ""
+        self.next = []
         self.is_about_builder = False
         program.call("root", "")
         program.call("nodes", "")
 
     def keep_text(self, body):
         self.text = self.edited = parse_text(body)
+
+    def keep_next(self, body):
+        self.next = parse_text(body).removesuffix("\n").split("\n")
 
     def keep_whole(self, body):
         self.edited = self.text
@@ -370,7 +375,16 @@ class Trees(Row):
             return self.ask_builder(line, word)
         if word == "neighbors":
             return self.program.ask(line, word, str(self.start)).removeprefix(" ")
+        if word == "follow":
+            return self.ask_following(line)
         return super().take(line, word, body)
+
+    def ask_following(self, line):
+        self.program.call("settings", in_toml(self.config))
+        self.program.call("text", self.edited)
+        for text in self.next:
+            self.program.call("next", text)
+        return self.program.ask(line, "follow").removeprefix(" ")
 
     def edit(self, edit, body):
         number, _, form = body.partition(" ")

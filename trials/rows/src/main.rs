@@ -1,5 +1,6 @@
 //! Makes the calls that the library for C has none for, those of a builder, a graph that is turned
-//! round and a `Value`, for rows that ask for them (`trials/python/rows.py`).
+//! round, a `Value` and the lines that can follow a text, for rows that ask for them
+//! (`trials/python/rows.py`).
 //!
 //! Standard input is calls, each a word and a text, which the byte 0 ends. Each answer is its length
 //! in bytes, a blank, its text and a line feed.
@@ -10,13 +11,14 @@ use ptree::graph::{Graph, NodeIndex};
 use ptree::item::{StringItem, TreeItem};
 use ptree::output::tree_text;
 use ptree::print_config::{FileSource, PrintConfig, Sources, load};
+use ptree::read::lines_that_follow;
 use ptree::value::{ConvertError, Value};
 use std::alloc::{AllocError, Global};
 use std::process::ExitCode;
 use std::{io, mem};
 
-// What calls have made: a builder, whether it took the last item by its level, a graph, and a
-// document under a configuration.
+// What calls have made: a builder, whether it took the last item by its level, a graph, a document
+// under a configuration, and a text with lines that may follow it.
 #[derive(Drop)]
 struct Made {
     builder: TreeBuilder,
@@ -26,6 +28,8 @@ struct Made {
     label: String,
     is_json: bool,
     document: String,
+    text: String,
+    lines: Vec<String>,
 }
 
 // The word for why a document has no value.
@@ -93,6 +97,8 @@ impl Made {
             label: String::new(alloc),
             is_json: true,
             document: String::new(alloc),
+            text: String::new(alloc),
+            lines: Vec::new(alloc),
         })
     }
 
@@ -143,6 +149,17 @@ impl Made {
         Ok(out)
     }
 
+    // Whether each of the lines can follow the text, each answer behind a blank.
+    fn follow(&self, alloc: Global) -> Result<String, AllocError> {
+        let mut out = String::new(alloc);
+        for follows in
+            lines_that_follow(alloc, self.text.as_str(), &self.lines, &self.config)?.iter()
+        {
+            out.push_str(if *follows { " yes" } else { " no" })?;
+        }
+        Ok(out)
+    }
+
     // The document's value.
     fn value(&self, alloc: Global) -> Result<Value, &'static str> {
         if self.is_json {
@@ -180,6 +197,7 @@ impl Made {
     ) -> Result<Option<String>, AllocError> {
         let found = match word {
             "neighbors" => self.neighbors(alloc, text)?,
+            "follow" => self.follow(alloc)?,
             "level" => format!(in alloc; "{}", self.builder.level())?,
             "outcome" => String::from_str(alloc, if self.taken { "taken" } else { "refused" })?,
             "built" => items_of(alloc, &self.builder.build()?)?,
@@ -209,6 +227,11 @@ impl Made {
             }
             "reversed" => self.reverse(alloc),
             "settings" => self.config = config_of(alloc, text)?,
+            "text" => {
+                self.text = String::from_str(alloc, text)?;
+                self.lines.clear();
+            }
+            "next" => self.lines.push(String::from_str(alloc, text)?)?,
             "label" => self.label = String::from_str(alloc, text)?,
             "json" | "toml" => {
                 self.is_json = word == "json";
