@@ -67,7 +67,7 @@ impl<'a> OpenDrawing<'a> {
             self.is_closed = is_closed(own, frame);
             return Ok(Some(rest));
         }
-        let Some((line, rest)) = self.path.go_on(text, frame)? else {
+        let Some((line, rest)) = self.path.go_on::<1>(text, frame)? else {
             return Ok(None);
         };
         let own = match line {

@@ -105,7 +105,7 @@ fn pair(line: &str) -> Result<Option<(&str, &str)>, &'static str>
 // Says what a line of more than two words is, by its second word.
 fn more_than_two(second: &str) -> &'static str {
     if second == "=" {
-        "expected two words, found TOML without [[package]]"
+        "expected two words, found more, as in TOML without [[package]]"
     } else {
         "expected two words, found more"
     }
