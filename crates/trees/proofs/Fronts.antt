@@ -8,7 +8,7 @@ use Rattle.ptree.specs.Readable.{IsReadable}
 use Rattle.ptree.specs.Spelled.{ArePassing}
 use Rattle.ptree.specs.Texts.{IsPrefixOf}
 use Rattle.ptree.proofs.Reading.Paths.{passing_all-push}
-use Rattle.trees.specs.Expected.{EndsBelow, ShowsSibling, AreFronts, AddsTexts}
+use Rattle.trees.specs.Expected.{EndsBelow, AreFronts, AddsTexts}
 use Rattle.trees.proofs.DistinctTexts.{distinct_both, all_contained, texts_none, texts_one, texts_two}
 
 -- a text, and a passing piece behind it
@@ -16,7 +16,7 @@ abbrev pub EndsPassing : Pieces → List ℕ → List ℕ → Type 0
 EndsPassing p front text = (last : Bool) × (text ≡ front ++ passing_piece p last)
 
 -- a passing piece is not empty
-pub passing_some : (p : Pieces) → IsReadable p → (b : Bool) → 0 < length (passing_piece p b)
+passing_some : (p : Pieces) → IsReadable p → (b : Bool) → 0 < length (passing_piece p b)
 passing_some p h b = at (passing_piece p b) refl where
   at : (x : List ℕ) → passing_piece p b ≡ x → 0 < length x
   at [] e = absurd ((h.turning_passing b b).1 (turning_piece p b, ap (λ z. z ++ turning_piece p b) (sym e)))
@@ -50,11 +50,6 @@ pub record AreFrontsTo (p : Pieces) (fronts : List (List ℕ)) (front : List ℕ
   pub last : PassesSome p front
   pub short : All (λ f. length f ≤ length front) fronts
 
--- all or none of them are left
-pub fronts_forgotten : (p : Pieces) (old new : List (List ℕ)) (front rest : List ℕ) → (new ≡ old) ⊎ ((new ≡ []) × ShowsSibling p rest) → AreFrontsBelow p old front → AreFrontsBelow p new front
-fronts_forgotten p old new front rest (inl same) h = subst (λ z. AreFrontsBelow p z front) (sym same) h
-fronts_forgotten p old new front rest (inr (none, shows)) h = subst (λ z. AreFrontsBelow p z front) (sym none) record { are = (All-nil (PassesSome p), tt); next = h.next; shorter = All-nil (λ f. length f < length front) }
-
 -- texts that are shorter and longer are different
 apart_by_length : (n : ℕ) (xs ys : List (List ℕ)) → All (λ f. length f ≤ n) xs → All (λ f. n < length f) ys → All (λ x. All (λ y. x ≢ y) ys) xs
 apart_by_length n xs ys h k = λ i d low. λ j e below. λ same. let long = ap length same in omega (arith, h i d low, k j e below, long)
@@ -69,10 +64,6 @@ front_added p fronts new front is h = subst (λ z. AreFrontsTo p z front) (sym i
   last = h.next;
   short = All-append (λ f. length f ≤ length front) fronts (front ∷ []) (λ k d low. let less = h.shorter k d low in omega arith) (All-cons (λ f. length f ≤ length front) front [] (omega arith) (All-nil (λ f. length f ≤ length front)));
 }
-
--- or they are passed over
-pub front_passed : (p : Pieces) (fronts new : List (List ℕ)) (front : List ℕ) → new ≡ fronts → AreFrontsBelow p fronts front → AreFrontsTo p new front
-front_passed p fronts new front is h = subst (λ z. AreFrontsTo p z front) (sym is) record { are = h.are; last = h.next; short = λ k d low. let less = h.shorter k d low in omega arith }
 
 -- those of the next level are longer
 pub front_longer : (p : Pieces) → IsReadable p → (fronts : List (List ℕ)) (front text : List ℕ) → EndsPassing p front text → AreFrontsTo p fronts front → AreFrontsBelow p fronts text

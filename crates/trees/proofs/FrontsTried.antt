@@ -1,17 +1,24 @@
 -- That no passing pieces are missing behind which an item could follow a line.
-use Rattle.std.proofs.Common.{◌≡◌, ℕ, suc, ◌<◌, ◌≤◌, ◌⊎◌, inl, inr, Bool, List, [], ◌∷◌, ◌++◌, length, length-append, sym, ap, ◌∙◌, subst, append_assoc, arith}
+use Rattle.std.proofs.Common.{◌≡◌, ◌≢◌, ℕ, suc, ◌<◌, ◌≤◌, inl, inr, Bool, List, [], ◌∷◌, ◌++◌, length, length-append, sym, ap, ◌∙◌, subst, append_assoc, arith}
 use Rattle.std.proofs.lemmas.Bool.{cases_lt}
 use Rattle.std.proofs.lemmas.List.Elements.{Contains-append_left, Contains-append_right, Contains-push}
 use Rattle.std.specs.Prelude.{Contains}
 use Rattle.ptree.specs.Pieces.{Pieces, turning_piece, passing_piece, passing_all}
 use Rattle.ptree.specs.Readable.{IsReadable}
 use Rattle.ptree.specs.Texts.{IsPrefixOf}
+use Rattle.ptree.proofs.Pieces.Prefixes.{apart_not_both_starts}
 use Rattle.ptree.proofs.Reading.Markers.{passings_once}
 use Rattle.ptree.proofs.Reading.OpenItems.{cut_flags, passing_parts}
 use Rattle.ptree.proofs.Reading.Paths.{passing_all-push}
-use Rattle.trees.specs.Expected.{EndsBelow, ShowsSibling, ShowsLast, LeavesOpen, HasFronts, AddsBeside, AddsTexts}
-use Rattle.trees.proofs.Fronts.{AreFrontsBelow, AreFrontsTo, fronts_forgotten, front_added, front_passed}
-use Rattle.trees.proofs.OpenLevels.{NonePasses, turning_passes_none}
+use Rattle.trees.specs.Expected.{EndsBelow, HasFronts, AddsTexts}
+
+-- no passing piece is at the start of a text
+abbrev pub NonePasses : Pieces → List ℕ → Type 0
+NonePasses p text = (last : Bool) (z : List ℕ) → text ≢ passing_piece p last ++ z
+
+-- no turning piece is a passing one
+turning_passes_none : (p : Pieces) → IsReadable p → (b : Bool) (z : List ℕ) → NonePasses p (turning_piece p b ++ z)
+turning_passes_none p h b z last rest e = apart_not_both_starts (turning_piece p b) (passing_piece p last) z rest (h.turning_passing b last) e
 
 -- of a line that begins with n passing pieces, those of fewer levels than m are tried
 pub record HasTried (p : Pieces) (line : List ℕ) (n m : ℕ) (fronts : List (List ℕ)) (front rest : List ℕ) : Type 0 where
@@ -19,7 +26,7 @@ pub record HasTried (p : Pieces) (line : List ℕ) (n m : ℕ) (fronts : List (L
   pub count : length above ≡ n
   pub front_is : front ≡ passing_all p above
   pub line_is : line ≡ front ++ rest
-  pub tried : (other : List Bool) → length other < m → LeavesOpen p line other → Contains fronts (passing_all p other)
+  pub tried : (other : List Bool) → length other < m → IsPrefixOf (passing_all p other) line → Contains fronts (passing_all p other)
 
 -- ## What a line begins with
 
@@ -58,23 +65,8 @@ none_turns p readable line n m fronts front rest h above last (z, is) = elim (ca
 
 -- ## From level to level
 
--- where the line shows that a sibling follows, no level above is open
-tried_forgotten : (p : Pieces) → IsReadable p → (line : List ℕ) (n : ℕ) (old new : List (List ℕ)) (front rest : List ℕ) → (new ≡ old) ⊎ ((new ≡ []) × ShowsSibling p rest)
-    → HasTried p line n n old front rest → HasTried p line n n new front rest
-tried_forgotten p readable line n old new front rest (inl same) h = subst (λ z. HasTried p line n n z front rest) (sym same) h
-tried_forgotten p readable line n old new front rest (inr (none, shows)) h = record {
-  above = h.above;
-  count = h.count;
-  front_is = h.front_is;
-  line_is = h.line_is;
-  tried = λ other low shown.
-      let (a, b, c, len, parts) = cut_line p line n n (length other) old front rest h low in
-      let same = passings_once p readable other a shown.0 (passing_all p (b ∷ c) ++ rest) (sym len) (sym shown.1 ∙ parts) in
-      absurd (shown.2 b c rest same.1 shows);
-}
-
 -- those of the next level are tried
-tried_more : (p : Pieces) → IsReadable p → (line : List ℕ) (n : ℕ) (fronts new : List (List ℕ)) (front rest : List ℕ) → new ≡ fronts ++ front ∷ [] → HasTried p line n n fronts front rest → HasTried p line n (suc n) new front rest
+pub tried_more : (p : Pieces) → IsReadable p → (line : List ℕ) (n : ℕ) (fronts new : List (List ℕ)) (front rest : List ℕ) → new ≡ fronts ++ front ∷ [] → HasTried p line n n fronts front rest → HasTried p line n (suc n) new front rest
 tried_more p readable line n fronts new front rest is h = record {
   above = h.above;
   count = h.count;
@@ -87,36 +79,6 @@ tried_more p readable line n fronts new front rest is h = record {
         subst (Contains (fronts ++ front ∷ [])) (h.front_is ∙ sym same.0) (Contains-push fronts front)
   ]);
 }
-
--- or they are those of a last child, which no sibling follows
-tried_last : (p : Pieces) → IsReadable p → (line : List ℕ) (n : ℕ) (fronts new : List (List ℕ)) (front rest : List ℕ) → new ≡ fronts → ShowsLast p rest → HasTried p line n n fronts front rest → HasTried p line n (suc n) new front rest
-tried_last p readable line n fronts new front rest is last h = record {
-  above = h.above;
-  count = h.count;
-  front_is = h.front_is;
-  line_is = h.line_is;
-  tried = λ other low shown. subst (λ z. Contains z (passing_all p other)) (sym is) (elim (cases_lt (length other) n) [
-    | inl less ↦ h.tried other less shown
-    | inr most ↦
-        let same = passings_once p readable other h.above shown.0 rest (omega (arith, low, most, h.count)) (sym shown.1 ∙ (h.line_is ∙ ap (λ z. z ++ rest) h.front_is)) in
-        absurd (shown.3 (subst (ShowsLast p) (sym same.1) last))
-  ]);
-}
-
--- the fronts after those of the next level
-pub record AreNext (p : Pieces) (line : List ℕ) (n : ℕ) (fronts : List (List ℕ)) (front rest : List ℕ) : Type 0 where
-  pub are : AreFrontsTo p fronts front
-  pub have : HasTried p line n (suc n) fronts front rest
-
--- some are forgotten, and the next ones are added or passed over
-pub next_added : (p : Pieces) → IsReadable p → (line : List ℕ) (n : ℕ) (old new : List (List ℕ)) (front rest : List ℕ) → AddsBeside p rest front old new → AreFrontsBelow p old front → HasTried p line n n old front rest → AreNext p line n new front rest
-next_added p readable line n old new front rest (kept, forgotten, added) are tried =
-    let left : AreFrontsBelow p kept front = fronts_forgotten p old kept front rest forgotten are in
-    let before : HasTried p line n n kept front rest = tried_forgotten p readable line n old kept front rest forgotten tried in
-    elim added [
-      | inl more ↦ record { are = front_added p kept new front more left; have = tried_more p readable line n kept new front rest more before }
-      | inr passed ↦ record { are = front_passed p kept new front passed.0 left; have = tried_last p readable line n kept new front rest passed.0 passed.1 before }
-    ]
 
 -- the line goes on with one more passing piece
 pub tried_deeper : (p : Pieces) (line : List ℕ) (n : ℕ) (fronts : List (List ℕ)) (front rest longer left : List ℕ) (last : Bool) → longer ≡ front ++ passing_piece p last → rest ≡ passing_piece p last ++ left

@@ -61,7 +61,6 @@ pub mod NpmTargets
 pub mod NpmWalks
 pub mod NpmWorkspaces
 pub mod NpmGiven
-pub mod OpenLevels
 pub mod Outlines
 pub mod OutlinesBack
 pub mod PairGraphs

@@ -1,5 +1,5 @@
 -- Behind which passing pieces an item can follow whole lines.
-use Rattle.std.proofs.Common.{◌≡◌, ◌≢◌, ℕ, zero, suc, ◌<◌, ◌≤◌, ◌⊎◌, inl, inr, Bool, true, false, not, List, [], ◌∷◌, ◌++◌, length, length-append, refl, sym, ap, ◌∙◌, subst, append_assoc, arith}
+use Rattle.std.proofs.Common.{◌≡◌, ◌≢◌, ℕ, zero, suc, ◌<◌, ◌≤◌, ◌⊎◌, inl, inr, Bool, not, List, [], ◌∷◌, ◌++◌, length, length-append, refl, sym, ap, ◌∙◌, subst, append_assoc, arith}
 use Rattle.std.proofs.lemmas.Bool.{cases_lt}
 use Rattle.std.proofs.lemmas.List.{append-nil}
 use Rattle.std.specs.Prelude.{Contains, flat_map}
@@ -9,26 +9,25 @@ use Rattle.ptree.specs.Flags.{has_later, last_flags, pieces_by, passing_by}
 use Rattle.ptree.specs.Outline.{Line, line, outline_at}
 use Rattle.ptree.specs.Pieces.{Pieces, turning_piece, passing_piece, passing_all}
 use Rattle.ptree.specs.Reached.{lines_text}
-use Rattle.ptree.specs.Readable.{IsReadable, IsReadableWith}
+use Rattle.ptree.specs.Readable.{IsReadableWith}
 use Rattle.ptree.specs.Spelled.{ArePiecesAt}
 use Rattle.ptree.specs.Style.{style_codes, start_codes, end_codes}
 use Rattle.ptree.specs.Texts.{IsPrefixOf}
 use Rattle.ptree.proofs.Pieces.Prefixes.{same_pieces}
 use Rattle.ptree.proofs.Reading.LastFlags.{length-last_flags}
+use Rattle.ptree.proofs.Reading.Levels.{has_later_deeper, last_flags_same}
 use Rattle.ptree.proofs.Reading.Markers.{turning_is_no_marker}
 use Rattle.ptree.proofs.Reading.NextLines.{line_split, form_outline}
 use Rattle.ptree.proofs.Reading.Paths.{passing_all-push}
 use Rattle.ptree.proofs.Reading.SpelledForms.{pieces_at}
 use Rattle.ptree.proofs.Styles.PaintedTexts.{painted_plain}
-use Rattle.trees.specs.Expected.{IsLastLine, EndsPieces, ShowsLast, LeavesOpen, HasFronts}
-use Rattle.trees.proofs.Fronts.{passing_some}
+use Rattle.trees.specs.Expected.{IsLastLine, EndsPieces, HasFronts}
 use Rattle.trees.proofs.NextItems.{further, before, ContinuesNone, GoesOnAt, next_item, ShowsItem, last_shows}
-use Rattle.trees.proofs.OpenLevels.{NonePasses, IsClosed, turning_passes_none, turning_closed, marker_closed, regular_is_not_last, marker_is_not_last, nothing_is_not_last, open_here, open_above, passing_all-append, flags_split, flags_above, comes_later, closed_below}
 
 -- passing pieces behind which a line lets an item follow: beside one that it is below, or below its own
 abbrev pub Lets : Pieces → List ℕ → ℕ → List ℕ → Type 0
 Lets p line n front =
-    ((above : List Bool) × (length above ≡ n) × LeavesOpen p line above × (front ≡ passing_all p above))
+    ((above : List Bool) × (length above ≡ n) × IsPrefixOf (passing_all p above) line × (front ≡ passing_all p above))
     ⊎ ((above : List Bool) × (last : Bool) × (suc (length above) ≡ n) × IsPrefixOf (passing_all p above ++ turning_piece p last) line × (front ≡ passing_all p (above ++ last ∷ [])))
 
 -- these are among those that a line has
@@ -60,42 +59,42 @@ plain_further k plain passing = painted_plain k.branch (passing ++ k.marker) pla
 
 -- ## The next item's passing pieces
 
--- flags, the next one and others, behind one another
-regrouped : (p : Pieces) (flags ts : List Bool) (c : Bool) (tail : List ℕ) → passing_all p ((flags ++ c ∷ []) ++ ts) ++ tail ≡ passing_all p flags ++ (passing_piece p c ++ (passing_all p ts ++ tail))
-regrouped p flags ts c tail =
-    ap (λ z. z ++ tail) (passing_all-append p (flags ++ c ∷ []) ts ∙ ap (λ z. z ++ passing_all p ts) (passing_all-push p flags c)) ∙ groups (passing_all p flags) (passing_piece p c) (passing_all p ts)
-  where
-    groups : (x y z : List ℕ) → ((x ++ y) ++ z) ++ tail ≡ x ++ (y ++ (z ++ tail))
-    groups x y z = simp append_assoc
+-- the passing pieces of fewer levels begin those of more
+fewer_flags : (p : Pieces) (o : List Line) (n m : ℕ) → n ≤ m → IsPrefixOf (passing_all p (last_flags o n)) (passing_all p (last_flags o m))
+fewer_flags p o n zero low =
+    let same : n ≡ zero = omega arith in
+    ([], ap (λ k. passing_all p (last_flags o k)) (sym same) ∙ sym (append-nil (passing_all p (last_flags o n))))
+fewer_flags p o n (suc m) low = elim (cases_lt m n) [
+  | inl more ↦
+      let same : n ≡ suc m = omega arith in
+      ([], ap (λ k. passing_all p (last_flags o k)) (sym same) ∙ sym (append-nil (passing_all p (last_flags o n))))
+  | inr few ↦
+      let (z, is) = fewer_flags p o n m few in
+      let b : Bool = not (has_later o (suc m)) in
+      (z ++ passing_piece p b, passing_all-push p (last_flags o m) b ∙ (ap (λ y. y ++ passing_piece p b) is ∙ append_assoc (passing_all p (last_flags o n)) z (passing_piece p b)))
+]
+
+-- an item leaves the flags above it as they are
+flags_above : (next : Line) (after : List Line) (n : ℕ) → next.level ≡ suc n → last_flags (next ∷ after) n ≡ last_flags after n
+flags_above next after n is = last_flags_same (next ∷ after) after n (λ m low. has_later_deeper next after m (omega (arith, is)))
 
 -- an item that is beside one that the line is below
-beside_front : (p : Pieces) → IsReadable p → (next : Line) (after : List Line) (n m : ℕ) → next.level ≡ suc n → n ≤ m → (line tail : List ℕ) → NonePasses p tail → (n < m → IsClosed p tail)
-    → (m ≡ n → ShowsLast p tail → ⊥) → line ≡ passing_all p (last_flags (next ∷ after) m) ++ tail → Lets p line n (passing_all p (last_flags after n))
-beside_front p h next after n m is low line tail none closed first e = elim (cases_lt n m) [
-  | inl less ↦
-      let (ts, are, split) = flags_split below (suc n) m (omega arith) (λ l a b. closed_below next after n l is a) in
-      let c : Bool = not (has_later below (suc n)) in
-      let shown : line ≡ passing_all p flags ++ (passing_piece p c ++ (passing_all p ts ++ tail)) = e ∙ (ap (λ f. passing_all p f ++ tail) split ∙ regrouped p flags ts c tail) in
-      inl (flags, length-last_flags below n, subst (λ z. LeavesOpen p z flags) (sym shown) (open_above p h flags ts c tail (ap not (comes_later next after n is)) are (closed less)), front)
-  | inr more ↦
-      let same : m ≡ n = omega arith in
-      let shown : line ≡ passing_all p flags ++ tail = e ∙ ap (λ l. passing_all p (last_flags below l) ++ tail) same in
-      inl (flags, length-last_flags below n, subst (λ z. LeavesOpen p z flags) (sym shown) (open_here p flags tail none (first same)), front)
-] where
-  below : List Line
-  below = next ∷ after
-
-  flags : List Bool
-  flags = last_flags below n
-
-  front : passing_all p (last_flags after n) ≡ passing_all p flags
-  front = ap (passing_all p) (sym (flags_above next after n is))
+beside_front : (p : Pieces) (next : Line) (after : List Line) (n m : ℕ) → next.level ≡ suc n → n ≤ m → (line tail : List ℕ) → line ≡ passing_all p (last_flags (next ∷ after) m) ++ tail
+    → Lets p line n (passing_all p (last_flags after n))
+beside_front p next after n m is low line tail e =
+    let flags : List Bool = last_flags (next ∷ after) n in
+    let (z, begins) = fewer_flags p (next ∷ after) n m low in
+    inl (
+      flags,
+      length-last_flags (next ∷ after) n,
+      (z ++ tail, e ∙ (ap (λ y. y ++ tail) begins ∙ append_assoc (passing_all p flags) z tail)),
+      ap (passing_all p) (sym (flags_above next after n is)),
+    )
 
 -- an item after the own line of one at a level
-own_front : (p : Pieces) → IsReadable p → (next : Line) (after : List Line) (n m : ℕ) → next.level ≡ suc n → n ≤ m → 0 < m → (line v : List ℕ) → line ≡ pieces_by p (next ∷ after) m ++ v
-    → Lets p line n (passing_all p (last_flags after n))
-own_front p h next after n zero is high low line v e = absurd (omega arith)
-own_front p h next after n (suc m) is high low line v e =
+own_front : (p : Pieces) (next : Line) (after : List Line) (n m : ℕ) → next.level ≡ suc n → n ≤ m → 0 < m → (line v : List ℕ) → line ≡ pieces_by p (next ∷ after) m ++ v → Lets p line n (passing_all p (last_flags after n))
+own_front p next after n zero is high low line v e = absurd (omega arith)
+own_front p next after n (suc m) is high low line v e =
     let below : List Line = next ∷ after in
     let b : Bool = not (has_later below (suc m)) in
     elim (cases_lt m n) [
@@ -103,33 +102,20 @@ own_front p h next after n (suc m) is high low line v e =
           let same : n ≡ suc m = omega arith in
           let front : passing_all p (last_flags after n) ≡ passing_all p (last_flags below m ++ b ∷ []) = ap (passing_all p) (sym (flags_above next after n is) ∙ ap (last_flags below) same) in
           inr (last_flags below m, b, omega (arith, length-last_flags below m), (v, e), front)
-      | inr beside ↦
-          beside_front p h next after n m is beside line (turning_piece p b ++ v) (turning_passes_none p h b v)
-          (λ less.
-          let last : turning_piece p b ≡ turning_piece p true = ap (turning_piece p) (ap not (closed_below next after n (suc m) is (omega arith))) in
-          subst (λ z. IsClosed p (z ++ v)) (sym last) (turning_closed p h v))
-          (λ same.
-          let first : turning_piece p b ≡ turning_piece p false = ap (turning_piece p) (ap not (ap (has_later below) (ap suc same) ∙ comes_later next after n is)) in
-          subst (λ z. ShowsLast p (z ++ v) → ⊥) (sym first) (regular_is_not_last p h v))
-          (e ∙ append_assoc (passing_all p (last_flags below m)) (turning_piece p b) v)
+      | inr beside ↦ beside_front p next after n m is beside line (turning_piece p b ++ v) (e ∙ append_assoc (passing_all p (last_flags below m)) (turning_piece p b) v)
     ]
 
 -- an item after the last line of whole ones
-next_front : (k : Look) → IsReadableWith k.pieces k.marker → IsPlainLook k → (item next : Line) (after : List Line) (n : ℕ) (line : List ℕ) → next.level ≡ suc n → n ≤ item.level
-    → ShowsItem k item (next ∷ after) line → Lets k.pieces line n (passing_all k.pieces (last_flags after n))
-next_front k r plain item next after n line is high (inl (root, none)) =
-    let p : Pieces = k.pieces in
+next_front : (k : Look) → IsPlainLook k → (item next : Line) (after : List Line) (n : ℕ) (line : List ℕ) → next.level ≡ suc n → n ≤ item.level → ShowsItem k item (next ∷ after) line
+    → Lets k.pieces line n (passing_all k.pieces (last_flags after n))
+next_front k plain item next after n line is high (inl (root, none)) =
     let top : n ≡ 0 = omega (arith, root, high) in
-    let shows : LeavesOpen p line [] = subst (λ z. LeavesOpen p z []) (sym none) (open_here p [] [] (λ b z e. let long = ap length e in omega (arith, passing_some p r.pieces b, simp length-append at long)) (nothing_is_not_last p r.pieces)) in
-    subst (λ m. Lets p line m (passing_all p (last_flags after m))) (sym top) (inl ([], refl, shows, refl))
-next_front k r plain item next after n line is high (inr (inl (v, low, own))) =
-    own_front k.pieces r.pieces next after n item.level is high low line v (own ∙ ap (λ z. z ++ v) (plain_before k plain item (next ∷ after)))
-next_front k r plain item next after n line is high (inr (inr (v, other))) =
-    let p : Pieces = k.pieces in
-    let passing : List ℕ = passing_by p (next ∷ after) item.level in
-    let closed : IsClosed p (k.marker ++ v) = marker_closed p k.marker r v in
-    beside_front p r.pieces next after n item.level is high line (k.marker ++ v) closed.0 (λ less. closed) (λ same. marker_is_not_last p k.marker r v)
-    (other ∙ (ap (λ z. z ++ v) (plain_further k plain passing) ∙ append_assoc passing k.marker v))
+    subst (λ m. Lets k.pieces line m (passing_all k.pieces (last_flags after m))) (sym top) (inl ([], refl, (line, refl), refl))
+next_front k plain item next after n line is high (inr (inl (v, low, own))) =
+    own_front k.pieces next after n item.level is high low line v (own ∙ ap (λ z. z ++ v) (plain_before k plain item (next ∷ after)))
+next_front k plain item next after n line is high (inr (inr (v, other))) =
+    let passing : List ℕ = passing_by k.pieces (next ∷ after) item.level in
+    beside_front k.pieces next after n item.level is high line (k.marker ++ v) (other ∙ (ap (λ z. z ++ v) (plain_further k plain passing) ∙ append_assoc passing k.marker v))
 
 -- ## Beginnings
 
@@ -159,7 +145,7 @@ next_let k r plain first a shown rest root last n text at g =
       n = n;
       level_is = refl;
       front = passing_all p (last_flags g.after n);
-      lets = next_front k r plain g.item g.next g.after n shown (sym same.level) high (last_shows k r first a (text ++ rest) shown root last g);
+      lets = next_front k plain g.item g.next g.after n shown (sym same.level) high (last_shows k r first a (text ++ rest) shown root last g);
       ends = (not (has_later g.after (suc n)), same.pieces ∙ ap (pieces_by p g.after) (sym same.level));
     }
 

@@ -123,32 +123,9 @@ EndsBelow p front rest text = (last : Bool) × IsPrefixOf (turning_piece p last)
 abbrev pub AreFronts : Pieces → List (List ℕ) → Type 0
 AreFronts p fronts = All (λ front. (level : ℕ) × ArePassing p level front) fronts × AreDistinct fronts
 
--- a line goes on with the piece of an item that is no last child, and that of a last child is another
-abbrev pub ShowsSibling : Pieces → List ℕ → Type 0
-ShowsSibling p rest = ((p.child ≢ p.last_child) × IsPrefixOf p.child rest) ⊎ ((p.regular ≢ p.last_regular) × IsPrefixOf p.regular rest)
-
--- a line goes on with the piece of a last child, and that of another child is another
-abbrev pub ShowsLast : Pieces → List ℕ → Type 0
-ShowsLast p rest = ((p.last_child ≢ p.child) × IsPrefixOf p.last_child rest) ⊎ ((p.last_regular ≢ p.regular) × IsPrefixOf p.last_regular rest)
-
--- a line begins with passing pieces, no item below the next level shows that a sibling follows it, and
--- none on that level that it is the last one
-abbrev pub LeavesOpen : Pieces → List ℕ → List Bool → Type 0
-LeavesOpen p line above =
-    (rest : List ℕ) × (line ≡ passing_all p above ++ rest)
-    × ((last : Bool) (more : List Bool) (left : List ℕ) → rest ≡ passing_all p (last ∷ more) ++ left → ShowsSibling p left → ⊥)
-    × (ShowsLast p rest → ⊥)
-
--- texts grow by these behind which a line goes on so, unless it goes on with a last child. Where it goes on with an item that is
--- no last child, all others may be forgotten
-abbrev pub AddsBeside : Pieces → List ℕ → List ℕ → List (List ℕ) → List (List ℕ) → Type 0
-AddsBeside p rest front old new =
-    (kept : List (List ℕ)) × ((kept ≡ old) ⊎ ((kept ≡ []) × ShowsSibling p rest))
-    × ((new ≡ kept ++ front ∷ []) ⊎ ((new ≡ kept) × ShowsLast p rest))
-
 -- among the texts are the passing pieces down to level 31 behind which an item could follow a line: a
 -- sibling of one that the line is below, or a child of the one whose own line it is
 pub record HasFronts (p : Pieces) (line : List ℕ) (fronts : List (List ℕ)) : Type 0 where
-  pub beside : (above : List Bool) → length above < 32 → LeavesOpen p line above → Contains fronts (passing_all p above)
+  pub beside : (above : List Bool) → length above < 32 → IsPrefixOf (passing_all p above) line → Contains fronts (passing_all p above)
   pub below : (above : List Bool) (last : Bool) → suc (length above) < 32 → IsPrefixOf (passing_all p above ++ turning_piece p last) line
       → Contains fronts (passing_all p (above ++ last ∷ []))

@@ -1,10 +1,10 @@
 //! What could stand in the place of a wrong line.
-ghost use Rattle.std.specs.Prelude.{◌≡◌, ◌≢◌, ◌↔◌, ◌⊎◌, ℕ, Bool, List, [], ◌∷◌, ◌++◌, length, map, codes, IsTrue, IfOk, MatchOption, OnOk, string_bytes};
+ghost use Rattle.std.specs.Prelude.{◌≡◌, ◌≢◌, ◌↔◌, ℕ, Bool, List, [], ◌∷◌, ◌++◌, length, map, codes, IsTrue, IfOk, MatchOption, OnOk, string_bytes};
 ghost use Rattle.ptree.specs.Config.{config_of};
 ghost use Rattle.ptree.specs.Pieces.{passing_piece, config_pieces, pieces_of};
 ghost use Rattle.ptree.specs.Readable.{IsReadable, HasReadablePieces};
 ghost use Rattle.ptree.specs.Texts.{line_feed, IsPrefixOf};
-ghost use Rattle.trees.specs.Expected.{ListsBeginnings, IsTooDeep, IsLastLine, AddsListed, IsFlagged, EndsPieces, EndsFront, EndsBelow, ShowsLast, ShowsSibling, AddsBeside, AreDistinct, AreFronts, HasFronts, AddsTexts};
+ghost use Rattle.trees.specs.Expected.{ListsBeginnings, IsTooDeep, IsLastLine, AddsListed, IsFlagged, EndsPieces, EndsFront, EndsBelow, AreDistinct, AreFronts, HasFronts, AddsTexts};
 
 use crate::levels;
 use crate::source::behind;
@@ -49,7 +49,7 @@ fn fronts(alloc: Global, line: &str, indent: &Indent) -> Result<Vec<String>, All
     let mut front = String::new(alloc);
     let mut rest = line;
     for passed in 0..LEVELS {
-        push_beside(alloc, &mut fronts, front.as_str(), rest, indent)?;
+        fronts.push(String::from_str(alloc, front.as_str())?)?;
         let Some((piece, left)) = passing(indent, rest) else {
             if passed + 1 < LEVELS {
                 push_below(alloc, &mut fronts, front.as_str(), rest, indent)?;
@@ -60,56 +60,6 @@ fn fronts(alloc: Global, line: &str, indent: &Indent) -> Result<Vec<String>, All
         rest = left;
     }
     Ok(fronts)
-}
-
-// Adds the passing pieces behind which a line goes on so. If it goes on with an item that is no last
-// child, its sibling has to follow before anything above, so all others are forgotten. A last child
-// has no sibling.
-fn push_beside(
-    alloc: Global,
-    fronts: &mut Vec<String>,
-    front: &str,
-    rest: &str,
-    indent: &Indent,
-) -> Result<(), AllocError>
-    ensures { OnOk result (AddsBeside (pieces_of indent.now) rest.now front.now
-        (map string_bytes fronts.old.items) (map string_bytes fronts.new.items)) }
-{
-    if shows_last(rest, indent) {
-        return Ok(());
-    }
-    if shows_sibling(rest, indent) {
-        fronts.clear();
-    }
-    Ok(fronts.push(String::from_str(alloc, front)?)?)
-}
-
-// Whether a line goes on with the piece of a last child, and that of another child is another.
-fn shows_last(rest: &str, indent: &Indent) -> bool
-    ensures { IsTrue result → ShowsLast (pieces_of indent.now) rest.now }
-{
-    let (child, last) = (&indent.child_prefix, &indent.last_child_prefix);
-    let (regular, last_regular) = (&indent.regular_prefix, &indent.last_regular_prefix);
-    begins_apart(rest, last.as_str(), child.as_str())
-        || begins_apart(rest, last_regular.as_str(), regular.as_str())
-}
-
-// Whether a line goes on with the piece of a child that a sibling follows, and that of a last child
-// is another.
-fn shows_sibling(rest: &str, indent: &Indent) -> bool
-    ensures { IsTrue result → ShowsSibling (pieces_of indent.now) rest.now }
-{
-    let (child, last) = (&indent.child_prefix, &indent.last_child_prefix);
-    let (regular, last_regular) = (&indent.regular_prefix, &indent.last_regular_prefix);
-    begins_apart(rest, child.as_str(), last.as_str())
-        || begins_apart(rest, regular.as_str(), last_regular.as_str())
-}
-
-// Whether a text begins with a piece, and another piece differs from it.
-fn begins_apart(text: &str, piece: &str, other: &str) -> bool
-    ensures { IsTrue result → (piece.now ≢ other.now) × IsPrefixOf piece.now text.now }
-{
-    piece != other && begins(text, piece)
 }
 
 // Whether a text begins with a piece.
