@@ -1,7 +1,8 @@
 -- With which pieces a text is read, and what is said of them.
-use Rattle.std.proofs.Common.{◌≡◌, ◌≢◌, ℕ, ◌-◌, ◌≤◌, inl, inr, Bool, true, false, Option, Some, None, Result, Ok, Err, IfOk, IsTrue, ◌↔◌, All, List, [], ◌∷◌, ◌++◌, length, slice_index_or, take, Contains, codes, refl, sym, ap, ◌∙◌, subst, append_assoc, lit<}
+use Rattle.std.proofs.Common.{◌≡◌, ◌≢◌, ℕ, ◌-◌, ◌≤◌, inl, inr, Bool, true, false, Option, Some, None, Result, Ok, Err, IfOk, IsTrue, ◌↔◌, All, List, [], ◌∷◌, ◌++◌, length, get_or, slice_index_or, take, Contains, codes, refl, sym, ap, ◌∙◌, subst, append_assoc, lit<}
 use Rattle.std.proofs.Math.Dec.{ltb}
 use Rattle.std.proofs.lemmas.Bool.{ltb-true, false≢true}
+use Rattle.std.proofs.lemmas.List.{append-nil}
 use Rattle.std.proofs.lemmas.List.Elements.{All-contains}
 use Rattle.std.proofs.lemmas.Str.Pattern.{ends_char}
 use Rattle.std.proofs.lemmas.Str.{encode_ascii}
@@ -13,13 +14,17 @@ use Rattle.ptree.specs.declared.item.StringItem.{StringItem}
 use Rattle.ptree.specs.declared.presets.Preset.TheVariants.{Tree, TreeAscii, CargoTree, CargoTreeAscii, Findmnt, FindmntAscii, Sqlite, Maven, Clang, Ps}
 use Rattle.ptree.specs.declared.print_config.OutputKind.TheVariants.{Unknown}
 use Rattle.ptree.specs.Config.{ConfigValue}
-use Rattle.ptree.specs.Drawing.{look_by}
+use Rattle.ptree.specs.Continuation.{IsFollowedBy, AreFlags}
+use Rattle.ptree.specs.Drawing.{Look, look_by}
 use Rattle.ptree.specs.DrawnForm.{IsDrawnForm}
+use Rattle.ptree.specs.Outline.{line, outline_at}
 use Rattle.ptree.specs.Tree as drawn
+use Rattle.ptree.proofs.Reading.NextLines.{form_outline}
 use Rattle.trees.specs.declared.pieces.Pieces.{Pieces}
 use Rattle.trees.specs.declared.pieces.Pieces.TheVariants.{Utf, UtfBold, UtfDashed, UtfDouble, Ascii, AsciiPlus, Program}
 use Rattle.trees.specs.Expected.{AreWholeLines, ListsBeginnings, IsHint}
 use Rattle.trees.specs.Named.{piece_name, IsNamed, IsReadableValue, IsReadBy, IsReadWith, IsReadWithNone, NamesOther, AddsOther}
+use Rattle.trees.proofs.NextItems.{lines_whole}
 
 -- ## All pieces
 
@@ -75,6 +80,15 @@ pub some_read : (config : ConfigValue) (text : List ℕ) → IsReadableValue con
     → IsTrue (is_some o) ↔ IsReadBy config text
 some_read config text readable None some none = ((λ no. absurd (false≢true no)), (λ is. absurd (none is.form.0 is.form.1)))
 some_read config text readable (Some t) some none = ((λ _. record { readable = readable; form = (drawn.tree_of t, some) }), (λ _. refl))
+
+-- a drawing is whole lines
+pub drawing_whole : (k : Look) (depth : ℕ) (text : List ℕ) (t : drawn.Tree) → IsDrawnForm k depth text t → AreWholeLines text
+drawing_whole k depth text t form = subst AreWholeLines (sym (form_outline k depth text t form).0) (lines_whole k (line 0 t.text) (outline_at 1 t.children))
+
+-- and an empty line follows what is before its last line feed
+pub drawing_follows : (k : Look) (depth : ℕ) (text lines : List ℕ) (flags : List Bool) → text ≡ lines ++ 10 ∷ [] → AreFlags (IsFollowedBy k depth lines) ([] ∷ []) flags
+    → (t : drawn.Tree) → IsDrawnForm k depth text t → get_or flags 0 false ≡ true
+drawing_follows k depth text lines flags is are t form = (are.each 0 (lit< tt)).1 (t, [], subst (λ z. IsDrawnForm k depth z t) (is ∙ sym (append-nil (lines ++ 10 ∷ []))) form)
 
 -- ## What is said
 
