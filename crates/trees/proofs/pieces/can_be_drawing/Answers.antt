@@ -1,4 +1,4 @@
-use Rattle.std.proofs.Common.{◌≡◌, ◌<◌, false, ℕ, Some, List, [], ◌∷◌, ◌++◌, length, get_or, map, lit<, sym, ap, ◌∙◌, string_bytes, subst, arith, rules}
+use Rattle.std.proofs.Common.{◌≡◌, ◌<◌, false, ℕ, Some, List, [], ◌∷◌, ◌++◌, length, map, lit<, sym, ap, ◌∙◌, string_bytes, subst, arith, rules}
 use Rattle.std.proofs.lemmas.List.{get_or_default}
 use Rattle.std.proofs.lemmas.Str.Pattern.{strip_suffix_char}
 use Rattle.ptree.specs.Continuation.{IsFollowedBy, AreFlags}
