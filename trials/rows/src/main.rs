@@ -152,9 +152,8 @@ impl Made {
     // Whether each of the lines can follow the text, each answer behind a blank.
     fn follow(&self, alloc: Global) -> Result<String, AllocError> {
         let mut out = String::new(alloc);
-        for follows in
-            lines_that_follow(alloc, self.text.as_str(), &self.lines, &self.config)?.iter()
-        {
+        let (text, config) = (self.text.as_str(), &self.config);
+        for follows in lines_that_follow(alloc, text, &self.lines, config)?.iter() {
             out.push_str(if *follows { " yes" } else { " no" })?;
         }
         Ok(out)
