@@ -50,7 +50,7 @@ pub fn read_input<R: Feed>(alloc: Global, input: &mut R) -> Result<String, Input
     }
 }
 
-// Returns the buffer size of the first read, 64 KiB. It is doubled whenever the buffer is full.
+// Returns the size of the room for the first read, 64 KiB.
 fn first_room() -> usize
     ensures { 0 < result }
 {
@@ -78,7 +78,7 @@ pub fn read_input_bytes<R: Feed>(alloc: Global, input: &mut R) -> Result<Vec<u8>
         }
         filled += n;
         if filled == room.len() {
-            double(&mut room)?;
+            enlarge(&mut room)?;
         }
     }
 }
@@ -101,12 +101,13 @@ fn read_at<R: Feed>(input: &mut R, room: &mut Vec<u8>, filled: usize) -> Result<
     }
 }
 
-// Doubles the room, and keeps what is there.
-fn double(room: &mut Vec<u8>) -> Result<(), AllocError>
+// Makes the room larger, and keeps what is there. The room doubles up to 4 MiB and then grows by as
+// much, since all of it takes memory, whatever is read.
+fn enlarge(room: &mut Vec<u8>) -> Result<(), AllocError>
     requires { 0 < length room.old.items }
     ensures front { OnOk result (take (length room.old.items) room.new.items ≡ room.old.items) }
     ensures more { OnOk result (length room.old.items < length room.new.items) }
 {
-    let twice = room.len().saturating_mul(2);
-    room.resize(twice, 0)
+    let more = room.len().min(4_194_304);
+    room.resize(room.len().saturating_add(more), 0)
 }

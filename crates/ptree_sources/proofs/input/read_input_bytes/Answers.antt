@@ -9,7 +9,7 @@ loop-room-preserved-in-Continue-branch-3 g c =
     let old = c.read_at.new.room.items in
     let full : c.loop-room.filled + c.in_ok-n.n ≡ length old = search rules in
     let read = consumed_more _ _ _ c.loop-room.room.items old c.loop-room.filled c.in_ok-n.n c.read_at.ensures.front before.1 c.in_ok-n.ensures.bytes in
-    let same = ap (λ k. take k old) full ∙ take_all (length old) old (le_refl _) ∙ sym c.in_ok-double.ensures.front ∙ ap (λ k. take k c.double.new.room.items) (sym full) in
+    let same = ap (λ k. take k old) full ∙ take_all (length old) old (le_refl _) ∙ sym c.in_ok-enlarge.ensures.front ∙ ap (λ k. take k c.enlarge.new.room.items) (sym full) in
     (search rules, subst (Consumes _ _) same read, search rules)
 
 pub loop-room-preserved : goal.loop-room-preserved
