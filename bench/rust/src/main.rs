@@ -1,14 +1,16 @@
 //! Hand-written Rust that the library is compared with: `ptree_bench_rust TASK SHAPE ITEMS TIMES`.
 //!
-//! The tasks are `out`, `draw` and `read` of `bench/program`, with the same trees and the same
-//! lines, and `redraw`, which draws the tree of the drawing in standard input.
+//! The tasks are `out`, `draw`, `read` and `once-draw` of `bench/program`, with the same trees and
+//! graphs and the same lines, and `redraw`, which draws the tree of the drawing in standard input.
 
+mod graph;
 mod pieces;
 mod reader;
 mod shapes;
 mod tree;
 mod writer;
 
+use graph::Graph;
 use std::fs::File;
 use std::io::{self, BufWriter, Error, ErrorKind, Read, Write};
 use std::os::fd::AsFd;
@@ -26,6 +28,15 @@ fn draw_out(tree: &Item, times: u32) -> io::Result<()> {
     let mut out = output()?;
     for _ in 0..times {
         writer::draw(tree, &mut out)?;
+    }
+    out.flush()
+}
+
+// Draws a graph with each node expanded once to standard output.
+fn draw_graph(graph: &Graph, times: u32) -> io::Result<()> {
+    let mut out = output()?;
+    for _ in 0..times {
+        graph.draw(&mut out)?;
     }
     out.flush()
 }
@@ -77,8 +88,12 @@ fn main() -> io::Result<()> {
     if word(0) == "redraw" {
         return redraw();
     }
-    let tree = shapes::shaped(word(1), number(2)?).ok_or(ErrorKind::InvalidInput)?;
     let times = number(3)?;
+    if word(0) == "once-draw" {
+        let graph = Graph::shaped(word(1), number(2)? as usize).ok_or(ErrorKind::InvalidInput)?;
+        return draw_graph(&graph, times);
+    }
+    let tree = shapes::shaped(word(1), number(2)?).ok_or(ErrorKind::InvalidInput)?;
     match word(0) {
         "out" => draw_out(&tree, times),
         "draw" => draw_in(&tree, times),

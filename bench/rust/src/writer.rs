@@ -33,10 +33,10 @@ fn draw_entry<W: Write>(
     Ok(())
 }
 
-// Appends a text of several lines: after each line feed stand the prefix, the passing piece and
-// the marker.
+/// Appends a text of several lines: after each line feed stand the prefix, the passing piece and the
+/// marker.
 #[inline(never)]
-fn append_lines(text: &str, pass: &str, prefix: usize, line: &mut Vec<u8>) {
+pub fn append_lines(text: &str, pass: &str, prefix: usize, line: &mut Vec<u8>) {
     let mut rest = text.as_bytes();
     while let Some(at) = line_feed(rest) {
         line.extend_from_slice(&rest[..at + 1]);
@@ -72,9 +72,9 @@ fn draw_children<W: Write>(items: &[Item], line: &mut Vec<u8>, out: &mut W) -> i
     Ok(())
 }
 
-// Puts a piece after the prefix, in the place of what stands there.
+/// Puts a piece after the prefix, in the place of what stands there.
 #[inline]
-fn set_end(line: &mut Vec<u8>, prefix: usize, piece: &str) {
+pub fn set_end(line: &mut Vec<u8>, prefix: usize, piece: &str) {
     line.truncate(prefix);
     line.extend_from_slice(piece.as_bytes());
 }

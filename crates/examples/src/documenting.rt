@@ -27,14 +27,14 @@ pub fn of_json(alloc: Global, text: &str) -> Result<Option<StringItem>, AllocErr
 pub fn null_under(alloc: Global, label: &str) -> Result<StringItem, AllocError>
     ensures { IfOk result (λ s. IsJsonTree label.now null (tree_of s)) }
 {
-    json_tree(alloc, label, &serde_json::Value::Null)
+    json_tree(alloc, label, serde_json::Value::Null)
 }
 
 /// Returns the tree of a table: the label over its entries.
 pub fn of_table(alloc: Global, label: &str, table: Table) -> Result<StringItem, AllocError>
     ensures { IfOk result (λ s. (tree_of s).text ≡ label.now) }
 {
-    toml_tree(alloc, label, &toml::Value::Table(table))
+    toml_tree(alloc, label, toml::Value::Table(table))
 }
 
 /// Returns a path to a float of a JSON value, and none only if no path leads to one.

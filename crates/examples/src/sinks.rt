@@ -1,11 +1,11 @@
 //! Sinks of a caller's own.
 ghost use Rattle.std.specs.Io.KnownBytes.{Appends};
-ghost use Rattle.std.specs.Prelude.{◌≡◌, ◌≤◌, length, None, IfOk};
+ghost use Rattle.std.specs.Prelude.{◌≡◌, ◌↔◌, ◌≤◌, length, None, IfOk, IsTrue};
 ghost use Rattle.ptree.specs.Buffered.{inner_sink, held_bytes};
 
 use ptree::buffered::Buffered;
 use ptree::style::{DrawError, Sink, put_all};
-use std::alloc::Global;
+use std::alloc::{AllocError, Global};
 use std::io;
 
 /// Hands on to another sink.
@@ -21,6 +21,10 @@ impl<W: Sink> Sink for Through<W> {
 
     fn put(&mut self, bytes: &[u8]) -> io::Result<usize> {
         self.inner.put(bytes)
+    }
+
+    fn put_if_room(&mut self, bytes: &[u8]) -> bool {
+        self.inner.put_if_room(bytes)
     }
 }
 
@@ -79,4 +83,18 @@ pub fn gather<S: Sink + Drop>(
         Ok(_) => Ok(buffered),
         Err(e) => Err(DrawError::Write(e)),
     }
+}
+
+/// Whether a new buffer of 4096 bytes takes bytes without its sink: exactly if they are no more.
+pub fn takes_at_once<S: Sink + Drop>(
+    alloc: Global,
+    sink: S,
+    bytes: &[u8],
+) -> Result<bool, AllocError>
+    ensures { IfOk result (λ b. IsTrue b ↔ (length bytes.now ≤ 4096)) }
+{
+    let Ok(mut buffered) = Buffered::with_capacity(alloc, 4096, sink) else {
+        return Err(AllocError);
+    };
+    Ok(buffered.put_if_room(bytes))
 }

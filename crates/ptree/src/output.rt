@@ -20,33 +20,29 @@ pub(crate) mod place;
 use crate::item::{StringItem, TreeItem};
 use crate::print_config::{OutputKind, PrintConfig, Sources};
 use crate::sink::{Counted, DrawError, Sink};
-use engine::draw;
+use engine::{Drawn, Top, draw};
 pub use indent::Indent;
 use look::Look;
 use std::alloc::{AllocError, Global};
 use std::io;
 
 // Draws to output of a kind. `terminal` says whether standard output is a terminal.
-pub(crate) fn draw_for<T, W>(
+pub(crate) fn draw_for<D: Drawn, W: Sink>(
     alloc: Global,
-    item: &T,
+    root: &D,
     f: &mut W,
     output_kind: OutputKind,
     terminal: bool,
     config: &PrintConfig,
 ) -> Result<(), DrawError>
-where
-    T: TreeItem,
-    T::Child: TreeItem<Child = T::Child> + Drop,
-    W: Sink,
-    ensures bytes { IsDrawn (config_look config.now output_kind terminal) (T.shape item.now)
+    ensures bytes { IsDrawn (config_look config.now output_kind terminal) (D.shape root.now)
         config.now.depth (W.contents f.old) (W.contents f.new) result }
     ensures whole { LeavesWholeEntries (config_look config.now output_kind terminal)
-        (T.shape item.now) config.now.depth (W.contents f.old) (W.contents f.new) result }
+        (D.shape root.now) config.now.depth (W.contents f.old) (W.contents f.new) result }
     ensures cause { HasCause (W.faults f.old) (W.faults f.new) result }
 {
     let look = Look::of_config(alloc, config, output_kind, terminal)?;
-    let drawn = draw(alloc, item, f, &look, config.depth);
+    let drawn = draw(alloc, root, f, &look, config.depth);
     drop(look);
     drawn
 }
@@ -73,7 +69,7 @@ where
     ensures cause { HasCause (W.faults f.old) (W.faults f.new) result }
 {
     let config = PrintConfig::from_env(alloc, sources)?;
-    let drawn = draw_for(alloc, item, f, output_kind, terminal, &config);
+    let drawn = draw_for(alloc, &Top(item), f, output_kind, terminal, &config);
     drop(config);
     drawn
 }
@@ -134,7 +130,7 @@ where
         (T.shape item.now) config.now.depth (W.contents out.old) (W.contents out.new) result }
     ensures cause { HasCause (W.faults out.old) (W.faults out.new) result }
 {
-    draw_for(alloc, item, out, OutputKind::Stdout, terminal, config)
+    draw_for(alloc, &Top(item), out, OutputKind::Stdout, terminal, config)
 }
 
 /// Draws as [`print_tree_with`] to a sink that knows whether it is a terminal, as
@@ -237,7 +233,7 @@ where
     // A label of one line is drawn as it is.
     ensures one_line { HasOneLineEntries (written_look config.now) (T.shape item.now) }
 {
-    draw_for(alloc, item, f, OutputKind::Unknown, false, config)
+    draw_for(alloc, &Top(item), f, OutputKind::Unknown, false, config)
 }
 
 /// Returns the drawing of an item, as [`write_tree_with`] writes it.

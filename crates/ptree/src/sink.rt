@@ -1,7 +1,7 @@
 //! Destinations and sources of bytes, why writing fails, and the loop that writes.
 ghost use Rattle.std.specs.Io.{ReadsAtMost};
-ghost use Rattle.std.specs.Io.KnownBytes.{WriteAppends, ReadConsumes};
-ghost use Rattle.std.specs.Prelude.{◌≡◌, ◌≢◌, ℕ, ◌+◌, ◌≤◌, List, [], IfOk, IsOk, OnOk, OnErr, Option, length};
+ghost use Rattle.std.specs.Io.KnownBytes.{Appends, WriteAppends, ReadConsumes};
+ghost use Rattle.std.specs.Prelude.{◌≡◌, ◌≢◌, ℕ, ◌+◌, ◌≤◌, List, [], false, IfOk, IsOk, IsTrue, OnOk, OnErr, Option, length};
 ghost use Rattle.ptree.specs.Writing.{IsWritten, put_faults, get_faults, HasCause, HasErrorCause, TakesNoMemory};
 ghost use Rattle.ptree.specs.declared.sink.DrawError.TheVariants.{Memory};
 
@@ -31,6 +31,21 @@ pub trait Sink {
         ensures bound { IfOk result (λ n. n ≤ length bytes.now) }
         ensures bytes { WriteAppends (contents self.old) (contents self.new) result bytes.now }
         ensures faults { faults self.new ≡ faults self.old + put_faults result bytes.now };
+
+    /// Accepts all the bytes if there is room for them, and else does nothing. Returns whether they
+    /// were accepted.
+    ///
+    /// A drawing tries this before it calls [`Sink::put`]: a sink that gathers bytes may take an
+    /// entry so without a call. The default never has room.
+    #[inline(always)]
+    fn put_if_room(&mut self, _bytes: &[u8]) -> bool
+        ensures accepted { IsTrue result
+            → Appends (contents self.old) (contents self.new) _bytes.now }
+        ensures no_fault { IsTrue result → faults self.new ≡ faults self.old }
+        ensures refused { result ≡ false → self.new ≡ self.old }
+    {
+        false
+    }
 }
 
 /// A source of bytes, which may fail.

@@ -13,6 +13,7 @@ mod from_json;
 mod from_toml;
 mod node;
 mod part;
+mod row;
 mod text;
 
 use crate::item::{Children, Shaped, TreeItem};

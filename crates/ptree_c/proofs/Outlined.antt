@@ -17,7 +17,8 @@ use Rattle.ptree.proofs.Trees.OutlineAddresses.{outline_of_tree}
 use Rattle.ptree.proofs.Reading.SpelledForms.{height_low}
 use Rattle.ptree_c.specs.Calls.{IsItemsDrawing}
 use Rattle.ptree_c.specs.Items.{lines_from}
-use Rattle.ptree_c.specs.Outlines.{has_later_item, AreLastFlags, StepsDown, AreItems, AreLow, step_of, kept_before, kept_path, steps_from}
+use Rattle.ptree_c.specs.Outlines.{has_later_item, AreLastFlags, StepsDown, AreItems, AreRight, AreRightAfter, AreLow, step_of, kept_before, kept_path, steps_from}
+use Rattle.ptree_c.specs.Refusals.{IsTextBetween}
 use Rattle.ptree_c.specs.Steps.{AreStepsOf, path_with, step_entry, steps_text}
 use Rattle.ptree_c.specs.declared.items.Item.{Item}
 use Rattle.ptree_c.specs.declared.steps.Step.{Step}
@@ -180,6 +181,28 @@ outline_same look texts p q items flags deepest depth are last fit_p fit_q =
 -- an item that is in no list
 abbrev pub no_item : Item
 no_item = record { end = 0; level = 0 }
+
+-- the text of each item lies between the end of the one before it and its own
+abbrev pub HaveTexts : List ℕ → ℕ → List Item → Type 0
+HaveTexts texts from [] = Unit {0}
+HaveTexts texts from (i ∷ items) = IsTextBetween texts from i.end × HaveTexts texts i.end items
+
+-- so it is for items that are right after one another
+texts_after : (texts : List ℕ) (before : Item) (items : List Item) → AreRightAfter texts before items → HaveTexts texts before.end items
+texts_after texts before [] right = tt
+texts_after texts before (i ∷ items) right = (right.0.0, texts_after texts i items right.1)
+
+-- and for those of an outline
+pub outline_texts : (texts : List ℕ) (items : List Item) → AreRight texts items → HaveTexts texts 0 items
+outline_texts texts [] right = absurd right
+outline_texts texts (i ∷ items) right = (right.1, texts_after texts i items right.2)
+
+-- the text of the next item, and those behind it
+pub next_text : (texts : List ℕ) (from n : ℕ) (items : List Item) (d : Item) → n < length items → HaveTexts texts from (drop n items)
+    → IsTextBetween texts from (get_or items n d).end × HaveTexts texts (get_or items n d).end (drop (n + 1) items)
+next_text texts from n items d h have =
+    let item : drop n items ≡ get_or items n d ∷ drop (n + 1) items = drop-cons items n d h ∙ ap (λ k. get_or items n d ∷ drop k items) (sym (add-one n)) in
+    subst (λ (z : List Item). HaveTexts texts from z) item have
 
 -- the items that are left are the next one before those behind it
 pub next_left : (look : Look) (texts path new : List ℕ) (depth from n : ℕ) (items : List Item) (flags : List ℕ) (d : Item) → n < length items → length flags ≡ length items

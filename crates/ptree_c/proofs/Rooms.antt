@@ -1,5 +1,5 @@
 -- Results put into room in parts.
-use Rattle.std.proofs.Common.{◌≡◌, ℕ, zero, suc, ◌+◌, ◌-◌, ◌<◌, ◌≤◌, List, [], ◌∷◌, ◌++◌, length, length-take-le, take, take-take, take-append-drop, drop, sym, ap, ◌∙◌, subst, append_assoc, arith}
+use Rattle.std.proofs.Common.{◌≡◌, ℕ, zero, suc, ◌+◌, ◌-◌, ◌<◌, ◌≤◌, List, [], ◌∷◌, ◌++◌, length, length-take-le, take, take-take, take-append-drop, drop, refl, sym, ap, ◌∙◌, subst, append_assoc, arith}
 use Rattle.std.proofs.Math.Seq.{take-append_seam, drop-append_seam}
 use Rattle.std.proofs.lemmas.List.{append-nil, length-append, length-drop, length-take, take_all, drop-drop}
 use Rattle.std.proofs.lemmas.Simd.{length-put_chunk, take_more_put_chunk}
@@ -15,6 +15,11 @@ take_behind (x ∷ a) b (suc m) n e = ap (λ z. x ∷ z) (take_behind a b m n (o
 -- the room stays as long as it was
 length_filled : (room before : List ℕ) → length (filled room before) ≡ length room
 length_filled room before = omega (arith, length-append (take (length room) before) (drop (length before) room), length-take (length room) before, length-drop (length before) room)
+
+-- no bytes leave the room as it is
+pub filled_none : (room : List ℕ) → room ≡ filled room []
+filled_none [] = refl
+filled_none (x ∷ room) = refl
 
 -- bytes are put behind those that are there
 pub filled_more : (room before bytes out : List ℕ) (at : ℕ) → IsFilled room before out at → at < length out → take at out ++ (filled (drop at out) bytes ++ []) ≡ filled room (before ++ bytes)

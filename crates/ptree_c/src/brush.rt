@@ -110,11 +110,12 @@ impl<'a> Brush<'a> {
         ensures { result.now
             ≡ own_text (brush_look self.now) own ++ start_codes (brush_look self.now).leaf }
     {
-        match own {
+        let text = match own {
             None => &self.root,
             Some(false) => &self.child,
             Some(true) => &self.last_child,
-        }
+        };
+        text.as_slice()
     }
 
     /// The passing piece of a child.

@@ -5,7 +5,7 @@ ghost use Rattle.ptree_c.specs.Calls.{IsItemsDrawing};
 ghost use Rattle.ptree_c.specs.Fields.{is_set};
 ghost use Rattle.ptree_c.specs.Outlines.{has_later_item, AreLater, AreLastFlags, AreItems, AreLow, AreRight, StepsDown, IsFirstWrong, IsItemsRefusal, IsRightAfter, IsWrongAfter, kept_before, kept_path, steps_from};
 ghost use Rattle.ptree_c.specs.Pens.{HoldsPath, HasRoom, brush_look};
-ghost use Rattle.ptree_c.specs.Refusals.{IsRefused};
+ghost use Rattle.ptree_c.specs.Refusals.{IsRefused, IsTextBetween};
 ghost use Rattle.ptree_c.specs.Rooms.{HasPut, IsFilled, IsSize};
 ghost use Rattle.ptree_c.specs.Steps.{steps_text};
 ghost use Rattle.ptree_c.specs.declared.items.Item.{Item};
@@ -59,13 +59,11 @@ fn deepest_of_items(items: &[Item], texts: &Texts<'_>) -> Result<u32, Refusal>
 
 // Whether an item at a level is its parent's last child, by what is known of the later items.
 fn is_last(later: &[u8], level: usize) -> u8
+    requires { level < length later.now }
     ensures { (items : List Item) → AreLater later.now items
         → is_set result ≡ not (has_later_item items level) }
 {
-    match later.get(level) {
-        Some(has_later) if flag(*has_later) => 0,
-        _ => 1,
-    }
+    if flag(later[level]) { 0 } else { 1 }
 }
 
 // What is known of no later items. There is room for a level more than the deepest one.
@@ -123,6 +121,7 @@ fn measure_item(
     requires held { HoldsPath brush.now path.old pen.old }
     requires room { HasRoom brush.now (length path.old) pen.old }
     requires low { step.now.level ≤ depth → step.now.level ≤ length path.old }
+    requires text { IsTextBetween texts.now.bytes.now step.now.text.start step.now.text.end }
     ensures size { IfSome result (λ n. n ≡ size + length (steps_text (brush_look brush.now)
         texts.now.bytes.now path.old (kept_before depth step.now []))) }
     ensures path { IfSome result (λ _. path.new ≡ kept_path depth path.old step.now) }
@@ -154,6 +153,7 @@ fn measure_items(
     requires room { HasRoom brush.now (length path.old) pen.old }
     requires low { AreLow depth (length path.old) items.now }
     requires flags { length flags.now ≡ length items.now }
+    requires right { AreRight texts.now.bytes.now items.now }
     ensures size { IfSome result (λ n. n ≡ length (steps_text (brush_look brush.now)
         texts.now.bytes.now path.old (steps_from depth 0 items.now flags.now))) }
     ensures held { IfSome result (λ _. HoldsPath brush.now path.new pen.new) }
@@ -210,6 +210,7 @@ fn draw_item(
     requires held { HoldsPath brush.now path.old pen.old }
     requires room { HasRoom brush.now (length path.old) pen.old }
     requires low { step.now.level ≤ depth → step.now.level ≤ length path.old }
+    requires text { IsTextBetween texts.now.bytes.now step.now.text.start step.now.text.end }
     requires size { IsSize (at + length (steps_text (brush_look brush.now)
         texts.now.bytes.now path.old (kept_before depth step.now []))) }
     ensures filled { (room before : List ℕ) → IsFilled room before out.old at
@@ -242,6 +243,7 @@ fn draw_items(
     requires room { HasRoom brush.now (length path.old) pen.old }
     requires low { AreLow depth (length path.old) items.now }
     requires flags { length flags.now ≡ length items.now }
+    requires right { AreRight texts.now.bytes.now items.now }
     requires size { IsSize (length (steps_text (brush_look brush.now)
         texts.now.bytes.now path.old (steps_from depth 0 items.now flags.now))) }
     ensures { IsFilled out.old (steps_text (brush_look brush.now)

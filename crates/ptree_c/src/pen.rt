@@ -10,6 +10,7 @@ ghost use Rattle.ptree_c.specs.Rooms.{IsSize, PutsBytes};
 use crate::brush::Brush;
 use crate::fields::flag;
 use crate::room::{put, put_few};
+use crate::texts::split_line;
 use std::alloc::{AllocError, Global};
 
 /// What an entry begins with at some level.
@@ -267,24 +268,21 @@ fn lines_width(text: &[u8], front: &[u8], below: &[u8], further: &[u8]) -> Optio
     spread_width(text, inserted)
 }
 
-// Puts a byte, and after a line feed three texts.
-fn put_byte(
+// Puts a line, and three texts behind it.
+#[inline(always)]
+fn put_line(
     out: &mut [u8],
     at: usize,
-    byte: u8,
+    line: &[u8],
     front: &[u8],
     below: &[u8],
     further: &[u8],
 ) -> usize
-    requires { IsSize (at
-        + length (with_inserted (front.now ++ (below.now ++ further.now)) (byte ∷ []))) }
-    ensures { PutsBytes (with_inserted (front.now ++ (below.now ++ further.now)) (byte ∷ []))
+    requires { IsSize (at + length (line.now ++ (front.now ++ (below.now ++ further.now)))) }
+    ensures { PutsBytes (line.now ++ (front.now ++ (below.now ++ further.now)))
         out.old at out.new result }
 {
-    let end = put_few(out, at, &[byte]);
-    if byte != b'\n' {
-        return end;
-    }
+    let end = put(out, at, line);
     let first = put_few(out, end, front);
     let second = put(out, first, below);
     put(out, second, further)
@@ -306,8 +304,10 @@ fn put_lines(
         out.old at out.new result }
 {
     let mut end = at;
-    for byte in text {
-        end = put_byte(out, end, *byte, front, below, further);
+    let mut rest = text;
+    while let Some((line, others)) = split_line(rest) {
+        end = put_line(out, end, line, front, below, further);
+        rest = others;
     }
-    end
+    put(out, end, rest)
 }

@@ -61,12 +61,27 @@ fn copy(out: &mut [u8], text: &[u8])
     ensures { out.new ≡ text.now }
 {
     match text.len() {
-        1 => copy_ends::<1>(out, text),
-        2..4 => copy_ends::<2>(out, text),
-        4..8 => copy_ends::<4>(out, text),
+        0..8 => copy_few(out, text),
         8..16 => copy_ends::<8>(out, text),
         16..32 => copy_ends::<16>(out, text),
         _ => out.copy_from_slice(text),
+    }
+}
+
+// Copies a text of fewer than eight bytes over another one of its length. Most pieces have four or
+// more, so these are tried first.
+#[inline(always)]
+fn copy_few(out: &mut [u8], text: &[u8])
+    requires few { length text.now < 8 }
+    requires same { length out.old ≡ length text.now }
+    ensures { out.new ≡ text.now }
+{
+    if text.len() >= 4 {
+        copy_ends::<4>(out, text);
+    } else if text.len() > 1 {
+        copy_ends::<2>(out, text);
+    } else if text.len() == 1 {
+        copy_ends::<1>(out, text);
     }
 }
 

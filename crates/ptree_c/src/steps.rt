@@ -2,6 +2,7 @@
 ghost use Rattle.std.specs.Prelude.{◌≡◌, ◌≢◌, ◌≤◌, ◌<◌, ◌+◌, ◌-◌, ◌++◌, ℕ, List, length, take, IfOk, IfErr, IsErrOf, IfSome, OnOk, OnErr, ◌⊎◌};
 ghost use Rattle.ptree_c.specs.Fields.{look_of};
 ghost use Rattle.ptree_c.specs.Pens.{HoldsPath, brush_look};
+ghost use Rattle.ptree_c.specs.Refusals.{IsTextBetween};
 ghost use Rattle.ptree_c.specs.Rooms.{filled, IsFilled, IsSize, PutsBytes};
 ghost use Rattle.ptree_c.specs.Steps.{own_flag, path_with, path_after, step_entry, steps_text, IsNextLength, DrawsTrees, DrawsParts};
 
@@ -71,7 +72,8 @@ pub(crate) fn width_of_step(
     texts: &Texts<'_>,
     step: &Step,
 ) -> Option<usize>
-    requires { pen.now.level ≡ step.now.level - 1 }
+    requires text { IsTextBetween texts.now.bytes.now step.now.text.start step.now.text.end }
+    requires level { pen.now.level ≡ step.now.level - 1 }
     ensures { (path : List ℕ) → HoldsPath brush.now path pen.now → IfSome result (λ n.
         n ≡ length (step_entry (brush_look brush.now) texts.now.bytes.now path step.now)) }
 {
@@ -92,6 +94,7 @@ pub(crate) fn put_step(
     out: &mut [u8],
     at: usize,
 ) -> usize
+    requires text { IsTextBetween texts.now.bytes.now step.now.text.start step.now.text.end }
     requires held { HoldsPath brush.now path.old pen.now }
     requires level { pen.now.level ≡ step.now.level - 1 }
     requires within { step.now.level ≤ length path.old }
@@ -122,6 +125,8 @@ fn reach_step(
     requires { HoldsPath brush.now path.now pen.old }
     ensures width { IfOk result (λ n. n
         ≡ length (step_entry (brush_look brush.now) texts.now.bytes.now path.now step.now)) }
+    ensures text { OnOk result
+        (IsTextBetween texts.now.bytes.now step.now.text.start step.now.text.end) }
     ensures held { OnOk result (HoldsPath brush.now path.now pen.new) }
     ensures level { OnOk result (pen.new.level ≡ step.now.level - 1) }
     ensures within { OnOk result (step.now.level ≤ length path.now) }

@@ -1,11 +1,9 @@
 -- Documents as trees: the items of lists, one by one.
 use Rattle.std.proofs.Common.{◌≡◌, ◌∙◌, ℕ, ◌<◌, Bool, true, false, length, arith, List, [], ◌∷◌, ◌++◌, map, append_assoc, append-nil, ap, sym, subst}
 use Rattle.std.proofs.lemmas.List.{map-append}
-use Rattle.serde_json.specs.Data as j
-use Rattle.toml.specs.Data as t
 use Rattle.ptree.specs.Tree.{Tree, tree_of, tree_kids}
 use Rattle.ptree.specs.declared.item.StringItem.{StringItem}
-use Rattle.ptree_trees.specs.WrittenDocument.{IsTextTree, IsTreeUnder, IsEntryText, is_json_list, is_toml_list, IsJsonText, IsJsonMemberText, IsTomlText, IsTomlMemberText}
+use Rattle.ptree_trees.specs.WrittenDocument.{IsTextTree, IsTreeUnder}
 
 -- with trees of what is left, the trees are those of all
 pub record HasTreesBut {A : Type 0} (R : A → List Tree → Type 0) (all left : A) (made : List Tree) : Type 0 where
@@ -48,22 +46,3 @@ lone_text (c ∷ cs) text t h own kids = absurd (omega arith)
 pub labelled_text : (label text : List ℕ) (t leaf : Tree) → 0 < length label → t.text ≡ label → tree_kids t ≡ leaf ∷ [] → leaf.text ≡ text → tree_kids leaf ≡ [] → IsTextTree label text t
 labelled_text [] text t leaf h own kids is none = absurd (omega arith)
 labelled_text (c ∷ cs) text t leaf h own kids is none = (own, (leaf, kids, is, none))
-
--- the text of a member that is no list
-pub json_entry : (k : List ℕ) (d : j.Data) (text : List ℕ) → is_json_list d ≡ false → IsEntryText k (IsJsonText d) text → IsJsonMemberText k d text
-json_entry k j.null text e h = h
-json_entry k (j.boolean b) text e h = h
-json_entry k (j.number n) text e h = h
-json_entry k (j.string s) text e h = h
-json_entry k (j.array ds) text e h = absurd (cc)
-json_entry k (j.object ms) text e h = absurd (cc)
-
--- the text of a member that is no list
-pub toml_entry : (k : List ℕ) (d : t.Data) (text : List ℕ) → is_toml_list d ≡ false → IsEntryText k (IsTomlText d) text → IsTomlMemberText k d text
-toml_entry k (t.string s) text e h = h
-toml_entry k (t.integer z) text e h = h
-toml_entry k (t.float x) text e h = h
-toml_entry k (t.boolean b) text e h = h
-toml_entry k (t.datetime z) text e h = h
-toml_entry k (t.array ds) text e h = absurd (cc)
-toml_entry k (t.table ms) text e h = absurd (cc)

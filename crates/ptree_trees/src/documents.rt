@@ -1,6 +1,6 @@
 //! Documents as trees, with floats and dates as their crates write them. The module
 //! `ptree::value` draws documents without these.
-ghost use Rattle.std.specs.Prelude.{◌≡◌, map, option_map, IfOk, string_bytes};
+ghost use Rattle.std.specs.Prelude.{◌≡◌, ◌++◌, map, codes, option_map, IfOk, string_bytes};
 ghost use Rattle.ptree.specs.Tree.{tree_of, tree_kids};
 ghost use Rattle.ptree_trees.specs.WrittenDocument.{IsDocumentTree, IsTextTree};
 
@@ -34,11 +34,11 @@ pub fn document_tree(
 {
     match format {
         DocFormat::Json => match read_json(alloc, text)? {
-            Some(value) => Ok(Some(json_tree(alloc, label, &value)?)),
+            Some(value) => Ok(Some(json_tree(alloc, label, value)?)),
             None => Ok(None),
         },
         DocFormat::Toml => match read_toml(alloc, text)? {
-            Some(table) => Ok(Some(toml_tree(alloc, label, &toml::Value::Table(table))?)),
+            Some(table) => Ok(Some(toml_tree(alloc, label, toml::Value::Table(table))?)),
             None => Ok(None),
         },
     }
@@ -56,6 +56,18 @@ fn text_item(alloc: Global, label: &str, text: String) -> Result<StringItem, All
     children.push(leaf)?;
     let text = String::from_str(alloc, label)?;
     Ok(item_of(text, children))
+}
+
+// Returns the text of a member: its key, and after it a value.
+fn entry_text(key: String, value: &str) -> Result<String, AllocError>
+    ensures { IfOk result (λ s. string_bytes s
+        ≡ string_bytes key ++ (codes " = " ++ value.now)) }
+{
+    let mut text = key;
+    text.reserve_exact(value.len().saturating_add(3))?;
+    text.push_str(" = ")?;
+    text.push_str(value)?;
+    Ok(text)
 }
 
 // Returns an item of a text and children.

@@ -92,6 +92,12 @@ pub at_said : {V D : Type 0} (file : D → FileNode) (seen : V → D) (whole : F
     → node_at (at_position n) whole ≡ option_map file (option_map seen part) → FindsPart whole text (option_map (λ v. file (seen v)) part)
 at_said file seen whole text n part is no_key at = at_its_position whole text n (option_map (λ v. file (seen v)) part) is no_key (at ∙ option_map-option_map file seen part)
 
+-- what stands at the key that a text is
+pub at_its_key : {V D : Type 0} (file : D → FileNode) (seen : V → D) (whole : FileNode) (text : List ℕ) (part : Option V) (d : D) → node_at (at_key text) whole ≡ option_map file (option_map seen part)
+    → option_map seen part ≡ Some d → FindsPart whole text (option_map (λ v. file (seen v)) part)
+at_its_key file seen whole text None d at found = absurd (cc)
+at_its_key file seen whole text (Some part) d at found = (at_key text, refl, at)
+
 -- a text with a full stop is the step before it, and those after
 pub first_step : (keys key rest : List ℕ) → key ≡ before_first (λ b. b == 46) keys → rest ≡ after_first (λ b. b == 46) keys → position_or_len (λ b. b == 46) keys < length keys
     → (steps_in keys ≡ key ∷ steps_in rest) × (length rest < length keys)

@@ -19,6 +19,7 @@ use ptree::print_config::{FileSource, syntax_line};
 use ptree_trees::documents::{Step, json_refused_path, json_tree, toml_refused_path, toml_tree};
 use ptree_trees::escape::escaped;
 use std::alloc::{AllocError, Global};
+use std::mem;
 
 /// The value of a document in one of the formats.
 pub trait Value: Sized + Drop {
@@ -42,9 +43,9 @@ pub trait Value: Sized + Drop {
         ensures failed { IfErr result (FailsToMake ⊥ (IsDocumentOf format source.now)) }
         ensures line { IfErr result (NamesLine source.now) };
 
-    /// Returns the part at a key or, in a list, at a position counted from 0.
-    fn part(&self, key: &str) -> Option<&Self>
-        ensures { FindsPart (node self.now) key.now (option_map (λ part. node part.now) result) };
+    /// Returns the part at a key or, in a list, at a position counted from 0. The rest is freed.
+    fn part(self, key: &str) -> Option<Self>
+        ensures { FindsPart (node self) key.now (option_map node result) };
 
     /// Returns the path to the first value that a strict call refuses, if there is one.
     ///
@@ -59,8 +60,8 @@ pub trait Value: Sized + Drop {
     /// # Errors
     ///
     /// Memory ran out.
-    fn tree(&self, alloc: Global, label: &str) -> Result<StringItem, AllocError>
-        ensures { IfOk result (λ t. IsNodeTree label.now (node self.now) (tree_of t)) };
+    fn tree(self, alloc: Global, label: &str) -> Result<StringItem, AllocError>
+        ensures { IfOk result (λ t. IsNodeTree label.now (node self) (tree_of t)) };
 }
 
 impl Value for serde_json::Value {
@@ -76,10 +77,10 @@ impl Value for serde_json::Value {
         json_value(alloc, source)
     }
 
-    fn part(&self, key: &str) -> Option<&serde_json::Value> {
+    fn part(self, key: &str) -> Option<serde_json::Value> {
         match self.get(key) {
-            Some(part) => Some(part),
-            None => self.get(number(key)?),
+            Some(_) => json_part(self, key),
+            None => json_part(self, number(key)?),
         }
     }
 
@@ -87,7 +88,7 @@ impl Value for serde_json::Value {
         json_refused_path(alloc, self)
     }
 
-    fn tree(&self, alloc: Global, label: &str) -> Result<StringItem, AllocError> {
+    fn tree(self, alloc: Global, label: &str) -> Result<StringItem, AllocError> {
         json_tree(alloc, label, self)
     }
 }
@@ -105,10 +106,10 @@ impl Value for toml::Value {
         toml_value(alloc, source)
     }
 
-    fn part(&self, key: &str) -> Option<&toml::Value> {
+    fn part(self, key: &str) -> Option<toml::Value> {
         match self.get(key) {
-            Some(part) => Some(part),
-            None => self.get(number(key)?),
+            Some(_) => toml_part(self, key),
+            None => toml_part(self, number(key)?),
         }
     }
 
@@ -116,8 +117,33 @@ impl Value for toml::Value {
         toml_refused_path(alloc, self)
     }
 
-    fn tree(&self, alloc: Global, label: &str) -> Result<StringItem, AllocError> {
+    fn tree(self, alloc: Global, label: &str) -> Result<StringItem, AllocError> {
         toml_tree(alloc, label, self)
+    }
+}
+
+// Takes the part at a key or a position out of a JSON value.
+fn json_part<I: serde_json::Index + Drop>(
+    value: serde_json::Value,
+    index: I,
+) -> Option<serde_json::Value>
+    ensures { option_map json_view.view result ≡ I.finds index (json_view.view value) }
+{
+    let mut value = value;
+    match value.get_mut(index) {
+        Some(part) => Some(part.take()),
+        None => None,
+    }
+}
+
+// Takes the part at a key or a position out of a TOML value.
+fn toml_part<I: toml::value::Index + Drop>(value: toml::Value, index: I) -> Option<toml::Value>
+    ensures { option_map toml_view.view result ≡ I.finds index (toml_view.view value) }
+{
+    let mut value = value;
+    match value.get_mut(index) {
+        Some(part) => Some(mem::replace(part, toml::Value::Boolean(false))),
+        None => None,
     }
 }
 
@@ -143,25 +169,25 @@ pub fn tree<V: Value>(
         (NamesWrong V.format source.now document.entry) }
 {
     let value = V::read(alloc, source)?;
-    tree_of(alloc, source, &value, document)
+    tree_of(alloc, source, value, document)
 }
 
 // Returns the tree of the part of a value that is asked for.
 fn tree_of<V: Value>(
     alloc: Global,
     source: &Source,
-    value: &V,
+    value: V,
     document: Document<'_>,
 ) -> Result<StringItem, Failure>
     ensures drawn { IfOk result
-        (λ t. IsTreeIn source.now document.entry (V.node value.now) (tree_of t)) }
+        (λ t. IsTreeIn source.now document.entry (V.node value) (tree_of t)) }
     ensures failed { IfErr result
-        (FailsToMake ⊥ (IsTreeIn source.now document.entry (V.node value.now))) }
+        (FailsToMake ⊥ (IsTreeIn source.now document.entry (V.node value))) }
     ensures place { IfErr result
-        (NamesWrongIn V.format source.now document.entry (V.node value.now)) }
+        (NamesWrongIn V.format source.now document.entry (V.node value)) }
 {
     let part = part_at(alloc, source, value, document.at)?;
-    refuse(alloc, source, part, document)?;
+    refuse(alloc, source, &part, document)?;
     Ok(part.tree(alloc, root_label(source, document))?)
 }
 
@@ -188,16 +214,16 @@ fn refuse<V: Value>(
 }
 
 // Returns the part of a value that the keys `at` lead to, or all of it without them.
-fn part_at<'a, V: Value>(
+fn part_at<V: Value>(
     alloc: Global,
     source: &Source,
-    value: &'a V,
+    value: V,
     at: Option<&str>,
-) -> Result<&'a V, Failure>
-    ensures part { IfOk result (λ part. IsPartAsked at.entry (V.node value.now) (V.node part.now)) }
-    ensures failed { IfErr result (FailsToMake ⊥ (IsPartAsked at.entry (V.node value.now))) }
+) -> Result<V, Failure>
+    ensures part { IfOk result (λ part. IsPartAsked at.entry (V.node value) (V.node part)) }
+    ensures failed { IfErr result (FailsToMake ⊥ (IsPartAsked at.entry (V.node value))) }
     ensures missing { IfErr result (λ e. IsInput e
-        → NamesMissing source.now at.entry (V.node value.now) e) }
+        → NamesMissing source.now at.entry (V.node value) e) }
 {
     match at {
         Some(at) => part_below(alloc, source, value, at, at),
@@ -207,19 +233,19 @@ fn part_at<'a, V: Value>(
 
 // Returns the part of a value that the keys `last` lead to, the end of `at`. It calls itself once
 // for each level of the document at most.
-fn part_below<'a, V: Value>(
+fn part_below<V: Value>(
     alloc: Global,
     source: &Source,
-    value: &'a V,
+    value: V,
     last: &str,
     at: &str,
-) -> Result<&'a V, Failure>
+) -> Result<V, Failure>
     ensures part { IfOk result
-        (λ part. LeadsBy (steps_in last.now) (V.node value.now) (V.node part.now)) }
+        (λ part. LeadsBy (steps_in last.now) (V.node value) (V.node part)) }
     ensures failed { IfErr result
-        (FailsToMake ⊥ (LeadsBy (steps_in last.now) (V.node value.now))) }
+        (FailsToMake ⊥ (LeadsBy (steps_in last.now) (V.node value))) }
     ensures missing { IfErr result (λ e. IsInput e
-        → SaysMissing source.now at.now (steps_in last.now) (V.node value.now) e) }
+        → SaysMissing source.now at.now (steps_in last.now) (V.node value) e) }
 {
     let (key, rest) = split_step(last);
     let Some(part) = value.part(key) else {

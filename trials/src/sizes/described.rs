@@ -44,8 +44,8 @@ fn try_json(alloc: Global, size: usize) -> Result<(), Deviation> {
         serde_json::Value::from_str(alloc, text.as_str()),
         "a document is read",
     )?;
-    let tree = json_tree(alloc, "r", &value);
     let path = json_refused_path(alloc, &value);
+    let tree = json_tree(alloc, "r", value);
     expect_described(tree, path, size)
 }
 
@@ -58,8 +58,8 @@ fn try_toml(alloc: Global, size: usize) -> Result<(), Deviation> {
         "a document is read",
     )?;
     let value = toml::Value::Table(table);
-    let tree = toml_tree(alloc, "r", &value);
     let path = toml_refused_path(alloc, &value);
+    let tree = toml_tree(alloc, "r", value);
     expect_described(tree, path, size)
 }
 

@@ -1,11 +1,11 @@
 -- Values of a document, of either format, and the values that they are converted to.
-use Rattle.std.proofs.Common.{◌≡◌, ◌∙◌, ap, sym, subst, nat_cmp, Less, Global, String, List, [], ◌∷◌, ◌++◌, append_assoc, map, string_bytes}
+use Rattle.std.proofs.Common.{◌≡◌, ◌∙◌, ap, sym, subst, nat_cmp, Less, Global, String, List, [], ◌∷◌, ◌++◌, append_assoc, eqb, length, map, string_bytes}
 use Rattle.std.specs.Cmp.Lexicographic.{slice_cmp}
 use Rattle.std.specs.List.{AllByRecursion}
 use Rattle.std.specs.List.Sorted.{IsStrictlySortedBy}
 use Rattle.std.specs.Map.{keys_of}
 use Rattle.std.specs.String.{string_cmp}
-use Rattle.std.proofs.lemmas.List.{append-nil, map-append}
+use Rattle.std.proofs.lemmas.List.{append-nil, map-append, length-map}
 use Rattle.ptree.specs.Data.{Data, Items, no_items, item, Entries, no_entries, entry, string, key_texts, item_pairs, entry_pair, entry_pairs, Pair}
 use Rattle.ptree.specs.Value.{items_from, entries_from}
 
@@ -90,3 +90,7 @@ pub entry_pairs_made : {V : Type 0} (meant : V → Data) (entries : List (Member
     → (ms : List (Member V)) → entry_pairs (entries ms) ≡ map (member_pair meant) ms
 entry_pairs_made meant entries none more [] = ap entry_pairs none
 entry_pairs_made meant entries none more (m ∷ ms) = ap entry_pairs (more m ms) ∙ ap (λ ps. member_pair meant m ∷ ps) (entry_pairs_made meant entries none more ms)
+
+-- a list that is mapped has as many as the one that it is mapped from
+pub as_many : {A B : Type 0} (f : A → B) (xs : List A) (ys : List B) → ys ≡ map f xs → eqb (length xs) 0 ≡ eqb (length ys) 0
+as_many f xs ys h = ap (λ n. eqb n 0) (sym (ap length h ∙ length-map xs f))

@@ -1,5 +1,5 @@
 //! The drawing engine.
-ghost use Rattle.std.specs.Prelude.{◌≡◌, ℕ, true, false, Some, length, take, ◌≤◌, ◌≢◌, ◌++◌, OnOk, OnErr, Err, List, map};
+ghost use Rattle.std.specs.Prelude.{◌≡◌, ℕ, true, false, Some, None, length, take, ◌≤◌, ◌≢◌, ◌++◌, [], OnOk, OnErr, Err, List, map};
 ghost use Rattle.std.specs.List.{concat};
 ghost use Rattle.ptree.specs.Pen.{brush_look, buffer_of, HoldsPassing, HoldsOwnText};
 ghost use Rattle.ptree.specs.Entries.{item_entries, kid_entries, entries_below, drawn_entries};
@@ -10,17 +10,32 @@ ghost use Rattle.ptree.specs.Style.{start_codes};
 ghost use Rattle.ptree.specs.Writing.{AppendsFirst, IsWritten, AreWritten, HasCause, HasErrorCause};
 ghost use Rattle.ptree.specs.declared.sink.DrawError.TheVariants.{Memory};
 
-use crate::item::TreeItem;
+use crate::item::{Shaped, TreeItem};
 use crate::output::brush::Brush;
 use crate::output::look::Look;
 use crate::output::pen::Pen;
 use crate::sink::{DrawError, Sink, Stop, put_or_stop};
 use std::alloc::Global;
 
+// Writes the buffer. A sink that gathers bytes mostly has room for it, and takes it without a call.
+#[inline(always)]
+fn put_buffer<W: Sink>(f: &mut W, bytes: &[u8], error: &mut DrawError) -> Result<(), Stop>
+    requires { error.old ≡ Memory }
+    ensures bytes { IsWritten (W.contents f.old) (W.contents f.new) result bytes.now }
+    ensures cause { HasErrorCause (W.faults f.old) (W.faults f.new) error.new }
+    ensures error { OnOk result (error.new ≡ Memory) }
+    ensures memory { OnErr result (error.new ≢ Memory) }
+{
+    if f.put_if_room(bytes) {
+        return Ok(());
+    }
+    put_without_room(f, bytes, error)
+}
+
 // Writes the buffer, which a sink mostly takes at once. It is a function of its own, so that what a
 // sink needs while it takes an entry is no part of the stack of each level.
 #[inline(never)]
-fn put_buffer<W: Sink>(f: &mut W, bytes: &[u8], error: &mut DrawError) -> Result<(), Stop>
+fn put_without_room<W: Sink>(f: &mut W, bytes: &[u8], error: &mut DrawError) -> Result<(), Stop>
     requires { error.old ≡ Memory }
     ensures bytes { IsWritten (W.contents f.old) (W.contents f.new) result bytes.now }
     ensures cause { HasErrorCause (W.faults f.old) (W.faults f.new) error.new }
@@ -165,60 +180,128 @@ fn draw_children<C: TreeItem<Child = C> + Drop, W: Sink>(
     Ok(())
 }
 
+/// What can be drawn: a root, whose own entry and what is below it are drawn by two calls.
+pub(crate) trait Drawn: Shaped {
+    /// Draws the root's own entry, as [`draw_entry`] does.
+    fn draw_own<W: Sink>(
+        &self,
+        f: &mut W,
+        pen: &mut Pen,
+        brush: &Brush<'_>,
+        width: usize,
+    ) -> Result<(), Stop>
+        requires error { pen.old.error ≡ Memory }
+        requires width { width ≤ length (buffer_of pen.old) }
+        requires turned { HoldsOwnText brush.now pen.old width None }
+        ensures bytes { (outer : List ℕ)
+            → HoldsPassing brush.now pen.old width outer
+            → IsWritten (W.contents f.old) (W.contents f.new) result
+            (own_entry (brush_look brush.now) outer None (Self.shape self.now)) }
+        ensures memory { OnErr result
+            (pen.new.error ≡ Memory → W.contents f.new ≡ W.contents f.old) }
+        ensures cause { HasErrorCause (W.faults f.old) (W.faults f.new) pen.new.error }
+        ensures error { OnOk result (pen.new.error ≡ Memory) }
+        ensures kept { OnOk result (buffer_of pen.new ≡ buffer_of pen.old) }
+        ensures turned { pen.new.turned ≡ pen.old.turned };
+
+    /// Draws what is below the root. The buffer holds the branch's start codes.
+    fn draw_below<W: Sink>(
+        &self,
+        f: &mut W,
+        pen: &mut Pen,
+        brush: &Brush<'_>,
+        levels_left: u32,
+    ) -> Result<(), Stop>
+        requires error { pen.old.error ≡ Memory }
+        requires turned { pen.old.turned ≡ false }
+        requires start { buffer_of pen.old ≡ start_codes (brush_look brush.now).branch }
+        ensures bytes { AreWritten (W.contents f.old) (W.contents f.new) result pen.new.error
+            (let look = brush_look brush.now in kid_entries look
+            (entries_below look levels_left) [] (kids (Self.shape self.now))) }
+        ensures cause { HasErrorCause (W.faults f.old) (W.faults f.new) pen.new.error }
+        ensures error { OnOk result (pen.new.error ≡ Memory) };
+}
+
+/// An item at the top of a drawing.
+#[derive(Drop)]
+pub(crate) struct Top<'a, T>(pub(crate) &'a T);
+
+impl<T: Shaped> Shaped for Top<'_, T> {
+    ghost shape = { λ t. T.shape t.0.now };
+}
+
+impl<T> Drawn for Top<'_, T>
+where
+    T: TreeItem,
+    T::Child: TreeItem<Child = T::Child> + Drop,
+{
+    fn draw_own<W: Sink>(
+        &self,
+        f: &mut W,
+        pen: &mut Pen,
+        brush: &Brush<'_>,
+        width: usize,
+    ) -> Result<(), Stop> {
+        draw_entry(self.0, f, pen, brush, width, None)
+    }
+
+    fn draw_below<W: Sink>(
+        &self,
+        f: &mut W,
+        pen: &mut Pen,
+        brush: &Brush<'_>,
+        levels_left: u32,
+    ) -> Result<(), Stop> {
+        let children = self.0.children(brush.alloc)?;
+        draw_children(children.as_slice(), f, pen, brush, levels_left)
+    }
+}
+
 // Draws a root and what is below it. The buffer holds the branch's start codes.
-fn draw_root<T, W>(
-    item: &T,
+fn draw_root<D: Drawn, W: Sink>(
+    root: &D,
     f: &mut W,
     pen: &mut Pen,
     brush: &Brush<'_>,
     depth: u32,
 ) -> Result<(), Stop>
-where
-    T: TreeItem,
-    T::Child: TreeItem<Child = T::Child> + Drop,
-    W: Sink,
     requires error { pen.old.error ≡ Memory }
     requires turned { pen.old.turned ≡ false }
     requires start { buffer_of pen.old ≡ start_codes (brush_look brush.now).branch }
     ensures bytes { AreWritten (W.contents f.old) (W.contents f.new) result pen.new.error
-        (drawn_entries (brush_look brush.now) depth (T.shape item.now)) }
+        (drawn_entries (brush_look brush.now) depth (D.shape root.now)) }
     ensures error { OnOk result (pen.new.error ≡ Memory) }
     ensures cause { HasErrorCause (W.faults f.old) (W.faults f.new) pen.new.error }
 {
     let width = pen.line.len();
     pen.line.append(brush.end.as_bytes())?;
-    draw_entry(item, f, pen, brush, width, None)?;
+    root.draw_own(f, pen, brush, width)?;
     pen.line.truncate(width);
     if depth == 0 {
         return Ok(());
     }
-    let children = item.children(brush.alloc)?;
-    draw_children(children.as_slice(), f, pen, brush, depth - 1)
+    root.draw_below(f, pen, brush, depth - 1)
 }
 
-/// Draws an item and what is below it in a look. All texts around prefixes are made before the
-/// first byte is written.
-pub(crate) fn draw<T, W>(
+/// Draws a root and what is below it in a look. All texts around prefixes are made before the first
+/// byte is written.
+pub(crate) fn draw<D: Drawn, W: Sink>(
     alloc: Global,
-    item: &T,
+    root: &D,
     f: &mut W,
     look: &Look<'_>,
     depth: u32,
 ) -> Result<(), DrawError>
-where
-    T: TreeItem,
-    T::Child: TreeItem<Child = T::Child> + Drop,
-    W: Sink,
     ensures bytes { IsWritten (W.contents f.old) (W.contents f.new) result
-        (concat (drawn_entries (look_of look.now) depth (T.shape item.now))) }
+        (concat (drawn_entries (look_of look.now) depth (D.shape root.now))) }
     ensures whole { result ≡ Err Memory
         → AppendsFirst (W.contents f.old) (W.contents f.new)
-        (drawn_entries (look_of look.now) depth (T.shape item.now)) }
+        (drawn_entries (look_of look.now) depth (D.shape root.now)) }
     ensures cause { HasCause (W.faults f.old) (W.faults f.new) result }
 {
     let mut pen = Pen::new(alloc, &look.branch)?;
     let brush = Brush::new(alloc, look)?;
-    let drawn = draw_root(item, f, &mut pen, &brush, depth);
+    let drawn = draw_root(root, f, &mut pen, &brush, depth);
     drop(brush);
     match drawn {
         Ok(()) => Ok(()),

@@ -1,6 +1,6 @@
 //! A sink that gathers what it is given, and passes it on in fewer and larger puts.
 ghost use Rattle.std.specs.Io.KnownBytes.{Appends, Keeps, WriteAppends};
-ghost use Rattle.std.specs.Prelude.{◌≡◌, ◌+◌, ◌-◌, ◌≤◌, ◌<◌, [], take, drop, ◌++◌, length, vec_len, IfOk, IfErr, OnOk, IsSome, IsNone, Some, None};
+ghost use Rattle.std.specs.Prelude.{◌≡◌, ◌↔◌, ◌+◌, ◌-◌, ◌≤◌, ◌<◌, [], false, IsTrue, take, drop, ◌++◌, length, vec_len, IfOk, IfErr, OnOk, IsSome, IsNone, Some, None};
 ghost use Rattle.ptree.specs.Faults.{reported_by_put, reported_by_call, faults_of, put_outcome};
 ghost use Rattle.ptree.specs.Writing.{HasCause, TakesNoMemory, put_faults};
 
@@ -296,8 +296,8 @@ impl<S: Sink> Sink for Buffered<S> {
         ensures waits { length (held_bytes self.old) + length bytes.now ≤ room_of self.old
             → inner_sink self.new ≡ inner_sink self.old }
     {
-        if self.fault.is_none() && bytes.len() <= self.room.len() - self.used {
-            return Ok(self.take(bytes));
+        if self.put_if_room(bytes) {
+            return Ok(bytes.len());
         }
         match self.put_or_stop(bytes) {
             Some(n) => Ok(n),
@@ -306,5 +306,30 @@ impl<S: Sink> Sink for Buffered<S> {
                 _ => Ok(0),
             },
         }
+    }
+
+    /// Takes all the bytes if there is room for them and the sink has not stopped. The inner sink is
+    /// not called.
+    #[inline(always)]
+    fn put_if_room(&mut self, bytes: &[u8]) -> bool
+        ensures exact { IsTrue result ↔ ((stopped_at self.old ≡ None)
+            × (length (held_bytes self.old) + length bytes.now ≤ room_of self.old)) }
+        ensures held { IsTrue result → held_bytes self.new ≡ held_bytes self.old ++ bytes.now }
+        ensures inner { inner_sink self.new ≡ inner_sink self.old }
+        ensures stopped { stopped_at self.new ≡ stopped_at self.old }
+        ensures told { self.new.reported ≡ self.old.reported }
+        ensures room { room_of self.new ≡ room_of self.old }
+        // And what a sink promises.
+        ensures accepted { IsTrue result → Appends (given_bytes S.contents self.old)
+            (given_bytes S.contents self.new) bytes.now }
+        ensures no_fault { IsTrue result
+            → reported_faults S.faults self.new ≡ reported_faults S.faults self.old }
+        ensures refused { result ≡ false → self.new ≡ self.old }
+    {
+        if self.fault.is_some() || bytes.len() > self.room.len() - self.used {
+            return false;
+        }
+        self.take(bytes);
+        true
     }
 }

@@ -11,7 +11,8 @@ use super::ConvertError;
 use super::from_json::has_float;
 use super::from_toml::fault_of;
 use super::node::DocumentNode;
-use crate::output::print_tree_with;
+use super::row::DocumentTop;
+use crate::output::draw_for;
 use crate::parsed::{Parsed, read_json, read_toml};
 use crate::print_config::{OutputKind, PrintConfig, Sources};
 use crate::sink::{DrawError, Sink};
@@ -105,7 +106,7 @@ pub fn draw_document<W: Sink>(
 ///
 /// The drawing is that of the pair of the label and the document's value. If the label is empty,
 /// the root's text is that of the value. The document's values are drawn where the parser put them,
-/// without a copy.
+/// without a copy, so that beside the document it takes memory for one entry and a call a level.
 ///
 /// # Errors
 ///
@@ -147,8 +148,8 @@ pub fn draw_document_with<W: Sink>(
     ensures cause { HasDocumentCause (W.faults out.old) (W.faults out.new) result }
 {
     let parsed = parse_document(alloc, format, text)?;
-    let root = DocumentNode::root(label, &parsed);
-    let drawn = print_tree_with(alloc, &root, out, terminal, config);
+    let root = DocumentTop(DocumentNode::root(label, &parsed));
+    let drawn = draw_for(alloc, &root, out, OutputKind::Stdout, terminal, config);
     drop(parsed);
     drawn?;
     Ok(())

@@ -1,10 +1,8 @@
 //! Items that draw the values of a document in place, without a copy.
-ghost use Rattle.serde_json.specs.View as json;
-ghost use Rattle.std.specs.Prelude.{◌≡◌, ◌≢◌, ◌++◌, [], codes, map, IfOk, OnOk, OnErr};
-ghost use Rattle.toml.specs.View as toml;
-ghost use Rattle.ptree.specs.Convert.{json_items, json_entries, toml_items, toml_entries};
-ghost use Rattle.ptree.specs.Data.{item_pairs, entry_pairs, value_pairs, pair_text, pair_shape};
+ghost use Rattle.std.specs.Prelude.{◌≡◌, ◌≢◌, ◌++◌, [], codes, OnOk, OnErr};
+ghost use Rattle.ptree.specs.Data.{value_pairs, pair_text, pair_own};
 ghost use Rattle.ptree.specs.Parts.{part_of, node_pair_of, parsed_of};
+ghost use Rattle.ptree.specs.Shape.{over_shape};
 ghost use Rattle.ptree.specs.Style.{style_of, painted_text};
 ghost use Rattle.ptree.specs.Writing.{IsWritten, HasCause, HasErrorCause, TakesNoMemory};
 ghost use Rattle.ptree.specs.declared.sink.DrawError.TheVariants.{Memory};
@@ -15,11 +13,10 @@ use crate::parsed::{Parsed, ParsedPart};
 use crate::sink::{DrawError, Sink, Stop, put_or_stop};
 use crate::style::Style;
 use crate::style::codes::Codes;
-use serde_json::Map;
 use std::alloc::{AllocError, Global};
-use toml::Table;
 
-/// A value in its place in a document, with its label or its key.
+/// A value in its place in a document, with its label or its key. As an item it is without what is
+/// below it.
 #[derive(Clone, Copy)]
 pub(crate) enum DocumentNode<'a> {
     /// A value under a label, which is empty if there is none.
@@ -36,10 +33,21 @@ impl<'a> DocumentNode<'a> {
     {
         DocumentNode::Labelled(label, parsed.top())
     }
+
+    /// Returns the value.
+    #[inline(always)]
+    pub(super) fn part(&self) -> &ParsedPart<'a>
+        ensures { value_pairs (part_of result.now) ≡ value_pairs (node_pair_of self.now).1 }
+    {
+        match self {
+            DocumentNode::Labelled(_, part) => part,
+            DocumentNode::Entry(_, part) => part,
+        }
+    }
 }
 
 impl Shaped for DocumentNode<'_> {
-    ghost shape = { λ n. pair_shape (node_pair_of n) };
+    ghost shape = { λ n. over_shape (pair_own (node_pair_of n)) [] };
 }
 
 impl<'a> TreeItem for DocumentNode<'a> {
@@ -49,7 +57,7 @@ impl<'a> TreeItem for DocumentNode<'a> {
     #[inline(always)]
     fn write_self<W: Sink>(&self, _alloc: Global, f: &mut W, style: &Style) -> Result<(), DrawError>
         ensures bytes { IsWritten (W.contents f.old) (W.contents f.new) result
-            ((pair_shape (node_pair_of self.now)).own [] (style_of style.now)) }
+            (pair_own (node_pair_of self.now) (style_of style.now)) }
         ensures cause { HasCause (W.faults f.old) (W.faults f.new) result }
         ensures memory { TakesNoMemory result }
     {
@@ -66,14 +74,8 @@ impl<'a> TreeItem for DocumentNode<'a> {
         style.write_painted_bytes(f, labelled_text(label, part, &mut room))
     }
 
-    /// Makes a node of each element of a list, and of each entry of a table.
-    #[inline(always)]
-    fn children(&self, alloc: Global) -> Result<Children<'_, DocumentNode<'a>>, AllocError> {
-        let nodes = match self {
-            DocumentNode::Labelled(_, part) => nodes_of(alloc, part)?,
-            DocumentNode::Entry(_, part) => nodes_of(alloc, part)?,
-        };
-        Ok(Children::Made(nodes))
+    fn children(&self, _alloc: Global) -> Result<Children<'_, DocumentNode<'a>>, AllocError> {
+        Ok(Children::Lent(&[]))
     }
 }
 
@@ -87,94 +89,6 @@ fn labelled_text<'a>(label: &'a str, part: &'a ParsedPart<'_>, room: &'a mut [u8
     } else {
         label.as_bytes()
     }
-}
-
-// Makes a node of each child of a value.
-#[inline(always)]
-fn nodes_of<'a>(alloc: Global, part: &ParsedPart<'a>) -> Result<Vec<DocumentNode<'a>>, AllocError>
-    ensures { IfOk result (λ nodes.
-        map node_pair_of nodes.items ≡ value_pairs (part_of part.now)) }
-{
-    if part.is_list() {
-        nodes_in(alloc, part)
-    } else {
-        Ok(Vec::new(alloc))
-    }
-}
-
-// Does what `nodes_of` does. It is a function of its own, so that a value without children takes no
-// call.
-#[inline(never)]
-fn nodes_in<'a>(alloc: Global, part: &ParsedPart<'a>) -> Result<Vec<DocumentNode<'a>>, AllocError>
-    ensures { IfOk result (λ nodes.
-        map node_pair_of nodes.items ≡ value_pairs (part_of part.now)) }
-{
-    match part {
-        ParsedPart::Json(serde_json::Value::Array(items)) => json_items(alloc, items),
-        ParsedPart::Json(serde_json::Value::Object(members)) => json_members(alloc, members),
-        ParsedPart::Toml(toml::Value::Array(items)) => toml_items(alloc, items),
-        ParsedPart::Toml(toml::Value::Table(members)) => toml_members(alloc, members),
-        _ => Ok(Vec::new(alloc)),
-    }
-}
-
-// Makes a node of each element of an array.
-fn json_items<'a>(
-    alloc: Global,
-    items: &'a Vec<serde_json::Value>,
-) -> Result<Vec<DocumentNode<'a>>, AllocError>
-    ensures { IfOk result (λ nodes.
-        map node_pair_of nodes.items ≡ item_pairs (json_items (json.items_view items.now.items))) }
-{
-    let mut nodes = Vec::with_capacity(alloc, items.len())?;
-    for item in items {
-        nodes.push(DocumentNode::Labelled("", ParsedPart::Json(item)))?;
-    }
-    Ok(nodes)
-}
-
-// Makes a node of each member of an object.
-fn json_members<'a>(
-    alloc: Global,
-    members: &'a Map<String, serde_json::Value>,
-) -> Result<Vec<DocumentNode<'a>>, AllocError>
-    ensures { IfOk result (λ nodes.
-        map node_pair_of nodes.items
-        ≡ entry_pairs (json_entries (json.members_view members.now.entries))) }
-{
-    let mut nodes = Vec::with_capacity(alloc, members.len())?;
-    for (key, member) in members.iter() {
-        nodes.push(DocumentNode::Entry(key.as_str(), ParsedPart::Json(member)))?;
-    }
-    Ok(nodes)
-}
-
-// Makes a node of each element of an array.
-fn toml_items<'a>(
-    alloc: Global,
-    items: &'a Vec<toml::Value>,
-) -> Result<Vec<DocumentNode<'a>>, AllocError>
-    ensures { IfOk result (λ nodes.
-        map node_pair_of nodes.items ≡ item_pairs (toml_items (toml.items_view items.now.items))) }
-{
-    let mut nodes = Vec::with_capacity(alloc, items.len())?;
-    for item in items {
-        nodes.push(DocumentNode::Labelled("", ParsedPart::Toml(item)))?;
-    }
-    Ok(nodes)
-}
-
-// Makes a node of each entry of a table.
-fn toml_members<'a>(alloc: Global, members: &'a Table) -> Result<Vec<DocumentNode<'a>>, AllocError>
-    ensures { IfOk result (λ nodes.
-        map node_pair_of nodes.items
-        ≡ entry_pairs (toml_entries (toml.members_view members.now.entries))) }
-{
-    let mut nodes = Vec::with_capacity(alloc, members.len())?;
-    for (key, member) in members.iter() {
-        nodes.push(DocumentNode::Entry(key.as_str(), ParsedPart::Toml(member)))?;
-    }
-    Ok(nodes)
 }
 
 // Writes `key = value` painted.

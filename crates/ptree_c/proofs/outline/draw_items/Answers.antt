@@ -1,8 +1,21 @@
-use Rattle.std.proofs.Common.{◌≤◌, ◌++◌, length, get_or, refl, sym, ◌∙◌, subst}
+use Rattle.std.proofs.Common.{◌≤◌, [], ◌++◌, length, get_or, refl, sym, ◌∙◌, subst}
 use Rattle.ptree_c.specs.Outlines.{step_of, kept_path}
 use Rattle.ptree_c.specs.Pens.{brush_look}
-use Rattle.ptree_c.proofs.Outlined.{no_item, low_at, next_left, size_fits, drawn_more}
+use Rattle.ptree_c.proofs.Outlined.{no_item, low_at, next_left, next_text, outline_texts, size_fits, drawn_more}
+use Rattle.ptree_c.proofs.Rooms.{filled_none}
 use Rattle.ptree_c.proofs.outline.draw_items.Goals as goal
+
+pub loop-place-init : goal.loop-place-init
+loop-place-init c = record {
+  drawn = ([], (filled_none c.args.out.now, refl), refl);
+  held = c.requires.held;
+  room = c.requires.room;
+  long = refl;
+  texts = outline_texts c.args.texts.now.bytes.now c.args.items.now c.requires.right;
+}
+
+pub draw_item-at-requires-clause-text : goal.draw_item-at-requires-clause-text
+draw_item-at-requires-clause-text c = (next_text c.args.texts.now.bytes.now c.loop-place.from c.loop-place.place c.args.items.now no_item c.loop-place-test.true c.loop-place.invariant.texts).0
 
 pub draw_item-at-requires-clause-low : goal.draw_item-at-requires-clause-low
 draw_item-at-requires-clause-low c =
@@ -33,4 +46,5 @@ loop-place-preserved c =
       held = ok.held;
       room = ok.room;
       long = c.draw_item-at.auto.path ∙ c.loop-place.invariant.long;
+      texts = (next_text c.args.texts.now.bytes.now c.loop-place.from c.loop-place.place c.args.items.now no_item c.loop-place-test.true c.loop-place.invariant.texts).1;
     }

@@ -3,6 +3,7 @@ use Rattle.ptree_c.specs.Outlines.{steps_from}
 use Rattle.ptree_c.specs.Pens.{HoldsPath, HasRoom, brush_look}
 use Rattle.ptree_c.specs.Rooms.{IsFilled}
 use Rattle.ptree_c.specs.Steps.{steps_text}
+use Rattle.ptree_c.proofs.Outlined.{HaveTexts}
 use Rattle.ptree_c.proofs.outline.draw_items.Given as goal
 
 -- what was drawn and the entries of the items that are left are all
@@ -14,4 +15,5 @@ invariant-loop-place l = record {
   held : HoldsPath l.brush l.path l.pen;
   room : HasRoom l.brush (length l.path) l.pen;
   long : length l.path ≡ length l.fn.path;
+  texts : HaveTexts l.texts.bytes.now l.from (drop l.place l.items);
 }

@@ -1,9 +1,16 @@
-use Rattle.std.proofs.Common.{◌≡◌, ℕ, suc, ◌-◌, ◌<◌, List, length, length-set, drop, drop-cons, get_or, refl, sym, ◌∙◌, subst, arith}
+use Rattle.std.proofs.Common.{◌≡◌, ℕ, suc, ◌-◌, ◌<◌, List, length, length-set, drop, drop-cons, get_or, refl, sym, ap, ◌∙◌, subst, arith}
 use Rattle.ptree_c.specs.Outlines.{AreLater, AreLastFlags}
 use Rattle.ptree_c.specs.declared.items.Item.{Item}
 use Rattle.ptree_c.proofs.Later.{steps_at, flags_put}
 use Rattle.ptree_c.proofs.Outlined.{no_item}
 use Rattle.ptree_c.proofs.outline.last_flags.Goals as goal
+
+pub is_last-requires : goal.is_last-requires
+is_last-requires c =
+    let n : ℕ = c.loop-place.place - 1 in
+    let within : n < length c.args.items.now = omega (arith, c.loop-place-test.true, c.loop-place.invariant.within) in
+    let low = (steps_at c.args.deepest c.args.items.now n no_item within c.requires).0 in
+    omega (arith, low, c.loop-place.invariant.room, ap length c.deref.ensures.value)
 
 pub put_level-requires : goal.put_level-requires
 put_level-requires c =

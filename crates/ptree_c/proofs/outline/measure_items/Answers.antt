@@ -1,7 +1,13 @@
-use Rattle.std.proofs.Common.{◌≤◌, length, get_or, sym, ◌∙◌, subst}
+use Rattle.std.proofs.Common.{rules, ◌≤◌, length, get_or, sym, ◌∙◌, subst}
 use Rattle.ptree_c.specs.Pens.{brush_look}
-use Rattle.ptree_c.proofs.Outlined.{no_item, low_at, next_left, size_more}
+use Rattle.ptree_c.proofs.Outlined.{no_item, low_at, next_left, next_text, outline_texts, size_more}
 use Rattle.ptree_c.proofs.outline.measure_items.Goals as goal
+
+pub loop-place-init : goal.loop-place-init
+loop-place-init c = search (rules, outline_texts c.args.texts.now.bytes.now c.args.items.now c.requires.right)
+
+pub measure_item-requires-clause-text : goal.measure_item-requires-clause-text
+measure_item-requires-clause-text c = (next_text c.args.texts.now.bytes.now c.loop-place.from c.loop-place.place c.args.items.now no_item c.loop-place-test.true c.loop-place.invariant.texts).0
 
 pub measure_item-requires-clause-low : goal.measure_item-requires-clause-low
 measure_item-requires-clause-low c =
@@ -19,4 +25,5 @@ loop-place-preserved c =
       held = ok.held;
       room = ok.room;
       long = c.measure_item.auto.path ∙ c.loop-place.invariant.long;
+      texts = (next_text c.args.texts.now.bytes.now c.loop-place.from c.loop-place.place c.args.items.now no_item c.loop-place-test.true c.loop-place.invariant.texts).1;
     }

@@ -1,23 +1,34 @@
-use Rattle.std.proofs.Common.{◌++◌, List, ℕ, length, take, ap, sym, ◌∙◌, subst, append_assoc, length-append, arith, [], ◌∷◌, get_or}
+use Rattle.std.proofs.Common.{◌++◌, List, ℕ, length, length-append, sym, ap, ◌∙◌, subst, arith}
 use Rattle.ptree.specs.Drawing.{with_inserted}
-use Rattle.ptree_c.specs.Rooms.{IsFilled}
-use Rattle.ptree_c.proofs.Entries.{inserted_more, inserted_size}
+use Rattle.ptree.proofs.Drawing.Inserted.{inserted_none}
+use Rattle.ptree_c.specs.Rooms.{PutsBytes}
+use Rattle.ptree_c.proofs.Outlined.{drawn_more}
+use Rattle.ptree_c.proofs.Rooms.{puts_more}
 use Rattle.ptree_c.proofs.pen.put_lines.Goals as goal
 
-pub put_byte-end-requires : goal.put_byte-end-requires
-put_byte-end-requires c =
+pub put_line-end-requires : goal.put_line-end-requires
+put_line-end-requires c =
     let inserted : List ℕ = c.args.front.now ++ (c.args.below.now ++ c.args.further.now) in
-    omega (arith, inserted_size inserted c.args.text.now c.loop-byte.byte-index c.loop-byte-test.true, c.requires, c.loop-byte.invariant.end)
+    let before = c.loop-line.invariant in
+    let next = c.in-Some.ensures.line inserted in
+    omega (arith, c.requires, ap length before.2, length-append before.0 (with_inserted inserted c.loop-line.rest.now), ap length next, length-append (c.in-Some.line.now ++ inserted) (with_inserted inserted c.in-Some.others.now), before.1.end)
 
-pub loop-byte-preserved : goal.loop-byte-preserved
-loop-byte-preserved c =
-    let text = c.args.text.now in
-    let i = c.loop-byte.byte-index in
+pub loop-line-preserved : goal.loop-line-preserved
+loop-line-preserved c =
     let inserted : List ℕ = c.args.front.now ++ (c.args.below.now ++ c.args.further.now) in
-    let put : List ℕ = with_inserted inserted (take i text) in
-    let more : List ℕ = with_inserted inserted (get_or text i 0 ∷ []) in
-    let next = inserted_more inserted text i c.loop-byte-test.true in record {
-      filled = λ room before is. subst (λ z. IsFilled room z c.put_byte-end.new.out c.put_byte-end.result) (append_assoc before put more ∙ ap (λ z. before ++ z) (sym next))
-          (c.put_byte-end.ensures.filled room (before ++ put) (c.loop-byte.invariant.filled room before is));
-      end = omega (arith, c.put_byte-end.ensures.end, c.loop-byte.invariant.end, ap length next, length-append put more);
-    }
+    let before = c.loop-line.invariant in
+    (before.0 ++ (c.in-Some.line.now ++ inserted), puts_more before.1 c.put_line-end.ensures, drawn_more before.0 _ (c.in-Some.line.now ++ inserted) _ _ (c.in-Some.ensures.line inserted) before.2)
+
+pub put-requires : goal.put-requires
+put-requires c =
+    let inserted : List ℕ = c.args.front.now ++ (c.args.below.now ++ c.args.further.now) in
+    let before = c.loop-line.invariant in
+    let none = inserted_none inserted c.loop-line.rest.now c.in_default.ensures.none in
+    omega (arith, c.requires, ap length before.2, length-append before.0 (with_inserted inserted c.loop-line.rest.now), ap length none, before.1.end)
+
+pub returns : goal.returns
+returns c =
+    let inserted : List ℕ = c.args.front.now ++ (c.args.below.now ++ c.args.further.now) in
+    let before = c.loop-line.invariant in
+    let none = inserted_none inserted c.loop-line.rest.now c.in_default.ensures.none in
+    subst (λ z. PutsBytes z c.args.out.now c.args.at c.put.new.out c.put.result) (ap (λ z. before.0 ++ z) (sym none) ∙ before.2) (puts_more before.1 c.put.ensures)

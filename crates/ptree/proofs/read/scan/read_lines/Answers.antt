@@ -10,7 +10,7 @@ use Rattle.ptree.specs.Reached.{IsOwnLine, IsFurtherLine, ArePath}
 use Rattle.ptree.proofs.Trees.PartialSteps.{none_partial, none_lines}
 use Rattle.ptree.proofs.Reading.Scanning.{ScanSo, scan_start, scan_further, scan_own, scan_wrong, scan_open, scan_short, scan_before, root_before, root_short, root_wrong, scan_ends_wrong, scan_end, scan_moved, rest_is_shorter}
 use Rattle.ptree.proofs.read.scan.read_lines.Goals as goal
-use Rattle.ptree.proofs.read.scan.read_lines.Goals.{in-Own+in-Some-drop_leaf_end+in_ok-into_string-in-Own+in_ok-add-in-Own, in-Further+in_ok-shown-in-Further}
+use Rattle.ptree.proofs.read.scan.read_lines.Goals.{in-Own+in-Some-drop_leaf_end+in_ok-into_string-in-Own+in_ok-add-in-Own, in-Further+in_ok-add_line-in-Further}
 
 pub stop-requires-clause-before : goal.stop-requires-clause-before
 stop-requires-clause-before c = root_before (look_of c.args.frame.now.look.now) c.requires c.args.frame.now.depth c.args.text.now
@@ -61,7 +61,7 @@ loop-rest-smaller c =
     let k = look_of c.args.frame.now.look.now in
     elim c.match-line.branch [
       | in-Own+in-Some-drop_leaf_end+in_ok-into_string-in-Own+in_ok-add-in-Own w ↦ let l : IsOwnLine k c.args.frame.now.depth c.loop-rest.path.flags.items c.loop-rest.rest.now w.in-Own.own.now c.in-Some-2.more.now c.go_on.new.self.flags.items = rw w.in-Own.is at (rw c.in-Some-2.is at c.in_ok-line.ensures.line) in rest_is_shorter _ w.in-Own.own.now c.in-Some-2.more.now c.loop-rest.rest.now l.text_is
-      | in-Further+in_ok-shown-in-Further w ↦ let l : IsFurtherLine k c.loop-rest.path.flags.items c.loop-rest.rest.now w.in-Further.own.now c.in-Some-2.more.now c.go_on.new.self.flags.items = rw w.in-Further.is at (rw c.in-Some-2.is at c.in_ok-line.ensures.line) in rest_is_shorter _ w.in-Further.own.now c.in-Some-2.more.now c.loop-rest.rest.now l.text_is
+      | in-Further+in_ok-add_line-in-Further w ↦ let l : IsFurtherLine k c.loop-rest.path.flags.items c.loop-rest.rest.now w.in-Further.own.now c.in-Some-2.more.now c.go_on.new.self.flags.items = rw w.in-Further.is at (rw c.in-Some-2.is at c.in_ok-line.ensures.line) in rest_is_shorter _ w.in-Further.own.now c.in-Some-2.more.now c.loop-rest.rest.now l.text_is
     ]
 
 pub loop-rest-preserved : goal.loop-rest-preserved
@@ -80,11 +80,11 @@ loop-rest-preserved c =
                 (ap partial_lines w.tree-is ∙ (w.in_ok-add-in-Own.ensures.lines ∙ ap (λ z. partial_lines was ++ line (length was.parents.items) z ∷ []) w.in_ok-into_string-in-Own.ensures)) (ap (λ t. length t.parents.items) w.tree-is ∙ (w.in_ok-add-in-Own.ensures.level ∙ w.level.ensures)) (ap read_text_of w.shown-is),
             path,
           )
-      | in-Further+in_ok-shown-in-Further w ↦
+      | in-Further+in_ok-add_line-in-Further w ↦
           let l : IsFurtherLine k c.loop-rest.path.flags.items c.loop-rest.rest.now w.in-Further.own.now c.in-Some-2.more.now c.go_on.new.self.flags.items = rw w.in-Further.is at (rw c.in-Some-2.is at c.in_ok-line.ensures.line) in (
             search rules,
             subst (λ t. IsPartial t) (sym w.tree-is) c.loop-rest.invariant.1,
-            scan_moved (scan_further c.loop-rest.invariant.2 c.requires l path) (ap partial_lines w.tree-is) (ap (λ t. length t.parents.items) w.tree-is) (ap read_text_of w.shown-is ∙ w.in_ok-shown-in-Further.ensures),
+            scan_moved (scan_further c.loop-rest.invariant.2 c.requires l path) (ap partial_lines w.tree-is) (ap (λ t. length t.parents.items) w.tree-is) (ap read_text_of w.shown-is ∙ w.in_ok-add_line-in-Further.ensures),
             path,
           )
     ]

@@ -16,12 +16,12 @@ returns-in_err-parsed-clause-whole g c =
 
 pub returns-in_err-drawn-clause-bytes : goal.returns-in_err-drawn-clause-bytes
 returns-in_err-drawn-clause-bytes g c =
-    drawn_err (document c.args.format c.args.text.now) _ (config_look c.args.config.now Stdout c.args.terminal) c.args.label.now _ c.args.config.now.depth _ _ c.in_ok-parsed.ensures.value c.root-root.ensures
+    drawn_err (document c.args.format c.args.text.now) _ (config_look c.args.config.now Stdout c.args.terminal) c.args.label.now _ c.args.config.now.depth _ _ c.in_ok-parsed.ensures.value c.root.ensures
     _ c.in_err-drawn.field-0.0 c.from_residual-in_err-drawn.result c.from_residual-in_err-drawn.ensures.1 c.in_err-drawn.ensures.bytes
 
 pub returns-in_err-drawn-clause-whole : goal.returns-in_err-drawn-clause-whole
 returns-in_err-drawn-clause-whole g c =
-    whole_err (document c.args.format c.args.text.now) _ (config_look c.args.config.now Stdout c.args.terminal) c.args.label.now _ c.args.config.now.depth _ _ c.in_ok-parsed.ensures.value c.root-root.ensures
+    whole_err (document c.args.format c.args.text.now) _ (config_look c.args.config.now Stdout c.args.terminal) c.args.label.now _ c.args.config.now.depth _ _ c.in_ok-parsed.ensures.value c.root.ensures
     c.in_err-drawn.field-0.0 c.from_residual-in_err-drawn.result c.from_residual-in_err-drawn.ensures.1 c.in_err-drawn.ensures.whole
 
 pub returns-clause-bytes : goal.returns-clause-bytes

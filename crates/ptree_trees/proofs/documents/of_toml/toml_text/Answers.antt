@@ -9,8 +9,8 @@ use Rattle.ptree_trees.proofs.documents.of_toml.toml_text.Goals as goal
 
 pub returns-in-Float : goal.returns-in-Float
 returns-in-Float c =
-    let x = c.in-Float.field-0 in
+    let x = c.in-Float.x in
     let is = ap view c.in-Float.is ∙ view-Float x in
     IfOk-weaker c.written_toml-in-Float.result _ _ (λ s h.
-    let own = subst (λ d. IsValueText false d (string_bytes s)) is h in
+    let own = subst (λ d. IsValueText false d (string_bytes s)) (view-Float x) h in
     subst (λ d. IsTomlText d (string_bytes s)) (sym is) (own, toml_float x (string_bytes s) own)) c.written_toml-in-Float.ensures

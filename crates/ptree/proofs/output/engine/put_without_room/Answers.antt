@@ -1,5 +1,5 @@
 use Rattle.ptree.proofs.Sinks.Written.{written_rest}
-use Rattle.ptree.proofs.output.engine.put_buffer.Goals as goal
+use Rattle.ptree.proofs.output.engine.put_without_room.Goals as goal
 
 pub returns-in-Ok-2-clause-bytes : goal.returns-in-Ok-2-clause-bytes
 returns-in-Ok-2-clause-bytes g c =
