@@ -2,7 +2,7 @@
 //! each line while it is written.
 
 use serde_json::{Map, Value};
-use std::io::{self, Write};
+use std::io::{self, ErrorKind, Write};
 
 const TURN: &str = "├─ ";
 const LAST_TURN: &str = "└─ ";
@@ -10,12 +10,25 @@ const PASS: &str = "│  ";
 const LAST_PASS: &str = "   ";
 const MARKER: &str = ": ";
 
-/// Draws a value under a label.
+/// Draws a value under a label. A value that holds a float is refused before anything is drawn, as the library does.
 pub fn draw<W: Write>(label: &str, value: &Value, out: &mut W) -> io::Result<()> {
+    if has_float(value) {
+        return Err(ErrorKind::InvalidData.into());
+    }
     let mut line = Vec::with_capacity(256);
     draw_entry("", 0, &mut line, out, |line| push_text(label, line))?;
     line.clear();
     draw_below(value, &mut line, out)
+}
+
+// Whether a value holds a float.
+fn has_float(value: &Value) -> bool {
+    match value {
+        Value::Number(number) => number.is_f64(),
+        Value::Array(elements) => elements.iter().any(has_float),
+        Value::Object(members) => members.values().any(has_float),
+        _ => false,
+    }
 }
 
 // Draws what is below a value. The buffer holds the prefix of its children, and does so afterwards.
