@@ -3,27 +3,26 @@ use Rattle.std.proofs.Common.{◌≡◌, ℕ, Bool, false, inr, Option, List, Re
 use Rattle.std.proofs.lemmas.Bool.{false≢true}
 use Rattle.std.specs.Prelude.{IsErr, IfErr}
 use Rattle.ptree.specs.declared.print_config.OutputKind.TheVariants.{Unknown}
-use Rattle.ptree.specs.Config.{ConfigValue}
+use Rattle.ptree.specs.Config.{ConfigValue, is_styled}
 use Rattle.ptree.specs.Drawing.{look_by, IsDrawing}
 use Rattle.ptree.specs.Shape.{Shape}
 use Rattle.ptree.specs.Tree.{Tree}
 use Rattle.ptree.specs.Writing.{AppendsPart}
 use Rattle.ptree_trees.specs.Styled.{styled_shape}
 use Rattle.ptree_trees.specs.declared.styled.StyledItem.{StyledItem}
-use Rattle.trees.specs.declared.compare.Look.{Look}
 use Rattle.trees.specs.declared.failure.Failure.{Failure}
 use Rattle.trees.specs.declared.failure.Failure.TheVariants.{Usage, Input, Said, Output, Memory}
-use Rattle.trees.specs.Merging.{styled_tree_of, look_of, ShowsBoth, IsMergeDrawing}
+use Rattle.trees.specs.Merging.{styled_tree_of, ShowsBoth, IsMergeDrawing}
 use Rattle.trees.specs.Reading.{IsWriting}
 use Rattle.trees.specs.Writing.{WritesRefusal}
 use Rattle.trees.proofs.StyledTrees.{shape_of_item}
 
 -- the drawing of an item that shows two trees is that of their merge
-pub merge_drawing : (config : ConfigValue) (is_terminal : Bool) (look : Look) (t u : Tree) (s : StyledItem) (bytes : List ℕ) → look ≡ look_of config is_terminal → ShowsBoth look t u (styled_tree_of s)
-    → IsDrawing (look_by config Unknown false) (styled_shape s) config.depth bytes → IsMergeDrawing config is_terminal t u bytes
-merge_drawing config is_terminal look t u s bytes same shows drawn = (
+pub merge_drawing : (config : ConfigValue) (is_terminal is_colored : Bool) (t u : Tree) (s : StyledItem) (bytes : List ℕ) → is_colored ≡ is_styled config.styled Unknown false
+    → ShowsBoth (record { is_colored = is_colored; is_escaped = is_terminal }) t u (styled_tree_of s) → IsDrawing (look_by config Unknown false) (styled_shape s) config.depth bytes → IsMergeDrawing config is_terminal t u bytes
+merge_drawing config is_terminal is_colored t u s bytes colored shows drawn = (
   styled_tree_of s,
-  subst (λ (k : Look). ShowsBoth k t u (styled_tree_of s)) same shows,
+  subst (λ (b : Bool). ShowsBoth (record { is_colored = b; is_escaped = is_terminal }) t u (styled_tree_of s)) colored shows,
   subst (λ (x : Shape). IsDrawing (look_by config Unknown false) x config.depth bytes) (shape_of_item s) drawn,
 )
 

@@ -97,8 +97,7 @@ pub within_lines : (d : ℕ) (form : Form) → IsUnit form.unit.now → (text : 
 within_lines d form u text t is none =
     let parts = ap (slice_split (λ b. eqb b 10)) is.1 ∙ parts_of_form form u (outline t) is.0 in
     let low = shallow_low d form u (outline t) (subst (All (IsShallow d form)) parts none) in
-    let high = height_low d 0 t.children (omega arith) low.1 in
-    omega (arith, high)
+    omega (arith, height_low d 0 t.children (omega arith) low.1)
 
 -- and only then
 pub deep_line : (d : ℕ) (form : Form) → IsUnit form.unit.now → (text : List ℕ) (t : Tree) → IsIndentedForm form text t

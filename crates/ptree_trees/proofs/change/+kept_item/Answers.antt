@@ -42,10 +42,9 @@ pub returns : goal.returns
 returns g t c = λ test tests.
     let item = c.args.item.now in
     let children = c.loop-child.children in
-    let cloned : string_bytes c.in_ok-clone.field-0 ≡ string_bytes (out-StringItem item).text = search rules in
     let made : StringItem-F StringItem = record { text = c.in_ok-clone.field-0; children = children } in
     let whole =
-    item_kept test item c.deref-child-items.result.now made c.loop-child.child-index c.loop-child-test.false (c.loop-child.invariant test tests) cloned in
+    item_kept test item c.deref-child-items.result.now made c.loop-child.child-index c.loop-child-test.false (c.loop-child.invariant test tests) (search rules) in
     elim c.else-is_empty.branch [
       | else-is_empty-via-then-is_empty+else-not-passes w ↦ (
           let own : w.passes.result ≡ test w.as_str.result.now = tests w.as_str.result.now w.passes.result (says_at g.F.Fn w.passes.ensures refl) in

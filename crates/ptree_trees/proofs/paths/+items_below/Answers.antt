@@ -1,6 +1,4 @@
-use Rattle.std.proofs.Common.{map, rules}
-use Rattle.ptree_trees.specs.PathGroups.{group_of, AreGroups}
-use Rattle.ptree_trees.specs.SharedStart.{names_behind}
+use Rattle.std.proofs.Common.{rules}
 use Rattle.ptree_trees.proofs.PathLoops.{forest_none, groups_whole, fewer_names, item_pushed, items_done}
 use Rattle.ptree_trees.proofs.paths.+items_below.Goals as goal
 
@@ -13,8 +11,7 @@ items_below-requires t c =
     let start = c.shared_start-start.result.now in
     let gs = c.deref-group-items.result.now in
     let passed = c.as_slice.result.now in
-    let groups : AreGroups c.args.is_sorted s (map group_of gs) (names_behind s start c.args.paths.now) = search rules in
-    let all = groups_whole c.args.is_sorted s start gs c.args.paths.now c.shared_start-start.ensures groups in
+    let all = groups_whole c.args.is_sorted s start gs c.args.paths.now c.shared_start-start.ensures (search rules) in
     (fewer_names c.args.is_sorted s start gs c.loop-group.group-index c.group-item.result c.args.paths.now passed c.loop-group-test.true all c.group-item.is c.as_slice.ensures.value t c.decreases, c.requires)
 
 pub loop-group-preserved : goal.loop-group-preserved
@@ -22,8 +19,7 @@ loop-group-preserved t c =
     let s = c.args.separator in
     let start = c.shared_start-start.result.now in
     let gs = c.deref-group-items.result.now in
-    let groups : AreGroups c.args.is_sorted s (map group_of gs) (names_behind s start c.args.paths.now) = search rules in
-    let all = groups_whole c.args.is_sorted s start gs c.args.paths.now c.shared_start-start.ensures groups in
+    let all = groups_whole c.args.is_sorted s start gs c.args.paths.now c.shared_start-start.ensures (search rules) in
     let pushed =
     item_pushed c.args.is_sorted s start gs c.loop-group.group-index c.group-item.result c.args.paths.now c.as_slice.result.now c.loop-group.items.items c.push.new.self.items c.in_ok-new_item.field-0 c.in_ok-children.children.items
     c.loop-group-test.true all c.group-item.is c.as_slice.ensures.value (search rules) c.in_ok-push.ensures.items c.in_ok-children.ensures c.loop-group.invariant.names c.loop-group.invariant.tails in
@@ -34,6 +30,5 @@ returns t c =
     let s = c.args.separator in
     let start = c.shared_start-start.result.now in
     let gs = c.deref-group-items.result.now in
-    let groups : AreGroups c.args.is_sorted s (map group_of gs) (names_behind s start c.args.paths.now) = search rules in
-    let all = groups_whole c.args.is_sorted s start gs c.args.paths.now c.shared_start-start.ensures groups in
+    let all = groups_whole c.args.is_sorted s start gs c.args.paths.now c.shared_start-start.ensures (search rules) in
     items_done c.args.is_sorted s start gs c.loop-group.group-index c.args.paths.now c.loop-group.items.items c.loop-group-test.false all c.loop-group.invariant.names c.loop-group.invariant.tails

@@ -29,7 +29,6 @@ both_children-loop-child-preserved t c =
     let look = c.args.look in
     let xs = c.deref-child-items.result.now in
     let ys = c.as_slice-others.result.now in
-    let i = c.loop-child.child-index in
     let taken = c.loop-child.taken in
     let x = c.child-item.result in
     let text = c.as_str.result.now in
@@ -37,7 +36,7 @@ both_children-loop-child-preserved t c =
     let new = map styled_tree_of c.match-branch-2.made.items in
     let before = c.loop-child.invariant in
     let kept : c.next_with.new.self.items.now ≡ ys = c.in_ok-at.ensures.kept ∙ before.items in
-    let first = left_more tree_of xs i x c.loop-child-test.true c.child-item.is in
+    let first = left_more tree_of xs c.loop-child.child-index x c.loop-child-test.true c.child-item.is in
     let own : (tree_of x).text ≡ text = item_text x ∙ sym c.as_str.ensures.value in
     elim c.match-branch-2.branch [
       | both_children-in-Some+in_ok-push_right-in-Some+in_ok-both-in-Some+in_ok-push-in-Some w ↦
@@ -46,7 +45,6 @@ both_children-loop-child-preserved t c =
           let s = w.in_ok-both-in-Some.field-0 in
           let found : IsFoundAt ys taken text at = subst (λ (zs : List StringItem). IsFoundAt zs taken text at) before.items (rw w.in-Some.is at c.in_ok-at.ensures.found) in
           let over = slice_range ys taken at in
-          let passed : map styled_tree_of w.push_right.new.made.items ≡ made ++ map (marked_tree look Right) (map tree_of over) = search rules in
           let pushed : c.match-branch-2.made.items ≡ w.push_right.new.made.items ++ s ∷ [] = ap (λ v. v.items) w.made-is ∙ w.in_ok-push-in-Some.ensures.items in
           let is : y ≡ get_or ys at y = w.index-others-at.is in
           let next : c.match-branch-2.taken ≡ at + 1 = search rules in
@@ -55,7 +53,7 @@ both_children-loop-child-preserved t c =
             within = omega (arith, found.within);
             items = kept;
             shows = step_both look (map tree_of xs) (map tree_of ys) (tree_of x) (tree_of y) (map tree_of over) _ _ _ _ (styled_tree_of s) made new first (items_passed ys taken at y found.behind found.within is)
-                (pushed_shown w.push_right.new.made.items c.match-branch-2.made.items s _ pushed passed) texts
+                (pushed_shown w.push_right.new.made.items c.match-branch-2.made.items s _ pushed (search rules)) texts
                 (passed_apart ys taken at text (tree_of x).text found.behind (omega (arith, found.within)) found.first own) w.in_ok-both-in-Some.ensures before.shows;
           })
       | both_children-in-None+in_ok-marked-in-None+in_ok-push-in-None w ↦

@@ -1,9 +1,8 @@
-use Rattle.std.proofs.Common.{◌≡◌, [], string_bytes, rules}
+use Rattle.std.proofs.Common.{◌≡◌, [], rules}
 use Rattle.std.proofs.lemmas.Result.{IfOk-weaker}
 use Rattle.ptree.specs.Tree.{tree_of}
-use Rattle.ptree.specs.declared.item.StringItem.{out-StringItem}
 use Rattle.ptree_trees.specs.Styled.{HasParts}
-use Rattle.trees.specs.Merging.{styled_tree_of, marked_tree, marked_text}
+use Rattle.trees.specs.Merging.{styled_tree_of, marked_tree}
 use Rattle.trees.proofs.Merges.{next_shown, whole_marked}
 use Rattle.trees.proofs.compare.+marked.Goals as goal
 
@@ -13,9 +12,8 @@ loop-child-preserved t c =
     let side = c.args.side in
     let item = c.child-item.result in
     let made = c.in_ok-marked.field-0 in
-    let marked : styled_tree_of made ≡ marked_tree look side (tree_of item) = search rules in
     next_shown tree_of styled_tree_of (marked_tree look side) [] c.deref-child-items.result.now c.loop-child.children.items c.push.new.self.items c.loop-child.child-index
-    item made c.loop-child-test.true c.child-item.is c.in_ok-push.ensures.items c.loop-child.invariant marked
+    item made c.loop-child-test.true c.child-item.is c.in_ok-push.ensures.items c.loop-child.invariant (search rules)
 
 pub returns : goal.returns
 returns t c =
@@ -24,7 +22,6 @@ returns t c =
     let item = c.args.item.now in
     let children = c.loop-child.children.items in
     let text = c.as_str-2.result.now in
-    let marks : text ≡ marked_text look side (string_bytes (out-StringItem item).text) = search rules in
     IfOk-weaker c.new.result (HasParts text c.style.result children) (λ s. styled_tree_of s ≡ marked_tree look side (tree_of item))
     (λ s parts. whole_marked look side item s text c.style.result children c.deref-child-items.result.now c.loop-child.child-index c.deref-child-items.ensures.value c.loop-child-test.false
-    parts marks c.style.ensures c.loop-child.invariant) c.new.ensures
+    parts (search rules) c.style.ensures c.loop-child.invariant) c.new.ensures

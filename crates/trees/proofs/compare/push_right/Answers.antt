@@ -11,9 +11,8 @@ loop-item-preserved c =
     let look = c.args.look in
     let item = c.item-item.result in
     let made = c.in_ok-marked.field-0 in
-    let marked : styled_tree_of made ≡ marked_tree look Right (tree_of item) = search rules in
     next_shown tree_of styled_tree_of (marked_tree look Right) (map styled_tree_of c.args.made.now.items) c.args.items.now c.loop-item.made.items c.push.new.self.items c.loop-item.item-index
-    item made c.loop-item-test.true c.item-item.is c.in_ok-push.ensures.items c.loop-item.invariant marked
+    item made c.loop-item-test.true c.item-item.is c.in_ok-push.ensures.items c.loop-item.invariant (search rules)
 
 pub returns : goal.returns
 returns c =

@@ -33,8 +33,7 @@ returns-clause-graph c = λ empty.
 pub returns-in_err-read_network-clause-failed : goal.returns-in_err-read_network-clause-failed
 returns-in_err-read_network-clause-failed c = λ empty.
     let source = c.args.source.now in
-    let says = fails_weaker (IsUnderstood source → ⊥) (HoldsNoGraph source c.args.name c.args.network.now.is_inverse) ⊥ c.in_err-read_network.field-0.0 (λ none is. absurd (none is)) (c.in_err-read_network.ensures.failed empty) in
-    search (rules, says)
+    search (rules, fails_weaker (IsUnderstood source → ⊥) (HoldsNoGraph source c.args.name c.args.network.now.is_inverse) ⊥ c.in_err-read_network.field-0.0 (λ none is. absurd (none is)) (c.in_err-read_network.ensures.failed empty))
 
 pub returns-in_err-root-clause-failed : goal.returns-in_err-root-clause-failed
 returns-in_err-root-clause-failed c = λ empty.

@@ -33,30 +33,29 @@ lacks_tables c = sym c.has_tables.ensures ∙ c.if-has_tables.false
 pub returns-in_ok-wrong-clause-failed : goal.returns-in_ok-wrong-clause-failed
 returns-in_ok-wrong-clause-failed c = λ empty. fails_by_input (IsUnderstood c.args.source.now → ⊥) ⊥ c.in_ok-wrong.field-0 c.in_ok-wrong.ensures.input (never_other c.args.source.now c.in-Some.ensures)
 
-pub returns-then-begins_as-clause-held : goal.returns-then-begins_as-clause-held
-returns-then-begins_as-clause-held c = λ empty.
+pub returns-then-begins_as : goal.returns-then-begins_as
+returns-then-begins_as c =
     let source = c.args.source.now in
     let inverse = c.args.network.now.is_inverse in
     let new = c.package_lock.new.network in
-    ok_both c.package_lock.result (HoldsOnlyNpmLock source) (HoldsPackages source inverse new) (IsNetworkOf source inverse new) (packages_meant source inverse new (record { own = c.in_default.ensures; json = sym c.begins_as.ensures ∙ c.if-begins_as.true })) (c.package_lock.ensures.only empty) (c.package_lock.ensures.held empty)
+    let json = sym c.begins_as.ensures ∙ c.if-begins_as.true in
+    record {
+      held = λ empty. ok_both c.package_lock.result (HoldsOnlyNpmLock source) (HoldsPackages source inverse new) (IsNetworkOf source inverse new) (packages_meant source inverse new (record { own = c.in_default.ensures; json = json })) (c.package_lock.ensures.only empty) (c.package_lock.ensures.held empty);
+      failed = λ empty. not_understood c.package_lock.result source ((lock : JsonData) → HoldsNpmLock source lock → ⊥) (npm_alone source json) (c.package_lock.ensures.failed empty);
+    }
 
-pub returns-then-begins_as-clause-failed : goal.returns-then-begins_as-clause-failed
-returns-then-begins_as-clause-failed c = λ empty.
-    let source = c.args.source.now in
-    not_understood c.package_lock.result source ((lock : JsonData) → HoldsNpmLock source lock → ⊥) (npm_alone source (sym c.begins_as.ensures ∙ c.if-begins_as.true)) (c.package_lock.ensures.failed empty)
-
-pub returns-then-has_tables-clause-held : goal.returns-then-has_tables-clause-held
-returns-then-has_tables-clause-held c = λ empty.
+pub returns-then-has_tables : goal.returns-then-has_tables
+returns-then-has_tables c =
     let source = c.args.source.now in
     let inverse = c.args.network.now.is_inverse in
     let new = c.toml_lock.new.network in
-    ok_both c.toml_lock.result ((d : Data) × HoldsLock source d) (HoldsLocked source inverse new) (IsNetworkOf source inverse new)
-    (tables_meant source inverse new (record { own = c.in_default.ensures; json = text_is (goal.at.returns-then-has_tables-clause-held c).After-has_tables; toml = sym c.has_tables.ensures ∙ c.if-has_tables.true })) c.toml_lock.ensures.only (c.toml_lock.ensures.held empty)
-
-pub returns-then-has_tables-clause-failed : goal.returns-then-has_tables-clause-failed
-returns-then-has_tables-clause-failed c = λ empty.
-    let source = c.args.source.now in
-    not_understood c.toml_lock.result source ((d : Data) → HoldsLock source d → ⊥) (lock_alone source (text_is (goal.at.returns-then-has_tables-clause-failed c).After-has_tables) (sym c.has_tables.ensures ∙ c.if-has_tables.true)) c.toml_lock.ensures.failed
+    let json = text_is (goal.at.returns-then-has_tables c).After-has_tables in
+    let toml = sym c.has_tables.ensures ∙ c.if-has_tables.true in
+    record {
+      held = λ empty. ok_both c.toml_lock.result ((d : Data) × HoldsLock source d) (HoldsLocked source inverse new) (IsNetworkOf source inverse new)
+          (tables_meant source inverse new (record { own = c.in_default.ensures; json = json; toml = toml })) c.toml_lock.ensures.only (c.toml_lock.ensures.held empty);
+      failed = λ empty. not_understood c.toml_lock.result source ((d : Data) → HoldsLock source d → ⊥) (lock_alone source json toml) c.toml_lock.ensures.failed;
+    }
 
 pub returns-in_ok-wrong-2-clause-failed : goal.returns-in_ok-wrong-2-clause-failed
 returns-in_ok-wrong-2-clause-failed c = λ empty.

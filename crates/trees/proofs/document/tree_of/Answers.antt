@@ -15,13 +15,11 @@ returns-in_err-refuse-clause-failed g c =
     let part : FileNode = g.V.Value.node c.in_ok-part.part in
     let allowed : (t : Tree) → IsTreeIn c.args.source.now document whole t → (_ : ⊤) × IsAllowed document.is_strict part =
     (λ t is. (tt, subst (λ (n : FileNode). IsAllowed document.is_strict n) (one_asked document.at whole is.part part is.found c.in_ok-part.ensures.part) is.allowed)) in
-    let none = fails_more ⊥ (λ (_ : ⊤). IsAllowed document.is_strict part) (IsTreeIn c.args.source.now document whole) _ allowed c.in_err-refuse.ensures.failed in
-    search (rules, none)
+    search (rules, fails_more ⊥ (λ (_ : ⊤). IsAllowed document.is_strict part) (IsTreeIn c.args.source.now document whole) _ allowed c.in_err-refuse.ensures.failed)
 
 -- of keys that lead to nothing, the first such is said
 pub returns-in_err-part-clause-place : goal.returns-in_err-part-clause-place
 returns-in_err-part-clause-place g c =
     let document = c.args.document in
     let whole : FileNode = g.V.Value.node c.args.value in
-    let wrong = wrong_at g.V.Value.format c.args.source.now document whole _ c.in_err-part.ensures.failed c.in_err-part.ensures.missing in
-    search (rules, wrong)
+    search (rules, wrong_at g.V.Value.format c.args.source.now document whole _ c.in_err-part.ensures.failed c.in_err-part.ensures.missing)

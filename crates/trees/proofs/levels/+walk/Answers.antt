@@ -90,14 +90,13 @@ longest_below-returns t c =
 
 pub longest_walk-longest_below-requires : goal.longest_walk-longest_below-requires
 longest_walk-longest_below-requires t c =
-    let below = neighbors_of (edges_of c.args.graph.now) in
     let v = c.args.node.0 in
     let old = c.args.known.now.items in
     let new = c.set_walks.new.known.items in
     let set = c.in_ok-set_walks-in-Unknown.ensures in (
       search rules,
       (
-        right_set below old new v Open set (λ n e. absurd (cc)) c.requires.right,
+        right_set (neighbors_of (edges_of c.args.graph.now)) old new v Open set (λ n e. absurd (cc)) c.requires.right,
         λ u e. elim (known_set old new v Open set u) [
           | inl (same, _) ↦ (0, omega arith, ([], refl, ap Some same))
           | inr kept ↦ (let (n, low, walk) = c.requires.open u (sym kept ∙ e) in (n, omega arith, walk))
@@ -107,10 +106,8 @@ longest_walk-longest_below-requires t c =
 
 pub longest_walk-returns-in-Open : goal.longest_walk-returns-in-Open
 longest_walk-returns-in-Open t c =
-    let below = neighbors_of (edges_of c.args.graph.now) in
-    let is : walks_from c.args.known.now.items c.args.node.0 ≡ Open = search (rules, unwrap_or-slice_get c.args.known.now.items c.args.node.0 Unknown) in
-    let (n, low, walk) = c.requires.open c.args.node.0 is in
-    level_around below n c.args.node.0 low walk (suc c.args.most)
+    let (n, low, walk) = c.requires.open c.args.node.0 (search (rules, unwrap_or-slice_get c.args.known.now.items c.args.node.0 Unknown)) in
+    level_around (neighbors_of (edges_of c.args.graph.now)) n c.args.node.0 low walk (suc c.args.most)
 
 pub longest_walk-returns-then-steps-most : goal.longest_walk-returns-then-steps-most
 longest_walk-returns-then-steps-most t c =

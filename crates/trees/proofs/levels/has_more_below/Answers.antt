@@ -14,8 +14,7 @@ pub returns : goal.returns
 returns c =
     let edges = edges_of c.args.graph.now in
     let once = c.in_ok-once.ensures in
-    let ps = c.in_ok-once.once.places.items in
-    let told = once_level edges c.args.root.0 ps once.places once.tree once.one_tree in
+    let told = once_level edges c.args.root.0 c.in_ok-once.once.places.items once.places once.tree once.one_tree in
     let level = rw c.as_slice.ensures.value at c.has_level.ensures in
     subst (λ b. IsTrue c.has_level.result ↔ HasMoreLevels edges c.args.root.0 b) (sym c.if-walks.false)
     (λ e. told.0 (level.0 e), λ has. level.1 (told.1 has))

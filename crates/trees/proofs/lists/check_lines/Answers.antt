@@ -14,9 +14,8 @@ pub returns-then-is_cut_off-clause-failed : goal.returns-then-is_cut_off-clause-
 returns-then-is_cut_off-clause-failed c =
     let texts = map (λ (l : Bor (List ℕ)). l.now) c.args.lines.now in
     let others = c.args.others in
-    let cut : is_cut_off c.args.ends_in_zero texts ≡ true = search rules in
     fails_by_input (are_wrong_lines c.args.ends_in_zero others texts ≡ true) ⊥ c.in_ok-wrong_at.field-0 c.in_ok-wrong_at.ensures.input
-    (or_left (is_cut_off c.args.ends_in_zero texts) (list_any (is_wrong_line c.args.ends_in_zero others) texts) cut)
+    (or_left (is_cut_off c.args.ends_in_zero texts) (list_any (is_wrong_line c.args.ends_in_zero others) texts) (search rules))
 
 pub returns-in-Some-clause-failed : goal.returns-in-Some-clause-failed
 returns-in-Some-clause-failed c =
@@ -43,6 +42,5 @@ returns-clause-right c =
     let lines = c.args.lines.now in
     let texts = map (λ (l : Bor (List ℕ)). l.now) lines in
     let wrong : List ℕ → Bool = is_wrong_line c.args.ends_in_zero c.args.others in
-    let whole : is_cut_off c.args.ends_in_zero texts ≡ false = search rules in
     let none : list_any (λ (x : Bor (List ℕ)). wrong x.now) lines ≡ false = subst (λ (ls : List (Bor (List ℕ))). list_any (λ x. wrong x.now) ls ≡ false) (take_all c.loop-i.i lines c.loop-i-test.false) c.loop-i.invariant in
-    or_from (is_cut_off c.args.ends_in_zero texts) (list_any wrong texts) whole (sym (any_map wrong lines) ∙ none)
+    or_from (is_cut_off c.args.ends_in_zero texts) (list_any wrong texts) (search rules) (sym (any_map wrong lines) ∙ none)

@@ -1,8 +1,7 @@
 use Rattle.std.proofs.Common.{◌≡◌, [], ap, Err, string_bytes, rules}
 use Rattle.ptree.specs.Tree.{tree_of}
 use Rattle.ptree_trees.specs.declared.indented.Form.{Form}
-use Rattle.trees.specs.Outlining.{text_or, AreKeptTexts, LosesText}
-use Rattle.trees.specs.Writing.{IsIndented}
+use Rattle.trees.specs.Outlining.{text_or, LosesText}
 use Rattle.trees.proofs.EscapedLines.{shown_texts}
 use Rattle.trees.proofs.OutlineTexts.{text_or_is}
 use Rattle.trees.proofs.OutlinesBack.{loses_text, outline_back}
@@ -13,9 +12,7 @@ pub returns-in-Ok-clause-back : goal.returns-in-Ok-clause-back
 returns-in-Ok-clause-back c = λ low.
     let t = tree_of c.args.tree.now in
     let text = string_bytes c.in-Ok.text in
-    let is : IsIndented c.args.indented t text = search rules in
-    let kept : AreKeptTexts c.args.indented.bullet t = search rules in
-    outline_back c.args.indented t text low kept is
+    outline_back c.args.indented t text low (search rules) (search rules)
 
 pub returns-in_ok-wrong-in-Err-Text-clause-failed : goal.returns-in_ok-wrong-in-Err-Text-clause-failed
 returns-in_ok-wrong-in-Err-Text-clause-failed c =

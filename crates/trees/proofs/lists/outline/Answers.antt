@@ -35,26 +35,18 @@ returns-then-not-is_right-clause-failed c =
     (form_is outline ls c.unwrap_or.result c.unwrap_or-2.result c.first_indent.result c.first_bullet.result (search rules) (search rules) (search rules) (search rules))
     (λ right. false≢true (sym c.if-not-is_right.true ∙ c.is_right.ensures.1 right)) c.in_ok-failure.ensures
 
-pub returns-clause-some : goal.returns-clause-some
-returns-clause-some c =
+pub returns : goal.returns
+returns c =
+    let source = c.args.source.now in
+    let outline = c.args.outline in
     let form = made_form c in
     let text = c.as_str.result.now in
-    let is : IsMade c = search rules in
-    IfOk-weaker c.read_within.result (λ t. IsFormWithin form text (tree_of t)) (λ t. HoldsOutline c.args.source.now c.args.outline (tree_of t))
-    (λ t within. within_held c.args.source.now c.args.outline form text (tree_of t) (text_read c is) within) c.read_within.ensures.some
-
-pub returns-clause-only : goal.returns-clause-only
-returns-clause-only c =
-    let form = made_form c in
-    let text = c.as_str.result.now in
-    let is : IsMade c = search rules in
-    IfOk-weaker c.read_within.result (λ t. (u : Tree) → IsFormWithin form text u → tree_of t ≡ u) (λ t. HoldsNoOtherOutline c.args.source.now c.args.outline (tree_of t))
-    (λ t no u holds. no u (held_within c.args.source.now c.args.outline form text u (text_read c is) holds)) c.read_within.ensures.only
-
-pub returns-clause-failed : goal.returns-clause-failed
-returns-clause-failed c =
-    let form = made_form c in
-    let text = c.as_str.result.now in
-    let is : IsMade c = search rules in
-    IfErr-weaker c.read_within.result (FailsToMake ⊥ (IsFormWithin form text)) (FailsToOutline c.args.source.now c.args.outline)
-    (λ e fails. outline_fails c.args.source.now c.args.outline form text e (text_read c is) fails) c.read_within.ensures.failed
+    let is = text_read c (search rules) in
+    record {
+      some = IfOk-weaker c.read_within.result (λ t. IsFormWithin form text (tree_of t)) (λ t. HoldsOutline source outline (tree_of t))
+          (λ t within. within_held source outline form text (tree_of t) is within) c.read_within.ensures.some;
+      only = IfOk-weaker c.read_within.result (λ t. (u : Tree) → IsFormWithin form text u → tree_of t ≡ u) (λ t. HoldsNoOtherOutline source outline (tree_of t))
+          (λ t no u holds. no u (held_within source outline form text u is holds)) c.read_within.ensures.only;
+      failed = IfErr-weaker c.read_within.result (FailsToMake ⊥ (IsFormWithin form text)) (FailsToOutline source outline)
+          (λ e fails. outline_fails source outline form text e is fails) c.read_within.ensures.failed;
+    }

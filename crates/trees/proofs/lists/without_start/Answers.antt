@@ -1,4 +1,4 @@
-use Rattle.std.proofs.Common.{◌≡◌, ◌≢◌, ◌∙◌, ℕ, List, [], ◌∷◌, ap, sym, arith, rules}
+use Rattle.std.proofs.Common.{◌≡◌, ◌∙◌, ℕ, List, [], ◌∷◌, ap, sym, arith, rules}
 use Rattle.ptree_trees.specs.Paths.{names}
 use Rattle.trees.specs.Listing.{from_first}
 use Rattle.trees.proofs.PathNames.{skip_start, behind_shorter, start_done}
@@ -18,5 +18,4 @@ returns-then-eq c =
 
 pub returns-else-eq : goal.returns-else-eq
 returns-else-eq c =
-    let dot : c.loop-more.rest.now ≢ 46 ∷ [] = search rules in
-    start_done c.loop-more.rest.now c.in_default.ensures dot ∙ c.loop-more.invariant.1
+    start_done c.loop-more.rest.now c.in_default.ensures (search rules) ∙ c.loop-more.invariant.1

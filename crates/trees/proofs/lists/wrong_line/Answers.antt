@@ -7,8 +7,7 @@ returns-then-has_zero c = wrong_zero c.args.ends_in_zero c.args.others c.args.pa
 
 pub returns-then-has_more_names : goal.returns-then-has_more_names
 returns-then-has_more_names c =
-    let wrong = wrong_deep c.args.ends_in_zero c.args.others c.args.path.now c.names_of.result.now c.names_of.ensures (sym c.has_more_names.ensures ∙ c.if-has_more_names.true) in
-    search (rules, wrong)
+    search (rules, wrong_deep c.args.ends_in_zero c.args.others c.args.path.now c.names_of.result.now c.names_of.ensures (sym c.has_more_names.ensures ∙ c.if-has_more_names.true))
 
 pub returns-then-is_quoted : goal.returns-then-is_quoted
 returns-then-is_quoted c = wrong_quoted c.args.ends_in_zero c.args.others c.args.path.now (sym c.is_quoted.ensures ∙ c.if-is_quoted.true)

@@ -1,8 +1,7 @@
-use Rattle.std.proofs.Common.{◌≡◌, [], false, not, string_bytes, rules, subst, sym}
-use Rattle.trees.specs.Telling.{TellsWhether}
+use Rattle.std.proofs.Common.{◌≡◌, [], string_bytes, rules, subst, sym}
 use Rattle.trees.specs.declared.failure.Failure.TheVariants.{Memory}
 use Rattle.trees.specs.Named.{IsReadableValue}
-use Rattle.trees.specs.Writing.{AppendsSome, AreReports, FailsToCheck}
+use Rattle.trees.specs.Writing.{AreReports, FailsToCheck}
 use Rattle.trees.proofs.Readings.{fails_by_memory}
 use Rattle.trees.proofs.Writings.{fails_early, said_weaker}
 use Rattle.trees.specs.Asked.{reading_value}
@@ -15,8 +14,7 @@ use Rattle.trees.proofs.perform.check.Goals as goal
 pub returns-clause-told : goal.returns-clause-told
 returns-clause-told g c =
     let are_drawings = c.in_ok-are_drawings.are_drawings in
-    let told : TellsWhether c.say.result (not are_drawings ≡ false) = search rules in
-    tells_of_not c.say.result are_drawings _ c.in_ok-are_drawings.ensures.all told
+    tells_of_not c.say.result are_drawings _ c.in_ok-are_drawings.ensures.all (search rules)
 
 -- what is said is as the screen may get it
 pub returns-clause-shown : goal.returns-clause-shown
@@ -48,12 +46,10 @@ returns-clause-written g c =
 
 pub returns-in_err-are_drawings-clause-written : goal.returns-in_err-are_drawings-clause-written
 returns-in_err-are_drawings-clause-written g c =
-    let old = g.W.Sink.contents c.args.out.now in
     let are = AreReports c.args.found.now.sources c.args.sources.now c.args.pieces c.args.screen.is_terminal in
-    fails_early (AppendsSome old old are) old c.from_residual.result are (FailsToCheck c.args.found.now.sources c.args.pieces) (λ e. e) (search rules) (search rules)
+    fails_early _ (g.W.Sink.contents c.args.out.now) c.from_residual.result are (FailsToCheck c.args.found.now.sources c.args.pieces) (λ e. e) (search rules) (search rules)
 
 pub returns-in_err-said-clause-written : goal.returns-in_err-said-clause-written
 returns-in_err-said-clause-written g c =
-    let old = g.W.Sink.contents c.args.out.now in
     let are = AreReports c.args.found.now.sources c.args.sources.now c.args.pieces c.args.screen.is_terminal in
-    fails_early (AppendsSome old old are) old c.from_residual-in_err-said.result are (FailsToCheck c.args.found.now.sources c.args.pieces) (λ e. e) (search rules) (search rules)
+    fails_early _ (g.W.Sink.contents c.args.out.now) c.from_residual-in_err-said.result are (FailsToCheck c.args.found.now.sources c.args.pieces) (λ e. e) (search rules) (search rules)

@@ -19,9 +19,8 @@ returns-clause-written g c =
     let deep : Type 0 = IsGraphTooDeep (drawing_value sources c.args.drawing) found deps.walks in
     let means : Type 0 = MeansTooDeep sources source deps c.args.drawing in
     let old = g.W.Sink.contents c.args.out.now in
-    let drawn : Writes old (g.W.Sink.contents c.draw-drawn.new.out) c.draw-drawn.result (IsGraphDrawing (drawing_value sources c.args.drawing) found deps.walks) (FailsFor deep ⊥) = search rules in
     writes_weaker old (g.W.Sink.contents c.draw-drawn.new.out) c.draw-drawn.result (IsGraphDrawing (drawing_value sources c.args.drawing) found deps.walks) (IsNeedsDrawing sources source deps c.args.drawing) (FailsFor deep ⊥) (FailsToDepend sources source deps c.args.drawing)
-    (λ bytes drawing. (found, c.in_ok-dependencies.ensures.graph, drawing)) (λ e says. fails_weaker deep (HoldsNoGraph source deps.root deps.is_inverse ⊎ means) ⊥ e (λ is. inr (found, c.in_ok-dependencies.ensures.graph, is)) says) drawn
+    (λ bytes drawing. (found, c.in_ok-dependencies.ensures.graph, drawing)) (λ e says. fails_weaker deep (HoldsNoGraph source deps.root deps.is_inverse ⊎ means) ⊥ e (λ is. inr (found, c.in_ok-dependencies.ensures.graph, is)) says) (search rules)
 
 pub returns-in_err-dependencies-clause-written : goal.returns-in_err-dependencies-clause-written
 returns-in_err-dependencies-clause-written g c =

@@ -28,5 +28,4 @@ returns-clause-failed c =
 
 pub returns-in_err-tree-clause-failed : goal.returns-in_err-tree-clause-failed
 returns-in_err-tree-clause-failed c =
-    let says = fails_to_read c.args.found.now.sources c.args.source.now c.args.indented c.in_err-tree.field-0.0 c.in_err-tree.ensures.failed in
-    search (rules, says)
+    search (rules, fails_to_read c.args.found.now.sources c.args.source.now c.args.indented c.in_err-tree.field-0.0 c.in_err-tree.ensures.failed)

@@ -1,4 +1,4 @@
-use Rattle.std.proofs.Common.{◌≡◌, true, IfOk, inl, inr, rules}
+use Rattle.std.proofs.Common.{◌≡◌, true, inl, inr, rules}
 use Rattle.std.proofs.lemmas.Result.{IfOk-weaker, IfErr-weaker}
 use Rattle.std.specs.Prelude.{IfErr}
 use Rattle.ptree.specs.Tree.{Tree, tree_of}
@@ -12,9 +12,8 @@ use Rattle.trees.proofs.perform.listed.Goals as goal
 pub returns-clause-listed : goal.returns-clause-listed
 returns-clause-listed c =
     let whole = tree_of c.in_ok-tree.tree in
-    let is : IfOk c.kept_part.result (λ t. IsKept c.args.paths.keep whole (tree_of t)) = search rules in
     IfOk-weaker c.kept_part.result (λ t. IsKept c.args.paths.keep whole (tree_of t)) (λ t. IsListed c.args.source.now c.args.paths (tree_of t))
-    (λ t kept. record { whole = whole; listing = c.in_ok-tree.ensures.listing; kept = kept }) is
+    (λ t kept. record { whole = whole; listing = c.in_ok-tree.ensures.listing; kept = kept }) (search rules)
 
 pub returns-clause-failed : goal.returns-clause-failed
 returns-clause-failed c =
@@ -28,5 +27,4 @@ pub returns-in_err-tree-clause-failed : goal.returns-in_err-tree-clause-failed
 returns-in_err-tree-clause-failed c =
     let paths = c.args.paths in
     let source = c.args.source.now in
-    let says = fails_weaker (are_wrong paths.ends_in_zero paths.label (source_lines source paths) ≡ true) (IsWrongList source paths) ⊥ c.in_err-tree.field-0.0 (λ wrong. inl wrong) c.in_err-tree.ensures.failed in
-    search (rules, says)
+    search (rules, fails_weaker (are_wrong paths.ends_in_zero paths.label (source_lines source paths) ≡ true) (IsWrongList source paths) ⊥ c.in_err-tree.field-0.0 (λ wrong. inl wrong) c.in_err-tree.ensures.failed)

@@ -6,7 +6,6 @@ use Rattle.trees.proofs.perform.push_count.Goals as goal
 pub returns : goal.returns
 returns c =
     let source = c.args.source.now in
-    let n = c.in_ok-n.n in
-    let line : List ℕ → List ℕ = λ word. string_bytes source.name ++ (codes ": a drawing of " ++ (decimal n ++ (codes " " ++ (word ++ codes "\n")))) in
+    let line : List ℕ → List ℕ = λ word. string_bytes source.name ++ (codes ": a drawing of " ++ (decimal c.in_ok-n.n ++ (codes " " ++ (word ++ codes "\n")))) in
     let bytes : OnOk c.writeln.result (string_bytes c.writeln.new.self ≡ string_bytes c.args.said.now ++ line c.item_word-items.result.now) = search rules in
     subst (λ said. OnOk c.writeln.result (string_bytes c.writeln.new.self ≡ string_bytes c.args.said.now ++ said)) (ap line c.item_word-items.ensures ∙ ap (count_line source) c.in_ok-n.ensures) bytes

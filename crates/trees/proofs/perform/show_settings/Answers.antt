@@ -4,7 +4,7 @@ use Rattle.trees.specs.Telling.{TellsWhether}
 use Rattle.trees.specs.Shown.{IsNone, shown_lines}
 use Rattle.trees.proofs.Shown.{lines_part_shown, nothing_shown}
 use Rattle.trees.specs.declared.failure.Failure.TheVariants.{Memory}
-use Rattle.trees.specs.Writing.{AppendsSome, AreSettings}
+use Rattle.trees.specs.Writing.{AreSettings}
 use Rattle.trees.proofs.Writings.{fails_early, said_weaker}
 use Rattle.trees.proofs.Told.{tells_same, none_or_some}
 use Rattle.trees.proofs.perform.show_settings.Goals as goal
@@ -40,12 +40,8 @@ returns-clause-written g c =
 
 pub returns-in_err-report-clause-written : goal.returns-in_err-report-clause-written
 returns-in_err-report-clause-written g c =
-    let old = g.W.Sink.contents c.args.out.now in
-    let are = AreSettings c.args.found.now.sources in
-    fails_early (AppendsSome old old are) old c.from_residual.result are (λ e. e ≡ Memory) (λ e. (cc)) (search rules) (search rules)
+    fails_early _ (g.W.Sink.contents c.args.out.now) c.from_residual.result (AreSettings c.args.found.now.sources) (λ e. e ≡ Memory) (λ e. (cc)) (search rules) (search rules)
 
 pub returns-in_err-said-clause-written : goal.returns-in_err-said-clause-written
 returns-in_err-said-clause-written g c =
-    let old = g.W.Sink.contents c.args.out.now in
-    let are = AreSettings c.args.found.now.sources in
-    fails_early (AppendsSome old old are) old c.from_residual-in_err-said.result are (λ e. e ≡ Memory) (λ e. (cc)) (search rules) (search rules)
+    fails_early _ (g.W.Sink.contents c.args.out.now) c.from_residual-in_err-said.result (AreSettings c.args.found.now.sources) (λ e. e ≡ Memory) (λ e. (cc)) (search rules) (search rules)

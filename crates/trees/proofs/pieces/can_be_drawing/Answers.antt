@@ -1,4 +1,4 @@
-use Rattle.std.proofs.Common.{◌≡◌, ◌<◌, false, ℕ, Some, List, [], ◌∷◌, ◌++◌, length, map, lit<, sym, ap, ◌∙◌, string_bytes, subst, arith, rules}
+use Rattle.std.proofs.Common.{◌≡◌, false, ℕ, Some, List, [], ◌∷◌, ◌++◌, map, lit<, sym, ap, ◌∙◌, string_bytes, subst, arith, rules}
 use Rattle.std.proofs.lemmas.List.{get_or_default}
 use Rattle.std.proofs.lemmas.Str.Pattern.{strip_suffix_char}
 use Rattle.ptree.specs.Continuation.{IsFollowedBy, AreFlags}
@@ -19,8 +19,7 @@ returns-in_ok-lines_that_follow-in-Some c t form =
     let empty : string_bytes c.new.result ≡ [] = c.new.ensures.bytes in
     let given : map string_bytes c.deref.result.now ≡ [] ∷ [] = ap (map string_bytes) (sym same ∙ c.in_ok-ends-in-Some.ensures.items) ∙ ap (λ z. z ∷ []) empty in
     let set : AreFlags Is ([] ∷ []) flags = subst (λ xs. AreFlags Is xs flags) given c.in_ok-lines_that_follow-in-Some.ensures in
-    let low : 0 < length flags = omega (arith, set.count) in
-    c.index.ensures ∙ (get_or_default flags 0 c.index.result.now false low ∙ drawing_follows look depth text lines flags is set t form)
+    c.index.ensures ∙ (get_or_default flags 0 c.index.result.now false (omega (arith, set.count)) ∙ drawing_follows look depth text lines flags is set t form)
 
 pub returns-in-None : goal.returns-in-None
 returns-in-None c t form =

@@ -1,5 +1,4 @@
-use Rattle.std.proofs.Common.{◌≡◌, rules, string_bytes}
-use Rattle.ptree.specs.declared.item.StringItem.{out-StringItem}
+use Rattle.std.proofs.Common.{rules}
 use Rattle.ptree.specs.Tree.{tree_of}
 use Rattle.ptree_trees.proofs.Sorting.{next_sorted, sorted_whole}
 use Rattle.ptree_trees.proofs.change.sort.+sorted.Goals as goal
@@ -11,6 +10,5 @@ loop-child-preserved t c =
 
 pub returns : goal.returns
 returns t c =
-    let cloned : string_bytes c.in_ok-clone.field-0 ≡ string_bytes (out-StringItem c.args.root.now).text = search rules in
     sorted_whole c.args.root.now (record { text = c.in_ok-clone.field-0; children = c.sort_by_text.new.items }) c.deref-child-items.result.now c.loop-child.children.items c.loop-child.child-index
-    c.deref-child-items.ensures.value c.loop-child-test.false cloned c.loop-child.invariant c.in_ok-sort_by_text.ensures
+    c.deref-child-items.ensures.value c.loop-child-test.false (search rules) c.loop-child.invariant c.in_ok-sort_by_text.ensures

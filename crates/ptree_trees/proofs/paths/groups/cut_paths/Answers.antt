@@ -1,7 +1,4 @@
-use Rattle.std.proofs.Common.{◌≡◌, [], ◌∷◌, drop, get_or, length, rules}
-use Rattle.std.specs.Prelude.{option_map}
-use Rattle.ptree_trees.specs.CutName.{tail_names}
-use Rattle.ptree_trees.specs.Paths.{names}
+use Rattle.std.proofs.Common.{[], get_or, rules}
 use Rattle.ptree_trees.proofs.GroupSteps.{cut_pushed}
 use Rattle.ptree_trees.proofs.StartLoops.{start_boundary}
 use Rattle.ptree_trees.proofs.paths.groups.cut_paths.Goals as goal
@@ -17,7 +14,5 @@ loop-path-preserved c =
     let path = get_or c.args.paths.now c.loop-path.path-index (record { ref_ptr = (0, 0); now = [] }) in
     let back = c.split_at.ensures.back in
     let named = c.new.ensures.names in
-    let cut : names s (drop (length start) path.now) ≡ c.new.result.name.now ∷ tail_names s (option_map (λ t. t.now) c.new.result.tail) = search rules in
-    let counted : c.new.result.index ≡ length c.loop-path.cuts.items = search rules in
-    cut_pushed s start c.args.paths.now c.loop-path.path-index _ c.loop-path.cuts.items c.push.new.self.items c.new.result c.loop-path-test.true
-    c.loop-path.invariant cut counted c.in_ok-push.ensures.items
+    cut_pushed s start c.args.paths.now c.loop-path.path-index path c.loop-path.cuts.items c.push.new.self.items c.new.result c.loop-path-test.true
+    c.loop-path.invariant (search rules) (search rules) c.in_ok-push.ensures.items

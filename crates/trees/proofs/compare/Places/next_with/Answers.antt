@@ -34,8 +34,7 @@ all_places c = elim c.if-is_empty.branch [
 -- where the search ends
 ends : (c : After-deref-2) → EndsAt c.if-is_empty.self.items.now c.if-is_empty.self.sorted.items c.args.from c.args.text c.if-is_empty.self.places.are c.binary_search.result c.match-binary_search.at
 ends c =
-    let places = c.if-is_empty.self.sorted.items in
-    let searched : IsBinarySearchResult (λ y. place_cmp y (c.args.text, c.args.from)) places c.binary_search.result =
+    let searched : IsBinarySearchResult (λ y. place_cmp y (c.args.text, c.args.from)) c.if-is_empty.self.sorted.items c.binary_search.result =
     subst (λ (ps : List Place). IsBinarySearchResult (λ y. place_cmp y (c.args.text, c.args.from)) ps c.binary_search.result) c.deref.ensures.value c.binary_search.ensures.position in
     let one : (c.binary_search.result ≡ Ok c.match-binary_search.at) ⊎ (c.binary_search.result ≡ Err c.match-binary_search.at) = elim c.match-binary_search.branch [
       | in-Ok w ↦ subst (λ (k : ℕ). (c.binary_search.result ≡ Ok k) ⊎ (c.binary_search.result ≡ Err k)) (sym w.at-is) w.in-Ok.is
@@ -72,8 +71,7 @@ returns-in_default-get-clause-found c =
     let places = c.if-is_empty.self.sorted.items in
     let at = c.match-binary_search.at in
     let found : Place = c.in-Some-get.field-0.now in
-    let lookup = c.in-Some-get.ensures.lookup in
-    let is : found ≡ get_or places at found = rw (sym c.deref-2.ensures.value) lookup.1 in
+    let is : found ≡ get_or places at found = rw (sym c.deref-2.ensures.value) c.in-Some-get.ensures.lookup.1 in
     let other : found.0.now ≢ c.args.text.now = λ e. let no : false ≡ true = search (rules, e) in false≢true no in
     subst (λ (xs : List StringItem). LacksText xs c.args.from (length xs) c.args.text.now) (same_items at_end)
     (found_none items places c.args.from c.args.text c.if-is_empty.self.places.are c.binary_search.result at (all_places at_end) (ends at_end) (bound at_end)

@@ -20,11 +20,10 @@ loop-path-init c = knows_none (packages_of c.args.packages.now) c.new-aliased.re
 
 pub loop-path-preserved-in-Continue-1 : goal.loop-path-preserved-in-Continue-1
 loop-path-preserved-in-Continue-1 c =
-    let ps = packages_of c.args.packages.now in
     let path = c.as_str-then-leads_on in
     let at = turn (goal.at.loop-path-preserved-in-Continue-1 c).In-Some path.result.now path.ensures.value in
     let link = ap (λ (p : List ℕ). leads_on p (view c.in-Some.package.now)) (path.ensures.value ∙ sym c.as_str.ensures.value) ∙ (sym c.leads_on.ensures ∙ c.if-leads_on.true) in
-    subst (λ (k : ℕ). KnowsAll ps k c.push_link.new.aliased) (sym (length_push c.loop-path.yielded (c.in-Some.path, c.in-Some.package)))
+    subst (λ (k : ℕ). KnowsAll (packages_of c.args.packages.now) k c.push_link.new.aliased) (sym (length_push c.loop-path.yielded (c.in-Some.path, c.in-Some.package)))
     (c.in_ok-push_link.ensures (ascending c.args.packages.now.entries c.iter-path-items.ensures.ordered) (length c.loop-path.yielded) at link c.loop-path.invariant)
 
 pub loop-path-preserved : goal.loop-path-preserved

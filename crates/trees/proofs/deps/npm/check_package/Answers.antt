@@ -22,8 +22,7 @@ returns-then-not-is_path-clause-failed c = λ up.
 pub returns-in_err-check_texts-clause-failed : goal.returns-in_err-check_texts-clause-failed
 returns-in_err-check_texts-clause-failed c = λ up.
     let d = view c.args.package.now in
-    let says = fails_unless (HasTexts d) (IsPackage (packages_of c.args.packages.now) (c.args.path.now, d)) c.in_err-check_texts.field-0.0 (λ is. is.texts) c.in_err-check_texts.ensures.failed in
-    search (rules, says)
+    search (rules, fails_unless (HasTexts d) (IsPackage (packages_of c.args.packages.now) (c.args.path.now, d)) c.in_err-check_texts.field-0.0 (λ is. is.texts) c.in_err-check_texts.ensures.failed)
 
 pub returns-then-not-may_be_link-clause-failed : goal.returns-then-not-may_be_link-clause-failed
 returns-then-not-may_be_link-clause-failed c = λ up.

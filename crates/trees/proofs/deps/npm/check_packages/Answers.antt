@@ -35,8 +35,7 @@ returns-in_err-check_package-clause-failed c =
     let ps = packages_of c.args.packages.now in
     let p : List ℕ × Data = (c.as_str.result.now, view c.in-Some.package.now) in
     let at = turn (goal.at.returns-in_err-check_package-clause-failed c).In-Some c.as_str.result.now c.as_str.ensures.value in
-    let says = fails_unless (IsPackage ps p) (All (IsPackage ps) ps) c.in_err-check_package.field-0.0 (listed_at (IsPackage ps) ps (length c.loop-path.yielded) p at) (c.in_err-check_package.ensures.failed (ascending c.args.packages.now.entries c.iter-path-items.ensures.ordered)) in
-    search (rules, says)
+    search (rules, fails_unless (IsPackage ps p) (All (IsPackage ps) ps) c.in_err-check_package.field-0.0 (listed_at (IsPackage ps) ps (length c.loop-path.yielded) p at) (c.in_err-check_package.ensures.failed (ascending c.args.packages.now.entries c.iter-path-items.ensures.ordered)))
 
 pub returns-clause-only : goal.returns-clause-only
 returns-clause-only c =

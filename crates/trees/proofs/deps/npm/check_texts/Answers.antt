@@ -8,8 +8,7 @@ use Rattle.trees.proofs.deps.npm.check_texts.Goals as goal
 pub returns-in_err-check_text-clause-failed : goal.returns-in_err-check_text-clause-failed
 returns-in_err-check_text-clause-failed c =
     let d = view c.args.package.now in
-    let says = fails_unless (MayHaveText (codes "name") d) (HasTexts d) c.in_err-check_text.field-0.0 (λ all. all.name) c.in_err-check_text.ensures.failed in
-    search (rules, says)
+    search (rules, fails_unless (MayHaveText (codes "name") d) (HasTexts d) c.in_err-check_text.field-0.0 (λ all. all.name) c.in_err-check_text.ensures.failed)
 
 pub returns-clause-only : goal.returns-clause-only
 returns-clause-only c =

@@ -8,20 +8,17 @@ use Rattle.trees.specs.Reading.{FailsToMake}
 use Rattle.trees.proofs.NpmLocks.{fails_document, fails_lock, only_lock}
 use Rattle.trees.proofs.deps.npm.package_lock.Goals as goal
 
-pub returns-clause-held : goal.returns-clause-held
-returns-clause-held c = λ empty.
-    held_read c.read.result c.args.source.now (view c.in_ok-lock.lock) c.args.network.now.is_inverse c.read.new.network c.in_ok-lock.ensures.value (c.read.ensures.held empty)
-
 pub returns-in_err-lock-clause-failed : goal.returns-in_err-lock-clause-failed
 returns-in_err-lock-clause-failed c = λ empty.
-    let says = fails_document c.args.source.now c.in_err-lock.field-0.0 c.in_err-lock.ensures.failed in
-    search (rules, says)
+    search (rules, fails_document c.args.source.now c.in_err-lock.field-0.0 c.in_err-lock.ensures.failed)
 
-pub returns-clause-only : goal.returns-clause-only
-returns-clause-only c = λ empty. only_lock c.args.source.now (view c.in_ok-lock.lock) c.read.result c.in_ok-lock.ensures.value (c.read.ensures.only empty)
-
-pub returns-clause-failed : goal.returns-clause-failed
-returns-clause-failed c = λ empty.
+pub returns : goal.returns
+returns c =
+    let source = c.args.source.now in
     let lock = view c.in_ok-lock.lock in
-    IfErr-weaker c.read.result (FailsUnless (IsNpmLock lock)) (FailsToMake ⊥ (HoldsNpmLock c.args.source.now))
-    (λ f says. fails_lock c.args.source.now f lock c.in_ok-lock.ensures.value says) (c.read.ensures.failed empty)
+    let is = c.in_ok-lock.ensures.value in
+    record {
+      held = λ empty. held_read c.read.result source lock c.args.network.now.is_inverse c.read.new.network is (c.read.ensures.held empty);
+      only = λ empty. only_lock source lock c.read.result is (c.read.ensures.only empty);
+      failed = λ empty. IfErr-weaker c.read.result (FailsUnless (IsNpmLock lock)) (FailsToMake ⊥ (HoldsNpmLock source)) (λ f says. fails_lock source f lock is says) (c.read.ensures.failed empty);
+    }

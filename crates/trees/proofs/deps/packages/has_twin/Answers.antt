@@ -21,7 +21,6 @@ returns-then-at-packages c =
     let ps = c.args.packages.now in
     let at = c.args.at in
     let low : at < length (map package_of ps) = omega (arith, length-map ps package_of) in
-    let next : at + 1 < length (map package_of ps) = omega (arith, length-map ps package_of) in
     let r = c.is_same-then-at-packages.result in
     let same = same_at ps at (at + 1) _ _ r c.requires.below c.if-at-packages.true c.is_same-then-at-packages.ensures in
     let before : 0 < at → same_version (package_at ps at) (package_at ps (at - 1)) ≡ false = λ some.
@@ -29,7 +28,7 @@ returns-then-at-packages c =
       | else-at-gt0-via-then-at-gt0+else-is_same w ↦ sym (same_at ps at (at - 1) _ _ w.is_same.result c.requires.below (omega arith) w.is_same.ensures) ∙ w.if-is_same.false
       | else-at-gt0-via-else-at-gt0 w ↦ absurd (omega arith)
     ] in (
-      λ yes. twin_behind (map package_of ps) c.requires.ascending at low (at + 1) (omega arith) next (sym same ∙ yes),
+      λ yes. twin_behind (map package_of ps) c.requires.ascending at low (at + 1) (omega arith) (omega (arith, length-map ps package_of)) (sym same ∙ yes),
       λ twin. true_from_ne_false r (λ no'. no_twin (map package_of ps) c.requires.ascending at low before (λ _. sym same ∙ no') twin),
     )
 

@@ -15,10 +15,9 @@ pub loop-at-preserved : goal.loop-at-preserved
 loop-at-preserved c =
     let tables = c.args.tables.now in
     let at = c.loop-at.at in
-    let table = c.index-tables-at.result in
     let p = c.in_ok-package.field-0 in
     let low : at < length (map view tables) = omega (arith, length-map tables view) in
-    let here = get_or-map view tables at table (boolean false) c.loop-at-test.true ∙ ap view (sym c.index-tables-at.is) in
+    let here = get_or-map view tables at c.index-tables-at.result (boolean false) c.loop-at-test.true ∙ ap view (sym c.index-tables-at.is) in
     subst (AreRead (map view tables) (at + 1)) (sym c.in_ok-push.ensures.items)
     (more_read (map view tables) at c.loop-at.packages.items p c.loop-at.invariant low c.in_ok-package.ensures.package.1 (subst (λ d. IsPackage d (package_of p)) (sym here) c.in_ok-package.ensures.package.0))
 
@@ -29,8 +28,7 @@ returns-in_err-package-clause-failed c =
     let table = c.index-tables-at.result in
     let low : at < length (map view tables) = omega (arith, length-map tables view) in
     let here = get_or-map view tables at table (view table) c.loop-at-test.true ∙ ap view (sym c.index-tables-at.is) in
-    let says = fails_packages (map view tables) at (view table) c.in_err-package.field-0.0 low (sym here) c.in_err-package.ensures.failed in
-    search (rules, says)
+    search (rules, fails_packages (map view tables) at (view table) c.in_err-package.field-0.0 low (sym here) c.in_err-package.ensures.failed)
 
 pub returns-in-Some-clause-failed : goal.returns-in-Some-clause-failed
 returns-in-Some-clause-failed c =

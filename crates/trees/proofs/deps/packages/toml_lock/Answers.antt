@@ -10,8 +10,7 @@ use Rattle.trees.proofs.deps.packages.toml_lock.Goals as goal
 
 pub returns-in_err-lock-clause-failed : goal.returns-in_err-lock-clause-failed
 returns-in_err-lock-clause-failed c =
-    let says = fails_document c.args.input.now c.in_err-lock.field-0.0 c.in_err-lock.ensures.failed in
-    search (rules, says)
+    search (rules, fails_document c.args.input.now c.in_err-lock.field-0.0 c.in_err-lock.ensures.failed)
 
 pub returns-clause-failed : goal.returns-clause-failed
 returns-clause-failed c =

@@ -1,4 +1,4 @@
-use Rattle.std.proofs.Common.{◌≡◌, true, false, List, [], ℕ, get_or, map, sym, subst, rules}
+use Rattle.std.proofs.Common.{◌≡◌, true, List, [], ℕ, get_or, map, sym, subst, rules}
 use Rattle.std.specs.Borrow.{Bor}
 use Rattle.trees.specs.Depending.{is_need}
 use Rattle.trees.specs.DependingParts.{texts_of, HasNeeds}
@@ -27,6 +27,5 @@ loop-first-preserved c = λ empty.
           let differ : is_need (texts_of (get_or ps i d)) ≡ true = search rules in
           subst (HasNeeds inverse names _) (sym w.network-is) (turn_more inverse names ps i d c.loop-first-test.true c.loop-first.network has w.add_need.new.self w.number.result w.number-then-ne.result differ w.number.ensures w.number-then-ne.ensures w.in_ok-add_need.ensures.added)
       | else-ne w ↦
-          let same : is_need (texts_of (get_or ps i d)) ≡ false = search rules in
-          subst (HasNeeds inverse names _) (sym w.network-is) (turn_same inverse names ps i d c.loop-first-test.true c.loop-first.network has same)
+          subst (HasNeeds inverse names _) (sym w.network-is) (turn_same inverse names ps i d c.loop-first-test.true c.loop-first.network has (search rules))
     ]

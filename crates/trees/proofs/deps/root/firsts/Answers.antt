@@ -21,8 +21,7 @@ loop-node-preserved c =
     elim c.if-mark.branch [
       | then-mark+in_ok-push+in_ok-reach w ↦
           let first : get_or marks node true ≡ false = not-true (get_or marks node true) (ap (λ ms. not (get_or ms node true)) (sym shown) ∙ (sym c.mark.ensures.new ∙ w.if-mark.true)) in
-          let size : length c.mark.new.marks ≡ c.loop-node.reached.len = search rules in
-          let begun : w.deref_mut-then-mark.result.now ≡ set marks node true = w.deref_mut-then-mark.ensures.value ∙ (with_items_is c.loop-node.reached c.mark.new.marks size ∙ marked) in
+          let begun : w.deref_mut-then-mark.result.now ≡ set marks node true = w.deref_mut-then-mark.ensures.value ∙ (with_items_is c.loop-node.reached c.mark.new.marks (search rules) ∙ marked) in
           let size' : length w.reach.new.reached ≡ c.loop-node.reached.len = search rules in
           let reached : c.if-mark.reached.items ≡ w.reach.new.reached = ap (λ v. v.items) w.reached-is ∙ with_items_is (with_items c.loop-node.reached c.mark.new.marks) w.reach.new.reached size' in
           let reaches : Reaches keys node (set marks node true) w.reach.new.reached = subst (λ ms. Reaches keys node ms w.reach.new.reached) begun w.in_ok-reach.ensures in
@@ -32,8 +31,7 @@ loop-node-preserved c =
           (firsts_of_new keys count nodes i firsts marks c.loop-node.invariant c.loop-node-test.true w.reach.new.reached first reaches)))
       | else-mark w ↦
           let same : get_or marks node true ≡ true = not-false (get_or marks node true) (ap (λ ms. not (get_or ms node true)) (sym shown) ∙ (sym c.mark.ensures.new ∙ w.if-mark.false)) in
-          let size : length c.mark.new.marks ≡ c.loop-node.reached.len = search rules in
-          let reached : c.if-mark.reached.items ≡ set marks node true = ap (λ v. v.items) w.reached-is ∙ (with_items_is c.loop-node.reached c.mark.new.marks size ∙ marked) in
+          let reached : c.if-mark.reached.items ≡ set marks node true = ap (λ v. v.items) w.reached-is ∙ (with_items_is c.loop-node.reached c.mark.new.marks (search rules) ∙ marked) in
           subst (λ ms. FirstsOf keys count nodes (i + 1) c.if-mark.firsts.items ms) (sym reached)
           (subst (λ v. FirstsOf keys count nodes (i + 1) v.items (set marks node true)) (sym w.firsts-is)
           (firsts_of_same keys count nodes i firsts marks c.loop-node.invariant c.loop-node-test.true same))

@@ -33,10 +33,8 @@ returns c =
     let keys = c.args.network.now.sorted.keys in
     let node = c.args.node in
     let most : ℕ = 18446744073709551615 in
-    let start : c.new.result.start ≡ (node, 0) = search rules in
-    let end : c.new.result.end ≡ (node, most) = search rules in
     let inside = λ (x y : ℕ × ℕ). filter (range_contains edge_cmp (Included x) (Included y)) keys in
-    let between : c.range-to-items.result ≡ edges_from keys node most = c.range-to-items.ensures.between (search rules) ∙ ap₂ inside start end in
+    let between : c.range-to-items.result ≡ edges_from keys node most = c.range-to-items.ensures.between (search rules) ∙ ap₂ inside (search rules) (search rules) in
     let all = (iter_end deref (edges_from keys node most) c.loop-to.yielded c.into_iter-to-iterator.result c.loop-to.to-iterator c.next.new.self c.next.result (c.into_iter-to-iterator.ensures.into_iter_gives ∙ between) c.loop-to.yielded_by c.in-None.is c.next.ensures.steps).0 in
     let needs = map_twice deref (λ (e : ℕ × ℕ). e.1) c.loop-to.yielded ∙ ap (map (λ (e : ℕ × ℕ). e.1)) all in
     needs_marked keys node most c.args.reached.now _ _ _ (omega arith) (subst (λ ns. MarksAll ns c.args.reached.now c.loop-to.reached c.args.left.now.items c.loop-to.left.items) needs c.loop-to.invariant)

@@ -15,10 +15,9 @@ pub loop-path-preserved-in-Continue-branch-2 : goal.loop-path-preserved-in-Conti
 loop-path-preserved-in-Continue-branch-2 c = λ right ready.
     let patterns = patterns_of c.args.patterns.now in
     let so = c.loop-path.invariant right ready in
-    let d = view c.in-Some.package.now in
     let path = c.as_str.result.now in
     let again = c.as_str-then-has.ensures.value ∙ sym c.as_str.ensures.value in
-    let called = subst (λ (p : List ℕ). IsNameOf p d c.name_of.result.now) again c.name_of.ensures in
+    let called = subst (λ (p : List ℕ). IsNameOf p (view c.in-Some.package.now) c.name_of.result.now) again c.name_of.ensures in
     meant_more patterns c.loop-path.yielded (c.in-Some.path, c.in-Some.package) path c.as_str.ensures.value c.args.node c.args.self.now c.loop-path.self so c.name_of.result.now c.push_need.new.self
     ((c.has.ensures patterns right c.in_ok-meant.ensures).0 c.if-has.true) called (c.in_ok-push_need.ensures so.2.ready)
 

@@ -20,15 +20,13 @@ lacks c =
 closed : (c : In_ok-strip_suffix-in-Some) → c.in-Some.source.now ≡ c.in_ok-strip_suffix-in-Some.field-0.now ++ codes ")"
 closed c = strip_suffix_char 41 c.in-Some.source.now (Some c.in_ok-strip_suffix-in-Some.field-0) c.in_ok-strip_suffix-in-Some.ensures.cases (omega arith)
 
-pub returns-in_ok-strip_suffix-in-Some-clause-behind : goal.returns-in_ok-strip_suffix-in-Some-clause-behind
-returns-in_ok-strip_suffix-in-Some-clause-behind c =
-    let at = goal.at.returns-in_ok-strip_suffix-in-Some-clause-behind c in
-    parts_behind c.args.name.now c.args.rest.now c.in-Some.version.now c.in-Some.source.now c.in_ok-strip_suffix-in-Some.field-0.now c.whole.result (cut at.In-Some) (closed at.In_ok-strip_suffix-in-Some) (lacks at.In-Some) c.whole.ensures.whole
-
-pub returns-in_ok-strip_suffix-in-Some-clause-only : goal.returns-in_ok-strip_suffix-in-Some-clause-only
-returns-in_ok-strip_suffix-in-Some-clause-only c =
-    let at = goal.at.returns-in_ok-strip_suffix-in-Some-clause-only c in
-    parts_only c.args.name.now c.args.rest.now c.in-Some.version.now c.in-Some.source.now (cut at.In-Some) (lacks at.In-Some) c.in_ok-strip_suffix-in-Some.field-0.now c.whole.result (closed at.In_ok-strip_suffix-in-Some) c.whole.ensures.only
+pub returns-in_ok-strip_suffix-in-Some : goal.returns-in_ok-strip_suffix-in-Some
+returns-in_ok-strip_suffix-in-Some c =
+    let at = goal.at.returns-in_ok-strip_suffix-in-Some c in
+    record {
+      behind = parts_behind c.args.name.now c.args.rest.now c.in-Some.version.now c.in-Some.source.now c.in_ok-strip_suffix-in-Some.field-0.now c.whole.result (cut at.In-Some) (closed at.In_ok-strip_suffix-in-Some) (lacks at.In-Some) c.whole.ensures.whole;
+      only = parts_only c.args.name.now c.args.rest.now c.in-Some.version.now c.in-Some.source.now (cut at.In-Some) (lacks at.In-Some) c.in_ok-strip_suffix-in-Some.field-0.now c.whole.result (closed at.In_ok-strip_suffix-in-Some) c.whole.ensures.only;
+    }
 
 pub returns-in_err-strip_suffix-in-Some-clause-only : goal.returns-in_err-strip_suffix-in-Some-clause-only
 returns-in_err-strip_suffix-in-Some-clause-only c =

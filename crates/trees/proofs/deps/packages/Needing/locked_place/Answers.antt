@@ -25,7 +25,6 @@ returns-in-Err-Missing-clause-place c =
 pub returns-clause-failed : goal.returns-clause-failed
 returns-clause-failed c =
     let packages = packages_of c.args.self.now in
-    let normal = normal_name c.args.name.now in
-    let same : known_of c.of.result ≡ called normal = c.of.ensures ∙ ap called (c.as_str.ensures.value ∙ c.in_ok-normal.ensures) in
+    let same : known_of c.of.result ≡ called (normal_name c.args.name.now) = c.of.ensures ∙ ap called (c.as_str.ensures.value ∙ c.in_ok-normal.ensures) in
     let many : IsFaulty packages (known_of c.of.result) Several = search rules in
     fails_never (NameLed packages c.args.name.now) c.faulty.result (not_led packages c.args.name.now (subst (λ (k : Known). IsFaulty packages k Several) same many)) c.faulty.ensures

@@ -17,8 +17,7 @@ pub returns-in_err-at-clause-failed : goal.returns-in_err-at-clause-failed
 returns-in_err-at-clause-failed c =
     let packages = packages_of c.args.self.now in
     let name = c.args.name.now in
-    let says = fails_unless (NameLed packages name) (NameLeads packages (name, view c.args.need.now)) c.in_err-at.field-0.0 (λ leads. leads.each) c.in_err-at.ensures.failed in
-    search (rules, says)
+    search (rules, fails_unless (NameLed packages name) (NameLeads packages (name, view c.args.need.now)) c.in_err-at.field-0.0 (λ leads. leads.each) c.in_err-at.ensures.failed)
 
 pub returns-in_ok-add_need-in-Some-clause-added : goal.returns-in_ok-add_need-in-Some-clause-added
 returns-in_ok-add_need-in-Some-clause-added c =
