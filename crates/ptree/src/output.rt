@@ -35,10 +35,12 @@ pub(crate) fn draw_for<D: Drawn, W: Sink>(
     terminal: bool,
     config: &PrintConfig,
 ) -> Result<(), DrawError>
-    ensures bytes { IsDrawn (config_look config.now output_kind terminal) (D.shape root.now)
-        config.now.depth (W.contents f.old) (W.contents f.new) result }
+    ensures bytes { IsDrawn (config_look config.now output_kind terminal)
+        (D.shape_to root.now config.now.depth) config.now.depth (W.contents f.old)
+        (W.contents f.new) result }
     ensures whole { LeavesWholeEntries (config_look config.now output_kind terminal)
-        (D.shape root.now) config.now.depth (W.contents f.old) (W.contents f.new) result }
+        (D.shape_to root.now config.now.depth) config.now.depth (W.contents f.old)
+        (W.contents f.new) result }
     ensures cause { HasCause (W.faults f.old) (W.faults f.new) result }
 {
     let look = Look::of_config(alloc, config, output_kind, terminal)?;

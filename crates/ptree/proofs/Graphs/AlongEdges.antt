@@ -2,21 +2,20 @@
 use Rattle.std.specs.Prelude.{if◌then◌else◌, ◌≢◌, OnOk, slice_get}
 use Rattle.std.specs.Io.KnownBytes.{Appends}
 use Rattle.std.specs.List.{concat}
-use Rattle.std.proofs.Common.{◌≡◌, ℕ, zero, suc, ◌-◌, Bool, true, false, Option, Some, None, Result, Ok, Err, List, [], ◌++◌, length, map, take, ap, refl, sym, subst, ◌∙◌}
+use Rattle.std.proofs.Common.{◌≡◌, ℕ, zero, suc, ◌-◌, Bool, true, false, Option, Some, Result, Ok, Err, List, [], ◌++◌, length, map, ap, refl, sym, subst, ◌∙◌}
 use Rattle.std.proofs.lemmas.List.{append-nil}
 use Rattle.ptree.specs.declared.sink.DrawError.{DrawError}
 use Rattle.ptree.specs.declared.graph.Graph.{Graph}
 use Rattle.ptree.specs.Drawing.{Look}
-use Rattle.ptree.specs.Entries.{shape_entry, kid_entries, entries_below, item_entries, drawn_entries}
+use Rattle.ptree.specs.Entries.{kid_entries, entries_below, item_entries}
 use Rattle.ptree.specs.Graph.{weights_of, edges_of, neighbors_of}
 use Rattle.ptree.specs.Growing.{Grown, grown, is_seen, grow, kids_grown, kids_seen, leaf_shape, flags_of}
 use Rattle.ptree.specs.Looks.{own_entry}
 use Rattle.ptree.specs.Occurrence.{OccurrenceTree, none, occurrence, row, occurrence_kids, occurrence_own, occurrence_shape}
 use Rattle.ptree.specs.Pieces.{passing_piece}
 use Rattle.ptree.specs.Shape.{Shape, kids}
-use Rattle.ptree.specs.Style.{start_codes}
 use Rattle.ptree.specs.Writing.{AreWritten}
-use Rattle.ptree.proofs.Drawing.Engine.{AreBegun, item_written, all_below, none_under, alone_written, leaf_written, root_held}
+use Rattle.ptree.proofs.Drawing.Engine.{AreBegun, item_written, all_below, leaf_written}
 use Rattle.ptree.proofs.Graphs.Growth.{grow_next, without}
 use Rattle.ptree.proofs.Graphs.NodeFlags.{seen_all}
 use Rattle.ptree.proofs.Graphs.Occurrences.{occurrences_of_row}
@@ -100,13 +99,6 @@ module _ {N : Type 0} (text : N → List ℕ) (g : Graph N) (mark : List ℕ) wh
   abbrev pub drawn_from : ℕ → ℕ → Shape
   drawn_from depth v = shape_of (grow (neighbors_of (edges_of g)) depth (flags_of g []) v).occurrence
 
-  -- its own entry is written if the buffer held the branch's start codes before the root's own text
-  pub start_written : (a b : Option (List ℕ)) (look : Look) (depth v width : ℕ) (old buffer end : List ℕ) → width ≡ length old → buffer ≡ old ++ end → old ≡ start_codes look.branch
-      → ((outer : List ℕ) → take width buffer ≡ start_codes look.branch ++ outer → Appends a b (own_entry look outer None (leaf_shape text (slice_get (weights_of g) v) mark false)))
-      → Appends a b (own_entry look [] None (drawn_from depth v))
-  start_written a b look depth v width old buffer end wide is start h =
-      own_drawn (λ z. Appends a b z) look [] None depth [] v (slice_get (weights_of g) v) false (h [] (root_held look width old buffer end wide is start)) refl refl
-
   -- what is below it
   pub kids_from : (depth v : ℕ) (items : List Bool) → depth ≢ 0 → items ≡ [] → map shape_of (kids_grown (neighbors_of (edges_of g)) (depth - 1) (flags_of g items) v) ≡ kids (drawn_from depth v)
   kids_from depth v items some none_seen =
@@ -121,10 +113,6 @@ module _ {N : Type 0} (text : N → List ℕ) (g : Graph N) (mark : List ℕ) wh
       let below = neighbors_of (edges_of g) in
       let seen = flags_of g [] in
       sym (kids_are (grow below depth seen v).occurrence [] (no_kids _ v _ seen (without below depth seen v some (seen_all (length (weights_of g)) [] v) alone)))
-
--- and so is a root
-pub leaf_root : (look : Look) (depth : ℕ) (x : Shape) (a b : Option (List ℕ)) → kids x ≡ [] → Appends a b (shape_entry look [] [] x) → Appends a b (concat (drawn_entries look depth x))
-leaf_root look depth x a b h w = alone_written a b _ (entries_below look depth [] x) (none_under look depth [] x h) w
 
 -- all children were drawn
 pub all_begun : (look : Look) (below : List ℕ → Shape → List (List ℕ)) (outer : List ℕ) (all rest : List Shape) (a b : Option (List ℕ)) → rest ≡ [] → AreBegun look below outer all rest a b → Appends a b (concat (kid_entries look below outer all))

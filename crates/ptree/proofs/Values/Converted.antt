@@ -32,12 +32,6 @@ made_more f all left rest x made more y h steps is e = (
   ),
 )
 
--- the same of what a list holds, to which one was added
-pub mapped_more : {A B C : Type 0} (f : A → B) (g : C → B) (all left rest : List A) (x : A) (held more : List C) (y : C)
-    → AreMade f all left (map g held) → left ≡ x ∷ rest → more ≡ held ++ y ∷ [] → g y ≡ f x → AreMade f all rest (map g more)
-mapped_more f g all left rest x held more y h steps e is =
-    made_more f all left rest x (map g held) (map g more) (g y) h steps is (ap (map g) e ∙ map-append g held (y ∷ []))
-
 -- none are left, so all were made
 pub all_made : {A B : Type 0} (f : A → B) (all left : List A) (made : List B) → AreMade f all left made → left ≡ [] → made ≡ map f all
 all_made f all left made h none = h.1.1 ∙ ap (map f) (sym (h.1.0 ∙ ap (λ xs. h.0 ++ xs) none ∙ append-nil h.0))

@@ -11,10 +11,10 @@ ghost use Rattle.ptree.specs.declared.sink.DrawError.TheVariants.{Memory};
 ghost use Rattle.ptree.specs.declared.print_config.OutputKind.{OutputKind};
 
 use super::places::{Occurrences, Place};
-use super::row::{Marked, draw_marked};
+use super::row::{Marked, Start};
 use super::{Graph, Label, NodeIndex};
 use crate::item::{Children, Shaped, TreeItem};
-use crate::output::look::Look;
+use crate::output::draw_for;
 use crate::print_config::{OutputKind, PrintConfig, Sources};
 use crate::sink::{DrawError, Sink, Stop, put_all, put_or_stop};
 use crate::style::Style;
@@ -457,9 +457,9 @@ fn draw_once<N: Label, W: Sink>(
         (W.contents f.new) result }
     ensures cause { HasCause (W.faults f.old) (W.faults f.new) result }
 {
-    let look = Look::of_config(alloc, config, output_kind, terminal)?;
-    let marked = Marked { graph, mark };
-    let drawn = draw_marked(alloc, &marked, start, f, &look, config.depth);
-    drop(look);
-    drawn
+    let root = Start {
+        marked: Marked { graph, mark },
+        node: start,
+    };
+    draw_for(alloc, &root, f, output_kind, terminal, config)
 }

@@ -19,8 +19,7 @@ use super::places::{is_flagged, set_flag};
 use super::{Edge, Graph, Label, NodeIndex};
 use crate::item::{Children, Shaped, TreeItem};
 use crate::output::brush::Brush;
-use crate::output::engine::draw_entry;
-use crate::output::look::Look;
+use crate::output::engine::{Drawn, draw_entry};
 use crate::output::pen::Pen;
 use crate::sink::{DrawError, Sink, Stop};
 use crate::style::Style;
@@ -195,101 +194,57 @@ fn draw_row<N: Label, W: Sink>(
     Ok(())
 }
 
-// Draws a start node's own entry, as the engine draws that of a root.
-fn draw_start<N: Label, W: Sink>(
-    marked: &Marked<'_, N>,
-    start: NodeIndex,
-    f: &mut W,
-    pen: &mut Pen,
-    brush: &Brush<'_>,
-    width: usize,
-) -> Result<(), Stop>
-    requires error { pen.old.error ≡ Memory }
-    requires width { width ≤ length (buffer_of pen.old) }
-    requires turned { HoldsOwnText brush.now pen.old width None }
-    ensures bytes { (outer : List ℕ)
-        → HoldsPassing brush.now pen.old width outer
-        → IsWritten (W.contents f.old) (W.contents f.new) result
-        (own_entry (brush_look brush.now) outer None
-        (leaf_shape N.text (slice_get (weights_of marked.now.graph.now) start.0) marked.now.mark.now
-        false)) }
-    ensures memory { OnErr result (pen.new.error ≡ Memory → W.contents f.new ≡ W.contents f.old) }
-    ensures cause { HasErrorCause (W.faults f.old) (W.faults f.new) pen.new.error }
-    ensures error { OnOk result (pen.new.error ≡ Memory) }
-    ensures kept { OnOk result (buffer_of pen.new ≡ buffer_of pen.old) }
-    ensures turned { pen.new.turned ≡ pen.old.turned }
-{
-    let leaf = Leaf::<N, true> {
-        weight: marked.graph.node_weight(start),
-        mark: marked.mark,
-        repeated: false,
-    };
-    draw_entry(&leaf, f, pen, brush, width, None)
+// The node that a drawing starts from.
+#[derive(Drop)]
+pub(super) struct Start<'a, N> {
+    pub(super) marked: Marked<'a, N>,
+    pub(super) node: NodeIndex,
 }
 
-// Draws a start node and what is below it. The buffer holds the branch's start codes.
-fn draw_root<N: Label, W: Sink>(
-    marked: &Marked<'_, N>,
-    start: NodeIndex,
-    f: &mut W,
-    pen: &mut Pen,
-    brush: &Brush<'_>,
-    depth: u32,
-) -> Result<(), Stop>
-    requires error { pen.old.error ≡ Memory }
-    requires turned { pen.old.turned ≡ false }
-    requires start { buffer_of pen.old ≡ start_codes (brush_look brush.now).branch }
-    ensures bytes { AreWritten (W.contents f.old) (W.contents f.new) result pen.new.error
-        (drawn_entries (brush_look brush.now) depth
-        (occurrence_shape N.text marked.now.graph.now marked.now.mark.now
-        (grow (neighbors_of (edges_of marked.now.graph.now)) depth
-        (flags_of marked.now.graph.now []) start.0).occurrence)) }
-    ensures error { OnOk result (pen.new.error ≡ Memory) }
-    ensures cause { HasErrorCause (W.faults f.old) (W.faults f.new) pen.new.error }
-{
-    let width = pen.line.len();
-    pen.line.append(brush.end.as_bytes())?;
-    draw_start(marked, start, f, pen, brush, width)?;
-    pen.line.truncate(width);
-    if depth == 0 {
-        return Ok(());
-    }
-    let newest = marked.graph.newest(start);
-    if newest == 0 {
-        return Ok(());
-    }
-    let mut seen = Vec::new(brush.alloc);
-    draw_row(marked, start, newest, &mut seen, f, pen, brush, depth - 1)
-}
+impl<N: Label> Drawn for Start<'_, N> {
+    ghost use Rattle.ptree.specs.Growing.{grown_from};
+    ghost use Rattle.ptree.specs.Occurrence.{occurrence_shape};
 
-// Draws a graph with each node expanded once in a look, down to a depth.
-pub(super) fn draw_marked<N: Label, W: Sink>(
-    alloc: Global,
-    marked: &Marked<'_, N>,
-    start: NodeIndex,
-    f: &mut W,
-    look: &Look<'_>,
-    depth: u32,
-) -> Result<(), DrawError>
-    ensures bytes { IsWritten (W.contents f.old) (W.contents f.new) result
-        (concat (drawn_entries (look_of look.now) depth
-        (occurrence_shape N.text marked.now.graph.now marked.now.mark.now
-        (grow (neighbors_of (edges_of marked.now.graph.now)) depth
-        (flags_of marked.now.graph.now []) start.0).occurrence))) }
-    ensures whole { result ≡ Err Memory
-        → AppendsFirst (W.contents f.old) (W.contents f.new)
-        (drawn_entries (look_of look.now) depth
-        (occurrence_shape N.text marked.now.graph.now marked.now.mark.now
-        (grow (neighbors_of (edges_of marked.now.graph.now)) depth
-        (flags_of marked.now.graph.now []) start.0).occurrence)) }
-    ensures cause { HasCause (W.faults f.old) (W.faults f.new) result }
-{
-    let mut pen = Pen::new(alloc, &look.branch)?;
-    let brush = Brush::new(alloc, look)?;
-    let drawn = draw_root(marked, start, f, &mut pen, &brush, depth);
-    drop(brush);
-    match drawn {
-        Ok(()) => Ok(()),
-        Err(_) => Err(pen.into_error()),
+    ghost shape_to = { λ s depth. let graph = s.marked.graph.now in
+        occurrence_shape N.text graph s.marked.mark.now
+        (grown_from graph depth [] s.node.0).occurrence };
+
+    fn draw_own<W: Sink>(
+        &self,
+        f: &mut W,
+        pen: &mut Pen,
+        brush: &Brush<'_>,
+        width: usize,
+    ) -> Result<(), Stop> {
+        let leaf = Leaf::<N, true> {
+            weight: self.marked.graph.node_weight(self.node),
+            mark: self.marked.mark,
+            repeated: false,
+        };
+        draw_entry(&leaf, f, pen, brush, width, None)
+    }
+
+    fn draw_below<W: Sink>(
+        &self,
+        f: &mut W,
+        pen: &mut Pen,
+        brush: &Brush<'_>,
+        depth: u32,
+    ) -> Result<(), Stop> {
+        let newest = self.marked.graph.newest(self.node);
+        if newest == 0 {
+            return Ok(());
+        }
+        let mut seen = Vec::new(brush.alloc);
+        draw_row(
+            &self.marked,
+            self.node,
+            newest,
+            &mut seen,
+            f,
+            pen,
+            brush,
+            depth - 1,
+        )
     }
 }

@@ -1,16 +1,16 @@
 //! The drawing engine.
-ghost use Rattle.std.specs.Prelude.{◌≡◌, ℕ, true, false, Some, None, length, take, ◌≤◌, ◌≢◌, ◌++◌, [], OnOk, OnErr, Err, List, map};
+ghost use Rattle.std.specs.Prelude.{◌≡◌, ℕ, ◌-◌, true, false, Some, None, length, take, ◌≤◌, ◌≢◌, ◌++◌, [], OnOk, OnErr, Err, List, map};
 ghost use Rattle.std.specs.List.{concat};
 ghost use Rattle.ptree.specs.Pen.{brush_look, buffer_of, HoldsPassing, HoldsOwnText};
 ghost use Rattle.ptree.specs.Entries.{item_entries, kid_entries, entries_below, drawn_entries};
 ghost use Rattle.ptree.specs.Looks.{look_of, own_entry};
 ghost use Rattle.ptree.specs.Pieces.{passing_piece};
-ghost use Rattle.ptree.specs.Shape.{kids};
+ghost use Rattle.ptree.specs.Shape.{Shape, kids};
 ghost use Rattle.ptree.specs.Style.{start_codes};
 ghost use Rattle.ptree.specs.Writing.{AppendsFirst, IsWritten, AreWritten, HasCause, HasErrorCause};
 ghost use Rattle.ptree.specs.declared.sink.DrawError.TheVariants.{Memory};
 
-use crate::item::{Shaped, TreeItem};
+use crate::item::TreeItem;
 use crate::output::brush::Brush;
 use crate::output::look::Look;
 use crate::output::pen::Pen;
@@ -181,8 +181,11 @@ fn draw_children<C: TreeItem<Child = C> + Drop, W: Sink>(
 }
 
 /// What can be drawn: a root, whose own entry and what is below it are drawn by two calls.
-pub(crate) trait Drawn: Shaped {
-    /// Draws the root's own entry, as [`draw_entry`] does.
+pub(crate) trait Drawn {
+    /// The tree of a drawing to a depth. Where a graph's nodes are expanded once, it depends on that.
+    ghost shape_to: { Self → ℕ → Shape };
+
+    /// Draws the root's own entry, as [`draw_entry`] does. It is the same at each depth.
     fn draw_own<W: Sink>(
         &self,
         f: &mut W,
@@ -193,10 +196,10 @@ pub(crate) trait Drawn: Shaped {
         requires error { pen.old.error ≡ Memory }
         requires width { width ≤ length (buffer_of pen.old) }
         requires turned { HoldsOwnText brush.now pen.old width None }
-        ensures bytes { (outer : List ℕ)
+        ensures bytes { (depth : ℕ) (outer : List ℕ)
             → HoldsPassing brush.now pen.old width outer
             → IsWritten (W.contents f.old) (W.contents f.new) result
-            (own_entry (brush_look brush.now) outer None (Self.shape self.now)) }
+            (own_entry (brush_look brush.now) outer None (Self.shape_to self.now depth)) }
         ensures memory { OnErr result
             (pen.new.error ≡ Memory → W.contents f.new ≡ W.contents f.old) }
         ensures cause { HasErrorCause (W.faults f.old) (W.faults f.new) pen.new.error }
@@ -204,20 +207,21 @@ pub(crate) trait Drawn: Shaped {
         ensures kept { OnOk result (buffer_of pen.new ≡ buffer_of pen.old) }
         ensures turned { pen.new.turned ≡ pen.old.turned };
 
-    /// Draws what is below the root. The buffer holds the branch's start codes.
+    /// Draws what is below the root, to a depth above 0. The buffer holds the branch's start codes.
     fn draw_below<W: Sink>(
         &self,
         f: &mut W,
         pen: &mut Pen,
         brush: &Brush<'_>,
-        levels_left: u32,
+        depth: u32,
     ) -> Result<(), Stop>
+        requires some { depth ≢ 0 }
         requires error { pen.old.error ≡ Memory }
         requires turned { pen.old.turned ≡ false }
         requires start { buffer_of pen.old ≡ start_codes (brush_look brush.now).branch }
         ensures bytes { AreWritten (W.contents f.old) (W.contents f.new) result pen.new.error
             (let look = brush_look brush.now in kid_entries look
-            (entries_below look levels_left) [] (kids (Self.shape self.now))) }
+            (entries_below look (depth - 1)) [] (kids (Self.shape_to self.now depth))) }
         ensures cause { HasErrorCause (W.faults f.old) (W.faults f.new) pen.new.error }
         ensures error { OnOk result (pen.new.error ≡ Memory) };
 }
@@ -226,15 +230,13 @@ pub(crate) trait Drawn: Shaped {
 #[derive(Drop)]
 pub(crate) struct Top<'a, T>(pub(crate) &'a T);
 
-impl<T: Shaped> Shaped for Top<'_, T> {
-    ghost shape = { λ t. T.shape t.0.now };
-}
-
 impl<T> Drawn for Top<'_, T>
 where
     T: TreeItem,
     T::Child: TreeItem<Child = T::Child> + Drop,
 {
+    ghost shape_to = { λ t depth. T.shape t.0.now };
+
     fn draw_own<W: Sink>(
         &self,
         f: &mut W,
@@ -250,10 +252,10 @@ where
         f: &mut W,
         pen: &mut Pen,
         brush: &Brush<'_>,
-        levels_left: u32,
+        depth: u32,
     ) -> Result<(), Stop> {
         let children = self.0.children(brush.alloc)?;
-        draw_children(children.as_slice(), f, pen, brush, levels_left)
+        draw_children(children.as_slice(), f, pen, brush, depth - 1)
     }
 }
 
@@ -269,7 +271,7 @@ fn draw_root<D: Drawn, W: Sink>(
     requires turned { pen.old.turned ≡ false }
     requires start { buffer_of pen.old ≡ start_codes (brush_look brush.now).branch }
     ensures bytes { AreWritten (W.contents f.old) (W.contents f.new) result pen.new.error
-        (drawn_entries (brush_look brush.now) depth (D.shape root.now)) }
+        (drawn_entries (brush_look brush.now) depth (D.shape_to root.now depth)) }
     ensures error { OnOk result (pen.new.error ≡ Memory) }
     ensures cause { HasErrorCause (W.faults f.old) (W.faults f.new) pen.new.error }
 {
@@ -280,7 +282,7 @@ fn draw_root<D: Drawn, W: Sink>(
     if depth == 0 {
         return Ok(());
     }
-    root.draw_below(f, pen, brush, depth - 1)
+    root.draw_below(f, pen, brush, depth)
 }
 
 /// Draws a root and what is below it in a look. All texts around prefixes are made before the first
@@ -293,10 +295,10 @@ pub(crate) fn draw<D: Drawn, W: Sink>(
     depth: u32,
 ) -> Result<(), DrawError>
     ensures bytes { IsWritten (W.contents f.old) (W.contents f.new) result
-        (concat (drawn_entries (look_of look.now) depth (D.shape root.now))) }
+        (concat (drawn_entries (look_of look.now) depth (D.shape_to root.now depth))) }
     ensures whole { result ≡ Err Memory
         → AppendsFirst (W.contents f.old) (W.contents f.new)
-        (drawn_entries (look_of look.now) depth (D.shape root.now)) }
+        (drawn_entries (look_of look.now) depth (D.shape_to root.now depth)) }
     ensures cause { HasCause (W.faults f.old) (W.faults f.new) result }
 {
     let mut pen = Pen::new(alloc, &look.branch)?;

@@ -79,18 +79,17 @@ fn fault_of_members(members: &Table) -> Option<ConvertError>
     None
 }
 
-// Converts a value without floats and dates.
+// Converts a value. A float and a date, which have no value, become `Unit`.
 #[cycle(convert)]
 fn convert_value(alloc: Global, v: &toml::Value) -> Result<Value, AllocError>
-    requires { toml_fault (view v.now) ≡ None }
     ensures { IfOk result (λ value. data_of value ≡ toml_data (view v.now)) }
 {
     match v {
         toml::Value::String(text) => Ok(Value::String(text.clone()?)),
         toml::Value::Integer(n) => Ok(Value::I64(*n)),
-        toml::Value::Float(_) => unreachable!(),
+        toml::Value::Float(_) => Ok(Value::Unit),
         toml::Value::Boolean(b) => Ok(Value::Bool(*b)),
-        toml::Value::Datetime(_) => unreachable!(),
+        toml::Value::Datetime(_) => Ok(Value::Unit),
         toml::Value::Array(items) => Ok(Value::Seq(convert_values(alloc, items)?)),
         toml::Value::Table(members) => Ok(Value::Map(convert_entries(alloc, members)?)),
     }
@@ -98,7 +97,6 @@ fn convert_value(alloc: Global, v: &toml::Value) -> Result<Value, AllocError>
 
 #[cycle(convert)]
 fn convert_values(alloc: Global, items: &Vec<toml::Value>) -> Result<Vec<Value>, AllocError>
-    requires { toml_item_fault (items_view items.now.items) ≡ None }
     ensures { IfOk result (λ values.
         items_of values.items ≡ toml_items (items_view items.now.items)) }
 {
@@ -111,7 +109,6 @@ fn convert_values(alloc: Global, items: &Vec<toml::Value>) -> Result<Vec<Value>,
 
 #[cycle(convert)]
 fn convert_entries(alloc: Global, members: &Table) -> Result<Vec<(Value, Value)>, AllocError>
-    requires { toml_member_fault (members_view members.now.entries) ≡ None }
     ensures { IfOk result (λ entries.
         entries_of entries.items ≡ toml_entries (members_view members.now.entries)) }
 {

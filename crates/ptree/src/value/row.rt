@@ -12,7 +12,6 @@ ghost use Rattle.ptree.specs.Writing.{IsWritten, AreWritten, HasErrorCause};
 ghost use Rattle.ptree.specs.declared.sink.DrawError.TheVariants.{Memory};
 
 use super::node::DocumentNode;
-use crate::item::Shaped;
 use crate::output::brush::Brush;
 use crate::output::engine::{Drawn, draw_entry};
 use crate::output::pen::Pen;
@@ -169,11 +168,9 @@ fn draw_row<W: Sink>(
 #[derive(Drop)]
 pub(super) struct DocumentTop<'a>(pub(super) DocumentNode<'a>);
 
-impl Shaped for DocumentTop<'_> {
-    ghost shape = { λ t. pair_shape (node_pair_of t.0) };
-}
-
 impl Drawn for DocumentTop<'_> {
+    ghost shape_to = { λ t depth. pair_shape (node_pair_of t.0) };
+
     fn draw_own<W: Sink>(
         &self,
         f: &mut W,
@@ -189,8 +186,8 @@ impl Drawn for DocumentTop<'_> {
         f: &mut W,
         pen: &mut Pen,
         brush: &Brush<'_>,
-        levels_left: u32,
+        depth: u32,
     ) -> Result<(), Stop> {
-        draw_row(self.0.part(), f, pen, brush, levels_left)
+        draw_row(self.0.part(), f, pen, brush, depth - 1)
     }
 }

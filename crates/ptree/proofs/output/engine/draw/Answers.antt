@@ -17,13 +17,13 @@ returns-in_err-brush-clause-bytes g c = written_err _ _ _ _ _ c.from_residual-in
 
 pub returns-in-Ok-clause-bytes : goal.returns-in-Ok-clause-bytes
 returns-in-Ok-clause-bytes g c =
-    subst (λ (l : HeldLook). Appends (g.W.Sink.contents c.args.f.now) (g.W.Sink.contents c.draw_root-drawn.new.f) (concat (drawn_entries (look_of l) c.args.depth (g.D.Shaped.shape c.args.root.now)))) c.in_ok-brush.ensures (search rules)
+    subst (λ (l : HeldLook). Appends (g.W.Sink.contents c.args.f.now) (g.W.Sink.contents c.draw_root-drawn.new.f) (concat (drawn_entries (look_of l) c.args.depth (g.D.Drawn.shape_to c.args.root.now c.args.depth)))) c.in_ok-brush.ensures (search rules)
 
 pub returns-in-Err-clause-bytes : goal.returns-in-Err-clause-bytes
 returns-in-Err-clause-bytes g c =
-    (subst (λ (l : HeldLook). AppendsEntries (g.W.Sink.contents c.args.f.now) (g.W.Sink.contents c.draw_root-drawn.new.f) c.draw_root-drawn.new.pen.error (drawn_entries (look_of l) c.args.depth (g.D.Shaped.shape c.args.root.now))) c.in_ok-brush.ensures c.in-Err.ensures.bytes).0
+    (subst (λ (l : HeldLook). AppendsEntries (g.W.Sink.contents c.args.f.now) (g.W.Sink.contents c.draw_root-drawn.new.f) c.draw_root-drawn.new.pen.error (drawn_entries (look_of l) c.args.depth (g.D.Drawn.shape_to c.args.root.now c.args.depth))) c.in_ok-brush.ensures c.in-Err.ensures.bytes).0
 
 pub returns-in-Err-clause-whole : goal.returns-in-Err-clause-whole
 returns-in-Err-clause-whole g c = λ is.
-    (subst (λ (l : HeldLook). AppendsEntries (g.W.Sink.contents c.args.f.now) (g.W.Sink.contents c.draw_root-drawn.new.f) c.draw_root-drawn.new.pen.error (drawn_entries (look_of l) c.args.depth (g.D.Shaped.shape c.args.root.now))) c.in_ok-brush.ensures c.in-Err.ensures.bytes).1
+    (subst (λ (l : HeldLook). AppendsEntries (g.W.Sink.contents c.args.f.now) (g.W.Sink.contents c.draw_root-drawn.new.f) c.draw_root-drawn.new.pen.error (drawn_entries (look_of l) c.args.depth (g.D.Drawn.shape_to c.args.root.now c.args.depth))) c.in_ok-brush.ensures c.in-Err.ensures.bytes).1
     (memory_is _ _ _ _ c.into_error.ensures refl refl is)

@@ -1,6 +1,5 @@
-use Rattle.std.proofs.Common.{◌≡◌, false, map, take, drop}
-use Rattle.serde_json.specs.View.{view, items_view, members_view}
-use Rattle.serde_json.specs.Written.{items_have_float, members_have_float}
+use Rattle.std.proofs.Common.{◌≡◌, map, take}
+use Rattle.serde_json.specs.View.{view}
 use Rattle.ptree.specs.Convert.{json_data}
 use Rattle.ptree.specs.Value.{data_of, entry_of}
 use Rattle.ptree.proofs.Values.Converted.{member_data, AreMade}
@@ -8,12 +7,10 @@ use Rattle.ptree.proofs.value.from_json.+convert.Given as goal
 
 abbrev pub invariant-convert_values-loop-item : goal.invariant-convert_values-loop-item
 invariant-convert_values-loop-item l =
-    (map data_of l.values.items ≡ map (λ v. json_data (view v)) (take l.item-index l.item-items)) ×
-    (items_have_float (items_view (drop l.item-index l.item-items)) ≡ false)
+    map data_of l.values.items ≡ map (λ v. json_data (view v)) (take l.item-index l.item-items)
 
 abbrev pub invariant-convert_entries-loop-key : goal.invariant-convert_entries-loop-key
 invariant-convert_entries-loop-key l =
     (goal.iterator-convert_entries-loop-key).can_next l.key-iterator ×
     (goal.iterator-convert_entries-loop-key).is_finite l.key-iterator ×
-    (members_have_float (members_view l.key-iterator) ≡ false) ×
     AreMade (member_data (λ v. json_data (view v))) l.members.entries l.key-iterator (map entry_of l.entries.items)

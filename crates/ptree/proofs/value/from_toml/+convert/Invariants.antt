@@ -1,18 +1,16 @@
-use Rattle.std.proofs.Common.{◌≡◌, None, map, take, drop}
-use Rattle.toml.specs.View.{view, items_view, members_view}
-use Rattle.ptree.specs.Convert.{toml_item_fault, toml_member_fault, toml_data}
+use Rattle.std.proofs.Common.{◌≡◌, map, take}
+use Rattle.toml.specs.View.{view}
+use Rattle.ptree.specs.Convert.{toml_data}
 use Rattle.ptree.specs.Value.{data_of, entry_of}
 use Rattle.ptree.proofs.Values.Converted.{member_data, AreMade}
 use Rattle.ptree.proofs.value.from_toml.+convert.Given as goal
 
 abbrev pub invariant-convert_values-loop-item : goal.invariant-convert_values-loop-item
 invariant-convert_values-loop-item l =
-    (map data_of l.values.items ≡ map (λ v. toml_data (view v)) (take l.item-index l.item-items)) ×
-    (toml_item_fault (items_view (drop l.item-index l.item-items)) ≡ None)
+    map data_of l.values.items ≡ map (λ v. toml_data (view v)) (take l.item-index l.item-items)
 
 abbrev pub invariant-convert_entries-loop-key : goal.invariant-convert_entries-loop-key
 invariant-convert_entries-loop-key l =
     (goal.iterator-convert_entries-loop-key).can_next l.key-iterator ×
     (goal.iterator-convert_entries-loop-key).is_finite l.key-iterator ×
-    (toml_member_fault (members_view l.key-iterator) ≡ None) ×
     AreMade (member_data (λ v. toml_data (view v))) l.members.entries l.key-iterator (map entry_of l.entries.items)
