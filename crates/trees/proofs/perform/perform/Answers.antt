@@ -1,22 +1,49 @@
 use Rattle.trees.proofs.perform.perform.Goals as goal
 
-pub returns-in-Draw : goal.returns-in-Draw
-returns-in-Draw g c = (let does = c.draw_source.ensures in rw c.in-Draw.is (record { told = tt; written = does.written; quiet = does.quiet; shown = does.shown }))
+pub returns-in-Check-clause-told : goal.returns-in-Check-clause-told
+returns-in-Check-clause-told g c = rw c.in-Check.is c.check.ensures.told
 
-pub returns-in-Deps : goal.returns-in-Deps
-returns-in-Deps g c = (let does = c.draw_deps.ensures in rw c.in-Deps.is (record { told = tt; written = does.written; quiet = does.quiet; shown = does.shown }))
+pub returns-in-Config-clause-told : goal.returns-in-Config-clause-told
+returns-in-Config-clause-told g c = rw c.in-Config.is c.show_settings.ensures.told
 
-pub returns-in-Indented : goal.returns-in-Indented
-returns-in-Indented g c = (let does = c.write_indented.ensures in rw c.in-Indented.is (record { told = tt; written = does.written; quiet = does.quiet; shown = does.shown }))
+pub returns-in-Indented-clause-written : goal.returns-in-Indented-clause-written
+returns-in-Indented-clause-written g c = rw c.in-Indented.is c.write_indented.ensures.written
 
-pub returns-in-Check : goal.returns-in-Check
-returns-in-Check g c = (let does = c.check.ensures in rw c.in-Check.is (record { told = does.told; written = does.written; quiet = does.quiet; shown = does.shown }))
+pub returns-in-Convert-clause-written : goal.returns-in-Convert-clause-written
+returns-in-Convert-clause-written g c = rw c.in-Convert.is (c.draw_converted.ensures.written, c.draw_converted.ensures.back)
 
-pub returns-in-Convert : goal.returns-in-Convert
-returns-in-Convert g c = (let does = c.draw_converted.ensures in rw c.in-Convert.is (record { told = tt; written = (does.written, does.back); quiet = does.quiet; shown = does.shown }))
+pub returns-in-Draw-clause-written : goal.returns-in-Draw-clause-written
+returns-in-Draw-clause-written g c = rw c.in-Draw.is c.draw_source.ensures.written
 
-pub returns-in-Diff : goal.returns-in-Diff
-returns-in-Diff g c = (let does = c.compare_drawings.ensures in rw c.in-Diff.is (record { told = does.told; written = does.written; quiet = does.quiet; shown = does.shown }))
+pub returns-in-Deps-clause-written : goal.returns-in-Deps-clause-written
+returns-in-Deps-clause-written g c = rw c.in-Deps.is c.draw_deps.ensures.written
 
-pub returns-in-Config : goal.returns-in-Config
-returns-in-Config g c = (let does = c.show_settings.ensures in rw c.in-Config.is (record { told = does.told; written = does.written; quiet = does.quiet; shown = does.shown }))
+pub returns-in-Diff-clause-written : goal.returns-in-Diff-clause-written
+returns-in-Diff-clause-written g c = rw c.in-Diff.is c.compare_drawings.ensures.written
+
+pub returns-in-Check-clause-written : goal.returns-in-Check-clause-written
+returns-in-Check-clause-written g c = rw c.in-Check.is c.check.ensures.written
+
+pub returns-in-Config-clause-written : goal.returns-in-Config-clause-written
+returns-in-Config-clause-written g c = rw c.in-Config.is c.show_settings.ensures.written
+
+pub returns-in-Draw-clause-shown : goal.returns-in-Draw-clause-shown
+returns-in-Draw-clause-shown g c = rw c.in-Draw.is c.draw_source.ensures.shown
+
+pub returns-in-Deps-clause-shown : goal.returns-in-Deps-clause-shown
+returns-in-Deps-clause-shown g c = rw c.in-Deps.is c.draw_deps.ensures.shown
+
+pub returns-in-Indented-clause-shown : goal.returns-in-Indented-clause-shown
+returns-in-Indented-clause-shown g c = rw c.in-Indented.is c.write_indented.ensures.shown
+
+pub returns-in-Check-clause-shown : goal.returns-in-Check-clause-shown
+returns-in-Check-clause-shown g c = rw c.in-Check.is c.check.ensures.shown
+
+pub returns-in-Convert-clause-shown : goal.returns-in-Convert-clause-shown
+returns-in-Convert-clause-shown g c = rw c.in-Convert.is c.draw_converted.ensures.shown
+
+pub returns-in-Diff-clause-shown : goal.returns-in-Diff-clause-shown
+returns-in-Diff-clause-shown g c = rw c.in-Diff.is c.compare_drawings.ensures.shown
+
+pub returns-in-Config-clause-shown : goal.returns-in-Config-clause-shown
+returns-in-Config-clause-shown g c = rw c.in-Config.is c.show_settings.ensures.shown

@@ -13,8 +13,8 @@ use Rattle.trees.proofs.Writings.{writes_weaker, nothing_written}
 use Rattle.trees.proofs.perform.write_indented.Goals as goal
 
 -- the text that is written is the one that was made
-pub returns : goal.returns
-returns g c =
+pub returns-clause-written : goal.returns-clause-written
+returns-clause-written g c =
     let sources = c.args.found.now.sources in
     let source = c.args.source.now in
     let indented = c.args.indented in
@@ -24,21 +24,25 @@ returns g c =
     let text = c.as_str.result.now in
     let written : Writes old new c.write_text.result (λ bytes. bytes ≡ text) (λ e. e ≡ Memory) = search rules in
     let made : IsIndentation sources source indented text = subst (IsIndentation sources source indented) (sym c.as_str.ensures.value) c.in_ok-text.ensures.text in
-    let writes = writes_weaker old new c.write_text.result (λ bytes. bytes ≡ text) (IsIndentation sources source indented) (λ e. e ≡ Memory) (FailsToIndent sources source indented)
-    (λ bytes is. subst (IsIndentation sources source indented) (sym is) made) (λ e is. fails_by_memory ((t : Tree) → HoldsDrawing config source t → LosesText indented t) (IsReadableValue config → ⊥) e is) written in
-    record { written = writes; quiet = search rules; shown = indentation_shown sources source indented (FailsToIndent sources source indented) old new c.write_text.result writes }
+    writes_weaker old new c.write_text.result (λ bytes. bytes ≡ text) (IsIndentation sources source indented) (λ e. e ≡ Memory) (FailsToIndent sources source indented)
+    (λ bytes is. subst (IsIndentation sources source indented) (sym is) made) (λ e is. fails_by_memory ((t : Tree) → HoldsDrawing config source t → LosesText indented t) (IsReadableValue config → ⊥) e is) written
 
-pub returns-in_err-text : goal.returns-in_err-text
-returns-in_err-text g c =
+pub returns-in_err-text-clause-written : goal.returns-in_err-text-clause-written
+returns-in_err-text-clause-written g c =
     let sources = c.args.found.now.sources in
     let source = c.args.source.now in
     let indented = c.args.indented in
-    let old = g.W.Sink.contents c.args.out.now in
     let fails : FailsToIndent sources source indented c.in_err-text.field-0.0 = c.in_err-text.ensures.failed in
     let says : IfErr c.from_residual.result (FailsToIndent sources source indented) = search (rules, fails) in
     let err : IsErr c.from_residual.result = search rules in
-    record {
-      written = nothing_written old c.from_residual.result (IsIndentation sources source indented) (FailsToIndent sources source indented) err says;
-      quiet = search rules;
-      shown = nothing_shown indented.is_terminal (λ part. part ≡ indented.unit.now) old;
-    }
+    nothing_written (g.W.Sink.contents c.args.out.now) c.from_residual.result (IsIndentation sources source indented) (FailsToIndent sources source indented) err says
+
+pub returns-clause-shown : goal.returns-clause-shown
+returns-clause-shown g c =
+    let sources = c.args.found.now.sources in
+    let source = c.args.source.now in
+    let indented = c.args.indented in
+    indentation_shown sources source indented (FailsToIndent sources source indented) (g.W.Sink.contents c.args.out.now) (g.W.Sink.contents c.write_text.new.out) c.write_text.result (returns-clause-written g c)
+
+pub returns-in_err-text-clause-shown : goal.returns-in_err-text-clause-shown
+returns-in_err-text-clause-shown g c = nothing_shown c.args.indented.is_terminal (λ part. part ≡ c.args.indented.unit.now) (g.W.Sink.contents c.args.out.now)

@@ -37,15 +37,16 @@ returns-then-not-is_pattern-clause-failed c =
     fails_never (ArePatterns e) c.in_ok-not_plain.field-0
     (one_wrong e us list c.loop-pattern.pattern-index c.pattern-item.result c.loop-pattern-test.true c.pattern-item.is (λ is. false≢true (sym c.if-not-is_pattern.true ∙ c.is_pattern.ensures.1 is))) c.in_ok-not_plain.ensures
 
-pub returns : goal.returns
-returns c =
+pub returns-clause-made : goal.returns-clause-made
+returns-clause-made c =
+    let vs = c.in-Some.patterns.now.items in
+    list_found c.args.workspaces c.get.result c.unwrap_or.result (Some (items_view vs)) c.unwrap_or.ensures c.get.ensures c.in-Some.ensures ∙ ap Some (items_seen vs ∙ ap (map view) (sym c.deref.ensures.value))
+
+pub returns-clause-only : goal.returns-clause-only
+returns-clause-only c =
     let vs = c.in-Some.patterns.now.items in
     let i = c.loop-pattern.pattern-index in
-    let found = list_found c.args.workspaces c.get.result c.unwrap_or.result (Some (items_view vs)) c.unwrap_or.ensures c.get.ensures c.in-Some.ensures in
+    let list = list_found c.args.workspaces c.get.result c.unwrap_or.result (Some (items_view vs)) c.unwrap_or.ensures c.get.ensures c.in-Some.ensures ∙ ap Some (items_seen vs) in
     let end = subst (λ (us : List Value). length us ≤ i) c.deref-pattern-items.ensures.value c.loop-pattern-test.false in
     let all = subst (All (λ v. IsPatternText (view v))) (take_all i vs end) c.loop-pattern.invariant in
-    record {
-      made = found ∙ ap Some (items_seen vs ∙ ap (map view) (sym c.deref.ensures.value));
-      only = subst (λ (o : Option (List Data)). MatchOption o ⊥ (All IsPatternText)) (sym (found ∙ ap Some (items_seen vs))) (All-map IsPatternText view vs all);
-      failed = tt;
-    }
+    subst (λ (o : Option (List Data)). MatchOption o ⊥ (All IsPatternText)) (sym list) (All-map IsPatternText view vs all)

@@ -27,6 +27,15 @@ loop-step-preserved c =
           (subst (IsListedAt packages) c.step-item.is (c.in_ok-go.ensures.only packages nodes steps k has at (c.loop-step.invariant.0 fresh nodes has))),
     )
 
+pub returns-clause-added : goal.returns-clause-added
+returns-clause-added c = λ fresh indexed.
+    let needs = c.sort_unstable.new.self.items in
+    let packages = walked c.args.self.now in (
+      map edge_of needs,
+      (in_order needs c.sort_unstable.ensures.sorted, subst (λ ts. AddsEdges c.args.network.now c.push_edges.new.network (map edge_of ts)) c.deref.ensures.value (c.in_ok-push_edges.ensures indexed)),
+      λ nodes has. needs_sorted packages nodes c.loop-step.self.needs.items needs c.sort_unstable.ensures.permutation (at_end packages nodes c.args.steps.now c.loop-step.step-index c.loop-step.self has c.loop-step-test.false (c.loop-step.invariant.0 fresh nodes has)),
+    )
+
 pub returns-in_err-go-clause-failed : goal.returns-in_err-go-clause-failed
 returns-in_err-go-clause-failed c = λ fresh.
     let packages = walked c.args.self.now in
@@ -37,17 +46,8 @@ returns-in_err-go-clause-failed c = λ fresh.
     (λ right. record { right = right; at = c.loop-step.invariant.0 fresh right.nodes right.has }) (c.in_err-go.ensures.failed packages steps k at) in
     search (rules, says)
 
-pub returns : goal.returns
-returns c =
-    let needs = c.sort_unstable.new.self.items in
+pub returns-clause-only : goal.returns-clause-only
+returns-clause-only c = λ fresh nodes has.
     let packages = walked c.args.self.now in
     let steps = c.args.steps.now in
-    record {
-      added = λ fresh indexed. (
-        map edge_of needs,
-        (in_order needs c.sort_unstable.ensures.sorted, subst (λ ts. AddsEdges c.args.network.now c.push_edges.new.network (map edge_of ts)) c.deref.ensures.value (c.in_ok-push_edges.ensures indexed)),
-        λ nodes has. needs_sorted packages nodes c.loop-step.self.needs.items needs c.sort_unstable.ensures.permutation (at_end packages nodes steps c.loop-step.step-index c.loop-step.self has c.loop-step-test.false (c.loop-step.invariant.0 fresh nodes has)),
-      );
-      only = λ fresh nodes has. lists_all packages nodes steps has (subst (All (IsListedAt packages)) (take_all c.loop-step.step-index steps c.loop-step-test.false) (c.loop-step.invariant.1 fresh nodes has));
-      failed = λ fresh. tt;
-    }
+    lists_all packages nodes steps has (subst (All (IsListedAt packages)) (take_all c.loop-step.step-index steps c.loop-step-test.false) (c.loop-step.invariant.1 fresh nodes has))

@@ -35,13 +35,16 @@ returns-in_err-push_list-clause-failed c =
     (list_led (packages_of c.args.self.now) (view c.args.groups.now) entries (length c.loop-needs.yielded) needs.now c.in-Some.ensures turn.1) c.in_err-push_list.ensures.failed in
     search (rules, says)
 
-pub returns : goal.returns
-returns c =
+pub returns-clause-added : goal.returns-clause-added
+returns-clause-added c =
     let entries = c.in-Some.groups.now.entries in
     let start = c.into_iter-needs-iterator.ensures.into_iter_gives ∙ c.values-needs-items.ensures.rest in
     let end = iter_end deref (map (λ e. e.1) entries) c.loop-needs.yielded c.into_iter-needs-iterator.result c.loop-needs.needs-iterator c.next.new.self c.next.result start c.loop-needs.yielded_by c.in-None.is c.next.ensures.steps in
-    record {
-      added = subst (λ es. AddsEntries c.args.self.now es c.args.network.now c.loop-needs.network) (all_lists c.loop-needs.yielded entries end.0 ∙ sym (grouped_lists (view c.args.groups.now) (members_view entries) c.in-Some.ensures)) c.loop-needs.invariant.0;
-      led = all_led (packages_of c.args.self.now) (view c.args.groups.now) c.loop-needs.yielded entries c.in-Some.ensures end.0 c.loop-needs.invariant.1;
-      failed = tt;
-    }
+    subst (λ es. AddsEntries c.args.self.now es c.args.network.now c.loop-needs.network) (all_lists c.loop-needs.yielded entries end.0 ∙ sym (grouped_lists (view c.args.groups.now) (members_view entries) c.in-Some.ensures)) c.loop-needs.invariant.0
+
+pub returns-clause-led : goal.returns-clause-led
+returns-clause-led c =
+    let entries = c.in-Some.groups.now.entries in
+    let start = c.into_iter-needs-iterator.ensures.into_iter_gives ∙ c.values-needs-items.ensures.rest in
+    let end = iter_end deref (map (λ e. e.1) entries) c.loop-needs.yielded c.into_iter-needs-iterator.result c.loop-needs.needs-iterator c.next.new.self c.next.result start c.loop-needs.yielded_by c.in-None.is c.next.ensures.steps in
+    all_led (packages_of c.args.self.now) (view c.args.groups.now) c.loop-needs.yielded entries c.in-Some.ensures end.0 c.loop-needs.invariant.1

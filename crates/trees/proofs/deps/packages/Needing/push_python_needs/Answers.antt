@@ -35,8 +35,13 @@ returns-in_err-push_python_need-clause-failed c =
     packages (c.in-Some.name, c.in-Some.need) c.in-Some.is name c.as_str.ensures.value) c.in_err-push_python_need.ensures.failed in
     search (rules, says)
 
-pub returns : goal.returns
-returns c =
+pub returns-clause-added : goal.returns-clause-added
+returns-clause-added c =
     let self = c.args.self.now in
     let all = end_all c.args.needs.now.entries c.loop-name.yielded c.into_iter-name-iterator.result c.loop-name.name-iterator c.next.new.self c.next.result (c.into_iter-name-iterator.ensures.into_iter_gives ∙ c.iter-name-items.ensures.rest) c.loop-name.yielded_by c.next.ensures.steps c.in-None.is in
-    record { added = subst (λ ms. AddsEntries self (names_entries self ms) c.args.network.now c.loop-name.network) all c.loop-name.invariant.0; led = subst (All (NameLeads (packages_of self))) all c.loop-name.invariant.1; failed = tt }
+    subst (λ ms. AddsEntries self (names_entries self ms) c.args.network.now c.loop-name.network) all c.loop-name.invariant.0
+
+pub returns-clause-led : goal.returns-clause-led
+returns-clause-led c =
+    let all = end_all c.args.needs.now.entries c.loop-name.yielded c.into_iter-name-iterator.result c.loop-name.name-iterator c.next.new.self c.next.result (c.into_iter-name-iterator.ensures.into_iter_gives ∙ c.iter-name-items.ensures.rest) c.loop-name.yielded_by c.next.ensures.steps c.in-None.is in
+    subst (All (NameLeads (packages_of c.args.self.now))) all c.loop-name.invariant.1
