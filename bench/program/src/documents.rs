@@ -1,6 +1,6 @@
 //! Made documents, and a configuration of all variables and a file, with the time of each step.
 
-use crate::ROOM;
+use crate::{ROOM, buffered};
 use crate::full::{FULL_TOML, FULL_VARIABLES};
 use ptree::buffered::Buffered;
 use ptree::print_config::{FileSource, PrintConfig, Sources};
@@ -94,19 +94,19 @@ fn draw_in(
     rt: &HostRuntime,
     text: &str,
     depth: u32,
-    mut room: Vec<u8>,
+    memory: Vec<u8>,
 ) -> io::Result<(Vec<u8>, u128)> {
     let alloc = rt.alloc();
     let mut config = PrintConfig::default(alloc)?;
     config.depth = depth;
-    room.clear();
-    let mut out = Counted::new(room);
+    let mut out = buffered(alloc, memory)?;
     let start = Instant::now(rt)?;
     draw_document_with(alloc, DocFormat::Json, text, "j", &config, false, &mut out).map_err(
         failed,
     )?;
+    out.flush().map_err(failed)?;
     let drawing = start.elapsed(rt)?.as_nanos();
-    Ok((out.into_inner(), drawing))
+    Ok((out.into_inner().into_inner(), drawing))
 }
 
 // Times the reading of a document alone, the drawing of its root, for which it is read and walked over, and that of all of it.

@@ -1,6 +1,6 @@
 //! Graphs, drawn as walks and with each node expanded once, beside the same trees as items.
 
-use crate::{ROOM, failed};
+use crate::{ROOM, buffered, failed};
 use ptree::buffered::Buffered;
 use ptree::graph::{Graph, NodeIndex, Place, REPEATED_MARK, write_graph_once_with, write_graph_with};
 use ptree::item::StringItem;
@@ -78,12 +78,11 @@ enum Drawn<'a> {
 fn drawing(
     rt: &HostRuntime,
     drawn: Drawn<'_>,
-    mut memory: Vec<u8>,
+    memory: Vec<u8>,
     config: &PrintConfig,
 ) -> io::Result<(u128, Vec<u8>)> {
     let alloc = rt.alloc();
-    memory.clear();
-    let mut out = Counted::new(memory);
+    let mut out = buffered(alloc, memory)?;
     let start = Instant::now(rt)?;
     let ended = match drawn {
         Drawn::Walks(graph) => write_graph_with(alloc, graph, NodeIndex(0), &mut out, config),
@@ -91,7 +90,8 @@ fn drawing(
         Drawn::Items(tree) => write_tree_with(alloc, tree, &mut out, config),
     };
     ended.map_err(failed)?;
-    Ok((start.elapsed(rt)?.as_nanos(), out.into_inner()))
+    out.flush().map_err(failed)?;
+    Ok((start.elapsed(rt)?.as_nanos(), out.into_inner().into_inner()))
 }
 
 // The tree of a drawing, if it can be read.

@@ -14,7 +14,7 @@ use graphs::{count_once, draw_graph, time_once};
 use ptree::TreeBuilder;
 use ptree::buffered::Buffered;
 use ptree::item::StringItem;
-use ptree::output::write_tree_with;
+use ptree::output::{tree_bytes, write_tree_with};
 use ptree::print_config::{PrintConfig, StyleWhen};
 use ptree::read::{pieces_readable, read_tree};
 use ptree::style::{Counted, DrawError};
@@ -87,33 +87,34 @@ fn draw_out(rt: &HostRuntime, task: &Task, item: &StringItem) -> io::Result<()> 
     out.flush().map_err(failed)
 }
 
-// The drawing of a tree.
-fn drawing(alloc: Global, item: &StringItem, config: &PrintConfig) -> io::Result<Vec<u8>> {
-    let mut out = Counted::new(Vec::new(alloc));
-    write_tree_with(alloc, item, &mut out, config).map_err(failed)?;
-    Ok(out.into_inner())
+/// Empties memory that is there already, to be drawn to through a buffer, as standard output is.
+pub fn buffered(alloc: Global, mut memory: Vec<u8>) -> io::Result<Buffered<Counted<Vec<u8>>>> {
+    memory.clear();
+    Ok(Buffered::with_capacity(alloc, ROOM, Counted::new(memory))?)
 }
 
-// Draws into memory that is there already, and then copies the bytes, with the time of each.
+// Draws into memory that is there already, again and again, and then copies the bytes likewise, with the time of each.
 fn draw_in(rt: &HostRuntime, task: &Task, item: &StringItem) -> io::Result<()> {
     let alloc = rt.alloc();
     let config = config(alloc, &task.name)?;
-    let drawn = drawing(alloc, item, &config)?;
-    let len = drawn.len();
+    let mut memory = tree_bytes(alloc, item, &config)?;
+    let len = memory.len();
     for _ in 0..task.times {
-        let mut room: Vec<u8> = Vec::with_capacity(alloc, len)?;
-        room.extend_from_slice(&drawn)?;
-        room.clear();
-        let mut out = Counted::new(room);
+        let mut out = buffered(alloc, memory)?;
         let start = Instant::now(rt)?;
         write_tree_with(alloc, item, &mut out, &config).map_err(failed)?;
+        out.flush().map_err(failed)?;
         let drawing = start.elapsed(rt)?.as_nanos();
-        let mut copy = out.into_inner();
+        memory = out.into_inner().into_inner();
+        println!(rt; "{len} bytes, drawn in {drawing} ns")?;
+    }
+    let mut copy = Vec::with_capacity(alloc, len)?;
+    for _ in 0..task.times {
         copy.clear();
         let start = Instant::now(rt)?;
-        copy.extend_from_slice(&drawn)?;
+        copy.extend_from_slice(&memory)?;
         let copying = start.elapsed(rt)?.as_nanos();
-        println!(rt; "{len} bytes, drawn in {drawing} ns, copied in {copying} ns")?;
+        println!(rt; "copied in {copying} ns")?;
     }
     Ok(())
 }
@@ -122,7 +123,7 @@ fn draw_in(rt: &HostRuntime, task: &Task, item: &StringItem) -> io::Result<()> {
 fn read_back(rt: &HostRuntime, task: &Task, item: &StringItem) -> io::Result<()> {
     let alloc = rt.alloc();
     let config = config(alloc, &task.name)?;
-    let drawn = drawing(alloc, item, &config)?;
+    let drawn = tree_bytes(alloc, item, &config)?;
     let Ok(text) = str::from_utf8(&drawn) else {
         return Ok(());
     };
