@@ -19,16 +19,12 @@ pub(crate) mod place;
 
 use crate::item::{StringItem, TreeItem};
 use crate::print_config::{OutputKind, PrintConfig, Sources};
-use crate::sink::buffered::Buffered;
 use crate::sink::{Counted, DrawError, Sink};
 use engine::{Drawn, Top, draw};
 pub use indent::Indent;
 use look::Look;
 use std::alloc::{AllocError, Global};
 use std::io;
-
-// How many bytes of a drawing in memory are gathered at once.
-const ROOM: usize = 8192;
 
 // Draws to output of a kind. `terminal` says whether standard output is a terminal.
 pub(crate) fn draw_for<D: Drawn, W: Sink>(
@@ -244,8 +240,6 @@ where
 
 /// Returns the drawing of an item, as [`write_tree_with`] writes it.
 ///
-/// Above what that takes, it takes the memory of a vector that grows to the drawing, and 8 KiB.
-///
 /// # Errors
 ///
 /// Memory ran out.
@@ -256,29 +250,12 @@ where
     ensures { IfOk result (λ v.
         IsDrawing (written_look config.now) (T.shape item.now) config.now.depth v.items) }
 {
+    let mut out = Counted::new(Vec::new(alloc));
     // A vector fails only if memory ran out.
-    match draw_in_memory(alloc, item, config) {
-        Ok(bytes) => Ok(bytes),
+    match write_tree_with(alloc, item, &mut out, config) {
+        Ok(()) => Ok(out.into_inner()),
         Err(_) => Err(AllocError),
     }
-}
-
-// Returns the drawing of an item. A buffer takes the entries, since a vector would take a call for
-// each.
-fn draw_in_memory<T>(alloc: Global, item: &T, config: &PrintConfig) -> Result<Vec<u8>, DrawError>
-where
-    T: TreeItem,
-    T::Child: TreeItem<Child = T::Child> + Drop,
-    ensures { IfOk result (λ v.
-        IsDrawing (written_look config.now) (T.shape item.now) config.now.depth v.items) }
-{
-    let out = Counted::new(Vec::new(alloc));
-    let Ok(mut out) = Buffered::with_capacity(alloc, ROOM, out) else {
-        return Err(DrawError::Memory);
-    };
-    write_tree_with(alloc, item, &mut out, config)?;
-    out.flush()?;
-    Ok(out.into_inner().into_inner())
 }
 
 /// Returns the drawing of an item as a text, as [`write_tree_with`] writes it.
