@@ -85,10 +85,12 @@ section() {
 }
 
 # Checks that a command of a page writes what the page shows. Arguments: name, the command, what it must write. The part sets
-# `launcher` to what is called in the place of `named`, the program's name in the page.
+# `launcher` to what is called in the place of `named`, the program's name in the page. The command's files in /tmp are the part's own, since
+# the same runs beside it with stubs.
 expect_shown() {
+    local called=${2//\/tmp\//$scratch/}
     # shellcheck disable=SC2154
-    if [ -n "$3" ] && [ "$(PATH=$scratch/shown:$PATH sh -c "${2//"$named"/$launcher}" 2>&1)" = "$3" ]; then
+    if [ -n "$3" ] && [ "$(PATH=$scratch/shown:$PATH sh -c "${called//"$named"/$launcher}" 2>&1)" = "$3" ]; then
         report ok "$1"
     else
         report no "$1: $2"
