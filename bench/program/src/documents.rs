@@ -1,7 +1,7 @@
 //! Made documents, and a configuration of all variables and a file, with the time of each step.
 
-use crate::{ROOM, buffered};
 use crate::full::{FULL_TOML, FULL_VARIABLES};
+use crate::{ROOM, buffered};
 use ptree::buffered::Buffered;
 use ptree::print_config::{FileSource, PrintConfig, Sources};
 use ptree::style::Counted;
