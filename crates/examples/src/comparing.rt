@@ -1,11 +1,16 @@
-//! Callers that compare trees.
+//! Callers that compare trees, and drawings.
 ghost use Rattle.std.specs.Prelude.{◌≡◌, ◌≢◌, ◌↔◌, IsTrue, IfOk, IfSome, Some, None};
 ghost use Rattle.ptree.specs.Address.{Address, at};
-ghost use Rattle.ptree.specs.Tree.{tree_kids, tree_of};
+ghost use Rattle.ptree.specs.Drawing.{written_look};
+ghost use Rattle.ptree.specs.DrawnForm.{IsDrawnForm};
+ghost use Rattle.ptree.specs.Readable.{HasReadablePieces};
+ghost use Rattle.ptree.specs.Tree.{Tree, tree_kids, tree_of};
 ghost use Rattle.ptree_trees.specs.Difference.{DifferAt};
 
 use ptree::item::StringItem;
-use ptree_trees::difference::first_difference;
+use ptree::print_config::PrintConfig;
+use ptree::read::{ReadError, read_items};
+use ptree_trees::difference::{first_difference, first_item_difference};
 use std::alloc::{AllocError, Global};
 
 /// Whether two trees are equal.
@@ -65,4 +70,24 @@ pub fn original<'a>(
         return Ok(None);
     };
     Ok(tree.at_address(&found.address))
+}
+
+/// Returns where the trees of two drawings differ first, without making them.
+pub fn first_change(
+    alloc: Global,
+    left: &str,
+    right: &str,
+    config: &PrintConfig,
+) -> Result<Option<Vec<usize>>, ReadError>
+    requires { HasReadablePieces config.now }
+    ensures { (t u : Tree) → IsDrawnForm (written_look config.now) config.now.depth left.now t
+        → IsDrawnForm (written_look config.now) config.now.depth right.now u
+        → IfOk result (λ o. IfSome o (λ a. DifferAt t u a.items)) }
+{
+    let items = read_items(alloc, left, config)?;
+    let others = read_items(alloc, right, config)?;
+    let Some(found) = first_item_difference(alloc, &items, &others)? else {
+        return Ok(None);
+    };
+    Ok(Some(found.address))
 }

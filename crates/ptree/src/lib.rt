@@ -3,8 +3,9 @@
 //! You can draw any [`TreeItem`]: a tree of texts ([`item::StringItem`], which [`TreeBuilder`]
 //! builds), a node of a [`graph::Graph`], a [`value::Value`], or a type of your own.
 //! [`write_tree_with`] draws it to any [`sink::Sink`] as a [`PrintConfig`] says.
-//! [`read::read_tree`] returns the tree of a drawing. [`read::read_tree_or_line`] also says where a
-//! text stops being a drawing, and [`read::lines_that_follow`] what could stand there.
+//! [`read::read_tree`] returns the tree of a drawing, and [`read::read_items`] its items alone.
+//! [`read::read_tree_or_line`] also says where a text stops being a drawing, and
+//! [`read::lines_that_follow`] what could stand there.
 //!
 //! ```text
 //! tree

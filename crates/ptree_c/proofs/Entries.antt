@@ -1,5 +1,5 @@
 -- Entries, as a pen makes them.
-use Rattle.std.proofs.Common.{◌≡◌, ℕ, ◌+◌, ◌-◌, ◌<◌, Bool, Option, List, [], ◌∷◌, ◌++◌, length, take, get_or, sym, ap, ◌∙◌, append_assoc, arith}
+use Rattle.std.proofs.Common.{◌≡◌, ℕ, ◌+◌, ◌-◌, Bool, Option, List, [], ◌∷◌, ◌++◌, length, sym, ap, ◌∙◌, append_assoc, arith}
 use Rattle.ptree.specs.Drawing.{Look, with_inserted}
 use Rattle.ptree.specs.Looks.{own_piece, below_piece, own_text}
 use Rattle.ptree.specs.Pieces.{passing_all}
@@ -10,7 +10,7 @@ use Rattle.ptree_c.specs.Pens.{entry_behind}
 use Rattle.ptree_c.specs.Fields.{part_text}
 use Rattle.ptree_c.specs.Steps.{path_flags, own_flag, entry_below, step_entry}
 use Rattle.ptree_c.specs.declared.steps.Step.{Step}
-use Rattle.std.proofs.lemmas.List.{take_more, length-append}
+use Rattle.std.proofs.lemmas.List.{length-append}
 
 -- a painted text with another one inserted
 inserted_painted : (look : Look) (inserted text : List ℕ) → with_inserted inserted (painted_text look.leaf text) ≡ start_codes look.leaf ++ with_inserted inserted text ++ end_codes look.leaf
@@ -48,11 +48,6 @@ entry_gathered look above own text front is =
 -- the length of three texts in turn and a fourth one
 pub four_long : (a b c d : List ℕ) → length (((a ++ b) ++ c) ++ d) ≡ ((length a + length b) + length c) + length d
 four_long a b c d = length-append ((a ++ b) ++ c) d ∙ ap (λ n. n + length d) (length-append (a ++ b) c ∙ ap (λ n. n + length c) (length-append a b))
-
--- a byte more, with what is inserted after it
-pub inserted_more : (inserted text : List ℕ) (i : ℕ) → i < length text
-    → with_inserted inserted (take (i + 1) text) ≡ with_inserted inserted (take i text) ++ with_inserted inserted (get_or text i 0 ∷ [])
-inserted_more inserted text i h = ap (with_inserted inserted) (take_more text i 0 h) ∙ inserted-append inserted (take i text) (get_or text i 0 ∷ [])
 
 -- the entry of an item behind the front of the level above it
 pub step_behind : (look : Look) (texts path front text : List ℕ) (s : Step) (own : Option Bool) (level : ℕ) → front ≡ start_codes look.branch ++ passing_all look.pieces (path_flags path level)

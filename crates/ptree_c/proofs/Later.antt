@@ -9,8 +9,7 @@ use Rattle.ptree_c.specs.declared.items.Item.{Item}
 -- no item among the later ones has a level further down than one more
 none_deeper : (deepest level n : ℕ) (items : List Item) → suc level < n → StepsDown deepest level items → has_later_item items n ≡ false
 none_deeper deepest level n [] h down = refl
-none_deeper deepest level n (i ∷ items) h down =
-    ap (λ b. cond b (has_later_item items n) (eqb n i.level)) (le-ltb n i.level (omega (arith, h, down.1))) ∙ ne_eqb n i.level (omega (arith, h, down.1))
+none_deeper deepest level n (i ∷ items) h down = rw (le-ltb n i.level (omega (arith, h, down.1))) (ne_eqb n i.level (omega (arith, h, down.1)))
 
 -- an item comes before the later ones, the first of which is at most one level deeper
 pub later_put : (later : List ℕ) (deepest level : ℕ) (i : Item) (items : List Item) → level + 1 < length later → i.level ≡ level → StepsDown deepest level items → AreLater later items

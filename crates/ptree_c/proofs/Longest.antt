@@ -1,5 +1,5 @@
 -- How long entries and drawings are at most.
-use Rattle.std.proofs.Common.{◌≡◌, ℕ, zero, suc, ◌+◌, ◌-◌, ◌*◌, ◌≤◌, inl, inr, Bool, true, false, Option, Some, None, cond, List, [], ◌∷◌, ◌++◌, length, take, drop, refl, sym, ap, ◌∙◌, subst, append_assoc, arith}
+use Rattle.std.proofs.Common.{◌≡◌, ℕ, zero, suc, ◌+◌, ◌-◌, ◌*◌, ◌≤◌, inl, inr, Bool, true, false, Option, Some, None, List, [], ◌∷◌, ◌++◌, length, take, drop, refl, ap, ◌∙◌, subst, append_assoc, arith}
 use Rattle.std.proofs.Math.Nat.{mul-le-mul_left, mul-le-mul_right, suc-mul, add-mul}
 use Rattle.std.proofs.lemmas.List.{length-append, length-drop, length-map, length-take, length-take-le}
 use Rattle.ptree.specs.Drawing.{Look, with_inserted}
@@ -95,11 +95,10 @@ item_wide look levels wide is texts path depth from n last i steps low order wit
     let text : length (part_text texts s.text) ≡ i.end - from = length-take-le (i.end - from) (drop from texts) (omega (arith, within, length-drop from texts)) in
     let both : suc (length (part_text texts s.text)) + left ≡ count = omega (arith, text, order, within) in
     elim (low_or_deep depth i.level) [
-      | inl (deep, h) ↦
-          subst (λ b. length (steps_text look texts path (cond b steps (s ∷ steps))) ≤ count * wide) (sym deep) (let all : length (steps_text look texts path steps) ≤ count * wide = omega (arith, rest path, mul-le-mul_right wide fewer) in all)
+      | inl (deep, h) ↦ rw deep (let all : length (steps_text look texts path steps) ≤ count * wide = omega (arith, rest path, mul-le-mul_right wide fewer) in all)
       | inr (drawn, h) ↦
-          subst (λ b. length (steps_text look texts path (cond b steps (s ∷ steps))) ≤ count * wide) (sym drawn)
-          (let all : length (entry ++ after) ≤ count * wide = omega (arith, length-append entry after, both_wide (suc (length (part_text texts s.text))) left count wide (length entry) (length after) (is texts path s (low h)) (rest (path_with path s.level s.is_last)) both) in all)
+          let sum = both_wide (suc (length (part_text texts s.text))) left count wide (length entry) (length after) (is texts path s (low h)) (rest (path_with path s.level s.is_last)) both in
+          rw drawn (let all : length (entry ++ after) ≤ count * wide = omega (arith, length-append entry after, sum) in all)
     ]
 
 -- the items after another one take as much as the widest entry, for each and for each byte of their texts

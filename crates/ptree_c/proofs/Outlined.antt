@@ -1,5 +1,5 @@
 -- The items of an outline, drawn as steps, are the drawing of its tree.
-use Rattle.std.proofs.Common.{◌≡◌, ℕ, zero, suc, ◌+◌, ◌-◌, ◌<◌, ◌≤◌, ◌⊎◌, inl, inr, Bool, true, false, not, cond, eqb, ltb, List, [], ◌∷◌, ◌++◌, length, take, drop, get_or, refl, sym, ap, ◌∙◌, subst, append_assoc, add-one, drop-cons, arith}
+use Rattle.std.proofs.Common.{◌≡◌, ℕ, zero, suc, ◌+◌, ◌-◌, ◌<◌, ◌≤◌, ◌⊎◌, inl, inr, true, false, not, cond, ltb, List, [], ◌∷◌, ◌++◌, length, take, drop, get_or, refl, sym, ap, ◌∙◌, subst, append_assoc, add-one, drop-cons, arith}
 use Rattle.std.proofs.lemmas.Bool.{cases_lt, lt-ltb, le-ltb}
 use Rattle.std.proofs.lemmas.List.{append-nil, length-append}
 use Rattle.std.specs.List.{concat}
@@ -19,7 +19,7 @@ use Rattle.ptree_c.specs.Calls.{IsItemsDrawing}
 use Rattle.ptree_c.specs.Items.{lines_from}
 use Rattle.ptree_c.specs.Outlines.{has_later_item, AreLastFlags, StepsDown, AreItems, AreRight, AreRightAfter, AreLow, step_of, kept_before, kept_path, steps_from}
 use Rattle.ptree_c.specs.Refusals.{IsTextBetween}
-use Rattle.ptree_c.specs.Steps.{AreStepsOf, path_with, step_entry, steps_text}
+use Rattle.ptree_c.specs.Steps.{AreStepsOf, step_entry, steps_text}
 use Rattle.ptree_c.specs.declared.items.Item.{Item}
 use Rattle.ptree_c.specs.declared.steps.Step.{Step}
 use Rattle.ptree_c.proofs.Given.{draws_trees}
@@ -36,44 +36,29 @@ drawn_lines depth (l ∷ o) = cond (ltb depth l.level) (drawn_lines depth o) (l 
 -- the lines of two lists
 drawn_lines-append : (depth : ℕ) (a b : List Line) → drawn_lines depth (a ++ b) ≡ drawn_lines depth a ++ drawn_lines depth b
 drawn_lines-append depth [] b = refl
-drawn_lines-append depth (l ∷ a) b = at (ltb depth l.level) (drawn_lines-append depth a b) where
-  at : (deep : Bool) → drawn_lines depth (a ++ b) ≡ drawn_lines depth a ++ drawn_lines depth b
-      → cond deep (drawn_lines depth (a ++ b)) (l ∷ drawn_lines depth (a ++ b)) ≡ cond deep (drawn_lines depth a) (l ∷ drawn_lines depth a) ++ drawn_lines depth b
-  at true e = e
-  at false e = ap (λ z. l ∷ z) e
+drawn_lines-append depth (l ∷ a) b = grind (arith, drawn_lines-append depth a b)
 
 -- a forest below the depth has no such line
 no_lines : (depth n : ℕ) (f : Forest) → depth < n → drawn_lines depth (outline_at n f) ≡ []
 no_lines depth n none h = refl
-no_lines depth n (item t c r) h =
-    ap (λ b. cond b (drawn_lines depth (outline_at (suc n) c ++ outline_at n r)) (line n t ∷ drawn_lines depth (outline_at (suc n) c ++ outline_at n r))) (lt-ltb depth n h)
-    ∙ (drawn_lines-append depth (outline_at (suc n) c) (outline_at n r)
-    ∙ (ap (λ z. z ++ drawn_lines depth (outline_at n r)) (no_lines depth (suc n) c (omega arith)) ∙ no_lines depth n r h))
+no_lines depth n (item t c r) h = rw (lt-ltb depth n h, drawn_lines-append depth (outline_at (suc n) c) (outline_at n r), no_lines depth (suc n) c (omega arith), no_lines depth n r h)
 
 -- the outline of a cut forest is that of the forest, down to the cut
 outline_cut : (d n depth : ℕ) (f : Forest) → depth ≡ n + d → outline_at (suc n) (cut_forest d f) ≡ drawn_lines depth (outline_at (suc n) f)
 outline_cut d n depth none e = refl
 outline_cut zero n depth (item t c r) e = sym (no_lines depth (suc n) (item t c r) (omega (arith, e)))
 outline_cut (suc d) n depth (item t c r) e =
-    let rest : List Line = outline_at (suc (suc n)) c ++ outline_at (suc n) r in
-    let high : ltb depth (suc n) ≡ false = le-ltb depth (suc n) (omega (arith, e)) in
-    ap (λ z. line (suc n) t ∷ (z ++ outline_at (suc n) (cut_forest (suc d) r))) (outline_cut d (suc n) depth c (omega (arith, e)))
-    ∙ (ap (λ z. line (suc n) t ∷ (drawn_lines depth (outline_at (suc (suc n)) c) ++ z)) (outline_cut (suc d) n depth r e)
-    ∙ (ap (λ z. line (suc n) t ∷ z) (sym (drawn_lines-append depth (outline_at (suc (suc n)) c) (outline_at (suc n) r)))
-    ∙ ap (λ b. cond b (drawn_lines depth rest) (line (suc n) t ∷ drawn_lines depth rest)) (sym high)))
+    let both = drawn_lines-append depth (outline_at (suc (suc n)) c) (outline_at (suc n) r) in
+    rw (le-ltb depth (suc n) (omega (arith, e)), both, outline_cut d (suc n) depth c (omega (arith, e)), outline_cut (suc d) n depth r e)
 
 -- later lines decide as the items do, down to the depth
 later_drawn : (depth n from : ℕ) (texts : List ℕ) (items : List Item) → n ≤ depth → has_later (drawn_lines depth (lines_from from texts items)) n ≡ has_later_item items n
 later_drawn depth n from texts [] h = refl
 later_drawn depth n from texts (i ∷ items) h =
-    let o : List Line = drawn_lines depth (lines_from i.end texts items) in
-    let l : Line = line i.level (take (i.end - from) (drop from texts)) in
-    let same : has_later o n ≡ has_later_item items n = later_drawn depth n i.end texts items h in
+    let same = later_drawn depth n i.end texts items h in
     elim (low_or_deep depth i.level) [
-      | inl (deep, below) ↦
-          ap (λ b. has_later (cond b o (l ∷ o)) n) deep
-          ∙ (same ∙ sym (ap (λ b. cond b (has_later_item items n) (eqb n i.level)) (lt-ltb n i.level (omega (arith, h, below)))))
-      | inr (drawn, low) ↦ ap (λ b. has_later (cond b o (l ∷ o)) n) drawn ∙ ap (λ z. cond (ltb n i.level) z (eqb n i.level)) same
+      | inl (deep, below) ↦ rw (deep, same, lt-ltb n i.level (omega (arith, h, below))) refl
+      | inr (drawn, low) ↦ rw (drawn, same) refl
     ]
 
 -- the items that are drawn are those of the lines that are
@@ -83,16 +68,10 @@ steps_of_items depth from texts [] [] are = tt
 steps_of_items depth from texts [] (f ∷ flags) are = absurd are
 steps_of_items depth from texts (i ∷ items) [] are = absurd are
 steps_of_items depth from texts (i ∷ items) (f ∷ flags) are =
-    let o : List Line = drawn_lines depth (lines_from i.end texts items) in
-    let l : Line = line i.level (take (i.end - from) (drop from texts)) in
-    let steps : List Step = steps_from depth i.end items flags in
-    let s : Step = step_of from i f in
-    let below : AreStepsOf texts o steps = steps_of_items depth i.end texts items flags are.1 in
-    let to : (b : Bool) → ltb depth i.level ≡ b → AreStepsOf texts (cond b o (l ∷ o)) (cond b steps (s ∷ steps)) → AreStepsOf texts (cond (ltb depth i.level) o (l ∷ o)) (cond (ltb depth i.level) steps (s ∷ steps)) =
-    λ b e h. subst (λ b. AreStepsOf texts (cond b o (l ∷ o)) (cond b steps (s ∷ steps))) (sym e) h in
+    let below = steps_of_items depth i.end texts items flags are.1 in
     elim (low_or_deep depth i.level) [
-      | inl (deep, h) ↦ to true deep below
-      | inr (drawn, low) ↦ to false drawn (record { level = refl; text = refl; last = are.0 ∙ ap not (sym (later_drawn depth i.level i.end texts items low)) }, below)
+      | inl (deep, h) ↦ rw deep below
+      | inr (drawn, low) ↦ rw drawn (record { level = refl; text = refl; last = are.0 ∙ ap not (sym (later_drawn depth i.level i.end texts items low)) }, below)
     ]
 
 -- the levels of items step down as those of lines do
@@ -105,12 +84,10 @@ low_drawn : (deepest depth long previous from : ℕ) (texts : List ℕ) (items :
     → AreWithin long (drawn_lines depth (lines_from from texts items))
 low_drawn deepest depth long previous from texts [] fit down = tt
 low_drawn deepest depth long previous from texts (i ∷ items) fit down =
-    let o : List Line = drawn_lines depth (lines_from i.end texts items) in
-    let l : Line = line i.level (take (i.end - from) (drop from texts)) in
-    let below : AreWithin long o = low_drawn deepest depth long i.level i.end texts items fit down.3 in
+    let below = low_drawn deepest depth long i.level i.end texts items fit down.3 in
     elim (low_or_deep depth i.level) [
-      | inl (deep, h) ↦ subst (λ b. AreWithin long (cond b o (l ∷ o))) (sym deep) below
-      | inr (drawn, low) ↦ subst (λ b. AreWithin long (cond b o (l ∷ o))) (sym drawn) (fit i.level down.2 low, below)
+      | inl (deep, h) ↦ rw deep below
+      | inr (drawn, low) ↦ rw drawn (fit i.level down.2 low, below)
     ]
 
 -- the items of an outline, drawn as steps, are the drawing of its tree
@@ -143,11 +120,7 @@ outline_drawn look texts path (i ∷ items) (flag ∷ flags) deepest depth drawi
 -- the text of an item before others
 pub kept_text : (look : Look) (texts path : List ℕ) (depth : ℕ) (s : Step) (steps : List Step)
     → steps_text look texts path (kept_before depth s steps) ≡ steps_text look texts path (kept_before depth s []) ++ steps_text look texts (kept_path depth path s) steps
-kept_text look texts path depth s steps = at (ltb depth s.level) where
-  at : (deep : Bool) → steps_text look texts path (cond deep steps (s ∷ steps))
-      ≡ steps_text look texts path (cond deep [] (s ∷ [])) ++ steps_text look texts (cond deep path (path_with path s.level s.is_last)) steps
-  at true = refl
-  at false = ap (λ z. z ++ steps_text look texts (path_with path s.level s.is_last) steps) (sym (append-nil (step_entry look texts path s)))
+kept_text look texts path depth s steps = grind (arith, append-nil (step_entry look texts path s))
 
 -- the item at a place is low, if all are
 pub low_at : (depth long : ℕ) (items : List Item) (n : ℕ) (d : Item) → AreLow depth long items → n < length items → (get_or items n d).level ≤ depth → (get_or items n d).level ≤ long

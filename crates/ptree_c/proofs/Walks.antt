@@ -1,7 +1,7 @@
 -- Items drawn in turn.
-use Rattle.std.proofs.Common.{◌≡◌, ℕ, suc, ◌+◌, ◌-◌, ◌<◌, ◌≤◌, Bool, true, false, cond, eqb, List, [], ◌∷◌, ◌++◌, length, take, drop, get_or, map, refl, sym, ap, ◌∙◌, append_assoc, add-one, arith}
+use Rattle.std.proofs.Common.{◌≡◌, ℕ, suc, ◌+◌, ◌-◌, ◌<◌, ◌≤◌, List, [], ◌∷◌, ◌++◌, length, take, drop, get_or, map, refl, sym, ap, ◌∙◌, append_assoc, add-one, arith}
 use Rattle.std.proofs.Math.Seq.{drop-cons, take-append_seam}
-use Rattle.std.proofs.lemmas.Bool.{eq-eqb, false≢true}
+use Rattle.std.proofs.lemmas.Bool.{eq-eqb}
 use Rattle.std.proofs.lemmas.List.{append-nil, length-append, length-take-le, length-drop, take_more}
 use Rattle.ptree.specs.Drawing.{Look}
 use Rattle.ptree_c.specs.Fields.{is_set}
@@ -31,23 +31,15 @@ next_of xs n x t e =
 
 -- the levels above one keep their flags
 pub with_above : (path : List ℕ) (level last : ℕ) → level ≤ length path → take (level - 1) (path_with path level last) ≡ take (level - 1) path
-with_above path level last h = at (eqb level 0) where
-  at : (root : Bool) → take (level - 1) (cond root path (take (level - 1) path ++ last ∷ drop level path)) ≡ take (level - 1) path
-  at true = refl
-  at false =
-      let wide : level - 1 ≡ length (take (level - 1) path) = sym (length-take-le (level - 1) path (omega arith)) in
-      ap (λ n. take n (take (level - 1) path ++ last ∷ drop level path)) wide ∙ take-append_seam (take (level - 1) path) (last ∷ drop level path)
+with_above path level last h =
+    let wide = length-take-le (level - 1) path (omega arith) in
+    grind (arith, ap (λ n. take n (take (level - 1) path ++ last ∷ drop level path)) wide, take-append_seam (take (level - 1) path) (last ∷ drop level path))
 
 -- a path stays as long as it was
 pub with_length : (path : List ℕ) (level last : ℕ) → level ≤ length path → length (path_with path level last) ≡ length path
-with_length path level last h = at (eqb level 0) refl where
-  at : (root : Bool) → eqb level 0 ≡ root → length (cond root path (take (level - 1) path ++ last ∷ drop level path)) ≡ length path
-  at true e = refl
-  at false e =
-      let some : level ≡ 0 → ⊥ = λ z. false≢true (sym e ∙ eq-eqb level 0 z) in
-      let low : 0 < level = omega (arith, some) in
-      let front : length (take (level - 1) path) ≡ level - 1 = length-take-le (level - 1) path (omega arith) in
-      omega (arith, length-append (take (level - 1) path) (last ∷ drop level path), front, length-drop level path)
+with_length path level last h =
+    let front = length-take-le (level - 1) path (omega arith) in
+    grind (arith, eq-eqb level 0, length-append (take (level - 1) path) (last ∷ drop level path), front, length-drop level path)
 
 -- the flags above an item are those of the path after it
 pub above_same : (path new : List ℕ) (s : Step) (level : ℕ) → level ≡ s.level - 1 → s.level ≤ length path → new ≡ path_with path s.level s.is_last → path_flags new level ≡ path_flags path level

@@ -1,5 +1,5 @@
 -- Places of a key, from the end of a text.
-use Rattle.std.proofs.Common.{◌≡◌, ℕ, ◌<◌, ◌≤◌, ◌+◌, ◌-◌, ◌⊎◌, ◌↔◌, inl, inr, Bool, true, false, IsTrue, List, ◌++◌, codes, length, take, drop, arith, subst, sym, add-one}
+use Rattle.std.proofs.Common.{◌≡◌, ℕ, ◌<◌, ◌≤◌, ◌+◌, ◌-◌, ◌↔◌, inl, inr, Bool, true, false, IsTrue, List, ◌++◌, codes, length, take, drop, arith, subst, sym, add-one}
 use Rattle.std.proofs.Math.Nat.{eq-or-lt_of_le}
 use Rattle.std.proofs.lemmas.Bool.{cases_lt}
 use Rattle.ptree.specs.declared.print_config.FileSource.{FileSource}
@@ -9,11 +9,7 @@ use Rattle.ptree_sources.specs.FaultLine.{IsPlace, HasPlaces, IsFaultPlace, HasN
 -- none from a place on, and none just before it
 pub none_from_before : (P : ℕ → Type 0) (at end : ℕ) → ((other : ℕ) → at ≤ other → other < end → P other → ⊥) → (P (at - 1) → ⊥)
     → (other : ℕ) → at - 1 ≤ other → other < end → P other → ⊥
-none_from_before P at end none not other h k p = by_place (eq-or-lt_of_le h)
-  where
-    by_place : ((at - 1) ≡ other) ⊎ ((at - 1) < other) → ⊥
-    by_place (inl e) = not (subst P (sym e) p)
-    by_place (inr after) = none other (omega arith) k p
+none_from_before P at end none not other h k p = elim (eq-or-lt_of_le h) [ inl e ↦ not (subst P (sym e) p) | inr after ↦ none other (omega (arith, after)) k p ]
 
 module _ (file : FileSource) (e : Fault) (key text : List ℕ) where
   -- from a place on, there is no place of the fault
@@ -27,20 +23,15 @@ module _ (file : FileSource) (e : Fault) (key text : List ℕ) where
   -- no place after the last one before the end
   pub none_after : (at end : ℕ) → NoneFrom end → ((other : ℕ) → at < other → other < end → ¬ (IsPlace key text other))
       → (other : ℕ) → at < other → ¬ (IsFaultPlace file e key text other)
-  none_after at end none later other h p = by_end (cases_lt other end)
-    where
-      by_end : (other < end) ⊎ (end ≤ other) → ⊥
-      by_end (inl before) = later other h before p.place
-      by_end (inr past) = none other past p
+  none_after at end none later other h p = elim (cases_lt other end) [ inl before ↦ later other h before p.place | inr past ↦ none other past p ]
 
   -- nor is it that one
   pub none_from : (at end : ℕ) → NoneFrom end → ((other : ℕ) → at < other → other < end → ¬ (IsPlace key text other))
       → ¬ (Heals file e (other_text text at)) → NoneFrom at
-  none_from at end none later not other h p = by_equal (eq-or-lt_of_le h)
-    where
-      by_equal : (at ≡ other) ⊎ (at < other) → ⊥
-      by_equal (inl is) = not (subst (λ n. Heals file e (other_text text n)) (sym is) p.heals)
-      by_equal (inr after) = none_after at end none later other after p
+  none_from at end none later not other h p = elim (eq-or-lt_of_le h) [
+    | inl is ↦ not (subst (λ n. Heals file e (other_text text n)) (sym is) p.heals)
+    | inr after ↦ none_after at end none later other after p
+  ]
 
   -- with `_` between its two parts, a text does not heal the fault
   pub not_healed : (at : ℕ) (before behind : List ℕ) (b : Bool) → b ≡ false → (IsTrue b ↔ Heals file e (before ++ codes "_" ++ behind))
@@ -70,16 +61,8 @@ module _ (file : FileSource) (e : Fault) (key text : List ℕ) where
 
   -- no place of the key is left, so the fault has none
   pub no_line : (end : ℕ) → NoneFrom end → ((other : ℕ) → other < end → ¬ (IsPlace key text other)) → HasNoLine file e key text
-  no_line end none left at p = absurd (by_end (cases_lt at end))
-    where
-      by_end : (at < end) ⊎ (end ≤ at) → ⊥
-      by_end (inl before) = left at before p.place
-      by_end (inr past) = none at past p
+  no_line end none left at p = absurd (elim (cases_lt at end) [ inl before ↦ left at before p.place | inr past ↦ none at past p ])
 
   -- as many places as are tried follow each place of the fault
   pub too_many : (n end : ℕ) → n ≡ places_tried → NoneFrom end → ManyBefore n end → HasNoLine file e key text
-  too_many n end is none many at p = by_end (cases_lt at end)
-    where
-      by_end : (at < end) ⊎ (end ≤ at) → HasPlaces key text places_tried at
-      by_end (inl before) = subst (λ k. HasPlaces key text k at) is (many at before)
-      by_end (inr past) = absurd (none at past p)
+  too_many n end is none many at p = elim (cases_lt at end) [ inl before ↦ subst (λ k. HasPlaces key text k at) is (many at before) | inr past ↦ absurd (none at past p) ]

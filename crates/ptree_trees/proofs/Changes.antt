@@ -1,5 +1,5 @@
 -- Trees changed.
-use Rattle.std.specs.Prelude.{◌||◌, ◌≢◌, if◌then◌else◌, option_map}
+use Rattle.std.specs.Prelude.{◌≢◌, option_map}
 use Rattle.std.proofs.Common.{Option, Some, None, string_bytes, ◌≡◌, ◌∙◌, ap, sym, refl, ◌⊎◌, inl, inr, ℕ, ◌+◌, ◌<◌, ◌≤◌, arith}
 use Rattle.std.proofs.Common.{Bool, true, false, List, [], ◌∷◌, ◌++◌, length, get_or, drop, map, append_assoc}
 use Rattle.std.proofs.lemmas.List.{at_drop_more, append-nil, drop_all, map-append}
@@ -23,29 +23,16 @@ some_viewed view (x ∷ xs) n e = (cc)
 module _ (test : List ℕ → Bool) where
   -- where the first tree is not kept, the others are
   kept_without : (t : Tree) (ts : List Tree) → kept_tree test t ≡ None → kept_trees test (t ∷ ts) ≡ kept_trees test ts
-  kept_without t ts h = by_test (test t.text || any_passes test t.children) (tree t.text (kept_forest test t.children)) (kept_forest test (forest ts)) h
-    where
-      by_test : (b : Bool) (u : Tree) (f : Forest) → (if b then Some u else None) ≡ None → trees (if b then item u.text u.children f else f) ≡ trees f
-      by_test true u f h = absurd (cc)
-      by_test false u f h = refl
+  kept_without t ts h = grind arith
 
   -- what is kept of the first tree stands before what is kept of the others
   kept_with : (t u : Tree) (ts : List Tree) → kept_tree test t ≡ Some u → kept_trees test (t ∷ ts) ≡ u ∷ kept_trees test ts
-  kept_with t u ts h = by_test (test t.text || any_passes test t.children) (tree t.text (kept_forest test t.children)) (kept_forest test (forest ts)) h
-    where
-      by_test : (b : Bool) (v : Tree) (f : Forest) → (if b then Some v else None) ≡ Some u → trees (if b then item v.text v.children f else f) ≡ u ∷ trees f
-      by_test true v f h = let same : v ≡ u = cc in ap (λ z. z ∷ trees f) same
-      by_test false v f h = absurd (cc)
+  kept_with t u ts h = grind arith
 
   -- an item passes exactly if some are kept
   passes_as_kept : (f : Forest) → ((trees (kept_forest test f) ≡ []) × (any_passes test f ≡ false)) ⊎ ((trees (kept_forest test f) ≢ []) × (any_passes test f ≡ true))
   passes_as_kept none = inl (refl, refl)
-  passes_as_kept (item t c r) = by_test (test t || any_passes test c) (kept_forest test c) (kept_forest test r) (any_passes test r) (passes_as_kept r)
-    where
-      by_test : (b : Bool) (d s : Forest) (any : Bool) → ((trees s ≡ []) × (any ≡ false)) ⊎ ((trees s ≢ []) × (any ≡ true))
-          → ((trees (if b then item t d s else s) ≡ []) × ((b || any) ≡ false)) ⊎ ((trees (if b then item t d s else s) ≢ []) × ((b || any) ≡ true))
-      by_test true d s any h = inr (λ e. (cc), refl)
-      by_test false d s any h = h
+  passes_as_kept (item t c r) = grind (arith, passes_as_kept r)
 
   -- a tree whose text doesn't pass, and of which no children are kept, is not kept
   not_kept : (t : Tree) → test t.text ≡ false → trees (kept_forest test t.children) ≡ [] → kept_tree test t ≡ None
@@ -59,15 +46,8 @@ module _ (test : List ℕ → Bool) where
   kept_itself t ts kids (inl own) = rw own (ap (λ f. Some (tree t.text f)) (sym (forest_of_trees (kept_forest test t.children)) ∙ ap forest kids))
   kept_itself t ts kids (inr some) = elim (passes_as_kept t.children) [
     | inl h ↦ absurd (some (sym kids ∙ h.0))
-    | inr h ↦ by_own (test t.text) (any_passes test t.children) h.1
+    | inr h ↦ grind (arith, h.1, forest_of_trees (kept_forest test t.children), kids)
   ]
-    where
-      whole : tree t.text (kept_forest test t.children) ≡ tree t.text (forest ts)
-      whole = ap (tree t.text) (sym (forest_of_trees (kept_forest test t.children)) ∙ ap forest kids)
-
-      by_own : (own any : Bool) → any ≡ true → (if own || any then Some (tree t.text (kept_forest test t.children)) else None) ≡ Some (tree t.text (forest ts))
-      by_own true any e = ap Some whole
-      by_own false any e = rw e (ap Some whole)
 
   module _ {X : Type 0} (view : X → Tree) where
     -- an element at an index is the first of those that are left

@@ -26,12 +26,8 @@ cuts_tails s i [] [] n h = refl
 cuts_tails s i [] (p ∷ ps) n h = absurd h
 cuts_tails s i (c ∷ cs) [] n h = absurd h
 cuts_tails s i (c ∷ cs) (p ∷ ps) n h = at (bytes_eq c.name n) (cuts_tails s (i + 1) cs ps n h.2) ∙ (sym (one c.tail) ∙ ap (λ q. tails_of n (q ∷ ps)) (sym h.0)) where
-  same : (b : Bool) (z : List (List (List ℕ))) → z ≡ cond b z z
-  same true z = refl
-  same false z = refl
-
   one : (o : Option (List ℕ)) → tails_of n ((c.name ∷ tail_names s o) ∷ ps) ≡ cond (bytes_eq c.name n) (map (names s) (option_to_list o) ++ tails_of n ps) (tails_of n ps)
-  one None = same (bytes_eq c.name n) (tails_of n ps)
+  one None = grind arith
   one (Some t) = tails_cons n c.name (names s t) ps (names_some s t)
 
   at : (b : Bool) → map (names s) (tails_in (named n cs)) ≡ tails_of n ps
@@ -39,23 +35,12 @@ cuts_tails s i (c ∷ cs) (p ∷ ps) n h = at (bytes_eq c.name n) (cuts_tails s 
   at true more = map-append (names s) (option_to_list c.tail) (tails_in (named n cs)) ∙ ap (λ z. map (names s) (option_to_list c.tail) ++ z) more
   at false more = more
 
--- a number more before, or after
-shift : (i : ℕ) (o : Option ℕ) → option_map (λ k. k + (i + 1)) o ≡ option_map (λ k. k + i) (option_map (λ k. k + 1) o)
-shift i None = refl
-shift i (Some k) = let e : k + (i + 1) ≡ (k + 1) + i = omega arith in ap Some e
-
 -- the first cut with a name has the number of the first path that begins with it
 pub cuts_first : (s i : ℕ) (cs : List Cut) (ps : List (List (List ℕ))) (n : List ℕ) → AreCuts s i cs ps → first_in (named n cs) ≡ option_map (λ k. k + i) (index_of n (next_names [] ps))
 cuts_first s i [] [] n h = refl
 cuts_first s i [] (p ∷ ps) n h = absurd h
 cuts_first s i (c ∷ cs) [] n h = absurd h
-cuts_first s i (c ∷ cs) (p ∷ ps) n h =
-    at (bytes_eq c.name n) (cuts_first s (i + 1) cs ps n h.2) ∙ ap (λ q. option_map (λ k. k + i) (index_of n (option_to_list (next_name [] q) ++ next_names [] ps))) (sym h.0)
-  where
-    at : (b : Bool) → first_in (named n cs) ≡ option_map (λ k. k + (i + 1)) (index_of n (next_names [] ps))
-        → first_in (cond b (c ∷ named n cs) (named n cs)) ≡ option_map (λ k. k + i) (cond b (Some 0) (option_map (λ k. k + 1) (index_of n (next_names [] ps))))
-    at true more = let e : c.index ≡ 0 + i = let own = h.1 in omega (arith, own) in ap Some e
-    at false more = more ∙ shift i (index_of n (next_names [] ps))
+cuts_first s i (c ∷ cs) (p ∷ ps) n h = grind (arith, cuts_first s (i + 1) cs ps n h.2, h.0, h.1)
 
 -- with the cut of one path more
 pub cuts_more : (s i : ℕ) (cs : List Cut) (ps : List (List (List ℕ))) (c : Cut) (p : List (List ℕ)) → AreCuts s i cs ps → p ≡ c.name ∷ tail_names s c.tail → c.index ≡ i + length cs

@@ -1,5 +1,5 @@
 -- Paths cut behind their first names.
-use Rattle.std.proofs.Common.{◌≡◌, ◌≢◌, ℕ, ◌+◌, ◌-◌, ◌<◌, ◌≤◌, cond, Option, Some, None, List, [], ◌∷◌, ◌++◌, length, get_or, take, drop, refl, sym, ap, ◌∙◌, arith, append-nil, length-drop}
+use Rattle.std.proofs.Common.{◌≡◌, ◌≢◌, ℕ, ◌+◌, ◌-◌, ◌<◌, ◌≤◌, Option, Some, None, List, [], ◌∷◌, ◌++◌, length, get_or, take, drop, refl, sym, ap, ◌∙◌, arith, append-nil, length-drop}
 use Rattle.std.proofs.lemmas.Bool.{eq-eqb, ne_eqb}
 use Rattle.std.proofs.lemmas.List.Elements.{All-head, All-tail}
 use Rattle.std.proofs.lemmas.List.{take_all, take-append-drop, get_or-drop}
@@ -8,20 +8,18 @@ use Rattle.std.specs.Borrow.{Bor}
 use Rattle.std.specs.Prelude.{All, option_map}
 use Rattle.std.specs.Str.{IsUtf8, IsCharBoundary}
 use Rattle.std.specs.Str.Pattern.{GetsRange}
-use Rattle.ptree_trees.specs.Paths.{with_first, names}
+use Rattle.ptree_trees.specs.Paths.{names}
 use Rattle.ptree_trees.specs.CutName.{tail_names}
 
 -- a path without a separator is one name
 names_one : (s : ℕ) (text : List ℕ) → All (λ b. b ≢ s) text → names s text ≡ text ∷ []
 names_one s [] h = refl
-names_one s (b ∷ t) h =
-    ap (λ c. cond c ([] ∷ names s t) (with_first b (names s t))) (ne_eqb b s (All-head (λ b. b ≢ s) b t h)) ∙ ap (with_first b) (names_one s t (All-tail (λ b. b ≢ s) b t h))
+names_one s (b ∷ t) h = rw (ne_eqb b s (All-head (λ b. b ≢ s) b t h), names_one s t (All-tail (λ b. b ≢ s) b t h))
 
 -- what is before the first separator is the first name
 names_cut : (s : ℕ) (n rest : List ℕ) → All (λ b. b ≢ s) n → names s (n ++ s ∷ rest) ≡ n ∷ names s rest
-names_cut s [] rest h = ap (λ c. cond c ([] ∷ names s rest) (with_first s (names s rest))) (eq-eqb s s refl)
-names_cut s (b ∷ n) rest h =
-    ap (λ c. cond c ([] ∷ names s (n ++ s ∷ rest)) (with_first b (names s (n ++ s ∷ rest)))) (ne_eqb b s (All-head (λ b. b ≢ s) b n h)) ∙ ap (with_first b) (names_cut s n rest (All-tail (λ b. b ≢ s) b n h))
+names_cut s [] rest h = rw (eq-eqb s s refl)
+names_cut s (b ∷ n) rest h = rw (ne_eqb b s (All-head (λ b. b ≢ s) b n h), names_cut s n rest (All-tail (λ b. b ≢ s) b n h))
 
 -- a text may be cut at its end, and before a separator
 pub cut_boundary : (s : ℕ) (path : List ℕ) (end : ℕ) → s < 128 → end ≤ length path → (end < length path → get_or path end 0 ≡ s) → IsCharBoundary path end

@@ -21,11 +21,7 @@ same_texts a b h = rw (tree_of_item a, tree_of_item b) ((bytes_eq-Decides _ _).0
 
 -- what stands at a child's position is the child
 at_child : (t : Tree) (i : ℕ) (x : Option Tree) → slice_get (tree_kids t) i ≡ x → at tree_kids t (i ∷ []) ≡ x
-at_child t i x e = as_it_is (slice_get (tree_kids t) i) ∙ e
-  where
-    as_it_is : (o : Option Tree) → option_and_then (λ c. Some c) o ≡ o
-    as_it_is None = refl
-    as_it_is (Some c) = refl
+at_child t i x e = grind (arith, e)
 
 -- what stands below a child's position is what stands below the child
 at_below : (t c : Tree) (i : ℕ) (a : Address) → slice_get (tree_kids t) i ≡ Some c → at tree_kids t (i ∷ a) ≡ at tree_kids c a
@@ -77,10 +73,8 @@ same_to_next t u c d i s p q e = record {
 -- lists that end at n, and are the same before, are the same
 same_lists : {X : Type 0} (xs ys : List X) (n : ℕ) → ((i : ℕ) → i < n → slice_get xs i ≡ slice_get ys i) → slice_get xs n ≡ None → slice_get ys n ≡ None → xs ≡ ys
 same_lists [] [] n f p q = refl
-same_lists [] (y ∷ ys) zero f p q = absurd (cc)
-same_lists [] (y ∷ ys) (suc n) f p q = let e = f 0 (omega arith) in absurd (cc)
-same_lists (x ∷ xs) [] zero f p q = absurd (cc)
-same_lists (x ∷ xs) [] (suc n) f p q = let e = f 0 (omega arith) in absurd (cc)
+same_lists [] (y ∷ ys) n f p q = grind (arith, f 0)
+same_lists (x ∷ xs) [] n f p q = grind (arith, f 0)
 same_lists (x ∷ xs) (y ∷ ys) zero f p q = absurd (cc)
 same_lists (x ∷ xs) (y ∷ ys) (suc n) f p q =
     let e = f 0 (omega arith) in

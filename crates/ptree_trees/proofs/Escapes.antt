@@ -3,7 +3,7 @@ use Rattle.std.specs.Char.{digit_char}
 use Rattle.std.specs.Prelude.{All, ◌/◌, ◌%◌, ◌||◌, unwrap_or, option_map, ◌↔◌}
 use Rattle.std.specs.List.{list_any}
 use Rattle.std.specs.Str.{NonePass, NoCharPasses, chars, encode_utf8_all}
-use Rattle.std.proofs.Common.{◌≡◌, ◌≢◌, ◌⊎◌, ℕ, ◌+◌, ◌<◌, ◌≤◌, ◌++◌, Bool, true, false, cond, eqb, List, [], ◌∷◌, length, length-append, get_or, Option, Some, None, flat_map, IsUtf8, inl, inr, refl, sym, ap, ◌∙◌, subst, arith}
+use Rattle.std.proofs.Common.{◌≡◌, ◌≢◌, ◌⊎◌, ℕ, ◌<◌, ◌≤◌, ◌++◌, Bool, true, false, cond, eqb, List, [], ◌∷◌, length, length-append, get_or, Option, Some, None, flat_map, IsUtf8, inl, inr, refl, sym, ap, ◌∙◌, subst, arith}
 use Rattle.std.proofs.lemmas.Bool.{false≢true, cases_lt}
 use Rattle.std.proofs.lemmas.Bool.Decides.{nat_tests}
 use Rattle.std.proofs.lemmas.List.Elements.{All-from_get_or}
@@ -119,14 +119,7 @@ same_char c d r t e = by_forms (forms c) (forms d) where
 
 -- a form is not empty
 form_some : (c : ℕ) (r : List ℕ) → escape_char c ++ r ≢ []
-form_some c r e = by_form (forms c) where
-  at : (xs : List ℕ) → escape_char c ≡ xs → xs ++ r ≡ []
-  at xs a = ap (λ z. z ++ r) (sym a) ∙ e
-
-  by_form : IsPlain c ⊎ ((l : ℕ) × HasLetter c l) ⊎ HasDigits c → ⊥
-  by_form (inl p) = let h = at _ p.form in absurd (cc)
-  by_form (inr (inl (l, p))) = let h = at _ p.form in absurd (cc)
-  by_form (inr (inr p)) = let h = at _ p.form in absurd (cc)
+form_some c r e = grind (arith, forms c)
 
 -- ## Texts
 
@@ -194,48 +187,26 @@ plain_same c h e = ap (λ b. eqb c 92 || b) e ∙ grind (arith, nat_tests)
 
 -- a form is at least as long as its character, and longer if it is changed
 form_long : (c : ℕ) → (1 ≤ length (escape_char c)) × (is_escaped c ≡ true → 2 ≤ length (escape_char c))
-form_long c = by_form (forms c) where
-  long : (xs : List ℕ) → escape_char c ≡ xs → length (escape_char c) ≡ length xs
-  long xs a = ap length a
-
-  by_form : IsPlain c ⊎ ((l : ℕ) × HasLetter c l) ⊎ HasDigits c → (1 ≤ length (escape_char c)) × (is_escaped c ≡ true → 2 ≤ length (escape_char c))
-  by_form (inl p) = let h = ap length p.form in (omega (arith, h), λ e. absurd (false≢true (sym (plain_same c p.other p.shown) ∙ e)))
-  by_form (inr (inl (l, p))) = let h = ap length p.form in (omega (arith, h), λ e. omega (arith, h))
-  by_form (inr (inr p)) = let h = ap length p.form in (omega (arith, h), λ e. omega (arith, h))
+form_long c = grind (arith, forms c, plain_same c)
 
 -- characters of which none is changed
 all_same : (cs : List ℕ) → list_any is_escaped cs ≡ false → flat_map escape_char cs ≡ cs
 all_same [] e = refl
-all_same (c ∷ cs) e = by_test (is_escaped c) refl e (all_same cs) where
-  by_test : (b : Bool) → is_escaped c ≡ b → (b || list_any is_escaped cs) ≡ false → (list_any is_escaped cs ≡ false → flat_map escape_char cs ≡ cs) → flat_map escape_char (c ∷ cs) ≡ c ∷ cs
-  by_test true k h rest = absurd (false≢true (sym h))
-  by_test false k h rest = let u = unchanged c k in ap (λ z. z ++ flat_map escape_char cs) (form_is c None false u.0 u.1) ∙ ap (λ z. c ∷ z) (rest h)
+all_same (c ∷ cs) e = grind (arith, all_same cs, unchanged c, form_is c None false)
 
 -- the length of escaped characters
 all_long : (cs : List ℕ) → (length cs ≤ length (flat_map escape_char cs)) × (list_any is_escaped cs ≡ true → length cs < length (flat_map escape_char cs))
 all_long [] = (omega arith, λ e. absurd (false≢true e))
-all_long (c ∷ cs) = let more = all_long cs in let one = form_long c in (omega (arith, sum, one.0, more.0), λ e. by_test (is_escaped c) refl e more) where
-  sum : length (flat_map escape_char (c ∷ cs)) ≡ length (escape_char c) + length (flat_map escape_char cs)
-  sum = length-append (escape_char c) (flat_map escape_char cs)
-
-  by_test : (b : Bool) → is_escaped c ≡ b → (b || list_any is_escaped cs) ≡ true
-      → (length cs ≤ length (flat_map escape_char cs)) × (list_any is_escaped cs ≡ true → length cs < length (flat_map escape_char cs)) → length (c ∷ cs) < length (flat_map escape_char (c ∷ cs))
-  by_test true k h more = let one = form_long c in omega (arith, sum, one.1 k, more.0)
-  by_test false k h more = let one = form_long c in omega (arith, sum, one.0, more.1 h)
+all_long (c ∷ cs) = grind (arith, length-append (escape_char c) (flat_map escape_char cs), all_long cs, form_long c)
 
 -- a text has no escape exactly if escaping leaves it as it is
 pub same_if : (text : List ℕ) (r : Bool) → IsUtf8 text → r ≡ list_any is_escaped (chars text) → (r ≡ false) ↔ (escaped_text text ≡ text)
 same_if text r u is = (
   λ h. ap encode_utf8_all (all_same (chars text) (sym is ∙ h)) ∙ encodes-chars text u,
-  λ same. by_test (list_any is_escaped (chars text)) is same,
+  λ same.
+      let cs : flat_map escape_char (chars text) ≡ chars text = encodes_same _ _ (same ∙ sym (encodes-chars text u)) in
+      grind (arith, is, (all_long (chars text)).1, ap length cs),
 )
-  where
-    by_test : (b : Bool) → r ≡ b → escaped_text text ≡ text → r ≡ false
-    by_test false k same = k
-    by_test true k same =
-        let cs : flat_map escape_char (chars text) ≡ chars text = encodes_same _ _ (same ∙ sym (encodes-chars text u)) in
-        let long = (all_long (chars text)).1 (sym is ∙ k) in
-        absurd (omega (arith, long, ap length cs))
 
 -- ## The loop
 

@@ -32,12 +32,10 @@ digits_blankless [] h = refl
 digits_blankless (d ∷ ds) h = let rest = digits_blankless ds h.1 in grind (arith, h.0, rest, nat_tests)
 
 sign_blankless : (b : Bool) → HasNoBlank (sign_text b)
-sign_blankless true = refl
-sign_blankless false = refl
+sign_blankless b = grind arith
 
 point_blankless : (b : Bool) (ds : List ℕ) → HasNoBlank ds → HasNoBlank (if b then 46 ∷ ds else [])
-point_blankless true ds h = h
-point_blankless false ds h = refl
+point_blankless b ds h = grind arith
 
 exponent_blankless : (b : Bool) (ds : List ℕ) → HasNoBlank ds → HasNoBlank (exponent_text b ds)
 exponent_blankless b [] h = refl
@@ -51,9 +49,7 @@ numeral_blankless b p h =
 
 finite_or_name : {A : Type 0} (finite nan below : Bool) (text : List ℕ) → MatchBool finite A (text ≡ (if nan then codes "nan" else if below then codes "-inf" else codes "inf")) → (A → HasNoBlank text) → HasNoBlank text
 finite_or_name true nan below text h numeral = numeral h
-finite_or_name false true below text h numeral = subst HasNoBlank (sym h) refl
-finite_or_name false false true text h numeral = subst HasNoBlank (sym h) refl
-finite_or_name false false false text h numeral = subst HasNoBlank (sym h) refl
+finite_or_name false nan below text h numeral = grind (arith, h)
 
 -- the text of a TOML float has none
 pub toml_float : (x : Float) (text : List ℕ) → IsValueText false (toml.float x) text → HasNoBlank text

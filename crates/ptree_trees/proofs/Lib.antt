@@ -7,6 +7,7 @@ pub mod Escapes
 pub mod FloatTexts
 pub mod GroupResults
 pub mod GroupSteps
+mod ItemDifferences
 pub mod IndentedLines
 pub mod IndentedReading
 pub mod IndentedResults

@@ -95,11 +95,11 @@ front_same (suc k) (x ∷ xs) (y ∷ ys) a b h l few =
 
 -- a lesser key is that of a lesser name
 pub key_less : (xs ys : List ℕ) → AreBytes xs → AreBytes ys → name_key xs < name_key ys → slice_cmp nat_cmp xs ys ≡ Less
-key_less xs ys a b h = at (cases_order (front_number 7 xs) (front_number 7 ys)) where
-  at : (front_number 7 xs ≡ front_number 7 ys) ⊎ ((front_number 7 xs < front_number 7 ys) ⊎ (front_number 7 ys < front_number 7 xs)) → slice_cmp nat_cmp xs ys ≡ Less
-  at (inl same) = front_shorter 7 xs ys a b same (omega (arith, h, same))
-  at (inr (inl below)) = front_less 7 xs ys a b below
-  at (inr (inr above)) = absurd (omega (arith, h, above))
+key_less xs ys a b h = elim (cases_order (front_number 7 xs) (front_number 7 ys)) [
+  | inl same ↦ front_shorter 7 xs ys a b same (omega (arith, h, same))
+  | inr (inl below) ↦ front_less 7 xs ys a b below
+  | inr (inr above) ↦ absurd (omega (arith, h, above))
+]
 
 -- names with one key that are no longer than it says are the same
 pub key_same : (xs ys : List ℕ) → AreBytes xs → AreBytes ys → name_key xs ≡ name_key ys → name_key xs % 256 < 8 → slice_cmp nat_cmp xs ys ≡ Equal

@@ -2,13 +2,11 @@
 use Rattle.std.specs.Cmp.Lexicographic.{slice_cmp}
 use Rattle.std.specs.List.{AllByRecursion, sum_by}
 use Rattle.std.specs.List.Sorted.{IsPermutation, IsNonDecreasingBy, IsStrictlySortedBy}
-use Rattle.std.specs.Ordering.{nat_cmp, is_eq}
+use Rattle.std.specs.Ordering.{nat_cmp}
 use Rattle.std.specs.Prelude.{◌||◌, ◌&&◌, not, option_map, ⊤}
 use Rattle.std.specs.Str.{bytes_eq}
 use Rattle.std.specs.declared.cmp.Ordering.TheVariants.{Less}
-use Rattle.std.proofs.Common.{◌≡◌, ℕ, suc, ◌+◌, ◌<◌, ◌≤◌, Bool, true, false, cond, Option, Some, None, List, [], ◌∷◌, ◌++◌, refl, sym, ap, ◌∙◌, subst, append-nil, append_assoc, arith}
-use Rattle.std.proofs.Math.Bool.{or-true, or-false}
-use Rattle.std.proofs.lemmas.Bool.{false≢true}
+use Rattle.std.proofs.Common.{◌≡◌, ℕ, suc, ◌+◌, ◌<◌, ◌≤◌, Bool, true, false, cond, Some, List, [], ◌∷◌, ◌++◌, refl, sym, ap, ◌∙◌, append-nil, append_assoc, arith}
 use Rattle.std.proofs.lemmas.List.Elements.{All-from_recursion, recursion_from_All}
 use Rattle.std.proofs.lemmas.List.Sorted.{All-permutation, sum_by-IsPermutation}
 use Rattle.std.proofs.lemmas.List.Sums.{sum_by-cons}
@@ -27,35 +25,21 @@ count_more : (n : List ℕ) (g : PathGroup) (gs : List PathGroup) → count_name
 count_more n g gs = sum_by-cons (λ g. cond (bytes_eq g.name n) 1 0) g gs
 
 -- two names are the same either way round
-same_flip : (a b : List ℕ) → bytes_eq a b ≡ bytes_eq b a
-same_flip a b = at (bytes_eq a b) (bytes_eq b a) refl refl where
-  at : (p q : Bool) → bytes_eq a b ≡ p → bytes_eq b a ≡ q → bytes_eq a b ≡ bytes_eq b a
-  at true q e f = e ∙ sym ((bytes_eq-Decides b a).1 (sym ((bytes_eq-Decides a b).0 e)))
-  at false true e f = (bytes_eq-Decides a b).1 (sym ((bytes_eq-Decides b a).0 f)) ∙ sym f
-  at false false e f = e ∙ sym f
+pub same_flip : (a b : List ℕ) → bytes_eq a b ≡ bytes_eq b a
+same_flip a b = grind (arith, bytes_eq-Decides a b, bytes_eq-Decides b a)
 
 -- ## Names that ascend
 
 -- a name is not among those above it
 above_absent : (m : List ℕ) (ms : List (List ℕ)) (n : List ℕ) → AllByRecursion (λ y. slice_cmp nat_cmp m y ≡ Less) ms → bytes_eq m n ≡ true → has_name ms n ≡ false
 above_absent m [] n h e = refl
-above_absent m (k ∷ ms) n h e = at (bytes_eq k n) refl (above_absent m ms n h.1 e) where
-  at : (b : Bool) → bytes_eq k n ≡ b → has_name ms n ≡ false → (b || has_name ms n) ≡ false
-  at true f more =
-      let same : bytes_eq m k ≡ true = (bytes_eq-Decides m k).1 ((bytes_eq-Decides m n).0 e ∙ sym ((bytes_eq-Decides k n).0 f)) in
-      absurd (false≢true (ap (λ o. is_eq o) (sym h.0) ∙ (is_eq-slice_cmp m k ∙ same)))
-  at false f more = more
+above_absent m (k ∷ ms) n h e = grind (arith, above_absent m ms n h.1 e, bytes_eq-Decides m k, bytes_eq-Decides m n, bytes_eq-Decides k n, is_eq-slice_cmp m k, h.0)
 
 -- in strictly ascending names each stands once
 pub ascending_once : (gs : List PathGroup) (n : List ℕ) → IsStrictlySortedBy (slice_cmp nat_cmp) (group_names gs) → count_named n gs ≡ cond (has_name (group_names gs) n) 1 0
 unfolding IsStrictlySortedBy
 ascending_once [] n h = refl
-ascending_once (g ∷ gs) n h = count_more n g gs ∙ at (bytes_eq g.name n) refl (ascending_once gs n h.1) where
-  at : (b : Bool) → bytes_eq g.name n ≡ b → count_named n gs ≡ cond (has_name (group_names gs) n) 1 0 → cond b 1 0 + count_named n gs ≡ cond (b || has_name (group_names gs) n) 1 0
-  at true e more =
-      let none : count_named n gs ≡ 0 = more ∙ ap (λ b. cond b 1 0) (above_absent g.name (group_names gs) n h.0 e) in
-      omega (arith, none)
-  at false e more = omega (arith, more)
+ascending_once (g ∷ gs) n h = count_more n g gs ∙ grind (arith, ascending_once gs n h.1, above_absent g.name (group_names gs) n h.0)
 
 -- ## Names in the order of their first places
 
@@ -78,36 +62,25 @@ IsPlaced k ns g = Some g.first ≡ option_map (λ i. i + k) (index_of g.name ns)
 
 -- a group of another name is placed among the names behind the first
 placed_behind : (k : ℕ) (n : List ℕ) (ns : List (List ℕ)) (g : PathGroup) → bytes_eq n g.name ≡ false → IsPlaced k (n ∷ ns) g → IsPlaced (k + 1) ns g
-placed_behind k n ns g other h = at (index_of g.name ns) (h ∙ ap (λ b. option_map (λ i. i + k) (cond b (Some 0) (option_map (λ i. i + 1) (index_of g.name ns)))) other) where
-  at : (o : Option ℕ) → Some g.first ≡ option_map (λ i. i + k) (option_map (λ i. i + 1) o) → Some g.first ≡ option_map (λ i. i + (k + 1)) o
-  at None e = e
-  at (Some i) e = e ∙ ap Some (omega arith)
+placed_behind k n ns g other h = grind arith
 
 -- so it comes later than the first
 placed_later : (k : ℕ) (ns : List (List ℕ)) (g : PathGroup) → IsPlaced (k + 1) ns g → k < g.first
-placed_later k ns g h = at (index_of g.name ns) h where
-  at : (o : Option ℕ) → Some g.first ≡ option_map (λ i. i + (k + 1)) o → k < g.first
-  at None e = absurd (cc)
-  at (Some i) e = let is : g.first ≡ i + (k + 1) = cc in omega (arith, is)
+placed_later k ns g h = grind arith
 
 -- groups of which none has the first name are placed among the names behind it
 all_behind : (k : ℕ) (n : List ℕ) (ns : List (List ℕ)) (gs : List PathGroup) → count_named n gs ≡ 0 → AllByRecursion (IsPlaced k (n ∷ ns)) gs → AllByRecursion (IsPlaced (k + 1) ns) gs
 all_behind k n ns [] none h = tt
-all_behind k n ns (g ∷ gs) none h = at (bytes_eq g.name n) refl (sym (count_more n g gs) ∙ none) (λ c. all_behind k n ns gs c h.1) where
-  at : (b : Bool) → bytes_eq g.name n ≡ b → cond b 1 0 + count_named n gs ≡ 0 → (count_named n gs ≡ 0 → AllByRecursion (IsPlaced (k + 1) ns) gs) → AllByRecursion (IsPlaced (k + 1) ns) (g ∷ gs)
-  at true e c more = absurd (omega (arith, c))
-  at false e c more = (placed_behind k n ns g (same_flip n g.name ∙ e) h.0, more (omega (arith, c)))
+all_behind k n ns (g ∷ gs) none h =
+    let more = count_more n g gs in
+    (placed_behind k n ns g (grind (arith, more, same_flip n g.name)) h.0, all_behind k n ns gs (omega (arith, more)) h.1)
 
 -- the group of the first name is at its place, so what is not above any group is not above this place
 first_least : (k : ℕ) (n : List ℕ) (ns : List (List ℕ)) (f : ℕ) (gs : List PathGroup) → count_named n gs ≡ 1 → AllByRecursion (IsPlaced k (n ∷ ns)) gs → AllByRecursion (λ h. f ≤ h.first) gs → f ≤ k
 first_least k n ns f [] one h low = absurd (omega (arith, one))
-first_least k n ns f (g ∷ gs) one h low = at (bytes_eq g.name n) refl (sym (count_more n g gs) ∙ one) (λ c. first_least k n ns f gs c h.1 low.1) where
-  at : (b : Bool) → bytes_eq g.name n ≡ b → cond b 1 0 + count_named n gs ≡ 1 → (count_named n gs ≡ 1 → f ≤ k) → f ≤ k
-  at true e c more =
-      let here : Some g.first ≡ Some (0 + k) = h.0 ∙ ap (λ b. option_map (λ i. i + k) (cond b (Some 0) (option_map (λ i. i + 1) (index_of g.name ns)))) (same_flip n g.name ∙ e) in
-      let is : g.first ≡ 0 + k = cc in
-      omega (arith, is, low.0)
-  at false e c more = more (omega (arith, c))
+first_least k n ns f (g ∷ gs) one h low =
+    let more : count_named n gs ≡ 1 → f ≤ k = λ c. first_least k n ns f gs c h.1 low.1 in
+    grind (arith, count_more n g gs, more, h.0, low.0, same_flip n g.name)
 
 -- one for what is new and was not before
 abbrev new_one : Bool → Bool → ℕ
@@ -115,9 +88,7 @@ new_one new old = cond (new && not old) 1 0
 
 -- there is none of what was before
 none_old : (new old : Bool) → old ≡ true → new_one new old ≡ 0
-none_old true true e = refl
-none_old false true e = refl
-none_old new false e = absurd (false≢true e)
+none_old new old e = grind arith
 
 -- one group for each of the names that is not among those before
 abbrev OnceNew : List (List ℕ) → List (List ℕ) → List PathGroup → Type 0
@@ -125,12 +96,7 @@ OnceNew ms ns gs = (n : List ℕ) → count_named n gs ≡ new_one (has_name ns 
 
 -- the same behind a name that was among those before
 once_old : (ms : List (List ℕ)) (n : List ℕ) (ns : List (List ℕ)) (gs : List PathGroup) → has_name ms n ≡ true → OnceNew ms (n ∷ ns) gs → OnceNew ms ns gs
-once_old ms n ns gs old h m = at (bytes_eq n m) refl (h m) where
-  at : (b : Bool) → bytes_eq n m ≡ b → count_named m gs ≡ new_one (b || has_name ns m) (has_name ms m) → count_named m gs ≡ new_one (has_name ns m) (has_name ms m)
-  at true e c =
-      let there : has_name ms m ≡ true = subst (λ z. has_name ms z ≡ true) ((bytes_eq-Decides n m).0 e) old in
-      c ∙ (none_old true (has_name ms m) there ∙ sym (none_old (has_name ns m) (has_name ms m) there))
-  at false e c = c
+once_old ms n ns gs old h m = grind (arith, h m, (bytes_eq-Decides n m).0)
 
 -- the first name, if it is new, has one group
 once_first : (ms : List (List ℕ)) (n : List ℕ) (ns : List (List ℕ)) (gs : List PathGroup) → has_name ms n ≡ false → OnceNew ms (n ∷ ns) gs → count_named n gs ≡ 1
@@ -138,26 +104,15 @@ once_first ms n ns gs new h = h n ∙ (ap (λ b. new_one (b || has_name ns n) (h
 
 -- and the other groups are those of the other names
 once_new : (ms : List (List ℕ)) (n : List ℕ) (ns : List (List ℕ)) (g : PathGroup) (gs : List PathGroup) → g.name ≡ n → count_named n gs ≡ 0 → OnceNew ms (n ∷ ns) (g ∷ gs) → OnceNew (ms ++ n ∷ []) ns gs
-once_new ms n ns g gs same none h m = at (bytes_eq n m) refl (sym (count_more m g gs) ∙ h m) ∙ ap (new_one (has_name ns m)) (sym (has_push ms n m)) where
-  at : (b : Bool) → bytes_eq n m ≡ b → cond (bytes_eq g.name m) 1 0 + count_named m gs ≡ new_one (bytes_eq n m || has_name ns m) (has_name ms m) → count_named m gs ≡ new_one (has_name ns m) (has_name ms m || bytes_eq n m)
-  at true e c =
-      let found : (has_name ms m || bytes_eq n m) ≡ true = ap (λ b. has_name ms m || b) e ∙ or-true (has_name ms m) in
-      subst (λ z. count_named z gs ≡ 0) ((bytes_eq-Decides n m).0 e) none ∙ sym (none_old (has_name ns m) (has_name ms m || bytes_eq n m) found)
-  at false e c =
-      let apart : bytes_eq g.name m ≡ false = ap (λ z. bytes_eq z m) same ∙ e in
-      let rest : count_named m gs ≡ cond (bytes_eq g.name m) 1 0 + count_named m gs = rw apart (omega arith) in
-      rest ∙ (c ∙ (ap (λ b. new_one (b || has_name ns m) (has_name ms m)) e ∙ ap (new_one (has_name ns m)) (sym (or-false (has_name ms m)) ∙ ap (λ b. has_name ms m || b) (sym e))))
+once_new ms n ns g gs same none h m = grind (arith, count_more m g gs, h m, has_push ms n m, (bytes_eq-Decides n m).0, same, none)
 
 -- a group that is placed, and not behind that of the first name, is that one
 first_is : (k : ℕ) (n : List ℕ) (ns : List (List ℕ)) (g : PathGroup) (gs : List PathGroup) → count_named n (g ∷ gs) ≡ 1 → AllByRecursion (IsPlaced k (n ∷ ns)) (g ∷ gs) → Rising (g ∷ gs)
     → (g.name ≡ n) × (count_named n gs ≡ 0)
-first_is k n ns g gs one h low = at (bytes_eq g.name n) refl (sym (count_more n g gs) ∙ one) where
-  at : (b : Bool) → bytes_eq g.name n ≡ b → cond b 1 0 + count_named n gs ≡ 1 → (g.name ≡ n) × (count_named n gs ≡ 0)
-  at true e c = ((bytes_eq-Decides g.name n).0 e, omega (arith, c))
-  at false e c =
-      let least = first_least k n ns g.first gs (omega (arith, c)) h.1 low.0 in
-      let later = placed_later k ns g (placed_behind k n ns g (same_flip n g.name ∙ e) h.0) in
-      absurd (omega (arith, least, later))
+first_is k n ns g gs one h low =
+    let least : count_named n gs ≡ 1 → g.first ≤ k = λ c. first_least k n ns g.first gs c h.1 low.0 in
+    let later : bytes_eq g.name n ≡ false → k < g.first = λ e. placed_later k ns g (placed_behind k n ns g (same_flip n g.name ∙ e) h.0) in
+    grind (arith, count_more n g gs, (bytes_eq-Decides g.name n).0, least, later)
 
 -- behind names that were before, groups of each other name, in the order of their first places, are
 -- in the order of these names
@@ -179,9 +134,7 @@ in_order_behind [] ms k [] once h low = append-nil ms
 in_order_behind [] ms k (g ∷ gs) once h low = let none = h.0 in absurd (cc)
 in_order_behind (n ∷ ns) ms k gs once h low = at (has_name ms n) refl (in_order_behind ns) where
   at : (b : Bool) → has_name ms n ≡ b → AreInOrder ns → ms ++ group_names gs ≡ with_names (cond b ms (ms ++ n ∷ [])) ns
-  at true e more =
-      let none : count_named n gs ≡ 0 = once n ∙ none_old (bytes_eq n n || has_name ns n) (has_name ms n) e in
-      more ms (k + 1) gs (once_old ms n ns gs e once) (all_behind k n ns gs none h) low
+  at true e more = more ms (k + 1) gs (once_old ms n ns gs e once) (all_behind k n ns gs (once n ∙ none_old (bytes_eq n n || has_name ns n) (has_name ms n) e) h) low
   at false e more = in_order_new n ns ms k gs more e once h low
 
 -- names that stand once each, in the order of their first places, are the names in the order in which
@@ -189,18 +142,10 @@ in_order_behind (n ∷ ns) ms k gs once h low = at (has_name ms n) refl (in_orde
 pub in_order_of_first : (gs : List PathGroup) (ns : List (List ℕ)) → ((n : List ℕ) → count_named n gs ≡ cond (has_name ns n) 1 0) → AllByRecursion (λ g. Some g.first ≡ index_of g.name ns) gs
     → IsNonDecreasingBy (λ g. g.first) gs
     → group_names gs ≡ with_names [] ns
-in_order_of_first gs ns once h low = in_order_behind ns [] 0 gs (λ n. once n ∙ ap (λ b. cond b 1 0) (new (has_name ns n))) (placed gs h) (rising gs low) where
-  new : (b : Bool) → b ≡ (b && true)
-  new true = refl
-  new false = refl
-
-  same : (o : Option ℕ) → o ≡ option_map (λ i. i + 0) o
-  same None = refl
-  same (Some i) = ap Some (omega arith)
-
+in_order_of_first gs ns once h low = in_order_behind ns [] 0 gs (λ n. grind (arith, once n)) (placed gs h) (rising gs low) where
   placed : (gs : List PathGroup) → AllByRecursion (λ g. Some g.first ≡ index_of g.name ns) gs → AllByRecursion (IsPlaced 0 ns) gs
   placed [] h = tt
-  placed (g ∷ gs) h = (h.0 ∙ same (index_of g.name ns), placed gs h.1)
+  placed (g ∷ gs) h = (grind (arith, h.0), placed gs h.1)
 
 -- groups with ascending names, in the order of their first places, have the names in the order in
 -- which they come first

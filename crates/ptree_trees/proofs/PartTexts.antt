@@ -2,7 +2,7 @@
 use Rattle.std.specs.Cmp.{both_ways}
 use Rattle.std.specs.Prelude.{◌↔◌}
 use Rattle.std.specs.Str.Iter.{HasSubslice}
-use Rattle.std.proofs.Common.{◌≡◌, ◌∙◌, ℕ, Bool, true, false, List, [], ◌∷◌, ◌++◌, ◌||◌, ap, sym, refl, subst, eqb-true, eq-eqb}
+use Rattle.std.proofs.Common.{◌≡◌, ◌∙◌, ℕ, Bool, true, false, List, [], ◌∷◌, ◌++◌, ◌||◌, ap, sym, refl, subst, eqb-true, eq-eqb, arith}
 use Rattle.std.proofs.lemmas.Bool.{and_parts, and_from}
 use Rattle.ptree_trees.specs.Parts.{begins_with, has_part}
 
@@ -36,11 +36,7 @@ had part [] rest = at_begin (part ++ rest) (begun part rest)
     at_begin : (text : List ℕ) → begins_with part text ≡ true → has_part part text ≡ true
     at_begin [] h = h
     at_begin (c ∷ text) h = rw h refl
-had part (c ∷ before) rest = by_begin (begins_with part (c ∷ (before ++ (part ++ rest)))) (had part before rest)
-  where
-    by_begin : (b : Bool) → has_part part (before ++ (part ++ rest)) ≡ true → (b || has_part part (before ++ (part ++ rest))) ≡ true
-    by_begin true h = refl
-    by_begin false h = h
+had part (c ∷ before) rest = grind (arith, had part before rest)
 
 -- what says whether a part stands in a text that is shown is the test of the text
 pub part_test : (part text shown : List ℕ) (r : Bool) → shown ≡ text → (r ≡ true) ↔ HasSubslice shown part → r ≡ has_part part text

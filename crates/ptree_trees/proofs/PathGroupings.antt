@@ -3,18 +3,19 @@ use Rattle.std.specs.Cmp.Lexicographic.{slice_cmp}
 use Rattle.std.specs.List.{AllByRecursion}
 use Rattle.std.specs.List.Sorted.{IsStrictlySortedBy}
 use Rattle.std.specs.Option.{option_to_list}
-use Rattle.std.specs.Ordering.{nat_cmp, is_lt, is_eq, ordering_reverse}
+use Rattle.std.specs.Ordering.{nat_cmp, is_lt, is_eq}
 use Rattle.std.specs.Prelude.{is_some, ◌||◌}
 use Rattle.std.specs.Str.{bytes_eq}
-use Rattle.std.specs.declared.cmp.Ordering.TheVariants.{Less, Equal, Greater}
-use Rattle.std.proofs.Common.{◌≡◌, ℕ, Bool, true, false, cond, Ordering, Some, List, [], ◌∷◌, ◌++◌, map, refl, sym, ap, ◌∙◌, subst, append-nil, append_assoc}
+use Rattle.std.specs.declared.cmp.Ordering.TheVariants.{Less}
+use Rattle.std.proofs.Common.{◌≡◌, ℕ, true, false, cond, Some, List, [], ◌∷◌, ◌++◌, map, refl, sym, ap, ◌∙◌, subst, append-nil, append_assoc, arith}
 use Rattle.std.proofs.Math.Bool.{or-true}
-use Rattle.std.proofs.lemmas.Bool.{false≢true, false_from_ne_true, or_from}
+use Rattle.std.proofs.lemmas.Bool.{false≢true, or_from}
 use Rattle.std.proofs.lemmas.Cmp.{nat_list_cmp_total}
 use Rattle.std.proofs.lemmas.List.{map-append}
 use Rattle.std.proofs.lemmas.List.Elements.{filter-append}
 use Rattle.std.proofs.lemmas.Map.Text.{is_eq-slice_cmp}
 use Rattle.std.proofs.lemmas.Slice.Eq.{bytes_eq-Decides}
+use Rattle.ptree_trees.proofs.NameOrders.{same_flip}
 use Rattle.ptree_trees.proofs.PathTrees.{has_push}
 use Rattle.ptree_trees.specs.Paths.{has_name}
 use Rattle.ptree_trees.specs.PathGroups.{Cut, named, tails_in, first_in, PathGroup, group_from, with_tail, group_names, IsGrouping, NoneAbove}
@@ -24,10 +25,6 @@ use Rattle.ptree_trees.specs.PathGroups.{Cut, named, tails_in, first_in, PathGro
 -- the names of cut paths
 abbrev cut_names : List Cut → List (List ℕ)
 cut_names cs = map (λ c. c.name) cs
-
--- a name is itself
-same : (n : List ℕ) → bytes_eq n n ≡ true
-same n = (bytes_eq-Decides n n).1 refl
 
 -- a name among those of groups with one more
 has_group : (gs : List PathGroup) (g : PathGroup) (n : List ℕ) → has_name (group_names (gs ++ g ∷ [])) n ≡ (has_name (group_names gs) n || bytes_eq g.name n)
@@ -45,24 +42,16 @@ less_apart a b e = sym (is_eq-slice_cmp a b) ∙ ap is_eq e
 
 -- and so the other way round
 apart_flip : (a b : List ℕ) → bytes_eq a b ≡ false → bytes_eq b a ≡ false
-apart_flip a b e = false_from_ne_true (bytes_eq b a) (λ k. false≢true (sym e ∙ (bytes_eq-Decides a b).1 (sym ((bytes_eq-Decides b a).0 k))))
+apart_flip a b e = same_flip b a ∙ e
 
 -- a name that is not above another, and not the same, is less
 less_if : (a b : List ℕ) → is_lt (slice_cmp nat_cmp b a) ≡ false → (a ≡ b → ⊥) → slice_cmp nat_cmp a b ≡ Less
-less_if a b up other = by_order (slice_cmp nat_cmp b a) up refl where
-  by_order : (r : Ordering) → is_lt r ≡ false → slice_cmp nat_cmp b a ≡ r → slice_cmp nat_cmp a b ≡ Less
-  by_order Less h e = absurd (false≢true (sym h))
-  by_order Equal h e = absurd (other (sym ((bytes_eq-Decides b a).0 (sym (is_eq-slice_cmp b a) ∙ ap is_eq e))))
-  by_order Greater h e = nat_list_cmp_total.antisymm a b ∙ ap ordering_reverse e
+less_if a b up other = grind (arith, (bytes_eq-Decides b a).0, is_eq-slice_cmp b a, nat_list_cmp_total.antisymm a b)
 
 -- no name of the paths is above
 not_above : (cs : List Cut) (n m : List ℕ) → NoneAbove cs n → has_name (cut_names cs) m ≡ true → is_lt (slice_cmp nat_cmp n m) ≡ false
 not_above [] n m h k = absurd (false≢true k)
-not_above (c ∷ cs) n m h k = at (bytes_eq c.name m) refl k (λ l. not_above cs n m h.1 l) where
-  at : (b : Bool) → bytes_eq c.name m ≡ b → (b || has_name (cut_names cs) m) ≡ true → (has_name (cut_names cs) m ≡ true → is_lt (slice_cmp nat_cmp n m) ≡ false)
-      → is_lt (slice_cmp nat_cmp n m) ≡ false
-  at true e k more = subst (λ z. is_lt (slice_cmp nat_cmp n z) ≡ false) ((bytes_eq-Decides c.name m).0 e) h.0
-  at false e k more = more k
+not_above (c ∷ cs) n m h k = grind (arith, (bytes_eq-Decides c.name m).0, h.0, not_above cs n m h.1)
 
 -- the names of these groups are less than this one
 abbrev AllLess : List PathGroup → List ℕ → Type 0
@@ -115,17 +104,11 @@ named_other n cs c e = filter-append (λ d. bytes_eq d.name n) cs (c ∷ []) ∙
 -- whether there is a path of a name
 has_named : (n : List ℕ) (cs : List Cut) → has_name (cut_names cs) n ≡ is_some (first_in (named n cs))
 has_named n [] = refl
-has_named n (c ∷ cs) = at (bytes_eq c.name n) (has_named n cs) where
-  at : (b : Bool) → has_name (cut_names cs) n ≡ is_some (first_in (named n cs)) → (b || has_name (cut_names cs) n) ≡ is_some (first_in (cond b (c ∷ named n cs) (named n cs)))
-  at true e = refl
-  at false e = e
+has_named n (c ∷ cs) = grind (arith, has_named n cs)
 
 -- if there is none, these are none
 named_none : (n : List ℕ) (cs : List Cut) → has_name (cut_names cs) n ≡ false → named n cs ≡ []
-named_none n cs h = empty (named n cs) (sym (has_named n cs) ∙ h) where
-  empty : (ds : List Cut) → is_some (first_in ds) ≡ false → ds ≡ []
-  empty [] e = refl
-  empty (d ∷ ds) e = absurd (false≢true (sym e))
+named_none n cs h = grind (arith, has_named n cs)
 
 -- what follows the names of paths and of one more
 tails_push : (cs : List Cut) (c : Cut) → tails_in (cs ++ c ∷ []) ≡ tails_in cs ++ option_to_list c.tail
@@ -134,7 +117,7 @@ tails_push (d ∷ cs) c = ap (λ ts. option_to_list d.tail ++ ts) (tails_push cs
 
 -- the first of paths stays the first
 first_push : (cs : List Cut) (c : Cut) (i : ℕ) → Some i ≡ first_in cs → Some i ≡ first_in (cs ++ c ∷ [])
-first_push [] c i e = absurd (false≢true (sym (ap (λ o. is_some o) e)))
+first_push [] c i e = absurd (cc)
 first_push (d ∷ cs) c i e = e
 
 -- ## Groups
@@ -179,7 +162,7 @@ group_same cs c g e h =
 -- the group of the first path of a name
 group_new : (cs : List Cut) (c : Cut) → has_name (cut_names cs) c.name ≡ false → IsGroupOf (cs ++ c ∷ []) (group_from c)
 group_new cs c h =
-    let one : named c.name (cs ++ c ∷ []) ≡ c ∷ [] = named_same c.name cs c (same c.name) ∙ ap (λ ds. ds ++ c ∷ []) (named_none c.name cs h) in
+    let one : named c.name (cs ++ c ∷ []) ≡ c ∷ [] = named_same c.name cs c ((bytes_eq-Decides c.name c.name).1 refl) ∙ ap (λ ds. ds ++ c ∷ []) (named_none c.name cs h) in
     (sym (ap tails_in one ∙ append-nil (option_to_list c.tail)), sym (ap first_in one))
 
 -- ## Groupings
@@ -204,15 +187,10 @@ grouping_first cs c h = grouping_more cs [] c h tt
 pub grouping_same : (cs : List Cut) (gs : List PathGroup) (g : PathGroup) (c : Cut) → IsGrouping cs (gs ++ g ∷ []) → g.name ≡ c.name → IsGrouping (cs ++ c ∷ []) (gs ++ with_tail g c ∷ [])
 grouping_same cs gs g c h e = record {
   ascending = subst (IsStrictlySortedBy (slice_cmp nat_cmp)) (map-append (λ (k : PathGroup). k.name) gs (g ∷ []) ∙ sym (map-append (λ (k : PathGroup). k.name) gs (with_tail g c ∷ []))) h.ascending;
-  has = λ n. has_group gs (with_tail g c) n ∙ twice (has_name (group_names gs) n) (bytes_eq g.name n) ∙ ap (λ b. b || bytes_eq g.name n) (sym (has_group gs g n) ∙ h.has n)
-      ∙ ap (λ m. has_name (cut_names cs) n || bytes_eq m n) e ∙ sym (has_cut cs c n);
+  has = λ n. grind (arith, has_group gs (with_tail g c) n, has_group gs g n, h.has n, e, has_cut cs c n);
   each = all_push (IsGroupOf (cs ++ c ∷ [])) gs (with_tail g c)
       (groups_other cs c gs (subst (AllLess gs) e (last_above gs g h.ascending)) (all_front (IsGroupOf cs) gs g h.each)) (group_same cs c g e (all_last (IsGroupOf cs) gs g h.each));
-} where
-  twice : (a b : Bool) → (a || b) ≡ ((a || b) || b)
-  twice true b = refl
-  twice false true = refl
-  twice false false = refl
+}
 
 -- one path more of a name that none is above, and that is not the last group's
 pub grouping_next : (cs : List Cut) (gs : List PathGroup) (g : PathGroup) (c : Cut) → IsGrouping cs (gs ++ g ∷ []) → NoneAbove cs c.name → (g.name ≡ c.name → ⊥)
@@ -220,7 +198,7 @@ pub grouping_next : (cs : List Cut) (gs : List PathGroup) (g : PathGroup) (c : C
 grouping_next cs gs g c h up other = grouping_more cs (gs ++ g ∷ []) c h (all_push (λ k. slice_cmp nat_cmp k.name c.name ≡ Less) gs g (still_less gs g.name c.name (last_above gs g h.ascending) less) less)
   where
     known : has_name (cut_names cs) g.name ≡ true
-    known = sym (h.has g.name) ∙ has_group gs g g.name ∙ ap (λ b. has_name (group_names gs) g.name || b) (same g.name) ∙ or-true (has_name (group_names gs) g.name)
+    known = sym (h.has g.name) ∙ has_group gs g g.name ∙ ap (λ b. has_name (group_names gs) g.name || b) ((bytes_eq-Decides g.name g.name).1 refl) ∙ or-true (has_name (group_names gs) g.name)
 
     less : slice_cmp nat_cmp g.name c.name ≡ Less
     less = less_if g.name c.name (not_above cs c.name g.name up known) other

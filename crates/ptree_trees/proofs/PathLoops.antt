@@ -1,9 +1,6 @@
 -- Trees of paths, one group after the other.
 use Rattle.std.specs.List.{AllByRecursion}
-use Rattle.std.specs.Prelude.{◌||◌}
-use Rattle.std.specs.Str.{bytes_eq}
 use Rattle.std.proofs.Common.{◌≡◌, ℕ, zero, suc, ◌+◌, ◌<◌, ◌≤◌, Bool, true, List, [], ◌∷◌, ◌++◌, map, length, get_or, take, refl, sym, ap, ◌∙◌, subst, arith}
-use Rattle.std.proofs.Math.Bool.{or-true}
 use Rattle.std.proofs.lemmas.List.{map-append, map_more, take_all}
 use Rattle.std.proofs.lemmas.Slice.Eq.{bytes_eq-Decides}
 use Rattle.std.specs.Borrow.{Bor}
@@ -41,9 +38,8 @@ each_at f P (x ∷ xs) (suc i) d h l = each_at f P xs i d h.1 (omega (arith, l))
 -- the name of a group is among the names
 name_there : {X : Type 0} (f : X → PathGroup) (xs : List X) (i : ℕ) (d : X) → i < length xs → has_name (group_names (map f xs)) (f (get_or xs i d)).name ≡ true
 name_there f [] i d l = absurd (omega (arith, l))
-name_there f (x ∷ xs) zero d l = ap (λ b. b || has_name (group_names (map f xs)) (f x).name) ((bytes_eq-Decides (f x).name (f x).name).1 refl)
-name_there f (x ∷ xs) (suc i) d l =
-    ap (λ b. bytes_eq (f x).name (f (get_or xs i d)).name || b) (name_there f xs i d (omega (arith, l))) ∙ or-true (bytes_eq (f x).name (f (get_or xs i d)).name)
+name_there f (x ∷ xs) zero d l = grind (arith, (bytes_eq-Decides (f x).name (f x).name).1 refl)
+name_there f (x ∷ xs) (suc i) d l = grind (arith, name_there f xs i d)
 
 -- what follows the name of a group in the paths
 tails_at : (b : Bool) (s : ℕ) (start : List ℕ) (gs : List Group) (i : ℕ) (g : Group) (xs passed : List (Bor (List ℕ))) → i < length gs → AreGroups b s (map (whole start) gs) (names_of s xs) → g ≡ get_or gs i g

@@ -1,14 +1,13 @@
 -- Trees of paths.
-use Rattle.std.proofs.Common.{◌≡◌, ◌≢◌, ℕ, ◌+◌, ◌<◌, ◌≤◌, Bool, true, false, cond, eqb, None, List, [], ◌∷◌, ◌++◌, length, refl, sym, ap, ◌∙◌, subst, arith}
+use Rattle.std.proofs.Common.{◌≡◌, ◌≢◌, ℕ, ◌+◌, ◌<◌, ◌≤◌, Bool, true, false, cond, eqb, List, [], ◌∷◌, ◌++◌, length, refl, sym, ap, ◌∙◌, subst, arith}
 use Rattle.std.proofs.Math.Bool.{or-false}
 use Rattle.std.proofs.lemmas.Bool.{false≢true}
 use Rattle.std.proofs.lemmas.Slice.Eq.{bytes_eq-Decides}
-use Rattle.std.specs.Option.{option_to_list}
 use Rattle.std.specs.Prelude.{◌||◌}
 use Rattle.std.specs.Str.{bytes_eq}
 use Rattle.ptree.specs.Tree.{Forest, none, item, Tree, forest}
 use Rattle.std.specs.List.Sorted.{IsStrictlySortedBy}
-use Rattle.ptree_trees.specs.Paths.{with_first, names, next_name, next_names, has_name, with_name, with_names, tops, below, texts_below, tails_of}
+use Rattle.ptree_trees.specs.Paths.{names, next_names, has_name, with_name, with_names, tops, below, texts_below, tails_of}
 use Rattle.ptree_trees.specs.PathGroups.{AreNamesIn, IsForestIn}
 
 -- ## Tails
@@ -16,14 +15,7 @@ use Rattle.ptree_trees.specs.PathGroups.{AreNamesIn, IsForestIn}
 -- a path has a name
 pub names_some : (s : ℕ) (text : List ℕ) → names s text ≢ []
 names_some s [] e = false≢true (ap (λ (xs : List (List ℕ)). eqb (length xs) 0) e)
-names_some s (b ∷ t) e = at (eqb b s) e where
-  first : (ns : List (List ℕ)) → with_first b ns ≢ []
-  first [] e = false≢true (ap (λ (xs : List (List ℕ)). eqb (length xs) 0) e)
-  first (n ∷ ns) e = let long = ap length e in omega (arith, long)
-
-  at : (c : Bool) → cond c ([] ∷ names s t) (with_first b (names s t)) ≢ []
-  at true e = let long = ap length e in omega (arith, long)
-  at false e = first (names s t) e
+names_some s (b ∷ t) e = grind arith
 
 -- the tails of a path that goes on, and of others
 pub tails_cons : (n m : List ℕ) (q : List (List ℕ)) (paths : List (List (List ℕ))) → q ≢ [] → tails_of n ((m ∷ q) ∷ paths) ≡ cond (bytes_eq m n) (q ∷ tails_of n paths) (tails_of n paths)
@@ -40,40 +32,24 @@ tails_light : (n : List ℕ) (paths : List (List (List ℕ))) → weight (tails_
 tails_light n [] = omega arith
 tails_light n ([] ∷ paths) = let less = tails_light n paths in omega (arith, less)
 tails_light n ((m ∷ []) ∷ paths) = let less = tails_light n paths in omega (arith, less)
-tails_light n ((m ∷ k ∷ path) ∷ paths) = at (tails_light n paths) (bytes_eq m n) where
-  at : weight (tails_of n paths) ≤ weight paths → (b : Bool) → weight (cond b ((k ∷ path) ∷ tails_of n paths) (tails_of n paths)) ≤ length (m ∷ k ∷ path) + weight paths
-  at less true = omega (arith, less)
-  at less false = omega (arith, less)
+tails_light n ((m ∷ k ∷ path) ∷ paths) = grind (arith, tails_light n paths)
 
 -- and fewer, if a path begins with the name
 pub tails_lighter : (n : List ℕ) (rest : List (List ℕ)) (q : List (List (List ℕ))) → weight (tails_of n ((n ∷ rest) ∷ q)) < weight ((n ∷ rest) ∷ q)
 tails_lighter n [] q = let less = tails_light n q in omega (arith, less)
-tails_lighter n (k ∷ path) q = at (bytes_eq n n) where
-  less : weight (tails_of n q) ≤ weight q
-  less = tails_light n q
-
-  at : (b : Bool) → weight (cond b ((k ∷ path) ∷ tails_of n q) (tails_of n q)) < length (n ∷ k ∷ path) + weight q
-  at true = omega (arith, less)
-  at false = omega (arith, less)
+tails_lighter n (k ∷ path) q = grind (arith, tails_light n q)
 
 -- a path more adds no fewer names than its tail
 pub still_lighter : (n : List ℕ) (p : List (List ℕ)) (paths : List (List (List ℕ))) → weight (tails_of n paths) < weight paths → weight (tails_of n (p ∷ paths)) < weight (p ∷ paths)
 still_lighter n [] paths less = omega (arith, less)
 still_lighter n (m ∷ []) paths less = omega (arith, less)
-still_lighter n (m ∷ k ∷ path) paths less = at (bytes_eq m n) where
-  at : (b : Bool) → weight (cond b ((k ∷ path) ∷ tails_of n paths) (tails_of n paths)) < length (m ∷ k ∷ path) + weight paths
-  at true = omega (arith, less)
-  at false = omega (arith, less)
+still_lighter n (m ∷ k ∷ path) paths less = grind arith
 
 -- so also if it is one of those of a path
 pub tails_fewer : (n : List ℕ) (ps : List (List (List ℕ))) → has_name (next_names [] ps) n ≡ true → weight (tails_of n ps) < weight ps
 tails_fewer n [] h = absurd (false≢true h)
 tails_fewer n ([] ∷ ps) h = still_lighter n [] ps (tails_fewer n ps h)
-tails_fewer n ((m ∷ q) ∷ ps) h = at (bytes_eq m n) refl h (λ k. tails_fewer n ps k) where
-  at : (b : Bool) → bytes_eq m n ≡ b → (b || has_name (next_names [] ps) n) ≡ true → (has_name (next_names [] ps) n ≡ true → weight (tails_of n ps) < weight ps)
-      → weight (tails_of n ((m ∷ q) ∷ ps)) < weight ((m ∷ q) ∷ ps)
-  at true e h more = subst (λ z. weight (tails_of n ((z ∷ q) ∷ ps)) < weight ((z ∷ q) ∷ ps)) (sym ((bytes_eq-Decides m n).0 e)) (tails_lighter n q ps)
-  at false e h more = still_lighter n (m ∷ q) ps (more h)
+tails_fewer n ((m ∷ q) ∷ ps) h = grind (arith, (bytes_eq-Decides m n).0, tails_lighter n q ps, tails_fewer n ps, still_lighter n (m ∷ q) ps)
 
 -- ## Forests
 
@@ -85,28 +61,17 @@ tops_push (x ∷ ts) t = ap (λ z. x.text ∷ z) (tops_push ts t)
 -- below a name that was there is what was there
 below_old : (ts : List Tree) (t : Tree) (n : List ℕ) → has_name (tops (forest ts)) n ≡ true → below (forest (ts ++ t ∷ [])) n ≡ below (forest ts) n
 below_old [] t n h = absurd (false≢true h)
-below_old (x ∷ ts) t n h = at (bytes_eq x.text n) h (λ k. below_old ts t n k) where
-  at : (b : Bool) → (b || has_name (tops (forest ts)) n) ≡ true → (has_name (tops (forest ts)) n ≡ true → below (forest (ts ++ t ∷ [])) n ≡ below (forest ts) n)
-      → cond b x.children (below (forest (ts ++ t ∷ [])) n) ≡ cond b x.children (below (forest ts) n)
-  at true h more = refl
-  at false h more = more h
+below_old (x ∷ ts) t n h = grind (arith, below_old ts t n)
 
 -- below a name that was not there is what is below the new tree
 below_new : (ts : List Tree) (t : Tree) (n : List ℕ) → has_name (tops (forest ts)) n ≡ false → bytes_eq t.text n ≡ true → below (forest (ts ++ t ∷ [])) n ≡ t.children
 below_new [] t n h e = ap (λ b. cond b t.children none) e
-below_new (x ∷ ts) t n h e = at (bytes_eq x.text n) h (λ k. below_new ts t n k e) where
-  at : (b : Bool) → (b || has_name (tops (forest ts)) n) ≡ false → (has_name (tops (forest ts)) n ≡ false → below (forest (ts ++ t ∷ [])) n ≡ t.children)
-      → cond b x.children (below (forest (ts ++ t ∷ [])) n) ≡ t.children
-  at true h more = absurd (false≢true (sym h))
-  at false h more = more h
+below_new (x ∷ ts) t n h e = grind (arith, below_new ts t n)
 
 -- below a name that is not there is nothing
 pub below_none : (f : Forest) (n : List ℕ) → has_name (tops f) n ≡ false → below f n ≡ none
 below_none none n h = refl
-below_none (item t c r) n h = at (bytes_eq t n) h (λ k. below_none r n k) where
-  at : (b : Bool) → (b || has_name (tops r) n) ≡ false → (has_name (tops r) n ≡ false → below r n ≡ none) → cond b c (below r n) ≡ none
-  at true h more = absurd (false≢true (sym h))
-  at false h more = more h
+below_none (item t c r) n h = grind (arith, below_none r n)
 
 -- and so on
 pub texts_none : (ns : List (List ℕ)) → texts_below none ns ≡ []
@@ -115,54 +80,26 @@ texts_none (n ∷ ns) = texts_none ns
 
 -- a name among names with one more at the end
 pub has_push : (ms : List (List ℕ)) (m n : List ℕ) → has_name (ms ++ m ∷ []) n ≡ (has_name ms n || bytes_eq m n)
-has_push [] m n = at (bytes_eq m n) where
-  at : (b : Bool) → (b || false) ≡ b
-  at true = refl
-  at false = refl
-has_push (k ∷ ms) m n = at (bytes_eq k n) (has_push ms m n) where
-  at : (b : Bool) → has_name (ms ++ m ∷ []) n ≡ (has_name ms n || bytes_eq m n) → (b || has_name (ms ++ m ∷ []) n) ≡ ((b || has_name ms n) || bytes_eq m n)
-  at true e = refl
-  at false e = e
+has_push [] m n = grind arith
+has_push (k ∷ ms) m n = grind (arith, has_push ms m n)
 
 -- what is among names and others is among both
 has_with : (ms ns : List (List ℕ)) (n : List ℕ) → has_name (with_names ms ns) n ≡ (has_name ms n || has_name ns n)
 has_with ms [] n = sym (or-false (has_name ms n))
-has_with ms (k ∷ ns) n = has_with (with_name ms k) ns n ∙ (ap (λ b. b || has_name ns n) (one (has_name ms k) refl) ∙ joined (has_name ms n) (bytes_eq k n) (has_name ns n)) where
-  joined : (a b c : Bool) → ((a || b) || c) ≡ (a || (b || c))
-  joined true b c = refl
-  joined false b c = refl
-
-  known : (a b : Bool) → (b ≡ true → a ≡ true) → a ≡ (a || b)
-  known true b h = refl
-  known false true h = h refl
-  known false false h = refl
-
-  one : (b : Bool) → has_name ms k ≡ b → has_name (cond b ms (ms ++ k ∷ [])) n ≡ (has_name ms n || bytes_eq k n)
-  one true e = known (has_name ms n) (bytes_eq k n) (λ same. subst (λ z. has_name ms z ≡ true) ((bytes_eq-Decides k n).0 same) e)
-  one false e = has_push ms k n
+has_with ms (k ∷ ns) n = grind (arith, has_with (with_name ms k) ns n, has_push ms k n, (bytes_eq-Decides k n).0)
 
 -- what follows a name in the tails is what follows it and the names in the paths
 pub tails_next : (n : List ℕ) (ns : List (List ℕ)) (paths : List (List (List ℕ))) → next_names ns (tails_of n paths) ≡ next_names (n ∷ ns) paths
 tails_next n ns [] = refl
 tails_next n ns ([] ∷ paths) = tails_next n ns paths
-tails_next n ns ((m ∷ []) ∷ paths) = at (bytes_eq m n) (tails_next n ns paths) where
-  at : (b : Bool) → next_names ns (tails_of n paths) ≡ next_names (n ∷ ns) paths → next_names ns (tails_of n paths) ≡ option_to_list (cond b (next_name ns []) None) ++ next_names (n ∷ ns) paths
-  at true e = e
-  at false e = e
-tails_next n ns ((m ∷ k ∷ path) ∷ paths) = at (bytes_eq m n) (tails_next n ns paths) where
-  at : (b : Bool) → next_names ns (tails_of n paths) ≡ next_names (n ∷ ns) paths → next_names ns (cond b ((k ∷ path) ∷ tails_of n paths) (tails_of n paths)) ≡ option_to_list (cond b (next_name ns (k ∷ path)) None) ++ next_names (n ∷ ns) paths
-  at true e = ap (λ z. option_to_list (next_name ns (k ∷ path)) ++ z) e
-  at false e = e
+tails_next n ns ((m ∷ []) ∷ paths) = grind (arith, tails_next n ns paths)
+tails_next n ns ((m ∷ k ∷ path) ∷ paths) = grind (arith, tails_next n ns paths)
 
 -- if no path begins with a name, nothing follows it
 pub next_none : (n : List ℕ) (ns : List (List ℕ)) (paths : List (List (List ℕ))) → has_name (next_names [] paths) n ≡ false → next_names (n ∷ ns) paths ≡ []
 next_none n ns [] h = refl
 next_none n ns ([] ∷ paths) h = next_none n ns paths h
-next_none n ns ((m ∷ path) ∷ paths) h = at (bytes_eq m n) h (λ k. next_none n ns paths k) where
-  at : (b : Bool) → (b || has_name (next_names [] paths) n) ≡ false → (has_name (next_names [] paths) n ≡ false → next_names (n ∷ ns) paths ≡ [])
-      → option_to_list (cond b (next_name ns path) None) ++ next_names (n ∷ ns) paths ≡ []
-  at true h more = absurd (false≢true (sym h))
-  at false h more = more h
+next_none n ns ((m ∷ path) ∷ paths) h = grind (arith, next_none n ns paths)
 
 -- no names are those of no paths
 pub none_in : (b : Bool) → AreNamesIn b [] []

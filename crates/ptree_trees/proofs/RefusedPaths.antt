@@ -20,11 +20,7 @@ module _ {D : Type 0} (at_step : StepValue → D → Option D) (IsOfKind : D →
   -- a path through rows goes through the first one or another
   through_row : (r : StepValue × D) (rs : List (StepValue × D)) (s : StepValue) (p : Path) → LeadsThrough at_step IsOfKind (r ∷ rs) (s ∷ p)
       → ((s ≡ r.0) × LeadsTo at_step IsOfKind r.1 p) ⊎ LeadsThrough at_step IsOfKind rs (s ∷ p)
-  through_row r rs s p h = by_row h.1
-    where
-      by_row : HasRow (r ∷ rs) s h.0 → ((s ≡ r.0) × LeadsTo at_step IsOfKind r.1 p) ⊎ LeadsThrough at_step IsOfKind rs (s ∷ p)
-      by_row (inl e) = inl (e.0, subst (λ d. LeadsTo at_step IsOfKind d p) e.1 h.2)
-      by_row (inr row) = inr (h.0, row, h.2)
+  through_row r rs s p h = elim h.1 [ inl e ↦ inl (e.0, subst (λ d. LeadsTo at_step IsOfKind d p) e.1 h.2) | inr row ↦ inr (h.0, row, h.2) ]
 
   -- a path through rows goes through more rows
   through_more : (r : StepValue × D) (rs : List (StepValue × D)) (q : Path) → LeadsThrough at_step IsOfKind rs q → LeadsThrough at_step IsOfKind (r ∷ rs) q
@@ -35,11 +31,7 @@ module _ {D : Type 0} (at_step : StepValue → D → Option D) (IsOfKind : D →
   through_others : (r : StepValue × D) (rs : List (StepValue × D)) → IsFirstOf (LeadsTo at_step IsOfKind r.1) None
       → (q : Path) → LeadsThrough at_step IsOfKind (r ∷ rs) q → LeadsThrough at_step IsOfKind rs q
   through_others r rs none [] h = h
-  through_others r rs none (s ∷ p) h = by_row (through_row r rs s p h)
-    where
-      by_row : ((s ≡ r.0) × LeadsTo at_step IsOfKind r.1 p) ⊎ LeadsThrough at_step IsOfKind rs (s ∷ p) → LeadsThrough at_step IsOfKind rs (s ∷ p)
-      by_row (inl e) = absurd (none p e.1)
-      by_row (inr through) = through
+  through_others r rs none (s ∷ p) h = elim (through_row r rs s p h) [ inl e ↦ absurd (none p e.1) | inr through ↦ through ]
 
   -- a row that leads to none is passed
   pub passed_row : (r : StepValue × D) (rs : List (StepValue × D)) (path : Option Path) → IsFirstOf (LeadsTo at_step IsOfKind r.1) None
@@ -54,15 +46,10 @@ module _ {D : Type 0} (at_step : StepValue → D → Option D) (IsOfKind : D →
     where
       others : (q : Path) → LeadsThrough at_step IsOfKind (r ∷ rs) q → (q ≡ r.0 ∷ p) ⊎ IsPathBefore (r.0 ∷ p) q
       others [] h = absurd h
-      others (s ∷ q) h = by_row (through_row r rs s q h)
-        where
-          by_place : (s ≡ r.0) → (q ≡ p) ⊎ IsPathBefore p q → (s ∷ q ≡ r.0 ∷ p) ⊎ IsPathBefore (r.0 ∷ p) (s ∷ q)
-          by_place e (inl same) = inl (ap (λ t. t ∷ q) e ∙ ap (λ z. r.0 ∷ z) same)
-          by_place e (inr later) = inr (inr (sym e, later))
-
-          by_row : ((s ≡ r.0) × LeadsTo at_step IsOfKind r.1 q) ⊎ LeadsThrough at_step IsOfKind rs (s ∷ q) → (s ∷ q ≡ r.0 ∷ p) ⊎ IsPathBefore (r.0 ∷ p) (s ∷ q)
-          by_row (inl e) = by_place e.0 (first.1 q e.1)
-          by_row (inr through) = inr (inl (before s through.0 through.1))
+      others (s ∷ q) h = elim (through_row r rs s q h) [
+        | inl e ↦ elim (first.1 q e.1) [ inl same ↦ inl (cc (e.0, same)) | inr later ↦ inr (inr (sym e.0, later)) ]
+        | inr through ↦ inr (inl (before s through.0 through.1))
+      ]
 
   -- the first path in a value that is not of the kind itself, by the rows of what stands in it
   pub first_by_rows : (d : D) (rows : List (StepValue × D)) (path : Option Path) → ¬ (IsOfKind d)

@@ -1,5 +1,5 @@
 -- The rows of a list's elements and of a table's members, and the first path through them.
-use Rattle.std.proofs.Common.{◌≡◌, ◌∙◌, ◌⊎◌, inl, inr, ℕ, zero, suc, ◌<◌, ◌+◌, List, [], ◌∷◌, Option, Some, None, String, Global, Less, Equal, Greater, nat_cmp, string_bytes, ap, sym, refl, subst, arith, add-zero, Ordering}
+use Rattle.std.proofs.Common.{◌≡◌, ◌∙◌, ◌⊎◌, inl, inr, ℕ, zero, suc, ◌<◌, ◌+◌, List, [], ◌∷◌, Option, Some, None, String, Global, Less, Equal, Greater, nat_cmp, string_bytes, ap, sym, subst, arith, add-zero, Ordering}
 use Rattle.std.proofs.lemmas.Option.{none-some, same_Some}
 use Rattle.std.specs.Cmp.Lexicographic.{slice_cmp, nat_list_cmp_total}
 use Rattle.std.specs.FinMap.{nat_cmp-IsAntisymmetric, slice_cmp-IsAntisymmetric}
@@ -56,19 +56,11 @@ module _ {D : Type 0} (get : ℕ → List D → Option D) (nothing : (n : ℕ) �
 
 -- what an ordering picks
 picked : {D : Type 0} (o : Ordering) (rest : Option D) (d c : D) → match_ordering o rest (Some d) rest ≡ Some c → ((o ≡ Equal) × (c ≡ d)) ⊎ (rest ≡ Some c)
-picked Less rest d c h = inr h
-picked Equal rest d c h = inl (refl, same_Some c d (sym h))
-picked Greater rest d c h = inr h
-
--- an ordering that is its own reverse
-own_reverse : (o : Ordering) → o ≡ ordering_reverse o → o ≡ Equal
-own_reverse Less h = absurd (cc)
-own_reverse Equal h = refl
-own_reverse Greater h = absurd (cc)
+picked o rest d c h = grind arith
 
 -- a key is equal to itself
 key_itself : (k : List ℕ) → slice_cmp nat_cmp k k ≡ Equal
-key_itself k = own_reverse (slice_cmp nat_cmp k k) (nat_list_cmp_total.antisymm k k)
+key_itself k = grind (arith, nat_list_cmp_total.antisymm k k)
 
 module _ {V D : Type 0} (meant : V → D) (find : List ℕ → List (String Global × V) → Option D) (nothing : (k : List ℕ) → find k [] ≡ None)
     (first : (k : List ℕ) (m : String Global × V) (ms : List (String Global × V))
@@ -76,12 +68,10 @@ module _ {V D : Type 0} (meant : V → D) (find : List ℕ → List (String Glob
   -- a value that is found at a key has a row
   pub member_row : (k : List ℕ) (ms : List (String Global × V)) (c : D) → find k ms ≡ Some c → HasRow (member_rows meant ms) (at_key k) c
   member_row k [] c h = absurd (none-some c (sym (nothing k) ∙ h))
-  member_row k (m ∷ ms) c h = by_order (member_row k ms c) (picked (slice_cmp nat_cmp k (string_bytes m.0)) (find k ms) (meant m.1) c (sym (first k m ms) ∙ h))
-    where
-      by_order : (find k ms ≡ Some c → HasRow (member_rows meant ms) (at_key k) c) → ((slice_cmp nat_cmp k (string_bytes m.0) ≡ Equal) × (c ≡ meant m.1)) ⊎ (find k ms ≡ Some c)
-          → HasRow (member_rows meant (m ∷ ms)) (at_key k) c
-      by_order further (inl e) = inl (ap at_key (slice_cmp-IsAntisymmetric nat_cmp-IsAntisymmetric k (string_bytes m.0) e.0), e.1)
-      by_order further (inr rest) = inr (further rest)
+  member_row k (m ∷ ms) c h = elim (picked (slice_cmp nat_cmp k (string_bytes m.0)) (find k ms) (meant m.1) c (sym (first k m ms) ∙ h)) [
+    | inl e ↦ inl (ap at_key (slice_cmp-IsAntisymmetric nat_cmp-IsAntisymmetric k (string_bytes m.0) e.0), e.1)
+    | inr rest ↦ inr (member_row k ms c rest)
+  ]
 
   -- the value of a row is found at its key, where keys ascend
   pub row_member : (ms : List (String Global × V)) → IsStrictlySortedBy string_cmp (keys_of ms) → (s : StepValue) (c : D) → HasRow (member_rows meant ms) s c

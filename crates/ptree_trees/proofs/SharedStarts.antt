@@ -1,5 +1,5 @@
 -- Paths that share a beginning.
-use Rattle.std.proofs.Common.{◌≡◌, ◌≢◌, ℕ, Bool, true, false, cond, eqb, List, [], ◌∷◌, ◌++◌, length, map, drop, refl, sym, ap, ◌∙◌}
+use Rattle.std.proofs.Common.{◌≡◌, ◌≢◌, ℕ, Bool, true, false, eqb, List, [], ◌∷◌, ◌++◌, length, map, drop, refl, sym, ap, ◌∙◌, arith}
 use Rattle.std.proofs.Math.Bool.{and_assoc, and-or_distrib_left, and-false}
 use Rattle.std.proofs.lemmas.Bool.{eq-eqb, ne_eqb}
 use Rattle.std.proofs.lemmas.List.{map-append}
@@ -14,25 +14,18 @@ use Rattle.std.specs.Ordering.{nat_cmp, ordering_then}
 use Rattle.std.specs.Prelude.{All, ◌&&◌}
 use Rattle.std.specs.Str.{bytes_eq}
 use Rattle.std.specs.declared.cmp.Ordering.TheVariants.{Less, Equal}
-use Rattle.ptree_trees.specs.Paths.{with_first, names, next_names, has_name, with_name, with_names, names_of, tails_of}
+use Rattle.ptree_trees.specs.Paths.{names, next_names, has_name, with_name, with_names, names_of, tails_of}
 use Rattle.ptree_trees.specs.PathGroups.{PathGroup, group_names, AreNamesIn, AreGroups}
 use Rattle.ptree_trees.specs.SharedStart.{AllStart, names_behind, with_start, started}
+use Rattle.ptree.proofs.Trees.ItemTrees.{map_twice}
 use Rattle.ptree_trees.proofs.PathTrees.{names_some}
 
 -- ## Names
 
 -- a text with no separator before a path is before its first name
 names_start : (s : ℕ) (start rest : List ℕ) → All (λ b. b ≢ s) start → names s (start ++ rest) ≡ with_start start (names s rest)
-names_start s [] rest h = none (names s rest) where
-  none : (ns : List (List ℕ)) → ns ≡ with_start [] ns
-  none [] = refl
-  none (n ∷ ns) = refl
-names_start s (b ∷ start) rest h =
-    ap (λ c. cond c ([] ∷ names s (start ++ rest)) (with_first b (names s (start ++ rest)))) (ne_eqb b s (All-head (λ b. b ≢ s) b start h))
-    ∙ ap (with_first b) (names_start s start rest (All-tail (λ b. b ≢ s) b start h)) ∙ first (names s rest) (names_some s rest) where
-      first : (ns : List (List ℕ)) → ns ≢ [] → with_first b (with_start start ns) ≡ with_start (b ∷ start) ns
-      first [] some = absurd (some refl)
-      first (n ∷ ns) some = refl
+names_start s [] rest h = grind arith
+names_start s (b ∷ start) rest h = grind (arith, ne_eqb b s (All-head (λ b. b ≢ s) b start h), names_start s start rest (All-tail (λ b. b ≢ s) b start h), names_some s rest)
 
 -- the names of paths are those of what follows their beginning, with that before each first name
 pub names_started : (s : ℕ) (start : List ℕ) (paths : List (Bor (List ℕ))) → AllStart s start paths → names_of s paths ≡ map (with_start start) (names_behind s start paths)
@@ -93,10 +86,7 @@ has_start start (m ∷ ms) n = rw (bytes_start start m n, has_start start ms n)
 -- names each once, with the text before each
 with_started : (start : List ℕ) (ms ns : List (List ℕ)) → with_names (all_started start ms) (all_started start ns) ≡ all_started start (with_names ms ns)
 with_started start ms [] = refl
-with_started start ms (n ∷ ns) = ap (λ ks. with_names ks (all_started start ns)) (rw (has_start start ms n) (at (has_name ms n))) ∙ with_started start (with_name ms n) ns where
-  at : (b : Bool) → cond b (all_started start ms) (all_started start ms ++ (start ++ n) ∷ []) ≡ all_started start (cond b ms (ms ++ n ∷ []))
-  at true = refl
-  at false = sym (map-append (λ n. start ++ n) ms (n ∷ []))
+with_started start ms (n ∷ ns) = grind (arith, has_start start ms n, with_started start (with_name ms n) ns, map-append (λ n. start ++ n) ms (n ∷ []))
 
 -- the names of others stay so with the text before each of both
 names_in_started : (b : Bool) (start : List ℕ) (ms ns : List (List ℕ)) → AreNamesIn b ms ns → AreNamesIn b (all_started start ms) (all_started start ns)
@@ -107,8 +97,7 @@ names_in_started false start ms ns h = ap (all_started start) h ∙ sym (with_st
 
 -- the names of groups with the text before them
 group_names_started : (start : List ℕ) (gs : List PathGroup) → group_names (map (started start) gs) ≡ all_started start (group_names gs)
-group_names_started start [] = refl
-group_names_started start (g ∷ gs) = ap (λ ns. (start ++ g.name) ∷ ns) (group_names_started start gs)
+group_names_started start gs = sym (map_twice (started start) (λ (g : PathGroup). g.name) gs) ∙ map_twice (λ (g : PathGroup). g.name) (λ n. start ++ n) gs
 
 -- the first names of paths with the text before them
 next_started : (start : List ℕ) (paths : List (List (List ℕ))) → next_names [] (map (with_start start) paths) ≡ all_started start (next_names [] paths)

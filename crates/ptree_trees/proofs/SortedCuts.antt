@@ -6,13 +6,13 @@ use Rattle.std.specs.List.Sorted.{IsSortedBy, IsStableBy, ties}
 use Rattle.std.specs.Ordering.{is_lt, nat_cmp}
 use Rattle.std.specs.Prelude.{min}
 use Rattle.std.specs.Str.{bytes_eq}
-use Rattle.std.proofs.Common.{◌≡◌, ◌∙◌, ℕ, zero, suc, ◌<◌, get_or, take, Bool, true, false, cond, List, [], ◌∷◌, length, map, ap, sym, refl, arith}
+use Rattle.std.proofs.Common.{◌≡◌, ◌∙◌, ℕ, zero, suc, ◌<◌, get_or, take, true, false, List, [], ◌∷◌, length, map, ap, sym, arith}
 use Rattle.std.proofs.lemmas.Cmp.{nat_list_cmp_total}
 use Rattle.std.proofs.lemmas.List.{get_or-take, length-take}
 use Rattle.std.proofs.lemmas.List.MinMax.{ranks_by}
 use Rattle.std.proofs.lemmas.List.Sorted.{sorted_far}
 use Rattle.std.proofs.lemmas.Slice.Eq.{bytes_eq-Decides}
-use Rattle.ptree_trees.proofs.Sorting.{ties_if_same, same_by_elements}
+use Rattle.ptree_trees.proofs.Sorting.{filter-map, ties_if_same, same_by_elements}
 use Rattle.ptree_trees.specs.PathGroups.{Cut, named, NoneAbove}
 
 -- the order of names is one
@@ -21,19 +21,9 @@ names_rank view = ranks_by nat_list_cmp_total (λ a. (view a).name)
 
 module _ {X : Type 0} where
   module _ (view : X → Cut) where
-    -- the cuts with a name are the cuts of the elements with it
-    named_views : (n : List ℕ) (xs : List X) → named n (map view xs) ≡ map view (filter (λ x. bytes_eq (view x).name n) xs)
-    named_views n [] = refl
-    named_views n (x ∷ xs) = by_test (bytes_eq (view x).name n) (named_views n xs)
-      where
-        by_test : (b : Bool) → named n (map view xs) ≡ map view (filter (λ y. bytes_eq (view y).name n) xs)
-            → cond b (view x ∷ named n (map view xs)) (named n (map view xs)) ≡ map view (cond b (x ∷ filter (λ y. bytes_eq (view y).name n) xs) (filter (λ y. bytes_eq (view y).name n) xs))
-        by_test true h = ap (λ cs. view x ∷ cs) h
-        by_test false h = h
-
     -- a stable sort by names leaves the cuts with one name in their order
     pub sorted_named : (xs ys : List X) → IsStableBy (λ a b. is_lt (slice_cmp nat_cmp (view a).name (view b).name)) xs ys → (n : List ℕ) → named n (map view ys) ≡ named n (map view xs)
-    sorted_named xs ys h n = named_views n ys ∙ ap (map view) (same_by_elements (λ x. bytes_eq (view x).name n) xs ys by_element) ∙ sym (named_views n xs)
+    sorted_named xs ys h n = filter-map view (λ c. bytes_eq c.name n) ys ∙ ap (map view) (same_by_elements (λ x. bytes_eq (view x).name n) xs ys by_element) ∙ sym (filter-map view (λ c. bytes_eq c.name n) xs)
       where
         by_element : (z : X) → bytes_eq (view z).name n ≡ true → filter (λ x. bytes_eq (view x).name n) ys ≡ filter (λ x. bytes_eq (view x).name n) xs
         by_element z e =

@@ -3,11 +3,9 @@ use Rattle.std.specs.Prelude.{filter, not, ◌&&◌}
 use Rattle.std.specs.Cmp.{IsStrictWeakOrder}
 use Rattle.std.specs.Cmp.Lexicographic.{slice_cmp}
 use Rattle.std.specs.List.Sorted.{IsPermutation, IsSortedBy, IsStableBy, ties}
-use Rattle.std.specs.Ordering.{is_lt, is_eq, nat_cmp, ordering_reverse}
-use Rattle.std.specs.declared.cmp.Ordering.{Ordering}
-use Rattle.std.specs.declared.cmp.Ordering.TheVariants.{Less, Equal, Greater}
+use Rattle.std.specs.Ordering.{is_lt, nat_cmp}
 use Rattle.std.specs.Str.{bytes_eq}
-use Rattle.std.proofs.Common.{◌≡◌, ◌∙◌, ℕ, ◌+◌, ◌<◌, ◌≤◌, ◌++◌, get_or, take, subst, string_bytes, Bool, true, false, cond, List, [], ◌∷◌, length, map, ap, sym, refl, arith}
+use Rattle.std.proofs.Common.{◌≡◌, ◌∙◌, ℕ, ◌+◌, ◌<◌, ◌≤◌, ◌++◌, get_or, take, subst, string_bytes, Bool, true, List, [], ◌∷◌, length, map, ap, sym, refl, arith}
 use Rattle.std.proofs.lemmas.Cmp.{nat_list_cmp_total}
 use Rattle.std.proofs.lemmas.List.{get_or-map, length-map, map-append, take_more, take_all}
 use Rattle.std.proofs.lemmas.List.MinMax.{ranks_by}
@@ -27,22 +25,13 @@ texts_rank view = ranks_by nat_list_cmp_total (λ a. (view a).text)
 
 -- two texts tie exactly if they are the same
 pub ties_if_same : (a b : List ℕ) → (not (is_lt (slice_cmp nat_cmp a b)) && not (is_lt (slice_cmp nat_cmp b a))) ≡ bytes_eq b a
-ties_if_same a b = by_order (slice_cmp nat_cmp b a) (slice_cmp nat_cmp a b) (nat_list_cmp_total.antisymm a b) ∙ is_eq-slice_cmp b a
-  where
-    by_order : (r s : Ordering) → s ≡ ordering_reverse r → (not (is_lt s) && not (is_lt r)) ≡ is_eq r
-    by_order Less s e = rw e refl
-    by_order Equal s e = rw e refl
-    by_order Greater s e = rw e refl
+ties_if_same a b = grind (arith, nat_list_cmp_total.antisymm a b, is_eq-slice_cmp b a)
 
 module _ {X : Type 0} where
   -- what is first among those that pass passes
   first_passes : (p : X → Bool) (xs : List X) (z : X) (zs : List X) → filter p xs ≡ z ∷ zs → p z ≡ true
   first_passes p [] z zs e = absurd (cc)
-  first_passes p (x ∷ xs) z zs e = by_test (p x) refl (first_passes p xs z zs) e
-    where
-      by_test : (b : Bool) → p x ≡ b → (filter p xs ≡ z ∷ zs → p z ≡ true) → cond b (x ∷ filter p xs) (filter p xs) ≡ z ∷ zs → p z ≡ true
-      by_test true own further h = let same : x ≡ z = cc in ap p (sym same) ∙ own
-      by_test false own further h = further h
+  first_passes p (x ∷ xs) z zs e = grind (arith, first_passes p xs z zs)
 
   -- lists keep the same by a test if they do so whenever an element passes
   pub same_by_elements : (p : X → Bool) (xs ys : List X) → ((z : X) → p z ≡ true → filter p ys ≡ filter p xs) → filter p ys ≡ filter p xs
@@ -53,17 +42,12 @@ module _ {X : Type 0} where
       by_lists (z ∷ zs) ls d e = f z (first_passes p xs z zs d)
       by_lists [] (z ∷ zs) d e = f z (first_passes p ys z zs e)
 
-  module _ (view : X → Tree) where
-    -- what passes of the trees are the trees of what passes
-    filter-map : (q : Tree → Bool) (xs : List X) → filter q (map view xs) ≡ map view (filter (λ x. q (view x)) xs)
-    filter-map q [] = refl
-    filter-map q (x ∷ xs) = by_test (q (view x)) (filter-map q xs)
-      where
-        by_test : (b : Bool) → filter q (map view xs) ≡ map view (filter (λ y. q (view y)) xs)
-            → cond b (view x ∷ filter q (map view xs)) (filter q (map view xs)) ≡ map view (cond b (x ∷ filter (λ y. q (view y)) xs) (filter (λ y. q (view y)) xs))
-        by_test true h = ap (λ ts. view x ∷ ts) h
-        by_test false h = h
+  -- what passes of the views are the views of what passes
+  pub filter-map : {Y : Type 0} (view : X → Y) (q : Y → Bool) (xs : List X) → filter q (map view xs) ≡ map view (filter (λ x. q (view x)) xs)
+  filter-map view q [] = refl
+  filter-map view q (x ∷ xs) = grind (arith, filter-map view q xs)
 
+  module _ (view : X → Tree) where
     -- trees of sorted elements are sorted
     sorted_trees : (ys : List X) → IsSortedBy (λ a b. is_text_less (view a) (view b)) ys → IsSortedBy is_text_less (map view ys)
     sorted_trees [] h = λ k d low l. absurd (omega arith)
@@ -76,7 +60,7 @@ module _ {X : Type 0} where
     stable_trees : (xs ys : List X) → IsStableBy (λ a b. is_text_less (view a) (view b)) xs ys → (text : List ℕ)
         → filter (λ t. bytes_eq t.text text) (map view ys) ≡ filter (λ t. bytes_eq t.text text) (map view xs)
     stable_trees xs ys h text =
-        filter-map (λ t. bytes_eq t.text text) ys ∙ ap (map view) (same_by_elements (λ x. bytes_eq (view x).text text) xs ys by_element) ∙ sym (filter-map (λ t. bytes_eq t.text text) xs)
+        filter-map view (λ t. bytes_eq t.text text) ys ∙ ap (map view) (same_by_elements (λ x. bytes_eq (view x).text text) xs ys by_element) ∙ sym (filter-map view (λ t. bytes_eq t.text text) xs)
       where
         by_element : (z : X) → bytes_eq (view z).text text ≡ true → filter (λ x. bytes_eq (view x).text text) ys ≡ filter (λ x. bytes_eq (view x).text text) xs
         by_element z e =

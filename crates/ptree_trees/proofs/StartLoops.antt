@@ -81,7 +81,7 @@ pub start_boundary : (s : ℕ) (start : List ℕ) (xs : List (Bor (List ℕ))) (
 start_boundary s start xs i d l h text path =
     let p = get_or xs i d in
     let begins = begun xs h.each i l in
-    let long : length start ≤ length p.now = subst (λ z. length start ≤ length z) (sym begins) (subst (λ n. length start ≤ n) (sym (length-append start (drop (length start) p.now))) (omega arith)) in
+    let long : length start ≤ length p.now = omega (arith, simp length-append at (ap length begins)) in
     let front : take (length start) p.now ≡ start = ap (take (length start)) begins ∙ take-append_seam start (drop (length start) p.now) in
     IsCharBoundary-from_take p.now (length start) path long (subst IsUtf8 (sym front) text)
   where

@@ -1,8 +1,9 @@
 -- The first difference of two trees.
-use Rattle.std.specs.Prelude.{◌≡◌, ◌≢◌, List, ℕ, Option, option_map}
+use Rattle.std.specs.Prelude.{◌≡◌, ◌≢◌, List, [], ◌∷◌, map, ℕ, Option, option_map, slice_get, unwrap_or}
 use Rattle.ptree.specs.Address.{Address, at, Before}
 use Rattle.ptree.specs.Tree.{Tree, tree_kids, tree_of}
 use Rattle.ptree_trees.specs.declared.difference.Difference.{Difference}
+use Rattle.ptree_trees.specs.declared.difference.ItemDifference.{ItemDifference}
 
 -- the text at an address of a tree, if an item stands there
 abbrev pub text_at_address : Tree → Address → Option (List ℕ)
@@ -20,3 +21,20 @@ AreSameBefore t u a = (b : Address) → Before b a → text_at_address t b ≡ t
 pub record StandThere (t u : Tree) (d : Difference) : Type 0 where
   pub left : option_map (λ s. tree_of s.now) d.left ≡ at tree_kids t d.address.items
   pub right : option_map (λ s. tree_of s.now) d.right ≡ at tree_kids u d.address.items
+
+-- the texts above an address, from the root on
+abbrev pub texts_above : Tree → Address → List (List ℕ)
+texts_above t [] = []
+texts_above t (i ∷ rest) = t.text ∷ unwrap_or (option_map (λ c. texts_above c rest) (slice_get (tree_kids t) i)) []
+
+-- two trees differ first at this address, with these texts above it and there
+pub record IsTextDifference (t u : Tree) (a : Address) (above : List (List ℕ)) (left right : Option (List ℕ)) : Type 0 where
+  pub differ : DifferAt t u a
+  pub least : AreSameBefore t u a
+  pub above_are : above ≡ texts_above t a
+  pub left_is : left ≡ text_at_address t a
+  pub right_is : right ≡ text_at_address u a
+
+-- such a difference
+abbrev pub IsItemDifference : Tree → Tree → ItemDifference → Type 0
+IsItemDifference t u d = IsTextDifference t u d.address.items (map (λ s. s.now) d.above.items) (option_map (λ s. s.now) d.left) (option_map (λ s. s.now) d.right)

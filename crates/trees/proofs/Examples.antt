@@ -6,6 +6,7 @@ use Rattle.std.specs.Fmt.{digits}
 use Rattle.std.specs.Prelude.{replicate}
 use Rattle.std.specs.Str.{chars}
 use Rattle.ptree.specs.Tree.{none, item, tree}
+use Rattle.ptree_trees.specs.Difference.{texts_above}
 use Rattle.trees.specs.declared.compare.Side.TheVariants.{Left, Right}
 use Rattle.trees.specs.Depending.{edges_between, is_other_line, ArePairs}
 use Rattle.trees.specs.Listing.{unmarked, path_lines, path_names, given_paths, are_wrong}
@@ -52,7 +53,7 @@ cut = refl
 -- ## First differences
 
 -- what the page says of a plan: its first child has a child more
-longer : way_text (tree (codes "plan") (item (codes "fence") none none)) (0 ∷ 0 ∷ []) ≡ codes "plan / fence / "
+longer : way_text (texts_above (tree (codes "plan") (item (codes "fence") none none)) (0 ∷ 0 ∷ [])) ≡ codes "plan / fence / "
 unfolding chars encode_utf8
 longer = refl
 
@@ -61,7 +62,7 @@ unfolding chars encode_utf8 digits
 brush = refl
 
 -- two roots
-roots : way_text (tree (codes "a") none) [] ++ (place_line [] ++ (side_line Left (Some (codes "a")) ++ side_line Right (Some (codes "\\")))) ≡ codes "root\n- a\n+ \\\\\n"
+roots : way_text (texts_above (tree (codes "a") none) []) ++ (place_line [] ++ (side_line Left (Some (codes "a")) ++ side_line Right (Some (codes "\\")))) ≡ codes "root\n- a\n+ \\\\\n"
 unfolding chars encode_utf8
 roots = refl
 

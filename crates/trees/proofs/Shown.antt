@@ -19,6 +19,7 @@ use Rattle.ptree.proofs.Drawing.Engine.{nothing_yet}
 use Rattle.ptree_trees.specs.declared.indented.Form.{Form}
 use Rattle.ptree_trees.specs.Escape.{escaped_text, mapped_forest, mapped_tree}
 use Rattle.ptree_trees.specs.Indented.{indent, indented_line, indented_lines}
+use Rattle.trees.specs.declared.command.Diff.{Diff}
 use Rattle.trees.specs.declared.command.Drawing.{Drawing}
 use Rattle.trees.specs.declared.command.Indented.{Indented}
 use Rattle.trees.specs.declared.deps.Dependencies.{Dependencies}
@@ -29,7 +30,7 @@ use Rattle.trees.specs.Asked.{asked_config, drawing_value}
 use Rattle.trees.specs.Merging.{IsComparison, IsMergeCode}
 use Rattle.trees.specs.Outlining.{text_or}
 use Rattle.trees.specs.Shown.{shown_lines, shown_on, AreShownLabels, is_raw, IsNone, IsLookCode, IsShown, ShowsOnly}
-use Rattle.trees.specs.Writing.{Writes, WritesRefusal, IsGraphDrawing, IsDrawingOf, IsShownForm, IsIndentation, ShowsDrawing, ShowsMerged}
+use Rattle.trees.specs.Writing.{Compares, FailsToCompare, IsComparisonOf, IsDrawingOf, IsGraphDrawing, IsIndentation, IsShownForm, ShowsDrawing, ShowsMerged, Writes}
 use Rattle.trees.proofs.Differences.{difference_calm}
 use Rattle.trees.proofs.ShownDrawings.{tree_shown, graph_shown}
 use Rattle.trees.proofs.ShownMerges.{merge_drawing_shown}
@@ -128,31 +129,29 @@ nothing_shown b Code a = λ on. ([], none_shown Code, nothing_yet a [])
 pub drawing_nothing : (sources : Sources) (drawing : Drawing) (a : Option (List ℕ)) → ShowsDrawing sources drawing a a
 drawing_nothing sources drawing a = nothing_shown drawing.screen.is_terminal (IsLookCode (look_by (drawing_value sources drawing) Unknown false)) a
 
--- two trees, compared
-pub comparison_shown : {A : Type 0} (all : Bool) (sources : Sources) (drawing : Drawing) (t u : Tree) (old new : Option (List ℕ)) (r : Result A Failure)
-    → WritesRefusal old new r (IsComparison all (drawing_value sources drawing) drawing.screen.is_terminal t u) (λ e. e ≡ Memory) → ShowsMerged sources drawing old new
-comparison_shown {A} all sources drawing t u old new r = by_result r where
+-- two drawings, compared
+pub comparison_shown : {A : Type 0} (sources : Sources) (left right : Source) (diff : Diff) (old new : Option (List ℕ)) (r : Result A Failure) → Compares sources left right diff old new r → ShowsMerged sources diff.drawing old new
+comparison_shown {A} sources left right diff old new r = by_result r where
   value : ConfigValue
-  value = drawing_value sources drawing
+  value = drawing_value sources diff.drawing
 
   b : Bool
-  b = drawing.screen.is_terminal
+  b = diff.drawing.screen.is_terminal
 
-  shows : (all : Bool) (bytes : List ℕ) → IsComparison all value b t u bytes → b ≡ true → IsShown (IsMergeCode value) bytes
-  shows true bytes is on = merge_drawing_shown b (asked_config drawing (effective_config sources)) t u bytes is on
-  shows false bytes is on = calm_shown (IsMergeCode value) bytes (difference_calm t u bytes is)
+  by_all : (all : Bool) (t u : Tree) (bytes : List ℕ) → IsComparison all value b t u bytes → b ≡ true → IsShown (IsMergeCode value) bytes
+  by_all true t u bytes is on = merge_drawing_shown b (asked_config diff.drawing (effective_config sources)) t u bytes is on
+  by_all false t u bytes is on = calm_shown (IsMergeCode value) bytes (difference_calm t u bytes is)
 
-  fails : (e : Failure) → Writes {A = A} old new (Err e) (IsComparison all value b t u) (λ f. f ≡ Memory) → ShowsMerged sources drawing old new
-  fails e h = writes_shown {A = A} b (IsMergeCode value) old new (Err e) (IsComparison all value b t u) (λ f. f ≡ Memory) (shows all) h
+  shows : (bytes : List ℕ) → IsComparisonOf sources left right diff bytes → b ≡ true → IsShown (IsMergeCode value) bytes
+  shows bytes (t, u, _, _, is) on = by_all diff.shows_all t u bytes is on
 
-  by_result : (r : Result A Failure) → WritesRefusal old new r (IsComparison all value b t u) (λ e. e ≡ Memory) → ShowsMerged sources drawing old new
+  fails : (e : Failure) → Writes {A = A} old new (Err e) (IsComparisonOf sources left right diff) (FailsToCompare sources left right diff) → ShowsMerged sources diff.drawing old new
+  fails e h = writes_shown {A = A} b (IsMergeCode value) old new (Err e) (IsComparisonOf sources left right diff) (FailsToCompare sources left right diff) shows h
+
+  by_result : (r : Result A Failure) → Compares sources left right diff old new r → ShowsMerged sources diff.drawing old new
   by_result (Ok x) h = λ on. ([], none_shown (IsMergeCode value), ([], whole [], h))
-  by_result (Err Said) h = λ on. (h.0, shows all h.0 h.1 on, (h.0, whole h.0, h.2))
+  by_result (Err Said) h = λ on. (h.0, shows h.0 h.1 on, (h.0, whole h.0, h.2))
   by_result (Err (Usage wrong)) h = fails (Usage wrong) h
   by_result (Err (Input wrong)) h = fails (Input wrong) h
   by_result (Err (Output kind)) h = fails (Output kind) h
   by_result (Err Memory) h = fails Memory h
-
--- no difference
-pub merged_nothing : (sources : Sources) (drawing : Drawing) (a : Option (List ℕ)) → ShowsMerged sources drawing a a
-merged_nothing sources drawing a = nothing_shown drawing.screen.is_terminal (IsMergeCode (drawing_value sources drawing)) a

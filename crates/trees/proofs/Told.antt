@@ -7,13 +7,13 @@ use Rattle.std.proofs.lemmas.List.Elements.{All-more, All-take, All-get_or}
 use Rattle.ptree.specs.declared.print_config.OutputKind.TheVariants.{Unknown}
 use Rattle.ptree.specs.Config.{ConfigValue}
 use Rattle.ptree.specs.Drawing.{look_by, IsDrawing}
-use Rattle.ptree.specs.DrawnForm.{IsDrawnForm}
 use Rattle.ptree.specs.Tree.{Tree, shape_of_tree}
+use Rattle.ptree.proofs.Drawing.Laws.{drawn_form_again}
 use Rattle.trees.specs.declared.failure.Failure.{Failure}
 use Rattle.trees.specs.declared.failure.Failure.TheVariants.{Usage, Input, Said, Output, Memory}
 use Rattle.trees.specs.declared.source.Source.{Source}
-use Rattle.trees.specs.Telling.{TellsWhether, TellsOnlyIf}
-use Rattle.trees.specs.Reading.{HoldsDrawing, HoldsNoOther, IsRedrawn}
+use Rattle.trees.specs.Telling.{TellsWhether}
+use Rattle.trees.specs.Reading.{HoldsDrawing}
 
 -- what tells whether a fact holds tells it of each that is the same
 pub tells_same : {A : Type 0} (r : Result A Failure) (P Q : Type 0) → (P → Q) → (Q → P) → TellsWhether r P → TellsWhether r Q
@@ -29,27 +29,10 @@ pub tells_of_not : {A : Type 0} (r : Result A Failure) (b : Bool) (P : Type 0) �
 tells_of_not r true P same h = tells_same r (not true ≡ false) P (λ _. same.0 refl) (λ _. refl) h
 tells_of_not r false P same h = tells_same r (not false ≡ false) P (λ e. absurd (false≢true (sym e))) (λ p. absurd (false≢true (same.1 p))) h
 
--- what holds is told by each end
-pub told_anyway : {A : Type 0} (r : Result A Failure) (P : Type 0) → P → TellsOnlyIf r P
-told_anyway (Ok x) P p = p
-told_anyway (Err Said) P p = p
-told_anyway (Err (Usage wrong)) P p = tt
-told_anyway (Err (Input wrong)) P p = tt
-told_anyway (Err (Output kind)) P p = tt
-told_anyway (Err Memory) P p = tt
-
--- two texts with drawings are the same exactly if their trees are
-pub same_texts : (config : ConfigValue) (right : Source) (t u : Tree) (text : List ℕ)
-    → IsDrawnForm (look_by config Unknown false) config.depth text t
-    → HoldsDrawing config right u → HoldsNoOther config right u → IsRedrawn config right u
-    → (t ≡ u) ↔ (text ≡ string_bytes right.text)
-same_texts config right t u text form holds only redrawn = (
-  (λ same. redrawn text (subst (λ (w : Tree). IsDrawing (look_by config Unknown false) (shape_of_tree w) config.depth text) same form.drawn)),
-  (λ same. sym (only t (record {
-    read = holds.read;
-    form = subst (λ (x : List ℕ). IsDrawnForm (look_by config Unknown false) config.depth x t) same form;
-  }))),
-)
+-- texts with the same tree's drawing are the same
+pub same_texts : (config : ConfigValue) (left right : Source) (t u : Tree) → HoldsDrawing config left t → HoldsDrawing config right u → t ≡ u → string_bytes left.text ≡ string_bytes right.text
+same_texts config left right t u a b same =
+    sym (drawn_form_again (look_by config Unknown false) config.depth (string_bytes left.text) (string_bytes right.text) t a.form (subst (λ (w : Tree). IsDrawing (look_by config Unknown false) (shape_of_tree w) config.depth (string_bytes right.text)) (sym same) b.form.drawn))
 
 -- of the next element the fact holds
 pub still_all : {X : Type 0} (P : X → Type 0) (xs : List X) (i : ℕ) (x : X) (b : Bool) → i < length xs → x ≡ get_or xs i x → P x

@@ -2,24 +2,28 @@
 use Rattle.std.proofs.Common.{◌≡◌, ℕ, true, false, inl, inr, Option, Some, None, List, Result, Ok, Err, sym, subst, append-nil}
 use Rattle.std.proofs.KnownBytes.{Appends-nil}
 use Rattle.std.proofs.lemmas.Bool.{false≢true}
-use Rattle.std.specs.Prelude.{IsErr, IfErr}
+use Rattle.std.specs.Io.KnownBytes.{Appends}
+use Rattle.std.specs.Prelude.{[], IsErr, IfErr}
 use Rattle.ptree.specs.declared.print_config.Sources.{Sources}
 use Rattle.ptree.specs.declared.value.document.DocFormat.TheVariants.{Toml, Json}
 use Rattle.ptree.specs.Tree.{Tree}
 use Rattle.ptree_trees.specs.declared.indented.Form.{Form}
+use Rattle.trees.specs.declared.command.Diff.{Diff}
 use Rattle.trees.specs.declared.command.Drawing.{Drawing}
 use Rattle.trees.specs.declared.command.Tree.{Tree as Given}
 use Rattle.trees.specs.declared.command.Tree.TheVariants as given
 use Rattle.trees.specs.declared.failure.Failure.{Failure}
 use Rattle.trees.specs.declared.failure.Failure.TheVariants.{Usage, Input, Said, Output, Memory}
 use Rattle.trees.specs.declared.source.Source.{Source}
-use Rattle.trees.specs.Asked.{drawing_value}
+use Rattle.trees.specs.Asked.{drawing_value, reading_value}
 use Rattle.trees.specs.Documents.{IsPartTree}
 use Rattle.trees.specs.Listing.{IsWrongList}
+use Rattle.trees.specs.Merging.{IsComparison}
+use Rattle.trees.specs.Named.{IsReadableValue}
 use Rattle.trees.specs.Outlining.{outline_lines, IsFormOf, IsRightForm, HoldsOutline}
-use Rattle.trees.specs.Reading.{IsInput}
+use Rattle.trees.specs.Reading.{HoldsDrawing, IsInput}
 use Rattle.trees.specs.Telling.{TellsWhether}
-use Rattle.trees.specs.Writing.{AppendsSome, Writes, WritesOr, WritesSaid, IsTreeDrawing, IsDrawingOf, FailsToGive}
+use Rattle.trees.specs.Writing.{AppendsSome, Writes, WritesOr, WritesSaid, WritesRefusal, IsTreeDrawing, IsDrawingOf, IsComparisonOf, FailsToCompare, Compares, FailsToGive}
 use Rattle.trees.proofs.Readings.{fails_by_memory}
 
 -- what is written is also what follows of it
@@ -82,3 +86,11 @@ fails_early Done old (Err (Input wrong)) Is Fails none err says = inl (says, App
 fails_early Done old (Err Said) Is Fails none err says = absurd (none says)
 fails_early Done old (Err (Output kind)) Is Fails none err says = inl (says, Appends-nil old)
 fails_early Done old (Err Memory) Is Fails none err says = inl (says, Appends-nil old)
+
+-- what is written of two trees is written of the sources with their drawings
+pub compares : {A : Type 0} (sources : Sources) (left right : Source) (diff : Diff) (t u : Tree) (old new : Option (List ℕ)) (r : Result A Failure) → HoldsDrawing (reading_value sources diff.drawing.pieces) left t → HoldsDrawing (reading_value sources diff.drawing.pieces) right u
+    → WritesRefusal old new r (IsComparison diff.shows_all (drawing_value sources diff.drawing) diff.drawing.screen.is_terminal t u) (λ e. e ≡ Memory) → Compares sources left right diff old new r
+compares sources left right diff t u old new r a b written =
+    let config = reading_value sources diff.drawing.pieces in
+    or_weaker (Appends old new []) (Appends old new []) old new r (IsComparison diff.shows_all (drawing_value sources diff.drawing) diff.drawing.screen.is_terminal t u) (IsComparisonOf sources left right diff) (λ e. e ≡ Memory) (FailsToCompare sources left right diff)
+    (λ done. done) (λ bytes h. (t, u, a, b, h)) (λ e h. inl (fails_by_memory ((x : Tree) → HoldsDrawing config left x → ⊥) (IsReadableValue config → ⊥) e h)) written

@@ -1,5 +1,6 @@
 -- The first difference of two trees, their merges, and how these are shown.
-use Rattle.std.specs.Prelude.{◌≡◌, ◌≢◌, ◌⊎◌, ◌+◌, ◌-◌, ⊤, ℕ, All, Bool, true, false, if◌then◌else◌, List, [], ◌∷◌, ◌++◌, length, Option, Some, None, option_map, slice_get, unwrap_or, codes, decimal, string_bytes}
+use Rattle.std.specs.Prelude.{◌≡◌, ◌≢◌, ◌⊎◌, ◌+◌, ◌-◌, ⊤, ℕ, All, Bool, true, false, if◌then◌else◌, List, [], ◌∷◌, ◌++◌, length, map, Option, Some, None, option_map, slice_get, unwrap_or, codes, decimal, string_bytes}
+use Rattle.std.specs.List.{concat}
 use Rattle.std.specs.Str.{bytes_eq}
 use Rattle.ptree.specs.declared.print_config.OutputKind.TheVariants.{Unknown}
 use Rattle.ptree.specs.declared.style.color.Color.TheVariants.{Red, Green}
@@ -10,8 +11,8 @@ use Rattle.ptree.specs.Drawing.{look_by, IsDrawing}
 use Rattle.ptree.specs.Shape.{Shape, unfolded_shape}
 use Rattle.ptree.specs.Style.{StyleValue, plain_value, style_of, painted_text}
 use Rattle.ptree.specs.Texts.{line_feed}
-use Rattle.ptree.specs.Tree.{Forest, none, item, Tree, tree_kids}
-use Rattle.ptree_trees.specs.Difference.{text_at_address, DifferAt, AreSameBefore}
+use Rattle.ptree.specs.Tree.{Forest, none, item, Tree}
+use Rattle.ptree_trees.specs.Difference.{text_at_address, texts_above, DifferAt, AreSameBefore}
 use Rattle.ptree_trees.specs.Escape.{escaped_text}
 use Rattle.ptree_trees.specs.declared.styled.StyledItem.{StyledItem}
 use Rattle.ptree_trees.specs.declared.styled.StyledItem.TheOpen.{StyledItem-F}
@@ -29,9 +30,8 @@ side_mark Right = codes "+ "
 -- ## First differences
 
 -- the texts above an address, from the root on: each escaped, with ` / ` behind it
-abbrev pub way_text : Tree → Address → List ℕ
-way_text t [] = []
-way_text t (i ∷ rest) = (escaped_text t.text ++ codes " / ") ++ unwrap_or (option_map (λ c. way_text c rest) (slice_get (tree_kids t) i)) []
+abbrev pub way_text : List (List ℕ) → List ℕ
+way_text above = concat (map (λ text. escaped_text text ++ codes " / ") above)
 
 -- the line that says which child an address leads to, counted from 1, or that it is the root's
 abbrev pub place_line : Address → List ℕ
@@ -47,7 +47,7 @@ side_line side (Some text) = side_mark side ++ (escaped_text text ++ codes "\n")
 abbrev pub TellsDifference : Tree → Tree → List ℕ → Type 0
 TellsDifference t u said =
     (a : Address) × DifferAt t u a × AreSameBefore t u a
-    × (said ≡ way_text t a ++ (place_line a ++ (side_line Left (text_at_address t a) ++ side_line Right (text_at_address u a))))
+    × (said ≡ way_text (texts_above t a) ++ (place_line a ++ (side_line Left (text_at_address t a) ++ side_line Right (text_at_address u a))))
 
 -- ## Merges
 

@@ -7,7 +7,7 @@ use Rattle.ptree.specs.Config.{ConfigValue}
 use Rattle.ptree.specs.Continuation.{IsFirstWrongLine, EndsWrong}
 use Rattle.ptree.specs.Drawing.{look_by, IsDrawing}
 use Rattle.ptree.specs.DrawnForm.{IsDrawnForm}
-use Rattle.ptree.specs.Outline.{subtrees}
+use Rattle.ptree.specs.Outline.{Line, outline, subtrees}
 use Rattle.ptree.specs.Tree.{Tree, shape_of_tree}
 use Rattle.trees.specs.declared.failure.Failure.{Failure}
 use Rattle.trees.specs.declared.failure.Failure.TheVariants.{Usage, Input, Said, Output, Memory}
@@ -19,6 +19,10 @@ use Rattle.trees.specs.Named.{IsReadableValue}
 pub record HoldsDrawing (config : ConfigValue) (source : Source) (t : Tree) : Type 0 where
   pub read : source.fault ≡ None
   pub form : IsDrawnForm (look_by config Unknown false) config.depth (string_bytes source.text) t
+
+-- the source holds the drawing of a tree with these lines
+abbrev pub HoldsItems : ConfigValue → Source → List Line → Type 0
+HoldsItems config source lines = (t : Tree) × (outline t ≡ lines) × HoldsDrawing config source t
 
 -- the source holds the drawing of no other tree than t
 abbrev pub HoldsNoOther : ConfigValue → Source → Tree → Type 0

@@ -1,63 +1,58 @@
 //! Compares two trees.
 ghost use Rattle.std.specs.Prelude.{◌≡◌, ◌↔◌, ◌++◌, length, map, option_map, IfOk, IfSome, MatchOption, OnOk, None, string_bytes};
+ghost use Rattle.ptree.specs.Outline.{outline};
+ghost use Rattle.ptree.specs.ReadItems.{item_line};
 ghost use Rattle.ptree.specs.Style.{style_of};
-ghost use Rattle.ptree.specs.Tree.{tree_of};
+ghost use Rattle.ptree.specs.Tree.{Tree, tree_of};
 ghost use Rattle.trees.specs.Merging.{TellsDifference, way_text, place_line, side_line, ShowsMerge, ShowsBoth, styled_forest, styled_tree_of, side_mark, side_style, marked_tree, roots_text};
 ghost use Rattle.trees.specs.MergingParts.{ArePlaces, AreAllOrNone, HasPlaces, IsFoundAt, LacksText};
 
 use crate::screen::shown_text;
 use ptree::item::StringItem;
+use ptree::read::ReadItem;
 use ptree::style::{Color, Style};
-use ptree_trees::difference::{Difference, first_difference};
+use ptree_trees::difference::first_item_difference;
 use ptree_trees::escape::escaped;
 use ptree_trees::styled::StyledItem;
 use std::alloc::{AllocError, Global};
 
-/// Returns what is said of the first difference of two trees, or `None` if they are equal: the texts
-/// above it, which child it is, and what stands there in each. The texts are escaped, each on one
-/// line.
+/// Returns what is said of the first difference of the trees of two drawings, or `None` if they are
+/// equal: the texts above it, which child it is, and what stands there in each. The texts are
+/// escaped, each on one line.
 ///
 /// # Errors
 ///
 /// Memory ran out.
 pub fn first(
     alloc: Global,
-    left: &StringItem,
-    right: &StringItem,
+    left: &[ReadItem<'_>],
+    right: &[ReadItem<'_>],
 ) -> Result<Option<String>, AllocError>
-    ensures equal { IfOk result (λ o. (o ≡ None) ↔ (tree_of left.now ≡ tree_of right.now)) }
-    ensures tells { IfOk result (λ o. IfSome o (λ s.
-        TellsDifference (tree_of left.now) (tree_of right.now) (string_bytes s))) }
+    ensures equal { (t u : Tree) → outline t ≡ map item_line left.now
+        → outline u ≡ map item_line right.now → IfOk result (λ o. o ≡ None → t ≡ u) }
+    ensures tells { (t u : Tree) → outline t ≡ map item_line left.now
+        → outline u ≡ map item_line right.now
+        → IfOk result (λ o. IfSome o (λ s. TellsDifference t u (string_bytes s))) }
 {
-    let Some(found) = first_difference(alloc, left, right)? else {
+    let Some(found) = first_item_difference(alloc, left, right)? else {
         return Ok(None);
     };
     let mut said = String::new(alloc);
-    push_way(alloc, &mut said, left, &found.address)?;
+    push_way(alloc, &mut said, &found.above)?;
     push_place(&mut said, &found.address)?;
     push_side(alloc, &mut said, Side::Left, found.left)?;
     push_side(alloc, &mut said, Side::Right, found.right)?;
     Ok(Some(said))
 }
 
-// Adds the texts of the items above an address, from the root on.
-fn push_way(
-    alloc: Global,
-    said: &mut String,
-    root: &StringItem,
-    address: &[usize],
-) -> Result<(), AllocError>
+// Adds the texts above a difference, from the root on.
+fn push_way(alloc: Global, said: &mut String, above: &[&str]) -> Result<(), AllocError>
     ensures { OnOk result (string_bytes said.new
-        ≡ string_bytes said.old ++ way_text (tree_of root.now) address.now) }
+        ≡ string_bytes said.old ++ way_text (map (λ s. s.now) above.now)) }
 {
-    let mut item = root;
-    for position in address {
-        let text = escaped(alloc, item.text.as_str())?;
+    for text in above {
+        let text = escaped(alloc, text)?;
         write!(said, "{text} / ")?;
-        let Some(child) = item.children.get(*position) else {
-            return Ok(());
-        };
-        item = child;
     }
     Ok(())
 }
@@ -81,16 +76,16 @@ fn push_side(
     alloc: Global,
     said: &mut String,
     side: Side,
-    item: Option<&StringItem>,
+    text: Option<&str>,
 ) -> Result<(), AllocError>
     ensures { OnOk result (string_bytes said.new ≡ string_bytes said.old
-        ++ side_line side (option_map (λ s. (tree_of s.now).text) item.entry)) }
+        ++ side_line side (option_map (λ s. s.now) text.entry)) }
 {
     let mark = side.mark();
-    let Some(item) = item else {
+    let Some(text) = text else {
         return writeln!(said, "{mark}(nothing)");
     };
-    let text = escaped(alloc, item.text.as_str())?;
+    let text = escaped(alloc, text)?;
     writeln!(said, "{mark}{text}")
 }
 

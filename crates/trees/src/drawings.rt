@@ -1,14 +1,15 @@
 //! Reads drawings, and says where a text is none.
-ghost use Rattle.std.specs.Prelude.{◌≡◌, ◌≤◌, ◌-◌, ◌∷◌, ◌++◌, length, IfOk, IfErr, string_bytes};
+ghost use Rattle.std.specs.Prelude.{◌≡◌, ℕ, ◌≤◌, ◌-◌, ◌∷◌, ◌++◌, map, None, IfOk, IfErr, OnOk, string_bytes};
 ghost use Rattle.ptree.specs.Config.{config_of};
-ghost use Rattle.ptree.specs.Continuation.{first_lines, line_count};
-ghost use Rattle.ptree.specs.Outline.{subtrees};
+ghost use Rattle.ptree.specs.Continuation.{EndsWrong, IsFirstWrongLine, first_lines, line_count};
+ghost use Rattle.ptree.specs.Drawing.{written_look};
+ghost use Rattle.ptree.specs.ReadItems.{item_line};
 ghost use Rattle.ptree.specs.Readable.{HasReadablePieces};
 ghost use Rattle.ptree.specs.Texts.{line_feed, HasNoLineFeed};
 ghost use Rattle.ptree.specs.Tree.{tree_of};
 ghost use Rattle.trees.specs.Expected.{IsWholeLine, IsLineAt, IsHint, TellsLine, IsWhyEnd, TellsEnd};
 ghost use Rattle.trees.specs.Named.{AddsOther};
-ghost use Rattle.trees.specs.Reading.{HoldsDrawing, HoldsNoOther, IsRedrawn, FailsToRead, NamesPlace};
+ghost use Rattle.trees.specs.Reading.{HoldsDrawing, HoldsItems, HoldsNoOther, IsRedrawn, FailsToRead, NamesPlace};
 
 use crate::expected::{beginnings, is_too_deep};
 use crate::failure::Failure;
@@ -18,7 +19,7 @@ use crate::source::Source;
 use crate::usage::Usage;
 use ptree::item::StringItem;
 use ptree::print_config::PrintConfig;
-use ptree::read::{ReadError, pieces_readable, read_tree_or_line};
+use ptree::read::{ReadError, ReadItem, pieces_readable, read_items, read_tree_or_line};
 use ptree_trees::escape::escaped;
 use std::alloc::{AllocError, Global};
 
@@ -27,7 +28,8 @@ use std::alloc::{AllocError, Global};
 /// # Errors
 ///
 /// `Input` if the text could not be read, or with the first wrong line if it is no drawing, and
-/// with the name of other pieces under which it is one. `Memory` if memory ran out.
+/// with the name of other pieces under which it is one. `Usage` if drawings with the pieces cannot
+/// be read back. `Memory` if memory ran out.
 pub fn read(alloc: Global, source: &Source, config: &PrintConfig) -> Result<StringItem, Failure>
     ensures some { IfOk result (λ t. HoldsDrawing (config_of config.now) source.now (tree_of t)) }
     ensures only { IfOk result (λ t. HoldsNoOther (config_of config.now) source.now (tree_of t)) }
@@ -39,23 +41,77 @@ pub fn read(alloc: Global, source: &Source, config: &PrintConfig) -> Result<Stri
     // is one.
     ensures place { IfErr result (NamesPlace (config_of config.now) source.now) }
 {
+    expect_readable(alloc, source, config)?;
+    match read_tree_or_line(alloc, source.text.as_str(), config) {
+        Ok(tree) => Ok(tree),
+        Err(error) => Err(why_none(alloc, source, error, config)?),
+    }
+}
+
+/// Returns the items of that tree, in the order of the drawing.
+///
+/// # Errors
+///
+/// Those of [`read`].
+pub fn items<'a>(
+    alloc: Global,
+    source: &'a Source,
+    config: &PrintConfig,
+) -> Result<Vec<ReadItem<'a>>, Failure>
+    ensures some { IfOk result (λ v.
+        HoldsItems (config_of config.now) source.now (map item_line v.items)) }
+    ensures failed { IfErr result (FailsToRead (config_of config.now) source.now) }
+    ensures place { IfErr result (NamesPlace (config_of config.now) source.now) }
+{
+    expect_readable(alloc, source, config)?;
+    match read_items(alloc, source.text.as_str(), config) {
+        Ok(items) => Ok(items),
+        Err(error) => Err(why_none(alloc, source, error, config)?),
+    }
+}
+
+// Refuses a source that could not be read, and pieces that are not readable.
+fn expect_readable(alloc: Global, source: &Source, config: &PrintConfig) -> Result<(), Failure>
+    ensures read { OnOk result (source.now.fault ≡ None) }
+    ensures readable { OnOk result (HasReadablePieces config.now) }
+    ensures failed { IfErr result (FailsToRead (config_of config.now) source.now) }
+    ensures place { IfErr result (NamesPlace (config_of config.now) source.now) }
+{
     if let Some(fault) = &source.fault {
         return Err(Failure::Input(fault.clone()?));
     }
     if !pieces_readable(alloc, config)? {
         return Err(Usage::Unreadable.failure(alloc)?);
     }
+    Ok(())
+}
+
+// Returns why a text is no drawing.
+fn why_none(
+    alloc: Global,
+    source: &Source,
+    error: ReadError,
+    config: &PrintConfig,
+) -> Result<Failure, AllocError>
+    requires read { source.now.fault ≡ None }
+    requires readable { HasReadablePieces config.now }
+    requires line { (n : ℕ) → error ≡ ReadError.Line n → IsFirstWrongLine
+        (written_look config.now) config.now.depth (string_bytes source.now.text) n }
+    requires end { error ≡ ReadError.End
+        → EndsWrong (written_look config.now) config.now.depth (string_bytes source.now.text) }
+    ensures failed { IfOk result (FailsToRead (config_of config.now) source.now) }
+    ensures place { IfOk result (NamesPlace (config_of config.now) source.now) }
+{
     let text = source.text.as_str();
-    match read_tree_or_line(alloc, text, config) {
-        Ok(tree) => Ok(tree),
-        Err(ReadError::Memory) => Err(Failure::Memory),
-        Err(ReadError::Line(line)) => {
+    match error {
+        ReadError::Memory => Ok(Failure::Memory),
+        ReadError::Line(line) => {
             let wrong = wrong_line(alloc, text, line, config)?;
-            Err(source.wrong_at(alloc, line, wrong.as_str())?)
+            Ok(source.wrong_at(alloc, line, wrong.as_str())?)
         }
-        Err(ReadError::End) => {
+        ReadError::End => {
             let wrong = wrong_end(alloc, text, config)?;
-            Err(source.wrong(alloc, wrong.as_str())?)
+            Ok(source.wrong(alloc, wrong.as_str())?)
         }
     }
 }
@@ -164,15 +220,4 @@ fn push_other(
     said.push_str("\nit is a drawing with --as ")?;
     said.push_str(pieces.name())?;
     Ok(true)
-}
-
-/// Returns how many items a tree has.
-///
-/// # Errors
-///
-/// Memory ran out.
-pub fn count(alloc: Global, tree: &StringItem) -> Result<usize, AllocError>
-    ensures { IfOk result (λ n. n ≡ length (subtrees (tree_of tree.now))) }
-{
-    Ok(tree.items(alloc)?.len())
 }

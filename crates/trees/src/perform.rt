@@ -1,11 +1,10 @@
 //! Does what a command asks for.
-ghost use Rattle.std.specs.Prelude.{◌≡◌, ◌≢◌, ◌<◌, ◌↔◌, ◌++◌, ℕ, true, false, List, None, length, All, IsTrue, IfOk, IfErr, IsErr, OnOk, option_map, string_bytes};
+ghost use Rattle.std.specs.Prelude.{◌≡◌, ◌≢◌, ◌<◌, ◌↔◌, ◌++◌, ℕ, true, false, List, None, map, length, All, IsTrue, IfOk, IfErr, IsErr, OnOk, option_map, string_bytes};
 ghost use Rattle.ptree.specs.declared.print_config.OutputKind.TheVariants.{Unknown};
 ghost use Rattle.ptree.specs.Config.{config_of};
 ghost use Rattle.ptree.specs.Drawing.{look_by};
-ghost use Rattle.ptree.specs.DrawnForm.{IsDrawnForm};
 ghost use Rattle.ptree.specs.Loading.{first_fault};
-ghost use Rattle.ptree.specs.Outline.{subtrees};
+ghost use Rattle.ptree.specs.ReadItems.{item_line};
 ghost use Rattle.ptree.specs.Tree.{tree_of};
 ghost use Rattle.ptree.specs.Writing.{AppendsPart, IsWritten};
 ghost use Rattle.ptree_trees.specs.Change.{kept_tree};
@@ -14,7 +13,7 @@ ghost use Rattle.trees.specs.Asked.{drawing_value, reading_value, with_drawing};
 ghost use Rattle.trees.specs.Changing.{IsPart, IsKept, IsConverted, FailsToConvert};
 ghost use Rattle.trees.specs.Listing.{IsListed, FailsToList};
 ghost use Rattle.trees.specs.Merging.{IsComparison, IsMergeDrawing};
-ghost use Rattle.trees.specs.Reading.{HoldsDrawing, HoldsNoOther, HoldsSome, IsRedrawn, FailsFor, FailsToRead, FailsToMake, NamesPlace, IsReport, Adds, item_word, count_line};
+ghost use Rattle.trees.specs.Reading.{HoldsDrawing, HoldsItems, HoldsNoOther, HoldsSome, IsRedrawn, FailsFor, FailsToRead, FailsToMake, NamesPlace, IsReport, Adds, item_word, count_line};
 ghost use Rattle.trees.specs.Shown.{IsNone, ShowsOnly};
 ghost use Rattle.trees.specs.Telling.{TellsWhether, TellsOnlyIf, TellsOfTexts, TellsOfCommand};
 ghost use Rattle.trees.specs.Writing.{WritesSaid, AreReports, FailsToCheck, AreSettings, Writes, IsTreeDrawing, IsGraphDrawing, IsGraphTooDeep, WritesDrawn, IsIndentation, FailsToIndent, IsGiven, FailsToGive, Draws, DrawsNeeds, Converts, ConvertsBack, WritesOfCommand, ShowsOfCommand, ShowsDrawing, ShowsMerged, LeavesIfWrong, WritesRefusal, Compares};
@@ -32,6 +31,7 @@ use ptree::graph::{REPEATED_MARK, write_graph_once_with, write_graph_with};
 use ptree::item::StringItem;
 use ptree::output::write_tree_with;
 use ptree::print_config::{PrintConfig, StyleWhen};
+use ptree::read::ReadItem;
 use ptree::style::{DrawError, Sink, put_all};
 use ptree_sources::surroundings::Surroundings;
 use ptree_trees::change::{kept, sorted};
@@ -357,6 +357,18 @@ fn write_once<W: Sink>(
     write_graph_once_with(alloc, graph, *root, REPEATED_MARK, out, config)
 }
 
+// Returns the configuration by which drawings are read, with the pieces that are named, or with
+// those of the settings.
+fn reading_config(
+    alloc: Global,
+    pieces: Option<Pieces>,
+    found: &Surroundings,
+) -> Result<PrintConfig, AllocError>
+    ensures { IfOk result (λ config. config_of config ≡ reading_value found.now.sources pieces) }
+{
+    config(alloc, Drawing::read_with(pieces), found)
+}
+
 // Returns the tree of a drawing, made with the pieces that are named, or with those of the
 // settings.
 fn read_drawing(
@@ -376,10 +388,30 @@ fn read_drawing(
     ensures place { IfErr result
         (NamesPlace (reading_value found.now.sources pieces) source.now) }
 {
-    let config = config(alloc, Drawing::read_with(pieces), found)?;
+    let config = reading_config(alloc, pieces, found)?;
     let tree = drawings::read(alloc, source, &config);
     drop(config);
     tree
+}
+
+// Returns the items of that tree.
+fn read_items<'a>(
+    alloc: Global,
+    source: &'a Source,
+    pieces: Option<Pieces>,
+    found: &Surroundings,
+) -> Result<Vec<ReadItem<'a>>, Failure>
+    ensures some { IfOk result (λ v. HoldsItems (reading_value found.now.sources pieces) source.now
+        (map item_line v.items)) }
+    ensures failed { IfErr result
+        (FailsToRead (reading_value found.now.sources pieces) source.now) }
+    ensures place { IfErr result
+        (NamesPlace (reading_value found.now.sources pieces) source.now) }
+{
+    let config = reading_config(alloc, pieces, found)?;
+    let items = drawings::items(alloc, source, &config);
+    drop(config);
+    items
 }
 
 // Writes a drawing as indented text.
@@ -478,9 +510,9 @@ fn push_check(
         × IsReport (reading_value found.now.sources pieces) source.now more) }
     ensures failed { IfErr result (FailsToCheck found.now.sources pieces) }
 {
-    match read_drawing(alloc, source, pieces, found) {
-        Ok(tree) => {
-            push_count(alloc, said, source, &tree)?;
+    match read_items(alloc, source, pieces, found) {
+        Ok(items) => {
+            push_count(said, source, items.len())?;
             Ok(true)
         }
         Err(Failure::Input(wrong)) => {
@@ -491,17 +523,11 @@ fn push_check(
     }
 }
 
-// Adds that an input is the drawing of a tree.
-fn push_count(
-    alloc: Global,
-    said: &mut String,
-    source: &Source,
-    tree: &StringItem,
-) -> Result<(), AllocError>
-    ensures { OnOk result (string_bytes said.new ≡ string_bytes said.old
-        ++ count_line source.now (length (subtrees (tree_of tree.now)))) }
+// Adds that an input is the drawing of so many items.
+fn push_count(said: &mut String, source: &Source, n: usize) -> Result<(), AllocError>
+    ensures { OnOk result
+        (string_bytes said.new ≡ string_bytes said.old ++ count_line source.now n) }
 {
-    let n = drawings::count(alloc, tree)?;
     let (name, items) = (&source.name, item_word(n));
     writeln!(said, "{name}: a drawing of {n} {items}")
 }
@@ -570,65 +596,65 @@ fn compare_drawings<W: Sink>(
     ensures shown { ShowsMerged found.now.sources diff.drawing
         (W.contents out.old) (W.contents out.new) }
 {
-    let tree = read_drawing(alloc, left, diff.drawing.pieces, found)?;
     if left.text == right.text {
+        read_items(alloc, left, diff.drawing.pieces, found)?;
         return Ok(());
     }
-    compare_with(alloc, &tree, right, diff, out, found)
+    if diff.shows_all {
+        return show_all(alloc, left, right, diff, out, found);
+    }
+    show_first(alloc, left, right, diff, out, found)
 }
 
-// Compares a tree with a drawing.
-fn compare_with<W: Sink>(
+// Shows all differences of two drawings whose texts differ.
+fn show_all<W: Sink>(
     alloc: Global,
-    left: &StringItem,
+    left: &Source,
     right: &Source,
     diff: Diff,
     out: &mut W,
     found: &Surroundings,
 ) -> Result<(), Failure>
-    // The texts with this tree's drawing are all the same.
-    ensures told { let config = reading_value found.now.sources diff.drawing.pieces in
-        (text : List ℕ)
-        → IsDrawnForm (look_by config Unknown false) config.depth text (tree_of left.now)
-        → TellsWhether result (text ≡ string_bytes right.now.text) }
-    ensures drawn { TellsOnlyIf result
+    requires all { diff.shows_all ≡ true }
+    ensures different { IsErr result }
+    ensures left_drawn { TellsOnlyIf result
+        (HoldsSome (reading_value found.now.sources diff.drawing.pieces) left.now) }
+    ensures right_drawn { TellsOnlyIf result
         (HoldsSome (reading_value found.now.sources diff.drawing.pieces) right.now) }
-    // So are the sources with its drawing.
-    ensures written { (first : Source)
-        → HoldsDrawing (reading_value found.now.sources diff.drawing.pieces) first
-        (tree_of left.now)
-        → Compares found.now.sources first right.now diff
+    ensures written { Compares found.now.sources left.now right.now diff
         (W.contents out.old) (W.contents out.new) result }
     ensures quiet { LeavesIfWrong out.old out.new result }
-    ensures shown { ShowsMerged found.now.sources diff.drawing
-        (W.contents out.old) (W.contents out.new) }
 {
-    let right = read_drawing(alloc, right, diff.drawing.pieces, found)?;
-    show_difference(alloc, left, &right, diff, out, found)
+    let tree = read_drawing(alloc, left, diff.drawing.pieces, found)?;
+    let other = read_drawing(alloc, right, diff.drawing.pieces, found)?;
+    draw(alloc, Drawn::Both(&tree, &other), diff.drawing, out, found)
 }
 
-// Shows how two trees differ, if they do.
-fn show_difference<W: Sink>(
+// Shows the first difference of two drawings whose texts differ.
+fn show_first<W: Sink>(
     alloc: Global,
-    left: &StringItem,
-    right: &StringItem,
+    left: &Source,
+    right: &Source,
     diff: Diff,
     out: &mut W,
     found: &Surroundings,
 ) -> Result<(), Failure>
-    ensures told { TellsWhether result (tree_of left.now ≡ tree_of right.now) }
-    ensures written { WritesRefusal (W.contents out.old) (W.contents out.new) result
-        (IsComparison diff.shows_all (drawing_value found.now.sources diff.drawing)
-        diff.drawing.screen.is_terminal (tree_of left.now) (tree_of right.now))
-        (λ e. e ≡ Failure.Memory) }
+    requires first { diff.shows_all ≡ false }
+    requires differ { string_bytes left.now.text ≢ string_bytes right.now.text }
+    ensures different { IsErr result }
+    ensures left_drawn { TellsOnlyIf result
+        (HoldsSome (reading_value found.now.sources diff.drawing.pieces) left.now) }
+    ensures right_drawn { TellsOnlyIf result
+        (HoldsSome (reading_value found.now.sources diff.drawing.pieces) right.now) }
+    ensures written { Compares found.now.sources left.now right.now diff
+        (W.contents out.old) (W.contents out.new) result }
     ensures quiet { LeavesIfWrong out.old out.new result }
-    ensures shown { ShowsMerged found.now.sources diff.drawing
-        (W.contents out.old) (W.contents out.new) }
 {
-    match compare::first(alloc, left, right)? {
+    let items = read_items(alloc, left, diff.drawing.pieces, found)?;
+    let others = read_items(alloc, right, diff.drawing.pieces, found)?;
+    match compare::first(alloc, &items, &others)? {
+        Some(said) => say(out, said.as_str(), true),
         None => Ok(()),
-        Some(said) if !diff.shows_all => say(out, said.as_str(), true),
-        Some(_) => draw(alloc, Drawn::Both(left, right), diff.drawing, out, found),
     }
 }
 

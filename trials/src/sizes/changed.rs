@@ -6,9 +6,10 @@ use crate::sizes::{LEVELS, made, text};
 use ptree::item::StringItem;
 use ptree::output::tree_bytes;
 use ptree::print_config::PrintConfig;
+use ptree::read::{ReadItem, pieces_readable, read_items};
 use ptree::style::Style;
 use ptree_trees::change::{kept, sorted};
-use ptree_trees::difference::first_difference;
+use ptree_trees::difference::{first_difference, first_item_difference};
 use ptree_trees::escape::{escaped, escaped_item};
 use ptree_trees::indented::{Form, indented_text, read_indented, write_indented};
 use ptree_trees::paths::{paths_tree, sorted_paths_tree};
@@ -89,6 +90,43 @@ fn try_compared(alloc: Global, tree: &StringItem, levels: usize) -> Result<(), D
             "a difference is at its level",
         ),
         None => Err(Deviation::of("a difference is found")),
+    }
+}
+
+// The items of a drawing.
+fn drawn<'a>(alloc: Global, drawing: &'a str) -> Result<Vec<ReadItem<'a>>, Deviation> {
+    let config = PrintConfig::default(alloc)?;
+    if made(
+        pieces_readable(alloc, &config),
+        "`pieces_readable` succeeds",
+    )?
+        && let Ok(items) = read_items(alloc, drawing, &config)
+    {
+        return Ok(items);
+    }
+    Err(Deviation::of("`read_items` reads a drawing"))
+}
+
+// The call that compares two drawings, the second of which has a leaf more.
+fn try_drawings(alloc: Global, size: usize) -> Result<(), Deviation> {
+    let config = PrintConfig::default(alloc)?;
+    let tree = wide(alloc, size)?;
+    let mut other = wide(alloc, size.saturating_add(1))?;
+    other.text = String::from_str(alloc, tree.text.as_str())?;
+    let left = tree.drawing(alloc, &config)?;
+    let right = other.drawing(alloc, &config)?;
+    let items = drawn(alloc, left.as_str())?;
+    let others = drawn(alloc, right.as_str())?;
+    let found = made(
+        first_item_difference(alloc, &items, &others),
+        "`first_item_difference` succeeds",
+    )?;
+    match found {
+        Some(found) => expect(
+            found.address.as_slice() == [size].as_slice() && found.left.is_none(),
+            "the leaf is the difference",
+        ),
+        None => Err(Deviation::of("a leaf more is found")),
     }
 }
 
@@ -177,6 +215,7 @@ fn try_styled(alloc: Global, size: usize) -> Result<(), Deviation> {
 pub fn try_all(alloc: Global, size: usize) -> Result<(), Deviation> {
     try_tree(alloc, &wide(alloc, size)?)?;
     try_deep(alloc, size.min(LEVELS))?;
+    try_drawings(alloc, size)?;
     try_escaped(alloc, size)?;
     try_names(alloc, size)?;
     try_path(alloc, size)?;

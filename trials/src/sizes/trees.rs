@@ -12,7 +12,7 @@ use ptree::output::{
     print_tree, print_tree_to, print_tree_with, tree_bytes, tree_text, write_tree, write_tree_with,
 };
 use ptree::print_config::{FileSource, PrintConfig, Sources};
-use ptree::read::{lines_that_follow, read_tree};
+use ptree::read::{lines_that_follow, read_items, read_tree};
 use ptree::style::Counted;
 use std::alloc::{AllocError, Global};
 
@@ -98,7 +98,7 @@ fn try_under(alloc: Global, tree: &StringItem) -> Result<(), Deviation> {
     )
 }
 
-// The call that reads a drawing.
+// The calls that read a drawing.
 fn try_read(
     alloc: Global,
     tree: &StringItem,
@@ -108,8 +108,13 @@ fn try_read(
     requires { HasReadablePieces config.now }
 {
     match read_tree(alloc, drawing, config) {
-        Ok(Some(read)) => expect(read == *tree, "a drawing is read as its tree"),
-        _ => Err(Deviation::of("`read_tree` reads a drawing")),
+        Ok(Some(read)) => expect(read == *tree, "a drawing is read as its tree")?,
+        _ => return Err(Deviation::of("`read_tree` reads a drawing")),
+    }
+    let items = made(tree.items(alloc), "`StringItem::items` succeeds")?;
+    match read_items(alloc, drawing, config) {
+        Ok(read) => expect(read.len() == items.len(), "a drawing is read as its items"),
+        Err(_) => Err(Deviation::of("`read_items` reads a drawing")),
     }
 }
 

@@ -5,7 +5,7 @@ use Rattle.std.proofs.lemmas.List.Elements.{All-nil, All-append}
 use Rattle.ptree.specs.declared.read.lines.Flags.{Flags}
 use Rattle.ptree.specs.Continuation.{HasContinuation, IsFirstWrongLine, EndsWrong, first_lines, line_count}
 use Rattle.ptree.specs.Drawing.{Look, with_inserted, continued_prefix}
-use Rattle.ptree.specs.DrawnForm.{IsDrawnForm}
+use Rattle.ptree.specs.DrawnForm.{IsDrawnForm, IsDrawnOutline}
 use Rattle.ptree.specs.Flags.{pieces_by, passing_by}
 use Rattle.ptree.specs.OpenDrawing.{NoneNext}
 use Rattle.ptree.specs.Outline.{Line, line, outline}
@@ -18,10 +18,11 @@ use Rattle.ptree.proofs.Reading.AfterLines.{one_feed, further_line, own_line, af
 use Rattle.ptree.proofs.Reading.Continuations.{goes_on_nothing}
 use Rattle.ptree.proofs.Reading.LineEnds.{first_feed_after_prefix, no_feed_painted}
 use Rattle.ptree.proofs.Reading.FirstLines.{first_rest, first_next, first_more, count_none, count_line}
-use Rattle.ptree.proofs.Reading.NextLines.{line_split, form_outline}
+use Rattle.ptree.proofs.Reading.NextLines.{line_split, form_outline, tree_of_outline}
 use Rattle.ptree.proofs.Reading.ReachedLines.{root_reached}
 use Rattle.ptree.proofs.Reading.ReachedEnds.{reached_goes_on, reached_end, reached_none, reached_short, feedless_ends_no_line}
 use Rattle.ptree.proofs.Styles.PaintedTexts.{no_line_feed_start, no_line_feed_end}
+use Rattle.ptree.proofs.Trees.Outlines.{same_tree}
 
 -- the first n lines of x were read, and rest is left
 pub record ScanSo (k : Look) (depth : ℕ) (x rest : List ℕ) (n : ℕ) (done : List Line) (level : ℕ) (own : List ℕ) (fs : List Flags) : Type 0 where
@@ -162,9 +163,14 @@ module _ {k : Look} {depth : ℕ} {x rest own : List ℕ} {n : ℕ} {done : List
       (subst HasNoLineFeed (sym e) (All-nil (λ c. c ≢ 10)))
 
   -- it is a drawing after one that can be the last
-  pub scan_end : (text : List ℕ) → own ≡ text ++ end_codes k.leaf → Allows fs [] → IsOutlineWithin depth (done ++ line level text ∷ []) × ((t : Tree) → outline t ≡ done ++ line level text ∷ [] → IsDrawnForm k depth x t)
+  pub scan_end : (text : List ℕ) → own ≡ text ++ end_codes k.leaf → Allows fs [] → IsDrawnOutline k depth x (done ++ line level text ∷ [])
   scan_end text closed allowed =
-      (h.reached.valid text, λ t is. subst (λ z. IsDrawnForm k depth z t) (sym whole_text) (reached_end k depth (first_lines n x) done level own text fs t h.reached closed allowed is))
+      let (t, is) = tree_of_outline depth (done ++ line level text ∷ []) (h.reached.valid text) in
+      (t, is, subst (λ z. IsDrawnForm k depth z t) (sym whole_text) (reached_end k depth (first_lines n x) done level own text fs t h.reached closed allowed is))
+
+-- the drawing of a tree's lines is the tree's
+pub form_of_lines : (k : Look) (depth : ℕ) (x : List ℕ) (t : Tree) → IsDrawnOutline k depth x (outline t) → IsDrawnForm k depth x t
+form_of_lines k depth x t (u, is, form) = subst (IsDrawnForm k depth x) (same_tree u t is) form
 
 -- a text with a wrong line is no drawing
 pub wrong_line_no_drawing : (k : Look) (depth : ℕ) (x : List ℕ) (n : ℕ) → IsFirstWrongLine k depth x n → (t : Tree) → IsDrawnForm k depth x t → ⊥

@@ -81,17 +81,6 @@ root_finished lines ps qs p closed pushed children item x e none pushed_is child
 pub leaf_lines : (n : ℕ) (text : List ℕ) → outline_under n (tree text (forest [])) ≡ line n text ∷ []
 leaf_lines n text = refl
 
--- ## Without items
-
--- it is the start of a tree
-pub none_partial : (ps : List Parent) (closed : List StringItem) → ps ≡ [] → closed ≡ [] → Ascend 0 ps (length closed) × HasOneRoot ps closed
-none_partial [] closed e f = (omega arith, f)
-none_partial (p ∷ ps) closed e f = absurd (let count = ap length e in omega (arith, count))
-
--- of no lines
-pub none_lines : (ps : List Parent) (closed : List StringItem) → ps ≡ [] → closed ≡ [] → lines_from 0 0 ps closed ≡ []
-none_lines ps closed e f = ap (λ z. lines_from 0 0 z closed) e ∙ ap (row_lines 0) f
-
 -- ## Lines one by one
 
 -- those so far, the one at hand and those that are left are all, and each is at most one level below the one before it

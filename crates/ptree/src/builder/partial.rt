@@ -21,7 +21,7 @@ struct Parent {
 /// drawing.
 #[derive(Drop)]
 pub(crate) struct PartialTree {
-    alloc: Global,
+    pub(crate) alloc: Global,
     parents: Vec<Parent>,
     closed: Vec<StringItem>,
 }

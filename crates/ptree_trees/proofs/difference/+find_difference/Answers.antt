@@ -6,7 +6,7 @@ use Rattle.ptree.specs.Address.{Address}
 use Rattle.ptree.specs.Tree.{tree_kids, tree_of}
 use Rattle.ptree_trees.specs.Found.{IsFound, IsFirst}
 use Rattle.ptree.proofs.Trees.ItemTrees.{child_there, child_not_there}
-use Rattle.ptree_trees.proofs.Differences.{same_texts, differ_at_child, differ_below, same_to_none, same_to_next, same_to_end}
+use Rattle.ptree_trees.proofs.Differences.{differ_at_child, differ_below, same_to_next, same_to_end}
 use Rattle.ptree_trees.proofs.difference.+find_difference.Goals as goal
 
 -- each of two trees has a child at a position: the item that was found there
@@ -14,9 +14,6 @@ both_there : (a b x y : StringItem) (xs ys : List StringItem) (i : ℕ) → xs �
     → i < length xs → x ≡ get_or xs i x → i < length ys → y ≡ get_or ys i y
     → (slice_get (tree_kids (tree_of a)) i ≡ Some (tree_of x)) × (slice_get (tree_kids (tree_of b)) i ≡ Some (tree_of y))
 both_there a b x y xs ys i left right within is other_within other_is = (child_there a xs i x left within is, child_there b ys i y right other_within other_is)
-
-pub loop-i-init : goal.loop-i-init
-loop-i-init t c = same_to_none _ _ (same_texts c.args.left.now c.args.right.now (search rules))
 
 pub returns-in_default : goal.returns-in_default
 returns-in_default t c =

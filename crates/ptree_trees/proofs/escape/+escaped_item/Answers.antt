@@ -1,14 +1,8 @@
-use Rattle.std.proofs.Common.{◌≡◌, string_bytes, ap, rules, ◌∙◌}
-use Rattle.ptree.specs.Tree.{tree_of}
+use Rattle.std.proofs.Common.{◌≡◌, string_bytes, ap, ◌∙◌}
 use Rattle.ptree.specs.declared.item.StringItem.{out-StringItem}
 use Rattle.ptree_trees.specs.Escape.{escaped_text}
-use Rattle.ptree_trees.proofs.EscapedTrees.{next_mapped, whole_mapped}
+use Rattle.ptree_trees.proofs.EscapedTrees.{whole_mapped}
 use Rattle.ptree_trees.proofs.escape.+escaped_item.Goals as goal
-
-pub loop-child-preserved : goal.loop-child-preserved
-loop-child-preserved t c =
-    next_mapped escaped_text tree_of c.deref-child-items.result.now c.loop-child.children.items c.push.new.self.items c.loop-child.child-index c.child-item.result c.in_ok-copy.copy
-    c.loop-child-test.true c.child-item.is c.in_ok-push.ensures.items c.loop-child.invariant (search rules)
 
 pub returns : goal.returns
 returns t c =

@@ -1,17 +1,8 @@
-use Rattle.std.proofs.Common.{◌≡◌, [], ◌++◌, ◌∙◌, length, sym, subst}
-use Rattle.std.specs.Prelude.{◌↔◌, IsTrue}
-use Rattle.std.proofs.lemmas.Bool.{false≢true, eqb-true}
-use Rattle.std.proofs.lemmas.List.{nil_from_length}
-use Rattle.ptree_trees.specs.Indented.{IsLineText}
+use Rattle.std.proofs.Common.{◌∙◌, sym}
+use Rattle.std.proofs.lemmas.Bool.{false≢true}
 use Rattle.ptree_trees.proofs.IndentedTexts.{no_line, no_feed_end}
 use Rattle.ptree_trees.proofs.IndentedWriting.{bullet_fits}
 use Rattle.ptree_trees.proofs.indented.is_item_text.Goals as goal
-
-pub returns-then-is_empty : goal.returns-then-is_empty
-returns-then-is_empty c =
-    let bullet = c.args.bullet.now in
-    let empty : bullet ≡ [] = nil_from_length bullet (eqb-true (length bullet) 0 (sym c.is_empty.ensures ∙ c.if-is_empty.true)) in
-    subst (λ b. IsTrue c.is_line_text.result ↔ IsLineText (b ++ c.args.text.now)) (sym empty) c.is_line_text.ensures
 
 pub returns-then-not-is_line_text : goal.returns-then-not-is_line_text
 returns-then-not-is_line_text c = (

@@ -2,10 +2,6 @@ use Rattle.std.proofs.Common.{rules, arith, sym, ◌∙◌}
 use Rattle.ptree_trees.proofs.IndentedTexts.{indent_none, indent_more, unit_shorter}
 use Rattle.ptree_trees.proofs.indented.split_indent.Goals as goal
 
-pub loop-more-smaller : goal.loop-more-smaller
-loop-more-smaller c =
-    omega (arith, unit_shorter c.args.unit.now c.loop-more.rest.now c.in-Some.more.now c.requires c.in-Some.ensures)
-
 pub loop-more-preserved : goal.loop-more-preserved
 loop-more-preserved c =
     let less = unit_shorter c.args.unit.now c.loop-more.rest.now c.in-Some.more.now c.requires c.in-Some.ensures in (

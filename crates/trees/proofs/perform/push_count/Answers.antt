@@ -1,11 +1,9 @@
-use Rattle.std.proofs.Common.{◌≡◌, ◌++◌, ℕ, List, codes, string_bytes, rules, ap, subst, ◌∙◌}
+use Rattle.std.proofs.Common.{◌≡◌, ◌++◌, List, ℕ, codes, string_bytes, rules, ap, subst}
 use Rattle.std.specs.Prelude.{decimal, OnOk}
-use Rattle.trees.specs.Reading.{count_line}
 use Rattle.trees.proofs.perform.push_count.Goals as goal
 
 pub returns : goal.returns
 returns c =
-    let source = c.args.source.now in
-    let line : List ℕ → List ℕ = λ word. string_bytes source.name ++ (codes ": a drawing of " ++ (decimal c.in_ok-n.n ++ (codes " " ++ (word ++ codes "\n")))) in
+    let line : List ℕ → List ℕ = λ word. string_bytes c.args.source.now.name ++ (codes ": a drawing of " ++ (decimal c.args.n ++ (codes " " ++ (word ++ codes "\n")))) in
     let bytes : OnOk c.writeln.result (string_bytes c.writeln.new.self ≡ string_bytes c.args.said.now ++ line c.item_word-items.result.now) = search rules in
-    subst (λ said. OnOk c.writeln.result (string_bytes c.writeln.new.self ≡ string_bytes c.args.said.now ++ said)) (ap line c.item_word-items.ensures ∙ ap (count_line source) c.in_ok-n.ensures) bytes
+    subst (λ said. OnOk c.writeln.result (string_bytes c.writeln.new.self ≡ string_bytes c.args.said.now ++ said)) (ap line c.item_word-items.ensures) bytes

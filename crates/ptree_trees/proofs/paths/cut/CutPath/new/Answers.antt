@@ -1,11 +1,8 @@
 use Rattle.std.proofs.Common.{◌∷◌, length, option_map, sym, ap, ◌∙◌, subst}
 use Rattle.std.specs.Str.Pattern.{GetsRange}
 use Rattle.ptree_trees.specs.CutName.{tail_names}
-use Rattle.ptree_trees.proofs.CutPaths.{cut_boundary, cut_names}
+use Rattle.ptree_trees.proofs.CutPaths.{cut_names}
 use Rattle.ptree_trees.proofs.paths.cut.CutPath.new.Goals as goal
-
-pub split_at-requires : goal.split_at-requires
-split_at-requires c = cut_boundary c.args.separator c.args.path.now c.name_end.result c.requires c.name_end.ensures.bound c.name_end.ensures.found
 
 pub returns-clause-names : goal.returns-clause-names
 returns-clause-names c =

@@ -1,12 +1,6 @@
 use Rattle.std.proofs.Common.{◌%◌, ◌<◌, ◌∙◌, sym, subst}
-use Rattle.ptree_trees.proofs.NameKeys.{key_other, key_equal}
+use Rattle.ptree_trees.proofs.NameKeys.{key_equal}
 use Rattle.ptree_trees.proofs.paths.group.Group.has.Goals as goal
-
-pub returns-then-self-path : goal.returns-then-self-path
-returns-then-self-path c =
-    let own = c.args.self.now in
-    let other = c.args.path.now in
-    sym (key_other own.name.now other.cut.now.name.now (λ e. c.if-self-path.true (own.keyed ∙ (e ∙ sym other.keyed))))
 
 pub returns-then-self-lt8 : goal.returns-then-self-lt8
 returns-then-self-lt8 c =

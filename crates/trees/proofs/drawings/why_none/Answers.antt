@@ -1,0 +1,38 @@
+use Rattle.std.proofs.Common.{inl, inr, refl, rules, string_bytes, subst, sym}
+use Rattle.ptree.specs.Config.{config_of}
+use Rattle.ptree.specs.Drawing.{written_look}
+use Rattle.ptree.proofs.Reading.Scanning.{wrong_line_no_drawing}
+use Rattle.trees.specs.Expected.{TellsLine, TellsEnd}
+use Rattle.trees.specs.Reading.{SaysAt}
+use Rattle.trees.proofs.Readings.{fails_by_text, names_read}
+use Rattle.trees.proofs.drawings.why_none.Goals as goal
+
+pub returns-in_ok-wrong_at-in-Line-clause-failed : goal.returns-in_ok-wrong_at-in-Line-clause-failed
+returns-in_ok-wrong_at-in-Line-clause-failed c =
+    let config = c.args.config.now in
+    let text = string_bytes c.args.source.now.text in
+    let failure = c.in_ok-wrong_at-in-Line in
+    fails_by_text config c.args.source.now text failure.field-0 refl failure.ensures.input (wrong_line_no_drawing (written_look config) config.depth text c.in-Line.line (c.requires.line c.in-Line.line c.in-Line.is))
+
+pub returns-in_ok-wrong-in-End-2-clause-failed : goal.returns-in_ok-wrong-in-End-2-clause-failed
+returns-in_ok-wrong-in-End-2-clause-failed c =
+    let failure = c.in_ok-wrong-in-End-2 in
+    fails_by_text c.args.config.now c.args.source.now (string_bytes c.args.source.now.text) failure.field-0 refl failure.ensures.input (c.requires.end c.in-End.is).wrong
+
+pub returns-in_ok-wrong_at-in-Line-clause-place : goal.returns-in_ok-wrong_at-in-Line-clause-place
+returns-in_ok-wrong_at-in-Line-clause-place c = λ input.
+    let config = config_of c.args.config.now in
+    let text = string_bytes c.args.source.now.text in
+    let line = c.in-Line.line in
+    let tells : TellsLine config text line c.as_str.result.now =
+    subst (TellsLine config text line) (sym c.as_str.ensures.value) (subst (λ z. TellsLine config z line (string_bytes c.in_ok-wrong-in-Line.wrong)) c.as_str-text.ensures.value c.in_ok-wrong-in-Line.ensures) in
+    let says : SaysAt c.args.source.now line c.as_str.result.now c.in_ok-wrong_at-in-Line.field-0 = search rules in
+    names_read c.args.source.now _ _ c.requires.read (c.as_str.result.now, inl (line, c.requires.line line c.in-Line.is, tells, says))
+
+pub returns-in_ok-wrong-in-End-2-clause-place : goal.returns-in_ok-wrong-in-End-2-clause-place
+returns-in_ok-wrong-in-End-2-clause-place c = λ input.
+    let config = config_of c.args.config.now in
+    let text = string_bytes c.args.source.now.text in
+    let tells : TellsEnd config text c.as_str-in-End.result.now =
+    subst (TellsEnd config text) (sym c.as_str-in-End.ensures.value) (subst (λ z. TellsEnd config z (string_bytes c.in_ok-wrong-in-End.wrong)) c.as_str-text.ensures.value c.in_ok-wrong-in-End.ensures) in
+    names_read c.args.source.now _ _ c.requires.read (_, inr (c.requires.end c.in-End.is, tells, c.in_ok-wrong-in-End-2.ensures.says))
