@@ -8,6 +8,7 @@ use ptree::print_config::{CharsError, Fault, Field};
 use ptree::read::ReadError;
 use ptree::style::{Counted, DrawError, put_all};
 use ptree::value::{ConvertError, DocError};
+use ptree_trees::difference::DrawingsError;
 use ptree_trees::indented::{IndentError, WriteError};
 use std::alloc::Global;
 use std::fmt::Display;
@@ -67,6 +68,8 @@ fn of_memory(rt: HostRuntime) -> Result<(), Fail> {
     expect_memory(alloc, EdgeError::Memory)?;
     expect_memory(alloc, CharsError::Memory)?;
     expect_memory(alloc, ReadError::Memory)?;
+    expect_memory(alloc, DrawingsError::Left(ReadError::Memory))?;
+    expect_memory(alloc, DrawingsError::Right(ReadError::Memory))?;
     expect_memory(alloc, ConvertError::Memory)?;
     expect_memory(alloc, DrawError::Memory)?;
     expect_memory(alloc, DocError::Draw(DrawError::Memory))?;
@@ -92,10 +95,14 @@ fn of_texts(rt: HostRuntime) -> Result<(), Fail> {
     let (alloc, kind) = (rt.alloc(), ErrorKind::InvalidData);
     let line = "line 18446744073709551615 cannot continue the drawing";
     expect_error(alloc, ReadError::Line(usize::MAX), kind, line)?;
+    let left = "the left drawing: line 4 cannot continue the drawing";
+    expect_error(alloc, DrawingsError::Left(ReadError::Line(4)), kind, left)?;
     let line = "line 4 cannot continue the indented form";
     expect_error(alloc, IndentError::Line(4), kind, line)?;
     let (kind, end) = (ErrorKind::UnexpectedEof, "the text is incomplete");
     expect_error(alloc, ReadError::End, kind, end)?;
+    let right = "the right drawing: the text is incomplete";
+    expect_error(alloc, DrawingsError::Right(ReadError::End), kind, right)?;
     expect_error(alloc, IndentError::End, kind, end)
 }
 

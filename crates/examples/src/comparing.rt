@@ -9,8 +9,7 @@ ghost use Rattle.ptree_trees.specs.Difference.{DifferAt};
 
 use ptree::item::StringItem;
 use ptree::print_config::PrintConfig;
-use ptree::read::{ReadError, read_items};
-use ptree_trees::difference::{first_difference, first_item_difference};
+use ptree_trees::difference::{DrawingsError, first_difference, first_drawn_difference};
 use std::alloc::{AllocError, Global};
 
 /// Whether two trees are equal.
@@ -78,15 +77,13 @@ pub fn first_change(
     left: &str,
     right: &str,
     config: &PrintConfig,
-) -> Result<Option<Vec<usize>>, ReadError>
+) -> Result<Option<Vec<usize>>, DrawingsError>
     requires { HasReadablePieces config.now }
     ensures { (t u : Tree) → IsDrawnForm (written_look config.now) config.now.depth left.now t
         → IsDrawnForm (written_look config.now) config.now.depth right.now u
         → IfOk result (λ o. IfSome o (λ a. DifferAt t u a.items)) }
 {
-    let items = read_items(alloc, left, config)?;
-    let others = read_items(alloc, right, config)?;
-    let Some(found) = first_item_difference(alloc, &items, &others)? else {
+    let Some(found) = first_drawn_difference(alloc, left, right, config)? else {
         return Ok(None);
     };
     Ok(Some(found.address))

@@ -2,6 +2,7 @@
 pub mod Markers
 pub mod OwnBytes
 pub mod ItemsOnce
+pub mod ItemsRead
 pub mod Levels
 pub mod LastFlags
 pub mod Paths

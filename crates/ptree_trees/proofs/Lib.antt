@@ -8,6 +8,7 @@ pub mod FloatTexts
 pub mod GroupResults
 pub mod GroupSteps
 mod ItemDifferences
+mod ItemsLeft
 pub mod IndentedLines
 pub mod IndentedReading
 pub mod IndentedResults

@@ -1,8 +1,14 @@
 -- The first difference of two trees.
-use Rattle.std.specs.Prelude.{◌≡◌, ◌≢◌, List, [], ◌∷◌, map, ℕ, Option, option_map, slice_get, unwrap_or}
+use Rattle.std.specs.Prelude.{◌≡◌, ◌≢◌, List, [], ◌∷◌, map, ℕ, Option, MatchOption, option_map, slice_get, unwrap_or}
 use Rattle.ptree.specs.Address.{Address, at, Before}
+use Rattle.ptree.specs.Drawing.{Look}
+use Rattle.ptree.specs.DrawnForm.{IsDrawnForm}
+use Rattle.ptree.specs.ReadItems.{read_text_of}
+use Rattle.ptree.specs.Scanned.{IsError}
 use Rattle.ptree.specs.Tree.{Tree, tree_kids, tree_of}
 use Rattle.ptree_trees.specs.declared.difference.Difference.{Difference}
+use Rattle.ptree_trees.specs.declared.difference.DrawingsError.{DrawingsError}
+use Rattle.ptree_trees.specs.declared.difference.DrawingsError.TheVariants.{Left, Right}
 use Rattle.ptree_trees.specs.declared.difference.ItemDifference.{ItemDifference}
 
 -- the text at an address of a tree, if an item stands there
@@ -35,6 +41,16 @@ pub record IsTextDifference (t u : Tree) (a : Address) (above : List (List ℕ))
   pub left_is : left ≡ text_at_address t a
   pub right_is : right ≡ text_at_address u a
 
--- such a difference
+-- such a difference of the trees of two drawings
 abbrev pub IsItemDifference : Tree → Tree → ItemDifference → Type 0
-IsItemDifference t u d = IsTextDifference t u d.address.items (map (λ s. s.now) d.above.items) (option_map (λ s. s.now) d.left) (option_map (λ s. s.now) d.right)
+IsItemDifference t u d = IsTextDifference t u d.address.items (map read_text_of d.above.items) (option_map read_text_of d.left) (option_map read_text_of d.right)
+
+-- two texts are drawings of equal trees, or of trees with this first difference
+abbrev pub AreDrawingsWith : Look → ℕ → List ℕ → List ℕ → Option ItemDifference → Type 0
+AreDrawingsWith look depth x y found =
+    (t : Tree) × (u : Tree) × IsDrawnForm look depth x t × IsDrawnForm look depth y u × MatchOption found (t ≡ u) (IsItemDifference t u)
+
+-- the left text has this error; or it is a drawing, and the right one has it
+abbrev pub IsErrorOf : Look → ℕ → List ℕ → List ℕ → DrawingsError → Type 0
+IsErrorOf look depth x y (Left e) = IsError look depth x e
+IsErrorOf look depth x y (Right e) = ((t : Tree) × IsDrawnForm look depth x t) × IsError look depth y e

@@ -1,8 +1,7 @@
 -- With which pieces a drawing can go on after some lines.
-use Rattle.std.proofs.Common.{◌≡◌, ◌≢◌, ℕ, suc, ◌+◌, ◌<◌, ◌⊎◌, Bool, true, false, List, [], ◌∷◌, ◌++◌, codes, length, map, get_or, Result, Ok, Err, String, Global, string_bytes, inl, inr, refl, sym, ap, ◌∙◌, subst, append_assoc, arith}
+use Rattle.std.proofs.Common.{◌≡◌, ◌≢◌, ℕ, suc, ◌+◌, ◌<◌, ◌⊎◌, Bool, true, false, List, [], ◌∷◌, ◌++◌, codes, length, map, get_or, Result, Ok, Err, String, Global, string_bytes, inl, inr, refl, sym, ap, ◌∙◌, subst, append_assoc, ◌↔◌, Contains, IfOk, arith}
 use Rattle.std.proofs.lemmas.Bool.{cases_lt}
 use Rattle.std.proofs.lemmas.List.{append-nil, get_or_default, get_or-map, length-map}
-use Rattle.std.specs.Prelude.{◌↔◌, Contains, IfOk}
 use Rattle.ptree.specs.declared.print_config.OutputKind.TheVariants.{Unknown}
 use Rattle.ptree.specs.Config.{ConfigValue}
 use Rattle.ptree.specs.Continuation.{HasContinuation, IsFollowedBy, AreFlags}
@@ -31,8 +30,7 @@ fronts_once p h (x ∷ xs) [] a b e =
 fronts_once p h (x ∷ xs) (y ∷ ys) a b e =
     let moved = sym (append_assoc (passing_piece p x) (passing_all p xs) (turning_piece p a)) ∙ (e ∙ append_assoc (passing_piece p y) (passing_all p ys) (turning_piece p b)) in
     let same = same_prefix (passing_piece p x) (passing_piece p y) (passing_all p xs ++ turning_piece p a) (passing_all p ys ++ turning_piece p b) (same_kind p.child p.last_child h.passings x y) moved in
-    let rest = fronts_once p h xs ys a b same.1 in
-    ap (λ z. z ++ passing_all p xs) same.0 ∙ ap (λ z. passing_piece p y ++ z) rest
+    ap (λ z. z ++ passing_all p xs) same.0 ∙ ap (λ z. passing_piece p y ++ z) (fronts_once p h xs ys a b same.1)
 
 -- the pieces of items behind different passing pieces are different
 behind_apart : (p : Pieces) → IsReadable p → (m n : ℕ) (f g x y : List ℕ) → ArePassing p m f → ArePassing p n g → f ≢ g → EndsPieces p f x → EndsPieces p g y → x ≢ y

@@ -1,7 +1,6 @@
 -- What is said of the first difference of two trees.
-use Rattle.std.specs.Prelude.{decimal, option_map, slice_get, unwrap_or}
 use Rattle.std.specs.Str.{NoCharPasses}
-use Rattle.std.proofs.Common.{◌+◌, ◌-◌, ◌++◌, ℕ, List, [], ◌∷◌, length, Option, Some, None, codes, refl, sym, subst}
+use Rattle.std.proofs.Common.{◌+◌, ◌-◌, ◌++◌, ℕ, List, [], ◌∷◌, length, Option, Some, None, codes, refl, sym, subst, decimal, option_map, slice_get, unwrap_or}
 use Rattle.std.proofs.lemmas.Str.{NoCharPasses-nil, NoCharPasses-append}
 use Rattle.ptree.specs.Address.{Address}
 use Rattle.ptree.specs.Tree.{Tree}

@@ -1,9 +1,8 @@
 -- Lists of different texts.
-use Rattle.std.proofs.Common.{◌≡◌, ◌≢◌, ℕ, zero, suc, ◌<◌, List, [], ◌∷◌, ◌++◌, map, length, get_or, inl, inr, String, Global, string_bytes, refl, sym, ap, ◌∙◌, subst, append_assoc, arith}
+use Rattle.std.proofs.Common.{◌≡◌, ◌≢◌, ℕ, zero, suc, ◌<◌, List, [], ◌∷◌, ◌++◌, map, length, get_or, inl, inr, String, Global, string_bytes, refl, sym, ap, ◌∙◌, subst, append_assoc, ◌↔◌, ◌⊎◌, All, Contains, codes, arith}
 use Rattle.std.proofs.lemmas.Grind.{flat_map-append}
 use Rattle.std.proofs.lemmas.List.{append-nil, map-append}
 use Rattle.std.proofs.lemmas.List.Elements.{All-nil, All-cons, All-head, All-tail, All-append, Contains-get_or, Contains-append_left, Contains-append_right, Contains-append_cases, Contains-push, Contains-push_cases}
-use Rattle.std.specs.Prelude.{◌↔◌, ◌⊎◌, All, Contains, codes}
 use Rattle.trees.specs.Expected.{AreDistinct, listed_texts, AddsListed, AddsTexts}
 
 -- those of two lists that have none in common
@@ -15,10 +14,9 @@ distinct_both (x ∷ xs) ys h k apart =
 
 -- two places have different texts
 pub distinct_at : (xs : List (List ℕ)) (i j : ℕ) → AreDistinct xs → i < j → j < length xs → get_or xs i [] ≢ get_or xs j []
-distinct_at [] i j h less low e = absurd (omega arith)
-distinct_at (x ∷ xs) i zero h less low e = absurd (omega arith)
 distinct_at (x ∷ xs) zero (suc j) h less low e = h.0 j [] (omega arith) e
 distinct_at (x ∷ xs) (suc i) (suc j) h less low e = distinct_at xs i j h.1 (omega arith) (omega arith) e
+distinct_at _ i _ h less low e = absurd (omega arith)
 
 -- texts of two kinds that have none in common
 all_apart : (P Q : List ℕ → Type 0) → ((x y : List ℕ) → P x → Q y → x ≢ y) → (xs ys : List (List ℕ)) → All P xs → All Q ys → All (λ x. All (λ y. x ≢ y) ys) xs

@@ -1,9 +1,8 @@
 -- Elements of lists, and pairs of them.
-use Rattle.std.proofs.Common.{◌≡◌, ℕ, List, [], ◌∷◌, ◌++◌, get_or, subst, arith}
+use Rattle.std.proofs.Common.{◌≡◌, ℕ, List, [], ◌∷◌, ◌++◌, get_or, subst, Some, All, AllPairs, slice_get, arith}
 use Rattle.std.proofs.lemmas.List.{get_or_append_left, length-append}
 use Rattle.std.proofs.lemmas.Option.{get_or_from_slice_get, slice_get_within}
 use Rattle.std.specs.List.{AllZip}
-use Rattle.std.specs.Prelude.{Some, All, AllPairs, slice_get}
 
 -- the element at a place
 pub listed_at : {X : Type 0} (P : X → Type 0) (xs : List X) (i : ℕ) (x : X) → slice_get xs i ≡ Some x → All P xs → P x
@@ -18,9 +17,8 @@ pairs_front R xs ys pairs = λ i j d less low.
 -- lists side by side that both go on
 pub zip_both : {X Y : Type 0} (R : X → Y → Type 0) (xs ys : List X) (vs ws : List Y) → AllZip R xs vs → AllZip R ys ws → AllZip R (xs ++ ys) (vs ++ ws)
 zip_both R [] ys [] ws a b = b
-zip_both R [] ys (v ∷ vs) ws a b = absurd a
-zip_both R (x ∷ xs) ys [] ws a b = absurd a
 zip_both R (x ∷ xs) ys (v ∷ vs) ws a b = (a.0, zip_both R xs ys vs ws a.1 b)
+zip_both R _ ys _ ws a b = absurd a
 
 -- one pair more
 pub zip_push : {X Y : Type 0} (R : X → Y → Type 0) (xs : List X) (ys : List Y) (x : X) (y : Y) → AllZip R xs ys → R x y → AllZip R (xs ++ x ∷ []) (ys ++ y ∷ [])

@@ -1,13 +1,10 @@
 -- Texts that can stand after an indent still can when they are escaped.
-use Rattle.std.proofs.Common.{◌≡◌, ◌≢◌, ◌∙◌, ℕ, suc, ◌≤◌, Bool, true, false, cond, Option, Some, None, List, [], ◌∷◌, ◌++◌, length, map, flat_map, IsUtf8, lit<, refl, sym, ap, subst, arith}
+use Rattle.std.proofs.Common.{◌≡◌, ◌≢◌, ◌∙◌, ℕ, suc, ◌≤◌, Bool, true, false, cond, Option, Some, None, List, [], ◌∷◌, ◌++◌, length, map, flat_map, IsUtf8, lit<, refl, sym, ap, subst, encode_utf8, All, option_map, unwrap_or, chars, encode_utf8_all, arith}
 use Rattle.std.proofs.lemmas.List.{map-append}
 use Rattle.std.proofs.lemmas.List.Concat.{flat_map-append}
 use Rattle.std.proofs.lemmas.List.Elements.{All-nil, All-cons, All-head, All-tail, All-append, All-weaker}
 use Rattle.std.proofs.lemmas.Str.{IsUtf8-append, IsUtf8-string_bytes, chars-append, encodes-append, encodes-chars, encode_ascii, length-encode, len_utf8_bounds}
-use Rattle.std.specs.Char.{encode_utf8}
 use Rattle.std.specs.List.{AllByRecursion}
-use Rattle.std.specs.Prelude.{All, option_map, unwrap_or}
-use Rattle.std.specs.Str.{chars, encode_utf8_all}
 use Rattle.ptree.specs.declared.item.StringItem.{StringItem}
 use Rattle.ptree.specs.declared.item.StringItem.TheFolds.{ind-StringItem}
 use Rattle.ptree.specs.Outline.{Line, line, outline_at, outline}

@@ -1,9 +1,8 @@
 -- Paths, first differences, indented text and folders of packages by computation.
-use Rattle.std.proofs.Common.{◌≡◌, true, false, Some, None, [], ◌∷◌, ◌++◌, codes, refl}
+use Rattle.std.proofs.Common.{◌≡◌, true, false, Some, None, [], ◌∷◌, ◌++◌, codes, refl, replicate}
 use Rattle.std.proofs.lemmas.List.Elements.{All-nil, All-cons}
 use Rattle.std.specs.Char.{encode_utf8}
 use Rattle.std.specs.Fmt.{digits}
-use Rattle.std.specs.Prelude.{replicate}
 use Rattle.std.specs.Str.{chars}
 use Rattle.ptree.specs.Tree.{none, item, tree}
 use Rattle.ptree_trees.specs.Difference.{texts_above}

@@ -1,8 +1,7 @@
 -- That no passing pieces are missing behind which an item could follow a line.
-use Rattle.std.proofs.Common.{◌≡◌, ◌≢◌, ℕ, suc, ◌<◌, ◌≤◌, inl, inr, Bool, List, [], ◌∷◌, ◌++◌, length, length-append, sym, ap, ◌∙◌, subst, append_assoc, arith}
+use Rattle.std.proofs.Common.{◌≡◌, ◌≢◌, ℕ, suc, ◌<◌, ◌≤◌, inl, inr, Bool, List, [], ◌∷◌, ◌++◌, length, length-append, sym, ap, ◌∙◌, subst, append_assoc, Contains, arith}
 use Rattle.std.proofs.lemmas.Bool.{cases_lt}
 use Rattle.std.proofs.lemmas.List.Elements.{Contains-append_left, Contains-append_right, Contains-push}
-use Rattle.std.specs.Prelude.{Contains}
 use Rattle.ptree.specs.Pieces.{Pieces, turning_piece, passing_piece, passing_all}
 use Rattle.ptree.specs.Readable.{IsReadable}
 use Rattle.ptree.specs.Texts.{IsPrefixOf}

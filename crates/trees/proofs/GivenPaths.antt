@@ -1,9 +1,6 @@
 -- The names of the paths that are given.
-use Rattle.std.proofs.Common.{◌≡◌, ◌≢◌, ◌∙◌, ℕ, ◌+◌, ◌<◌, Bool, true, false, cond, eqb, List, [], ◌∷◌, ◌++◌, length, get_or, take, map, refl, sym, ap, arith}
-use Rattle.std.proofs.lemmas.Bool.{false≢true, eqb-true}
+use Rattle.std.proofs.Common.{◌≡◌, ◌≢◌, ◌∙◌, ℕ, ◌+◌, ◌<◌, Bool, true, false, cond, eqb, List, [], ◌∷◌, ◌++◌, length, get_or, take, map, refl, sym, ap, Bor, filter, eqb-true, true≢false, arith}
 use Rattle.std.proofs.lemmas.List.{map_more, map_push, append-nil}
-use Rattle.std.specs.Borrow.{Bor}
-use Rattle.std.specs.Prelude.{filter}
 use Rattle.ptree_trees.specs.Paths.{names, names_of}
 use Rattle.ptree_trees.proofs.PathTrees.{names_some}
 use Rattle.trees.specs.Listing.{path_names, has_names, given_paths}
@@ -24,7 +21,7 @@ given_one [] h = absurd (h refl)
 given_one (n ∷ ns) h = refl
 
 given_some : (line path : List ℕ) → eqb (length path) 0 ≡ false → own_names path ≡ path_names line → given_paths (line ∷ []) ≡ names 47 path ∷ []
-given_some line [] h e = absurd (false≢true (sym h))
+given_some line [] h e = absurd (true≢false h)
 given_some line (b ∷ path) h e = ap (λ (ns : List (List ℕ)). filter has_names (ns ∷ [])) (sym e) ∙ given_one (names 47 (b ∷ path)) (names_some 47 (b ∷ path))
 
 given_none : (line path : List ℕ) → eqb (length path) 0 ≡ true → own_names path ≡ path_names line → given_paths (line ∷ []) ≡ []

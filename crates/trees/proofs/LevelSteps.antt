@@ -164,6 +164,5 @@ module _ (below : ℕ → List ℕ) where
   -- whether a walk was too long says whether there is one
   pub walk_told : (v most : ℕ) (old new : List Walks) (o : Option ℕ) (b : Bool) → is_some o ≡ not b → IsWalked below v most old new o → IsTrue b ↔ HasLevel below (suc most) v
   walk_told v most old new None true e walked = (λ _. walked, λ _. refl)
-  walk_told v most old new None false e walked = absurd (cc)
-  walk_told v most old new (Some n) true e walked = absurd (cc)
   walk_told v most old new (Some n) false e walked = (λ never. absurd (cc), λ has. absurd (walked.0.no_more (level_few below (suc n) (suc most) v (omega (arith, walked.1)) has)))
+  walk_told v most old new _ _ e walked = absurd (cc)

@@ -1,8 +1,6 @@
 -- Words of lines.
-use Rattle.std.specs.Prelude.{filter}
-use Rattle.std.proofs.Common.{◌≡◌, ◌∙◌, ℕ, ◌<◌, not, Bool, true, false, List, [], ◌∷◌, ◌++◌, length, length-append, map, codes, refl, sym, ap, subst, append_assoc, arith}
+use Rattle.std.proofs.Common.{◌≡◌, ◌∙◌, ℕ, ◌<◌, not, Bool, true, false, List, [], ◌∷◌, ◌++◌, length, length-append, map, codes, refl, sym, ap, subst, append_assoc, filter, append-nil, arith}
 use Rattle.std.proofs.lemmas.Bool.{not-false}
-use Rattle.std.proofs.lemmas.List.{append-nil}
 use Rattle.std.proofs.lemmas.List.Elements.{All-from_recursion}
 use Rattle.std.proofs.lemmas.List.Splits.{slice_split-cons_yes, slice_split_none, slice_split_at}
 use Rattle.std.proofs.lemmas.Str.{cons_from_encodes, encodes_same, length-encode, len_utf8_bounds}
@@ -125,8 +123,7 @@ only_two cs text v middle w rest e first second blank =
 pub more_words : (cs text v middle w rest x end : List ℕ) → encode_utf8_all cs ≡ text → TakesWord text v middle → TakesWord middle w rest → TakesWord rest x end → are_no_pair (spelled_words cs) ≡ true
 more_words cs text v middle w rest x end e first second third =
     let two = two_words cs text v middle w rest e first second in
-    let three = first_word two.0 rest x end two.1 third in
-    ap are_no_pair (two.2 ∙ ap (λ ws. v ∷ w ∷ ws) three.2)
+    ap are_no_pair (two.2 ∙ ap (λ ws. v ∷ w ∷ ws) (first_word two.0 rest x end two.1 third).2)
 
 -- of a comment
 pub comment_words : (ws : List (List ℕ)) → are_no_pair (codes "#" ∷ ws) ≡ true

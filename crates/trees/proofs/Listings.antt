@@ -1,12 +1,10 @@
 -- Paths that are right, and their trees.
-use Rattle.std.proofs.Common.{◌≡◌, ◌≢◌, ◌∙◌, ℕ, ◌+◌, ◌<◌, ◌&&◌, ◌||◌, not, Bool, true, false, cond, eqb, ltb, Option, Some, None, List, [], ◌∷◌, length, get_or, drop, map, refl, sym, ap, subst, arith}
+use Rattle.std.proofs.Common.{◌≡◌, ◌≢◌, ◌∙◌, ℕ, ◌+◌, ◌<◌, ◌&&◌, ◌||◌, not, Bool, true, false, cond, eqb, ltb, Option, Some, None, List, [], ◌∷◌, length, get_or, drop, map, refl, sym, ap, subst, Bor, slice_index, arith}
 use Rattle.std.proofs.lemmas.Bool.{false≢true, eqb-true, eq-eqb, and_from, or_parts, or_left, or_right, or_from, not_from_false}
 use Rattle.std.proofs.lemmas.List.{at_drop_more, get_or_default}
 use Rattle.std.proofs.lemmas.List.Folds.{list_any_at, Any-from_list_any}
-use Rattle.std.specs.Borrow.{Bor}
 use Rattle.std.specs.Cmp.{both_ways}
 use Rattle.std.specs.List.{list_any}
-use Rattle.std.specs.Prelude.{slice_index}
 use Rattle.ptree.specs.Tree.{Forest, Tree}
 use Rattle.ptree_trees.specs.Parts.{begins_with}
 use Rattle.ptree_trees.specs.Paths.{names, next_names, texts_below}
@@ -188,8 +186,7 @@ stands false f paths h = λ ns n. names_have false (texts_below f ns) (next_name
 root_is : (ends : Bool) (label : Option (Bor (List ℕ))) (lines : List (List ℕ)) → are_wrong ends label lines ≡ false → root_text label (is_first_absolute lines) ≡ root_text label (list_any is_absolute lines)
 root_is ends None lines h =
     let alike = list_any is_absolute lines && list_any is_relative lines in
-    let right = (or_parts (is_cut_off ends lines) (list_any (is_wrong_path ends) lines || alike) h).1 in
-    ap (root_text None) (same_first lines (or_parts (list_any (is_wrong_path ends) lines) alike right).1)
+    ap (root_text None) (same_first lines (or_parts (list_any (is_wrong_path ends) lines) alike ((or_parts (is_cut_off ends lines) (list_any (is_wrong_path ends) lines || alike) h).1)).1)
 root_is ends (Some label) lines h = refl
 
 -- a tree with the root and the folders of lines of which none is wrong is that of the input

@@ -1,11 +1,9 @@
 -- Lock files by computation.
-use Rattle.std.proofs.Common.{◌≡◌, ◌∙◌, ℕ, zero, suc, ◌<◌, true, false, List, [], ◌∷◌, codes, length, get_or, inl, inr, refl, ap, arith}
-use Rattle.std.proofs.lemmas.Bool.{false≢true}
+use Rattle.std.proofs.Common.{◌≡◌, ◌∙◌, ℕ, zero, suc, ◌<◌, true, false, List, [], ◌∷◌, codes, length, get_or, inl, inr, refl, ap, Option, None, pos, unwrap_or, All, true≢false, sym, arith}
 use Rattle.std.proofs.lemmas.List.Elements.{All-cons, All-nil}
 use Rattle.std.proofs.lemmas.List.Sorted.{IsPermutation-refl}
 use Rattle.std.specs.Char.{encode_utf8}
 use Rattle.std.specs.List.Sorted.{IsStrictlySortedBy}
-use Rattle.std.specs.Prelude.{Option, None, pos, unwrap_or, All}
 use Rattle.std.specs.Str.{chars}
 use Rattle.toml.specs.Data.{Data, string, integer, array, table, no_items, item, no_members, member}
 use Rattle.trees.specs.Locking.{Package, Known, are_digits, is_as, name_entry, normal_name, own_entries, tables_in, Leads, ArePackages, HasFormat, IsLock, IsPackage, NeedsLead}
@@ -37,7 +35,7 @@ leads = (known, (known, text_alone (codes "b") (lacks_byte 32 (codes "b") blank)
   blank (suc i) low e = omega arith
 
   only : (k : ℕ) → k < 2 → ((d : Package) → is_as known (get_or packages k d) ≡ true) → k ≡ 1
-  only zero low is = absurd (false≢true (is a))
+  only zero low is = absurd (true≢false (sym (is a)))
   only (suc zero) low is = refl
   only (suc (suc k)) low is = absurd (omega arith)
 
@@ -93,7 +91,7 @@ not_word is =
     let byte : ℕ → Option (List ℕ) → ℕ = λ k text. get_or (unwrap_or text []) k 0 in
     elim is.metadata.version [
       | inl first ↦ omega (arith, ap (byte 0) first.1)
-      | inr second ↦ (let same : codes "banana" ≡ second.0 = cc in false≢true (ap are_digits same ∙ second.2))
+      | inr second ↦ (let same : codes "banana" ≡ second.0 = cc in true≢false (sym (ap are_digits same ∙ second.2)))
     ]
 
 -- ## Names of Python packages

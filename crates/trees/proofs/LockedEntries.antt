@@ -1,12 +1,9 @@
 -- The entries of tables, and the edges that they lead to.
-use Rattle.std.proofs.Common.{◌≡◌, ◌∙◌, ℕ, ◌+◌, ◌<◌, List, [], ◌∷◌, ◌++◌, length, get_or, take, map, refl, sym, ap, subst}
+use Rattle.std.proofs.Common.{◌≡◌, ◌∙◌, ℕ, ◌+◌, ◌<◌, List, [], ◌∷◌, ◌++◌, length, get_or, take, map, refl, sym, ap, subst, Bor, Some, String, flat_map, Global}
 use Rattle.std.proofs.lemmas.List.{map-append, append-nil, take_more}
 use Rattle.std.proofs.lemmas.List.Concat.{flat_map-append}
-use Rattle.std.specs.Borrow.{Bor}
-use Rattle.std.specs.Prelude.{Some, String, flat_map}
-use Rattle.std.specs.declared.alloc.Global.{Global}
 use Rattle.ptree.proofs.Trees.ItemTrees.{map_twice}
-use Rattle.toml.specs.Data.{Data, string, integer, float, boolean, datetime, array, table, Members, as_array, as_table}
+use Rattle.toml.specs.Data.{Data, string, array, table, Members, as_array, as_table}
 use Rattle.toml.specs.View.{view, items_view, members_view}
 use Rattle.toml.specs.declared.value.Value.{Value}
 use Rattle.trees.specs.declared.deps.Network.{Network}
@@ -25,23 +22,13 @@ listed_items (v ∷ vs) = ap (λ ds. view v ∷ ds) (listed_items vs)
 
 -- the entries of a list
 pub list_entries : (d : Data) (vs : List Value) → Some (items_view vs) ≡ as_array d → entries_of d ≡ map view vs
-list_entries (string s) vs e = cc
-list_entries (integer z) vs e = cc
-list_entries (float x) vs e = cc
-list_entries (boolean b) vs e = cc
-list_entries (datetime dt) vs e = cc
 list_entries (array ds) vs e = (let same : items_view vs ≡ ds = cc in ap listed (sym same) ∙ listed_items vs)
-list_entries (table ms) vs e = cc
+list_entries _ vs e = cc
 
 -- a value that is a table
 pub is_table : (d : Data) (ms : Members) → Some ms ≡ as_table d → d ≡ table ms
 is_table (string s) ms e = cc
-is_table (integer z) ms e = cc
-is_table (float x) ms e = cc
-is_table (boolean b) ms e = cc
-is_table (datetime dt) ms e = cc
-is_table (array ds) ms e = cc
-is_table (table own) ms e = cc
+is_table _ ms e = cc
 
 -- those of the lists in a table
 pub grouped_lists : (d : Data) (ms : Members) → Some ms ≡ as_table d → grouped d ≡ flat_map entries_of (values_of ms)

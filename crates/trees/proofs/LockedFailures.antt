@@ -1,6 +1,5 @@
 -- Which tables are no lock file.
-use Rattle.std.proofs.Common.{◌≡◌, ◌∙◌, ℕ, ◌+◌, ◌-◌, ◌<◌, ◌≤◌, true, false, List, [], ◌∷◌, length, get_or, map, inl, inr, refl, sym, ap, subst, arith}
-use Rattle.std.proofs.lemmas.Bool.{false≢true}
+use Rattle.std.proofs.Common.{◌≡◌, ◌∙◌, ℕ, ◌+◌, ◌-◌, ◌<◌, ◌≤◌, true, false, List, [], ◌∷◌, length, get_or, map, inl, inr, refl, sym, ap, subst, Bor, All, IsPermutation, option_and_then, true≢false, arith}
 use Rattle.std.proofs.lemmas.Cmp.{eq_by_cmp_equiv, tied_itself}
 use Rattle.std.proofs.lemmas.List.{get_or_default, get_or-map, length-map}
 use Rattle.std.proofs.lemmas.List.Elements.{All-head, All-tail, All-map, All-weaker}
@@ -9,10 +8,6 @@ use Rattle.std.proofs.lemmas.Map.Keys.{apart_from_distinct, IsDistinct-from_sort
 use Rattle.std.proofs.lemmas.Map.Lookups.{btree_set_from_contains}
 use Rattle.std.proofs.lemmas.Result.{IfErr-weaker}
 use Rattle.std.specs.BTreeMap.{is_at}
-use Rattle.std.specs.Borrow.{Bor}
-use Rattle.std.specs.List.{All}
-use Rattle.std.specs.List.Sorted.{IsPermutation}
-use Rattle.std.specs.Option.{option_and_then}
 use Rattle.std.specs.Ordering.{eq_by_cmp, is_eq}
 use Rattle.std.specs.Prelude.{⊤, Option, Some, None, is_some, unwrap_or, codes, Result, IfErr}
 use Rattle.toml.specs.Data.{Data, get, as_array, as_str}
@@ -57,11 +52,11 @@ module _ (d : Data) where
   no_package_name none p is = (let no : None ≡ Some p.name = none ∙ is.name in cc)
 
   pub no_package_whole : (r : Option (Bor Value)) → seen r ≡ get (codes "replace") d → is_some r ≡ true → (p : Package) → IsPackage d p → ⊥
-  no_package_whole None at some p is = false≢true some
+  no_package_whole None at some p is = true≢false (sym some)
   no_package_whole (Some v) at some p is = (let no : Some (view v.now) ≡ None = at ∙ is.whole in cc)
 
   pub no_package_source : has_wrong_source d ≡ true → (p : Package) → IsPackage d p → ⊥
-  no_package_source wrong p is = false≢true (sym is.kind ∙ wrong)
+  no_package_source wrong p is = true≢false (sym wrong ∙ is.kind)
 
   -- the package of a table, if it has one
   abbrev package_in : Package
@@ -113,7 +108,7 @@ module _ (tables : List Data) where
         let distinct = IsDistinct-IsPermutation (eq_by_cmp package_cmp) (λ x y. (eq_by_cmp_equiv package_total).symm x y) (map (λ l. l.1) locked) qs moved (IsDistinct-from_sorted package_cmp (map (λ l. l.1) locked) are.ascending) in
         let apart = apart_from_distinct (eq_by_cmp package_cmp) qs k (k + 1) nothing distinct (omega arith) (omega (arith, length-map ps package_of)) in
         let one : get_or qs k nothing ≡ get_or qs (k + 1) nothing = get_or-map package_of ps k d nothing (omega arith) ∙ (same ∙ sym (get_or-map package_of ps (k + 1) d nothing low)) in
-        false≢true (sym apart ∙ (ap (eq_by_cmp package_cmp (get_or qs k nothing)) (sym one) ∙ ap is_eq (tied_itself package_total (get_or qs k nothing))))
+        true≢false (sym (ap (eq_by_cmp package_cmp (get_or qs k nothing)) (sym one) ∙ ap is_eq (tied_itself package_total (get_or qs k nothing))) ∙ apart)
 
 -- the packages of tables are determined
 pub same_packages : (tables : List Data) (ps : List Tuple) (locked : List (Data × Package)) → AreLocked tables ps → ArePackages tables locked → map (λ l. l.1) locked ≡ map package_of ps
@@ -147,7 +142,7 @@ none_apart tables n found ps qs same so end moved none locked are =
 
 module _ (d : Data) where
   pub no_tables : (list : Option Data) → list ≡ get (codes "package") d → is_some (option_and_then as_array list) ≡ false → HasTables d → ⊥
-  no_tables list same none some = false≢true (sym none ∙ (ap (λ (o : Option Data). is_some (option_and_then as_array o)) same ∙ some))
+  no_tables list same none some = true≢false (sym (ap (λ (o : Option Data). is_some (option_and_then as_array o)) same ∙ some) ∙ none)
 
   module _ (tables : List Data) (all : tables ≡ tables_in d) (f : Failure) where
     are_of : (lock : IsLock d) → ArePackages tables lock.locked

@@ -1,9 +1,7 @@
 -- The labels of packages.
-use Rattle.std.proofs.Common.{◌≡◌, ◌∙◌, ℕ, ◌+◌, ◌<◌, ◌≤◌, Bool, false, List, [], ◌∷◌, ◌++◌, length, get_or, map, take, sym, ap, subst, append_assoc}
+use Rattle.std.proofs.Common.{◌≡◌, ◌∙◌, ℕ, ◌+◌, ◌<◌, ◌≤◌, Bool, false, List, [], ◌∷◌, ◌++◌, length, get_or, map, take, sym, ap, subst, append_assoc, Result, Ok, Err, IfOk, String, string_bytes, Global}
 use Rattle.std.proofs.lemmas.List.{append-nil, get_or-map, map-append, take_all, take_more}
 use Rattle.std.specs.List.{AllZip}
-use Rattle.std.specs.Prelude.{Result, Ok, Err, IfOk, String, string_bytes}
-use Rattle.std.specs.declared.alloc.Global.{Global}
 use Rattle.toml.specs.Data.{Data, boolean}
 use Rattle.trees.specs.Locking.{Package, label_text, same_version, source_of, HasTwin, IsLabel}
 use Rattle.trees.specs.LockingParts.{locked_at, locked_of, package_at, package_of, table_of, AddsLabels}

@@ -1,14 +1,10 @@
 -- What a lock file has.
-use Rattle.std.proofs.Common.{◌≡◌, ◌∙◌, ℕ, ◌+◌, ◌<◌, ◌≤◌, Bool, List, [], ◌∷◌, length, get_or, map, take, sym, ap, subst}
+use Rattle.std.proofs.Common.{◌≡◌, ◌∙◌, ℕ, ◌+◌, ◌<◌, ◌≤◌, Bool, List, [], ◌∷◌, length, get_or, map, take, sym, ap, subst, Bor, All, Some, String, Global}
 use Rattle.std.proofs.lemmas.List.{map-append, take_all, take_more}
 use Rattle.std.proofs.lemmas.List.Elements.{All-map, All-push, All-weaker}
 use Rattle.std.proofs.lemmas.List.Sorted.{All-permutation, IsPermutation-sym}
-use Rattle.std.specs.Borrow.{Bor}
-use Rattle.std.specs.List.{All}
 use Rattle.std.specs.List.Sorted.{IsPermutation, IsStrictlySortedBy}
 use Rattle.std.specs.Map.Iter.{deref}
-use Rattle.std.specs.Prelude.{Some, String}
-use Rattle.std.specs.declared.alloc.Global.{Global}
 use Rattle.ptree.proofs.Trees.ItemTrees.{map_twice}
 use Rattle.toml.specs.Data.{Data, as_table}
 use Rattle.toml.specs.View.{view, members_view}

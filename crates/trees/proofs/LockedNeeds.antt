@@ -1,11 +1,7 @@
 -- Which needs lead to no package.
-use Rattle.std.proofs.Common.{◌≡◌, ◌∙◌, ℕ, ◌<◌, Bool, false, List, length, get_or, map, refl, sym, ap, subst, arith}
-use Rattle.std.proofs.lemmas.Bool.{false≢true}
+use Rattle.std.proofs.Common.{◌≡◌, ◌∙◌, ℕ, ◌<◌, Bool, false, List, length, get_or, map, refl, sym, ap, subst, All, Some, None, is_some, option_map, slice_get, String, Global, true≢false, arith}
 use Rattle.std.proofs.lemmas.List.{get_or-map, length-map}
 use Rattle.std.proofs.lemmas.Option.{slice_get-map}
-use Rattle.std.specs.List.{All}
-use Rattle.std.specs.Prelude.{Some, None, is_some, option_map, slice_get, String}
-use Rattle.std.specs.declared.alloc.Global.{Global}
 use Rattle.toml.specs.Data.{Data, table, Members, as_array, as_table}
 use Rattle.toml.specs.View.{view, items_view, members_view}
 use Rattle.toml.specs.declared.value.Value.{Value}
@@ -22,7 +18,7 @@ module _ (packages : List Package) where
   -- ## Entries
 
   never_needed : (known : Known) (why : Fault) → IsFaulty packages known why → (at : ℕ) → IsNeeded packages known at → ⊥
-  never_needed known Missing none at is = false≢true (sym (none at nothing is.below) ∙ is.is nothing)
+  never_needed known Missing none at is = true≢false (sym (is.is nothing) ∙ none at nothing is.below)
   never_needed known Several none at is = none.1 at is
 
   -- an entry whose need is not found
@@ -33,7 +29,7 @@ module _ (packages : List Package) where
   -- ## Lists
 
   pub no_list : (d : Data) → None ≡ as_array d → IsLed packages d → ⊥
-  no_list d none led = false≢true (ap is_some none ∙ led.list)
+  no_list d none led = true≢false (sym (ap is_some none ∙ led.list))
 
   -- a table, where there is no hash
   pub table_unhashed : (hash : Bool) (d : Data) (ms : Members) → hash ≡ false → Some ms ≡ as_table d → OwnLead hash packages d → ⊥

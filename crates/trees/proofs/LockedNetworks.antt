@@ -1,10 +1,8 @@
 -- Networks of lock files.
-use Rattle.std.proofs.Common.{◌≡◌, ◌∙◌, ℕ, ◌<◌, List, [], ◌∷◌, ◌++◌, length, map, sym, ap, subst, arith}
+use Rattle.std.proofs.Common.{◌≡◌, ◌∙◌, ℕ, ◌<◌, List, [], ◌∷◌, ◌++◌, length, map, sym, ap, subst, fold, String, string_bytes, Vec, Global, arith}
 use Rattle.std.proofs.lemmas.List.{get_or-map, length-map}
 use Rattle.std.specs.List.{AllZip}
 use Rattle.std.specs.List.Sorted.{IsPermutation, IsStrictlySortedBy}
-use Rattle.std.specs.Prelude.{fold, String, string_bytes, Vec}
-use Rattle.std.specs.declared.alloc.Global.{Global}
 use Rattle.ptree.proofs.Trees.ItemTrees.{map_twice}
 use Rattle.ptree.specs.Graph.{numbers_of}
 use Rattle.toml.specs.Data.{Data}
@@ -20,9 +18,8 @@ use Rattle.trees.proofs.Networks.{indexed_none}
 
 zip_with_tables : (packages : List Package) (tables : List Data) (ps : List Tuple) (all : List (List ℕ)) → AllZip (NeedPlaces packages) (map (table_of tables) ps) all → AllZip (λ l. NeedPlaces packages l.0) (map (locked_of tables) ps) all
 zip_with_tables packages tables [] [] zip = tt
-zip_with_tables packages tables [] (x ∷ all) zip = absurd zip
-zip_with_tables packages tables (p ∷ ps) [] zip = absurd zip
 zip_with_tables packages tables (p ∷ ps) (x ∷ all) zip = (zip.0, zip_with_tables packages tables ps all zip.1)
+zip_with_tables packages tables _ _ zip = absurd zip
 
 module _ (tables : List Data) (ps : List Tuple) (old : Network) (labels : Vec (String Global) Global) (empty : IsEmpty old) where
   -- an empty network with labels

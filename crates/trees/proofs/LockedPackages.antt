@@ -1,5 +1,5 @@
 -- Packages in ascending order, and those that are as known.
-use Rattle.std.proofs.Common.{◌≡◌, ◌∙◌, ℕ, ◌+◌, ◌<◌, ◌≤◌, true, false, List, [], ◌∷◌, length, get_or, inl, inr, refl, sym, ap, subst, arith}
+use Rattle.std.proofs.Common.{◌≡◌, ◌∙◌, ℕ, ◌+◌, ◌<◌, ◌≤◌, true, false, List, [], ◌∷◌, length, get_or, inl, inr, refl, sym, ap, subst, Option, Some, None, unwrap_or, is_some, bytes_eq, Ordering, Less, Equal, Greater, arith}
 use Rattle.std.proofs.lemmas.Bool.{false≢true, false_from_ne_true, and_parts, and_from, cases_lt}
 use Rattle.std.proofs.lemmas.Cmp.{nat_list_cmp_total, on_total, then_total, tied_itself}
 use Rattle.std.proofs.lemmas.List.{get_or_default}
@@ -10,10 +10,6 @@ use Rattle.std.specs.Cmp.{IsTotalOrder}
 use Rattle.std.specs.Cmp.Lexicographic.{slice_cmp}
 use Rattle.std.specs.List.Sorted.{IsStrictlySortedBy}
 use Rattle.std.specs.Ordering.{is_lt, nat_cmp, ordering_reverse, ordering_then}
-use Rattle.std.specs.Prelude.{Option, Some, None, unwrap_or, is_some}
-use Rattle.std.specs.Str.{bytes_eq}
-use Rattle.std.specs.declared.cmp.Ordering.{Ordering}
-use Rattle.std.specs.declared.cmp.Ordering.TheVariants.{Less, Equal, Greater}
 use Rattle.trees.specs.declared.deps.packages.Fault.TheVariants.{Missing, Several}
 use Rattle.trees.specs.Listing.{is_empty}
 use Rattle.trees.specs.Locking.{Package, Known, package_cmp, is_known, is_as, is_in_folder, is_of, IsNeeded}
@@ -42,8 +38,7 @@ none_below (c ∷ cs) = refl
 
 pub then_first : (o p : Ordering) → is_lt (ordering_then o p) ≡ false → is_lt o ≡ false
 then_first Less p h = h
-then_first Equal p h = refl
-then_first Greater p h = refl
+then_first _ p h = refl
 
 pub then_second : (o p : Ordering) → o ≡ Equal → is_lt (ordering_then o p) ≡ false → is_lt p ≡ false
 then_second o p e h = subst (λ (x : Ordering). is_lt (ordering_then x p) ≡ false) e h

@@ -1,17 +1,13 @@
 -- The packages of tables.
-use Rattle.std.proofs.Common.{◌≡◌, ◌≢◌, ◌∙◌, ℕ, ◌+◌, ◌<◌, ◌≤◌, false, List, [], ◌∷◌, ◌++◌, length, get_or, map, take, refl, sym, ap, subst, arith}
-use Rattle.std.proofs.lemmas.Bool.{false≢true}
+use Rattle.std.proofs.Common.{◌≡◌, ◌≢◌, ◌∙◌, ℕ, ◌+◌, ◌<◌, ◌≤◌, false, List, [], ◌∷◌, ◌++◌, length, get_or, map, take, refl, sym, ap, subst, All, Ordering, Less, Equal, Greater, true≢false, arith}
 use Rattle.std.proofs.lemmas.List.{get_or-map, length-map, map-append, take_all, take_more}
 use Rattle.std.proofs.lemmas.List.Elements.{All-push}
 use Rattle.std.proofs.lemmas.List.Sorted.{All-permutation, IsPermutation-map}
 use Rattle.std.proofs.lemmas.Map.Keys.{sorted_from_all_adjacent}
 use Rattle.std.proofs.lemmas.Map.Lookups.{CmpEqualImpliesEq, exact_bytes, exact_pairs}
 use Rattle.std.specs.Cmp.Lexicographic.{slice_cmp}
-use Rattle.std.specs.List.{All}
 use Rattle.std.specs.List.Sorted.{IsPermutation, IsSorted, IsStrictlySortedBy}
 use Rattle.std.specs.Ordering.{is_lt, nat_cmp, ordering_reverse, ordering_then}
-use Rattle.std.specs.declared.cmp.Ordering.{Ordering}
-use Rattle.std.specs.declared.cmp.Ordering.TheVariants.{Less, Equal, Greater}
 use Rattle.toml.specs.Data.{Data, boolean}
 use Rattle.trees.specs.Locking.{Package, package_cmp, IsPackage}
 use Rattle.trees.specs.LockingParts.{package_of, table_of, AreLocked, StandOnce}
@@ -46,10 +42,7 @@ without_last : (a b c d : Ordering) → is_lt (ordering_then (ordering_then (ord
 without_last Less b c d is = is
 without_last Equal Less c d is = is
 without_last Equal Equal Less d is = is
-without_last Equal Equal Equal d is = refl
-without_last Equal Equal Greater d is = refl
-without_last Equal Greater c d is = refl
-without_last Greater b c d is = refl
+without_last _ _ _ d is = refl
 
 -- packages that the order takes for equal are the same
 pub one_package : CmpEqualImpliesEq package_cmp
@@ -58,7 +51,7 @@ one_package p q e =
     ap (λ (t : List ℕ × (List ℕ × List ℕ)). record p { name = t.0; version = t.1.0; source = t.1.1 }) texts
 
 risen : (p q : Package) (o : Ordering) → package_cmp q p ≡ o → is_lt o ≡ false → p ≢ q → package_cmp p q ≡ Less
-risen p q Less e is other = absurd (false≢true (sym is))
+risen p q Less e is other = absurd (true≢false is)
 risen p q Equal e is other = absurd (other (sym (one_package q p e)))
 risen p q Greater e is other = package_total.antisymm p q ∙ ap ordering_reverse e
 

@@ -1,10 +1,8 @@
 -- Packages as the code has them, and the search for the first that can be as known.
-use Rattle.std.proofs.Common.{◌≡◌, ◌∙◌, ℕ, ◌+◌, ◌<◌, ◌≤◌, Bool, true, false, List, [], length, get_or, map, sym, ap, subst, arith}
+use Rattle.std.proofs.Common.{◌≡◌, ◌∙◌, ℕ, ◌+◌, ◌<◌, ◌≤◌, Bool, true, false, List, [], length, get_or, map, sym, ap, subst, Bor, is_lt, arith}
 use Rattle.std.proofs.lemmas.List.{get_or-map, length-map}
 use Rattle.std.proofs.lemmas.List.Elements.{AllWithin-more}
-use Rattle.std.specs.Borrow.{Bor}
 use Rattle.std.specs.List.Sorted.{IsStrictlySortedBy, IsPartitionedBy, IsPartitionPoint}
-use Rattle.std.specs.Ordering.{is_lt}
 use Rattle.trees.specs.Locking.{Package, Known, is_as, is_of, package_cmp}
 use Rattle.trees.specs.LockingParts.{package_of, least, AreBehind, IsStart, NoneIs}
 use Rattle.trees.proofs.LockedPackages.{nothing, in_order, lower, none_behind}

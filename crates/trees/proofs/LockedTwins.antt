@@ -1,14 +1,11 @@
 -- Packages of one name and version.
-use Rattle.std.proofs.Common.{◌≡◌, ◌≢◌, ◌∙◌, ℕ, ◌+◌, ◌<◌, ◌-◌, true, false, List, length, get_or, inl, inr, sym, ap, subst, arith}
+use Rattle.std.proofs.Common.{◌≡◌, ◌≢◌, ◌∙◌, ℕ, ◌+◌, ◌<◌, ◌-◌, true, false, List, length, get_or, inl, inr, sym, ap, subst, is_lt, bytes_eq, Less, Equal, arith}
 use Rattle.std.proofs.lemmas.Bool.{false≢true, and_parts, and_from, cases_lt}
 use Rattle.std.proofs.lemmas.Cmp.{tied_itself}
 use Rattle.std.proofs.lemmas.List.{get_or_default}
 use Rattle.std.proofs.lemmas.Map.Keys.{Less-from_sorted}
 use Rattle.std.proofs.lemmas.Slice.Eq.{bytes_eq-Decides}
 use Rattle.std.specs.List.Sorted.{IsStrictlySortedBy}
-use Rattle.std.specs.Ordering.{is_lt}
-use Rattle.std.specs.Str.{bytes_eq}
-use Rattle.std.specs.declared.cmp.Ordering.TheVariants.{Less, Equal}
 use Rattle.trees.specs.Locking.{Package, package_cmp, same_version, HasTwin}
 use Rattle.trees.proofs.LockedPackages.{nothing, package_total, in_order, text_cmp, same_text, then_first, then_second, itself, same_bytes}
 
@@ -45,7 +42,6 @@ module _ (ps : List Package) (up : IsStrictlySortedBy package_cmp ps) (at : ℕ)
   apart i j lt within e =
       let less : package_cmp (get_or ps i nothing) (get_or ps j nothing) ≡ Less = Less-from_sorted package_cmp ps i j nothing up lt within in
       let equal : package_cmp (get_or ps i nothing) (get_or ps j nothing) ≡ Equal = ap (λ (q : Package). package_cmp q (get_or ps j nothing)) e ∙ tied_itself package_total (get_or ps j nothing) in
-      let no' : Less ≡ Equal = sym less ∙ equal in
       cc
 
   twin_at : (k : ℕ) → k < length ps → (get_or ps k nothing ≢ get_or ps at nothing) → same_version (get_or ps at nothing) (get_or ps k nothing) ≡ true → HasTwin ps (get_or ps at nothing)

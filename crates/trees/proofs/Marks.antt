@@ -1,12 +1,11 @@
 -- Marks of nodes.
-use Rattle.std.proofs.Common.{◌≡◌, ◌∙◌, ℕ, ◌+◌, ◌<◌, ◌≤◌, ◌⊎◌, not, Bool, true, false, cond, List, [], ◌∷◌, ◌++◌, length, get_or, set, take, inl, inr, refl, sym, ap, subst, arith, length-set}
+use Rattle.std.proofs.Common.{◌≡◌, ◌∙◌, ℕ, ◌+◌, ◌<◌, ◌≤◌, ◌⊎◌, not, Bool, true, false, cond, List, [], ◌∷◌, ◌++◌, length, get_or, set, take, inl, inr, refl, sym, ap, subst, length-set, All, Contains, count_by, arith}
 use Rattle.std.proofs.lemmas.Bool.{cases_eq, cases_lt, false≢true, not-true}
 use Rattle.std.proofs.lemmas.List.{get_or_default, get_or_past, get_or-set_same, get_or-set_other, length_push, set-get_or, set_past, take_all, take_more}
 use Rattle.std.proofs.lemmas.List.Elements.{All-contains, All-contains_itself, All-nil, All-push, All-weaker, Contains-append_left, Contains-push, Contains-push_cases}
 use Rattle.std.proofs.lemmas.List.Folds.{Any-from_list_any}
 use Rattle.std.proofs.lemmas.List.Sums.{count_by-le-length, sum_by-set}
 use Rattle.std.specs.List.{list_any}
-use Rattle.std.specs.Prelude.{All, Contains, count_by}
 use Rattle.trees.specs.Depending.{HasEach}
 use Rattle.trees.specs.DependingParts.{is_marked, HasMarked}
 
@@ -45,9 +44,8 @@ module _ (marks : List Bool) (node : ℕ) where
 
     mark_counts : count_by not (set marks node true) + 1 ≡ count_by not marks
     mark_counts =
-        let sums = sum_by-set unset marks node true false mark_low in
         let own : unset (get_or marks node false) ≡ 1 = ap unset unmarked in
-        omega arith
+        omega (arith, sum_by-set unset marks node true false mark_low)
 
   -- one that was
   pub mark_same : get_or marks node true ≡ true → set marks node true ≡ marks
@@ -57,11 +55,8 @@ module _ (marks : List Bool) (node : ℕ) where
 pub marked_counts : (marks : List Bool) (node : ℕ) → is_marked marks node ≡ true → count_by not marks + 1 ≤ length marks
 marked_counts marks node is = elim (cases_lt node (length marks)) [
   | inl low ↦
-      let sums = sum_by-set unset marks node false false low in
       let own : unset (get_or marks node false) ≡ 0 = ap unset is in
-      let most = count_by-le-length not (set marks node false) in
-      let same = length-set marks node false in
-      omega arith
+      omega (arith, sum_by-set unset marks node false false low, count_by-le-length not (set marks node false), length-set marks node false)
   | inr past ↦ absurd (false≢true (sym (get_or_past marks node false past) ∙ is))
 ]
 
@@ -115,11 +110,7 @@ module _ (needs : List ℕ) (old new : List Bool) (left more : List ℕ) (node :
           λ n m. elim (mark_only new node n m) [ inl was ↦ rest.0 n was | inr same ↦ subst (λ (k : ℕ). has k ≡ true) (sym same) front.1 ],
           All-push (λ n. has n ≡ true) more node rest.1 front.1,
         );
-    count =
-        let one = mark_counts new node is in
-        let long = length_push more node in
-        let sum = so.count in
-        omega arith;
+    count = omega (arith, mark_counts new node is, length_push more node, so.count);
   }
 
   -- one more that was

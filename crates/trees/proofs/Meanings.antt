@@ -1,11 +1,10 @@
 -- Networks that a source means.
-use Rattle.std.proofs.Common.{◌≡◌, ◌∙◌, ℕ, ◌+◌, ◌≤◌, ◌<◌, Bool, true, List, [], ◌∷◌, length, get_or, map, Result, Ok, Err, inl, inr, sym, subst, arith}
+use Rattle.std.proofs.Common.{◌≡◌, ◌∙◌, ℕ, ◌+◌, ◌≤◌, ◌<◌, Bool, true, List, [], ◌∷◌, length, get_or, map, Result, Ok, Err, inl, inr, sym, subst, All, OnOk, arith}
 use Rattle.std.proofs.lemmas.List.{length-map}
 use Rattle.std.proofs.lemmas.List.Elements.{All-nil, All-cons, All-append, All-map, All-weaker, Contains-get_or}
 use Rattle.std.proofs.lemmas.Option.{slice_get_within}
 use Rattle.std.proofs.lemmas.Slice.Zip.{AllZip-long}
 use Rattle.std.specs.List.{AllZip}
-use Rattle.std.specs.Prelude.{All, OnOk}
 use Rattle.serde_json.specs.Data.{Data as JsonData}
 use Rattle.toml.specs.Data.{Data}
 use Rattle.trees.specs.declared.deps.Network.{Network}
@@ -25,19 +24,17 @@ use Rattle.trees.proofs.Understood.{same_document}
 -- entries lead to packages
 places_within : (packages : List Package) (entries : List Data) (places : List ℕ) → AllZip (Leads packages) entries places → All (λ at. at < length packages) places
 places_within packages [] [] zip = All-nil (λ at. at < length packages)
-places_within packages [] (at ∷ places) zip = absurd zip
-places_within packages (entry ∷ entries) [] zip = absurd zip
 places_within packages (entry ∷ entries) (at ∷ places) zip = All-cons (λ k. k < length packages) at places zip.0.2.below (places_within packages entries places zip.1)
+places_within packages _ _ zip = absurd zip
 
 -- so do edges from as many nodes as there are
 from_within : (packages : List Package) (locked : List (Data × Package)) (all : List (List ℕ)) (n k : ℕ) → k + length locked ≤ n → length packages ≤ n → AllZip (λ l. NeedPlaces packages l.0) locked all → All (IsWithin n) (edges_from k all)
 from_within packages [] [] n k room few zip = All-nil (IsWithin n)
-from_within packages [] (places ∷ all) n k room few zip = absurd zip
-from_within packages (l ∷ locked) [] n k room few zip = absurd zip
 from_within packages (l ∷ locked) (places ∷ all) n k room few zip =
     All-append (IsWithin n) (map (λ at. (k, at)) places) (edges_from (k + 1) all)
     (All-map (IsWithin n) (λ at. (k, at)) places (All-weaker (λ at. at < length packages) (λ at. IsWithin n (k, at)) (λ at low. (omega arith, omega arith)) places (places_within packages (entries_in packages l.0) places zip.0)))
     (from_within packages locked all n (k + 1) (omega arith) few zip.1)
+from_within packages _ _ n k room few zip = absurd zip
 
 tables_within : (is_inverse : Bool) (tables : List Data) (names : List (List ℕ)) (needs : List (ℕ × ℕ)) → MeansTables is_inverse tables names needs → All (IsWithin (length names)) needs
 tables_within is_inverse tables names needs is =

@@ -1,7 +1,5 @@
 -- Drawings of merges, which are refusals.
-use Rattle.std.proofs.Common.{◌≡◌, ℕ, Bool, false, inr, Option, List, Result, Ok, Err, subst}
-use Rattle.std.proofs.lemmas.Bool.{false≢true}
-use Rattle.std.specs.Prelude.{IsErr, IfErr}
+use Rattle.std.proofs.Common.{◌≡◌, ℕ, Bool, false, inr, Option, List, Result, Ok, Err, subst, IsErr, IfErr, true≢false, sym}
 use Rattle.ptree.specs.declared.print_config.OutputKind.TheVariants.{Unknown}
 use Rattle.ptree.specs.Config.{ConfigValue, is_styled}
 use Rattle.ptree.specs.Drawing.{look_by, IsDrawing}
@@ -11,7 +9,7 @@ use Rattle.ptree.specs.Writing.{AppendsPart}
 use Rattle.ptree_trees.specs.Styled.{styled_shape}
 use Rattle.ptree_trees.specs.declared.styled.StyledItem.{StyledItem}
 use Rattle.trees.specs.declared.failure.Failure.{Failure}
-use Rattle.trees.specs.declared.failure.Failure.TheVariants.{Usage, Input, Said, Output, Memory}
+use Rattle.trees.specs.declared.failure.Failure.TheVariants.{Output, Memory}
 use Rattle.trees.specs.Merging.{styled_tree_of, ShowsBoth, IsMergeDrawing}
 use Rattle.trees.specs.Reading.{IsWriting}
 use Rattle.trees.specs.Writing.{WritesRefusal}
@@ -29,9 +27,7 @@ merge_drawing config is_terminal is_colored t u s bytes colored shows drawn = (
 -- a call that fails in writing has appended a prefix
 pub refuses_part : {A : Type 0} (old new : Option (List ℕ)) (r : Result A Failure) (Is : List ℕ → Type 0) (Fails : Failure → Type 0) (bytes : List ℕ) → IsErr r → IfErr r IsWriting → Is bytes → AppendsPart old new bytes
     → WritesRefusal old new r Is Fails
-refuses_part old new (Ok x) Is Fails bytes err writing is part = absurd (false≢true err)
-refuses_part old new (Err (Usage wrong)) Is Fails bytes err writing is part = absurd writing
-refuses_part old new (Err (Input wrong)) Is Fails bytes err writing is part = absurd writing
-refuses_part old new (Err Said) Is Fails bytes err writing is part = absurd writing
+refuses_part old new (Ok x) Is Fails bytes err writing is part = absurd (true≢false (sym err))
 refuses_part old new (Err (Output kind)) Is Fails bytes err writing is part = inr (tt, bytes, is, part)
 refuses_part old new (Err Memory) Is Fails bytes err writing is part = inr (tt, bytes, is, part)
+refuses_part old new _ Is Fails bytes err writing is part = absurd writing

@@ -1,13 +1,9 @@
 -- Sorted texts with their positions.
-use Rattle.std.specs.Borrow.{Bor}
 use Rattle.std.specs.Cmp.{IsTotalOrder}
 use Rattle.std.specs.Cmp.Lexicographic.{slice_cmp}
 use Rattle.std.specs.List.Sorted.{IsSorted, IsBinarySearchResult, IsPermutation}
 use Rattle.std.specs.Ordering.{is_lt, nat_cmp, ordering_reverse, ordering_then}
-use Rattle.std.specs.Prelude.{option_map}
-use Rattle.std.specs.declared.cmp.Ordering.{Ordering}
-use Rattle.std.specs.declared.cmp.Ordering.TheVariants.{Less, Equal, Greater}
-use Rattle.std.proofs.Common.{◌≡◌, ◌≢◌, ◌∙◌, ℕ, ◌+◌, ◌<◌, ◌≤◌, ◌⊎◌, ◌++◌, false, Result, Ok, Err, List, [], ◌∷◌, Contains, length, get_or, Some, ap, refl, sym, subst, arith, inl, inr, string_bytes}
+use Rattle.std.proofs.Common.{◌≡◌, ◌≢◌, ◌∙◌, ℕ, ◌+◌, ◌<◌, ◌≤◌, ◌⊎◌, ◌++◌, false, Result, Ok, Err, List, [], ◌∷◌, Contains, length, get_or, Some, ap, refl, sym, subst, inl, inr, string_bytes, Bor, option_map, Ordering, Less, Equal, Greater, arith}
 use Rattle.std.proofs.lemmas.Bool.{cases_lt, false≢true}
 use Rattle.std.proofs.lemmas.Cmp.{nat_list_cmp_total, nat_cmp_total, on_total, ranked, then_total, tied_itself}
 use Rattle.std.proofs.lemmas.List.{get_or_default}
@@ -65,9 +61,8 @@ has_sorted items i old new long moved all k own low has none = all k own (omega 
 
 -- an order by two parts is equal only if the first is
 then_equal : (o p : Ordering) → ordering_then o p ≡ Equal → o ≡ Equal
-then_equal Less p e = e
 then_equal Equal p e = refl
-then_equal Greater p e = e
+then_equal _ p e = e
 
 -- what is less in neither order is equal
 neither : (o p q : Ordering) → is_lt (ordering_then o p) ≡ false → is_lt (ordering_then (ordering_reverse o) q) ≡ false → o ≡ Equal
@@ -137,15 +132,12 @@ module _ (items : List StringItem) (places : List Place) (from : ℕ) (text : Bo
       elim ends.1 [
         | inl o ↦
             let within = bound o in
-            let equal = (subst (IsBinarySearchResult (λ y. place_cmp y (text, from)) places) o ends.0) q in
-            other f within (get_or_default places at q f within) (text_of_equal f equal)
+            other f within (get_or_default places at q f within) (text_of_equal f ((subst (IsBinarySearchResult (λ y. place_cmp y (text, from)) places) o ends.0) q))
         | inr o ↦
             let at_most = not_passed at q j (subst (IsBinarySearchResult (λ y. place_cmp y (text, from)) places) o ends.0) held.1 held.2 own (omega (arith, low, place)) in
             let within : at < length places = omega (arith, at_most, held.1) in
             let is = get_or_default places at q f within in
-            let later = not_before places (text, from) r at f are.ascending ends.0 ends.1 within is in
-            let order = in_order at j f q at_most held.1 is held.2 in
-            other f within is (text_between f q own later order)
+            other f within is (text_between f q own (not_before places (text, from) r at f are.ascending ends.0 ends.1 within is) (in_order at j f q at_most held.1 is held.2))
       ]) where
         -- two places that are equal have one text
         text_of_equal : (p : Place) → place_cmp p (text, from) ≡ Equal → p.0.now ≡ text.now

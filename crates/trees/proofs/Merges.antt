@@ -1,9 +1,5 @@
 -- Merges of two trees, made one child after another.
-use Rattle.std.specs.List.{slice_range}
-use Rattle.std.specs.Prelude.{option_map}
-use Rattle.std.specs.Str.{bytes_eq}
-use Rattle.std.proofs.Common.{◌≡◌, ◌≢◌, ◌∙◌, ℕ, ◌+◌, ◌-◌, ◌<◌, ◌≤◌, ◌++◌, true, false, All, List, [], ◌∷◌, length, get_or, map, take, drop, Option, Some, None, string_bytes, ap, refl, sym, subst, append_assoc, append-nil, arith}
-use Rattle.std.proofs.lemmas.Bool.{false≢true}
+use Rattle.std.proofs.Common.{◌≡◌, ◌≢◌, ◌∙◌, ℕ, ◌+◌, ◌-◌, ◌<◌, ◌≤◌, ◌++◌, true, false, All, List, [], ◌∷◌, length, get_or, map, take, drop, Option, Some, None, string_bytes, ap, refl, sym, subst, append_assoc, append-nil, slice_range, option_map, bytes_eq, true≢false, arith}
 use Rattle.std.proofs.lemmas.List.{take_more, take_all, map-append, get_or_default, get_or-take, get_or-drop, length-take-le, length-drop}
 use Rattle.std.proofs.lemmas.List.Elements.{All-map, All-head, All-tail, All-weaker}
 use Rattle.std.proofs.lemmas.List.Folds.{drop_split}
@@ -68,9 +64,7 @@ items_passed ys from at y in_order l is =
 
 -- an item at a position has the text there
 pub text_found : (ys : List StringItem) (at : ℕ) (y : StringItem) (text : List ℕ) → at < length ys → y ≡ get_or ys at y → text_at ys at ≡ Some text → text ≡ (tree_of y).text
-text_found ys at y text l is there =
-    let some = sym there ∙ ap (option_map (λ s. (tree_of s).text)) (slice_get_read ys (length ys) at y refl l is) in
-    cc
+text_found ys at y text l is there = cc (sym there ∙ ap (option_map (λ s. (tree_of s).text)) (slice_get_read ys (length ys) at y refl l is))
 
 -- the texts of a forest's roots
 root_texts_of : (ts : List Tree) → root_texts (forest ts) ≡ map (λ t. t.text) ts
@@ -183,8 +177,7 @@ module _ (look : Look) where
     step_both t u over left right ls rs s made new e f is same apart both h = record {
       go = λ rest k.
           let passed = shows_right over (t ∷ ls) (u ∷ rs) (s ∷ rest) (shows_both t u s ls rs rest same both k) (All-weaker (λ v. v.text ≢ t.text) (λ v. Some t.text ≢ Some v.text) (λ v other e. let same : v.text ≡ t.text = (cc) in other same) over apart) in
-          let all = h.go (map (marked_tree look Right) over ++ s ∷ rest) (rw (e, f) passed.0) in
-          rw (is, append_assoc, append_assoc) all;
+          rw (is, append_assoc, append_assoc) (h.go (map (marked_tree look Right) over ++ s ∷ rest) (rw (e, f) passed.0));
     }
 
     -- a left tree goes with none
@@ -197,5 +190,5 @@ module _ (look : Look) where
     -- the right trees that are left go with none
     pub step_end : (left right : List Tree) (made new : List StyledTree) → left ≡ [] → new ≡ made ++ map (marked_tree look Right) right → ShowsBut look ts us left right made → Shows look ts us new
     step_end left right made new e is h =
-        let passed = shows_right right [] [] [] shows_none (λ k d l none. let no : false ≡ true = (cc) in false≢true no) in
+        let passed = shows_right right [] [] [] shows_none (λ k d l none. let no : false ≡ true = (cc) in true≢false (sym no)) in
         rw is (h.go (map (marked_tree look Right) right) (rw e (simp append-nil at passed.0)))

@@ -1,5 +1,5 @@
 -- Names and versions in texts.
-use Rattle.std.proofs.Common.{◌≡◌, ◌≢◌, ◌∙◌, ℕ, suc, ◌+◌, ◌-◌, ◌<◌, ◌≤◌, ◌&&◌, ◌||◌, Bool, true, false, cond, eqb, eqb-true, List, [], ◌∷◌, ◌++◌, length, get_or, take, drop, codes, inl, inr, refl, sym, ap, subst, arith, append_assoc, length-append}
+use Rattle.std.proofs.Common.{◌≡◌, ◌≢◌, ◌∙◌, ℕ, suc, ◌+◌, ◌-◌, ◌<◌, ◌≤◌, ◌&&◌, ◌||◌, Bool, true, false, cond, eqb, eqb-true, List, [], ◌∷◌, ◌++◌, length, get_or, take, drop, codes, inl, inr, refl, sym, ap, subst, append_assoc, length-append, Bor, Option, Some, None, MatchBool, MatchOption, unwrap_or, arith}
 use Rattle.std.proofs.Math.Bool.{or-false}
 use Rattle.std.proofs.lemmas.Bool.{and_left, cond-false, cond-true, eq-eqb, false≢true, false_from_ne_true, ne_eqb, or_cases, or_from, or_left, or_right}
 use Rattle.std.proofs.lemmas.List.{append-nil, get_or-take, length-drop, length-take, nil_from_length, take_all}
@@ -7,10 +7,8 @@ use Rattle.std.proofs.lemmas.List.Sums.{position_or_len_is}
 use Rattle.std.proofs.lemmas.Slice.Eq.{bytes_eq-Decides}
 use Rattle.std.proofs.lemmas.Str.{IsCharBoundary-before_ascii, IsCharBoundary-start, NoCharPasses-byte, len_utf8_ascii}
 use Rattle.std.proofs.lemmas.Str.Pattern.{strip_prefix_char}
-use Rattle.std.specs.Borrow.{Bor}
 use Rattle.std.specs.Char.{char_set_contains}
 use Rattle.std.specs.List.{after_first, before_first, position_or_len}
-use Rattle.std.specs.Prelude.{Option, Some, None, MatchBool, MatchOption, unwrap_or}
 use Rattle.std.specs.Str.{bytes_eq, IsUtf8, NoCharPasses}
 use Rattle.std.specs.Str.Pattern.{FindsBy, FindsCharPrefix, FindsTextPrefix, GetsRange, HasPrefixMatch, LacksTextAt, StripsPrefix}
 use Rattle.ptree_trees.specs.Parts.{begins_with}
@@ -66,13 +64,11 @@ cut_at (b ∷ text) end is = by (eqb b 64) refl where
   by : (e : Bool) → eqb b 64 ≡ e → take end (b ∷ text) ≡ own_name (b ∷ text)
   by true e =
       let rest = cond-true (eqb b 64) text (b ∷ text) e in
-      let at : end + length text ≡ length (b ∷ text) + position_or_len ends_name text = subst (λ (t : List ℕ). end + length t ≡ length (b ∷ text) + position_or_len ends_name t) rest is in
-      let more : end ≡ suc (position_or_len ends_name text) = omega arith in
+      let more : end ≡ suc (position_or_len ends_name text) = omega (arith, subst (λ (t : List ℕ). end + length t ≡ length (b ∷ text) + position_or_len ends_name t) rest is) in
       ap (λ (n : ℕ). take n (b ∷ text)) more ∙ sym (cond-true (eqb b 64) (b ∷ before_first ends_name text) (before_first ends_name (b ∷ text)) e)
   by false e =
       let rest = cond-false (eqb b 64) text (b ∷ text) e in
-      let at : end + length (b ∷ text) ≡ length (b ∷ text) + position_or_len ends_name (b ∷ text) = subst (λ (t : List ℕ). end + length t ≡ length (b ∷ text) + position_or_len ends_name t) rest is in
-      let same : end ≡ position_or_len ends_name (b ∷ text) = omega arith in
+      let same : end ≡ position_or_len ends_name (b ∷ text) = omega (arith, subst (λ (t : List ℕ). end + length t ≡ length (b ∷ text) + position_or_len ends_name t) rest is) in
       ap (λ (n : ℕ). take n (b ∷ text)) same ∙ sym (cond-false (eqb b 64) (b ∷ before_first ends_name text) (before_first ends_name (b ∷ text)) e)
 
 -- the byte there
@@ -82,13 +78,11 @@ byte_at (b ∷ text) end i is = by (eqb b 64) refl where
   by : (e : Bool) → eqb b 64 ≡ e → get_or (b ∷ text) end 0 ≡ get_or (without_front 64 (b ∷ text)) i 0
   by true e =
       let rest = cond-true (eqb b 64) text (b ∷ text) e in
-      let at : end + length text ≡ length (b ∷ text) + i = subst (λ (t : List ℕ). end + length t ≡ length (b ∷ text) + i) rest is in
-      let more : end ≡ suc i = omega arith in
+      let more : end ≡ suc i = omega (arith, subst (λ (t : List ℕ). end + length t ≡ length (b ∷ text) + i) rest is) in
       ap (λ (n : ℕ). get_or (b ∷ text) n 0) more ∙ sym (ap (λ (t : List ℕ). get_or t i 0) rest)
   by false e =
       let rest = cond-false (eqb b 64) text (b ∷ text) e in
-      let at : end + length (b ∷ text) ≡ length (b ∷ text) + i = subst (λ (t : List ℕ). end + length t ≡ length (b ∷ text) + i) rest is in
-      let same : end ≡ i = omega arith in
+      let same : end ≡ i = omega (arith, subst (λ (t : List ℕ). end + length t ≡ length (b ∷ text) + i) rest is) in
       ap (λ (n : ℕ). get_or (b ∷ text) n 0) same ∙ sym (ap (λ (t : List ℕ). get_or t i 0) rest)
 
 -- the clauses of `split_once` at a blank or `@`

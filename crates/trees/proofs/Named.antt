@@ -1,14 +1,8 @@
 -- With which pieces a text is read, and what is said of them.
-use Rattle.std.proofs.Common.{◌≡◌, ◌≢◌, ℕ, ◌-◌, ◌≤◌, inl, inr, Bool, true, false, Option, Some, None, Result, Ok, Err, IfOk, IsTrue, ◌↔◌, All, List, [], ◌∷◌, ◌++◌, length, get_or, slice_index_or, take, Contains, codes, refl, sym, ap, ◌∙◌, subst, append_assoc, lit<}
-use Rattle.std.proofs.Math.Dec.{ltb}
-use Rattle.std.proofs.lemmas.Bool.{ltb-true, false≢true}
-use Rattle.std.proofs.lemmas.List.{append-nil}
+use Rattle.std.proofs.Common.{◌≡◌, ◌≢◌, ℕ, ◌-◌, ◌≤◌, inl, inr, Bool, true, false, Option, Some, None, Result, Ok, IfOk, IsTrue, ◌↔◌, All, List, [], ◌∷◌, ◌++◌, length, get_or, slice_index_or, take, Contains, codes, refl, sym, ap, ◌∙◌, subst, append_assoc, lit<, ltb, append-nil, encode_utf8, IfSome, IfNone, MatchOption, is_some, IsCharBoundary, ltb-true, true≢false}
 use Rattle.std.proofs.lemmas.List.Elements.{All-contains}
 use Rattle.std.proofs.lemmas.Str.Pattern.{ends_char}
 use Rattle.std.proofs.lemmas.Str.{encode_ascii}
-use Rattle.std.specs.Char.{encode_utf8}
-use Rattle.std.specs.Prelude.{IfSome, IfNone, MatchOption, is_some}
-use Rattle.std.specs.Str.{IsCharBoundary}
 use Rattle.std.specs.Str.Pattern.{FindsCharSuffix}
 use Rattle.ptree.specs.declared.item.StringItem.{StringItem}
 use Rattle.ptree.specs.declared.presets.Preset.TheVariants.{Tree, TreeAscii, CargoTree, CargoTreeAscii, Findmnt, FindmntAscii, Sqlite, Maven, Clang, Ps}
@@ -64,8 +58,7 @@ pub none_tried : {E : Type 0} (config : ConfigValue) (text : List ℕ) (r : Resu
     → IfOk r (λ found. MatchOption found (All (λ p. IsReadWith config text p → ⊥) tried) (IsReadWith config text))
     → IfOk r (λ found. MatchOption found (IsReadWithNone config text) (IsReadWith config text))
 none_tried config text (Ok None) h = each_of_tried (λ p. IsReadWith config text p → ⊥) h
-none_tried config text (Ok (Some p)) h = h
-none_tried config text (Err e) h = h
+none_tried config text _ h = h
 
 -- where none of those has a name, none has
 pub none_named : (name : List ℕ) (found : Option Pieces) → MatchOption found (All (λ p. name ≢ piece_name p) tried) (λ p. name ≡ piece_name p)
@@ -78,7 +71,7 @@ pub some_read : (config : ConfigValue) (text : List ℕ) → IsReadableValue con
     → IfSome o (λ t. IsDrawnForm (look_by config Unknown false) config.depth text (drawn.tree_of t))
     → IfNone o ((t : drawn.Tree) → IsDrawnForm (look_by config Unknown false) config.depth text t → ⊥)
     → IsTrue (is_some o) ↔ IsReadBy config text
-some_read config text readable None some none = ((λ no. absurd (false≢true no)), (λ is. absurd (none is.form.0 is.form.1)))
+some_read config text readable None some none = ((λ no. absurd (true≢false (sym no))), (λ is. absurd (none is.form.0 is.form.1)))
 some_read config text readable (Some t) some none = ((λ _. record { readable = readable; form = (drawn.tree_of t, some) }), (λ _. refl))
 
 -- a drawing is whole lines
@@ -105,19 +98,19 @@ adds_name config text p old middle new name read is first second =
 -- it is the hint, if nothing is before it
 pub hint_named : (config : ConfigValue) (text lines old hint : List ℕ) (b : Bool) → old ≡ [] → b ≡ true → AddsOther config text b old hint → IsHint config text lines hint
 hint_named config text lines old hint true none is (said, names, added) = inl (subst (NamesOther config text) (sym (added ∙ ap (λ z. z ++ said) none)) names)
-hint_named config text lines old hint false none is added = absurd (false≢true is)
+hint_named config text lines old hint false none is added = absurd (true≢false (sym is))
 
 -- without a name, the beginnings are
 pub hint_listed : (config : ConfigValue) (text lines old middle hint listed : List ℕ) (b : Bool) → old ≡ [] → b ≡ false → AddsOther config text b old middle
     → ListsBeginnings config lines listed → hint ≡ middle ++ (codes "\nexpected one of:" ++ listed) → IsHint config text lines hint
-hint_listed config text lines old middle hint listed true none is added lists said = absurd (false≢true (sym is))
+hint_listed config text lines old middle hint listed true none is added lists said = absurd (true≢false is)
 hint_listed config text lines old middle hint listed false none is (other, added) lists said =
     inr (other, inr (listed, said ∙ ap (λ z. z ++ (codes "\nexpected one of:" ++ listed)) (added ∙ none), lists))
 
 -- and nothing if there are none
 pub hint_nothing : (config : ConfigValue) (text lines old hint listed : List ℕ) (b : Bool) → old ≡ [] → b ≡ false → AddsOther config text b old hint
     → ListsBeginnings config lines listed → listed ≡ [] → IsHint config text lines hint
-hint_nothing config text lines old hint listed true none is added lists empty = absurd (false≢true (sym is))
+hint_nothing config text lines old hint listed true none is added lists empty = absurd (true≢false is)
 hint_nothing config text lines old hint listed false none is (other, added) lists empty =
     inr (other, inl (added ∙ none, subst (ListsBeginnings config lines) empty lists))
 

@@ -1,9 +1,7 @@
 -- Names of nodes by computation.
-use Rattle.std.proofs.Common.{◌≡◌, ℕ, zero, suc, true, false, List, [], ◌∷◌, codes, inl, inr, refl, sym, arith}
-use Rattle.std.proofs.lemmas.Bool.{false≢true}
+use Rattle.std.proofs.Common.{◌≡◌, ℕ, zero, suc, true, false, List, [], ◌∷◌, codes, inl, inr, refl, sym, All, true≢false, arith}
 use Rattle.std.proofs.lemmas.List.Elements.{All-from_recursion}
 use Rattle.std.specs.List.Sorted.{IsStrictlySortedBy}
-use Rattle.std.specs.Prelude.{All}
 use Rattle.serde_json.specs.Data.{unsigned, Data, number, string, object, Members, no_members, member}
 use Rattle.trees.specs.Npm.{label_text, leads_on, listed, AreNodePaths}
 use Rattle.trees.proofs.NpmTargets.{all_nodes}
@@ -67,9 +65,9 @@ alias_version = refl
 whole : IsRootNode (codes "a v1" ∷ codes "a" ∷ []) [] (codes "a") 1
 whole = inl (refl, only) where
   only : (k : ℕ) → is_all_of (codes "a v1" ∷ codes "a" ∷ []) [] (codes "a") k ≡ true → k ≡ 1
-  only zero is = absurd (false≢true is)
+  only zero is = absurd (true≢false (sym is))
   only (suc zero) is = refl
-  only (suc (suc k)) is = absurd (false≢true is)
+  only (suc (suc k)) is = absurd (true≢false (sym is))
 
 -- a part of one label alone
 part : IsRootNode (codes "ab v1" ∷ codes "a v1" ∷ []) [] (codes "a") 1
@@ -80,9 +78,9 @@ part = inr (none, (refl, only)) where
   none (suc (suc k)) = refl
 
   only : (k : ℕ) → is_part_of (codes "ab v1" ∷ codes "a v1" ∷ []) (codes "a") k ≡ true → k ≡ 1
-  only zero is = absurd (false≢true is)
+  only zero is = absurd (true≢false (sym is))
   only (suc zero) is = refl
-  only (suc (suc k)) is = absurd (false≢true is)
+  only (suc (suc k)) is = absurd (true≢false (sym is))
 
 -- a path, where two labels are the same
 abbrev labels : List (List ℕ)
@@ -94,21 +92,21 @@ paths = codes "node_modules/a/node_modules/c" ∷ codes "node_modules/c" ∷ []
 by_path : IsRootNode labels paths (codes "node_modules/c") 1
 by_path = inl (refl, only) where
   only : (k : ℕ) → is_all_of labels paths (codes "node_modules/c") k ≡ true → k ≡ 1
-  only zero is = absurd (false≢true is)
+  only zero is = absurd (true≢false (sym is))
   only (suc zero) is = refl
-  only (suc (suc k)) is = absurd (false≢true is)
+  only (suc (suc k)) is = absurd (true≢false (sym is))
 
 -- a name of two nodes means none, nor does that of no node
 several : LacksRoot labels paths (codes "c@1.0.0")
 several = λ i root. elim root [
   | inl only ↦ let first = only.1 0 refl in let second = only.1 1 refl in omega arith
-  | inr parts ↦ false≢true (sym (parts.0 0))
+  | inr parts ↦ true≢false (parts.0 0)
 ]
 
 unknown : LacksRoot labels paths (codes "d")
 unknown = λ i root. elim root [
-  | inl only ↦ false≢true (none i only.0)
-  | inr parts ↦ false≢true (no_part i parts.1.0)
+  | inl only ↦ true≢false (sym (none i only.0))
+  | inr parts ↦ true≢false (sym (no_part i parts.1.0))
 ] where
   none : (k : ℕ) → is_all_of labels paths (codes "d") k ≡ true → false ≡ true
   none zero is = is
@@ -156,34 +154,34 @@ have_labels = refl
 one_label : LacksRoot node_labels node_paths (codes "c@1.0.0")
 one_label = λ i root. elim root [
   | inl only ↦ let first = only.1 2 refl in let second = only.1 3 refl in omega arith
-  | inr parts ↦ false≢true (sym (parts.0 2))
+  | inr parts ↦ true≢false (parts.0 2)
 ]
 
 -- the path of each means it alone
 outer_path : IsRootNode node_labels node_paths (codes "node_modules/c") 3
 outer_path = inl (refl, only) where
   only : (k : ℕ) → is_all_of node_labels node_paths (codes "node_modules/c") k ≡ true → k ≡ 3
-  only zero is = absurd (false≢true is)
-  only (suc zero) is = absurd (false≢true is)
-  only (suc (suc zero)) is = absurd (false≢true is)
+  only zero is = absurd (true≢false (sym is))
+  only (suc zero) is = absurd (true≢false (sym is))
+  only (suc (suc zero)) is = absurd (true≢false (sym is))
   only (suc (suc (suc zero))) is = refl
-  only (suc (suc (suc (suc k)))) is = absurd (false≢true is)
+  only (suc (suc (suc (suc k)))) is = absurd (true≢false (sym is))
 
 inner_path : IsRootNode node_labels node_paths (codes "node_modules/a/node_modules/c") 2
 inner_path = inl (refl, only) where
   only : (k : ℕ) → is_all_of node_labels node_paths (codes "node_modules/a/node_modules/c") k ≡ true → k ≡ 2
-  only zero is = absurd (false≢true is)
-  only (suc zero) is = absurd (false≢true is)
+  only zero is = absurd (true≢false (sym is))
+  only (suc zero) is = absurd (true≢false (sym is))
   only (suc (suc zero)) is = refl
-  only (suc (suc (suc zero))) is = absurd (false≢true is)
-  only (suc (suc (suc (suc k)))) is = absurd (false≢true is)
+  only (suc (suc (suc zero))) is = absurd (true≢false (sym is))
+  only (suc (suc (suc (suc k)))) is = absurd (true≢false (sym is))
 
 -- that of the project is empty
 project_path : IsRootNode node_labels node_paths [] 0
 project_path = inl (refl, only) where
   only : (k : ℕ) → is_all_of node_labels node_paths [] k ≡ true → k ≡ 0
   only zero is = refl
-  only (suc zero) is = absurd (false≢true is)
-  only (suc (suc zero)) is = absurd (false≢true is)
-  only (suc (suc (suc zero))) is = absurd (false≢true is)
-  only (suc (suc (suc (suc k)))) is = absurd (false≢true is)
+  only (suc zero) is = absurd (true≢false (sym is))
+  only (suc (suc zero)) is = absurd (true≢false (sym is))
+  only (suc (suc (suc zero))) is = absurd (true≢false (sym is))
+  only (suc (suc (suc (suc k)))) is = absurd (true≢false (sym is))

@@ -1,9 +1,7 @@
 -- That a text says one thing of the package that is needed.
-use Rattle.std.proofs.Common.{◌≡◌, ◌≢◌, ◌∙◌, ℕ, List, [], ◌∷◌, ◌++◌, codes, refl, sym, ap, subst, arith}
-use Rattle.std.proofs.lemmas.Bool.{false≢true}
+use Rattle.std.proofs.Common.{◌≡◌, ◌≢◌, ◌∙◌, ℕ, List, [], ◌∷◌, ◌++◌, codes, refl, sym, ap, subst, Option, Some, None, IfSome, IsSome, MatchOption, true≢false, arith}
 use Rattle.std.proofs.lemmas.List.{append-nil, append_cancel_right}
 use Rattle.std.proofs.lemmas.Option.{IfSome_then}
-use Rattle.std.specs.Prelude.{Option, Some, None, IfSome, IsSome, MatchOption}
 use Rattle.toml.specs.Data.{Data, as_str}
 use Rattle.trees.specs.declared.deps.packages.Need.{Need}
 use Rattle.trees.specs.Locking.{Known, between, unrevised, Lacks, IsNeed, IsNeedTable, IsNeedText}
@@ -85,7 +83,7 @@ text_only text name rest r is lacks found whole says = by whole.version whole.so
   by : (version source : Option (List ℕ)) → text ≡ whole.name ++ (between (codes " ") version [] ++ between (codes " (") source (codes ")")) → IfSome version (λ v. (v ≢ []) × Lacks (codes " (") v) → IfSome source (λ s. (s ≢ []) × IsSome version)
       → IsFound r (unrevised (record { name = whole.name; version = version; source = source }))
   by None None e v s = absurd (says.name name rest (sym (append-nil whole.name) ∙ (sym e ∙ is)))
-  by None (Some t) e v s = absurd (false≢true s.1)
+  by None (Some t) e v s = absurd (true≢false (sym s.1))
   by (Some version) source e v s =
       let behind = between (codes " (") source (codes ")") in
       let cut = byte_cut 32 whole.name name ((version ++ []) ++ behind) rest says.name lacks (sym e ∙ is) in
@@ -106,7 +104,7 @@ name_only text need lacks is whole says = by whole.version whole.source says.is 
   by : (version source : Option (List ℕ)) → text ≡ whole.name ++ (between (codes " ") version [] ++ between (codes " (") source (codes ")")) → IfSome source (λ s. (s ≢ []) × IsSome version)
       → known_of need ≡ unrevised (record { name = whole.name; version = version; source = source })
   by None None e s = is ∙ ap named (e ∙ append-nil whole.name)
-  by None (Some t) e s = absurd (false≢true s.1)
+  by None (Some t) e s = absurd (true≢false (sym s.1))
   by (Some version) source e s = absurd (lacks whole.name ((version ++ []) ++ between (codes " (") source (codes ")")) e)
 
 -- ## Entries

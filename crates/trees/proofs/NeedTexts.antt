@@ -1,8 +1,6 @@
 -- What texts say of the packages that are needed.
-use Rattle.std.proofs.Common.{◌≡◌, ◌≢◌, ◌∙◌, ℕ, ◌+◌, ◌<◌, List, [], ◌∷◌, ◌++◌, length, get_or, drop, codes, refl, sym, ap, subst, append_assoc, length-append, arith}
+use Rattle.std.proofs.Common.{◌≡◌, ◌≢◌, ◌∙◌, ℕ, ◌+◌, ◌<◌, List, [], ◌∷◌, ◌++◌, length, get_or, drop, codes, refl, sym, ap, subst, append_assoc, length-append, append-nil, Option, Some, None, IfSome, IsSome, arith}
 use Rattle.std.proofs.Math.Seq.{drop-append_seam, get_or-append_seam}
-use Rattle.std.proofs.lemmas.List.{append-nil}
-use Rattle.std.specs.Prelude.{Option, Some, None, IfSome, IsSome}
 use Rattle.std.specs.Str.Pattern.{LacksTextAt}
 use Rattle.trees.specs.declared.deps.packages.Need.{Need}
 use Rattle.trees.specs.Locking.{Known, between, Lacks, IsNeedText, unrevised}

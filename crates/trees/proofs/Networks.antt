@@ -1,14 +1,10 @@
 -- Networks that get nodes and edges.
-use Rattle.std.proofs.Common.{◌≡◌, ◌∙◌, ℕ, ◌&&◌, ◌||◌, not, Bool, true, false, cond, eqb, ◌+◌, ◌<◌, List, [], ◌∷◌, ◌++◌, length, get_or, take, map, refl, sym, ap, subst, arith}
-use Rattle.std.proofs.lemmas.Bool.{eqb-true, false≢true}
+use Rattle.std.proofs.Common.{◌≡◌, ◌∙◌, ℕ, ◌&&◌, ◌||◌, not, Bool, true, false, cond, eqb, ◌+◌, ◌<◌, List, [], ◌∷◌, ◌++◌, length, get_or, take, map, refl, sym, ap, subst, Bor, is_eq, filter, string_bytes, eqb-true, true≢false, arith}
 use Rattle.std.proofs.lemmas.List.{append-nil, map-append, take_more}
 use Rattle.std.proofs.lemmas.List.Elements.{filter-append}
 use Rattle.std.proofs.lemmas.Map.Views.{any-filter_same}
 use Rattle.std.proofs.lemmas.Bool.Decides.{nat_tests}
-use Rattle.std.specs.Borrow.{Bor}
 use Rattle.std.specs.List.{list_any}
-use Rattle.std.specs.Ordering.{is_eq}
-use Rattle.std.specs.Prelude.{filter, string_bytes}
 use Rattle.ptree.specs.Graph.{numbers_of}
 use Rattle.trees.specs.declared.deps.Network.{Network}
 use Rattle.trees.specs.Depending.{number, is_need, directed, edge_of, same_edge, firsts, edges_between}
@@ -67,8 +63,8 @@ pub edge_exact : (d e : ℕ × ℕ) → same_edge d e ≡ true → d ≡ e
 edge_exact d e same = pair (eqb d.0 e.0) (eqb d.1 e.1) refl refl same where
   pair : (a b : Bool) → eqb d.0 e.0 ≡ a → eqb d.1 e.1 ≡ b → (a && b) ≡ true → d ≡ e
   pair true true x y s = let l = eqb-true d.0 e.0 x in let r = eqb-true d.1 e.1 y in ap (λ (n : ℕ). (n, d.1)) l ∙ ap (λ (n : ℕ). (e.0, n)) r
-  pair true false x y s = absurd (false≢true s)
-  pair false b x y s = absurd (false≢true s)
+  pair true false x y s = absurd (true≢false (sym s))
+  pair false b x y s = absurd (true≢false (sym s))
 
 -- the edges of one pair more
 module _ (is_inverse : Bool) (names : List (List ℕ)) (pairs : List (List ℕ × List ℕ)) (p : List ℕ × List ℕ) where

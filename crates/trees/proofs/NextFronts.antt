@@ -1,8 +1,6 @@
 -- Behind which passing pieces an item can follow whole lines.
-use Rattle.std.proofs.Common.{◌≡◌, ◌≢◌, ℕ, zero, suc, ◌<◌, ◌≤◌, ◌⊎◌, inl, inr, Bool, not, List, [], ◌∷◌, ◌++◌, length, length-append, refl, sym, ap, ◌∙◌, subst, append_assoc, arith}
+use Rattle.std.proofs.Common.{◌≡◌, ◌≢◌, ℕ, zero, suc, ◌<◌, ◌≤◌, ◌⊎◌, inl, inr, Bool, not, List, [], ◌∷◌, ◌++◌, length, length-append, refl, sym, ap, ◌∙◌, subst, append_assoc, append-nil, Contains, flat_map, arith}
 use Rattle.std.proofs.lemmas.Bool.{cases_lt}
-use Rattle.std.proofs.lemmas.List.{append-nil}
-use Rattle.std.specs.Prelude.{Contains, flat_map}
 use Rattle.ptree.specs.Continuation.{HasContinuation}
 use Rattle.ptree.specs.Drawing.{Look, with_inserted, continued_prefix}
 use Rattle.ptree.specs.Flags.{has_later, last_flags, pieces_by, passing_by}

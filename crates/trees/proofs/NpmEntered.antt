@@ -1,5 +1,5 @@
 -- What a walk through folders of packages of npm has entered.
-use Rattle.std.proofs.Common.{◌≡◌, ◌∙◌, ◌⊎◌, ℕ, ◌≤◌, ◌+◌, true, false, List, [], ◌∷◌, ◌++◌, length, get_or, slice_get, inl, inr, refl, sym, ap, subst, arith}
+use Rattle.std.proofs.Common.{◌≡◌, ◌∙◌, ◌⊎◌, ℕ, ◌≤◌, ◌+◌, true, false, List, [], ◌∷◌, ◌++◌, length, get_or, slice_get, inl, inr, refl, sym, ap, subst, IsSorted, is_lt, nat_cmp, Some, All, AllPairs, Contains, arith}
 use Rattle.std.proofs.lemmas.Bool.{cases_lt, false≢true}
 use Rattle.std.proofs.lemmas.List.{get_or_append_left, get_or_push, length_push, take_at}
 use Rattle.std.proofs.lemmas.List.Elements.{All-contains, All-nil, All-push, All-take, All-weaker, Contains-append_cases, Contains-append_left, Contains-push}
@@ -7,9 +7,6 @@ use Rattle.std.proofs.lemmas.List.Quantifiers.{all_pairs_push}
 use Rattle.std.proofs.lemmas.Map.Lookups.{exact_bytes}
 use Rattle.std.proofs.lemmas.Cmp.{nat_list_cmp_total}
 use Rattle.std.specs.Cmp.Lexicographic.{slice_cmp}
-use Rattle.std.specs.List.Sorted.{IsSorted}
-use Rattle.std.specs.Ordering.{is_lt, nat_cmp}
-use Rattle.std.specs.Prelude.{Some, All, AllPairs, Contains}
 use Rattle.trees.specs.NpmParts.{Step, step_cmp, folders_of, AreEntered, Follows, IsBefore, IsWithin}
 use Rattle.trees.proofs.Elements.{pairs_front}
 use Rattle.trees.proofs.NpmFolders.{between, folders_in_turn, in_turn, within_both}

@@ -1,9 +1,7 @@
 -- A lock file of npm with a link by computation.
-use Rattle.std.proofs.Common.{◌≡◌, ◌≢◌, ℕ, zero, suc, ◌<◌, true, List, [], ◌∷◌, ◌++◌, codes, length, get_or, inl, inr, refl, sym, ap, subst, length-append, arith}
-use Rattle.std.proofs.lemmas.Bool.{false≢true}
+use Rattle.std.proofs.Common.{◌≡◌, ◌≢◌, ℕ, zero, suc, ◌<◌, true, List, [], ◌∷◌, ◌++◌, codes, length, get_or, inl, inr, refl, sym, ap, subst, length-append, ◌⊎◌, Contains, true≢false, arith}
 use Rattle.std.proofs.lemmas.List.Elements.{All-cons, All-head, All-nil}
 use Rattle.std.specs.List.Sorted.{IsStrictlySortedBy}
-use Rattle.std.specs.Prelude.{◌⊎◌, Contains}
 use Rattle.serde_json.specs.Data.{Data, array, boolean, object, string, Items, no_items, item, no_members, member}
 use Rattle.trees.specs.Locking.{Lacks}
 use Rattle.trees.specs.Npm.{path_in, AreNodes, HasLabel, IsAlias, IsInstalled, IsLeftOut, IsNeed, IsOnlyAliased, IsPlaced, LinksTo, MayHaveNeeds, Needs, StandsFor}
@@ -68,8 +66,8 @@ only = record {
   among = (1, omega arith, refl);
   leads = (refl, refl);
   each = λ q c links. elim (cases q c) [
-    | inl one ↦ absurd (false≢true (subst (LinksTo (codes "w")) (sym one) links).0)
-    | inr more ↦ elim more [ inl two ↦ subst (IsAlias packages) two alias | inr three ↦ absurd (false≢true (subst (LinksTo (codes "w")) (sym three) links).0) ]
+    | inl one ↦ absurd (true≢false (sym (subst (LinksTo (codes "w")) (sym one) links).0))
+    | inr more ↦ elim more [ inl two ↦ subst (IsAlias packages) two alias | inr three ↦ absurd (true≢false (sym (subst (LinksTo (codes "w")) (sym three) links).0)) ]
   ];
 }
 
@@ -78,8 +76,8 @@ nodes : AreNodes packages (project ∷ al ∷ [])
 unfolding IsStrictlySortedBy
 nodes = record {
   ascending = ((refl, tt), (tt, tt));
-  each = All-cons (λ p. Contains packages p × (IsLeftOut packages p → ⊥)) project (al ∷ []) ((0, omega arith, refl), λ left. elim left [ inl link ↦ false≢true link.0 | inr none ↦ none.1.other refl ])
-      (All-cons (λ p. Contains packages p × (IsLeftOut packages p → ⊥)) al [] ((1, omega arith, refl), λ left. elim left [ inl link ↦ link.1 alias | inr none ↦ false≢true (sym none.0) ]) (All-nil (λ p. Contains packages p × (IsLeftOut packages p → ⊥))));
+  each = All-cons (λ p. Contains packages p × (IsLeftOut packages p → ⊥)) project (al ∷ []) ((0, omega arith, refl), λ left. elim left [ inl link ↦ true≢false (sym link.0) | inr none ↦ none.1.other refl ])
+      (All-cons (λ p. Contains packages p × (IsLeftOut packages p → ⊥)) al [] ((1, omega arith, refl), λ left. elim left [ inl link ↦ link.1 alias | inr none ↦ true≢false none.0 ]) (All-nil (λ p. Contains packages p × (IsLeftOut packages p → ⊥))));
   all = All-cons (λ p. Contains (project ∷ al ∷ []) p ⊎ IsLeftOut packages p) project (al ∷ w ∷ []) (inl (0, omega arith, refl))
       (All-cons (λ p. Contains (project ∷ al ∷ []) p ⊎ IsLeftOut packages p) al (w ∷ []) (inl (1, omega arith, refl))
       (All-cons (λ p. Contains (project ∷ al ∷ []) p ⊎ IsLeftOut packages p) w [] (inr (inr (refl, only))) (All-nil (λ p. Contains (project ∷ al ∷ []) p ⊎ IsLeftOut packages p))));
@@ -114,7 +112,7 @@ listed_text : MayHaveNeeds (codes "dependencies") project.1
 listed_text = All-cons IsNeed (codes "al", string (codes "file:w")) [] refl (All-nil IsNeed)
 
 listed_truth : MayHaveNeeds (codes "dependencies") (object (member (codes "dependencies") (object (member (codes "al") (boolean true) no_members)) no_members)) → ⊥
-listed_truth has = false≢true (All-head IsNeed (codes "al", boolean true) [] has)
+listed_truth has = true≢false (sym (All-head IsNeed (codes "al", boolean true) [] has))
 
 -- an empty list has no needs, and another one is refused
 abbrev developed : Items → Data

@@ -1,5 +1,5 @@
 -- Folders of paths of npm, and the order of steps through them.
-use Rattle.std.proofs.Common.{◌≡◌, ◌≢◌, ◌==◌, ◌∙◌, ℕ, ◌<◌, ◌≤◌, ◌+◌, ◌-◌, zero, suc, eqb, eqb-true, leb, cond, Bool, true, false, List, [], ◌∷◌, ◌++◌, codes, drop, length, get_or, map, slice_get, inl, inr, refl, sym, ap, ap₂, subst, append_assoc, append-nil, length-append, arith}
+use Rattle.std.proofs.Common.{◌≡◌, ◌≢◌, ◌==◌, ◌∙◌, ℕ, ◌<◌, ◌≤◌, ◌+◌, ◌-◌, zero, suc, eqb, eqb-true, leb, cond, Bool, true, false, List, [], ◌∷◌, ◌++◌, codes, drop, length, get_or, map, slice_get, inl, inr, refl, sym, ap, ap₂, subst, append_assoc, append-nil, length-append, Bor, Some, if◌then◌else◌, option_map, replicate, Ordering, Less, Equal, Greater, arith}
 use Rattle.std.proofs.lemmas.Bool.{cases_order, false≢true, leb-true, true≢false}
 use Rattle.std.proofs.lemmas.Cmp.{nat_cmp_total, nat_list_cmp_total, lists_total, on_total, then_total, tied_itself}
 use Rattle.std.proofs.lemmas.List.Sorted.{ranks_by, sorted_far}
@@ -8,15 +8,11 @@ use Rattle.std.proofs.lemmas.Map.Keys.{Less-from_sorted}
 use Rattle.std.proofs.lemmas.Map.Lookups.{CmpEqualImpliesEq}
 use Rattle.std.proofs.lemmas.Slice.Eq.{bytes_eq-Decides}
 use Rattle.std.proofs.lemmas.Option.{get_or_from_slice_get, slice_get-map, slice_get_within}
-use Rattle.std.specs.Borrow.{Bor}
 use Rattle.std.specs.Cmp.{IsTotalOrder, bool_cmp_total}
 use Rattle.std.specs.Cmp.Lexicographic.{slice_cmp}
 use Rattle.std.specs.List.{AllByRecursion, join_with_byte, prefix_len, slice_split}
 use Rattle.std.specs.List.Sorted.{IsSorted, IsStrictlySortedBy}
 use Rattle.std.specs.Ordering.{bool_cmp, is_lt, nat_cmp, ordering_reverse, ordering_then}
-use Rattle.std.specs.Prelude.{Some, if◌then◌else◌, option_map, replicate}
-use Rattle.std.specs.declared.cmp.Ordering.{Ordering}
-use Rattle.std.specs.declared.cmp.Ordering.TheVariants.{Less, Equal, Greater}
 use Rattle.serde_json.specs.Data.{Data}
 use Rattle.trees.specs.Npm.{around, is_up, parts, folders, ups, AreAscending, IsAbove}
 use Rattle.trees.specs.NpmParts.{Step, step_cmp, folders_of, name_of, texts_of, IsWithin}
@@ -156,9 +152,8 @@ one_place packages up i j p q a b same =
 -- references in the order of what they point to
 pub cmp_texts : (xs ys : List (Bor (List ℕ))) → slice_cmp (λ x y. slice_cmp nat_cmp x.now y.now) xs ys ≡ slice_cmp (slice_cmp nat_cmp) (texts_of xs) (texts_of ys)
 cmp_texts [] [] = refl
-cmp_texts [] (y ∷ ys) = refl
-cmp_texts (x ∷ xs) [] = refl
 cmp_texts (x ∷ xs) (y ∷ ys) = ap (ordering_then (slice_cmp nat_cmp x.now y.now)) (cmp_texts xs ys)
+cmp_texts _ _ = refl
 
 pub texts_total : IsTotalOrder (slice_cmp (slice_cmp nat_cmp))
 texts_total = lists_total nat_list_cmp_total

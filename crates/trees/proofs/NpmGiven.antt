@@ -1,9 +1,7 @@
 -- The patterns that a package gives, and the names that they add.
-use Rattle.std.proofs.Common.{◌≡◌, ◌∙◌, ◌↔◌, ◌<◌, ℕ, false, List, [], ◌∷◌, ◌++◌, length, get_or, map, codes, inl, inr, refl, sym, ap, subst, arith}
+use Rattle.std.proofs.Common.{◌≡◌, ◌∙◌, ◌↔◌, ◌<◌, ℕ, false, List, [], ◌∷◌, ◌++◌, length, get_or, map, codes, inl, inr, refl, sym, ap, subst, Bor, All, Contains, Option, Some, None, MatchOption, option_and_then, option_map, string_bytes, unwrap_or, arith}
 use Rattle.std.proofs.lemmas.List.{get_or-map, length-map, map-append}
 use Rattle.std.proofs.lemmas.List.Elements.{All-map, All-weaker, Contains-append_left, Contains-push, Contains-push_cases}
-use Rattle.std.specs.Borrow.{Bor}
-use Rattle.std.specs.Prelude.{All, Contains, Option, Some, None, MatchOption, option_and_then, option_map, string_bytes, unwrap_or}
 use Rattle.ptree.proofs.Trees.ItemTrees.{map_twice}
 use Rattle.serde_json.specs.Data.{Data, Items}
 use Rattle.serde_json.specs.Find.{get, as_array, as_str}

@@ -1,14 +1,10 @@
 -- Which steps are those of a package of npm, by the nodes that are found.
-use Rattle.std.proofs.Common.{◌≡◌, ◌∙◌, ℕ, true, false, List, [], ◌∷◌, ◌++◌, map, slice_get, inl, inr, refl, sym, ap, subst, append-nil, append_assoc}
-use Rattle.std.proofs.lemmas.Bool.{false≢true}
+use Rattle.std.proofs.Common.{◌≡◌, ◌∙◌, ℕ, true, false, List, [], ◌∷◌, ◌++◌, map, slice_get, inl, inr, refl, sym, ap, subst, append-nil, append_assoc, nat_cmp, Option, Some, None, IfSome, All, Contains, String, is_some, option_map, string_bytes, Global, true≢false}
 use Rattle.std.proofs.lemmas.List.Elements.{All-contains, All-nil, All-push, All-weaker, Contains-push}
 use Rattle.std.proofs.lemmas.Option.{same_Some, slice_get-map}
 use Rattle.std.specs.Cmp.Lexicographic.{slice_cmp}
 use Rattle.std.specs.List.Sorted.{IsStrictlySortedBy}
 use Rattle.std.specs.Option.{option_or}
-use Rattle.std.specs.Ordering.{nat_cmp}
-use Rattle.std.specs.Prelude.{Option, Some, None, IfSome, All, Contains, String, is_some, option_map, string_bytes}
-use Rattle.std.specs.declared.alloc.Global.{Global}
 use Rattle.serde_json.specs.Data.{Data}
 use Rattle.trees.specs.Npm.{path_in, AreAscending, AreNodes, IsLeftOut, IsName, LeadsTo, StandsFor}
 use Rattle.trees.specs.NpmParts.{Step, AddsSteps, AddsStepsIn, ArePaths, Has, IsOwnStep, IsStep, IsStepIn}
@@ -109,7 +105,7 @@ module _ (packages nodes : List (List ℕ × Data)) (up : AreAscending packages)
             more = adds.more;
             is = adds.is;
             each = steps_in node leads_here old mid adds;
-            own = λ i r at st. absurd (false≢true (sym none ∙ ap is_some (own_node i at)));
+            own = λ i r at st. absurd (true≢false (sym (ap is_some (own_node i at)) ∙ none));
             others = other_steps;
           }
 
@@ -128,5 +124,5 @@ module _ (packages nodes : List (List ℕ × Data)) (up : AreAscending packages)
                 others = λ i folder name named at' leads. has_left adds.more (s ∷ []) (IsStepIn folder name i) (other_steps i folder name named at' leads);
               } where
                 here : (o : Option ℕ) → own ≡ o → is_some own ≡ true → option_or own other ≡ Some node → slice_get nodes node ≡ Some p
-                here None e has found = absurd (false≢true (sym (ap is_some e) ∙ has))
+                here None e has found = absurd (true≢false (sym has ∙ ap is_some e))
                 here (Some j) e has found = own_is node (e ∙ (sym (ap (λ (x : Option ℕ). option_or x other) e) ∙ found))

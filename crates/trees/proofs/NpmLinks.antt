@@ -1,5 +1,5 @@
 -- Links of lock files of npm, and which packages are nodes.
-use Rattle.std.proofs.Common.{◌≡◌, ◌≢◌, ◌∙◌, ◌⊎◌, ℕ, ◌≤◌, ◌+◌, Bool, true, false, not, cond, List, [], ◌∷◌, ◌++◌, length, get_or, map, slice_get, inl, inr, refl, sym, ap, ap₂, subst, arith}
+use Rattle.std.proofs.Common.{◌≡◌, ◌≢◌, ◌∙◌, ◌⊎◌, ℕ, ◌≤◌, ◌+◌, Bool, true, false, not, cond, List, [], ◌∷◌, ◌++◌, length, get_or, map, slice_get, inl, inr, refl, sym, ap, ap₂, subst, Bor, nat_cmp, Option, Some, None, IfNone, IfSome, MatchOption, All, Contains, Decides, is_some, option_map, unwrap_or, bytes_eq, Less, arith}
 use Rattle.std.proofs.lemmas.Bool.{cases_Bool, cases_lt, cond-false, false≢true}
 use Rattle.std.proofs.lemmas.List.{map-append}
 use Rattle.std.proofs.lemmas.List.Elements.{All-from_recursion, All-head, All-map, All-nil, All-push, All-tail, All-weaker, Contains-append_left, Contains-get_or, Contains-push, recursion_from_All}
@@ -8,14 +8,9 @@ use Rattle.std.proofs.lemmas.Map.Text.{btree_map_updates_str}
 use Rattle.std.proofs.lemmas.Option.{get_or_from_slice_get, same_Some, slice_get-get_or, slice_get-map, slice_get_within}
 use Rattle.std.proofs.lemmas.Slice.Eq.{bytes_eq-Decides}
 use Rattle.std.specs.BTreeMap.{BTreeMap, UpdatesBy, get_by, is_at}
-use Rattle.std.specs.Borrow.{Bor}
 use Rattle.std.specs.Cmp.Lexicographic.{slice_cmp}
 use Rattle.std.specs.List.Sorted.{IsStrictlySortedBy}
 use Rattle.std.specs.Map.{lookup}
-use Rattle.std.specs.Ordering.{nat_cmp}
-use Rattle.std.specs.Prelude.{Option, Some, None, IfNone, IfSome, MatchOption, All, Contains, Decides, is_some, option_map, unwrap_or}
-use Rattle.std.specs.Str.{bytes_eq}
-use Rattle.std.specs.declared.cmp.Ordering.TheVariants.{Less}
 use Rattle.serde_json.specs.Data.{Data}
 use Rattle.serde_json.specs.View.{view}
 use Rattle.serde_json.specs.declared.value.Value.{Value}
@@ -36,8 +31,7 @@ pub one_package : (packages : List (List ℕ × Data)) → AreAscending packages
 one_package packages up p q a b same =
     let at = among_at packages p a in
     let there = among_at packages q b in
-    let place = one_place packages up at.0 there.0 p q at.1 there.1 same in
-    same_Some p q (sym at.1 ∙ (ap (slice_get packages) place ∙ there.1))
+    same_Some p q (sym at.1 ∙ (ap (slice_get packages) (one_place packages up at.0 there.0 p q at.1 there.1 same) ∙ there.1))
 
 -- texts in order get one behind them
 rises : (ts : List (List ℕ)) (t : List ℕ) → IsStrictlySortedBy (slice_cmp nat_cmp) ts → All (λ u. slice_cmp nat_cmp u t ≡ Less) ts → IsStrictlySortedBy (slice_cmp nat_cmp) (ts ++ t ∷ [])

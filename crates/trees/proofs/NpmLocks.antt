@@ -1,15 +1,11 @@
 -- Which documents are lock files of npm, and which are not.
-use Rattle.std.proofs.Common.{◌≡◌, ◌≢◌, ◌∙◌, ◌&&◌, ℕ, ◌≤◌, Bool, true, false, List, [], ◌∷◌, ◌++◌, eqb, eqb-true, length, get_or, codes, map, slice_get, inl, inr, refl, sym, ap, subst, append-nil, append_assoc, arith}
+use Rattle.std.proofs.Common.{◌≡◌, ◌≢◌, ◌∙◌, ◌&&◌, ℕ, ◌≤◌, Bool, true, false, List, [], ◌∷◌, ◌++◌, eqb, eqb-true, length, get_or, codes, map, slice_get, inl, inr, refl, sym, ap, subst, append-nil, append_assoc, BTreeMap, Bor, ◌⊎◌, All, Contains, Decides, Option, Some, None, Result, Ok, Err, IfSome, IsSome, OnOk, String, is_some, option_and_then, option_map, string_bytes, Global, arith}
 use Rattle.std.proofs.lemmas.Bool.{false≢true, and_parts}
 use Rattle.std.proofs.lemmas.List.{map-append}
 use Rattle.std.proofs.lemmas.List.Elements.{All-contains, All-from_recursion, All-nil, All-push, Contains-get_or, recursion_from_All}
 use Rattle.std.proofs.lemmas.List.Splits.{join_with_byte-slice_split}
-use Rattle.std.specs.BTreeMap.{BTreeMap}
-use Rattle.std.specs.Borrow.{Bor}
 use Rattle.std.specs.List.{AllByRecursion, join_with_byte, list_all, prefix_len}
-use Rattle.std.specs.Prelude.{◌⊎◌, All, Contains, Decides, Option, Some, None, Result, Ok, Err, IfSome, IsSome, OnOk, String, is_some, option_and_then, option_map, string_bytes}
 use Rattle.std.specs.Str.Pattern.{CutsPrefixes, FindsTextPrefix, IsTrimStartMatches}
-use Rattle.std.specs.declared.alloc.Global.{Global}
 use Rattle.ptree.specs.File.{FileNode, json}
 use Rattle.ptree.specs.declared.value.document.DocFormat.TheVariants.{Json}
 use Rattle.serde_json.specs.Data.{Data, array, Items, no_items, item, Members}

@@ -1,12 +1,10 @@
 -- Which names the parts of a pattern mean.
-use Rattle.std.proofs.Common.{◌≡◌, ◌≢◌, ◌∙◌, ℕ, Bool, true, false, not, List, [], ◌∷◌, ◌++◌, length, get_or, codes, inl, inr, refl, sym, ap, ap₂, subst, append-nil, append_assoc, length-append, arith}
-use Rattle.std.proofs.lemmas.Bool.{false≢true, true≢false}
+use Rattle.std.proofs.Common.{◌≡◌, ◌≢◌, ◌∙◌, ℕ, Bool, true, false, not, List, [], ◌∷◌, ◌++◌, length, get_or, codes, inl, inr, refl, sym, ap, ap₂, subst, append-nil, append_assoc, length-append, ◌⊎◌, All, Decides, true≢false, arith}
 use Rattle.std.proofs.lemmas.Bool.Decides.{Decides-at, Decides-by_and}
 use Rattle.std.proofs.lemmas.List.{nil_from_length}
 use Rattle.std.proofs.lemmas.List.Elements.{All-append, All-cons, All-nil, All-weaker, recursion_from_All}
 use Rattle.std.proofs.lemmas.List.Splits.{join_with_byte-slice_split}
 use Rattle.std.specs.List.{AllByRecursion, AllZip, join_with_byte, list_all}
-use Rattle.std.specs.Prelude.{◌⊎◌, All, Decides}
 use Rattle.trees.specs.Locking.{Lacks}
 use Rattle.trees.specs.NpmPatterns.{is_hidden, is_part, pieces, IsPattern, LiesIn, MeanNames, Means}
 use Rattle.trees.proofs.NpmLocks.{IsUp, ends}
@@ -35,7 +33,7 @@ abbrev pub Shown : List (List ℕ) → Type 0
 Shown names = All (λ name. is_hidden name ≡ false) names
 
 shown_test : (b : Bool) → Decides (not b) (b ≡ false)
-shown_test true = (λ yes. absurd (false≢true yes), λ is. absurd (true≢false is))
+shown_test true = (λ yes. absurd (true≢false (sym yes)), λ is. absurd (true≢false is))
 shown_test false = (λ yes. refl, λ is. refl)
 
 -- a star means what is not hidden
@@ -133,10 +131,9 @@ no_stars (x ∷ y ∷ parts) lacks =
 
 zip_same : (parts names : List (List ℕ)) → AllByRecursion (Lacks (codes "*")) parts → AllZip Means parts names → parts ≡ names
 zip_same [] [] lacks zip = refl
-zip_same [] (n ∷ names) lacks zip = absurd zip
-zip_same (p ∷ parts) [] lacks zip = absurd zip
 zip_same (p ∷ parts) (n ∷ names) lacks zip =
     elim zip.0 [ inl same ↦ ap₂ (λ (x : List ℕ) (xs : List (List ℕ)). x ∷ xs) same (zip_same parts names lacks.1 zip.1) | inr star ↦ absurd (lacks.0 [] [] star.0) ]
+zip_same _ _ lacks zip = absurd zip
 
 last_lacks : (xs : List (List ℕ)) (y : List ℕ) → AllByRecursion (Lacks (codes "*")) (xs ++ y ∷ []) → Lacks (codes "*") y
 last_lacks [] y lacks = lacks.0

@@ -1,5 +1,5 @@
 -- The nearest package of a name, of those that a walk has entered.
-use Rattle.std.proofs.Common.{◌≡◌, ◌∙◌, ◌⊎◌, ◌==◌, ℕ, ◌<◌, ◌≤◌, Bool, true, false, cond, List, [], ◌∷◌, ◌++◌, length, get_or, zero, suc, slice_get, inl, inr, refl, sym, ap, subst, append-nil, length-append, arith}
+use Rattle.std.proofs.Common.{◌≡◌, ◌∙◌, ◌⊎◌, ◌==◌, ℕ, ◌<◌, ◌≤◌, Bool, true, false, cond, List, [], ◌∷◌, ◌++◌, length, get_or, zero, suc, slice_get, inl, inr, refl, sym, ap, subst, append-nil, length-append, Option, Some, None, AllPairs, Contains, All, bytes_eq, arith}
 use Rattle.std.proofs.lemmas.Bool.{cases_lt, eq-eqb, eqb-true, false≢true, true≢false}
 use Rattle.std.proofs.lemmas.Cmp.{nat_cmp_total, nat_list_cmp_total, tied_itself}
 use Rattle.std.proofs.lemmas.List.{length-map}
@@ -10,8 +10,6 @@ use Rattle.std.proofs.lemmas.Slice.Eq.{bytes_eq-Decides}
 use Rattle.std.specs.Cmp.Lexicographic.{slice_cmp}
 use Rattle.std.specs.Option.{option_or}
 use Rattle.std.specs.Ordering.{bool_cmp, is_lt, nat_cmp}
-use Rattle.std.specs.Prelude.{Option, Some, None, AllPairs, Contains, All}
-use Rattle.std.specs.Str.{bytes_eq}
 use Rattle.std.specs.StrCase.Lower.{str_to_lowercase}
 use Rattle.serde_json.specs.Data.{Data}
 use Rattle.trees.specs.Npm.{folders, path_in, AreAscending, IsIn, IsMeant, IsNearest, IsSeen, LeadsTo}
@@ -139,8 +137,7 @@ module _ (packages nodes : List (List ℕ × Data)) (steps : List Step) (has : H
   pub entered_seen : (s : Step) → Contains entered s → lower_of s ≡ str_to_lowercase wanted → (folder : List ℕ) × (folders_of s ≡ folders folder) × IsSeen packages nodes path wanted s.3 folder (name_of s)
   entered_seen s c alike =
       let facts = All-contains (λ (x : Step). (x.1 ≡ false) × IsBefore steps k x) entered s are.each c in
-      let low = slice_get_within steps facts.1.0 s facts.1.2 in
-      let step : IsStep packages nodes s = subst (IsStep packages nodes) (get_or_from_slice_get steps facts.1.0 s s facts.1.2) (has.each facts.1.0 s low) in
+      let step : IsStep packages nodes s = subst (IsStep packages nodes) (get_or_from_slice_get steps facts.1.0 s s facts.1.2) (has.each facts.1.0 s (slice_get_within steps facts.1.0 s facts.1.2)) in
       let within : IsWithin (folders_of t) s = All-contains (λ (x : Step). IsWithin (folders_of t) x) entered s around c in
       elim step [
         | inl self ↦ absurd (false≢true (sym facts.0 ∙ self.4.own))
@@ -169,9 +166,8 @@ module _ (packages nodes : List (List ℕ × Data)) (steps : List Step) (has : H
         seen = mine.2;
         nearest = λ j above other seen.
             let found = seen_entered j above other seen in
-            let u = found.0 in
             let is = found.2 in
-            let here = near u found.1 (ap str_to_lowercase is.called ∙ seen.alike) in (
+            let here = near found.0 found.1 (ap str_to_lowercase is.called ∙ seen.alike) in (
               (here.0.0, sym mine.1 ∙ (here.0.1 ∙ ap (λ (fs : List (List ℕ)). fs ++ here.0.0) is.around)),
               λ same. subst (IsMeant wanted (name_of s)) is.called (here.1 (is.around ∙ (ap folders same ∙ sym mine.1))),
             );

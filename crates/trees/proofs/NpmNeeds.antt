@@ -1,18 +1,12 @@
 -- The needs of packages of npm that a walk through their folders adds.
-use Rattle.std.proofs.Common.{◌≡◌, ◌∙◌, ℕ, ◌≤◌, ◌+◌, true, false, List, [], ◌∷◌, ◌++◌, length, map, slice_get, inl, inr, refl, sym, ap, subst, arith}
-use Rattle.std.proofs.lemmas.Bool.{false≢true}
+use Rattle.std.proofs.Common.{◌≡◌, ◌∙◌, ℕ, ◌≤◌, ◌+◌, true, false, List, [], ◌∷◌, ◌++◌, length, map, slice_get, inl, inr, refl, sym, ap, subst, Bor, IsPermutation, nat_cmp, Option, Some, None, All, Contains, String, string_bytes, flat_map, option_map, option_to_list, Global, true≢false, arith}
 use Rattle.std.proofs.lemmas.List.Elements.{All-contains, Contains-append_cases, Contains-append_left, Contains-append_right}
 use Rattle.std.proofs.lemmas.List.Sorted.{Contains-permutation, IsPermutation-map, IsPermutation-sym}
 use Rattle.std.proofs.lemmas.Option.{get_or_from_slice_get, slice_get-get_or, slice_get_within}
 use Rattle.std.specs.BTreeMap.{BTreeMap, is_at}
-use Rattle.std.specs.Borrow.{Bor}
 use Rattle.std.specs.Cmp.Lexicographic.{slice_cmp}
-use Rattle.std.specs.List.Sorted.{IsPermutation}
 use Rattle.std.specs.Map.{lookup}
 use Rattle.std.specs.Option.{option_flatten}
-use Rattle.std.specs.Ordering.{nat_cmp}
-use Rattle.std.specs.Prelude.{Option, Some, None, All, Contains, String, string_bytes, flat_map, option_map, option_to_list}
-use Rattle.std.specs.declared.alloc.Global.{Global}
 use Rattle.serde_json.specs.Data.{Data}
 use Rattle.serde_json.specs.declared.value.Value.{Value}
 use Rattle.trees.specs.declared.deps.npm.Walk.{Walk}
@@ -60,7 +54,7 @@ pub own_at : (packages nodes : List (List ℕ × Data)) (steps : List Step) → 
     → (p : List ℕ × Data) × (q : List ℕ × Data) × (slice_get nodes s.3 ≡ Some p) × StandsFor packages p q × IsOwnStep q.0 s.3 s
 own_at packages nodes steps has k s at kind =
     let step : IsStep packages nodes s = subst (IsStep packages nodes) (get_or_from_slice_get steps k s s at) (has.each k s (slice_get_within steps k s at)) in
-    elim step [ inl own ↦ own | inr other ↦ absurd (false≢true (sym other.3.other ∙ kind)) ]
+    elim step [ inl own ↦ own | inr other ↦ absurd (true≢false (sym kind ∙ other.3.other)) ]
 
 module _ (packages nodes : List (List ℕ × Data)) (steps : List Step) (has : HasSteps packages nodes steps) (k : ℕ) (s : Step) (at : slice_get steps k ≡ Some s) (old mid : Walk) (was : IsAtStep packages nodes steps k old) (leaves : Leaves (folders_of s) old mid) where
   left : AreEntered steps k (entered_of mid)
@@ -106,7 +100,7 @@ module _ (packages nodes : List (List ℕ × Data)) (steps : List Step) (has : H
         each = λ i j c. was.each i j (subst (λ (es : List (ℕ × ℕ)). Contains es (i, j)) same c);
         all = λ t d name j b own is named near. elim (before_cases steps k t s at b) [
           | inl before ↦ subst (λ (es : List (ℕ × ℕ)). Contains es (t.3, j)) (sym same) (was.all t d name j before own is named near)
-          | inr here ↦ absurd (false≢true (sym kind ∙ (ap (λ (x : Step). x.1) (sym here) ∙ own)))
+          | inr here ↦ absurd (true≢false (sym (ap (λ (x : Step). x.1) (sym here) ∙ own) ∙ kind))
         ];
       }
 

@@ -1,11 +1,9 @@
 -- Packages of lock files of npm, and networks that get them.
-use Rattle.std.proofs.Common.{◌≡◌, ◌∙◌, ◌⊎◌, ℕ, ◌+◌, ◌<◌, Bool, List, [], ◌∷◌, ◌++◌, length, get_or, take, map, slice_get, inl, inr, refl, sym, ap, subst, append_assoc, arith}
-use Rattle.std.proofs.lemmas.Bool.{false≢true}
+use Rattle.std.proofs.Common.{◌≡◌, ◌∙◌, ◌⊎◌, ℕ, ◌+◌, ◌<◌, Bool, List, [], ◌∷◌, ◌++◌, length, get_or, take, map, slice_get, inl, inr, refl, sym, ap, subst, append_assoc, Bor, Option, Some, None, Result, Ok, Err, IfSome, OnOk, String, string_bytes, string_cmp, option_and_then, option_map, unwrap_or, fold, BTreeMap, Global, Ordering, Less, true≢false, arith}
 use Rattle.std.proofs.lemmas.List.{append-nil, get_or-map, length-map, map-append, take_more}
 use Rattle.std.proofs.lemmas.List.Elements.{All-nil, All-push, Contains-push, Contains-push_cases}
 use Rattle.std.proofs.lemmas.Map.Iter.{iter_end, iter_turn}
 use Rattle.std.proofs.lemmas.Option.{slice_get-map}
-use Rattle.std.specs.Borrow.{Bor}
 use Rattle.std.specs.Cmp.Lexicographic.{slice_cmp}
 use Rattle.std.specs.List.{AllByRecursion, AllZip, Contains}
 use Rattle.std.specs.List.Sorted.{IsSorted, IsStrictlySortedBy}
@@ -13,11 +11,6 @@ use Rattle.std.specs.Map.{keys_of}
 use Rattle.std.specs.Iterator.{Yields}
 use Rattle.std.specs.Map.Iter.{deref_pair, TakesFirst}
 use Rattle.std.specs.Ordering.{is_lt, nat_cmp, ordering_then}
-use Rattle.std.specs.Prelude.{Option, Some, None, Result, Ok, Err, IfSome, OnOk, String, string_bytes, string_cmp, option_and_then, option_map, unwrap_or, fold}
-use Rattle.std.specs.BTreeMap.{BTreeMap}
-use Rattle.std.specs.declared.alloc.Global.{Global}
-use Rattle.std.specs.declared.cmp.Ordering.{Ordering}
-use Rattle.std.specs.declared.cmp.Ordering.TheVariants.{Less}
 use Rattle.ptree.proofs.Trees.ItemTrees.{map_twice}
 use Rattle.ptree.specs.File.{json}
 use Rattle.ptree.specs.Graph.{numbers_of}
@@ -188,7 +181,7 @@ module _ (lock : Data) where
     ]
 
   alone_shown : IsLeftOut (([], lock) ∷ []) ([], lock) → ⊥
-  alone_shown left = elim left [ inl link ↦ false≢true link.0 | inr only ↦ only.1.other refl ]
+  alone_shown left = elim left [ inl link ↦ true≢false (sym link.0) | inr only ↦ only.1.other refl ]
 
   alone_drawn : AreNodes (([], lock) ∷ []) (([], lock) ∷ [])
   unfolding IsStrictlySortedBy

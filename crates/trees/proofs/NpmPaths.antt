@@ -1,14 +1,11 @@
 -- Paths of packages of npm.
-use Rattle.std.proofs.Common.{◌≡◌, ◌≢◌, ◌∙◌, ℕ, ◌+◌, ◌-◌, ◌<◌, ◌||◌, Bool, true, false, eqb, List, [], ◌∷◌, ◌++◌, length, get_or, take, drop, codes, refl, sym, ap, subst, append_assoc, length-append, arith}
+use Rattle.std.proofs.Common.{◌≡◌, ◌≢◌, ◌∙◌, ℕ, ◌+◌, ◌-◌, ◌<◌, ◌||◌, Bool, true, false, eqb, List, [], ◌∷◌, ◌++◌, length, get_or, take, drop, codes, refl, sym, ap, subst, append_assoc, length-append, Bor, Option, Some, None, MatchOption, unwrap_or, true≢false, arith}
 use Rattle.std.proofs.Math.Bool.{or-true}
 use Rattle.std.proofs.Math.Seq.{drop-append_seam, get_or-append_seam}
-use Rattle.std.proofs.lemmas.Bool.{false≢true}
 use Rattle.std.proofs.lemmas.List.{append_cancel_right, take-append-drop, take_all}
 use Rattle.std.proofs.lemmas.Str.{IsCharBoundary-before_ascii, IsCharBoundary-end}
 use Rattle.std.proofs.lemmas.Str.Pattern.{drop_at_char, NoCharPasses-char}
-use Rattle.std.specs.Borrow.{Bor}
 use Rattle.std.specs.List.{list_any}
-use Rattle.std.specs.Prelude.{Option, Some, None, MatchOption, unwrap_or}
 use Rattle.std.specs.Str.Pattern.{HasCharAt, RFindsChar, SplitsAroundMatch, FindsTextSuffix, StripsSuffix, GetsRange}
 use Rattle.trees.specs.Documents.{IsLastPart}
 use Rattle.trees.specs.Locking.{Lacks}
@@ -23,7 +20,7 @@ any_slash (b ∷ before) after = ap (λ (x : Bool). eqb b 47 || x) (any_slash be
 
 -- a text in which a test finds no slash
 no_slash : (text : List ℕ) → list_any (λ b. eqb b 47) text ≡ false → Lacks (47 ∷ []) text
-no_slash text none = λ before after e. false≢true (sym none ∙ (ap (list_any (λ b. eqb b 47)) e ∙ any_slash before after))
+no_slash text none = λ before after e. true≢false (sym (ap (list_any (λ b. eqb b 47)) e ∙ any_slash before after) ∙ none)
 
 -- a text is cut at its last slash in one way
 pub one_cut : (a b c d : List ℕ) → a ++ 47 ∷ b ≡ c ++ 47 ∷ d → Lacks (47 ∷ []) b → Lacks (47 ∷ []) d → (a ≡ c) × (b ≡ d)

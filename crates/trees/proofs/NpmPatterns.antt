@@ -1,5 +1,5 @@
 -- What patterns of workspaces are, and which names they mean.
-use Rattle.std.proofs.Common.{◌≡◌, ◌≢◌, ◌∙◌, ◌-◌, ◌==◌, ℕ, Bool, true, false, cond, eqb, List, [], ◌∷◌, ◌++◌, length, get_or, take, drop, codes, inl, inr, refl, sym, ap, subst, append-nil, append_assoc, arith}
+use Rattle.std.proofs.Common.{◌≡◌, ◌≢◌, ◌∙◌, ◌-◌, ◌==◌, ℕ, Bool, true, false, cond, eqb, List, [], ◌∷◌, ◌++◌, length, get_or, take, drop, codes, inl, inr, refl, sym, ap, subst, append-nil, append_assoc, Bor, ◌⊎◌, nat_eq, All, Contains, Decides, Option, Some, None, MatchOption, unwrap_or, arith}
 use Rattle.std.proofs.lemmas.Bool.{cond-false, cond-true, false_from_ne_true, false≢true}
 use Rattle.std.proofs.lemmas.Bool.Decides.{Decides-eqb, same_from_decides}
 use Rattle.std.proofs.lemmas.List.{append_cancel_right}
@@ -7,9 +7,7 @@ use Rattle.std.proofs.lemmas.List.Elements.{All-contains, All-from_recursion, Al
 use Rattle.std.proofs.lemmas.List.Prefix.{front_rest}
 use Rattle.std.proofs.lemmas.List.Splits.{join_with_byte-slice_split, length-slice_split}
 use Rattle.std.proofs.lemmas.Slice.Eq.{ends_is, starts_is}
-use Rattle.std.specs.Borrow.{Bor}
 use Rattle.std.specs.List.{ends_with, join_with_byte, list_all, onto_first, starts_with}
-use Rattle.std.specs.Prelude.{◌⊎◌, nat_eq, All, Contains, Decides, Option, Some, None, MatchOption, unwrap_or}
 use Rattle.std.specs.Str.Pattern.{FindsTextPrefix, FindsTextSuffix, StripsPrefix, StripsSuffix}
 use Rattle.trees.specs.NpmParts.{IsBehindUp}
 use Rattle.trees.specs.NpmPatterns.{is_hidden, is_part, pieces, without_back, without_front, IsPattern}
@@ -31,19 +29,16 @@ back_text n s (Some x) cut = text_left n s x.now cut
 pub front_cut : (part : List ℕ) (r : Option (Bor (List ℕ))) (d : Bor (List ℕ)) → MatchOption r ((rest : List ℕ) → d.now ≢ part ++ rest) (λ x. d.now ≡ part ++ x.now) → (unwrap_or r d).now ≡ without_front part d.now
 front_cut part None d lacks =
     let test = starts_with nat_eq d.now part in
-    let begins = starts_is Decides-eqb d.now part test refl in
-    sym (cond-false test (drop (length part) d.now) d.now (false_from_ne_true test (λ yes. lacks (drop (length part) d.now) (begins.0 yes))))
+    sym (cond-false test (drop (length part) d.now) d.now (false_from_ne_true test (λ yes. lacks (drop (length part) d.now) ((starts_is Decides-eqb d.now part test refl).0 yes))))
 front_cut part (Some x) d is =
     let test = starts_with nat_eq d.now part in
-    let begins = starts_is Decides-eqb d.now part test refl in
-    sym (front_rest d.now part x.now is) ∙ sym (cond-true test (drop (length part) d.now) d.now (begins.1 x.now is))
+    sym (front_rest d.now part x.now is) ∙ sym (cond-true test (drop (length part) d.now) d.now ((starts_is Decides-eqb d.now part test refl).1 x.now is))
 
 pub back_cut : (part : List ℕ) (r : Option (Bor (List ℕ))) (d : Bor (List ℕ)) → MatchOption r ((front : List ℕ) → d.now ≢ front ++ part) (λ x. d.now ≡ x.now ++ part) → (unwrap_or r d).now ≡ without_back part d.now
 back_cut part None d lacks =
     let test = ends_with nat_eq d.now part in
     let front = take (length d.now - length part) d.now in
-    let closes = ends_is Decides-eqb d.now part test refl in
-    sym (cond-false test front d.now (false_from_ne_true test (λ yes. lacks front (closes.0 yes))))
+    sym (cond-false test front d.now (false_from_ne_true test (λ yes. lacks front ((ends_is Decides-eqb d.now part test refl).0 yes))))
 back_cut part (Some x) d is =
     let test = ends_with nat_eq d.now part in
     let front = take (length d.now - length part) d.now in

@@ -1,16 +1,12 @@
 -- The maps of a walk through folders of packages of npm.
-use Rattle.std.proofs.Common.{◌≡◌, ◌∙◌, ◌⊎◌, ◌-◌, ℕ, ◌+◌, List, [], ◌∷◌, ◌++◌, length, get_or, map, take, slice_get, refl, sym, ap, subst, append-nil, append_assoc, arith}
+use Rattle.std.proofs.Common.{◌≡◌, ◌∙◌, ◌⊎◌, ◌-◌, ℕ, ◌+◌, List, [], ◌∷◌, ◌++◌, length, get_or, map, take, slice_get, refl, sym, ap, subst, append-nil, append_assoc, Bor, nat_cmp, Option, Some, None, String, string_bytes, string_cmp, Global, arith}
 use Rattle.std.proofs.lemmas.List.{map-append, take_all, take_more}
 use Rattle.std.proofs.lemmas.List.Elements.{All-cons, All-nil}
 use Rattle.std.proofs.lemmas.Map.Text.{btree_map_updates_str, btree_map_updates_text}
 use Rattle.std.proofs.lemmas.Option.{get_or_from_slice_get, slice_get-get_or, slice_get_within}
 use Rattle.std.specs.BTreeMap.{BTreeMap, UpdatesBy, get_by, get_by_text}
-use Rattle.std.specs.Borrow.{Bor}
 use Rattle.std.specs.Cmp.Lexicographic.{slice_cmp}
 use Rattle.std.specs.Option.{option_flatten}
-use Rattle.std.specs.Ordering.{nat_cmp}
-use Rattle.std.specs.Prelude.{Option, Some, None, String, string_bytes, string_cmp}
-use Rattle.std.specs.declared.alloc.Global.{Global}
 use Rattle.trees.specs.declared.deps.npm.Walk.{Walk}
 use Rattle.trees.specs.NpmParts.{Step, entered_of, found_of, latest, lower_of, name_of, AreKept, IsReady, IsWithin, Leaves}
 use Rattle.trees.proofs.NpmWalks.{Entry, IsKept, IsLeaving, kept_less, kept_more, seen_less, seen_more, step_of}

@@ -1,5 +1,5 @@
 -- The steps of packages of npm.
-use Rattle.std.proofs.Common.{◌≡◌, ◌∙◌, ℕ, ◌<◌, ◌≤◌, ◌+◌, List, [], ◌∷◌, ◌++◌, length, get_or, map, slice_get, inl, inr, refl, sym, ap, ap₂, subst, append-nil, arith}
+use Rattle.std.proofs.Common.{◌≡◌, ◌∙◌, ℕ, ◌<◌, ◌≤◌, ◌+◌, List, [], ◌∷◌, ◌++◌, length, get_or, map, slice_get, inl, inr, refl, sym, ap, ap₂, subst, append-nil, Option, Some, IfSome, Result, Ok, Err, All, Contains, String, string_bytes, Global, Less, Equal, Greater, arith}
 use Rattle.std.proofs.lemmas.Bool.{cases_lt}
 use Rattle.std.proofs.lemmas.Cmp.{nat_list_cmp_total, tied_itself}
 use Rattle.std.proofs.lemmas.List.{get_or-map, length-map}
@@ -11,10 +11,7 @@ use Rattle.std.proofs.lemmas.Option.{slice_get-get_or, slice_get_within}
 use Rattle.std.specs.Cmp.Lexicographic.{slice_cmp}
 use Rattle.std.specs.List.Sorted.{IsBinarySearchResult, IsPermutation, IsSearchInRange, IsSorted, IsSortedBy, IsStrictlySortedBy}
 use Rattle.std.specs.Ordering.{is_lt, nat_cmp, ordering_reverse}
-use Rattle.std.specs.Prelude.{Option, Some, IfSome, Result, Ok, Err, All, Contains, String, string_bytes}
 use Rattle.std.specs.Result.{result_ok}
-use Rattle.std.specs.declared.alloc.Global.{Global}
-use Rattle.std.specs.declared.cmp.Ordering.TheVariants.{Less, Equal, Greater}
 use Rattle.serde_json.specs.Data.{Data}
 use Rattle.trees.specs.Npm.{path_in, AreAscending, AreNodes, IsLeftOut, IsName, LeadsTo, StandsFor}
 use Rattle.trees.specs.NpmParts.{Step, name_of, step_cmp, AddsSteps, AddsStepsIn, Has, HasSteps, IsAmongFirst, IsOwnStep, IsStep, IsStepIn}

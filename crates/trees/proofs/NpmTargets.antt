@@ -1,6 +1,5 @@
 -- What links of lock files of npm lead to, and which packages are in the `node_modules` of others.
-use Rattle.std.proofs.Common.{◌≡◌, ◌≢◌, ◌∙◌, ℕ, Bool, true, false, cond, List, [], ◌∷◌, length, map, slice_get, inl, inr, refl, sym, ap, ap₂, subst, arith}
-use Rattle.std.proofs.lemmas.Bool.{false≢true}
+use Rattle.std.proofs.Common.{◌≡◌, ◌≢◌, ◌∙◌, ℕ, Bool, true, false, cond, List, [], ◌∷◌, length, map, slice_get, inl, inr, refl, sym, ap, ap₂, subst, is_eq, nat_cmp, Option, Some, None, MatchOption, is_some, All, Contains, Decides, ◌⊎◌, String, string_bytes, Global, true≢false, arith}
 use Rattle.std.proofs.lemmas.Cmp.{nat_list_cmp_total, tied_itself}
 use Rattle.std.proofs.lemmas.List.Elements.{All-contains, All-contains_itself, All-weaker, Contains-append_right}
 use Rattle.std.proofs.lemmas.Map.Lookups.{exact_bytes}
@@ -9,9 +8,6 @@ use Rattle.std.specs.BTreeMap.{is_at}
 use Rattle.std.specs.Cmp.{Equal-is}
 use Rattle.std.specs.Cmp.Lexicographic.{slice_cmp}
 use Rattle.std.specs.Map.{lookup}
-use Rattle.std.specs.Ordering.{is_eq, nat_cmp}
-use Rattle.std.specs.Prelude.{Option, Some, None, MatchOption, is_some, All, Contains, Decides, ◌⊎◌, String, string_bytes}
-use Rattle.std.specs.declared.alloc.Global.{Global}
 use Rattle.serde_json.specs.Data.{Data}
 use Rattle.serde_json.specs.View.{view, members_view}
 use Rattle.serde_json.specs.declared.value.Value.{Value}
@@ -37,7 +33,7 @@ all_nodes packages up own = record {
   all = All-weaker (λ p. Contains packages p) (λ p. Contains packages p ⊎ IsLeftOut packages p) (λ p c. inl c) packages (All-contains_itself packages);
 } where
   no_link : (p : List ℕ × Data) → Contains packages p → leads_on p.0 p.1 ≡ true → ⊥
-  no_link p c link = false≢true (sym (All-contains (λ q. leads_on q.0 q.1 ≡ false) packages p own c) ∙ link)
+  no_link p c link = true≢false (sym link ∙ All-contains (λ q. leads_on q.0 q.1 ≡ false) packages p own c)
 
   shown : (p : List ℕ × Data) → Contains packages p → IsLeftOut packages p → ⊥
   shown p c left = elim left [ inl link ↦ no_link p c link.0 | inr only ↦ no_link only.1.link only.1.among only.1.leads.0 ]
@@ -62,14 +58,14 @@ module _ (path : List ℕ) where
   has_at es = is_some (lookup (is_at (λ k. slice_cmp nat_cmp path (string_bytes k))) es)
 
   pub path_there : (es : List (String Global × Value)) → Decides (has_at es) (Contains (paths_in es) path)
-  path_there [] = (λ yes. absurd (false≢true yes), λ c. absurd (omega (arith, c.1)))
+  path_there [] = (λ yes. absurd (true≢false (sym yes)), λ c. absurd (omega (arith, c.1)))
   path_there (e ∷ es) = by (path_there es) (is_eq (slice_cmp nat_cmp path (string_bytes e.0))) refl where
     by : Decides (has_at es) (Contains (paths_in es) path) → (b : Bool) → is_eq (slice_cmp nat_cmp path (string_bytes e.0)) ≡ b → Decides (is_some (cond b (Some e.1) (lookup (is_at (λ k. slice_cmp nat_cmp path (string_bytes k))) es))) (Contains (string_bytes e.0 ∷ paths_in es) path)
     by rest true here = (λ _. (0, omega arith, sym (exact_bytes path (string_bytes e.0) ((Equal-is (slice_cmp nat_cmp path (string_bytes e.0))).0 here))), λ _. refl)
     by rest false other = (
       λ yes. Contains-append_right (string_bytes e.0 ∷ []) (paths_in es) path (rest.0 yes),
       λ c. elim (cons_cases (string_bytes e.0) (paths_in es) path c) [
-        | inl here ↦ absurd (false≢true (sym other ∙ (ap (λ (t : List ℕ). is_eq (slice_cmp nat_cmp path t)) here ∙ ap is_eq (tied_itself nat_list_cmp_total path))))
+        | inl here ↦ absurd (true≢false (sym (ap (λ (t : List ℕ). is_eq (slice_cmp nat_cmp path t)) here ∙ ap is_eq (tied_itself nat_list_cmp_total path)) ∙ other))
         | inr more ↦ rest.1 more
       ],
     )
@@ -95,4 +91,4 @@ module _ (es : List (String Global × Value)) (up : AreAscending (listed (member
 
   -- which is no link
   pub target_linked : (v : Value) → Some v ≡ lookup (is_at (λ k. slice_cmp nat_cmp meant (string_bytes k))) es → leads_on meant (view v) ≡ true → ⊥
-  target_linked v found link = false≢true (sym stands.own ∙ (ap₂ leads_on (stands.at ∙ sym is) (sym (target_there (Some v) found)) ∙ link))
+  target_linked v found link = true≢false (sym (ap₂ leads_on (stands.at ∙ sym is) (sym (target_there (Some v) found)) ∙ link) ∙ stands.own)

@@ -1,5 +1,5 @@
 -- What a walk through folders of packages of npm keeps and adds.
-use Rattle.std.proofs.Common.{◌≡◌, ◌≢◌, ◌∙◌, ◌&&◌, ℕ, zero, suc, Bool, true, false, cond, List, [], ◌∷◌, ◌++◌, length, map, take, drop, codes, slice_get, inl, inr, refl, sym, ap, ap₂, subst, append-nil, append_assoc}
+use Rattle.std.proofs.Common.{◌≡◌, ◌≢◌, ◌∙◌, ◌&&◌, ℕ, zero, suc, Bool, true, false, cond, List, [], ◌∷◌, ◌++◌, length, map, take, drop, codes, slice_get, inl, inr, refl, sym, ap, ap₂, subst, append-nil, append_assoc, Bor, nat_eq, Option, Some, None, MatchOption, IfSome, is_some, All, String, string_bytes, flat_map, option_map, option_to_list, bytes_eq, Global, Less}
 use Rattle.std.proofs.lemmas.Bool.{cases_Bool, cond-false, cond-true, false≢true}
 use Rattle.std.proofs.lemmas.Cmp.{nat_list_cmp_total, tied_itself}
 use Rattle.std.proofs.lemmas.List.{length-map, take-map}
@@ -8,17 +8,12 @@ use Rattle.std.proofs.lemmas.List.Elements.{All-from_recursion, Contains-append_
 use Rattle.std.proofs.lemmas.Option.{get_or_from_slice_get, slice_get-map, slice_get_within, some_pair_parts}
 use Rattle.std.proofs.lemmas.Slice.Eq.{bytes_eq-Decides, starts_is}
 use Rattle.std.specs.BTreeMap.{BTreeMap, is_at}
-use Rattle.std.specs.Borrow.{Bor}
 use Rattle.std.specs.Cmp.Lexicographic.{pointwise, slice_cmp}
 use Rattle.std.specs.List.{starts_with}
 use Rattle.std.specs.List.Sorted.{IsStrictlySortedBy}
 use Rattle.std.specs.Map.{lookup}
 use Rattle.std.specs.Option.{option_flatten}
 use Rattle.std.specs.Ordering.{is_eq, nat_cmp, ordering_reverse}
-use Rattle.std.specs.Prelude.{nat_eq, Option, Some, None, MatchOption, IfSome, is_some, All, String, string_bytes, flat_map, option_map, option_to_list}
-use Rattle.std.specs.Str.{bytes_eq}
-use Rattle.std.specs.declared.alloc.Global.{Global}
-use Rattle.std.specs.declared.cmp.Ordering.TheVariants.{Less}
 use Rattle.serde_json.specs.Data.{Data}
 use Rattle.serde_json.specs.View.{view, members_view}
 use Rattle.serde_json.specs.declared.value.Value.{Value}
@@ -32,9 +27,8 @@ use Rattle.trees.proofs.NpmNearest.{latest_push}
 
 pointwise_texts : (xs ys : List (Bor (List ℕ))) → pointwise (λ x y. pointwise nat_eq x.now y.now) xs ys ≡ pointwise bytes_eq (texts_of xs) (texts_of ys)
 pointwise_texts [] [] = refl
-pointwise_texts [] (y ∷ ys) = refl
-pointwise_texts (x ∷ xs) [] = refl
 pointwise_texts (x ∷ xs) (y ∷ ys) = ap (λ (b : Bool). pointwise nat_eq x.now y.now && b) (pointwise_texts xs ys)
+pointwise_texts _ _ = refl
 
 -- what `starts_with` says of folders
 pub within_test : (all : List (Bor (List ℕ))) (s : Step) (r : Bool) → r ≡ starts_with (λ x y. pointwise nat_eq x.now y.now) all s.0.items → (r ≡ true → IsWithin (texts_of all) s) × (IsWithin (texts_of all) s → r ≡ true)

@@ -1,15 +1,10 @@
 -- The workspaces of a project, as they are found and named.
-use Rattle.std.proofs.Common.{◌≡◌, ◌≢◌, ◌∙◌, ◌↔◌, ◌<◌, ◌+◌, ℕ, Bool, true, false, not, List, [], ◌∷◌, ◌++◌, length, get_or, take, codes, inl, inr, refl, sym, ap, subst, append_assoc, arith}
-use Rattle.std.proofs.lemmas.Bool.{false≢true, true≢false}
+use Rattle.std.proofs.Common.{◌≡◌, ◌≢◌, ◌∙◌, ◌↔◌, ◌<◌, ◌+◌, ℕ, Bool, true, false, not, List, [], ◌∷◌, ◌++◌, length, get_or, take, codes, inl, inr, refl, sym, ap, subst, append_assoc, Bor, IsPermutation, IsSorted, nat_cmp, ◌⊎◌, All, Contains, Decides, Option, Some, None, is_some, true≢false, arith}
 use Rattle.std.proofs.lemmas.Iterator.{YieldsList}
 use Rattle.std.proofs.lemmas.List.{get_or-map, length-map, map-append, take_more}
 use Rattle.std.proofs.lemmas.List.Elements.{All-contains, All-contains_itself, All-nil, All-push, All-weaker, Contains-append_left, Contains-push, Contains-push_cases}
 use Rattle.std.proofs.lemmas.List.Sorted.{All-permutation, Contains-permutation, IsPermutation-map, IsPermutation-sym}
-use Rattle.std.specs.Borrow.{Bor}
 use Rattle.std.specs.Cmp.Lexicographic.{slice_cmp}
-use Rattle.std.specs.List.Sorted.{IsPermutation, IsSorted}
-use Rattle.std.specs.Ordering.{nat_cmp}
-use Rattle.std.specs.Prelude.{◌⊎◌, All, Contains, Decides, Option, Some, None, is_some}
 use Rattle.serde_json.specs.View.{view}
 use Rattle.serde_json.specs.declared.value.Value.{Value}
 use Rattle.trees.specs.declared.deps.npm.Workspaces.{Workspaces}
@@ -53,12 +48,12 @@ module _ {S : Type 0} (steps : S → Option (Bor (List ℕ)) → S → Type 0) (
     pub matching_end : (q : Option (Bor (List ℕ))) → q ≡ None → steps parts q after → (r : Option (Bor (List ℕ))) (next : S) → steps names r next → (b : Bool) → is_some r ≡ not b → Decides b (LiesIn pattern path)
     matching_end q at step None next last true is =
         (λ yes. m.to (subst (λ (l : List (List ℕ)). MeanNames l m.rest) (sym (next_none parts after m.left m.parts_left (subst (λ (o : Option (Bor (List ℕ))). steps parts o after) at step))) (subst (MeanNames []) (sym (next_none names next m.rest m.names_left last)) none_mean)), λ lies. refl)
-    matching_end q at step None next last false is = absurd (false≢true is)
+    matching_end q at step None next last false is = absurd (true≢false (sym is))
     matching_end q at step (Some x) next last true is = absurd (true≢false is)
     matching_end q at step (Some x) next last false is =
         let none = next_none parts after m.left m.parts_left (subst (λ (o : Option (Bor (List ℕ))). steps parts o after) at step) in
         let some = next_some names next x m.rest m.names_left last in
-        (λ no. absurd (false≢true no), λ lies. absurd (omega (arith, ap length (sym some.1 ∙ mean_none m.rest (subst (λ (l : List (List ℕ)). MeanNames l m.rest) none (m.from lies))))))
+        (λ no. absurd (true≢false (sym no)), λ lies. absurd (omega (arith, ap length (sym some.1 ∙ mean_none m.rest (subst (λ (l : List (List ℕ)). MeanNames l m.rest) none (m.from lies))))))
 
     module _ (part : Bor (List ℕ)) (q : Option (Bor (List ℕ))) (at : q ≡ Some part) (step : steps parts q after) where
       here : (rest : List (List ℕ)) × (m.left ≡ part.now ∷ rest) × YieldsList steps own after rest

@@ -1,12 +1,8 @@
 -- Sources that are lists of other programs, and those that are none.
-use Rattle.std.proofs.Common.{◌≡◌, ◌∙◌, ℕ, ◌<◌, ◌||◌, Bool, true, false, List, [], ◌∷◌, ◌++◌, length, get_or, map, sym, ap}
-use Rattle.std.proofs.lemmas.Bool.{false≢true}
+use Rattle.std.proofs.Common.{◌≡◌, ◌∙◌, ℕ, ◌<◌, ◌||◌, Bool, true, false, List, [], ◌∷◌, ◌++◌, length, get_or, map, sym, ap, Bor, string_bytes, bytes_eq, true≢false}
 use Rattle.std.proofs.lemmas.List.{map-append}
 use Rattle.std.proofs.lemmas.List.Folds.{list_any-append, list_any_at}
-use Rattle.std.specs.Borrow.{Bor}
 use Rattle.std.specs.List.{list_any}
-use Rattle.std.specs.Prelude.{string_bytes}
-use Rattle.std.specs.Str.{bytes_eq}
 use Rattle.std.specs.Str.Lines.{lines}
 use Rattle.trees.specs.declared.source.Source.{Source}
 use Rattle.trees.specs.Depending.{source_text, other_names, is_other_line, IsOwn}
@@ -16,11 +12,11 @@ use Rattle.trees.proofs.NpmNames.{last_same}
 module _ (source : Source) where
   -- a file with another name
   pub other_named : (label : List ℕ) → IsLastPart (string_bytes source.name) label → list_any (bytes_eq label) other_names ≡ true → IsOwn source → ⊥
-  other_named label last other own = false≢true (sym (own.name label last) ∙ other)
+  other_named label last other own = true≢false (sym other ∙ own.name label last)
 
   -- one with a line of another
   pub other_lined : (k : ℕ) (line : List ℕ) → k < length (lines (source_text source)) → line ≡ get_or (lines (source_text source)) k line → is_other_line line ≡ true → IsOwn source → ⊥
-  other_lined k line low at other own = false≢true (sym own.lines ∙ list_any_at is_other_line (lines (source_text source)) k line low (ap is_other_line (sym at) ∙ other))
+  other_lined k line low at other own = true≢false (sym (list_any_at is_other_line (lines (source_text source)) k line low (ap is_other_line (sym at) ∙ other)) ∙ own.lines)
 
   -- one with neither
   pub own_file : (label : List ℕ) → IsLastPart (string_bytes source.name) label → list_any (bytes_eq label) other_names ≡ false → list_any is_other_line (lines (source_text source)) ≡ false → IsOwn source

@@ -1,5 +1,5 @@
 -- Blank lines, indents and labels.
-use Rattle.std.proofs.Common.{◌≡◌, ◌≢◌, ◌∙◌, ℕ, ◌+◌, ◌<◌, ◌&&◌, not, Bool, true, false, cond, eqb, Option, Some, None, List, [], ◌∷◌, ◌++◌, length, take, drop, map, lit<, refl, sym, ap, append_assoc, arith}
+use Rattle.std.proofs.Common.{◌≡◌, ◌≢◌, ◌∙◌, ℕ, ◌+◌, ◌<◌, ◌&&◌, not, Bool, true, false, cond, eqb, Option, Some, None, List, [], ◌∷◌, ◌++◌, length, take, drop, map, lit<, refl, sym, ap, append_assoc, Bor, ◌↔◌, IsTrue, IfSome, MatchOption, unwrap_or, arith}
 use Rattle.std.proofs.lemmas.Bool.{false≢true, and_parts, ne_eqb}
 use Rattle.std.proofs.lemmas.List.{append_cancel_right, take-append-drop}
 use Rattle.std.proofs.lemmas.List.Folds.{list_all-append}
@@ -7,10 +7,8 @@ use Rattle.std.proofs.lemmas.List.Sums.{take_while-cons}
 use Rattle.std.proofs.lemmas.Simd.{map-map}
 use Rattle.std.proofs.lemmas.Str.{encode_ascii}
 use Rattle.std.proofs.lemmas.Str.Pattern.{drop_at_char}
-use Rattle.std.specs.Borrow.{Bor}
 use Rattle.std.specs.Cmp.{both_ways}
 use Rattle.std.specs.List.{AllByRecursion, list_all, take_while}
-use Rattle.std.specs.Prelude.{◌↔◌, IsTrue, IfSome, MatchOption, unwrap_or}
 use Rattle.std.specs.Str.Pattern.{FindsCharPrefix, FindsTextSuffix, CutsPrefixes, IsTrimStartMatches, StripsSuffix}
 use Rattle.ptree_trees.specs.Indented.{is_blank, IsUnit}
 use Rattle.ptree_trees.specs.Parts.{begins_with}
@@ -77,7 +75,6 @@ pub stripped : (line r front : List ℕ) (o : Option (Bor (List ℕ))) (d : Bor 
     → (unwrap_or o d).now ≡ front
 stripped line r front None d e none = absurd (none front e)
 stripped line r front (Some x) d e found =
-    let n = found.0 in
     append_cancel_right x.now front r (ap (λ (z : List ℕ). z ++ r) found.2 ∙ (sym found.1.1 ∙ e))
 
 -- the indent of a line that begins with no tab

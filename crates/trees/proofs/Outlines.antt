@@ -1,12 +1,10 @@
 -- The lines of indented text, and their trees.
-use Rattle.std.proofs.Common.{◌≡◌, ◌≢◌, ◌∙◌, ℕ, zero, suc, ◌+◌, ◌<◌, ◌≤◌, Bool, true, false, cond, eqb, Option, Some, None, ◌⊎◌, List, [], ◌∷◌, ◌++◌, length, get_or, take, drop, map, inl, inr, refl, sym, ap, subst, append_assoc, arith}
+use Rattle.std.proofs.Common.{◌≡◌, ◌≢◌, ◌∙◌, ℕ, zero, suc, ◌+◌, ◌<◌, ◌≤◌, Bool, true, false, cond, eqb, Option, Some, None, ◌⊎◌, List, [], ◌∷◌, ◌++◌, length, get_or, take, drop, map, inl, inr, refl, sym, ap, subst, append_assoc, Bor, unwrap_or, arith}
 use Rattle.std.proofs.lemmas.Bool.{false≢true, cases_lt, ne_eqb}
 use Rattle.std.proofs.lemmas.List.{append-nil, append_cancel_left, at_drop_more, map_more}
 use Rattle.std.proofs.lemmas.List.Concat.{flat_map-append}
 use Rattle.std.proofs.lemmas.List.Elements.{All-nil, All-cons, All-head, All-tail, All-weaker}
 use Rattle.std.proofs.lemmas.List.Splits.{slice_split_at}
-use Rattle.std.specs.Borrow.{Bor}
-use Rattle.std.specs.Prelude.{unwrap_or}
 use Rattle.std.specs.List.{All, Any, filter, slice_split}
 use Rattle.ptree.specs.Outline.{Line, outline}
 use Rattle.ptree.specs.Reached.{AreWithin}
@@ -49,8 +47,7 @@ next_level d n least other = elim (cases_lt n d) [
 -- one with no more units than that is not
 pub not_deep : (d : ℕ) (unit line rest : List ℕ) (n : ℕ) → n ≤ d → line ≡ indent unit n ++ rest → ((x : List ℕ) → rest ≢ unit ++ x) → IsDeep d unit line → ⊥
 not_deep d unit line rest n least e none deep =
-    let more = deep.2 in
-    let behind = unit_behind unit n deep.0 rest deep.1 (omega arith) (sym e ∙ deep.3) in
+    let behind = unit_behind unit n deep.0 rest deep.1 (omega (arith, deep.2)) (sym e ∙ deep.3) in
     none behind.0 behind.1
 
 -- ## Levels

@@ -1,14 +1,10 @@
 -- Indented text is an outline of the tree that it was written of.
-use Rattle.std.proofs.Common.{Result, Ok, Err, IfOk, ◌≡◌, ◌≢◌, ◌∙◌, ℕ, ◌+◌, ◌<◌, ◌≤◌, not, Bool, true, false, eqb, Option, Some, None, List, [], ◌∷◌, ◌++◌, length, get_or, drop, map, lit<, refl, sym, ap, subst}
-use Rattle.std.proofs.lemmas.Bool.{false≢true, eqb-true}
+use Rattle.std.proofs.Common.{Result, Ok, Err, IfOk, ◌≡◌, ◌≢◌, ◌∙◌, ℕ, ◌+◌, ◌<◌, ◌≤◌, not, Bool, true, false, eqb, Option, Some, None, List, [], ◌∷◌, ◌++◌, length, get_or, drop, map, lit<, refl, sym, ap, subst, Bor, ◌↔◌, option_map, encode_utf8, eqb-true, true≢false}
 use Rattle.std.proofs.lemmas.List.{drop_all, nil_from_length}
 use Rattle.std.proofs.lemmas.List.Elements.{All-append}
 use Rattle.std.proofs.lemmas.Str.{encode_ascii}
 use Rattle.std.proofs.lemmas.Str.Pattern.{NoCharPasses-char}
-use Rattle.std.specs.Borrow.{Bor}
-use Rattle.std.specs.Prelude.{◌↔◌, option_map}
 use Rattle.std.specs.List.{AllByRecursion}
-use Rattle.std.specs.Char.{encode_utf8}
 use Rattle.std.specs.Str.{NoCharPasses}
 use Rattle.std.specs.Str.Lines.{lines}
 use Rattle.ptree.specs.declared.item.StringItem.{StringItem}
@@ -52,7 +48,7 @@ kept_text bullet text feed end start = record {
 
 -- a text of some length is not empty, and one of none is
 pub some_length : (text : List ℕ) → eqb (length text) 0 ≡ false → text ≢ []
-some_length text some none = false≢true (sym some ∙ ap (λ (z : List ℕ). eqb (length z) 0) none)
+some_length text some none = true≢false (sym (ap (λ (z : List ℕ). eqb (length z) 0) none) ∙ some)
 
 pub no_length : (text : List ℕ) → eqb (length text) 0 ≡ true → text ≡ []
 no_length text none = nil_from_length text (eqb-true (length text) 0 none)
@@ -111,9 +107,8 @@ text_some (Some u) x other e = cc
 -- equal options have equal texts
 text_same : (o p : Option (Bor (List ℕ))) (other : List ℕ) → option_map (λ u. u.now) o ≡ option_map (λ u. u.now) p → text_or o other ≡ text_or p other
 text_same None None other e = refl
-text_same None (Some v) other e = cc
 text_same (Some u) None other e = cc
-text_same (Some u) (Some v) other e = cc
+text_same _ _ other e = cc
 
 -- the first line's bullet is that of the options
 first_is : (o : Option (Bor (List ℕ))) (form : Form) (t : Tree) → form.bullet.now ≡ text_or o [] → (o ≡ None → line_bullet t.text ≡ [])

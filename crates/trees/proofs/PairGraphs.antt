@@ -1,14 +1,10 @@
 -- Graphs of pairs of words.
-use Rattle.std.proofs.Common.{◌≡◌, ◌∙◌, ℕ, zero, suc, ◌+◌, ◌<◌, ◌≤◌, not, Bool, true, false, cond, List, [], ◌∷◌, ◌++◌, length, get_or, map, reverse, take, Option, Some, None, inl, inr, refl, sym, ap, subst, arith}
+use Rattle.std.proofs.Common.{◌≡◌, ◌∙◌, ℕ, zero, suc, ◌+◌, ◌<◌, ◌≤◌, not, Bool, true, false, cond, List, [], ◌∷◌, ◌++◌, length, get_or, map, reverse, take, Option, Some, None, inl, inr, refl, sym, ap, subst, Bor, All, Any, Contains, filter, flat_map, String, string_bytes, Global, bytes_eq, arith}
 use Rattle.std.proofs.Math.ListN.{get_or-map}
 use Rattle.std.proofs.lemmas.List.{length-map, map-append, reverse-append, take_all, take_more, length_push}
 use Rattle.std.proofs.lemmas.List.Elements.{All-nil, All-cons, All-head, All-tail, All-append, All-filter, All-map, All-weaker, All-contains, Contains-append_right}
 use Rattle.std.proofs.lemmas.List.Sorted.{All-permutation, IsPermutation-reverse}
 use Rattle.std.proofs.lemmas.Slice.Eq.{bytes_eq-Decides}
-use Rattle.std.specs.Borrow.{Bor}
-use Rattle.std.specs.Prelude.{All, Any, Contains, filter, flat_map, String, string_bytes}
-use Rattle.std.specs.declared.alloc.Global.{Global}
-use Rattle.std.specs.Str.{bytes_eq}
 use Rattle.ptree.specs.declared.graph.NodeIndex.{NodeIndex}
 use Rattle.ptree.specs.Graph.{edges_of, numbers_of, turned, weights_of, LacksNode}
 use Rattle.ptree.proofs.Config.FieldLists.{Contains-map}
@@ -122,9 +118,7 @@ none_lacks n edges all any =
     let e = any.1 in
     let at = Contains-map numbers_of edges e (any.0, any.2, any.3) in
     let within = All-contains (IsWithin n) (map numbers_of edges) (numbers_of e) all at in
-    let a = within.0 in
-    let b = within.1 in
-    elim any.4 [ inl low ↦ let no' : ⊥ = omega arith in no' | inr low ↦ let no' : ⊥ = omega arith in no' ]
+    elim any.4 [ inl low ↦ let no' : ⊥ = omega (arith, within.0) in no' | inr low ↦ let no' : ⊥ = omega (arith, within.1) in no' ]
 
 -- ## Graphs
 

@@ -1,8 +1,5 @@
 -- Pairs of words on lines.
-use Rattle.std.specs.Prelude.{filter, All}
-use Rattle.std.proofs.Common.{◌≡◌, ◌≢◌, ◌∙◌, ℕ, ◌+◌, ◌<◌, true, false, List, [], ◌∷◌, ◌++◌, length, get_or, map, zero, suc, codes, refl, sym, ap, subst, arith}
-use Rattle.std.proofs.lemmas.Bool.{false≢true}
-use Rattle.std.specs.Borrow.{Bor}
+use Rattle.std.proofs.Common.{◌≡◌, ◌≢◌, ◌∙◌, ℕ, ◌+◌, ◌<◌, true, false, List, [], ◌∷◌, ◌++◌, length, get_or, map, zero, suc, codes, refl, sym, ap, subst, filter, All, Bor, true≢false, arith}
 use Rattle.std.specs.List.{enumerate_from}
 use Rattle.std.specs.Str.Lines.{lines}
 use Rattle.ptree.proofs.Trees.ItemTrees.{map_twice}
@@ -30,7 +27,7 @@ none_among [] pairs k d low wrong own e = absurd (omega arith)
 none_among ((w ∷ ws) ∷ ls) [] k d low wrong own e = cc
 none_among ((w ∷ ws) ∷ ls) (p ∷ pairs) zero d low wrong own e = not_two (w ∷ ws) p wrong (All-head IsNoComment p pairs own) (cc)
 none_among ((w ∷ ws) ∷ ls) (p ∷ pairs) (suc k) d low wrong own e = none_among ls pairs k d (omega arith) wrong (All-tail IsNoComment p pairs own) (cc)
-none_among ([] ∷ ls) pairs zero d low wrong own e = false≢true wrong
+none_among ([] ∷ ls) pairs zero d low wrong own e = true≢false (sym wrong)
 none_among ([] ∷ ls) pairs (suc k) d low wrong own e = none_among ls pairs k d (omega arith) wrong own e
 
 -- what stands in a numbered list
@@ -72,7 +69,7 @@ module _ (found : List (Bor (List ℕ) × Bor (List ℕ))) (passed : List (ℕ �
   pub found_more : (p : Bor (List ℕ) × Bor (List ℕ)) (all : List (Bor (List ℕ) × Bor (List ℕ))) → all ≡ found ++ p ∷ [] → words_of line.1.now ≡ pair_words (texts_of p) → are_no_pair (words_of line.1.now) ≡ false → AreFound all (passed ++ line ∷ [])
   found_more p all pushed is right =
       let texts : map texts_of all ≡ map texts_of found ++ texts_of p ∷ [] = ap (map texts_of) pushed ∙ map-append texts_of found (p ∷ []) in
-      let own : IsNoComment (texts_of p) = λ same. false≢true (sym right ∙ (ap are_no_pair is ∙ (bytes_eq-Decides p.0.now (codes "#")).1 same)) in
+      let own : IsNoComment (texts_of p) = λ same. true≢false (sym (ap are_no_pair is ∙ (bytes_eq-Decides p.0.now (codes "#")).1 same) ∙ right) in
       record {
         words = words_more (pair_words (texts_of p)) is ∙ (sym (map-append pair_words (map texts_of found) (texts_of p ∷ [])) ∙ ap (map pair_words) (sym texts));
         own = subst (All IsNoComment) (sym texts) (All-append IsNoComment (map texts_of found) (texts_of p ∷ []) so.own (All-cons IsNoComment (texts_of p) [] own (All-nil IsNoComment)));
@@ -90,10 +87,9 @@ passed_all text found passed all so =
 -- the pairs of a text are its only ones
 pub pairs_unique : (xs ys : List (List ℕ × List ℕ)) → map pair_words xs ≡ map pair_words ys → xs ≡ ys
 pairs_unique [] [] e = refl
-pairs_unique [] (y ∷ ys) e = cc
-pairs_unique (x ∷ xs) [] e = cc
 pairs_unique (x ∷ xs) (y ∷ ys) e =
     let first : x.0 ≡ y.0 = cc in
     let second : x.1 ≡ y.1 = cc in
     let rest : map pair_words xs ≡ map pair_words ys = cc in
     ap (λ (w : List ℕ). (w, x.1) ∷ xs) first ∙ (ap (λ (w : List ℕ). (y.0, w) ∷ xs) second ∙ ap (λ ps. y ∷ ps) (pairs_unique xs ys rest))
+pairs_unique _ _ e = cc

@@ -1,10 +1,8 @@
 -- Parts of documents: there is one at most where some steps lead.
-use Rattle.std.proofs.Common.{◌≡◌, ◌∙◌, ◌<◌, ◌+◌, ◌-◌, ◌==◌, inl, [], ◌∷◌, ℕ, List, Option, Some, None, false, Bor, length, subst, sym, ap, refl, arith}
-use Rattle.std.proofs.lemmas.List.{length-drop}
+use Rattle.std.proofs.Common.{◌≡◌, ◌∙◌, ◌<◌, ◌+◌, ◌-◌, ◌==◌, inl, [], ◌∷◌, ℕ, List, Option, Some, None, false, Bor, length, subst, sym, ap, refl, length-drop, MatchOption, option_map, arith}
 use Rattle.std.proofs.lemmas.List.Elements.{All-from_get_or}
 use Rattle.std.proofs.lemmas.List.Splits.{slice_split_first, slice_split_none}
 use Rattle.std.proofs.lemmas.List.Sums.{fails_before_first}
-use Rattle.std.specs.Prelude.{MatchOption, option_map}
 use Rattle.std.specs.List.{position_or_len, before_first, after_first}
 use Rattle.serde_json.specs.Data as j
 use Rattle.toml.specs.Data as t
@@ -14,7 +12,7 @@ use Rattle.ptree.proofs.Styles.ColorNames.{option_map-option_map}
 use Rattle.ptree_trees.specs.RefusedPath.{StepValue, at_key, at_position}
 use Rattle.trees.specs.declared.command.Document.{Document}
 use Rattle.trees.specs.declared.failure.Failure.{Failure}
-use Rattle.trees.specs.declared.failure.Failure.TheVariants.{Usage, Input, Said, Output, Memory}
+use Rattle.trees.specs.declared.failure.Failure.TheVariants.{Input}
 use Rattle.trees.specs.declared.source.Source.{Source}
 use Rattle.trees.specs.Documents.{IsDocumentOf, node_at, IsNumber, IsStep, FindsPart, steps_in, LeadsBy, IsPartAsked, IsFirstMissing, SaysMissing, NamesMissing, NamesWrongIn}
 use Rattle.trees.specs.Reading.{IsInput, FailsToMake}
@@ -30,10 +28,7 @@ one_step : (whole : FileNode) (text : List ℕ) (s r : StepValue) (x y : FileNod
 one_step whole text (at_key k) (at_key l) x y is_s is_r at_x at_y = cc
 one_step whole text (at_key k) (at_position n) x y is_s is_r at_x at_y = absurd (key_or_position whole k n x y at_x at_y)
 one_step whole text (at_position m) (at_key l) x y is_s is_r at_x at_y = absurd (key_or_position whole l m y x at_y at_x)
-one_step whole text (at_position m) (at_position n) x y is_s is_r at_x at_y =
-    let m_is = is_s.1 in
-    let n_is = is_r.1 in
-    cc
+one_step whole text (at_position m) (at_position n) x y is_s is_r at_x at_y = cc (is_s.1, is_r.1)
 
 -- steps lead to one part at most
 one_part : (texts : List (List ℕ)) (whole a b : FileNode) → LeadsBy texts whole a → LeadsBy texts whole b → a ≡ b
@@ -68,10 +63,7 @@ says_below source at keys text texts whole next e is found (key, missing, says) 
 pub wrong_at : (format : DocFormat) (source : Source) (document : Document) (whole : FileNode) (e : Failure) → FailsToMake ⊥ (IsPartAsked document.at whole) e
     → (IsInput e → NamesMissing source document.at whole e) → NamesWrongIn format source document whole e
 wrong_at format source document whole (Input wrong) none missing input = inl (none, missing input)
-wrong_at format source document whole (Usage wrong) none missing input = absurd input
-wrong_at format source document whole Said none missing input = absurd input
-wrong_at format source document whole (Output kind) none missing input = absurd input
-wrong_at format source document whole Memory none missing input = absurd input
+wrong_at format source document whole _ none missing input = absurd input
 
 -- ## Steps
 

@@ -1,12 +1,10 @@
 -- Tables of packages whose names are brought into the form that names are compared in.
-use Rattle.std.proofs.Common.{◌≡◌, ◌∙◌, ℕ, zero, suc, ◌+◌, ◌<◌, ◌≤◌, Bool, true, false, cond, List, [], ◌∷◌, length, get_or, set, map, refl, ap, subst, string_bytes, String, arith}
+use Rattle.std.proofs.Common.{◌≡◌, ◌∙◌, ℕ, zero, suc, ◌+◌, ◌<◌, ◌≤◌, Bool, true, false, cond, List, [], ◌∷◌, length, get_or, set, map, refl, ap, subst, string_bytes, String, nat_cmp, Global, arith}
 use Rattle.std.specs.BTreeMap.{is_at}
 use Rattle.std.specs.Cmp.Lexicographic.{slice_cmp}
 use Rattle.std.specs.Map.{lookup, set_value}
-use Rattle.std.specs.Ordering.{nat_cmp}
 use Rattle.std.specs.Prelude.{Some, None, ⊤}
-use Rattle.std.specs.declared.alloc.Global.{Global}
-use Rattle.toml.specs.Data.{Data, string, integer, float, boolean, datetime, array, table, member, as_table, same_key}
+use Rattle.toml.specs.Data.{Data, table, member, as_table, same_key}
 use Rattle.toml.specs.View.{view, members_view}
 use Rattle.toml.specs.declared.value.Value.{Value}
 use Rattle.trees.specs.Locking.{changed_at, normal_table}
@@ -40,13 +38,8 @@ module _ (key : List ℕ) (change : Data → Data) where
 -- ## Tables
 
 pub no_table : (d : Data) → None ≡ as_table d → d ≡ normal_table d
-no_table (string s) none = refl
-no_table (integer z) none = refl
-no_table (float x) none = refl
-no_table (boolean b) none = refl
-no_table (datetime dt) none = refl
-no_table (array ds) none = refl
 no_table (table ms) none = (let no : ⊥ = cc in absurd no)
+no_table _ none = refl
 
 -- ## Lists of tables
 
@@ -64,18 +57,16 @@ none_normal (v ∷ vs) = (refl, none_normal vs)
 
 next_normal : (n : ℕ) (vs ws : List Value) (d w : Value) → n < length ws → FirstNormal vs ws n → view w ≡ normal_table (view (get_or ws n d)) → FirstNormal vs (set ws n w) (suc n)
 next_normal n [] [] d w low first is = absurd (omega arith)
-next_normal n [] (x ∷ xs) d w low first is = absurd first
-next_normal n (v ∷ vs) [] d w low first is = absurd first
 next_normal zero (v ∷ vs) (x ∷ xs) d w low first is = (is ∙ ap (λ (y : Value). normal_table (view y)) first.0, first.1)
 next_normal (suc n) (v ∷ vs) (x ∷ xs) d w low first is = (first.0, next_normal n vs xs d w (omega arith) first.1 is)
+next_normal n _ _ d w low first is = absurd first
 
 pub more_normal : (n : ℕ) (vs ws : List Value) (d w : Value) → n < length ws → FirstNormal vs ws n → view w ≡ normal_table (view (get_or ws n d)) → FirstNormal vs (set ws n w) (n + 1)
 more_normal n vs ws d w low first is = subst (λ (k : ℕ). FirstNormal vs (set ws n w) k) (let same : suc n ≡ n + 1 = omega arith in same) (next_normal n vs ws d w low first is)
 
 pub all_normal : (n : ℕ) (vs ws : List Value) → length ws ≤ n → FirstNormal vs ws n → map view ws ≡ map normal_table (map view vs)
 all_normal n [] [] end first = refl
-all_normal n [] (w ∷ ws) end first = absurd first
-all_normal n (v ∷ vs) [] end first = absurd first
 all_normal zero (v ∷ vs) (w ∷ ws) end first = absurd (omega arith)
 all_normal (suc n) (v ∷ vs) (w ∷ ws) end first =
     ap (λ (d : Data). d ∷ map view ws) first.0 ∙ ap (λ (ds : List Data). normal_table (view v) ∷ ds) (all_normal n vs ws (omega arith) first.1)
+all_normal n _ _ end first = absurd first

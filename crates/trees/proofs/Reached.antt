@@ -1,5 +1,5 @@
 -- Nodes that edges lead to.
-use Rattle.std.proofs.Common.{◌≡◌, ◌∙◌, ℕ, zero, suc, ◌+◌, ◌<◌, ◌≤◌, ◌⊎◌, not, Bool, true, false, cond, List, [], ◌∷◌, ◌++◌, length, get_or, map, inl, inr, refl, sym, ap, subst, arith}
+use Rattle.std.proofs.Common.{◌≡◌, ◌∙◌, ℕ, zero, suc, ◌+◌, ◌<◌, ◌≤◌, ◌⊎◌, not, Bool, true, false, cond, List, [], ◌∷◌, ◌++◌, length, get_or, map, inl, inr, refl, sym, ap, subst, All, Contains, count_by, filter, Ordering, Less, Equal, Greater, arith}
 use Rattle.std.proofs.lemmas.Bool.{cases_lt, false≢true}
 use Rattle.std.proofs.lemmas.Cmp.{nat_cmp_total, on_total, then_total}
 use Rattle.std.proofs.lemmas.List.{length_push}
@@ -8,9 +8,6 @@ use Rattle.std.proofs.lemmas.Map.Views.{IsInRange-from_range_contains, range_con
 use Rattle.std.specs.BTreeMap.Range.{range_contains}
 use Rattle.std.specs.Cmp.{IsTotalOrder, nat_cmp_is}
 use Rattle.std.specs.Ordering.{is_gt, nat_cmp, ordering_then}
-use Rattle.std.specs.Prelude.{All, Contains, count_by, filter}
-use Rattle.std.specs.declared.cmp.Ordering.{Ordering}
-use Rattle.std.specs.declared.cmp.Ordering.TheVariants.{Less, Equal, Greater}
 use Rattle.std.specs.declared.ops.Bound.TheVariants.{Included}
 use Rattle.ptree.proofs.Config.FieldLists.{Contains-map}
 use Rattle.trees.specs.Depending.{IsClosed, HasEach}
@@ -57,9 +54,7 @@ module _ (edges : List (ℕ × ℕ)) (node most : ℕ) where
       All-weaker (λ (e : ℕ × ℕ). inside e ≡ true) (λ e. e.0 ≡ node)
       (λ e is.
       let range = IsInRange-from_range_contains edges_total (Included (node, 0)) (Included (node, most)) e is in
-      let low : node ≤ e.0 = above_not node e.0 (nat_cmp 0 e.1) range.0 in
-      let high : e.0 ≤ node = above_not e.0 node (nat_cmp e.1 most) range.1 in
-      omega arith) (edges_from edges node most) (filter_passes inside edges)
+      omega (arith, above_not node e.0 (nat_cmp 0 e.1) range.0, above_not e.0 node (nat_cmp e.1 most) range.1)) (edges_from edges node most) (filter_passes inside edges)
 
   -- an edge from the node is among them
   contains_from : (e : ℕ × ℕ) → Contains edges e → e.0 ≡ node → e.1 ≤ most → Contains (edges_from edges node most) e
@@ -129,9 +124,5 @@ module _ (edges : List (ℕ × ℕ)) (from : ℕ) (old : List Bool) where
               ]
           | inr new' ↦ inl new'
         ];
-    count = λ is.
-        let first = so.count is in
-        let second = marks.count in
-        let long = ap length split ∙ length_push rest node in
-        omega arith;
+    count = λ is. omega (arith, so.count is, marks.count, ap length split ∙ length_push rest node);
   }

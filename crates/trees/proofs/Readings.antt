@@ -1,13 +1,12 @@
 -- How a reading fails.
-use Rattle.std.proofs.Common.{◌≡◌, ℕ, List, Result, Ok, Err, string_bytes, subst, sym}
-use Rattle.std.specs.Prelude.{IfErr, None, MatchOption}
+use Rattle.std.proofs.Common.{◌≡◌, ℕ, List, Result, Ok, Err, string_bytes, subst, sym, IfErr, None, MatchOption}
 use Rattle.ptree.specs.declared.print_config.PrintConfig.{PrintConfig}
 use Rattle.ptree.specs.Config.{config_of}
 use Rattle.ptree.specs.Drawing.{written_look}
 use Rattle.ptree.specs.DrawnForm.{IsDrawnForm}
 use Rattle.ptree.specs.Tree.{Tree}
 use Rattle.trees.specs.declared.failure.Failure.{Failure}
-use Rattle.trees.specs.declared.failure.Failure.TheVariants.{Usage, Input, Said, Output, Memory}
+use Rattle.trees.specs.declared.failure.Failure.TheVariants.{Usage, Input, Memory}
 use Rattle.trees.specs.declared.source.Source.{Source}
 use Rattle.trees.specs.Named.{IsReadableValue}
 use Rattle.trees.specs.Reading.{HoldsDrawing, IsInput, IsUsage, IsInputOf, FailsFor, FailsToMake, FailsToRead}
@@ -15,34 +14,23 @@ use Rattle.trees.specs.Reading.{HoldsDrawing, IsInput, IsUsage, IsInputOf, Fails
 -- an input error says what is known to be wrong
 pub fails_by_input : (W P : Type 0) (f : Failure) → IsInput f → W → FailsFor W P f
 fails_by_input W P (Input wrong) input is = is
-fails_by_input W P (Usage wrong) input is = absurd input
-fails_by_input W P Said input is = absurd input
-fails_by_input W P (Output kind) input is = absurd input
-fails_by_input W P Memory input is = absurd input
+fails_by_input W P _ input is = absurd input
 
 -- a usage error says what is known of the words
 pub fails_by_usage : (W P : Type 0) (f : Failure) → IsUsage f → P → FailsFor W P f
 fails_by_usage W P (Usage wrong) usage is = is
-fails_by_usage W P (Input wrong) usage is = absurd usage
-fails_by_usage W P Said usage is = absurd usage
-fails_by_usage W P (Output kind) usage is = absurd usage
 fails_by_usage W P Memory usage is = tt
+fails_by_usage W P _ usage is = absurd usage
 
 -- what a failure says is also what follows of it
 pub fails_weaker : (W V P : Type 0) (f : Failure) → (W → V) → FailsFor W P f → FailsFor V P f
 fails_weaker W V P (Input wrong) more is = more is
-fails_weaker W V P (Usage wrong) more is = is
-fails_weaker W V P Said more is = is
-fails_weaker W V P (Output kind) more is = is
-fails_weaker W V P Memory more is = is
+fails_weaker W V P _ more is = is
 
 -- where no words are wrong, that says nothing of them
 pub fails_wider : (W P : Type 0) (f : Failure) → FailsFor W ⊥ f → FailsFor W P f
-fails_wider W P (Input wrong) is = is
 fails_wider W P (Usage wrong) is = absurd is
-fails_wider W P Said is = is
-fails_wider W P (Output kind) is = is
-fails_wider W P Memory is = is
+fails_wider W P _ is = is
 
 -- out of memory says nothing
 pub fails_by_memory : (W P : Type 0) (f : Failure) → f ≡ Memory → FailsFor W P f

@@ -1,13 +1,8 @@
 -- The tables of a lock file of which one is the root.
-use Rattle.std.proofs.Common.{◌≡◌, ◌∙◌, ℕ, Bool, true, false, cond, List, [], codes, map, refl, sym, ap, String, BTreeMap, string_bytes, nat_cmp}
+use Rattle.std.proofs.Common.{◌≡◌, ◌∙◌, ℕ, Bool, true, false, cond, List, [], codes, map, refl, sym, ap, String, BTreeMap, string_bytes, nat_cmp, option_and_then, Option, Some, None, is_some, option_map, unwrap_or, bytes_eq, string_cmp, Global}
 use Rattle.std.proofs.lemmas.Map.Text.{btree_map_updates_text}
 use Rattle.std.specs.BTreeMap.{get_by_text, UpdatesBy}
 use Rattle.std.specs.Cmp.Lexicographic.{slice_cmp}
-use Rattle.std.specs.Option.{option_and_then}
-use Rattle.std.specs.Prelude.{Option, Some, None, is_some, option_map, unwrap_or}
-use Rattle.std.specs.Str.{bytes_eq}
-use Rattle.std.specs.String.{string_cmp}
-use Rattle.std.specs.declared.alloc.Global.{Global}
 use Rattle.toml.proofs.Views.{view-Table, view-lookup}
 use Rattle.toml.specs.Data.{Data, get, as_array, as_table}
 use Rattle.toml.specs.View.{view, items_view, table_view}

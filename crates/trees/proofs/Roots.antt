@@ -1,5 +1,5 @@
 -- Nodes that a name means, and what stands above nodes.
-use Rattle.std.proofs.Common.{◌≡◌, ◌≢◌, ◌∙◌, ℕ, zero, suc, ◌+◌, ◌<◌, ◌≤◌, ◌||◌, Bool, true, false, cond, List, [], ◌∷◌, ◌++◌, length, get_or, map, inl, inr, refl, sym, ap, subst, arith}
+use Rattle.std.proofs.Common.{◌≡◌, ◌≢◌, ◌∙◌, ℕ, zero, suc, ◌+◌, ◌<◌, ◌≤◌, ◌||◌, Bool, true, false, cond, List, [], ◌∷◌, ◌++◌, length, get_or, map, inl, inr, refl, sym, ap, subst, All, Contains, Option, filter, option_map, unwrap_or, Result, IfOk, IfErr, bytes_eq, arith}
 use Rattle.std.proofs.lemmas.Bool.{cases_eq, cond-false, cond-true, false≢true, false_from_ne_true}
 use Rattle.std.proofs.lemmas.List.{append-nil, length-map, map-append, map-id, nil_from_length}
 use Rattle.std.proofs.lemmas.List.Elements.{All-head, filter-append, filter_passes}
@@ -7,8 +7,6 @@ use Rattle.std.proofs.lemmas.List.FromFn.{get_or-range_with_len, length-range_wi
 use Rattle.std.proofs.lemmas.Option.{slice_get_read}
 use Rattle.std.proofs.lemmas.Result.{IfOk-weaker, IfErr-weaker}
 use Rattle.std.specs.List.{range_with_len}
-use Rattle.std.specs.Prelude.{All, Contains, Option, filter, option_map, unwrap_or, Result, IfOk, IfErr}
-use Rattle.std.specs.Str.{bytes_eq}
 use Rattle.ptree.specs.declared.graph.NodeIndex.{NodeIndex}
 use Rattle.trees.specs.declared.failure.Failure.{Failure}
 use Rattle.trees.specs.Depending.{StandsAbove}
@@ -171,6 +169,5 @@ module _ (labels paths : List (List ℕ)) (name : List ℕ) where
 -- a root above nodes, unless there is one alone
 pub stands_above : (label : List ℕ) (names : List (List ℕ)) (edges : List (ℕ × ℕ)) (tops : List ℕ) (texts : List (List ℕ)) (all : List (ℕ × ℕ)) (root : ℕ) → length tops ≢ 1 → root ≡ length names → texts ≡ names ++ label ∷ []
     → all ≡ edges ++ map (λ t. (length names, t)) tops → StandsAbove label names edges tops texts all root
-stands_above label names edges [] texts all root several at labels is = (at, labels, is)
 stands_above label names edges (top ∷ []) texts all root several at labels is = absurd (several refl)
-stands_above label names edges (top ∷ u ∷ tops) texts all root several at labels is = (at, labels, is)
+stands_above label names edges _ texts all root several at labels is = (at, labels, is)

@@ -1,9 +1,6 @@
 -- What calls write on a terminal.
-use Rattle.std.specs.Prelude.{All}
 use Rattle.std.specs.Str.{NoCharPasses}
-use Rattle.std.proofs.Common.{◌≡◌, ℕ, zero, suc, ◌++◌, Bool, true, false, List, [], ◌∷◌, Option, Result, Ok, Err, inl, inr, refl, sym, ap, ◌∙◌, subst}
-use Rattle.std.proofs.lemmas.Bool.{false≢true}
-use Rattle.std.proofs.lemmas.List.{append-nil}
+use Rattle.std.proofs.Common.{◌≡◌, ℕ, zero, suc, ◌++◌, Bool, true, false, List, [], ◌∷◌, Option, Result, Ok, Err, inl, inr, refl, sym, ap, ◌∙◌, subst, All, append-nil, true≢false}
 use Rattle.std.proofs.lemmas.List.Elements.{All-nil, All-cons, All-head, All-tail, All-append}
 use Rattle.std.proofs.lemmas.Str.{NoCharPasses-append}
 use Rattle.ptree.specs.declared.print_config.OutputKind.TheVariants.{Unknown}
@@ -67,7 +64,7 @@ outline_calm n (item t c r) =
 
 -- the indented form of a tree, on a terminal
 indented_shown : (b : Bool) (unit bullet : List ℕ) (t : Tree) (bytes : List ℕ) → IsShownForm b unit bullet t bytes → b ≡ true → IsShown (λ part. part ≡ unit) bytes
-indented_shown false unit bullet t bytes h e = absurd (false≢true e)
+indented_shown false unit bullet t bytes h e = absurd (true≢false (sym e))
 indented_shown true unit bullet t bytes h e =
     let form : Form = h.0 in
     let o : List Line = outline (mapped_tree escaped_text t) in

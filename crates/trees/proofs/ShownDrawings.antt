@@ -1,10 +1,6 @@
 -- Drawings that a terminal may get.
-use Rattle.std.specs.Prelude.{All, String, codes, slice_get, option_map, unwrap_or}
-use Rattle.std.specs.declared.alloc.Global.{Global}
 use Rattle.std.specs.Str.{NoCharPasses}
-use Rattle.std.proofs.Common.{◌≡◌, ℕ, ◌++◌, Bool, true, false, List, [], ◌∷◌, map, Option, Some, None, string_bytes, inl, inr, refl, sym, ap, ◌∙◌, subst}
-use Rattle.std.proofs.lemmas.Bool.{false≢true}
-use Rattle.std.proofs.lemmas.List.{append-nil}
+use Rattle.std.proofs.Common.{◌≡◌, ℕ, ◌++◌, Bool, true, false, List, [], ◌∷◌, map, Option, Some, None, string_bytes, inl, inr, refl, sym, ap, ◌∙◌, subst, All, String, codes, slice_get, option_map, unwrap_or, Global, append-nil, true≢false}
 use Rattle.std.proofs.lemmas.List.Elements.{All-nil, All-cons, All-append}
 use Rattle.std.proofs.lemmas.Option.{slice_get_within, unwrap_or-slice_get}
 use Rattle.std.proofs.lemmas.Str.{NoCharPasses-append}
@@ -132,7 +128,7 @@ shape_shown config Code in' lines x bytes own drawn =
 -- the drawing of a tree as a configuration asks for it
 pub tree_shown : (b : Bool) (config : ConfigValue) (t : Tree) (bytes : List ℕ) → IsTreeDrawing (shown_config b config) b t bytes → b ≡ true
     → IsShown (IsLookCode (look_by (shown_config b config) Unknown false)) bytes
-tree_shown false config t bytes drawn e = absurd (false≢true e)
+tree_shown false config t bytes drawn e = absurd (true≢false (sym e))
 tree_shown true config t bytes drawn e =
     let look : Look = look_by (shown_config true config) Unknown false in
     shape_shown config (IsLookCode look) (λ part is. is) (look_code_line look) (shape_of_tree (mapped_tree escaped_text t)) bytes (own_of_tree (IsLookCode look) look (λ part is. is) t) drawn
@@ -140,7 +136,7 @@ tree_shown true config t bytes drawn e =
 -- the drawing of a graph
 pub graph_shown : (b : Bool) (config : ConfigValue) (found : Dependencies) (walks : Bool) (bytes : List ℕ) → (b ≡ true → AreShownLabels found.graph) → IsGraphDrawing (shown_config b config) found walks bytes → b ≡ true
     → IsShown (IsLookCode (look_by (shown_config b config) Unknown false)) bytes
-graph_shown false config found walks bytes labels drawn e = absurd (false≢true e)
+graph_shown false config found walks bytes labels drawn e = absurd (true≢false (sym e))
 graph_shown true config found true bytes labels drawn e =
     let look : Look = look_by (shown_config true config) Unknown false in
     shape_shown config (IsLookCode look) (λ part is. is) (look_code_line look) (node_shape string_bytes found.graph found.root.0) bytes

@@ -1,8 +1,7 @@
 -- Drawings of two trees in one that a terminal may get.
 use Rattle.std.specs.Prelude.{◌⊎◌, ⊤, codes, unwrap_or}
 use Rattle.std.specs.Str.{bytes_eq, NoCharPasses}
-use Rattle.std.proofs.Common.{◌≡◌, ℕ, ◌++◌, Bool, true, false, cond, List, [], ◌∷◌, map, Option, Some, None, inl, inr, refl, sym, ap, ◌∙◌, subst}
-use Rattle.std.proofs.lemmas.Bool.{false≢true}
+use Rattle.std.proofs.Common.{◌≡◌, ℕ, ◌++◌, Bool, true, false, cond, List, [], ◌∷◌, map, Option, Some, None, inl, inr, refl, sym, ap, ◌∙◌, subst, true≢false}
 use Rattle.std.proofs.lemmas.Str.{NoCharPasses-append}
 use Rattle.ptree.specs.declared.print_config.OutputKind.TheVariants.{Unknown}
 use Rattle.ptree.specs.Address.{Address}
@@ -120,7 +119,7 @@ module _ (config : ConfigValue) where
 
 -- the drawing of two trees in one, on a terminal
 pub merge_drawing_shown : (b : Bool) (config : ConfigValue) (t u : Tree) (bytes : List ℕ) → IsMergeDrawing (shown_config b config) b t u bytes → b ≡ true → IsShown (IsMergeCode (shown_config b config)) bytes
-merge_drawing_shown false config t u bytes drawn e = absurd (false≢true e)
+merge_drawing_shown false config t u bytes drawn e = absurd (true≢false (sym e))
 merge_drawing_shown true config t u bytes drawn e =
     let value : ConfigValue = shown_config true config in
     let both = drawn.1 in

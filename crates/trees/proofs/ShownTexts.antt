@@ -1,12 +1,9 @@
 -- Texts that a terminal may get.
-use Rattle.std.specs.Prelude.{◌==◌, ◌||◌, ◌&&◌, not, ◌⊎◌, All, codes, nat_lt}
 use Rattle.std.specs.List.{concat, list_all}
 use Rattle.std.specs.Fmt.{decimal, digits, digits_onto, digit_glyph}
 use Rattle.std.specs.Str.{chars, encode_utf8_all, NonePass, NoCharPasses}
-use Rattle.std.proofs.Common.{◌≡◌, ◌≢◌, ◌<◌, ◌/◌, ◌%◌, ℕ, zero, suc, ◌++◌, Bool, true, false, cond, eqb, List, [], ◌∷◌, flat_map, inl, inr, refl, sym, ap, ◌∙◌, subst, arith}
-use Rattle.std.proofs.lemmas.Bool.{false≢true, ne_eqb}
+use Rattle.std.proofs.Common.{◌≡◌, ◌≢◌, ◌<◌, ◌/◌, ◌%◌, ℕ, zero, suc, ◌++◌, Bool, true, false, cond, eqb, List, [], ◌∷◌, flat_map, inl, inr, refl, sym, ap, ◌∙◌, subst, ◌==◌, ◌||◌, ◌&&◌, not, ◌⊎◌, All, codes, nat_lt, append-nil, ne_eqb, true≢false, arith}
 use Rattle.std.proofs.lemmas.Bool.Decides.{nat_tests}
-use Rattle.std.proofs.lemmas.List.{append-nil}
 use Rattle.std.proofs.lemmas.List.Elements.{All-nil, All-cons, All-head, All-tail, All-append}
 use Rattle.std.proofs.lemmas.List.Folds.{concat-append}
 use Rattle.std.proofs.lemmas.Str.{NoCharPasses-nil, NoCharPasses-append, encode_ascii, encodes-append}
@@ -33,8 +30,8 @@ ascii_text (b ∷ bs) h = by_test (nat_lt b 128) (is_raw b) refl refl h (λ k. a
   by_test : (x y : Bool) → nat_lt b 128 ≡ x → is_raw b ≡ y → (x && not y && list_all (λ b. nat_lt b 128 && not (is_raw b)) bs) ≡ true
       → (list_all (λ b. nat_lt b 128 && not (is_raw b)) bs ≡ true → NoCharPasses is_raw bs) → NoCharPasses is_raw (b ∷ bs)
   by_test true false e f k rest = NoCharPasses-append is_raw (b ∷ []) bs (ascii_calm is_raw b (grind (arith, nat_tests)) f) (rest k)
-  by_test true true e f k rest = absurd (false≢true k)
-  by_test false y e f k rest = absurd (false≢true k)
+  by_test true true e f k rest = absurd (true≢false (sym k))
+  by_test false y e f k rest = absurd (true≢false (sym k))
 
 -- a digit is not raw
 digit_calm : (n : ℕ) → NoCharPasses is_raw (digit_glyph false (n % 10) ∷ [])

@@ -1,11 +1,7 @@
 -- Texts of sources.
-use Rattle.std.proofs.Common.{◌≡◌, ◌∙◌, ℕ, List, [], ◌∷◌, map, codes, refl, sym, ap}
-use Rattle.std.specs.Borrow.{Bor}
-use Rattle.std.specs.BTreeMap.{BTreeMap}
+use Rattle.std.proofs.Common.{◌≡◌, ◌∙◌, ℕ, List, [], ◌∷◌, map, codes, refl, sym, ap, Bor, BTreeMap, Option, Some, None, String, unwrap_or, option_copied, option_map, Global}
 use Rattle.std.specs.Map.Iter.{TakesFirst, deref}
 use Rattle.std.specs.Option.{option_and_then, option_or}
-use Rattle.std.specs.Prelude.{Option, Some, None, String, unwrap_or, option_copied, option_map}
-use Rattle.std.specs.declared.alloc.Global.{Global}
 use Rattle.toml.proofs.Views.{view-Table}
 use Rattle.toml.specs.Data.{Data, table, get, as_str}
 use Rattle.toml.specs.View.{view, members_view}

@@ -1,6 +1,5 @@
 -- Styled trees and items.
-use Rattle.std.specs.Prelude.{slice_get, option_and_then, option_map, unwrap_or}
-use Rattle.std.proofs.Common.{◌≡◌, ◌∙◌, ℕ, List, [], ◌∷◌, length, map, Option, Some, None, ap, refl, sym, string_bytes}
+use Rattle.std.proofs.Common.{◌≡◌, ◌∙◌, ℕ, List, [], ◌∷◌, length, map, Option, Some, None, ap, refl, sym, string_bytes, slice_get, option_and_then, option_map, unwrap_or}
 use Rattle.std.proofs.Math.Path.{fun_ext}
 use Rattle.std.proofs.lemmas.List.{length-map}
 use Rattle.std.proofs.lemmas.Option.{slice_get-map}

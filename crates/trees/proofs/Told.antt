@@ -1,8 +1,5 @@
 -- What the end of a call tells.
-use Rattle.std.proofs.Common.{◌≡◌, ◌<◌, ◌+◌, ◌∙◌, true, false, not, eqb, ℕ, List, [], ◌∷◌, All, take, length, get_or, Bool, Option, Some, None, Result, Ok, Err, ◌↔◌, IsTrue, string_bytes, arith, subst, sym, ap, refl}
-use Rattle.std.proofs.lemmas.Bool.{ne_eqb, false≢true}
-use Rattle.std.specs.Prelude.{is_some, slice_get}
-use Rattle.std.proofs.lemmas.List.{take-take, get_or-take, length-take-le}
+use Rattle.std.proofs.Common.{◌≡◌, ◌<◌, ◌+◌, ◌∙◌, true, false, not, eqb, ℕ, List, [], ◌∷◌, All, take, length, get_or, Bool, Option, Some, None, Result, Ok, Err, ◌↔◌, IsTrue, string_bytes, subst, sym, ap, refl, is_some, slice_get, take-take, get_or-take, length-take-le, ne_eqb, true≢false, arith}
 use Rattle.std.proofs.lemmas.List.Elements.{All-more, All-take, All-get_or}
 use Rattle.ptree.specs.declared.print_config.OutputKind.TheVariants.{Unknown}
 use Rattle.ptree.specs.Config.{ConfigValue}
@@ -10,7 +7,7 @@ use Rattle.ptree.specs.Drawing.{look_by, IsDrawing}
 use Rattle.ptree.specs.Tree.{Tree, shape_of_tree}
 use Rattle.ptree.proofs.Drawing.Laws.{drawn_form_again}
 use Rattle.trees.specs.declared.failure.Failure.{Failure}
-use Rattle.trees.specs.declared.failure.Failure.TheVariants.{Usage, Input, Said, Output, Memory}
+use Rattle.trees.specs.declared.failure.Failure.TheVariants.{Said}
 use Rattle.trees.specs.declared.source.Source.{Source}
 use Rattle.trees.specs.Telling.{TellsWhether}
 use Rattle.trees.specs.Reading.{HoldsDrawing}
@@ -19,15 +16,12 @@ use Rattle.trees.specs.Reading.{HoldsDrawing}
 pub tells_same : {A : Type 0} (r : Result A Failure) (P Q : Type 0) → (P → Q) → (Q → P) → TellsWhether r P → TellsWhether r Q
 tells_same (Ok x) P Q to from h = to h
 tells_same (Err Said) P Q to from h = λ q. h (from q)
-tells_same (Err (Usage wrong)) P Q to from h = h
-tells_same (Err (Input wrong)) P Q to from h = h
-tells_same (Err (Output kind)) P Q to from h = h
-tells_same (Err Memory) P Q to from h = h
+tells_same _ P Q to from h = h
 
 -- what tells that a flag is not set tells what the flag does
 pub tells_of_not : {A : Type 0} (r : Result A Failure) (b : Bool) (P : Type 0) → (IsTrue b ↔ P) → TellsWhether r (not b ≡ false) → TellsWhether r P
 tells_of_not r true P same h = tells_same r (not true ≡ false) P (λ _. same.0 refl) (λ _. refl) h
-tells_of_not r false P same h = tells_same r (not false ≡ false) P (λ e. absurd (false≢true (sym e))) (λ p. absurd (false≢true (same.1 p))) h
+tells_of_not r false P same h = tells_same r (not false ≡ false) P (λ e. absurd (true≢false e)) (λ p. absurd (true≢false (sym (same.1 p)))) h
 
 -- texts with the same tree's drawing are the same
 pub same_texts : (config : ConfigValue) (left right : Source) (t u : Tree) → HoldsDrawing config left t → HoldsDrawing config right u → t ≡ u → string_bytes left.text ≡ string_bytes right.text
@@ -59,4 +53,4 @@ some_first (x ∷ xs) = ap not (ne_eqb (length (x ∷ xs)) 0 (omega arith))
 -- an option is empty or has a value
 pub none_or_some : {X : Type 0} (o : Option X) → (is_some o ≡ false → o ≡ None) × (o ≡ None → is_some o ≡ false)
 none_or_some None = ((λ _. refl), λ _. refl)
-none_or_some (Some x) = ((λ e. absurd (false≢true (sym e))), λ e. ap is_some e)
+none_or_some (Some x) = ((λ e. absurd (true≢false e)), λ e. ap is_some e)

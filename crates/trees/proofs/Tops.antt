@@ -1,5 +1,5 @@
 -- Nodes that lead to all others.
-use Rattle.std.proofs.Common.{◌≡◌, ◌∙◌, ℕ, ◌+◌, ◌-◌, ◌<◌, ◌≤◌, ◌&&◌, Bool, true, false, eqb, eq-eqb, List, [], ◌∷◌, ◌++◌, length, get_or, reverse, set, take, inl, inr, refl, sym, ap, subst, arith, length-set}
+use Rattle.std.proofs.Common.{◌≡◌, ◌∙◌, ℕ, ◌+◌, ◌-◌, ◌<◌, ◌≤◌, ◌&&◌, Bool, true, false, eqb, eq-eqb, List, [], ◌∷◌, ◌++◌, length, get_or, reverse, set, take, inl, inr, refl, sym, ap, subst, length-set, nat_cmp, All, AllPairs, Contains, arith}
 use Rattle.std.proofs.lemmas.List.{get_or_append_left, get_or_default, get_or_push, get_or-reverse, length_push, length-reverse, take_all, take_more}
 use Rattle.std.proofs.lemmas.List.Elements.{All-contains, All-contains_itself, All-push, All-weaker, Contains-append_left, Contains-push}
 use Rattle.std.proofs.lemmas.List.Folds.{list_any_at}
@@ -7,8 +7,6 @@ use Rattle.std.proofs.lemmas.List.Quantifiers.{all_pairs_push}
 use Rattle.std.proofs.lemmas.List.Sorted.{All-permutation, IsPermutation-sym, IsPermutation-reverse}
 use Rattle.std.proofs.lemmas.Map.Lookups.{CmpEqualImpliesEq, exact_pairs, exact_unsigned}
 use Rattle.std.proofs.lemmas.Map.Views.{Contains-from_any, btree_set_contains_iff}
-use Rattle.std.specs.Ordering.{nat_cmp}
-use Rattle.std.specs.Prelude.{All, AllPairs, Contains}
 use Rattle.trees.specs.declared.deps.Network.{Network}
 use Rattle.trees.specs.Depending.{same_edge, IsClosed, HasEach, IsUnreached, AreTops}
 use Rattle.trees.specs.DependingParts.{labels_of, needs_of, edge_cmp, is_marked, HasMarked, IsWithin, IsIndexed, IsWhole, Reaches, AreFirsts}
@@ -25,8 +23,7 @@ module _ {X : Type 0} (R : X → X → Type 0) where
   pairs_last xs y pairs k d low =
       let first = get_or_append_left xs (y ∷ []) d k low in
       let second = get_or_push xs y d (length xs) refl in
-      let long = length_push xs y in
-      subst (λ (x : X). R x y) first (subst (λ (z : X). R (get_or (xs ++ y ∷ []) k d) z) second (pairs k (length xs) d low (omega arith)))
+      subst (λ (x : X). R x y) first (subst (λ (z : X). R (get_or (xs ++ y ∷ []) k d) z) second (pairs k (length xs) d low (omega (arith, length_push xs y))))
 
   -- those of a reversed list
   pairs_reversed : (xs : List X) → AllPairs R xs → AllPairs (λ x y. R y x) (reverse xs)

@@ -1,9 +1,7 @@
 -- What is written.
-use Rattle.std.proofs.Common.{◌≡◌, ℕ, true, false, inl, inr, Option, Some, None, List, Result, Ok, Err, sym, subst, append-nil}
+use Rattle.std.proofs.Common.{◌≡◌, ℕ, true, false, inl, inr, Option, Some, None, List, Result, Ok, Err, sym, subst, append-nil, [], IsErr, IfErr, true≢false}
 use Rattle.std.proofs.KnownBytes.{Appends-nil}
-use Rattle.std.proofs.lemmas.Bool.{false≢true}
 use Rattle.std.specs.Io.KnownBytes.{Appends}
-use Rattle.std.specs.Prelude.{[], IsErr, IfErr}
 use Rattle.ptree.specs.declared.print_config.Sources.{Sources}
 use Rattle.ptree.specs.declared.value.document.DocFormat.TheVariants.{Toml, Json}
 use Rattle.ptree.specs.Tree.{Tree}
@@ -13,7 +11,7 @@ use Rattle.trees.specs.declared.command.Drawing.{Drawing}
 use Rattle.trees.specs.declared.command.Tree.{Tree as Given}
 use Rattle.trees.specs.declared.command.Tree.TheVariants as given
 use Rattle.trees.specs.declared.failure.Failure.{Failure}
-use Rattle.trees.specs.declared.failure.Failure.TheVariants.{Usage, Input, Said, Output, Memory}
+use Rattle.trees.specs.declared.failure.Failure.TheVariants.{Said, Memory}
 use Rattle.trees.specs.declared.source.Source.{Source}
 use Rattle.trees.specs.Asked.{drawing_value, reading_value}
 use Rattle.trees.specs.Documents.{IsPartTree}
@@ -41,7 +39,7 @@ drawing_made sources drawing Is Fails old new r t made fails drawn =
 
 -- a call that fails before it writes has appended nothing
 pub nothing_written : {A : Type 0} (old : Option (List ℕ)) (r : Result A Failure) (Is : List ℕ → Type 0) (Fails : Failure → Type 0) → IsErr r → IfErr r Fails → Writes old old r Is Fails
-nothing_written old (Ok x) Is Fails err says = absurd (false≢true err)
+nothing_written old (Ok x) Is Fails err says = absurd (true≢false (sym err))
 nothing_written None (Err e) Is Fails err says = inl (says, tt)
 nothing_written (Some bytes) (Err e) Is Fails err says = inl (says, sym (append-nil bytes))
 
@@ -58,10 +56,7 @@ pub or_weaker : {A : Type 0} (Done Other : Type 0) (old new : Option (List ℕ))
     → (Done → Other) → ((bytes : List ℕ) → Is bytes → Js bytes) → ((e : Failure) → Fails e → Gives e) → WritesOr Done old new r Is Fails → WritesOr Other old new r Js Gives
 or_weaker Done Other old new (Ok x) Is Js Fails Gives done more why h = done h
 or_weaker Done Other old new (Err Said) Is Js Fails Gives done more why h = (h.0, more h.0 h.1, h.2)
-or_weaker {A} Done Other old new (Err (Usage wrong)) Is Js Fails Gives done more why h = writes_weaker {A = A} old new (Err (Usage wrong)) Is Js Fails Gives more why h
-or_weaker {A} Done Other old new (Err (Input wrong)) Is Js Fails Gives done more why h = writes_weaker {A = A} old new (Err (Input wrong)) Is Js Fails Gives more why h
-or_weaker {A} Done Other old new (Err (Output kind)) Is Js Fails Gives done more why h = writes_weaker {A = A} old new (Err (Output kind)) Is Js Fails Gives more why h
-or_weaker {A} Done Other old new (Err Memory) Is Js Fails Gives done more why h = writes_weaker {A = A} old new (Err Memory) Is Js Fails Gives more why h
+or_weaker {A} Done Other old new r Is Js Fails Gives done more why h = writes_weaker {A = A} old new r Is Js Fails Gives more why h
 
 -- the same where success has written what a refusal has
 pub said_weaker : {A : Type 0} (old new : Option (List ℕ)) (r : Result A Failure) (Is Js : List ℕ → Type 0) (Fails Gives : Failure → Type 0)
@@ -71,21 +66,14 @@ said_weaker old new r Is Js Fails Gives more why = or_weaker (AppendsSome old ne
 -- a call that never succeeds may say anything of success
 pub or_never : {A : Type 0} (Done Other : Type 0) (old new : Option (List ℕ)) (r : Result A Failure) (Is : List ℕ → Type 0) (Fails : Failure → Type 0)
     → TellsWhether r (true ≡ false) → WritesOr Done old new r Is Fails → WritesOr Other old new r Is Fails
-or_never Done Other old new (Ok x) Is Fails tells h = absurd (false≢true (sym tells))
-or_never Done Other old new (Err Said) Is Fails tells h = h
-or_never Done Other old new (Err (Usage wrong)) Is Fails tells h = h
-or_never Done Other old new (Err (Input wrong)) Is Fails tells h = h
-or_never Done Other old new (Err (Output kind)) Is Fails tells h = h
-or_never Done Other old new (Err Memory) Is Fails tells h = h
+or_never Done Other old new (Ok x) Is Fails tells h = absurd (true≢false tells)
+or_never Done Other old new _ Is Fails tells h = h
 
 -- a call that fails before it writes has appended nothing
 pub fails_early : {A : Type 0} (Done : Type 0) (old : Option (List ℕ)) (r : Result A Failure) (Is : List ℕ → Type 0) (Fails : Failure → Type 0) → (Fails Said → ⊥) → IsErr r → IfErr r Fails → WritesOr Done old old r Is Fails
-fails_early Done old (Ok x) Is Fails none err says = absurd (false≢true err)
-fails_early Done old (Err (Usage wrong)) Is Fails none err says = inl (says, Appends-nil old)
-fails_early Done old (Err (Input wrong)) Is Fails none err says = inl (says, Appends-nil old)
+fails_early Done old (Ok x) Is Fails none err says = absurd (true≢false (sym err))
 fails_early Done old (Err Said) Is Fails none err says = absurd (none says)
-fails_early Done old (Err (Output kind)) Is Fails none err says = inl (says, Appends-nil old)
-fails_early Done old (Err Memory) Is Fails none err says = inl (says, Appends-nil old)
+fails_early Done old _ Is Fails none err says = inl (says, Appends-nil old)
 
 -- what is written of two trees is written of the sources with their drawings
 pub compares : {A : Type 0} (sources : Sources) (left right : Source) (diff : Diff) (t u : Tree) (old new : Option (List ℕ)) (r : Result A Failure) → HoldsDrawing (reading_value sources diff.drawing.pieces) left t → HoldsDrawing (reading_value sources diff.drawing.pieces) right u

@@ -1,5 +1,5 @@
 -- Which texts are drawings, and how a reading fails.
-use Rattle.std.specs.Prelude.{◌≡◌, ◌⊎◌, ℕ, false, ◌==◌, if◌then◌else◌, List, ◌++◌, length, None, MatchOption, codes, decimal, String, string_bytes, ⊤}
+use Rattle.std.specs.Prelude.{◌≡◌, ◌⊎◌, ℕ, false, ◌==◌, if◌then◌else◌, List, ◌++◌, length, None, Option, MatchOption, codes, decimal, String, string_bytes, ⊤}
 use Rattle.std.specs.declared.alloc.Global.{Global}
 use Rattle.std.specs.List.{concat, AllZip}
 use Rattle.ptree.specs.declared.print_config.OutputKind.TheVariants.{Unknown}
@@ -7,8 +7,10 @@ use Rattle.ptree.specs.Config.{ConfigValue}
 use Rattle.ptree.specs.Continuation.{IsFirstWrongLine, EndsWrong}
 use Rattle.ptree.specs.Drawing.{look_by, IsDrawing}
 use Rattle.ptree.specs.DrawnForm.{IsDrawnForm}
-use Rattle.ptree.specs.Outline.{Line, outline, subtrees}
+use Rattle.ptree.specs.Outline.{outline, subtrees}
 use Rattle.ptree.specs.Tree.{Tree, shape_of_tree}
+use Rattle.ptree_trees.specs.declared.difference.ItemDifference.{ItemDifference}
+use Rattle.ptree_trees.specs.Difference.{IsItemDifference}
 use Rattle.trees.specs.declared.failure.Failure.{Failure}
 use Rattle.trees.specs.declared.failure.Failure.TheVariants.{Usage, Input, Said, Output, Memory}
 use Rattle.trees.specs.declared.source.Source.{Source}
@@ -20,9 +22,14 @@ pub record HoldsDrawing (config : ConfigValue) (source : Source) (t : Tree) : Ty
   pub read : source.fault ≡ None
   pub form : IsDrawnForm (look_by config Unknown false) config.depth (string_bytes source.text) t
 
--- the source holds the drawing of a tree with these lines
-abbrev pub HoldsItems : ConfigValue → Source → List Line → Type 0
-HoldsItems config source lines = (t : Tree) × (outline t ≡ lines) × HoldsDrawing config source t
+-- the source holds the drawing of a tree of so many items
+abbrev pub HoldsCount : ConfigValue → Source → ℕ → Type 0
+HoldsCount config source n = (t : Tree) × (length (outline t) ≡ n) × HoldsDrawing config source t
+
+-- the sources hold the drawings of equal trees, or of trees with this first difference
+abbrev pub HoldDifference : ConfigValue → Source → Source → Option ItemDifference → Type 0
+HoldDifference config left right found =
+    (t : Tree) × (u : Tree) × HoldsDrawing config left t × HoldsDrawing config right u × MatchOption found (t ≡ u) (IsItemDifference t u)
 
 -- the source holds the drawing of no other tree than t
 abbrev pub HoldsNoOther : ConfigValue → Source → Tree → Type 0

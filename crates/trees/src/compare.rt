@@ -1,57 +1,46 @@
 //! Compares two trees.
-ghost use Rattle.std.specs.Prelude.{◌≡◌, ◌↔◌, ◌++◌, length, map, option_map, IfOk, IfSome, MatchOption, OnOk, None, string_bytes};
-ghost use Rattle.ptree.specs.Outline.{outline};
-ghost use Rattle.ptree.specs.ReadItems.{item_line};
+ghost use Rattle.std.specs.Prelude.{◌≡◌, ◌↔◌, ◌++◌, length, map, option_map, IfOk, MatchOption, OnOk, string_bytes};
+ghost use Rattle.ptree.specs.ReadItems.{read_text_of};
 ghost use Rattle.ptree.specs.Style.{style_of};
 ghost use Rattle.ptree.specs.Tree.{Tree, tree_of};
+ghost use Rattle.ptree_trees.specs.Difference.{IsItemDifference};
 ghost use Rattle.trees.specs.Merging.{TellsDifference, way_text, place_line, side_line, ShowsMerge, ShowsBoth, styled_forest, styled_tree_of, side_mark, side_style, marked_tree, roots_text};
 ghost use Rattle.trees.specs.MergingParts.{ArePlaces, AreAllOrNone, HasPlaces, IsFoundAt, LacksText};
 
 use crate::screen::shown_text;
 use ptree::item::StringItem;
-use ptree::read::ReadItem;
+use ptree::read::ReadText;
 use ptree::style::{Color, Style};
-use ptree_trees::difference::first_item_difference;
+use ptree_trees::difference::ItemDifference;
 use ptree_trees::escape::escaped;
 use ptree_trees::styled::StyledItem;
 use std::alloc::{AllocError, Global};
 
-/// Returns what is said of the first difference of the trees of two drawings, or `None` if they are
-/// equal: the texts above it, which child it is, and what stands there in each. The texts are
-/// escaped, each on one line.
+/// Returns what is said of the first difference of two trees: the texts above it, which child it
+/// is, and what stands there in each. The texts are escaped, each on one line.
 ///
 /// # Errors
 ///
 /// Memory ran out.
-pub fn first(
-    alloc: Global,
-    left: &[ReadItem<'_>],
-    right: &[ReadItem<'_>],
-) -> Result<Option<String>, AllocError>
-    ensures equal { (t u : Tree) → outline t ≡ map item_line left.now
-        → outline u ≡ map item_line right.now → IfOk result (λ o. o ≡ None → t ≡ u) }
-    ensures tells { (t u : Tree) → outline t ≡ map item_line left.now
-        → outline u ≡ map item_line right.now
-        → IfOk result (λ o. IfSome o (λ s. TellsDifference t u (string_bytes s))) }
+pub fn first(alloc: Global, found: &ItemDifference<'_>) -> Result<String, AllocError>
+    ensures { (t u : Tree) → IsItemDifference t u found.now
+        → IfOk result (λ s. TellsDifference t u (string_bytes s)) }
 {
-    let Some(found) = first_item_difference(alloc, left, right)? else {
-        return Ok(None);
-    };
     let mut said = String::new(alloc);
     push_way(alloc, &mut said, &found.above)?;
     push_place(&mut said, &found.address)?;
-    push_side(alloc, &mut said, Side::Left, found.left)?;
-    push_side(alloc, &mut said, Side::Right, found.right)?;
-    Ok(Some(said))
+    push_side(alloc, &mut said, Side::Left, &found.left)?;
+    push_side(alloc, &mut said, Side::Right, &found.right)?;
+    Ok(said)
 }
 
 // Adds the texts above a difference, from the root on.
-fn push_way(alloc: Global, said: &mut String, above: &[&str]) -> Result<(), AllocError>
+fn push_way(alloc: Global, said: &mut String, above: &[ReadText<'_>]) -> Result<(), AllocError>
     ensures { OnOk result (string_bytes said.new
-        ≡ string_bytes said.old ++ way_text (map (λ s. s.now) above.now)) }
+        ≡ string_bytes said.old ++ way_text (map read_text_of above.now)) }
 {
     for text in above {
-        let text = escaped(alloc, text)?;
+        let text = escaped(alloc, text.as_str())?;
         write!(said, "{text} / ")?;
     }
     Ok(())
@@ -76,16 +65,16 @@ fn push_side(
     alloc: Global,
     said: &mut String,
     side: Side,
-    text: Option<&str>,
+    text: &Option<ReadText<'_>>,
 ) -> Result<(), AllocError>
     ensures { OnOk result (string_bytes said.new ≡ string_bytes said.old
-        ++ side_line side (option_map (λ s. s.now) text.entry)) }
+        ++ side_line side (option_map read_text_of text.now)) }
 {
     let mark = side.mark();
     let Some(text) = text else {
         return writeln!(said, "{mark}(nothing)");
     };
-    let text = escaped(alloc, text)?;
+    let text = escaped(alloc, text.as_str())?;
     writeln!(said, "{mark}{text}")
 }
 

@@ -1,15 +1,16 @@
 //! Reads drawings, and says where a text is none.
-ghost use Rattle.std.specs.Prelude.{◌≡◌, ℕ, ◌≤◌, ◌-◌, ◌∷◌, ◌++◌, map, None, IfOk, IfErr, OnOk, string_bytes};
+ghost use Rattle.std.specs.Prelude.{◌≡◌, ◌≤◌, ◌-◌, [], ◌∷◌, ◌++◌, ◌⊎◌, None, IfOk, IfErr, OnOk, string_bytes};
 ghost use Rattle.ptree.specs.Config.{config_of};
-ghost use Rattle.ptree.specs.Continuation.{EndsWrong, IsFirstWrongLine, first_lines, line_count};
+ghost use Rattle.ptree.specs.Continuation.{first_lines, line_count};
 ghost use Rattle.ptree.specs.Drawing.{written_look};
-ghost use Rattle.ptree.specs.ReadItems.{item_line};
+ghost use Rattle.ptree.specs.ItemReader.{IsCountOfRest};
 ghost use Rattle.ptree.specs.Readable.{HasReadablePieces};
+ghost use Rattle.ptree.specs.Scanned.{IsError};
 ghost use Rattle.ptree.specs.Texts.{line_feed, HasNoLineFeed};
 ghost use Rattle.ptree.specs.Tree.{tree_of};
 ghost use Rattle.trees.specs.Expected.{IsWholeLine, IsLineAt, IsHint, TellsLine, IsWhyEnd, TellsEnd};
 ghost use Rattle.trees.specs.Named.{AddsOther};
-ghost use Rattle.trees.specs.Reading.{HoldsDrawing, HoldsItems, HoldsNoOther, IsRedrawn, FailsToRead, NamesPlace};
+ghost use Rattle.trees.specs.Reading.{HoldDifference, HoldsCount, HoldsDrawing, HoldsNoOther, IsRedrawn, FailsToRead, NamesPlace};
 
 use crate::expected::{beginnings, is_too_deep};
 use crate::failure::Failure;
@@ -19,7 +20,8 @@ use crate::source::Source;
 use crate::usage::Usage;
 use ptree::item::StringItem;
 use ptree::print_config::PrintConfig;
-use ptree::read::{ReadError, ReadItem, pieces_readable, read_items, read_tree_or_line};
+use ptree::read::{ItemReader, ReadError, pieces_readable, read_tree_or_line};
+use ptree_trees::difference::{DrawingsError, ItemDifference, first_drawn_difference};
 use ptree_trees::escape::escaped;
 use std::alloc::{AllocError, Global};
 
@@ -48,25 +50,59 @@ pub fn read(alloc: Global, source: &Source, config: &PrintConfig) -> Result<Stri
     }
 }
 
-/// Returns the items of that tree, in the order of the drawing.
+/// Returns how many items that tree has, without making it.
 ///
 /// # Errors
 ///
 /// Those of [`read`].
-pub fn items<'a>(
-    alloc: Global,
-    source: &'a Source,
-    config: &PrintConfig,
-) -> Result<Vec<ReadItem<'a>>, Failure>
-    ensures some { IfOk result (λ v.
-        HoldsItems (config_of config.now) source.now (map item_line v.items)) }
+pub fn count(alloc: Global, source: &Source, config: &PrintConfig) -> Result<usize, Failure>
+    ensures some { IfOk result (HoldsCount (config_of config.now) source.now) }
     ensures failed { IfErr result (FailsToRead (config_of config.now) source.now) }
     ensures place { IfErr result (NamesPlace (config_of config.now) source.now) }
 {
     expect_readable(alloc, source, config)?;
-    match read_items(alloc, source.text.as_str(), config) {
-        Ok(items) => Ok(items),
+    match count_items(alloc, source.text.as_str(), config) {
+        Ok(count) => Ok(count),
         Err(error) => Err(why_none(alloc, source, error, config)?),
+    }
+}
+
+// Returns the number of the items of a drawing.
+fn count_items(alloc: Global, text: &str, config: &PrintConfig) -> Result<usize, ReadError>
+    requires { HasReadablePieces config.now }
+    ensures { IsCountOfRest (written_look config.now) config.now.depth text.now [] result }
+{
+    let mut reader = ItemReader::new(alloc, text, config)?;
+    let count = reader.count_rest();
+    drop(reader);
+    count
+}
+
+/// Returns the first difference of the trees that two texts are the drawings of, or `None` if they
+/// are equal.
+///
+/// # Errors
+///
+/// Those of [`read`], of the left text first.
+pub fn difference<'a>(
+    alloc: Global,
+    left: &'a Source,
+    right: &'a Source,
+    config: &PrintConfig,
+) -> Result<Option<ItemDifference<'a>>, Failure>
+    ensures some { IfOk result (HoldDifference (config_of config.now) left.now right.now) }
+    ensures failed { IfErr result (λ e. FailsToRead (config_of config.now) left.now e
+        ⊎ FailsToRead (config_of config.now) right.now e) }
+{
+    expect_readable(alloc, left, config)?;
+    if right.fault.is_some() {
+        count(alloc, left, config)?;
+    }
+    expect_readable(alloc, right, config)?;
+    match first_drawn_difference(alloc, left.text.as_str(), right.text.as_str(), config) {
+        Ok(first) => Ok(first),
+        Err(DrawingsError::Left(error)) => Err(why_none(alloc, left, error, config)?),
+        Err(DrawingsError::Right(error)) => Err(why_none(alloc, right, error, config)?),
     }
 }
 
@@ -95,10 +131,8 @@ fn why_none(
 ) -> Result<Failure, AllocError>
     requires read { source.now.fault ≡ None }
     requires readable { HasReadablePieces config.now }
-    requires line { (n : ℕ) → error ≡ ReadError.Line n → IsFirstWrongLine
-        (written_look config.now) config.now.depth (string_bytes source.now.text) n }
-    requires end { error ≡ ReadError.End
-        → EndsWrong (written_look config.now) config.now.depth (string_bytes source.now.text) }
+    requires error { IsError
+        (written_look config.now) config.now.depth (string_bytes source.now.text) error }
     ensures failed { IfOk result (FailsToRead (config_of config.now) source.now) }
     ensures place { IfOk result (NamesPlace (config_of config.now) source.now) }
 {

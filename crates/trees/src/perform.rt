@@ -1,10 +1,9 @@
 //! Does what a command asks for.
-ghost use Rattle.std.specs.Prelude.{◌≡◌, ◌≢◌, ◌<◌, ◌↔◌, ◌++◌, ℕ, true, false, List, None, map, length, All, IsTrue, IfOk, IfErr, IsErr, OnOk, option_map, string_bytes};
+ghost use Rattle.std.specs.Prelude.{◌≡◌, ◌≢◌, ◌<◌, ◌↔◌, ◌++◌, ◌⊎◌, ℕ, true, false, List, None, map, length, All, IsTrue, IfOk, IfErr, IsErr, OnOk, option_map, string_bytes};
 ghost use Rattle.ptree.specs.declared.print_config.OutputKind.TheVariants.{Unknown};
 ghost use Rattle.ptree.specs.Config.{config_of};
 ghost use Rattle.ptree.specs.Drawing.{look_by};
 ghost use Rattle.ptree.specs.Loading.{first_fault};
-ghost use Rattle.ptree.specs.ReadItems.{item_line};
 ghost use Rattle.ptree.specs.Tree.{tree_of};
 ghost use Rattle.ptree.specs.Writing.{AppendsPart, IsWritten};
 ghost use Rattle.ptree_trees.specs.Change.{kept_tree};
@@ -13,7 +12,7 @@ ghost use Rattle.trees.specs.Asked.{drawing_value, reading_value, with_drawing};
 ghost use Rattle.trees.specs.Changing.{IsPart, IsKept, IsConverted, FailsToConvert};
 ghost use Rattle.trees.specs.Listing.{IsListed, FailsToList};
 ghost use Rattle.trees.specs.Merging.{IsComparison, IsMergeDrawing};
-ghost use Rattle.trees.specs.Reading.{HoldsDrawing, HoldsItems, HoldsNoOther, HoldsSome, IsRedrawn, FailsFor, FailsToRead, FailsToMake, NamesPlace, IsReport, Adds, item_word, count_line};
+ghost use Rattle.trees.specs.Reading.{HoldDifference, HoldsCount, HoldsDrawing, HoldsNoOther, HoldsSome, IsRedrawn, FailsFor, FailsToRead, FailsToMake, NamesPlace, IsReport, Adds, item_word, count_line};
 ghost use Rattle.trees.specs.Shown.{IsNone, ShowsOnly};
 ghost use Rattle.trees.specs.Telling.{TellsWhether, TellsOnlyIf, TellsOfTexts, TellsOfCommand};
 ghost use Rattle.trees.specs.Writing.{WritesSaid, AreReports, FailsToCheck, AreSettings, Writes, IsTreeDrawing, IsGraphDrawing, IsGraphTooDeep, WritesDrawn, IsIndentation, FailsToIndent, IsGiven, FailsToGive, Draws, DrawsNeeds, Converts, ConvertsBack, WritesOfCommand, ShowsOfCommand, ShowsDrawing, ShowsMerged, LeavesIfWrong, WritesRefusal, Compares};
@@ -31,10 +30,10 @@ use ptree::graph::{REPEATED_MARK, write_graph_once_with, write_graph_with};
 use ptree::item::StringItem;
 use ptree::output::write_tree_with;
 use ptree::print_config::{PrintConfig, StyleWhen};
-use ptree::read::ReadItem;
 use ptree::style::{DrawError, Sink, put_all};
 use ptree_sources::surroundings::Surroundings;
 use ptree_trees::change::{kept, sorted};
+use ptree_trees::difference::ItemDifference;
 use ptree_trees::escape::escaped_item;
 use std::alloc::{AllocError, Global};
 
@@ -394,24 +393,44 @@ fn read_drawing(
     tree
 }
 
-// Returns the items of that tree.
-fn read_items<'a>(
+// Returns how many items that tree has.
+fn count_items(
     alloc: Global,
-    source: &'a Source,
+    source: &Source,
     pieces: Option<Pieces>,
     found: &Surroundings,
-) -> Result<Vec<ReadItem<'a>>, Failure>
-    ensures some { IfOk result (λ v. HoldsItems (reading_value found.now.sources pieces) source.now
-        (map item_line v.items)) }
+) -> Result<usize, Failure>
+    ensures some { IfOk result
+        (HoldsCount (reading_value found.now.sources pieces) source.now) }
     ensures failed { IfErr result
         (FailsToRead (reading_value found.now.sources pieces) source.now) }
     ensures place { IfErr result
         (NamesPlace (reading_value found.now.sources pieces) source.now) }
 {
     let config = reading_config(alloc, pieces, found)?;
-    let items = drawings::items(alloc, source, &config);
+    let count = drawings::count(alloc, source, &config);
     drop(config);
-    items
+    count
+}
+
+// Returns the first difference of the trees of two drawings, if they differ.
+fn find_difference<'a>(
+    alloc: Global,
+    left: &'a Source,
+    right: &'a Source,
+    pieces: Option<Pieces>,
+    found: &Surroundings,
+) -> Result<Option<ItemDifference<'a>>, Failure>
+    ensures some { IfOk result
+        (HoldDifference (reading_value found.now.sources pieces) left.now right.now) }
+    ensures failed { IfErr result (λ e.
+        FailsToRead (reading_value found.now.sources pieces) left.now e
+        ⊎ FailsToRead (reading_value found.now.sources pieces) right.now e) }
+{
+    let config = reading_config(alloc, pieces, found)?;
+    let first = drawings::difference(alloc, left, right, &config);
+    drop(config);
+    first
 }
 
 // Writes a drawing as indented text.
@@ -510,9 +529,9 @@ fn push_check(
         × IsReport (reading_value found.now.sources pieces) source.now more) }
     ensures failed { IfErr result (FailsToCheck found.now.sources pieces) }
 {
-    match read_items(alloc, source, pieces, found) {
-        Ok(items) => {
-            push_count(said, source, items.len())?;
+    match count_items(alloc, source, pieces, found) {
+        Ok(count) => {
+            push_count(said, source, count)?;
             Ok(true)
         }
         Err(Failure::Input(wrong)) => {
@@ -597,7 +616,7 @@ fn compare_drawings<W: Sink>(
         (W.contents out.old) (W.contents out.new) }
 {
     if left.text == right.text {
-        read_items(alloc, left, diff.drawing.pieces, found)?;
+        count_items(alloc, left, diff.drawing.pieces, found)?;
         return Ok(());
     }
     if diff.shows_all {
@@ -650,12 +669,11 @@ fn show_first<W: Sink>(
         (W.contents out.old) (W.contents out.new) result }
     ensures quiet { LeavesIfWrong out.old out.new result }
 {
-    let items = read_items(alloc, left, diff.drawing.pieces, found)?;
-    let others = read_items(alloc, right, diff.drawing.pieces, found)?;
-    match compare::first(alloc, &items, &others)? {
-        Some(said) => say(out, said.as_str(), true),
-        None => Ok(()),
-    }
+    let Some(first) = find_difference(alloc, left, right, diff.drawing.pieces, found)? else {
+        return Ok(());
+    };
+    let said = compare::first(alloc, &first)?;
+    say(out, said.as_str(), true)
 }
 
 // Writes the drawing of two trees in one.

@@ -6,10 +6,10 @@ use crate::sizes::{LEVELS, made, text};
 use ptree::item::StringItem;
 use ptree::output::tree_bytes;
 use ptree::print_config::PrintConfig;
-use ptree::read::{ReadItem, pieces_readable, read_items};
+use ptree::read::pieces_readable;
 use ptree::style::Style;
 use ptree_trees::change::{kept, sorted};
-use ptree_trees::difference::{first_difference, first_item_difference};
+use ptree_trees::difference::{first_difference, first_drawn_difference};
 use ptree_trees::escape::{escaped, escaped_item};
 use ptree_trees::indented::{Form, indented_text, read_indented, write_indented};
 use ptree_trees::paths::{paths_tree, sorted_paths_tree};
@@ -93,20 +93,6 @@ fn try_compared(alloc: Global, tree: &StringItem, levels: usize) -> Result<(), D
     }
 }
 
-// The items of a drawing.
-fn drawn<'a>(alloc: Global, drawing: &'a str) -> Result<Vec<ReadItem<'a>>, Deviation> {
-    let config = PrintConfig::default(alloc)?;
-    if made(
-        pieces_readable(alloc, &config),
-        "`pieces_readable` succeeds",
-    )?
-        && let Ok(items) = read_items(alloc, drawing, &config)
-    {
-        return Ok(items);
-    }
-    Err(Deviation::of("`read_items` reads a drawing"))
-}
-
 // The call that compares two drawings, the second of which has a leaf more.
 fn try_drawings(alloc: Global, size: usize) -> Result<(), Deviation> {
     let config = PrintConfig::default(alloc)?;
@@ -115,12 +101,16 @@ fn try_drawings(alloc: Global, size: usize) -> Result<(), Deviation> {
     other.text = String::from_str(alloc, tree.text.as_str())?;
     let left = tree.drawing(alloc, &config)?;
     let right = other.drawing(alloc, &config)?;
-    let items = drawn(alloc, left.as_str())?;
-    let others = drawn(alloc, right.as_str())?;
-    let found = made(
-        first_item_difference(alloc, &items, &others),
-        "`first_item_difference` succeeds",
-    )?;
+    if !made(
+        pieces_readable(alloc, &config),
+        "`pieces_readable` succeeds",
+    )? {
+        return Err(Deviation::of("the default pieces are readable"));
+    }
+    let (left, right) = (left.as_str(), right.as_str());
+    let Ok(found) = first_drawn_difference(alloc, left, right, &config) else {
+        return Err(Deviation::of("`first_drawn_difference` succeeds"));
+    };
     match found {
         Some(found) => expect(
             found.address.as_slice() == [size].as_slice() && found.left.is_none(),

@@ -1,7 +1,11 @@
 -- Reading a text line by line.
 use Rattle.std.proofs.Common.{◌≡◌, ◌≢◌, ℕ, ◌+◌, ◌-◌, ◌<◌, ◌≤◌, ◌⊎◌, inl, inr, List, [], ◌∷◌, ◌++◌, length, length-append, refl, sym, ap, ◌∙◌, subst, append_assoc, add-one, arith}
+use Rattle.std.specs.Prelude.{Result, Ok, Err, IfOk, IsOkUnless}
 use Rattle.std.proofs.lemmas.List.{append-nil}
 use Rattle.std.proofs.lemmas.List.Elements.{All-nil, All-append}
+use Rattle.ptree.specs.declared.item.StringItem.{StringItem}
+use Rattle.ptree.specs.declared.read.ReadError.{ReadError}
+use Rattle.ptree.specs.declared.read.ReadError.TheVariants.{Line as WrongLine, End, Memory}
 use Rattle.ptree.specs.declared.read.lines.Flags.{Flags}
 use Rattle.ptree.specs.Continuation.{HasContinuation, IsFirstWrongLine, EndsWrong, first_lines, line_count}
 use Rattle.ptree.specs.Drawing.{Look, with_inserted, continued_prefix}
@@ -11,9 +15,10 @@ use Rattle.ptree.specs.OpenDrawing.{NoneNext}
 use Rattle.ptree.specs.Outline.{Line, line, outline}
 use Rattle.ptree.specs.Reached.{Allows, IsOutlineWithin, lines_text, own_prefix, Reached, ArePath, IsFurtherLine, IsOwnLine, NoLine}
 use Rattle.ptree.specs.Readable.{IsReadableWith}
+use Rattle.ptree.specs.Scanned.{IsError, IsReading, IsScanned, IsStop}
 use Rattle.ptree.specs.Style.{start_codes, end_codes, painted_text}
 use Rattle.ptree.specs.Texts.{HasNoLineFeed}
-use Rattle.ptree.specs.Tree.{Tree}
+use Rattle.ptree.specs.Tree.{Tree, tree_of}
 use Rattle.ptree.proofs.Reading.AfterLines.{one_feed, further_line, own_line, after_further, after_own, next_wrong, next_open}
 use Rattle.ptree.proofs.Reading.Continuations.{goes_on_nothing}
 use Rattle.ptree.proofs.Reading.LineEnds.{first_feed_after_prefix, no_feed_painted}
@@ -21,15 +26,9 @@ use Rattle.ptree.proofs.Reading.FirstLines.{first_rest, first_next, first_more, 
 use Rattle.ptree.proofs.Reading.NextLines.{line_split, form_outline, tree_of_outline}
 use Rattle.ptree.proofs.Reading.ReachedLines.{root_reached}
 use Rattle.ptree.proofs.Reading.ReachedEnds.{reached_goes_on, reached_end, reached_none, reached_short, feedless_ends_no_line}
+use Rattle.ptree.proofs.Reading.SpelledForms.{same_drawn_form}
 use Rattle.ptree.proofs.Styles.PaintedTexts.{no_line_feed_start, no_line_feed_end}
 use Rattle.ptree.proofs.Trees.Outlines.{same_tree}
-
--- the first n lines of x were read, and rest is left
-pub record ScanSo (k : Look) (depth : ℕ) (x rest : List ℕ) (n : ℕ) (done : List Line) (level : ℕ) (own : List ℕ) (fs : List Flags) : Type 0 where
-  pub text_is : x ≡ first_lines n x ++ rest
-  pub count : line_count x ≡ n + line_count rest
-  pub room : n + length rest ≤ length x
-  pub reached : Reached k depth (first_lines n x) done level own fs
 
 -- what is before the root's text holds no line feed
 pub feedless_root : (k : Look) → HasNoLineFeed (own_prefix k [])
@@ -37,7 +36,7 @@ feedless_root k = All-append (λ c. c ≢ 10) (painted_text k.branch []) (start_
 
 -- one line more was read
 scan_next : (k : Look) (depth : ℕ) (x rest new more : List ℕ) (n : ℕ) (done : List Line) (level : ℕ) (own : List ℕ) (fs : List Flags) → x ≡ first_lines n x ++ rest → line_count x ≡ n + line_count rest → n + length rest ≤ length x
-    → HasNoLineFeed new → rest ≡ new ++ 10 ∷ more → Reached k depth (first_lines n x ++ new ++ 10 ∷ []) done level own fs → ScanSo k depth x more (n + 1) done level own fs
+    → HasNoLineFeed new → rest ≡ new ++ 10 ∷ more → Reached k depth (first_lines n x ++ new ++ 10 ∷ []) done level own fs → IsScanned k depth x more (n + 1) done level own fs
 scan_next k depth x rest new more n done level own fs is count room one e h =
     let counted = ap line_count e ∙ count_line new more one in
     let size = ap length e ∙ length-append new (10 ∷ more) in
@@ -49,31 +48,31 @@ scan_next k depth x rest new more n done level own fs is count room one e h =
     }
 
 -- the root's first line was read
-pub scan_start : (k : Look) (depth : ℕ) (x own more : List ℕ) → HasNoLineFeed own → x ≡ own_prefix k [] ++ (own ++ 10 ∷ more) → ScanSo k depth x more 1 [] 0 own []
+pub scan_start : (k : Look) (depth : ℕ) (x own more : List ℕ) → HasNoLineFeed own → x ≡ own_prefix k [] ++ (own ++ 10 ∷ more) → IsScanned k depth x more 1 [] 0 own []
 scan_start k depth x own more one e =
     scan_next k depth x x (own_prefix k [] ++ own) more 0 [] 0 own [] refl (let z : line_count x ≡ 0 + line_count x = omega arith in z) (omega arith)
     (All-append (λ c. c ≢ 10) (own_prefix k []) own (feedless_root k) one) (e ∙ one_feed (own_prefix k []) own more) (root_reached k depth own one)
 
 -- what follows from the lines that were read
-module _ {k : Look} {depth : ℕ} {x rest own : List ℕ} {n : ℕ} {done : List Line} {level : ℕ} {fs : List Flags} (h : ScanSo k depth x rest n done level own fs) where
+module _ {k : Look} {depth : ℕ} {x rest own : List ℕ} {n : ℕ} {done : List Line} {level : ℕ} {fs : List Flags} (h : IsScanned k depth x rest n done level own fs) where
   -- a further line was read
   pub scan_further : {new more shown : List ℕ} {m : ℕ} {fs' : List Flags} → IsReadableWith k.pieces k.marker → IsFurtherLine k fs rest new more fs' → ArePath k.pieces fs' m shown
-      → ScanSo k depth x more (n + 1) done level (own ++ 10 ∷ new) fs'
+      → IsScanned k depth x more (n + 1) done level (own ++ 10 ∷ new) fs'
   scan_further {new} {more} {shown} {m} {fs'} readable f path =
       let (one, is) = further_line k readable fs fs' rest new more f in
       scan_next k depth x rest (continued_prefix k f.passing ++ new) more n done level (own ++ 10 ∷ new) fs' h.text_is h.count h.room one is (after_further h.reached readable f path)
 
   -- an item's own line was read
   pub scan_own : {new more shown : List ℕ} {m : ℕ} {fs' : List Flags} (text : List ℕ) → IsReadableWith k.pieces k.marker → IsOwnLine k depth fs rest new more fs' → ArePath k.pieces fs' m shown
-      → own ≡ text ++ end_codes k.leaf → ScanSo k depth x more (n + 1) (done ++ line level text ∷ []) (length fs') new fs'
+      → own ≡ text ++ end_codes k.leaf → IsScanned k depth x more (n + 1) (done ++ line level text ∷ []) (length fs') new fs'
   scan_own {new} {more} {shown} {m} {fs'} text readable f path closed =
       let (one, is) = own_line k readable depth fs fs' rest new more f in
       scan_next k depth x rest (own_prefix k f.pieces ++ new) more n (done ++ line level text ∷ []) (length fs') new fs' h.text_is h.count h.room one is (after_own h.reached text readable f path closed)
 
   -- what was read, under equal names
-  pub scan_moved : {done' : List Line} {level' : ℕ} {own' : List ℕ} → done' ≡ done → level' ≡ level → own' ≡ own → ScanSo k depth x rest n done' level' own' fs
+  pub scan_moved : {done' : List Line} {level' : ℕ} {own' : List ℕ} → done' ≡ done → level' ≡ level → own' ≡ own → IsScanned k depth x rest n done' level' own' fs
   scan_moved {done'} {level'} {own'} d l o =
-      subst (λ z. ScanSo k depth x rest n z level' own' fs) (sym d) (subst (λ z. ScanSo k depth x rest n done z own' fs) (sym l) (subst (λ z. ScanSo k depth x rest n done level z fs) (sym o) h))
+      subst (λ z. IsScanned k depth x rest n z level' own' fs) (sym d) (subst (λ z. IsScanned k depth x rest n done z own' fs) (sym l) (subst (λ z. IsScanned k depth x rest n done level z fs) (sym o) h))
 
 -- ## Wrong lines
 
@@ -81,7 +80,7 @@ module _ {k : Look} {depth : ℕ} {x rest own : List ℕ} {n : ℕ} {done : List
 abbrev pub NoneWith : Look → ℕ → List ℕ → List ℕ → ℕ → Type 0
 NoneWith k depth x rest n = NoneNext k depth (first_lines n x) rest
 
-module _ {k : Look} {depth : ℕ} {x rest own : List ℕ} {n : ℕ} {done : List Line} {level : ℕ} {fs : List Flags} (h : ScanSo k depth x rest n done level own fs) where
+module _ {k : Look} {depth : ℕ} {x rest own : List ℕ} {n : ℕ} {done : List Line} {level : ℕ} {fs : List Flags} (h : IsScanned k depth x rest n done level own fs) where
   -- a line that is neither an own line nor a further one cannot continue the drawing
   pub scan_wrong : IsReadableWith k.pieces k.marker → NoLine k depth fs rest → NoneWith k depth x rest n
   scan_wrong readable wrong = next_wrong h.reached readable wrong
@@ -150,7 +149,7 @@ stop_end k depth x rest n count before short one =
     record { lines = subst (λ m. HasContinuation k depth (first_lines m x)) all before; wrong = short one }
 
 -- if nothing is left
-module _ {k : Look} {depth : ℕ} {x rest own : List ℕ} {n : ℕ} {done : List Line} {level : ℕ} {fs : List Flags} (h : ScanSo k depth x rest n done level own fs) (e : rest ≡ []) where
+module _ {k : Look} {depth : ℕ} {x rest own : List ℕ} {n : ℕ} {done : List Line} {level : ℕ} {fs : List Flags} (h : IsScanned k depth x rest n done level own fs) (e : rest ≡ []) where
   -- the text is its first lines
   whole_text : x ≡ first_lines n x
   whole_text = h.text_is ∙ (ap (λ z. first_lines n x ++ z) e ∙ append-nil (first_lines n x))
@@ -188,3 +187,39 @@ feedless_start k x text closed start e f g h =
 -- the rest after a line is shorter
 pub rest_is_shorter : (a b more rest : List ℕ) → rest ≡ a ++ (b ++ 10 ∷ more) → length more < length rest
 rest_is_shorter a b more rest e = let size = ap length e in omega (arith, simp length-append at size)
+
+-- ## Errors
+
+-- what is said if no drawing continues the first lines with the rest is the error of the text
+pub stop_error : (k : Look) (depth : ℕ) (x rest : List ℕ) (n : ℕ) (e : ReadError) → IsStop rest n e → x ≡ first_lines n x ++ rest → line_count x ≡ n + line_count rest → HasContinuation k depth (first_lines n x) → NoneWith k depth x rest n
+    → (HasNoLineFeed rest → (t : Tree) → IsDrawnForm k depth x t → ⊥) → IsError k depth x e
+stop_error k depth x rest n (WrongLine m) s is count before none short =
+    let (own, more, one, e) = s.1 in
+    subst (IsFirstWrongLine k depth x) (sym s.0) (stop_line k depth x rest own more n is count before none one e)
+stop_error k depth x rest n End s is count before none short = stop_end k depth x rest n count before short s
+stop_error k depth x rest n Memory s is count before none short = absurd s
+
+-- the same behind lines that were read
+pub scan_stop : {k : Look} {depth : ℕ} {x rest own : List ℕ} {n : ℕ} {done : List Line} {level : ℕ} {fs : List Flags} → IsScanned k depth x rest n done level own fs → (e : ReadError) → IsStop rest n e → (rest ≡ [] → ⊥) → NoneWith k depth x rest n → IsError k depth x e
+scan_stop {k} {depth} {x} {rest} {own} {n} h e s some none = stop_error k depth x rest n e s h.text_is h.count (scan_before h) none (scan_short h some)
+
+-- a text with an error is no drawing, unless memory ran out
+pub error_no_drawing : (k : Look) (depth : ℕ) (x : List ℕ) (e : ReadError) → IsError k depth x e → (t : Tree) → IsDrawnForm k depth x t → e ≡ Memory
+error_no_drawing k depth x (WrongLine n) h t form = absurd (wrong_line_no_drawing k depth x n h t form)
+error_no_drawing k depth x End h t form = absurd (h.wrong t form)
+error_no_drawing k depth x Memory h t form = refl
+
+-- what is read of a drawing has the lines of its tree
+pub reading_drawn : {T : Type 0} (lines_of : T → List Line) (k : Look) (depth : ℕ) (x : List ℕ) (r : Result T ReadError) → IsReadableWith k.pieces k.marker → IsReading lines_of k depth x r
+    → (t : Tree) → IsDrawnForm k depth x t → IsOkUnless r Memory × IfOk r (λ w. outline t ≡ lines_of w)
+reading_drawn lines_of k depth x (Ok w) readable (u, is, form) t d = (tt, ap outline (same_drawn_form k depth readable x t u d form) ∙ is)
+reading_drawn lines_of k depth x (Err e) readable h t d = (error_no_drawing k depth x e h t d, tt)
+
+-- a tree that was read has the text as its drawing
+pub reading_form : (k : Look) (depth : ℕ) (x : List ℕ) (r : Result StringItem ReadError) → IsReading (λ s. outline (tree_of s)) k depth x r → IfOk r (λ s. IsDrawnForm k depth x (tree_of s))
+reading_form k depth x (Ok s) h = form_of_lines k depth x (tree_of s) h
+reading_form k depth x (Err e) h = tt
+
+-- what was read, by equal names
+pub reading_moved : {T : Type 0} (lines_of : T → List Line) (k l : Look) (depth d : ℕ) (x : List ℕ) (r : Result T ReadError) → k ≡ l → depth ≡ d → IsReading lines_of k depth x r → IsReading lines_of l d x r
+reading_moved lines_of k l depth d x r look same h = subst (λ z. IsReading lines_of z d x r) look (subst (λ z. IsReading lines_of k z x r) same h)

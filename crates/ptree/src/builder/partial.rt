@@ -31,6 +31,8 @@ impl PartialTree {
     pub(crate) fn new(alloc: Global) -> PartialTree
         ensures parents { result.parents.items ≡ [] }
         ensures closed { result.closed.items ≡ [] }
+        ensures partial { IsPartial result }
+        ensures lines { partial_lines result ≡ [] }
     {
         PartialTree {
             alloc,

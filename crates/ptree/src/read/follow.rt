@@ -51,11 +51,11 @@ impl<'a> OpenDrawing<'a> {
     // the line, or if it has no line feed.
     #[inline(always)]
     fn go_on(&mut self, text: &'a str, frame: &Frame<'_>) -> Result<Option<&'a str>, AllocError>
-        requires readable { let look = look_of frame.now.look.now in
+        requires readable { let look = look_of frame.now.look in
             IsReadableWith look.pieces look.marker }
         requires after { (before : List ℕ)
-            × IsAfter (look_of frame.now.look.now) frame.now.depth before self.old }
-        ensures { IfOk result (λ o. let look = look_of frame.now.look.now in MatchOption o
+            × IsAfter (look_of frame.now.look) frame.now.depth before self.old }
+        ensures { IfOk result (λ o. let look = look_of frame.now.look in MatchOption o
             (GoesOnNowhere look frame.now.depth text.now self.old)
             (λ rest. IsNext look frame.now.depth text.now rest.now self.old self.new)) }
     {
@@ -86,14 +86,14 @@ impl<'a> OpenDrawing<'a> {
     // Reads more lines, and says whether some drawing continues with them.
     #[inline(never)]
     fn read(&mut self, lines: &'a str, frame: &Frame<'_>) -> Result<bool, AllocError>
-        requires readable { let look = look_of frame.now.look.now in
+        requires readable { let look = look_of frame.now.look in
             IsReadableWith look.pieces look.marker }
         requires lines { AreLines lines.now }
         requires after { (before : List ℕ)
-            × IsAfter (look_of frame.now.look.now) frame.now.depth before self.old }
+            × IsAfter (look_of frame.now.look) frame.now.depth before self.old }
         ensures { IfOk result (λ goes. (before : List ℕ)
-            → IsAfter (look_of frame.now.look.now) frame.now.depth before self.old
-            → WasRead (look_of frame.now.look.now) frame.now.depth (before ++ lines.now) goes
+            → IsAfter (look_of frame.now.look) frame.now.depth before self.old
+            → WasRead (look_of frame.now.look) frame.now.depth (before ++ lines.now) goes
             self.new) }
     {
         let mut rest = lines;
@@ -108,13 +108,13 @@ impl<'a> OpenDrawing<'a> {
 
     // Whether some drawing continues with these two texts and a line feed.
     fn goes_on_with(&self, part: &str, line: &str, frame: &Frame<'_>) -> Result<bool, AllocError>
-        requires readable { let look = look_of frame.now.look.now in
+        requires readable { let look = look_of frame.now.look in
             IsReadableWith look.pieces look.marker }
         requires after { (before : List ℕ)
-            × IsAfter (look_of frame.now.look.now) frame.now.depth before self.now }
+            × IsAfter (look_of frame.now.look) frame.now.depth before self.now }
         ensures { IfOk result (λ goes. (before : List ℕ)
-            → IsAfter (look_of frame.now.look.now) frame.now.depth before self.now
-            → (IsTrue goes ↔ IsFollowedBy (look_of frame.now.look.now) frame.now.depth
+            → IsAfter (look_of frame.now.look) frame.now.depth before self.now
+            → (IsTrue goes ↔ IsFollowedBy (look_of frame.now.look) frame.now.depth
             (before ++ part.now) line.now)) }
     {
         let text = format!(in frame.alloc; "{part}{line}\n")?;
@@ -126,7 +126,7 @@ impl<'a> OpenDrawing<'a> {
 // Whether a line ends with the codes after a text.
 #[inline(always)]
 fn is_closed(own: &str, frame: &Frame<'_>) -> bool
-    ensures { IsTrue result ↔ IsClosed (look_of frame.now.look.now) own.now }
+    ensures { IsTrue result ↔ IsClosed (look_of frame.now.look) own.now }
 {
     frame.drop_leaf_end(ReadText::Line(own)).is_some()
 }
@@ -148,9 +148,9 @@ pub(crate) fn flags_of_lines(
     lines: &[String],
     frame: &Frame<'_>,
 ) -> Result<Vec<bool>, AllocError>
-    requires { let look = look_of frame.now.look.now in IsReadableWith look.pieces look.marker }
+    requires { let look = look_of frame.now.look in IsReadableWith look.pieces look.marker }
     ensures { IfOk result (λ flags. AreFlags
-        (IsFollowedBy (look_of frame.now.look.now) frame.now.depth text.now)
+        (IsFollowedBy (look_of frame.now.look) frame.now.depth text.now)
         (map string_bytes lines.now) flags.items) }
 {
     let (whole, part) = split_lines(text);

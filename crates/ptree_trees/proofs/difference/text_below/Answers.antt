@@ -1,20 +1,19 @@
-use Rattle.std.proofs.Common.{◌∙◌, refl, sym, arith}
-use Rattle.std.proofs.lemmas.Bool.{lt-ltb, le-ltb}
-use Rattle.ptree_trees.proofs.ItemDifferences.{item_below, none_below}
+use Rattle.std.proofs.Common.{None, Some}
+use Rattle.ptree.specs.ReadItems.{item_line}
+use Rattle.ptree_trees.specs.Found.{first_below}
+use Rattle.ptree_trees.proofs.ItemsLeft.{next_left, not_below, none_below, text_is_below}
 use Rattle.ptree_trees.proofs.difference.text_below.Goals as goal
-use Rattle.ptree_trees.proofs.difference.text_below.Goals.{in_default-via-in-Some+else-item-level, in_default-via-in_default}
+
+pub returns-then-not-is_below-clause-text : goal.returns-then-not-is_below-clause-text
+returns-then-not-is_below-clause-text c look depth x lines h =
+    not_below (first_below c.args.level lines) c.is_below.result (c.is_below.ensures.below look depth x lines h) c.if-not-is_below.true
 
 pub returns-in-Some-clause-text : goal.returns-in-Some-clause-text
-returns-in-Some-clause-text c =
-    let x = c.in-Some.item.now in
-    let found = c.in-Some.ensures.lookup in
-    sym (item_below c.args.items.now c.args.place c.args.level x (omega (arith, found)) found.1 ∙ rw (lt-ltb c.args.level x.level c.if-item-level.true) (rw c.as_str.ensures refl))
+returns-in-Some-clause-text c look depth x lines h =
+    let item = c.in-Some.item in
+    let (rest, is, left) = next_left look depth x c.args.reader.now c.next_item.new.self lines (Some item) h (λ done read. rw c.in-Some.is at c.in_ok-item.ensures.next look depth x done read) in
+    text_is_below lines rest c.args.level (item_line item) is ((c.is_below.ensures.below look depth x lines h).0 c.if-not-is_below.false)
 
-pub returns-in_default-clause-text : goal.returns-in_default-clause-text
-returns-in_default-clause-text c = elim c.in_default.branch [
-  | in_default-via-in-Some+else-item-level w ↦
-      let x = w.in-Some.item.now in
-      let found = w.in-Some.ensures.lookup in
-      sym (item_below c.args.items.now c.args.place c.args.level x (omega (arith, found)) found.1 ∙ rw (le-ltb c.args.level x.level w.if-item-level.false) refl)
-  | in_default-via-in_default w ↦ let past = w.in_default.ensures.lookup in sym (none_below c.args.items.now c.args.place c.args.level (omega (arith, past)))
-]
+pub returns-in-None-clause-text : goal.returns-in-None-clause-text
+returns-in-None-clause-text c look depth x lines h =
+    none_below lines c.args.level (next_left look depth x c.args.reader.now c.next_item.new.self lines None h (λ done read. rw c.in-None.is at c.in_ok-item.ensures.next look depth x done read))

@@ -1,5 +1,6 @@
 use Rattle.std.proofs.Common.{◌≡◌, ◌∙◌, ◌++◌, ◌+◌, codes, get_or, map, drop, string_bytes, append_assoc, append-nil, ap, sym}
 use Rattle.std.proofs.lemmas.List.{at_drop_more, drop_all}
+use Rattle.ptree.specs.ReadItems.{read_text_of}
 use Rattle.ptree_trees.specs.Escape.{escaped_text}
 use Rattle.trees.specs.Merging.{way_text}
 use Rattle.trees.proofs.compare.push_way.Goals as goal
@@ -9,9 +10,9 @@ loop-text-preserved c =
     let above = c.args.above.now in
     let i = c.loop-text.text-index in
     let said = string_bytes c.loop-text.said in
-    let rest = way_text (map (λ s. s.now) (drop (i + 1) above)) in
-    let own : string_bytes c.write.new.self ≡ said ++ (escaped_text (get_or above i _).now ++ codes " / ") = c.in_ok-write.ensures.bytes ∙ ap (λ text. said ++ (text ++ codes " / ")) c.in_ok-text.ensures.text in
-    ap (λ z. z ++ rest) own ∙ append_assoc said _ rest ∙ ap (λ z. said ++ z) (sym (at_drop_more (λ z. way_text (map (λ s. s.now) z)) above i _ c.loop-text-test.true)) ∙ c.loop-text.invariant
+    let rest = way_text (map read_text_of (drop (i + 1) above)) in
+    let own : string_bytes c.write.new.self ≡ said ++ (escaped_text (read_text_of (get_or above i c.text-item.result)) ++ codes " / ") = c.in_ok-write.ensures.bytes ∙ ap (λ text. said ++ (text ++ codes " / ")) (c.in_ok-text.ensures.text ∙ ap escaped_text (c.as_str.ensures ∙ ap read_text_of c.text-item.is)) in
+    ap (λ z. z ++ rest) own ∙ append_assoc said _ rest ∙ ap (λ z. said ++ z) (sym (at_drop_more (λ z. way_text (map read_text_of z)) above i c.text-item.result c.loop-text-test.true)) ∙ c.loop-text.invariant
 
 pub returns : goal.returns
-returns c = sym (ap (λ z. string_bytes c.loop-text.said ++ way_text (map (λ s. s.now) z)) (drop_all c.loop-text.text-index c.args.above.now c.loop-text-test.false) ∙ append-nil (string_bytes c.loop-text.said)) ∙ c.loop-text.invariant
+returns c = sym (ap (λ z. string_bytes c.loop-text.said ++ way_text (map read_text_of z)) (drop_all c.loop-text.text-index c.args.above.now c.loop-text-test.false) ∙ append-nil (string_bytes c.loop-text.said)) ∙ c.loop-text.invariant

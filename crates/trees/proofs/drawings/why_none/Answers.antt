@@ -1,5 +1,6 @@
 use Rattle.std.proofs.Common.{inl, inr, refl, rules, string_bytes, subst, sym}
 use Rattle.ptree.specs.Config.{config_of}
+use Rattle.ptree.specs.Continuation.{EndsWrong}
 use Rattle.ptree.specs.Drawing.{written_look}
 use Rattle.ptree.proofs.Reading.Scanning.{wrong_line_no_drawing}
 use Rattle.trees.specs.Expected.{TellsLine, TellsEnd}
@@ -12,12 +13,12 @@ returns-in_ok-wrong_at-in-Line-clause-failed c =
     let config = c.args.config.now in
     let text = string_bytes c.args.source.now.text in
     let failure = c.in_ok-wrong_at-in-Line in
-    fails_by_text config c.args.source.now text failure.field-0 refl failure.ensures.input (wrong_line_no_drawing (written_look config) config.depth text c.in-Line.line (c.requires.line c.in-Line.line c.in-Line.is))
+    fails_by_text config c.args.source.now text failure.field-0 refl failure.ensures.input (wrong_line_no_drawing (written_look config) config.depth text c.in-Line.line (rw c.in-Line.is at c.requires.error))
 
 pub returns-in_ok-wrong-in-End-2-clause-failed : goal.returns-in_ok-wrong-in-End-2-clause-failed
 returns-in_ok-wrong-in-End-2-clause-failed c =
     let failure = c.in_ok-wrong-in-End-2 in
-    fails_by_text c.args.config.now c.args.source.now (string_bytes c.args.source.now.text) failure.field-0 refl failure.ensures.input (c.requires.end c.in-End.is).wrong
+    fails_by_text c.args.config.now c.args.source.now (string_bytes c.args.source.now.text) failure.field-0 refl failure.ensures.input (let ends : EndsWrong (written_look c.args.config.now) c.args.config.now.depth (string_bytes c.args.source.now.text) = rw c.in-End.is at c.requires.error in ends.wrong)
 
 pub returns-in_ok-wrong_at-in-Line-clause-place : goal.returns-in_ok-wrong_at-in-Line-clause-place
 returns-in_ok-wrong_at-in-Line-clause-place c = λ input.
@@ -27,7 +28,7 @@ returns-in_ok-wrong_at-in-Line-clause-place c = λ input.
     let tells : TellsLine config text line c.as_str.result.now =
     subst (TellsLine config text line) (sym c.as_str.ensures.value) (subst (λ z. TellsLine config z line (string_bytes c.in_ok-wrong-in-Line.wrong)) c.as_str-text.ensures.value c.in_ok-wrong-in-Line.ensures) in
     let says : SaysAt c.args.source.now line c.as_str.result.now c.in_ok-wrong_at-in-Line.field-0 = search rules in
-    names_read c.args.source.now _ _ c.requires.read (c.as_str.result.now, inl (line, c.requires.line line c.in-Line.is, tells, says))
+    names_read c.args.source.now _ _ c.requires.read (c.as_str.result.now, inl (line, (rw c.in-Line.is at c.requires.error), tells, says))
 
 pub returns-in_ok-wrong-in-End-2-clause-place : goal.returns-in_ok-wrong-in-End-2-clause-place
 returns-in_ok-wrong-in-End-2-clause-place c = λ input.
@@ -35,4 +36,4 @@ returns-in_ok-wrong-in-End-2-clause-place c = λ input.
     let text = string_bytes c.args.source.now.text in
     let tells : TellsEnd config text c.as_str-in-End.result.now =
     subst (TellsEnd config text) (sym c.as_str-in-End.ensures.value) (subst (λ z. TellsEnd config z (string_bytes c.in_ok-wrong-in-End.wrong)) c.as_str-text.ensures.value c.in_ok-wrong-in-End.ensures) in
-    names_read c.args.source.now _ _ c.requires.read (_, inr (c.requires.end c.in-End.is, tells, c.in_ok-wrong-in-End-2.ensures.says))
+    names_read c.args.source.now _ _ c.requires.read (_, inr ((rw c.in-End.is at c.requires.error), tells, c.in_ok-wrong-in-End-2.ensures.says))

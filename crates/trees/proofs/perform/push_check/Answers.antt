@@ -1,7 +1,6 @@
-use Rattle.std.proofs.Common.{◌≡◌, ◌∙◌, ◌++◌, inl, inr, length, refl, rules, ap, sym, subst, codes, string_bytes, arith}
+use Rattle.std.proofs.Common.{◌≡◌, ◌∙◌, ◌++◌, inl, inr, length, refl, rules, ap, sym, subst, codes, string_bytes}
 use Rattle.std.proofs.lemmas.List.{length-map, map-id}
 use Rattle.ptree.specs.Outline.{subtrees}
-use Rattle.ptree.specs.ReadItems.{item_line}
 use Rattle.ptree.proofs.Trees.OutlineItems.{line_of, lines_of_items}
 use Rattle.trees.specs.declared.failure.Failure.TheVariants.{Input}
 use Rattle.trees.specs.Asked.{reading_value}
@@ -13,9 +12,8 @@ pub returns-in_ok-push_count-in-Ok-clause-report : goal.returns-in_ok-push_count
 returns-in_ok-push_count-in-Ok-clause-report c =
     let (t, is, holds) = c.in-Ok.ensures.some in
     let all = subtrees t in
-    let lines = lines_of_items (λ p. p) all t (map-id all) ∙ is in
-    let count : length all ≡ c.len.result = sym (length-map all line_of) ∙ ap length lines ∙ length-map c.in-Ok.items.items item_line ∙ omega (arith, c.len.ensures, c.in-Ok.items.ok.0) in
-    (count_line c.args.source.now c.len.result, c.in_ok-push_count-in-Ok.ensures, inl (t, holds, ap (count_line c.args.source.now) (sym count)))
+    let count : length all ≡ c.in-Ok.count = sym (length-map all line_of) ∙ ap length (lines_of_items (λ p. p) all t (map-id all)) ∙ is in
+    (count_line c.args.source.now c.in-Ok.count, c.in_ok-push_count-in-Ok.ensures, inl (t, holds, ap (count_line c.args.source.now) (sym count)))
 
 -- what is wrong is said, on a line of its own
 pub returns-in_ok-writeln-in-Err-Input-clause-report : goal.returns-in_ok-writeln-in-Err-Input-clause-report

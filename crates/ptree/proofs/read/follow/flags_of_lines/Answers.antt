@@ -10,18 +10,18 @@ use Rattle.ptree.proofs.read.follow.flags_of_lines.Goals as goal
 use Rattle.ptree.proofs.read.follow.flags_of_lines.Goals.{then-begins+in_ok-follows, else-begins}
 
 pub read-requires-clause-after : goal.read-requires-clause-after
-read-requires-clause-after c = ([], c.new-open.ensures (look_of c.args.frame.now.look.now) c.args.frame.now.depth)
+read-requires-clause-after c = ([], c.new-open.ensures (look_of c.args.frame.now.look) c.args.frame.now.depth)
 
 pub goes_on_with-requires-clause-after : goal.goes_on_with-requires-clause-after
 goes_on_with-requires-clause-after c =
-    let k = look_of c.args.frame.now.look.now in
+    let k = look_of c.args.frame.now.look in
     let depth = c.args.frame.now.depth in
     let whole : List ℕ = c.split_lines.result.0.now in
     (whole, was_read k depth whole c.in_ok-begins.begins c.read.new.self (c.in_ok-begins.ensures [] (c.new-open.ensures k depth)) c.if-begins.true)
 
 pub loop-line-preserved : goal.loop-line-preserved
 loop-line-preserved c =
-    let k = look_of c.args.frame.now.look.now in
+    let k = look_of c.args.frame.now.look in
     let depth = c.args.frame.now.depth in
     let text : List ℕ = c.args.text.now in
     let whole : List ℕ = c.split_lines.result.0.now in

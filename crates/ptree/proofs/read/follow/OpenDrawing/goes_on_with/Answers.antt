@@ -10,7 +10,7 @@ read-requires-clause-lines c =
 
 pub returns : goal.returns
 returns c =
-    let k = look_of c.args.frame.now.look.now in
+    let k = look_of c.args.frame.now.look in
     let depth = c.args.frame.now.depth in
     let text : c.as_str.result.now ≡ c.args.part.now ++ (c.args.line.now ++ 10 ∷ []) = search rules in
     goes_on_if k c.requires.readable depth c.args.part.now c.args.line.now c.as_str.result.now c.args.self.now c.in_ok-open.open c.read.new.self c.read.result text (c.in_ok-open.ensures k depth) c.read.ensures
