@@ -73,7 +73,7 @@ MISTAKES = [
     (REFUSALS, "refusals.py", "(found.bytes, found.items", "(found.bytes + (refused == (3, 3)), found.items"),
     (REFUSALS, "refusals.py", "make(name, given, rooms) != usual", "make(name, given, rooms, (1, 1)) != usual"),
     (REFUSALS, "refusals.py", "requests = library.ptree_test_requests()", "requests = min(library.ptree_test_requests(), 2)"),
-    (REFUSALS, "refusals.py", '    ("draw_walks", (*GRAPH, *PLAIN), [Room], 65),\n', ""),
+    (REFUSALS, "refusals.py", '    ("draw_walks", (*GRAPH, *PLAIN), [Room], 59),\n', ""),
 ]
 
 

@@ -117,7 +117,7 @@ CALLS = [
     ("draw_document", (*text(JSON), *text("j"), c.JSON, 0, 5), [Room], 34),
     ("draw_document_with", (*text(TOML), *text("t"), c.TOML, *PLAIN), [Room], 38),
     ("draw_document_with", (*text(JSON), *text("j"), c.JSON, *COLORED), [Room], 47),
-    ("draw_walks", (*GRAPH, *PLAIN), [Room], 65),
+    ("draw_walks", (*GRAPH, *PLAIN), [Room], 59),
     ("draw_once", (*GRAPH, *text(" (*)"), *PLAIN), [Room], 33),
     ("draw_once", (*GRAPH, *text(" again"), *COLORED), [Room], 45),
     ("paint", (*text("a\nb"), ctypes.pointer(STYLE), *text(NAMES)), [Room], 2),

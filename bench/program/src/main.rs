@@ -119,6 +119,16 @@ fn draw_in(rt: &HostRuntime, task: &Task, item: &StringItem) -> io::Result<()> {
     Ok(())
 }
 
+// Draws into new memory, again and again.
+fn draw_new(rt: &HostRuntime, task: &Task, item: &StringItem) -> io::Result<()> {
+    let config = config(rt.alloc(), &task.name)?;
+    for _ in 0..task.times {
+        let drawn = tree_bytes(rt.alloc(), item, &config)?;
+        println!(rt; "{} bytes", drawn.len())?;
+    }
+    Ok(())
+}
+
 // Reads a drawing back, with the time of each reading.
 fn read_back(rt: &HostRuntime, task: &Task, item: &StringItem) -> io::Result<()> {
     let alloc = rt.alloc();
@@ -194,6 +204,7 @@ fn main(rt: HostRuntime) -> io::Result<()> {
     match task.name.as_str() {
         "clone" => clone(&task, &item),
         "read" => read_back(&rt, &task, &item),
+        "new" => draw_new(&rt, &task, &item),
         "out" | "out-styled" => draw_out(&rt, &task, &item),
         _ => draw_in(&rt, &task, &item),
     }

@@ -54,6 +54,16 @@ fn draw_in(tree: &Item, times: u32) -> io::Result<()> {
     Ok(())
 }
 
+// Draws into new memory, again and again.
+fn draw_new(tree: &Item, times: u32) -> io::Result<()> {
+    for _ in 0..times {
+        let mut room = Vec::new();
+        writer::draw(tree, &mut room)?;
+        println!("{} bytes", room.len());
+    }
+    Ok(())
+}
+
 // Reads a drawing back, with the time of each reading.
 fn read_back(tree: &Item, times: u32) -> io::Result<()> {
     let mut drawn = Vec::new();
@@ -98,6 +108,7 @@ fn main() -> io::Result<()> {
         "out" => draw_out(&tree, times),
         "draw" => draw_in(&tree, times),
         "read" => read_back(&tree, times),
+        "new" => draw_new(&tree, times),
         _ => Err(ErrorKind::InvalidInput.into()),
     }
 }

@@ -27,6 +27,10 @@ IsNextItem look depth x done reader (Ok None) = IsDrawnOutline look depth x done
 IsNextItem look depth x done reader (Ok (Some item)) = HasRead look depth x reader (done ++ item_line item ∷ [])
 IsNextItem look depth x done reader (Err e) = IsError look depth x e
 
+-- that is so of each text that the reader may read
+abbrev pub IsNext : ItemReader → ItemReader → Result (Option ReadItem) ReadError → Type 0
+IsNext old new result = (look : Look) (depth : ℕ) (x : List ℕ) (done : List Line) → HasRead look depth x old done → IsNextItem look depth x done new result
+
 -- what a call for the number of the items behind these returned
 abbrev pub IsCountOfRest : Look → ℕ → List ℕ → List Line → Result ℕ ReadError → Type 0
 IsCountOfRest look depth x done (Ok n) = (rest : List Line) × (length rest ≡ n) × IsDrawnOutline look depth x (done ++ rest)

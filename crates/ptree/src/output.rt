@@ -19,6 +19,7 @@ pub(crate) mod place;
 
 use crate::item::{StringItem, TreeItem};
 use crate::print_config::{OutputKind, PrintConfig, Sources};
+use crate::sink::buffered::Buffered;
 use crate::sink::{Counted, DrawError, Sink};
 use engine::{Drawn, Top, draw};
 pub use indent::Indent;
@@ -250,10 +251,16 @@ where
     ensures { IfOk result (λ v.
         IsDrawing (written_look config.now) (T.shape item.now) config.now.depth v.items) }
 {
-    let mut out = Counted::new(Vec::new(alloc));
+    let Ok(mut out) = Buffered::with_capacity(alloc, 1024, Counted::new(Vec::new(alloc))) else {
+        return Err(AllocError);
+    };
     // A vector fails only if memory ran out.
     match write_tree_with(alloc, item, &mut out, config) {
-        Ok(()) => Ok(out.into_inner()),
+        Ok(()) => {}
+        Err(_) => return Err(AllocError),
+    }
+    match out.flush() {
+        Ok(()) => Ok(out.into_inner().into_inner()),
         Err(_) => Err(AllocError),
     }
 }
@@ -300,9 +307,8 @@ impl StringItem {
         ensures { IfOk result (λ s. IsDrawing (written_look config.now)
             (shape_of_tree (tree_of self.now)) config.now.depth (string_bytes s)) }
     {
-        match tree_text(alloc, self, config)? {
-            Some(text) => Ok(text),
-            None => unreachable!(),
-        }
+        let bytes = tree_bytes(alloc, self, config)?;
+        // The texts and the pieces are UTF-8, so their drawing needs no check.
+        Ok(unsafe { String::from_utf8_unchecked(bytes) })
     }
 }

@@ -50,7 +50,7 @@ pub struct ItemReader<'a, 'c> {
 impl<'a, 'c> ItemReader<'a, 'c> {
     ghost use Rattle.ptree.specs.Drawing.{Look};
     ghost use Rattle.ptree.specs.DrawnForm.{IsDrawnForm};
-    ghost use Rattle.ptree.specs.ItemReader.{HasRead, IsCountOfRest, IsNextItem, IsNextLevel, bytes_left};
+    ghost use Rattle.ptree.specs.ItemReader.{HasRead, IsCountOfRest, IsNext, IsNextLevel, bytes_left};
     ghost use Rattle.ptree.specs.Tree.{Tree};
 
     /// Starts before the first item of a text, and reads its line.
@@ -92,9 +92,19 @@ impl<'a, 'c> ItemReader<'a, 'c> {
     /// As [`read_tree_or_line`](crate::read::read_tree_or_line). Nothing follows an error: later
     /// calls return `None`.
     pub fn next_item(&mut self) -> Result<Option<ReadItem<'a>>, ReadError>
-        ensures next { (look : Look) (depth : ℕ) (text : List ℕ) (done : List Line)
-            → HasRead look depth text self.old done
-            → IsNextItem look depth text done self.new result }
+        ensures next { IsNext self.old self.new result }
+        ensures left { IfOk result (λ o. MatchOption o (bytes_left self.old ≡ 0)
+            (λ item. bytes_left self.new < bytes_left self.old)) }
+        ensures over { IfErr result (λ e. bytes_left self.new ≡ 0) }
+        ensures few { bytes_left self.new < 2 ^ 63 }
+    {
+        self.advance::<2>()
+    }
+
+    // Does what `next_item` does. Each caller names another `CALLER`, as those of [`Path::go_on`] do.
+    #[inline(always)]
+    fn advance<const CALLER: u8>(&mut self) -> Result<Option<ReadItem<'a>>, ReadError>
+        ensures next { IsNext self.old self.new result }
         ensures left { IfOk result (λ o. MatchOption o (bytes_left self.old ≡ 0)
             (λ item. bytes_left self.new < bytes_left self.old)) }
         ensures over { IfErr result (λ e. bytes_left self.new ≡ 0) }
@@ -105,7 +115,7 @@ impl<'a, 'c> ItemReader<'a, 'c> {
         };
         let level = self.path.level();
         let (place, path) = (&mut self.place, &mut self.path);
-        match read_or_close(self.text, place, path, own, &self.frame) {
+        match read_or_close::<CALLER>(self.text, place, path, own, &self.frame) {
             Ok(ItemEnd { text, next }) => {
                 self.next = next;
                 Ok(Some(ReadItem { level, text }))
@@ -127,7 +137,7 @@ impl<'a, 'c> ItemReader<'a, 'c> {
             → HasRead look depth text self.old done → IsCountOfRest look depth text done result }
     {
         let mut count = 0;
-        while let Some(_item) = self.next_item()? {
+        while let Some(_item) = self.advance::<3>()? {
             count += 1;
         }
         Ok(count)
@@ -150,7 +160,7 @@ impl<'a, 'c> ItemReader<'a, 'c> {
 
 // Does what `read_item` does. Behind an error no item is open.
 #[inline(always)]
-fn read_or_close<'a>(
+fn read_or_close<'a, const CALLER: u8>(
     text: &'a str,
     place: &mut Place<'a>,
     path: &mut Path<'a>,
@@ -171,7 +181,7 @@ fn read_or_close<'a>(
     ensures shorter { IfOk result (λ r. IfSome r.next (λ own.
         length place.new.rest.now < length place.old.rest.now)) }
 {
-    match read_item::<2>(text, place, path, ReadText::Line(own), frame) {
+    match read_item::<CALLER>(text, place, path, ReadText::Line(own), frame) {
         Ok(end) => Ok(end),
         Err(error) => {
             *path = Path::new(frame.alloc);

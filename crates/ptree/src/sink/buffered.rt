@@ -145,9 +145,6 @@ impl<S: Sink> Buffered<S> {
             self.reported = self.reported.next();
             return Err(fault.error());
         }
-        if self.used == 0 {
-            return Ok(());
-        }
         self.hand_on();
         match self.fault {
             None => Ok(()),
@@ -179,8 +176,12 @@ impl<S: Sink> Buffered<S> {
         ensures done { stopped_at self.new ≡ None → held_bytes self.new ≡ [] }
         ensures told { self.new.reported ≡ self.old.reported }
         ensures room { room_of self.new ≡ room_of self.old }
+        ensures idle { held_bytes self.old ≡ [] → inner_sink self.new ≡ inner_sink self.old }
         ensures handed { HandsOn S.contents S.faults self.old self.new }
     {
+        if self.used == 0 {
+            return;
+        }
         let (taken, fault) = put_until_fault(&mut self.inner, &self.room[..self.used]);
         remove_prefix(&mut self.room, self.used, taken);
         self.used -= taken;

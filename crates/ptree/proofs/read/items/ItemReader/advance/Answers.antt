@@ -1,14 +1,14 @@
 use Rattle.std.proofs.Common.{Ok, length, subst, sym}
 use Rattle.ptree.specs.Scanned.{IsError, IsItemEnd}
 use Rattle.ptree.proofs.Reading.ItemsRead.{before_item, by_names}
-use Rattle.ptree.proofs.read.items.ItemReader.next_item.Goals as goal
+use Rattle.ptree.proofs.read.items.ItemReader.advance.Goals as goal
 
 pub returns-in-Err-clause-next : goal.returns-in-Err-clause-next
-returns-in-Err-clause-next c look depth x done h =
+returns-in-Err-clause-next g c look depth x done h =
     by_names (λ k d y. IsError k d y c.in-Err.error) look depth x c.args.self.now done h (c.in-Err.ensures.end done (before_item look depth x c.args.self.now done c.in-Some.own h c.in-Some.is))
 
 pub returns-in-Ok-clause-next : goal.returns-in-Ok-clause-next
-returns-in-Ok-clause-next c look depth x done h =
+returns-in-Ok-clause-next g c look depth x done h =
     let place = c.read_or_close.new.place in
     let path = c.read_or_close.new.path in
     let s = before_item look depth x c.args.self.now done c.in-Some.own h c.in-Some.is in
