@@ -1,5 +1,5 @@
 //! Callers that read drawings.
-ghost use Rattle.std.specs.Prelude.{◌≡◌, ◌↔◌, ◌≤◌, ◌<◌, ◌-◌, false, IfOk, IsOkUnless, IfSome, IsTrue, IsSomeAnd, string_bytes};
+ghost use Rattle.std.specs.Prelude.{◌≡◌, ◌↔◌, ◌≤◌, ◌<◌, ◌-◌, false, IfOk, IsOkUnless, IfSome, IsTrue, IsSomeAnd, Ok, None, string_bytes};
 ghost use Rattle.ptree.specs.Continuation.{HasContinuation, IsFollowedBy, first_lines};
 ghost use Rattle.ptree.specs.declared.read.ReadError.{ReadError};
 ghost use Rattle.ptree.specs.DrawnForm.{IsDrawnForm};
@@ -12,7 +12,10 @@ ghost use Rattle.ptree.specs.declared.print_config.OutputKind.{OutputKind};
 use ptree::item::StringItem;
 use ptree::presets::Preset;
 use ptree::print_config::{ASCII_CHARS_TICK, IndentChars, PrintConfig, StaticIndentChars};
-use ptree::read::{ReadError, lines_that_follow, pieces_readable, read_tree, read_tree_or_line};
+use ptree::read::{
+    ItemReader, ReadError, ReadItem, lines_that_follow, pieces_readable, read_tree,
+    read_tree_or_line,
+};
 use std::alloc::{AllocError, Global};
 
 /// Draws a tree and reads it back. Whatever its texts, what comes back is the tree.
@@ -90,6 +93,21 @@ pub fn wrong_line(
         Err(ReadError::Line(line)) => Ok(Some(line)),
         Err(ReadError::End) => Ok(None),
         Err(ReadError::Memory) => Err(AllocError),
+    }
+}
+
+/// Reads on to the end of a drawing or to the first error, and calls once more: whatever the text
+/// is, there is no further item.
+pub fn read_past_the_end<'a>(
+    reader: &mut ItemReader<'a, '_>,
+) -> Result<Option<ReadItem<'a>>, ReadError>
+    ensures { result ≡ Ok None }
+{
+    loop {
+        match reader.next_item() {
+            Ok(Some(_)) => {}
+            Ok(None) | Err(_) => return reader.next_item(),
+        }
     }
 }
 

@@ -241,6 +241,8 @@ where
 
 /// Returns the drawing of an item, as [`write_tree_with`] writes it.
 ///
+/// Above what that takes, it takes memory for the drawing, which grows by doubling, and 1 KiB.
+///
 /// # Errors
 ///
 /// Memory ran out.

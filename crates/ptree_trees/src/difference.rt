@@ -84,7 +84,7 @@ pub enum DrawingsError {
     /// The left one.
     Left(ReadError),
 
-    /// The right one. The left one is a drawing, unless memory ran out.
+    /// The right one. The left one is a drawing.
     Right(ReadError),
 }
 
@@ -105,8 +105,8 @@ impl Error for DrawingsError {}
 /// Returns the first difference of the trees of two drawings, or `None` exactly if they are equal.
 ///
 /// It is that which [`first_difference`] returns of the trees, and no tree is made. Both texts are
-/// read to their ends, so it takes time for their bytes. It allocates the address, the texts above
-/// it, and what two [`ItemReader`]s do.
+/// read to their ends, so it takes time for their bytes, and a call a level. It allocates the
+/// address, the texts above it, and what two [`ItemReader`]s do.
 ///
 /// The call requires readable pieces, as [`read_tree`](ptree::read::read_tree) does.
 ///

@@ -1,24 +1,15 @@
 -- With which pieces a text is read, and what is said of them.
-use Rattle.std.proofs.Common.{◌≡◌, ◌≢◌, ℕ, ◌-◌, ◌≤◌, inl, inr, Bool, true, false, Option, Some, None, Result, Ok, IfOk, IsTrue, ◌↔◌, All, List, [], ◌∷◌, ◌++◌, length, get_or, slice_index_or, take, Contains, codes, refl, sym, ap, ◌∙◌, subst, append_assoc, lit<, ltb, append-nil, encode_utf8, IfSome, IfNone, MatchOption, is_some, IsCharBoundary, ltb-true, true≢false}
+use Rattle.std.proofs.Common.{◌≡◌, ◌≢◌, ℕ, ◌-◌, ◌≤◌, inl, inr, Bool, true, false, Option, Some, None, Result, Ok, IfOk, All, List, [], ◌∷◌, ◌++◌, length, slice_index_or, take, Contains, codes, refl, sym, ap, ◌∙◌, subst, append_assoc, lit<, ltb, encode_utf8, MatchOption, IsCharBoundary, ltb-true, true≢false}
 use Rattle.std.proofs.lemmas.List.Elements.{All-contains}
 use Rattle.std.proofs.lemmas.Str.Pattern.{ends_char}
 use Rattle.std.proofs.lemmas.Str.{encode_ascii}
 use Rattle.std.specs.Str.Pattern.{FindsCharSuffix}
-use Rattle.ptree.specs.declared.item.StringItem.{StringItem}
 use Rattle.ptree.specs.declared.presets.Preset.TheVariants.{Tree, TreeAscii, CargoTree, CargoTreeAscii, Findmnt, FindmntAscii, Sqlite, Maven, Clang, Ps}
-use Rattle.ptree.specs.declared.print_config.OutputKind.TheVariants.{Unknown}
 use Rattle.ptree.specs.Config.{ConfigValue}
-use Rattle.ptree.specs.Continuation.{IsFollowedBy, AreFlags}
-use Rattle.ptree.specs.Drawing.{Look, look_by}
-use Rattle.ptree.specs.DrawnForm.{IsDrawnForm}
-use Rattle.ptree.specs.Outline.{line, outline_at}
-use Rattle.ptree.specs.Tree as drawn
-use Rattle.ptree.proofs.Reading.NextLines.{form_outline}
 use Rattle.trees.specs.declared.pieces.Pieces.{Pieces}
 use Rattle.trees.specs.declared.pieces.Pieces.TheVariants.{Utf, UtfBold, UtfDashed, UtfDouble, Ascii, AsciiPlus, Program}
 use Rattle.trees.specs.Expected.{AreWholeLines, ListsBeginnings, IsHint}
-use Rattle.trees.specs.Named.{piece_name, IsNamed, IsReadableValue, IsReadBy, IsReadWith, IsReadWithNone, NamesOther, AddsOther}
-use Rattle.trees.proofs.NextItems.{lines_whole}
+use Rattle.trees.specs.Named.{piece_name, IsNamed, IsReadWith, IsReadWithNone, NamesOther, AddsOther}
 
 -- ## All pieces
 
@@ -65,23 +56,6 @@ pub none_named : (name : List ℕ) (found : Option Pieces) → MatchOption found
     → MatchOption found ((p : Pieces) → name ≢ piece_name p) (IsNamed name)
 none_named name None h = each_of_tried (λ p. name ≢ piece_name p) h
 none_named name (Some p) h = inl h
-
--- whether a tree was read tells whether there is one
-pub some_read : (config : ConfigValue) (text : List ℕ) → IsReadableValue config → (o : Option StringItem)
-    → IfSome o (λ t. IsDrawnForm (look_by config Unknown false) config.depth text (drawn.tree_of t))
-    → IfNone o ((t : drawn.Tree) → IsDrawnForm (look_by config Unknown false) config.depth text t → ⊥)
-    → IsTrue (is_some o) ↔ IsReadBy config text
-some_read config text readable None some none = ((λ no. absurd (true≢false (sym no))), (λ is. absurd (none is.form.0 is.form.1)))
-some_read config text readable (Some t) some none = ((λ _. record { readable = readable; form = (drawn.tree_of t, some) }), (λ _. refl))
-
--- a drawing is whole lines
-pub drawing_whole : (k : Look) (depth : ℕ) (text : List ℕ) (t : drawn.Tree) → IsDrawnForm k depth text t → AreWholeLines text
-drawing_whole k depth text t form = subst AreWholeLines (sym (form_outline k depth text t form).0) (lines_whole k (line 0 t.text) (outline_at 1 t.children))
-
--- and an empty line follows what is before its last line feed
-pub drawing_follows : (k : Look) (depth : ℕ) (text lines : List ℕ) (flags : List Bool) → text ≡ lines ++ 10 ∷ [] → AreFlags (IsFollowedBy k depth lines) ([] ∷ []) flags
-    → (t : drawn.Tree) → IsDrawnForm k depth text t → get_or flags 0 false ≡ true
-drawing_follows k depth text lines flags is are t form = (are.each 0 (lit< tt)).1 (t, [], subst (λ z. IsDrawnForm k depth z t) (is ∙ sym (append-nil (lines ++ 10 ∷ []))) form)
 
 -- ## What is said
 

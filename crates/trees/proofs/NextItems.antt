@@ -16,7 +16,7 @@ use Rattle.ptree.proofs.Reading.OwnBytes.{holds_line_feed}
 use Rattle.ptree.proofs.Reading.SpelledForms.{passing_at}
 use Rattle.ptree.proofs.Styles.PaintedTexts.{no_line_feed_start}
 use Rattle.ptree.proofs.Drawing.Inserted.{feed_not_empty}
-use Rattle.trees.specs.Expected.{AreWholeLines, IsLastLine}
+use Rattle.trees.specs.Expected.{IsLastLine}
 use Rattle.trees.proofs.LineCuts.{cut_either, last_once, behind_feed, EndsLine, last_inserted}
 
 -- ## The drawing of an item
@@ -36,14 +36,6 @@ item_text k l below = before k l below ++ with_inserted (further k l below) (l.t
 -- the drawing of an item and of those below it, cut there
 item_split : (k : Look) (l : Line) (below : List Line) → lines_text k (l ∷ below) ≡ item_text k l below ++ 10 ∷ lines_text k below
 item_split k l below = line_split k l below ∙ sym (append_assoc (before k l below) (with_inserted (further k l below) (l.text ++ end_codes k.leaf)) (10 ∷ lines_text k below))
-
--- a drawing is whole lines
-pub lines_whole : (k : Look) (l : Line) (o : List Line) → AreWholeLines (lines_text k (l ∷ o))
-lines_whole k l [] = (item_text k l [], item_split k l [])
-lines_whole k l (m ∷ o) =
-    let (front, is) = lines_whole k m o in
-    let text : List ℕ = item_text k l (m ∷ o) in
-    (text ++ 10 ∷ front, item_split k l (m ∷ o) ∙ (ap (λ z. text ++ 10 ∷ z) is ∙ sym (append_assoc text (10 ∷ front) (10 ∷ []))))
 
 -- no line feed is before an item's text, nor before a further line
 before_feedless : (k : Look) → IsReadableWith k.pieces k.marker → (l : Line) (below : List Line) → HasNoLineFeed (before k l below)

@@ -15,7 +15,7 @@ ghost use Rattle.trees.specs.Reading.{HoldDifference, HoldsCount, HoldsDrawing, 
 use crate::expected::{beginnings, is_too_deep};
 use crate::failure::Failure;
 use crate::levels::TOO_DEEP;
-use crate::pieces::reading;
+use crate::pieces::{count_items, reading};
 use crate::source::Source;
 use crate::usage::Usage;
 use ptree::item::StringItem;
@@ -65,17 +65,6 @@ pub fn count(alloc: Global, source: &Source, config: &PrintConfig) -> Result<usi
         Ok(count) => Ok(count),
         Err(error) => Err(why_none(alloc, source, error, config)?),
     }
-}
-
-// Returns the number of the items of a drawing.
-fn count_items(alloc: Global, text: &str, config: &PrintConfig) -> Result<usize, ReadError>
-    requires { HasReadablePieces config.now }
-    ensures { IsCountOfRest (written_look config.now) config.now.depth text.now [] result }
-{
-    let mut reader = ItemReader::new(alloc, text, config)?;
-    let count = reader.count_rest();
-    drop(reader);
-    count
 }
 
 /// Returns the first difference of the trees that two texts are the drawings of, or `None` if they

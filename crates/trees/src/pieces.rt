@@ -1,12 +1,11 @@
 //! The pieces that drawings are made with, by name.
-ghost use Rattle.std.specs.Prelude.{◌≡◌, ◌≢◌, ◌↔◌, All, IsTrue, IfOk, MatchOption};
+ghost use Rattle.std.specs.Prelude.{◌≡◌, ◌≢◌, ◌↔◌, [], All, IsTrue, IfOk, MatchOption};
 ghost use Rattle.ptree.specs.Characters.{static_characters_of};
 ghost use Rattle.ptree.specs.Config.{config_of};
 ghost use Rattle.ptree.specs.Drawing.{written_look};
-ghost use Rattle.ptree.specs.DrawnForm.{IsDrawnForm};
+ghost use Rattle.ptree.specs.ItemReader.{IsCountOfRest};
 ghost use Rattle.ptree.specs.Preset.{drawn_with};
 ghost use Rattle.ptree.specs.Readable.{HasReadablePieces};
-ghost use Rattle.ptree.specs.Tree.{Tree};
 ghost use Rattle.trees.specs.Asked.{pieces_value, with_own};
 ghost use Rattle.trees.specs.declared.pieces.Pieces.{Pieces};
 ghost use Rattle.trees.specs.Named.{piece_name, program_name, IsNamed, IsReadBy, IsReadWith, IsReadWithNone};
@@ -16,7 +15,7 @@ use ptree::print_config::{
     ASCII_CHARS_PLUS, ASCII_CHARS_TICK, IndentChars, PrintConfig, StaticIndentChars, UTF_CHARS,
     UTF_CHARS_BOLD, UTF_CHARS_DASHED, UTF_CHARS_DOUBLE,
 };
-use ptree::read::{lines_that_follow, pieces_readable, read_tree};
+use ptree::read::{ItemReader, ReadError, pieces_readable};
 use std::alloc::{AllocError, Global};
 use std::mem;
 
@@ -211,24 +210,24 @@ fn is_read_with(
 fn is_read(alloc: Global, text: &str, config: &PrintConfig) -> Result<bool, AllocError>
     ensures { IfOk result (λ b. IsTrue b ↔ IsReadBy (config_of config.now) text.now) }
 {
-    if !pieces_readable(alloc, config)? || !can_be_drawing(alloc, text, config)? {
+    if !pieces_readable(alloc, config)? {
         return Ok(false);
     }
-    Ok(read_tree(alloc, text, config)?.is_some())
+    match count_items(alloc, text, config) {
+        Ok(_) => Ok(true),
+        Err(ReadError::Line(_)) => Ok(false),
+        Err(ReadError::End) => Ok(false),
+        Err(ReadError::Memory) => Err(AllocError),
+    }
 }
 
-// Whether a text can be a drawing: some drawing begins with it, and it ends in a line feed. To say
-// so takes less time than to read the tree.
-fn can_be_drawing(alloc: Global, text: &str, config: &PrintConfig) -> Result<bool, AllocError>
+/// Returns the number of the items of a drawing, or why a text is none. It makes no tree.
+pub fn count_items(alloc: Global, text: &str, config: &PrintConfig) -> Result<usize, ReadError>
     requires { HasReadablePieces config.now }
-    ensures { IfOk result (λ b. (t : Tree)
-        → IsDrawnForm (written_look config.now) config.now.depth text.now t → IsTrue b) }
+    ensures { IsCountOfRest (written_look config.now) config.now.depth text.now [] result }
 {
-    match text.strip_suffix('\n') {
-        Some(lines) => {
-            let ends = vec![in alloc; String::new(alloc)]?;
-            Ok(lines_that_follow(alloc, lines, &ends, config)?[0])
-        }
-        None => Ok(false),
-    }
+    let mut reader = ItemReader::new(alloc, text, config)?;
+    let count = reader.count_rest();
+    drop(reader);
+    count
 }

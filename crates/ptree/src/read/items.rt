@@ -1,5 +1,5 @@
 //! Reads the items of a drawing without its tree.
-ghost use Rattle.std.specs.Prelude.{◌≡◌, ℕ, ◌<◌, ◌≤◌, ◌+◌, ◌^◌, ◌↔◌, [], List, length, map, IsSome, IfErr, IfOk, IfSome, MatchOption};
+ghost use Rattle.std.specs.Prelude.{◌≡◌, ℕ, ◌<◌, ◌≤◌, ◌+◌, ◌^◌, ◌↔◌, [], List, length, map, IsSome, IfErr, IfOk, IfSome, MatchOption, Ok, None};
 ghost use Rattle.std.proofs.Props.{props};
 ghost use Rattle.ptree.specs.Drawing.{written_look};
 ghost use Rattle.ptree.specs.Looks.{look_of};
@@ -59,8 +59,8 @@ impl<'a, 'c> ItemReader<'a, 'c> {
     ///
     /// # Errors
     ///
-    /// [`ReadError::Line`] with 1 or [`ReadError::End`] if no drawing begins with the first line, and
-    /// [`ReadError::Memory`] if memory ran out.
+    /// [`ReadError::Line`] with 1 if no drawing begins with the first line, [`ReadError::End`] if that
+    /// has no line feed, and [`ReadError::Memory`] if memory ran out.
     pub fn new(
         alloc: Global,
         text: &'a str,
@@ -87,15 +87,18 @@ impl<'a, 'c> ItemReader<'a, 'c> {
     /// Returns the next item, or `None` behind the last one: then the text is the drawing of the
     /// tree of these items.
     ///
+    /// Behind the last item and behind an error each further call returns `None`.
+    ///
     /// # Errors
     ///
-    /// As [`read_tree_or_line`](crate::read::read_tree_or_line). Nothing follows an error: later
-    /// calls return `None`.
+    /// As [`read_tree_or_line`](crate::read::read_tree_or_line).
     pub fn next_item(&mut self) -> Result<Option<ReadItem<'a>>, ReadError>
         ensures next { IsNext self.old self.new result }
         ensures left { IfOk result (λ o. MatchOption o (bytes_left self.old ≡ 0)
             (λ item. bytes_left self.new < bytes_left self.old)) }
         ensures over { IfErr result (λ e. bytes_left self.new ≡ 0) }
+        // Once nothing is left, a call returns none, and the reader stays as it is.
+        ensures ended { bytes_left self.old ≡ 0 → (result ≡ Ok None) × (self.new ≡ self.old) }
         ensures few { bytes_left self.new < 2 ^ 63 }
     {
         self.advance::<2>()
@@ -108,6 +111,7 @@ impl<'a, 'c> ItemReader<'a, 'c> {
         ensures left { IfOk result (λ o. MatchOption o (bytes_left self.old ≡ 0)
             (λ item. bytes_left self.new < bytes_left self.old)) }
         ensures over { IfErr result (λ e. bytes_left self.new ≡ 0) }
+        ensures ended { bytes_left self.old ≡ 0 → (result ≡ Ok None) × (self.new ≡ self.old) }
         ensures few { bytes_left self.new < 2 ^ 63 }
     {
         let Some(own) = self.next else {
@@ -127,7 +131,8 @@ impl<'a, 'c> ItemReader<'a, 'c> {
         }
     }
 
-    /// Reads the items that are left, and returns their number: then the text is a drawing.
+    /// Reads the items that are left, and returns their number: then the text is a drawing. Behind an
+    /// error the number is 0.
     ///
     /// # Errors
     ///

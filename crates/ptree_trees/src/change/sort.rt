@@ -11,7 +11,7 @@ use std::alloc::{AllocError, Global};
 /// Texts are compared by their bytes. Children with the same text keep their order.
 ///
 /// It takes time for each item, and for the comparisons of a sort of each item's children. Above
-/// the result it takes a buffer for the children of one item at each level.
+/// the result it takes a buffer for the children of one item at a time, and a call a level.
 ///
 /// # Errors
 ///

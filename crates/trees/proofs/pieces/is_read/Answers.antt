@@ -1,11 +1,14 @@
-use Rattle.std.proofs.Common.{◌↔◌, IsTrue, sym, subst, rules}
+use Rattle.std.proofs.Common.{rules}
 use Rattle.ptree.specs.Config.{config_of}
+use Rattle.ptree.specs.Drawing.{written_look}
+use Rattle.ptree.proofs.Reading.Scanning.{wrong_line_no_drawing}
 use Rattle.trees.specs.Named.{IsReadBy}
-use Rattle.trees.proofs.Named.{some_read}
 use Rattle.trees.proofs.pieces.is_read.Goals as goal
 
-pub returns : goal.returns
-returns c =
-    let config = config_of c.args.config.now in
-    subst (λ b. IsTrue b ↔ IsReadBy config c.args.text.now) (sym c.is_some.ensures)
-    (some_read config c.args.text.now (search rules) c.in_ok-read_tree.field-0 c.in_ok-read_tree.ensures.some c.in_ok-read_tree.ensures.none)
+pub returns-in-Err-Line : goal.returns-in-Err-Line
+returns-in-Err-Line c =
+    let config = c.args.config.now in
+    let wrong = c.in-Err-Line in
+    let unread : IsReadBy (config_of config) c.args.text.now → ⊥ =
+    λ is. wrong_line_no_drawing (written_look config) config.depth c.args.text.now wrong.field-0-0 (rw wrong.field-0-is at wrong.ensures) is.form.0 is.form.1 in
+    search (rules, unread)
