@@ -157,6 +157,21 @@ check_replaced() {
     expect_launch 'a program without a byte, once a command had built it' 1 six
 }
 
+# Checks a record that is no longer of the sources beside it: in a copy of the repository whose sources were changed before, or without
+# a byte.
+check_records() {
+    local built=$there there=$scratch/copied
+    cp -r "$built" "$there"
+    echo edited >"$there/crates/ptree/src/lib.rt"
+    # (the order in which files are copied depends on the file system, and this one can be the last)
+    touch "$there/crates/ptree_cli/out/built_from"
+    expect_launch 'a copy of changed sources' 1 edited
+    echo again >"$there/crates/ptree/src/lib.rt"
+    : >"$there/crates/ptree_cli/out/built_from"
+    expect_launch 'a source is changed, and the record is without a byte' 1 again
+    rm -r "$there"
+}
+
 # Checks that of two first calls one builds, and the other waits for it.
 check_two_calls() {
     local got
@@ -249,6 +264,16 @@ check_installing() {
         report ok 'an installation reports its build'
     else
         report no "an installation reports its build: $(xargs <"$there/calls")"
+        cat "$scratch/out" "$scratch/err"
+    fi
+    mkdir -p "$there/far/bin" "$there/it's"
+    ln -s ../far/bin "$there/it's/bin"
+    (umask 077 && launch bin/install "it's" trees)
+    if [ $? = 0 ] && [ "$("$there/it's/bin/trees" a b </dev/null)" = 'six <a> <b>' ] \
+        && [ "$(stat -c %a "$there/it's/libexec/ptree" "$there/it's/libexec/ptree/trees" | xargs)" = '755 755' ]; then
+        report ok 'an installation with a link at bin, for others too'
+    else
+        report no 'an installation with a link at bin, for others too'
         cat "$scratch/out" "$scratch/err"
     fi
 }
@@ -398,6 +423,7 @@ check_launcher() {
     check_changes
     check_changes_meanwhile
     check_replaced
+    check_records
     check_two_calls
     check_many_calls
     check_no_build

@@ -31,9 +31,11 @@ unfoldable pub has_front : List ℕ → Bool
 has_front name = nat_le 6 (length name) && str_eq_ignore_ascii_case (take 6 name) (codes "PTREE_")
 
 -- whether a variable begins as those of fields do, and is neither one of them nor the path of the
--- file
+-- file or of a library for other languages
 unfoldable pub is_stray : List ℕ → Bool
-is_stray name = (has_front name && not (bytes_eq name (codes "PTREE_CONFIG"))) && is_none (field_of_variable name)
+is_stray name =
+    (((has_front name && not (bytes_eq name (codes "PTREE_CONFIG"))) && not (bytes_eq name (codes "PTREE_LIBRARY"))) && not (bytes_eq name (codes "PTREE_LIB_DIR")))
+    && is_none (field_of_variable name)
 
 -- the warning of a variable, if it has no effect
 abbrev pub stray_warnings : List ℕ → List WarningValue

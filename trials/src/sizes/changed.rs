@@ -101,10 +101,7 @@ fn try_drawings(alloc: Global, size: usize) -> Result<(), Deviation> {
     other.text = String::from_str(alloc, tree.text.as_str())?;
     let left = tree.drawing(alloc, &config)?;
     let right = other.drawing(alloc, &config)?;
-    if !made(
-        pieces_readable(alloc, &config),
-        "`pieces_readable` succeeds",
-    )? {
+    if !pieces_readable(alloc, &config)? {
         return Err(Deviation::of("the default pieces are readable"));
     }
     let (left, right) = (left.as_str(), right.as_str());

@@ -53,8 +53,10 @@ impl fmt::Display for Warning {
 }
 
 /// Returns what has no effect in the sources, in this order: unknown variables that begin with
-/// `PTREE_`, except for `PTREE_CONFIG`; unknown keys; unknown colours of variables, and then of
-/// keys.
+/// `PTREE_`; unknown keys; unknown colours of variables, and then of keys.
+///
+/// `PTREE_CONFIG` is known, and so are `PTREE_LIBRARY` and `PTREE_LIB_DIR`, by which the package for
+/// Python and the wrapper for Rust find their library.
 ///
 /// It takes the time of [`load`](ptree::print_config::load), and allocates the result.
 ///
@@ -96,12 +98,17 @@ fn push_if_stray(found: &mut Vec<Warning>, name: &String) -> Result<(), AllocErr
     Ok(())
 }
 
-// Whether a variable begins as the fields' do, and is neither a field's nor the path of the file.
+// Whether a variable begins as the fields' do, and is neither a field's nor the path of the file or
+// of a library for other languages.
 #[tactic(auto, unfolding(crate::specs::Warnings::is_stray))]
 fn is_stray(name: &str) -> bool
     ensures { result ≡ is_stray name.now }
 {
-    has_front(name) && name != "PTREE_CONFIG" && field_of_variable(name).is_none()
+    has_front(name)
+        && name != "PTREE_CONFIG"
+        && name != "PTREE_LIBRARY"
+        && name != "PTREE_LIB_DIR"
+        && field_of_variable(name).is_none()
 }
 
 // Whether a name begins with `PTREE_`, in any ASCII case.
