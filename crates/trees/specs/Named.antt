@@ -49,6 +49,10 @@ pub record IsReadBy (config : ConfigValue) (text : List ℕ) : Type 0 where
   pub readable : IsReadableValue config
   pub form : (t : drawn.Tree) × IsDrawnForm (look_by config Unknown false) config.depth text t
 
+-- it is not
+abbrev pub IsUnreadBy : ConfigValue → List ℕ → Type 0
+IsUnreadBy config text = IsReadBy config text → ⊥
+
 -- the same with these pieces in place of the configuration's
 abbrev pub IsReadWith : ConfigValue → List ℕ → Pieces → Type 0
 IsReadWith config text p = IsReadBy (with_pieces (Some p) config) text

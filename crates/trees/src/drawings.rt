@@ -9,7 +9,7 @@ ghost use Rattle.ptree.specs.Scanned.{IsError};
 ghost use Rattle.ptree.specs.Texts.{line_feed, HasNoLineFeed};
 ghost use Rattle.ptree.specs.Tree.{tree_of};
 ghost use Rattle.trees.specs.Expected.{IsWholeLine, IsLineAt, IsHint, TellsLine, IsWhyEnd, TellsEnd};
-ghost use Rattle.trees.specs.Named.{AddsOther};
+ghost use Rattle.trees.specs.Named.{AddsOther, IsUnreadBy};
 ghost use Rattle.trees.specs.Reading.{HoldDifference, HoldsCount, HoldsDrawing, HoldsNoOther, IsRedrawn, FailsToRead, NamesPlace};
 
 use crate::expected::{beginnings, is_too_deep};
@@ -148,6 +148,7 @@ fn wrong_line(
     config: &PrintConfig,
 ) -> Result<String, AllocError>
     requires readable { HasReadablePieces config.now }
+    requires unread { IsUnreadBy (config_of config.now) text.now }
     requires line { IsWholeLine text.now line }
     ensures { IfOk result (λ said.
         TellsLine (config_of config.now) text.now line (string_bytes said)) }
@@ -164,7 +165,8 @@ fn wrong_line(
 // Says with which pieces a text is a drawing or, if there are none, what could stand behind the
 // lines before the wrong one.
 fn hint(alloc: Global, text: &str, before: &str, config: &PrintConfig) -> Result<String, AllocError>
-    requires { HasReadablePieces config.now }
+    requires readable { HasReadablePieces config.now }
+    requires unread { IsUnreadBy (config_of config.now) text.now }
     ensures { IfOk result (λ hint.
         IsHint (config_of config.now) text.now before.now (string_bytes hint)) }
 {
@@ -207,6 +209,7 @@ fn split_line(text: &str) -> (&str, &str)
 
 // Says why a text that ends too early is no drawing, and with which pieces it is one.
 fn wrong_end(alloc: Global, text: &str, config: &PrintConfig) -> Result<String, AllocError>
+    requires { IsUnreadBy (config_of config.now) text.now }
     ensures { IfOk result (λ said. TellsEnd (config_of config.now) text.now (string_bytes said)) }
 {
     let mut said = String::from_str(alloc, why_end(text))?;
@@ -234,6 +237,7 @@ fn push_other(
     text: &str,
     config: &PrintConfig,
 ) -> Result<bool, AllocError>
+    requires { IsUnreadBy (config_of config.now) text.now }
     ensures { IfOk result (λ b. AddsOther (config_of config.now) text.now b
         (string_bytes said.old) (string_bytes said.new)) }
 {

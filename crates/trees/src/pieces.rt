@@ -8,7 +8,7 @@ ghost use Rattle.ptree.specs.Preset.{drawn_with};
 ghost use Rattle.ptree.specs.Readable.{HasReadablePieces};
 ghost use Rattle.trees.specs.Asked.{pieces_value, with_own};
 ghost use Rattle.trees.specs.declared.pieces.Pieces.{Pieces};
-ghost use Rattle.trees.specs.Named.{piece_name, program_name, IsNamed, IsReadBy, IsReadWith, IsReadWithNone};
+ghost use Rattle.trees.specs.Named.{piece_name, program_name, IsNamed, IsReadBy, IsReadWith, IsReadWithNone, IsUnreadBy};
 
 use ptree::presets::Preset;
 use ptree::print_config::{
@@ -155,6 +155,7 @@ fn program_name(program: Preset) -> &'static str
 }
 
 /// Returns the first pieces with which a text is a drawing, all else being as in a configuration.
+/// With the configuration's own it is none.
 ///
 /// # Errors
 ///
@@ -164,6 +165,7 @@ pub fn reading(
     text: &str,
     config: &PrintConfig,
 ) -> Result<Option<Pieces>, AllocError>
+    requires { IsUnreadBy (config_of config.now) text.now }
     ensures { IfOk result (λ found. MatchOption found
         (IsReadWithNone (config_of config.now) text.now)
         (IsReadWith (config_of config.now) text.now)) }
@@ -178,6 +180,7 @@ fn first_reading(
     config: &PrintConfig,
     all: &[Pieces],
 ) -> Result<Option<Pieces>, AllocError>
+    requires { IsUnreadBy (config_of config.now) text.now }
     ensures { IfOk result (λ found. MatchOption found
         (All (λ p. IsReadWith (config_of config.now) text.now p → ⊥) all.now)
         (IsReadWith (config_of config.now) text.now)) }
@@ -190,17 +193,21 @@ fn first_reading(
     Ok(None)
 }
 
-// Whether a text is a drawing with these pieces in place of a configuration's.
+// Whether a text is a drawing with these pieces in place of a configuration's, with which it is none.
 fn is_read_with(
     alloc: Global,
     text: &str,
     config: &PrintConfig,
     pieces: Pieces,
 ) -> Result<bool, AllocError>
+    requires { IsUnreadBy (config_of config.now) text.now }
     ensures { IfOk result (λ b. IsTrue b ↔ IsReadWith (config_of config.now) text.now pieces) }
 {
     let mut own = config.clone()?;
     pieces.set(alloc, &mut own)?;
+    if own == *config {
+        return Ok(false);
+    }
     let is_drawing = is_read(alloc, text, &own);
     drop(own);
     is_drawing

@@ -4,6 +4,7 @@ use Rattle.ptree.specs.Continuation.{EndsWrong}
 use Rattle.ptree.specs.Drawing.{written_look}
 use Rattle.ptree.proofs.Reading.Scanning.{wrong_line_no_drawing}
 use Rattle.trees.specs.Expected.{TellsLine, TellsEnd}
+use Rattle.trees.specs.Named.{IsUnreadBy}
 use Rattle.trees.specs.Reading.{SaysAt}
 use Rattle.trees.proofs.Readings.{fails_by_text, names_read}
 use Rattle.trees.proofs.drawings.why_none.Goals as goal
@@ -37,3 +38,15 @@ returns-in_ok-wrong-in-End-2-clause-place c = λ input.
     let tells : TellsEnd config text c.as_str-in-End.result.now =
     subst (TellsEnd config text) (sym c.as_str-in-End.ensures.value) (subst (λ z. TellsEnd config z (string_bytes c.in_ok-wrong-in-End.wrong)) c.as_str-text.ensures.value c.in_ok-wrong-in-End.ensures) in
     names_read c.args.source.now _ _ c.requires.read (_, inr ((rw c.in-End.is at c.requires.error), tells, c.in_ok-wrong-in-End-2.ensures.says))
+
+pub wrong_line-requires-clause-unread : goal.wrong_line-requires-clause-unread
+wrong_line-requires-clause-unread c =
+    let config = c.args.config.now in
+    subst (IsUnreadBy (config_of config)) (sym c.as_str-text.ensures.value)
+    (λ is. wrong_line_no_drawing (written_look config) config.depth (string_bytes c.args.source.now.text) c.in-Line.line (rw c.in-Line.is at c.requires.error) is.form.0 is.form.1)
+
+pub wrong_end-requires : goal.wrong_end-requires
+wrong_end-requires c =
+    let config = c.args.config.now in
+    let ends : EndsWrong (written_look config) config.depth (string_bytes c.args.source.now.text) = rw c.in-End.is at c.requires.error in
+    subst (IsUnreadBy (config_of config)) (sym c.as_str-text.ensures.value) (λ is. ends.wrong is.form.0 is.form.1)
