@@ -131,8 +131,8 @@ impl<'a, 'c> ItemReader<'a, 'c> {
         }
     }
 
-    /// Reads the items that are left, and returns their number: then the text is a drawing. Behind an
-    /// error the number is 0.
+    /// Reads the items that are left, and returns their number: then the text is a drawing, unless a
+    /// call before returned an error.
     ///
     /// # Errors
     ///
