@@ -100,10 +100,6 @@ impl PartialEq for PrintConfig {
     }
 }
 
-impl Eq for PrintConfig {
-    ghost laws = { config_equivalence };
-}
-
 impl PartialEq for IndentChars {
     ghost eq = { on characters_of same_characters };
 
