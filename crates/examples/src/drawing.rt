@@ -1,5 +1,5 @@
 //! Callers that draw.
-ghost use Rattle.std.specs.Prelude.{◌≡◌, ◌++◌, [], ◌∷◌, IsOk};
+ghost use Rattle.std.specs.Prelude.{◌≡◌, ◌++◌, [], ◌∷◌, true, IsOk};
 ghost use Rattle.ptree.specs.Address.{Address};
 ghost use Rattle.ptree.specs.Drawing.{config_look, written_look, own_at, prefix_text, entry_text};
 ghost use Rattle.ptree.specs.Style.{painted_text};
@@ -9,12 +9,12 @@ ghost use Rattle.ptree.specs.Writing.{HasCause, IsDrawn, IsWritten, LeavesWholeE
 ghost use Rattle.ptree.specs.declared.print_config.OutputKind.{OutputKind};
 ghost use Rattle.ptree.specs.declared.print_config.StyleWhen.{StyleWhen};
 
+use crate::sinks::Terminal;
 use ptree::item::StringItem;
 use ptree::output::{print_tree_to, print_tree_with, write_tree_with};
 use ptree::print_config::PrintConfig;
-use ptree::style::{DrawError, Sink, put_all};
+use ptree::style::{DrawError, Sink, TerminalSink, put_all};
 use std::alloc::Global;
-use std::io;
 
 /// Draws to any sink. If memory runs out, the sink holds whole entries, so a reader can continue at
 /// a line.
@@ -66,7 +66,7 @@ pub fn put_text<W: Sink>(f: &mut W, text: &str) -> Result<(), DrawError>
 /// Prints with output that is never styled: the drawing is that for any other sink, even if this
 /// one is a terminal. After an error the sink holds a prefix of it, and whole entries if memory ran
 /// out.
-pub fn print_unstyled<W: Sink + io::IsTerminal>(
+pub fn print_unstyled<W: TerminalSink>(
     alloc: Global,
     tree: &StringItem,
     out: &mut W,
@@ -78,6 +78,20 @@ pub fn print_unstyled<W: Sink + io::IsTerminal>(
     ensures whole { LeavesWholeEntries (written_look config.now) (shape_of_tree (tree_of tree.now))
         config.now.depth (W.contents out.old) (W.contents out.new) result }
     ensures cause { HasCause (W.faults out.old) (W.faults out.new) result }
+{
+    print_tree_to(alloc, tree, out, config)
+}
+
+/// Prints to a sink that says that it is a terminal: the drawing is that for one.
+pub fn print_to_terminal<W: Sink>(
+    alloc: Global,
+    tree: &StringItem,
+    out: &mut Terminal<W>,
+    config: &PrintConfig,
+) -> Result<(), DrawError>
+    ensures { IsDrawn (config_look config.now OutputKind.Stdout true)
+        (shape_of_tree (tree_of tree.now)) config.now.depth
+        (W.contents out.old.inner) (W.contents out.new.inner) result }
 {
     print_tree_to(alloc, tree, out, config)
 }

@@ -20,12 +20,11 @@ pub(crate) mod place;
 use crate::item::{StringItem, TreeItem};
 use crate::print_config::{OutputKind, PrintConfig, Sources};
 use crate::sink::buffered::Buffered;
-use crate::sink::{Counted, DrawError, Sink};
+use crate::sink::{Counted, DrawError, Sink, TerminalSink};
 use engine::{Drawn, Top, draw};
 pub use indent::Indent;
 use look::Look;
 use std::alloc::{AllocError, Global};
-use std::io;
 
 // Draws to output of a kind. `terminal` says whether standard output is a terminal.
 pub(crate) fn draw_for<D: Drawn, W: Sink>(
@@ -136,7 +135,7 @@ where
     draw_for(alloc, &Top(item), out, OutputKind::Stdout, terminal, config)
 }
 
-/// Draws as [`print_tree_with`] to a sink that knows whether it is a terminal, as
+/// Draws as [`print_tree_with`] to a sink that says whether it is a terminal, as
 /// `Counted::new(rt.stdout())` does.
 ///
 /// # Errors
@@ -151,14 +150,14 @@ pub fn print_tree_to<T, W>(
 where
     T: TreeItem,
     T::Child: TreeItem<Child = T::Child> + Drop,
-    W: Sink + io::IsTerminal,
+    W: TerminalSink,
     // Success appends exactly the drawing, and an error a prefix of it: as on a terminal or not, as
-    // the sink says.
-    ensures bytes { (terminal : Bool)
+    // the sink answers.
+    ensures bytes { (terminal : Bool) × W.may_answer out.old terminal
         × IsDrawn (config_look config.now OutputKind.Stdout terminal) (T.shape item.now)
         config.now.depth (W.contents out.old) (W.contents out.new) result }
     // If memory ran out, whole entries were appended.
-    ensures whole { (terminal : Bool)
+    ensures whole { (terminal : Bool) × W.may_answer out.old terminal
         × LeavesWholeEntries (config_look config.now OutputKind.Stdout terminal) (T.shape item.now)
         config.now.depth (W.contents out.old) (W.contents out.new) result }
     ensures cause { HasCause (W.faults out.old) (W.faults out.new) result }

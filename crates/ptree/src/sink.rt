@@ -1,7 +1,7 @@
 //! Destinations and sources of bytes, why writing fails, and the loop that writes.
 ghost use Rattle.std.specs.Io.{ReadsAtMost};
 ghost use Rattle.std.specs.Io.KnownBytes.{Appends, WriteAppends, ReadConsumes};
-ghost use Rattle.std.specs.Prelude.{◌≡◌, ◌≢◌, ℕ, ◌+◌, ◌≤◌, List, [], false, IfOk, IsOk, IsTrue, OnOk, OnErr, Option, length};
+ghost use Rattle.std.specs.Prelude.{◌≡◌, ◌≢◌, ℕ, ◌+◌, ◌≤◌, Bool, List, [], false, IfOk, IsOk, IsTrue, OnOk, OnErr, Option, length};
 ghost use Rattle.ptree.specs.Writing.{IsWritten, put_faults, get_faults, HasCause, HasErrorCause, TakesNoMemory};
 ghost use Rattle.ptree.specs.declared.sink.DrawError.TheVariants.{Memory};
 
@@ -46,6 +46,16 @@ pub trait Sink {
     {
         false
     }
+}
+
+/// A sink that says whether it is a terminal.
+pub trait TerminalSink: Sink {
+    /// What it may answer. Of a stream of the process every answer is possible.
+    ghost may_answer: { Self → Bool → Type 0 };
+
+    /// Whether it is a terminal.
+    fn is_terminal(&self) -> bool
+        ensures { may_answer self.now result };
 }
 
 /// A source of bytes, which may fail.

@@ -10,7 +10,7 @@ mod color;
 mod tone;
 
 use crate::sink::{Stop, put_or_stop};
-pub use crate::sink::{Counted, DrawError, Feed, Sink, put_all};
+pub use crate::sink::{Counted, DrawError, Feed, Sink, TerminalSink, put_all};
 use codes::{Codes, put_codes};
 pub use color::Color;
 use std::alloc::{AllocError, Global};

@@ -3,7 +3,7 @@ ghost use Rattle.std.specs.Prelude.{◌≡◌};
 ghost use Rattle.ptree.specs.Counted.{fault_count, inner_of};
 
 use crate::sink::faults::FaultCount;
-use crate::sink::{Feed, Sink};
+use crate::sink::{Feed, Sink, TerminalSink};
 use std::io;
 
 /// Makes a [`Sink`] of any writer, and a [`Feed`] of any reader. It does not allocate itself.
@@ -54,8 +54,10 @@ impl<T: io::Write> Sink for Counted<T> {
     }
 }
 
-impl<T: io::IsTerminal> io::IsTerminal for Counted<T> {
-    /// Returns what the writer or reader returns.
+impl<T: io::Write + io::IsTerminal> TerminalSink for Counted<T> {
+    ghost may_answer = { λ _ _. Unit {0} };
+
+    /// Returns what the writer returns.
     fn is_terminal(&self) -> bool {
         self.inner.is_terminal()
     }

@@ -27,10 +27,10 @@ pub returns-clause-bytes : goal.returns-clause-bytes
 returns-clause-bytes g c =
     let drawn = c.print_tree_to.ensures.bytes in
     elsewhere (λ look. IsDrawn look (shape_of_tree (tree_of c.args.tree.now)) c.args.config.now.depth (g.W.Sink.contents c.args.out.now) (g.W.Sink.contents c.print_tree_to.new.out) c.print_tree_to.result)
-    c.args.config.now drawn.0 c.requires drawn.1
+    c.args.config.now drawn.0 c.requires drawn.2
 
 pub returns-clause-whole : goal.returns-clause-whole
 returns-clause-whole g c =
     let left = c.print_tree_to.ensures.whole in
     elsewhere (λ look. LeavesWholeEntries look (shape_of_tree (tree_of c.args.tree.now)) c.args.config.now.depth (g.W.Sink.contents c.args.out.now) (g.W.Sink.contents c.print_tree_to.new.out) c.print_tree_to.result)
-    c.args.config.now left.0 c.requires left.1
+    c.args.config.now left.0 c.requires left.2
