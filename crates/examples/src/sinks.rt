@@ -1,10 +1,10 @@
 //! Sinks of a caller's own.
 ghost use Rattle.std.specs.Io.KnownBytes.{Appends};
-ghost use Rattle.std.specs.Prelude.{◌≡◌, ◌↔◌, ◌≤◌, length, None, IfOk, IsTrue};
+ghost use Rattle.std.specs.Prelude.{◌≡◌, ◌↔◌, ◌≤◌, length, true, None, IfOk, IsTrue};
 ghost use Rattle.ptree.specs.Buffered.{inner_sink, held_bytes};
 
 use ptree::buffered::Buffered;
-use ptree::style::{DrawError, Sink, put_all};
+use ptree::style::{DrawError, Sink, TerminalSink, put_all};
 use std::alloc::{AllocError, Global};
 use std::io;
 
@@ -25,6 +25,30 @@ impl<W: Sink> Sink for Through<W> {
 
     fn put_if_room(&mut self, bytes: &[u8]) -> bool {
         self.inner.put_if_room(bytes)
+    }
+}
+
+/// A terminal over another sink, for one who draws as to a terminal.
+#[derive(Drop)]
+pub struct Terminal<W> {
+    pub inner: W,
+}
+
+impl<W: Sink> Sink for Terminal<W> {
+    ghost contents = { λ t. W.contents t.inner };
+
+    ghost faults = { λ t. W.faults t.inner };
+
+    fn put(&mut self, bytes: &[u8]) -> io::Result<usize> {
+        self.inner.put(bytes)
+    }
+}
+
+impl<W: Sink> TerminalSink for Terminal<W> {
+    ghost may_answer = { λ _ answer. answer ≡ true };
+
+    fn is_terminal(&self) -> bool {
+        true
     }
 }
 
@@ -81,6 +105,19 @@ pub fn gather<S: Sink + Drop>(
     };
     match buffered.put(bytes) {
         Ok(_) => Ok(buffered),
+        Err(e) => Err(DrawError::Write(e)),
+    }
+}
+
+/// Puts bytes into a new buffer of 4096 bytes, and returns how many it takes: all, if they fit.
+pub fn takes_all<S: Sink + Drop>(alloc: Global, sink: S, bytes: &[u8]) -> Result<usize, DrawError>
+    ensures { length bytes.now ≤ 4096 → IfOk result (λ n. n ≡ length bytes.now) }
+{
+    let Ok(mut buffered) = Buffered::with_capacity(alloc, 4096, sink) else {
+        return Err(DrawError::Memory);
+    };
+    match buffered.put(bytes) {
+        Ok(n) => Ok(n),
         Err(e) => Err(DrawError::Write(e)),
     }
 }

@@ -85,7 +85,7 @@ fn remove_prefix(room: &mut Vec<u8>, used: usize, n: usize)
 }
 
 impl<S: Sink> Buffered<S> {
-    ghost use Rattle.ptree.specs.Buffered.{inner_sink, held_bytes, room_of, stopped_at, given_bytes, reported_faults, PutsNoMore, FlushesNoMore, HandsOn, Stops, StopsPut};
+    ghost use Rattle.ptree.specs.Buffered.{inner_sink, held_bytes, room_of, stopped_at, given_bytes, reported_faults, PutsNoMore, FlushesNoMore, HandsOn, Stops, StopsPut, TakesAllOrNone};
 
     /// Makes a buffer before a sink. It holds at most this many bytes.
     ///
@@ -199,6 +199,7 @@ impl<S: Sink> Buffered<S> {
         ensures handed { HandsOn S.contents S.faults self.old self.new }
         ensures stops { StopsPut (stopped_at self.new) result bytes.now }
         ensures room { room_of self.new ≡ room_of self.old }
+        ensures all { length bytes.now ≤ room_of self.old → TakesAllOrNone result bytes.now }
     {
         if bytes.is_empty() {
             return Ok(0);
@@ -242,6 +243,8 @@ impl<S: Sink> Buffered<S> {
         ensures stops { StopsPut (stopped_at self.new) (put_outcome result (stopped_at self.new))
             bytes.now }
         ensures room { room_of self.new ≡ room_of self.old }
+        ensures all { length bytes.now ≤ room_of self.old
+            → TakesAllOrNone (put_outcome result (stopped_at self.new)) bytes.now }
     {
         match self.put_without_room(bytes) {
             Ok(n) if n > 0 || bytes.is_empty() => Some(n),
@@ -273,7 +276,7 @@ impl<S: Sink> Buffered<S> {
 }
 
 impl<S: Sink> Sink for Buffered<S> {
-    ghost use Rattle.ptree.specs.Buffered.{inner_sink, held_bytes, room_of, stopped_at, given_bytes, reported_faults, PutsNoMore, StopsPut, HandsOn};
+    ghost use Rattle.ptree.specs.Buffered.{inner_sink, held_bytes, room_of, stopped_at, given_bytes, reported_faults, PutsNoMore, StopsPut, HandsOn, TakesAllOrNone};
 
     ghost contents = { given_bytes S.contents };
 
@@ -293,9 +296,14 @@ impl<S: Sink> Sink for Buffered<S> {
         ensures stops { StopsPut (stopped_at self.new) result bytes.now }
         ensures room { room_of self.new ≡ room_of self.old }
         ensures fits { length (held_bytes self.new) ≤ room_of self.new }
-        // If there is room for the bytes, the inner sink is not called.
+        // If there is room for the bytes, the inner sink is not called, and all are taken.
         ensures waits { length (held_bytes self.old) + length bytes.now ≤ room_of self.old
             → inner_sink self.new ≡ inner_sink self.old }
+        ensures taken { stopped_at self.old ≡ None
+            → length (held_bytes self.old) + length bytes.now ≤ room_of self.old
+            → result ≡ Ok (length bytes.now) }
+        // If they fit into the whole buffer, all are taken or none.
+        ensures all { length bytes.now ≤ room_of self.old → TakesAllOrNone result bytes.now }
     {
         if self.put_if_room(bytes) {
             return Ok(bytes.len());
