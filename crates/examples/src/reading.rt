@@ -6,14 +6,15 @@ ghost use Rattle.ptree.specs.DrawnForm.{IsDrawnForm};
 ghost use Rattle.ptree.specs.Drawing.{look_by, written_look};
 ghost use Rattle.ptree.specs.Preset.{preset_of};
 ghost use Rattle.ptree.specs.Readable.{HasReadablePieces};
-ghost use Rattle.ptree.specs.Tree.{tree_of, height};
+ghost use Rattle.ptree.specs.ReadItems.{read_text_of};
+ghost use Rattle.ptree.specs.Tree.{Tree, tree_of, height};
 ghost use Rattle.ptree.specs.declared.print_config.OutputKind.{OutputKind};
 
 use ptree::item::StringItem;
 use ptree::presets::Preset;
 use ptree::print_config::{ASCII_CHARS_TICK, IndentChars, PrintConfig, StaticIndentChars};
 use ptree::read::{
-    ItemReader, ReadError, ReadItem, lines_that_follow, pieces_readable, read_tree,
+    ItemReader, ReadError, ReadItem, ReadText, lines_that_follow, pieces_readable, read_tree,
     read_tree_or_line,
 };
 use std::alloc::{AllocError, Global};
@@ -108,6 +109,33 @@ pub fn read_past_the_end<'a>(
             Ok(Some(_)) => {}
             Ok(None) | Err(_) => return reader.next_item(),
         }
+    }
+}
+
+/// Counts the items that are left, and calls once more: there is no further item.
+pub fn read_behind_the_rest<'a>(
+    reader: &mut ItemReader<'a, '_>,
+) -> Result<Option<ReadItem<'a>>, ReadError>
+    ensures { result ≡ Ok None }
+{
+    let _ = reader.count_rest();
+    reader.next_item()
+}
+
+/// Reads the root of a text alone. If the text is the drawing of a tree, it is the tree's root.
+pub fn root_text<'a>(
+    alloc: Global,
+    text: &'a str,
+    config: &PrintConfig,
+) -> Result<ReadText<'a>, ReadError>
+    requires { HasReadablePieces config.now }
+    ensures { (t : Tree) → IsDrawnForm (written_look config.now) config.now.depth text.now t
+        → IfOk result (λ root. read_text_of root ≡ t.text) }
+{
+    let mut reader = ItemReader::new(alloc, text, config)?;
+    match reader.next_item()? {
+        Some(item) => Ok(item.text),
+        None => unreachable!(),
     }
 }
 

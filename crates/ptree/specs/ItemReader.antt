@@ -4,7 +4,7 @@ use Rattle.ptree.specs.declared.read.ReadError.{ReadError}
 use Rattle.ptree.specs.declared.read.items.ItemReader.{ItemReader}
 use Rattle.ptree.specs.declared.read.items.ReadItem.{ReadItem}
 use Rattle.ptree.specs.Drawing.{Look}
-use Rattle.ptree.specs.DrawnForm.{IsDrawnOutline}
+use Rattle.ptree.specs.DrawnForm.{IsDrawnForm, IsDrawnOutline}
 use Rattle.ptree.specs.Looks.{look_of}
 use Rattle.ptree.specs.Outline.{Line, line, outline}
 use Rattle.ptree.specs.Readable.{IsReadableWith}
@@ -12,12 +12,20 @@ use Rattle.ptree.specs.ReadItems.{item_line}
 use Rattle.ptree.specs.Scanned.{IsError, IsScanned}
 use Rattle.ptree.specs.Tree.{Tree}
 
--- the reader has returned the items with these lines of a text, which is a drawing if there is no next one
+-- the items with these lines are the first ones of the tree whose drawing the text is, if there is one
+abbrev pub AreFirst : Look → ℕ → List ℕ → List Line → Type 0
+AreFirst look depth x done = (t : Tree) → IsDrawnForm look depth x t → (more : List Line) × (outline t ≡ done ++ more)
+
+-- The reader has returned the items with these lines of a text, which is a drawing if there is no next one.
+--
+-- `stands` is the reader's own state, which callers only pass on. It stays in a public clause, since a value holds no
+-- ghost value: the items returned, and which of the open items may be last, are known from it alone.
 pub record HasRead (look : Look) (depth : ℕ) (x : List ℕ) (reader : ItemReader) (done : List Line) : Type 0 where
   pub look_is : look_of reader.frame.look ≡ look
   pub depth_is : reader.frame.depth ≡ depth
   pub text_is : reader.text.now ≡ x
   pub readable : IsReadableWith look.pieces look.marker
+  pub first : AreFirst look depth x done
   pub stands : MatchOption reader.next (IsDrawnOutline look depth x done)
       (λ own. IsScanned look depth x reader.place.rest.now reader.place.lines done (length reader.path.flags.items) own.now reader.path.flags.items)
 

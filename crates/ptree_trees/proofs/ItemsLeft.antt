@@ -14,7 +14,6 @@ use Rattle.ptree.specs.ItemReader.{HasRead, IsNextItem, IsNextLevel}
 use Rattle.ptree.specs.Outline.{Line, line, outline, outline_at}
 use Rattle.ptree.specs.ReadItems.{item_line, read_text_of}
 use Rattle.ptree.specs.Tree.{Tree}
-use Rattle.ptree.proofs.Reading.ItemsRead.{read_first}
 use Rattle.ptree.proofs.Reading.SpelledForms.{same_drawn_form}
 use Rattle.ptree_trees.specs.declared.difference.Found.{Found}
 use Rattle.ptree_trees.specs.declared.difference.Found.TheVariants.{Nothing}
@@ -35,7 +34,7 @@ next_left look depth x old new lines None h next =
     append_cancel_left h.done lines [] (sym h.all ∙ ap outline same ∙ is ∙ sym (append-nil h.done))
 next_left look depth x old new lines (Some item) h next =
     let read = next h.done h.read in
-    let (rest, all) = read_first look depth x new (h.done ++ item_line item ∷ []) h.whole read h.form in
+    let (rest, all) = read.first h.whole h.form in
     (rest, append_cancel_left h.done lines (item_line item ∷ rest) (sym h.all ∙ all ∙ append_assoc h.done (item_line item ∷ []) rest), record { whole = h.whole; form = h.form; done = h.done ++ item_line item ∷ []; read = read; all = all })
 
 -- what the level of the next item says of the lines that are left

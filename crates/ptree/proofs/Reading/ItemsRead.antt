@@ -3,11 +3,14 @@ use Rattle.std.proofs.Common.{◌≡◌, ◌∙◌, ℕ, List, [], ◌∷◌, �
 use Rattle.std.specs.Borrow.{Bor}
 use Rattle.std.specs.Prelude.{MatchOption}
 use Rattle.ptree.specs.declared.read.items.ItemReader.{ItemReader}
+use Rattle.ptree.specs.declared.read.path.Path.{Path}
+use Rattle.ptree.specs.declared.read.scan.Place.{Place}
 use Rattle.ptree.specs.Drawing.{Look}
 use Rattle.ptree.specs.DrawnForm.{IsDrawnForm, IsDrawnOutline}
-use Rattle.ptree.specs.ItemReader.{HasRead, IsNextLevel}
+use Rattle.ptree.specs.ItemReader.{AreFirst, HasRead, IsNextLevel}
 use Rattle.ptree.specs.Looks.{look_of}
 use Rattle.ptree.specs.Outline.{Line, line, outline}
+use Rattle.ptree.specs.Readable.{IsReadableWith}
 use Rattle.ptree.specs.Scanned.{IsScanned}
 use Rattle.ptree.specs.Tree.{Tree}
 use Rattle.ptree.proofs.Reading.NextLines.{form_outline}
@@ -46,12 +49,11 @@ no_level_is look depth x reader done t h form is =
     let (u, lines, also) = end in
     ap outline (same_drawn_form look depth h.readable x t u form also) ∙ lines
 
--- the lines that were read of a drawing are the first ones of its tree
-pub read_first : (look : Look) (depth : ℕ) (x : List ℕ) (reader : ItemReader) (done : List Line) (t : Tree) → HasRead look depth x reader done → IsDrawnForm look depth x t → (more : List Line) × (outline t ≡ done ++ more)
-read_first look depth x reader done t h form = at reader.next h.stands where
-  at : (o : Option (Bor (List ℕ))) → MatchOption o (IsDrawnOutline look depth x done) (λ own. IsScanned look depth x reader.place.rest.now reader.place.lines done (length reader.path.flags.items) own.now reader.path.flags.items) → (more : List Line) × (outline t ≡ done ++ more)
-  at None (u, lines, also) = ([], ap outline (same_drawn_form look depth h.readable x t u form also) ∙ lines ∙ sym (append-nil done))
-  at (Some own) s =
-      let (drawn, valid) = form_outline look depth x t form in
-      let (below, text, is, allowed, follows) = s.reached.to (outline t) reader.place.rest.now valid (sym s.text_is ∙ drawn) in
-      (line (length reader.path.flags.items) text ∷ below, is)
+-- the items that were read of a drawing are the first ones of its tree
+pub first_items : (look : Look) (depth : ℕ) (x : List ℕ) (done : List Line) (place : Place) (path : Path) (next : Option (Bor (List ℕ))) → IsReadableWith look.pieces look.marker
+    → MatchOption next (IsDrawnOutline look depth x done) (λ own. IsScanned look depth x place.rest.now place.lines done (length path.flags.items) own.now path.flags.items) → AreFirst look depth x done
+first_items look depth x done place path None readable (u, lines, also) t form = ([], ap outline (same_drawn_form look depth readable x t u form also) ∙ lines ∙ sym (append-nil done))
+first_items look depth x done place path (Some own) readable s t form =
+    let (drawn, valid) = form_outline look depth x t form in
+    let (below, text, is, allowed, follows) = s.reached.to (outline t) place.rest.now valid (sym s.text_is ∙ drawn) in
+    (line (length path.flags.items) text ∷ below, is)

@@ -138,8 +138,9 @@ impl<'a, 'c> ItemReader<'a, 'c> {
     ///
     /// As [`next_item`](ItemReader::next_item).
     pub fn count_rest(&mut self) -> Result<usize, ReadError>
-        ensures { (look : Look) (depth : ℕ) (text : List ℕ) (done : List Line)
+        ensures count { (look : Look) (depth : ℕ) (text : List ℕ) (done : List Line)
             → HasRead look depth text self.old done → IsCountOfRest look depth text done result }
+        ensures over { bytes_left self.new ≡ 0 }
     {
         let mut count = 0;
         while let Some(_item) = self.advance::<3>()? {

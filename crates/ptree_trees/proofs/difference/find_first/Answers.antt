@@ -19,7 +19,7 @@ returns-in-Err-count_rest c look depth x y h g =
       | in-Nothing w ↦ rw w.in-Nothing.is at c.in-Ok.ensures.right look depth y ([], g)
       | in-Difference w ↦ rw w.in-Difference.is at c.in-Ok.ensures.right look depth y ([], g)
     ] in
-    c.wrong_right-in-Err-count_rest.ensures look depth x y (c.in-Ok.ensures.left look depth x ([], h)) (c.in-Err-count_rest.ensures look depth y read.0 read.1)
+    c.wrong_right-in-Err-count_rest.ensures look depth x y (c.in-Ok.ensures.left look depth x ([], h)) (c.in-Err-count_rest.ensures.count look depth y read.0 read.1)
 
 pub returns-in-Ok-count_rest : goal.returns-in-Ok-count_rest
 returns-in-Ok-count_rest c look depth x y h g =
@@ -28,8 +28,8 @@ returns-in-Ok-count_rest c look depth x y h g =
       | in-Nothing w ↦ rw w.in-Nothing.is at c.in-Ok.ensures.right look depth y ([], g)
       | in-Difference w ↦ rw w.in-Difference.is at c.in-Ok.ensures.right look depth y ([], g)
     ] in
-    let (t, _, form) = (c.in-Ok-count_rest.ensures look depth x read.0 read.1).2 in
-    let (u, _, other) = (c.in_default.ensures look depth y also.0 also.1).2 in
+    let (t, _, form) = (c.in-Ok-count_rest.ensures.count look depth x read.0 read.1).2 in
+    let (u, _, other) = (c.in_default.ensures.count look depth y also.0 also.1).2 in
     let found = found_whole look depth x y c.args.items.now c.args.others.now c.find_from.new.left c.find_from.new.right c.in-Ok.found t u (c.in-Ok.ensures.found look depth x y) h g form other in
     let first : MatchOption c.match-found.first (t ≡ u) (IsItemDifference t u) = elim c.match-found.branch [
       | in-Nothing w ↦ let none : FindsIn look depth x y c.find_from.new.left c.find_from.new.right [] [] t u Nothing = rw w.in-Nothing.is at found in
@@ -42,4 +42,4 @@ returns-in-Ok-count_rest c look depth x y h g =
 pub returns : goal.returns
 returns c look depth x y h g =
     let read = c.in-Ok.ensures.left look depth x ([], h) in
-    c.in-Err-count_rest-2.ensures look depth x read.0 read.1
+    c.in-Err-count_rest-2.ensures.count look depth x read.0 read.1
