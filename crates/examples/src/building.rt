@@ -1,6 +1,6 @@
 //! Callers that build trees.
 ghost use Rattle.std.specs.Prelude.{◌≡◌, ◌<◌, ◌+◌, ◌++◌, [], ◌∷◌, max, IsTrue, IsFalse, OnOk, OnErr, IsErrOf, IfOk, length, string_bytes};
-ghost use Rattle.ptree.specs.Outline.{line, subtrees};
+ghost use Rattle.ptree.specs.Outline.{line, outline};
 ghost use Rattle.ptree.specs.Tree.{tree, none, forest, tree_of};
 ghost use Rattle.ptree.specs.declared.builder.AddError.{AddError};
 
@@ -63,9 +63,9 @@ pub fn over_two(
     StringItem::new(alloc, text, vec![in alloc; first, second]?)
 }
 
-/// How many items a tree has.
+/// How many items a tree has: as many as lines in its outline.
 pub fn count_items(alloc: Global, tree: &StringItem) -> Result<usize, AllocError>
-    ensures { IfOk result (λ n. n ≡ length (subtrees (tree_of tree.now))) }
+    ensures { IfOk result (λ n. n ≡ length (outline (tree_of tree.now))) }
 {
     let items = tree.items(alloc)?;
     Ok(items.len())

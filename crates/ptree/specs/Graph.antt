@@ -2,7 +2,6 @@
 use Rattle.std.specs.Prelude.{ℕ, zero, suc, ◌≤◌, ◌==◌, ◌⊎◌, List, [], map, reverse, filter, slice_get, option_map, unwrap_or}
 use Rattle.ptree.specs.declared.graph.Graph.{Graph}
 use Rattle.ptree.specs.declared.graph.NodeIndex.{NodeIndex}
-use Rattle.ptree.specs.GraphLinks.{ends_of}
 use Rattle.ptree.specs.Shape.{Shape, unfolded_shape}
 use Rattle.ptree.specs.Style.{StyleValue, painted_text}
 use Rattle.ptree.specs.Tree.{Tree, tree, none, forest}
@@ -13,7 +12,7 @@ weights_of g = map (λ n. n.weight) g.nodes.items
 
 -- the edges, oldest first, each as the numbers of its source and its target
 abbrev pub edges_of : {N : Type 0} → Graph N → List (ℕ × ℕ)
-edges_of g = map ends_of g.edges.items
+edges_of g = map (λ e. (e.source, e.target)) g.edges.items
 
 -- the numbers of two nodes
 abbrev pub numbers_of : NodeIndex × NodeIndex → ℕ × ℕ

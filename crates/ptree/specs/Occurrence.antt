@@ -125,6 +125,9 @@ size_below (suc n) = n
 -- The trees that the first places are, as many of them as `left` places make, in at most so
 -- many steps. A place is a tree together with those after it that are below it by its size, and
 -- the next tree begins after these.
+--
+-- This goes over the places as code does: a caller may make a list of any sizes, and each list
+-- means a tree. Of a list that has a tree's places (`tree_places`), it is that tree.
 abbrev pub trees_by : (steps left : ℕ) → List Place → List OccurrenceTree
 trees_by zero left ps = []
 trees_by (suc n) zero ps = []

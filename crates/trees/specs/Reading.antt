@@ -7,7 +7,7 @@ use Rattle.ptree.specs.Config.{ConfigValue}
 use Rattle.ptree.specs.Continuation.{IsFirstWrongLine, EndsWrong}
 use Rattle.ptree.specs.Drawing.{look_by, IsDrawing}
 use Rattle.ptree.specs.DrawnForm.{IsDrawnForm}
-use Rattle.ptree.specs.Outline.{outline, subtrees}
+use Rattle.ptree.specs.Outline.{outline}
 use Rattle.ptree.specs.Tree.{Tree, shape_of_tree}
 use Rattle.ptree_trees.specs.declared.difference.ItemDifference.{ItemDifference}
 use Rattle.ptree_trees.specs.Difference.{IsItemDifference}
@@ -126,7 +126,7 @@ count_line source n = string_bytes source.name ++ (codes ": a drawing of " ++ (d
 -- what `check` says of a source: of a drawing how many items it has, and else what is wrong, and where
 abbrev pub IsReport : ConfigValue → Source → List ℕ → Type 0
 IsReport config source said =
-    ((t : Tree) × HoldsDrawing config source t × (said ≡ count_line source (length (subtrees t))))
+    ((t : Tree) × HoldsDrawing config source t × (said ≡ count_line source (length (outline t))))
     ⊎ ((wrong : String Global) × (HoldsSome config source → ⊥) × NamesPlace config source (Input wrong) × (said ≡ string_bytes wrong ++ codes "\n"))
 
 -- a text grows by one text of each of these, in their order

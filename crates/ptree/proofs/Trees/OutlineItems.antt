@@ -4,21 +4,11 @@ use Rattle.std.proofs.Math.Seq.{drop-cons}
 use Rattle.std.proofs.lemmas.List.{map-append}
 use Rattle.std.specs.Borrow.{Bor}
 use Rattle.std.specs.Prelude.{string_bytes}
-use Rattle.ptree.specs.Outline.{Line, line, outline, outline_at, subtrees, subtrees_at}
+use Rattle.ptree.specs.Outline.{Line, AreItems, outline}
 use Rattle.ptree.specs.Tree.{Forest, none, item, Tree, tree_of}
 use Rattle.ptree.specs.declared.item.StringItem.{StringItem, out-StringItem}
 use Rattle.ptree.proofs.Trees.ItemTrees.{tree_of_item}
-
--- the line of a tree at a level
-abbrev pub line_of : ℕ × Tree → Line
-line_of p = line p.0 p.1.text
-
--- the lines of the trees of a forest are its outline
-forest_lines : (n : ℕ) (f : Forest) → map line_of (subtrees_at n f) ≡ outline_at n f
-forest_lines n none = refl
-forest_lines n (item t c r) =
-    ap (λ z. line n t ∷ z) (map-append line_of (subtrees_at (suc n) c) (subtrees_at n r)
-    ∙ (ap (λ z. z ++ map line_of (subtrees_at n r)) (forest_lines (suc n) c) ∙ ap (λ z. outline_at (suc n) c ++ z) (forest_lines n r)))
+use Rattle.ptree.proofs.Trees.OutlineAddresses.{line_of, lines_by_addresses, outline_of_tree}
 
 -- two maps are one
 lines_twice : {A : Type 0} (f : A → ℕ × Tree) (xs : List A) → map (λ a. line_of (f a)) xs ≡ map line_of (map f xs)
@@ -26,8 +16,9 @@ lines_twice f [] = refl
 lines_twice f (x ∷ xs) = ap (λ z. line_of (f x) ∷ z) (lines_twice f xs)
 
 -- the lines of all items of a tree are its outline
-pub lines_of_items : {A : Type 0} (f : A → ℕ × Tree) (xs : List A) (t : Tree) → map f xs ≡ subtrees t → map (λ a. line_of (f a)) xs ≡ outline t
-lines_of_items f xs t e = lines_twice f xs ∙ (ap (map line_of) e ∙ ap (λ z. line 0 t.text ∷ z) (forest_lines 1 t.children))
+pub lines_of_items : {A : Type 0} (f : A → ℕ × Tree) (xs items : List A) (t : Tree) → xs ≡ items → AreItems t (map f items) → map (λ a. line_of (f a)) xs ≡ outline t
+lines_of_items f xs items t e are =
+    ap (map (λ a. line_of (f a))) e ∙ (lines_twice f items ∙ (outline_of_tree t (map line_of (map f items))).0 (lines_by_addresses t (map f items) are))
 
 -- the level and the tree of an item
 abbrev pub item_tree : ℕ × Bor StringItem → ℕ × Tree

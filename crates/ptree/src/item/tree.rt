@@ -2,7 +2,8 @@
 ghost use Rattle.std.specs.Prelude.{◌≡◌, ◌↔◌, ◌++◌, ◌∷◌, map, option_map, suc, IfOk, IsTrue, OnOk};
 ghost use Rattle.ptree.specs.Address.{at};
 ghost use Rattle.ptree.specs.Equality.{same_tree};
-ghost use Rattle.ptree.specs.Outline.{subtrees, subtrees_at};
+ghost use Rattle.ptree.specs.Outline.{AreItems};
+ghost use Rattle.ptree.specs.Subtrees.{subtrees_at};
 ghost use Rattle.ptree.specs.Tree.{tree, none, forest, tree_kids, tree_of};
 
 use crate::item::StringItem;
@@ -47,7 +48,7 @@ impl StringItem {
     /// Memory ran out, or a level exceeds 4294967295.
     pub fn items(&self, alloc: Global) -> Result<Vec<(u32, &StringItem)>, AllocError>
         ensures { IfOk result (λ v.
-            map (λ p. (p.0, tree_of p.1.now)) v.items ≡ subtrees (tree_of self.now)) }
+            AreItems (tree_of self.now) (map (λ p. (p.0, tree_of p.1.now)) v.items)) }
     {
         let mut items = Vec::new(alloc);
         push_items(self, 0, &mut items)?;

@@ -13,8 +13,7 @@ returns-then-not-is_item_text-clause-text c = λ _ h.
     let x = c.entry-item.result in
     let t = tree_of c.args.item.now in
     let bullet : List ℕ = c.args.form.now.bullet.now in
-    let all = ap (map item_tree) c.deref-entry-items.ensures.value ∙ c.in_ok-items.ensures in
-    let lines : map item_line xs ≡ outline t = lines_of_items item_tree xs t all in
+    let lines : map item_line xs ≡ outline t = lines_of_items item_tree xs _ t c.deref-entry-items.ensures.value c.in_ok-items.ensures in
     let text : (tree_of x.1.now).text ≡ c.as_str.result.now = item_text x.1.now ∙ sym c.as_str.ensures.value in
     texts_not c.args.form.now item_line xs c.loop-entry.entry-index x (map item_line xs) c.loop-entry-test.true c.entry-item.is
     (λ k. false≢true (sym c.if-not-is_item_text.true ∙ c.is_item_text.ensures.1 (subst (λ z. IsLineText (bullet ++ z)) text k)))
@@ -40,7 +39,6 @@ pub returns-clause-form : goal.returns-clause-form
 returns-clause-form c =
     let xs = c.deref-entry-items.result.now in
     let t = tree_of c.args.item.now in
-    let all = ap (map item_tree) c.deref-entry-items.ensures.value ∙ c.in_ok-items.ensures in
-    let lines : map item_line xs ≡ outline t = lines_of_items item_tree xs t all in
+    let lines : map item_line xs ≡ outline t = lines_of_items item_tree xs _ t c.deref-entry-items.ensures.value c.in_ok-items.ensures in
     write_all c.args.form.now (string_bytes c.loop-entry.text) item_line xs c.loop-entry.entry-index c.loop-entry-test.false
     c.loop-entry.invariant.0 c.loop-entry.invariant.1 (outline t) lines

@@ -16,7 +16,7 @@ returns-in-Some-wrong_text-clause-failed c =
     let t = tree_of c.args.tree.now in
     let bullet = c.args.bullet in
     let Is : Line → Type 0 = λ l. IsKeptText (text_or bullet []) l.text in
-    let lines : map item_line xs ≡ outline t = lines_of_items item_tree xs t (ap (map item_tree) c.deref-entry-items.ensures.value ∙ c.in_ok-items.ensures) in
+    let lines : map item_line xs ≡ outline t = lines_of_items item_tree xs _ t c.deref-entry-items.ensures.value c.in_ok-items.ensures in
     let same : c.unwrap_or.result.now ≡ text_or bullet [] = search (rules, text_or_is bullet) in
     let text : (tree_of x.1.now).text ≡ c.as_str-in-loop-i.result.now = item_text x.1.now ∙ sym c.as_str-in-loop-i.ensures.value in
     fails_by_input (AreKeptTexts bullet t → ⊥) ⊥ c.in_ok-wrong_at-2.field-0 c.in_ok-wrong_at-2.ensures.input (λ kept.
@@ -39,5 +39,5 @@ pub returns-clause-kept : goal.returns-clause-kept
 returns-clause-kept c =
     let xs = c.deref-entry-items.result.now in
     let t = tree_of c.args.tree.now in
-    let lines : map item_line xs ≡ outline t = lines_of_items item_tree xs t (ap (map item_tree) c.deref-entry-items.ensures.value ∙ c.in_ok-items.ensures) in
+    let lines : map item_line xs ≡ outline t = lines_of_items item_tree xs _ t c.deref-entry-items.ensures.value c.in_ok-items.ensures in
     all_kept c.args.bullet xs c.loop-i.i t c.as_str.result.now c.loop-i-test.false c.loop-i.invariant lines (item_text c.args.tree.now ∙ sym c.as_str.ensures.value) c.in_default.ensures

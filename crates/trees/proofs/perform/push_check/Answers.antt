@@ -1,7 +1,4 @@
-use Rattle.std.proofs.Common.{◌≡◌, ◌∙◌, ◌++◌, inl, inr, length, refl, rules, ap, sym, subst, codes, string_bytes}
-use Rattle.std.proofs.lemmas.List.{length-map, map-id}
-use Rattle.ptree.specs.Outline.{subtrees}
-use Rattle.ptree.proofs.Trees.OutlineItems.{line_of, lines_of_items}
+use Rattle.std.proofs.Common.{◌≡◌, ◌++◌, inl, inr, refl, rules, ap, sym, subst, codes, string_bytes}
 use Rattle.trees.specs.declared.failure.Failure.TheVariants.{Input}
 use Rattle.trees.specs.Asked.{reading_value}
 use Rattle.trees.specs.Reading.{FailsToRead, NamesPlace, count_line}
@@ -11,9 +8,7 @@ use Rattle.trees.proofs.perform.push_check.Goals as goal
 pub returns-in_ok-push_count-in-Ok-clause-report : goal.returns-in_ok-push_count-in-Ok-clause-report
 returns-in_ok-push_count-in-Ok-clause-report c =
     let (t, is, holds) = c.in-Ok.ensures.some in
-    let all = subtrees t in
-    let count : length all ≡ c.in-Ok.count = sym (length-map all line_of) ∙ ap length (lines_of_items (λ p. p) all t (map-id all)) ∙ is in
-    (count_line c.args.source.now c.in-Ok.count, c.in_ok-push_count-in-Ok.ensures, inl (t, holds, ap (count_line c.args.source.now) (sym count)))
+    (count_line c.args.source.now c.in-Ok.count, c.in_ok-push_count-in-Ok.ensures, inl (t, holds, ap (count_line c.args.source.now) (sym is)))
 
 -- what is wrong is said, on a line of its own
 pub returns-in_ok-writeln-in-Err-Input-clause-report : goal.returns-in_ok-writeln-in-Err-Input-clause-report

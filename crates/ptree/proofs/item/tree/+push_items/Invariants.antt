@@ -1,5 +1,5 @@
 use Rattle.std.proofs.Common.{◌≡◌, ◌++◌, ◌∷◌, ℕ, suc, map, drop}
-use Rattle.ptree.specs.Outline.{subtrees_at}
+use Rattle.ptree.specs.Subtrees.{subtrees_at}
 use Rattle.ptree.specs.Tree.{Tree, tree_of, forest}
 use Rattle.ptree.proofs.item.tree.+push_items.Given as goal
 
