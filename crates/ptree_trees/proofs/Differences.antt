@@ -1,12 +1,8 @@
 -- Where trees differ first.
 use Rattle.std.specs.Prelude.{◌≢◌, slice_get, option_map, option_and_then}
-use Rattle.std.proofs.Common.{◌≡◌, ◌∙◌, ℕ, zero, suc, ◌<◌, ◌+◌, true, string_bytes, inl, inr, List, [], ◌∷◌, Option, Some, None, ap, sym, refl, subst, arith, below_more}
-use Rattle.std.proofs.lemmas.Slice.Eq.{bytes_eq-Decides}
-use Rattle.std.specs.Str.{bytes_eq}
-use Rattle.ptree.specs.declared.item.StringItem.{StringItem, out-StringItem}
+use Rattle.std.proofs.Common.{◌≡◌, ◌∙◌, ℕ, zero, suc, ◌<◌, ◌+◌, inl, inr, List, [], ◌∷◌, Option, Some, None, ap, sym, refl, subst, arith, below_more}
 use Rattle.ptree.specs.Address.{Address, at, Before}
-use Rattle.ptree.specs.Tree.{Forest, none, item, Tree, tree, trees, forest, tree_kids, tree_of}
-use Rattle.ptree.proofs.Trees.ItemTrees.{tree_of_item}
+use Rattle.ptree.specs.Tree.{Forest, none, item, Tree, tree, trees, forest, tree_kids}
 use Rattle.ptree_trees.specs.Difference.{text_at_address}
 use Rattle.ptree_trees.specs.Found.{IsFirst}
 
@@ -14,10 +10,6 @@ use Rattle.ptree_trees.specs.Found.{IsFirst}
 pub record AreSameTo (t u : Tree) (n : ℕ) : Type 0 where
   pub text : t.text ≡ u.text
   pub kids : (i : ℕ) → i < n → slice_get (tree_kids t) i ≡ slice_get (tree_kids u) i
-
--- the trees of items with the same text have the same text
-pub same_texts : (a b : StringItem) → bytes_eq (string_bytes (out-StringItem a).text) (string_bytes (out-StringItem b).text) ≡ true → (tree_of a).text ≡ (tree_of b).text
-same_texts a b h = rw (tree_of_item a, tree_of_item b) ((bytes_eq-Decides _ _).0 h)
 
 -- what stands at a child's position is the child
 at_child : (t : Tree) (i : ℕ) (x : Option Tree) → slice_get (tree_kids t) i ≡ x → at tree_kids t (i ∷ []) ≡ x

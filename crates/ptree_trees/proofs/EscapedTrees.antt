@@ -1,6 +1,6 @@
 -- Trees whose texts are escaped.
-use Rattle.std.proofs.Common.{◌≡◌, ℕ, ◌+◌, ◌<◌, ◌≤◌, ◌++◌, List, [], ◌∷◌, length, get_or, map, take, string_bytes, refl, sym, ap, ◌∙◌}
-use Rattle.std.proofs.lemmas.List.{take_more, take_all, map-append}
+use Rattle.std.proofs.Common.{◌≡◌, ℕ, ◌≤◌, List, [], ◌∷◌, length, map, take, string_bytes, refl, sym, ap, ◌∙◌}
+use Rattle.std.proofs.lemmas.List.{take_all}
 use Rattle.ptree.specs.Tree.{Tree, tree, item, tree_of, forest}
 use Rattle.ptree.specs.declared.item.StringItem.{StringItem, out-StringItem}
 use Rattle.ptree.specs.declared.item.StringItem.TheOpen.{StringItem-F}
@@ -13,13 +13,6 @@ module _ (f : List ℕ → List ℕ) where
   forest_mapped : (ts : List Tree) → forest (map (mapped_tree f) ts) ≡ mapped_forest f (forest ts)
   forest_mapped [] = refl
   forest_mapped (t ∷ ts) = ap (item (f t.text) (mapped_forest f t.children)) (forest_mapped ts)
-
-  -- the next of the elements
-  pub next_mapped : {X : Type 0} (view : X → Tree) (xs done new : List X) (i : ℕ) (x s : X) → i < length xs → x ≡ get_or xs i x → new ≡ done ++ s ∷ []
-      → map view done ≡ map (mapped_tree f) (map view (take i xs)) → view s ≡ mapped_tree f (view x) → map view new ≡ map (mapped_tree f) (map view (take (i + 1) xs))
-  next_mapped view xs done new i x s l is made before here =
-      let front : take (i + 1) xs ≡ take i xs ++ x ∷ [] = rw (← is) at (take_more xs i x l) in
-      rw (front, made, map-append, map-append, map-append, before, here) refl
 
   -- a new item is the item with its texts replaced if its text and its children are
   pub whole_mapped : (root : StringItem) (x : StringItem-F StringItem) (xs : List StringItem) (i : ℕ) → xs ≡ (out-StringItem root).children.items → length xs ≤ i

@@ -4,13 +4,12 @@ use Rattle.std.specs.Cmp.Lexicographic.{slice_cmp}
 use Rattle.std.specs.Ordering.{nat_cmp, ordering_then, ordering_reverse, is_eq}
 use Rattle.std.specs.Str.{bytes_eq}
 use Rattle.std.specs.declared.cmp.Ordering.TheVariants.{Less, Equal, Greater}
-use Rattle.std.proofs.Common.{◌≡◌, ◌≢◌, ◌⊎◌, ℕ, zero, suc, ◌+◌, ◌*◌, ◌%◌, ◌^◌, ◌<◌, ◌≤◌, Bool, true, false, min, List, [], ◌∷◌, length, get_or, refl, sym, ap, ◌∙◌, inl, inr, add-one, arith}
+use Rattle.std.proofs.Common.{◌≡◌, ◌≢◌, ◌⊎◌, ℕ, zero, suc, ◌+◌, ◌*◌, ◌%◌, ◌^◌, ◌<◌, ◌≤◌, true, min, List, [], ◌∷◌, length, get_or, refl, sym, ap, ◌∙◌, inl, inr, add-one, arith}
 use Rattle.std.proofs.Math.Nat.{pow-suc, one-le-pow, pow-le-pow_right, mul-le-mul_right}
 use Rattle.std.proofs.lemmas.Bool.{cases_order}
 use Rattle.std.proofs.lemmas.Cmp.{nat_list_cmp_total}
 use Rattle.std.proofs.lemmas.Map.Text.{is_eq-slice_cmp}
 use Rattle.std.proofs.lemmas.Nat.{mul-add-lt, same_from_place}
-use Rattle.std.proofs.lemmas.Slice.Eq.{bytes_eq-Decides}
 use Rattle.ptree_trees.specs.CutName.{AreBytes, front_number, name_key}
 
 -- so also behind the first
@@ -117,10 +116,3 @@ key_cmp xs ys a b h = at (cases_order (name_key xs) (name_key ys)) where
 -- equal keys of short names are those of one name
 pub key_equal : (xs ys : List ℕ) → AreBytes xs → AreBytes ys → name_key xs ≡ name_key ys → name_key xs % 256 < 8 → bytes_eq xs ys ≡ true
 key_equal xs ys a b h short = sym (is_eq-slice_cmp xs ys) ∙ ap is_eq (key_same xs ys a b h short)
-
--- and other keys those of two
-pub key_other : (xs ys : List ℕ) → name_key xs ≢ name_key ys → bytes_eq xs ys ≡ false
-key_other xs ys h = at (bytes_eq xs ys) refl where
-  at : (b : Bool) → bytes_eq xs ys ≡ b → bytes_eq xs ys ≡ false
-  at true e = absurd (h (ap name_key ((bytes_eq-Decides xs ys).0 e)))
-  at false e = e

@@ -183,9 +183,6 @@ module _ (ps : List Package) (known : Known) (up : IsStrictlySortedBy package_cm
         | inr ge ↦ ge
       ]
 
-      pub behind_next : AreBehind ps known (at + 1)
-      behind_next = (let later = first.later in λ k d low high. is.behind k d (omega arith) high)
-
       pub alone : NoneIs ps known (at + 1) (length ps) → IsNeeded ps known at
       alone none = record {
         below = first.below;
