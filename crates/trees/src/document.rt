@@ -284,9 +284,14 @@ pub fn toml_value(alloc: Global, source: &Source) -> Result<toml::Value, Failure
         Ok(table) => Ok(toml::Value::Table(table)),
         Err(e) if e.is_memory() => Err(Failure::Memory),
         Err(e) => {
-            // (the line that the reader names, since its message is about that)
-            let line = line_at(source.text.as_str(), e.span().map_or(0, |span| span.start));
-            let why = e.message();
+            let line = wrong_line(alloc, FileSource::Toml(source.text.clone()?))?;
+            let found = line_at(source.text.as_str(), e.span().map_or(0, |span| span.start));
+            // (the reader reads a value before it looks whether the key occurs twice)
+            let why = if line < found {
+                "duplicate key"
+            } else {
+                e.message()
+            };
             let wrong = format!(in alloc; "invalid TOML: {why}")?;
             Err(source.wrong_at(alloc, line, wrong.as_str())?)
         }
