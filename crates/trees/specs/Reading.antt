@@ -76,6 +76,10 @@ FailsFor Wrong P Said = ⊥
 FailsFor Wrong P (Output kind) = ⊥
 FailsFor Wrong P Memory = ⊤
 
+-- the failure says why an input could not be read, or that memory ran out
+abbrev pub IsUnread : Failure → Type 0
+IsUnread = FailsFor ⊤ ⊥
+
 -- the same where Is holds of what is made: there is none, or P, or memory ran out
 abbrev pub FailsToMake : {X : Type 0} → Type 0 → (X → Type 0) → Failure → Type 0
 FailsToMake {X} P Is = FailsFor ((x : X) → Is x → ⊥) P

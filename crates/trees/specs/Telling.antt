@@ -27,6 +27,11 @@ status_of (Usage wrong) = 2
 status_of (Output BrokenPipe) = 141
 status_of _ = 1
 
+-- the number of faults of the output that a result reports: one for `Output`, and otherwise none
+abbrev pub failure_faults : {A : Type 0} → Result A Failure → ℕ
+failure_faults (Err (Output kind)) = 1
+failure_faults _ = 0
+
 -- the call succeeds or refuses only if P holds
 abbrev pub TellsOnlyIf : {A : Type 0} → Result A Failure → Type 0 → Type 0
 TellsOnlyIf (Ok x) P = P

@@ -57,9 +57,14 @@ impl<T: Drop> From<AllocFailed<T>> for Failure {
 }
 
 impl From<DrawError> for Failure {
+    ghost use Rattle.std.specs.Prelude.{Err};
+    ghost use Rattle.ptree.specs.Writing.{result_faults};
     ghost use Rattle.trees.specs.Reading.{IsWriting};
+    ghost use Rattle.trees.specs.Telling.{failure_faults};
 
-    ghost from_gives = { λ _ e. IsWriting e };
+    // A failure of the sink becomes `Output`, and out of memory `Memory`.
+    ghost from_gives = { λ d e. IsWriting e
+        × (failure_faults {A = Unit {0}} (Err e) ≡ result_faults {A = Unit {0}} (Err d)) };
 
     fn from(e: DrawError) -> Failure {
         match e {

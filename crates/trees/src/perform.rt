@@ -1,11 +1,11 @@
 //! Does what a command asks for.
-ghost use Rattle.std.specs.Prelude.{◌≡◌, ◌≢◌, ◌<◌, ◌↔◌, ◌++◌, ◌⊎◌, ℕ, true, false, List, None, map, length, All, IsTrue, IfOk, IfErr, IsErr, OnOk, option_map, string_bytes};
+ghost use Rattle.std.specs.Prelude.{◌≡◌, ◌≢◌, ◌<◌, ◌↔◌, ◌+◌, ◌++◌, ◌⊎◌, ℕ, true, false, List, None, map, length, All, IsTrue, IfOk, IfErr, IsErr, OnOk, option_map, string_bytes};
 ghost use Rattle.ptree.specs.declared.print_config.OutputKind.TheVariants.{Unknown};
 ghost use Rattle.ptree.specs.Config.{config_of};
 ghost use Rattle.ptree.specs.Drawing.{look_by};
 ghost use Rattle.ptree.specs.Loading.{first_fault};
 ghost use Rattle.ptree.specs.Tree.{tree_of};
-ghost use Rattle.ptree.specs.Writing.{AppendsPart, IsWritten};
+ghost use Rattle.ptree.specs.Writing.{AppendsPart, HasCause, IsWritten};
 ghost use Rattle.ptree_trees.specs.Change.{kept_tree};
 ghost use Rattle.ptree_trees.specs.Parts.{has_part};
 ghost use Rattle.trees.specs.Asked.{drawing_value, reading_value, with_drawing};
@@ -14,7 +14,7 @@ ghost use Rattle.trees.specs.Listing.{IsListed, FailsToList};
 ghost use Rattle.trees.specs.Merging.{IsComparison, IsMergeDrawing};
 ghost use Rattle.trees.specs.Reading.{HoldDifference, HoldsCount, HoldsDrawing, HoldsNoOther, HoldsSome, IsRedrawn, FailsFor, FailsToRead, FailsToMake, NamesPlace, IsReport, Adds, item_word, count_line};
 ghost use Rattle.trees.specs.Shown.{IsNone, ShowsOnly};
-ghost use Rattle.trees.specs.Telling.{TellsWhether, TellsOnlyIf, TellsOfTexts, TellsOfCommand};
+ghost use Rattle.trees.specs.Telling.{failure_faults, TellsWhether, TellsOnlyIf, TellsOfTexts, TellsOfCommand};
 ghost use Rattle.trees.specs.Writing.{WritesSaid, AreReports, FailsToCheck, AreSettings, Writes, IsTreeDrawing, IsGraphDrawing, IsGraphTooDeep, WritesDrawn, IsIndentation, FailsToIndent, IsGiven, FailsToGive, Draws, DrawsNeeds, Converts, ConvertsBack, WritesOfCommand, ShowsOfCommand, ShowsDrawing, ShowsMerged, LeavesIfWrong, WritesRefusal, Compares};
 
 use crate::command::{Command, Convert, Deps, Diff, Drawing, Indented, Paths, Tree};
@@ -53,6 +53,7 @@ pub fn perform<W: Sink>(
     ensures written { WritesOfCommand found.now.sources command.entry
         (W.contents out.old) (W.contents out.new) result }
     ensures quiet { LeavesIfWrong out.old out.new result }
+    ensures cause { W.faults out.new ≡ W.faults out.old + failure_faults result }
     ensures shown { ShowsOfCommand found.now.sources command.entry
         (W.contents out.old) (W.contents out.new) }
 {
@@ -90,6 +91,7 @@ fn say<W: Sink>(out: &mut W, text: &str, is_refusal: bool) -> Result<(), Failure
     ensures written { WritesSaid (W.contents out.old) (W.contents out.new) result
         (λ bytes. bytes ≡ text.now) (λ e. e ≡ Failure.Memory) }
     ensures quiet { LeavesIfWrong out.old out.new result }
+    ensures cause { W.faults out.new ≡ W.faults out.old + failure_faults result }
 {
     write_text(out, text)?;
     if is_refusal {
@@ -103,6 +105,7 @@ fn write_text<W: Sink>(out: &mut W, text: &str) -> Result<(), Failure>
     ensures written { Writes (W.contents out.old) (W.contents out.new) result
         (λ bytes. bytes ≡ text.now) (λ e. e ≡ Failure.Memory) }
     ensures quiet { LeavesIfWrong out.old out.new result }
+    ensures cause { W.faults out.new ≡ W.faults out.old + failure_faults result }
 {
     Ok(put_all(out, text.as_bytes())?)
 }
@@ -119,6 +122,7 @@ fn draw_source<W: Sink>(
     ensures written { Draws found.now.sources source.now tree.entry drawing
         (W.contents out.old) (W.contents out.new) result }
     ensures quiet { LeavesIfWrong out.old out.new result }
+    ensures cause { W.faults out.new ≡ W.faults out.old + failure_faults result }
     ensures shown { ShowsDrawing found.now.sources drawing
         (W.contents out.old) (W.contents out.new) }
 {
@@ -208,6 +212,7 @@ fn draw<W: Sink>(
     ensures written { WritesDrawn (drawing_value found.now.sources drawing)
         drawing.screen.is_terminal drawn.entry (W.contents out.old) (W.contents out.new) result }
     ensures quiet { LeavesIfWrong out.old out.new result }
+    ensures cause { W.faults out.new ≡ W.faults out.old + failure_faults result }
 {
     let config = config(alloc, drawing, found)?;
     let written = write_drawing(alloc, drawn, drawing.screen.is_terminal, out, &config);
@@ -226,6 +231,7 @@ fn write_drawing<W: Sink>(
     ensures written { WritesDrawn (config_of config.now) is_terminal
         drawn.entry (W.contents out.old) (W.contents out.new) result }
     ensures quiet { LeavesIfWrong out.old out.new result }
+    ensures cause { W.faults out.new ≡ W.faults out.old + failure_faults result }
 {
     match drawn {
         Drawn::Tree(tree) => write_tree(alloc, tree, is_terminal, out, config),
@@ -248,6 +254,7 @@ fn write_tree<W: Sink>(
         (IsTreeDrawing (config_of config.now) is_terminal (tree_of tree.now))
         (λ e. e ≡ Failure.Memory) }
     ensures quiet { LeavesIfWrong out.old out.new result }
+    ensures cause { W.faults out.new ≡ W.faults out.old + failure_faults result }
 {
     if is_terminal {
         let tree = escaped_item(alloc, tree)?;
@@ -267,6 +274,7 @@ fn write_as_is<W: Sink>(
         (IsTreeDrawing (config_of config.now) false (tree_of tree.now))
         (λ e. e ≡ Failure.Memory) }
     ensures quiet { LeavesIfWrong out.old out.new result }
+    ensures cause { W.faults out.new ≡ W.faults out.old + failure_faults result }
 {
     Ok(write_tree_with(alloc, tree, out, config)?)
 }
@@ -308,6 +316,7 @@ fn draw_deps<W: Sink>(
     ensures written { DrawsNeeds found.now.sources source.now deps.entry drawing
         (W.contents out.old) (W.contents out.new) result }
     ensures quiet { LeavesIfWrong out.old out.new result }
+    ensures cause { W.faults out.new ≡ W.faults out.old + failure_faults result }
     ensures shown { ShowsDrawing found.now.sources drawing
         (W.contents out.old) (W.contents out.new) }
 {
@@ -331,6 +340,7 @@ fn write_graph<W: Sink>(
         (IsGraphDrawing (config_of config.now) dependencies.now walks)
         (FailsFor (IsGraphTooDeep (config_of config.now) dependencies.now walks) ⊥) }
     ensures quiet { LeavesIfWrong out.old out.new result }
+    ensures cause { W.faults out.new ≡ W.faults out.old + failure_faults result }
 {
     let Dependencies { graph, root } = dependencies;
     if config.depth > LEVELS && has_more_below(alloc, graph, *root, walks)? {
@@ -349,8 +359,9 @@ fn write_once<W: Sink>(
     out: &mut W,
     config: &PrintConfig,
 ) -> Result<(), DrawError>
-    ensures { (bytes : List ℕ) × IsGraphDrawing (config_of config.now) dependencies.now false bytes
+    ensures written { (bytes : List ℕ) × IsGraphDrawing (config_of config.now) dependencies.now false bytes
         × IsWritten (W.contents out.old) (W.contents out.new) result bytes }
+    ensures cause { HasCause (W.faults out.old) (W.faults out.new) result }
 {
     let Dependencies { graph, root } = dependencies;
     write_graph_once_with(alloc, graph, *root, REPEATED_MARK, out, config)
@@ -445,6 +456,7 @@ fn write_indented<W: Sink>(
         (IsIndentation found.now.sources source.now indented.entry)
         (FailsToIndent found.now.sources source.now indented.entry) }
     ensures quiet { LeavesIfWrong out.old out.new result }
+    ensures cause { W.faults out.new ≡ W.faults out.old + failure_faults result }
     ensures shown { ShowsOnly indented.entry.is_terminal (λ part. part ≡ indented.entry.unit.now)
         (W.contents out.old) (W.contents out.new) }
 {
@@ -482,6 +494,7 @@ fn check<W: Sink>(
         (AreReports found.now.sources sources.now pieces screen.is_terminal)
         (FailsToCheck found.now.sources pieces) }
     ensures quiet { LeavesIfWrong out.old out.new result }
+    ensures cause { W.faults out.new ≡ W.faults out.old + failure_faults result }
     ensures shown { ShowsOnly screen.is_terminal IsNone (W.contents out.old) (W.contents out.new) }
 {
     let mut said = String::new(alloc);
@@ -572,6 +585,7 @@ fn draw_converted<W: Sink>(
     ensures back { ConvertsBack found.now.sources source.now convert.entry
         (W.contents out.old) (W.contents out.new) result }
     ensures quiet { LeavesIfWrong out.old out.new result }
+    ensures cause { W.faults out.new ≡ W.faults out.old + failure_faults result }
     ensures shown { ShowsDrawing found.now.sources convert.entry.drawing
         (W.contents out.old) (W.contents out.new) }
 {
@@ -612,6 +626,7 @@ fn compare_drawings<W: Sink>(
     ensures written { Compares found.now.sources left.now right.now diff
         (W.contents out.old) (W.contents out.new) result }
     ensures quiet { LeavesIfWrong out.old out.new result }
+    ensures cause { W.faults out.new ≡ W.faults out.old + failure_faults result }
     ensures shown { ShowsMerged found.now.sources diff.drawing
         (W.contents out.old) (W.contents out.new) }
 {
@@ -643,6 +658,7 @@ fn show_all<W: Sink>(
     ensures written { Compares found.now.sources left.now right.now diff
         (W.contents out.old) (W.contents out.new) result }
     ensures quiet { LeavesIfWrong out.old out.new result }
+    ensures cause { W.faults out.new ≡ W.faults out.old + failure_faults result }
 {
     let tree = read_drawing(alloc, left, diff.drawing.pieces, found)?;
     let other = read_drawing(alloc, right, diff.drawing.pieces, found)?;
@@ -668,6 +684,7 @@ fn show_first<W: Sink>(
     ensures written { Compares found.now.sources left.now right.now diff
         (W.contents out.old) (W.contents out.new) result }
     ensures quiet { LeavesIfWrong out.old out.new result }
+    ensures cause { W.faults out.new ≡ W.faults out.old + failure_faults result }
 {
     let Some(first) = find_difference(alloc, left, right, diff.drawing.pieces, found)? else {
         return Ok(());
@@ -690,6 +707,7 @@ fn write_both<W: Sink>(
         (IsMergeDrawing (config_of config.now) is_terminal
         (tree_of left.now) (tree_of right.now)) (λ e. e ≡ Failure.Memory) }
     ensures quiet { LeavesIfWrong out.old out.new result }
+    ensures cause { W.faults out.new ≡ W.faults out.old + failure_faults result }
 {
     let look = Look {
         is_colored: config.styled == StyleWhen::Always,
@@ -708,6 +726,7 @@ fn show_settings<W: Sink>(alloc: Global, out: &mut W, found: &Surroundings) -> R
     ensures written { WritesSaid (W.contents out.old) (W.contents out.new) result
         (AreSettings found.now.sources) (λ e. e ≡ Failure.Memory) }
     ensures quiet { LeavesIfWrong out.old out.new result }
+    ensures cause { W.faults out.new ≡ W.faults out.old + failure_faults result }
     // In a file too.
     ensures shown { ShowsOnly true IsNone (W.contents out.old) (W.contents out.new) }
 {

@@ -1,4 +1,7 @@
 //! Runs the words of a call over any surroundings, reader and writers.
+ghost use Rattle.std.specs.Prelude.{◌≡◌, ◌+◌, IfErr};
+ghost use Rattle.trees.specs.Reading.{IsUnread, IsUsage};
+ghost use Rattle.trees.specs.Telling.{failure_faults};
 ghost use Rattle.trees.specs.Writing.{LeavesIfWrong};
 
 use crate::failure::Failure;
@@ -32,6 +35,7 @@ pub fn run<R: Env + Files + AllocGlobal + Eprint, I: Read, W: Sink>(
 where
     R::File: Drop,
     ensures quiet { LeavesIfWrong out.old out.new result }
+    ensures cause { W.faults out.new ≡ W.faults out.old + failure_faults result }
 {
     if let Some(page) = page(words) {
         return Ok(put_all(out, page.as_bytes())?);
@@ -58,7 +62,9 @@ fn page(words: &[String]) -> Option<&'static str> {
 }
 
 // Says what is wrong with the words of a command, before an input is read, which may wait.
-fn check_words(alloc: Global, words: &Words<'_>, screen: Screen) -> Result<(), Failure> {
+fn check_words(alloc: Global, words: &Words<'_>, screen: Screen) -> Result<(), Failure>
+    ensures { IfErr result IsUsage }
+{
     let mut unread = Vec::new(alloc);
     for _ in words.inputs() {
         unread.push(Source::unread(alloc, String::new(alloc)))?;
@@ -74,7 +80,9 @@ fn read_sources<R: Files + AllocGlobal, I: Read>(
     rt: &R,
     words: &Words<'_>,
     input: &mut I,
-) -> Result<Vec<Source>, Failure> {
+) -> Result<Vec<Source>, Failure>
+    ensures { IfErr result IsUnread }
+{
     let mut sources = Vec::new(rt.alloc());
     for path in words.inputs() {
         sources.push(read_source(rt, words.name, path, input)?)?;
@@ -88,7 +96,9 @@ fn read_source<R: Files + AllocGlobal, I: Read>(
     command: CommandName,
     path: &str,
     input: &mut I,
-) -> Result<Source, Failure> {
+) -> Result<Source, Failure>
+    ensures { IfErr result IsUnread }
+{
     match Source::read(rt, path, input) {
         Err(Failure::Input(fault)) if command == CommandName::Check => {
             Ok(Source::unread(rt.alloc(), fault))
@@ -108,6 +118,7 @@ fn run_over<R: Env + Files + AllocGlobal + Eprint, W: Sink>(
 where
     R::File: Drop,
     ensures quiet { LeavesIfWrong out.old out.new result }
+    ensures cause { W.faults out.new ≡ W.faults out.old + failure_faults result }
 {
     let alloc = rt.alloc();
     match words.command(sources, screen) {

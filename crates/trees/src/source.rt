@@ -1,8 +1,8 @@
 //! The inputs of a call.
-ghost use Rattle.std.specs.Prelude.{◌≡◌, ◌≢◌, ℕ, ◌++◌, List, MatchOption, IfOk, string_bytes};
+ghost use Rattle.std.specs.Prelude.{◌≡◌, ◌≢◌, ℕ, ◌++◌, List, MatchOption, IfOk, IfErr, string_bytes};
 ghost use Rattle.trees.specs.Documents.{IsLastPart};
 ghost use Rattle.trees.specs.Listing.{unmarked};
-ghost use Rattle.trees.specs.Reading.{IsInput, Says, SaysAt};
+ghost use Rattle.trees.specs.Reading.{IsInput, IsUnread, Says, SaysAt};
 
 use crate::failure::Failure;
 use std::alloc::{AllocError, Global};
@@ -30,7 +30,9 @@ impl Source {
         rt: &R,
         path: &str,
         input: &mut I,
-    ) -> Result<Source, Failure> {
+    ) -> Result<Source, Failure>
+        ensures { IfErr result IsUnread }
+    {
         let alloc = rt.alloc();
         if path == "-" {
             return read_input(alloc, input);
@@ -108,7 +110,9 @@ pub fn behind<'a>(text: &'a str, start: &str) -> Option<&'a str>
 }
 
 // Reads standard input.
-fn read_input<I: Read>(alloc: Global, input: &mut I) -> Result<Source, Failure> {
+fn read_input<I: Read>(alloc: Global, input: &mut I) -> Result<Source, Failure>
+    ensures { IfErr result IsUnread }
+{
     let mut text = String::new(alloc);
     match input.read_to_string(&mut text) {
         Ok(_) => named(alloc, "standard input", text),
@@ -117,7 +121,9 @@ fn read_input<I: Read>(alloc: Global, input: &mut I) -> Result<Source, Failure> 
 }
 
 // Returns a text with a name.
-fn named(alloc: Global, name: &str, text: String) -> Result<Source, Failure> {
+fn named(alloc: Global, name: &str, text: String) -> Result<Source, Failure>
+    ensures { IfErr result IsUnread }
+{
     Ok(Source {
         name: String::from_str(alloc, name)?,
         text,
@@ -126,7 +132,9 @@ fn named(alloc: Global, name: &str, text: String) -> Result<Source, Failure> {
 }
 
 // Says that an input was not read.
-fn unreadable(alloc: Global, name: &str, e: io::Error) -> Result<Failure, AllocError> {
+fn unreadable(alloc: Global, name: &str, e: io::Error) -> Result<Failure, AllocError>
+    ensures { IfOk result IsUnread }
+{
     if e.kind() == ErrorKind::OutOfMemory {
         return Ok(Failure::Memory);
     }
