@@ -74,6 +74,19 @@ expect_end() {
     fi
 }
 
+# Checks what `rt try --test` said: all tests of the sources must pass. Arguments: the file of what it said, the crate's folder.
+check_tests() {
+    local name ran=0
+    while IFS= read -r name; do
+        report ok "$name"
+        ran=$((ran + 1))
+    done < <(sed -n 's/^\(test .*\) \.\.\. ok$/\1/p' "$1")
+    if [ $ran != "$(grep -rh '#\[test\]' "$2/src" | wc -l)" ] || ! grep -q '^run=ended status=0 ' "$1"; then
+        report no "the tests of $2"
+        grep -v ' \.\.\. ok$' "$1"
+    fi
+}
+
 # Prints the Nth block of a page in a language. Arguments: page, language, N.
 block() {
     awk -v fence="\`\`\`$2" -v n="$3" '$0 == fence && --n == 0 { inside = 1; next } /^```/ { inside = 0 } inside' "$1"
