@@ -1,14 +1,51 @@
-//! Tests items of one's own: which are asked for their children, and bytes that are no text.
+//! Tests items of one's own: one without children, which are asked for their children, and bytes
+//! that are no text.
 
 use crate::expect::{draw_to, expect_text};
 use crate::fixtures::held::hold;
 use ptree::item::{Children, MadeItem, Shaped, Text, TreeItem};
-use ptree::output::{tree_bytes, tree_text};
-use ptree::print_config::PrintConfig;
+use ptree::output::{print_tree, tree_bytes, tree_text};
+use ptree::print_config::{FileSource, PrintConfig, Sources};
 use ptree::style::{Counted, DrawError, Sink, Style, put_all};
 use std::alloc::{AllocError, Global};
 use std::str;
 use std::test::Fail;
+
+// An item of one text.
+#[derive(Drop)]
+struct Custom;
+
+impl Shaped for Custom {
+    ghost use Rattle.std.specs.Prelude.{[], codes};
+    ghost use Rattle.ptree.specs.Shape.{unfolded_shape};
+    ghost use Rattle.ptree.specs.Style.{painted_text};
+
+    ghost shape = { unfolded_shape (λ _ s. painted_text s (codes "My custom tree")) (λ _. []) };
+}
+
+impl TreeItem for Custom {
+    type Child = Custom;
+
+    fn write_self<W: Sink>(&self, _: Global, f: &mut W, style: &Style) -> Result<(), DrawError> {
+        style.write_painted(f, "My custom tree")
+    }
+
+    fn children(&self, alloc: Global) -> Result<Children<'_, Custom>, AllocError> {
+        Ok(Children::Made(Vec::new(alloc)))
+    }
+}
+
+#[test]
+fn an_item_of_ones_own_is_printed(rt: HostRuntime) -> Result<(), Fail> {
+    let alloc = rt.alloc();
+    let sources = Sources {
+        file: FileSource::Absent,
+        variables: Vec::new(alloc),
+    };
+    let mut out = Counted::new(Vec::new(alloc));
+    print_tree(alloc, &Custom, &mut out, false, &sources)?;
+    expect_text(str::from_utf8(&out.into_inner())?, "My custom tree\n")
+}
 
 // An item that runs out of memory when it is asked for its children and has none.
 #[derive(Drop)]

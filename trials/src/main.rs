@@ -1,7 +1,7 @@
-//! Tests of `ptree` and `ptree_trees` by `rt try`, before any proof, for what no clause says and no
-//! row can show. The tests of Rattle have items, labels, writers and readers of one's own, errors,
-//! values that no document has, and the code of the pages. The program, `trials COMMAND`, has what
-//! takes many calls:
+//! Tests of `ptree`, `ptree_sources` and `ptree_trees` by `rt try`, before any proof, for what no
+//! clause says and no row can show. The tests of Rattle have items, labels, writers and readers of
+//! one's own, errors, values that no document has, copies, and the code of the pages. The program,
+//! `trials COMMAND`, has what takes many calls:
 //!
 //! - `faults` draws to writers that fail at each byte
 //! - `sizes MOST` makes each call that allocates at several sizes
@@ -10,7 +10,13 @@
 #![tactic(auto)]
 
 #[cfg(test)]
+mod building;
+#[cfg(test)]
+mod candidates;
+#[cfg(test)]
 mod change;
+#[cfg(test)]
+mod copies;
 #[cfg(test)]
 mod counted;
 mod deviation;

@@ -1,10 +1,13 @@
-//! Tests readers, what a buffer passes on, how sinks fail, and that a writer is asked whether it is
-//! a terminal.
+//! Tests readers, what a buffer passes on, how sinks fail, where a drawing to one stops, and that a
+//! writer is asked whether it is a terminal.
 
 use crate::expect::expect_on_screen;
 use crate::fixtures::failing::{Answer, Breaking, Failing};
 use crate::fixtures::trees::over_leaves;
 use ptree::buffered::Buffered;
+use ptree::graph::{Graph, write_graph_with};
+use ptree::output::write_tree_with;
+use ptree::print_config::PrintConfig;
 use ptree::style::{Counted, DrawError, Feed, put_all};
 use std::alloc::Global;
 use std::io::ErrorKind;
@@ -92,4 +95,56 @@ fn a_buffer_passes_on_what_it_holds_when_it_is_full(rt: HostRuntime) -> Result<(
     let writer = buffered.into_inner().into_inner();
     assert!(rt; writer.taken.as_slice() == b"abcde".as_slice() && writer.calls == 2);
     Ok(())
+}
+
+const PIPE: Answer = Answer::Error(ErrorKind::BrokenPipe);
+
+// Expects that a drawing to a writer failed as the writer did, which took these bytes.
+fn expect_stopped(
+    ended: Result<(), DrawError>,
+    out: Counted<Failing>,
+    taken: &[u8],
+) -> Result<(), Fail> {
+    expect_failed(ended, PIPE)?;
+    let found = out.into_inner().taken;
+    if found.as_slice() == taken {
+        Ok(())
+    } else {
+        Err(Fail::new(format_args!("{found:?}")))
+    }
+}
+
+#[test]
+fn a_tree_stops_within_a_piece(rt: HostRuntime) -> Result<(), Fail> {
+    let alloc = rt.alloc();
+    let config = PrintConfig::default(alloc)?;
+    let tree = over_leaves(alloc, "r", &["a"])?;
+    let mut out = Counted::new(Failing::new(alloc, 5, 5, usize::MAX, PIPE)?);
+    let ended = write_tree_with(alloc, &tree, &mut out, &config);
+    expect_stopped(ended, out, b"r\n\xe2\x94\x94")
+}
+
+// A node below itself, down to depth 6: 2 bytes, and at each level 9 and 3 for each level above it
+// but the root's.
+const RING: &str = "\
+x
+└─ x
+   └─ x
+      └─ x
+         └─ x
+            └─ x
+               └─ x
+";
+
+#[test]
+fn an_endless_drawing_stops_at_its_writers_error(rt: HostRuntime) -> Result<(), Fail> {
+    let alloc = rt.alloc();
+    let config = PrintConfig::default(alloc)?;
+    let mut ring = Graph::new(alloc);
+    let x = ring.add_node("x")?;
+    ring.extend_with_edges(&[(x, x)])?;
+    let mut out = Counted::new(Failing::new(alloc, 100, 100, usize::MAX, PIPE)?);
+    let ended = write_graph_with(alloc, &ring, x, &mut out, &config);
+    assert_eq!(rt; RING.len(), 101);
+    expect_stopped(ended, out, &RING.as_bytes()[..100])
 }
