@@ -18,8 +18,8 @@ use ptree::value::{DocFormat, Value, draw_document, draw_document_with};
 use std::alloc::{AllocError, Global};
 use std::io::{self, ErrorKind};
 
-/// The drawing of [`petgraph`], four characters wide.
-pub const PETGRAPH: &str = "\
+// The drawing of [`petgraph`], four characters wide.
+const PETGRAPH: &str = "\
 petgraph
 ├── quickcheck
 │   ├── libc

@@ -5,7 +5,6 @@
 //!
 //! - `faults` draws to writers that fail at each byte
 //! - `sizes MOST` makes each call that allocates at several sizes
-//! - `refusals` makes calls that allocate, each once more if it was refused memory
 //! - `extreme NAME` draws what is of extreme size
 #![tactic(auto)]
 
@@ -37,7 +36,6 @@ mod items;
 #[cfg(test)]
 mod pages;
 mod prefixes;
-mod refusals;
 #[cfg(test)]
 mod sinks;
 mod sizes;
@@ -48,19 +46,17 @@ mod values;
 
 use extreme::draw_extreme;
 use faults::try_faults;
-use refusals::try_refusals;
 use sizes::try_sizes;
 use std::process::ExitCode;
 use std::{env, io};
 
-const USAGE: &str = "usage: trials (faults | sizes MOST | refusals | extreme NAME)";
+const USAGE: &str = "usage: trials (faults | sizes MOST | extreme NAME)";
 
 // Does what the words say, and returns whether all is right.
 fn run(rt: &HostRuntime, words: &[&str]) -> io::Result<bool> {
     match words {
         ["faults"] => try_faults(rt)?,
         ["sizes", most] => try_sizes(rt, most.parse::<usize>().unwrap_or(0))?,
-        ["refusals"] => try_refusals(rt)?,
         ["extreme", name] => draw_extreme(rt, name)?,
         _ => {
             println!(rt; "{USAGE}")?;
