@@ -1,7 +1,6 @@
-//! What tests and trials share: trees and configurations, writers and readers that fail, a writer
-//! that may be a terminal, and values that are dropped by one call.
+//! What tests and trials share: trees and configurations, writers and readers that fail, and a
+//! writer that may be a terminal.
 
 pub mod failing;
-pub mod held;
 pub mod screen;
 pub mod trees;

@@ -2,7 +2,6 @@
 //! that are no text.
 
 use crate::expect::{draw_to, expect_text};
-use crate::fixtures::held::hold;
 use ptree::item::{Children, MadeItem, Shaped, Text, TreeItem};
 use ptree::output::{print_tree, tree_bytes, tree_text};
 use ptree::print_config::{FileSource, PrintConfig, Sources};
@@ -142,8 +141,8 @@ impl TreeItem for Raw {
 #[test]
 fn bytes_that_are_no_text_are_drawn(rt: HostRuntime) -> Result<(), Fail> {
     let alloc = rt.alloc();
-    let config = hold(PrintConfig::default(alloc))?;
-    assert!(rt; tree_text(alloc, &Raw, &config.value)?.is_none());
-    assert!(rt; tree_bytes(alloc, &Raw, &config.value)?.as_slice() == b"\xff\n".as_slice());
+    let config = PrintConfig::default(alloc)?;
+    assert!(rt; tree_text(alloc, &Raw, &config)?.is_none());
+    assert!(rt; tree_bytes(alloc, &Raw, &config)?.as_slice() == b"\xff\n".as_slice());
     Ok(())
 }

@@ -1,6 +1,5 @@
 //! Tests drawings of items with styles of their own, worked out by hand from the codes of ECMA-48.
 use crate::expect::{expect_text, expect_tree};
-use crate::fixtures::held::hold;
 use examples::styling::drawn;
 use ptree::print_config::{PrintConfig, StyleWhen};
 use ptree::style::{Color, Style};
@@ -33,8 +32,8 @@ fn underlined(alloc: Global, styled: StyleWhen) -> Result<PrintConfig, AllocErro
 
 // Expects that the sample has this drawing.
 fn expect_styled(alloc: Global, styled: StyleWhen, wanted: &str) -> Result<(), Fail> {
-    let config = hold(underlined(alloc, styled))?;
-    let bytes = drawn(alloc, &sample(alloc)?, &config.value)?;
+    let config = underlined(alloc, styled)?;
+    let bytes = drawn(alloc, &sample(alloc)?, &config)?;
     expect_text(str::from_utf8(&bytes)?, wanted)
 }
 
