@@ -9,7 +9,7 @@ ghost use Rattle.ptree.specs.Writing.{HasCause, IsDrawn, IsWritten, LeavesWholeE
 ghost use Rattle.ptree.specs.declared.print_config.OutputKind.{OutputKind};
 ghost use Rattle.ptree.specs.declared.print_config.StyleWhen.{StyleWhen};
 
-use crate::sinks::Terminal;
+use crate::sinks::Through;
 use ptree::item::StringItem;
 use ptree::output::{print_tree_to, print_tree_with, write_tree_with};
 use ptree::print_config::PrintConfig;
@@ -86,7 +86,7 @@ pub fn print_unstyled<W: TerminalSink>(
 pub fn print_to_terminal<W: Sink>(
     alloc: Global,
     tree: &StringItem,
-    out: &mut Terminal<W>,
+    out: &mut Through<W>,
     config: &PrintConfig,
 ) -> Result<(), DrawError>
     ensures { IsDrawn (config_look config.now OutputKind.Stdout true)

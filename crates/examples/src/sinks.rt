@@ -8,7 +8,7 @@ use ptree::style::{DrawError, Sink, TerminalSink, put_all};
 use std::alloc::{AllocError, Global};
 use std::io;
 
-/// Hands on to another sink.
+/// Hands on to another sink, as a terminal does: drawings are styled.
 #[derive(Drop)]
 pub struct Through<W> {
     pub inner: W,
@@ -28,23 +28,7 @@ impl<W: Sink> Sink for Through<W> {
     }
 }
 
-/// A terminal over another sink, for one who draws as to a terminal.
-#[derive(Drop)]
-pub struct Terminal<W> {
-    pub inner: W,
-}
-
-impl<W: Sink> Sink for Terminal<W> {
-    ghost contents = { λ t. W.contents t.inner };
-
-    ghost faults = { λ t. W.faults t.inner };
-
-    fn put(&mut self, bytes: &[u8]) -> io::Result<usize> {
-        self.inner.put(bytes)
-    }
-}
-
-impl<W: Sink> TerminalSink for Terminal<W> {
+impl<W: Sink> TerminalSink for Through<W> {
     ghost may_answer = { λ _ answer. answer ≡ true };
 
     fn is_terminal(&self) -> bool {

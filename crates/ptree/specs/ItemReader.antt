@@ -12,14 +12,18 @@ use Rattle.ptree.specs.ReadItems.{item_line}
 use Rattle.ptree.specs.Scanned.{IsError, IsScanned}
 use Rattle.ptree.specs.Tree.{Tree}
 
--- the items with these lines are the first ones of the tree whose drawing the text is, if there is one
+-- the items with these lines are the first ones of the tree whose drawing the text is, if there is
+-- one
 abbrev pub AreFirst : Look → ℕ → List ℕ → List Line → Type 0
-AreFirst look depth x done = (t : Tree) → IsDrawnForm look depth x t → (more : List Line) × (outline t ≡ done ++ more)
+AreFirst look depth x done =
+    (t : Tree) → IsDrawnForm look depth x t → (more : List Line) × (outline t ≡ done ++ more)
 
--- The reader has returned the items with these lines of a text, which is a drawing if there is no next one.
+-- The reader has returned the items with these lines of a text, which is a drawing if there is no
+-- next one.
 --
--- `stands` is the reader's own state, which callers only pass on. It stays in a public clause, since a value holds no
--- ghost value: the items returned, and which of the open items may be last, are known from it alone.
+-- `stands` is the reader's own state, which callers only pass on. It stays in a public clause,
+-- since a struct holds no ghost value: which items were returned, and which of the open items may
+-- be last, is known from it alone.
 pub record HasRead (look : Look) (depth : ℕ) (x : List ℕ) (reader : ItemReader) (done : List Line) : Type 0 where
   pub look_is : look_of reader.frame.look ≡ look
   pub depth_is : reader.frame.depth ≡ depth
