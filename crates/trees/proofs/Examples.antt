@@ -1,5 +1,5 @@
--- Paths, first differences, indented text and folders of packages by computation.
-use Rattle.std.proofs.Common.{◌≡◌, true, false, Some, None, [], ◌∷◌, ◌++◌, codes, refl, replicate}
+-- Paths, first differences, indented text and needs by computation.
+use Rattle.std.proofs.Common.{◌≡◌, true, false, Some, None, [], ◌∷◌, ◌++◌, codes, refl}
 use Rattle.std.proofs.lemmas.List.Elements.{All-nil, All-cons}
 use Rattle.std.specs.Char.{encode_utf8}
 use Rattle.std.specs.Fmt.{digits}
@@ -7,10 +7,9 @@ use Rattle.std.specs.Str.{chars}
 use Rattle.ptree.specs.Tree.{none, item, tree}
 use Rattle.ptree_trees.specs.Difference.{texts_above}
 use Rattle.trees.specs.declared.compare.Side.TheVariants.{Left, Right}
-use Rattle.trees.specs.Depending.{edges_between, is_other_line, ArePairs}
+use Rattle.trees.specs.Depending.{edges_of_needs, needs_between, is_other_line, ArePairs}
 use Rattle.trees.specs.Listing.{unmarked, path_lines, path_names, given_paths, are_wrong}
 use Rattle.trees.specs.Merging.{way_text, place_line, side_line}
-use Rattle.trees.specs.Npm.{folders, path_in}
 use Rattle.trees.specs.Outlining.{filled_lines, first_indent, first_bullet}
 use Rattle.trees.proofs.Pairs.{IsNoComment}
 
@@ -102,39 +101,9 @@ go_pair : is_other_line (codes "go go@1.21") ≡ false
 go_pair = refl
 
 -- a pair that stands twice is one edge, and a word twice none
-needed : edges_between false (codes "a" ∷ codes "b" ∷ codes "c" ∷ []) ((codes "c", codes "a") ∷ (codes "a", codes "b") ∷ (codes "c", codes "a") ∷ (codes "b", codes "b") ∷ []) ≡ (2, 0) ∷ (0, 1) ∷ []
+needed : edges_of_needs false (needs_between (codes "a" ∷ codes "b" ∷ codes "c" ∷ []) ((codes "c", codes "a") ∷ (codes "a", codes "b") ∷ (codes "c", codes "a") ∷ (codes "b", codes "b") ∷ [])) ≡ (2, 0) ∷ (0, 1) ∷ []
 needed = refl
 
 -- and turned
-needing : edges_between true (codes "a" ∷ codes "b" ∷ codes "c" ∷ []) ((codes "c", codes "a") ∷ (codes "a", codes "b") ∷ []) ≡ (0, 2) ∷ (1, 0) ∷ []
+needing : edges_of_needs true (needs_between (codes "a" ∷ codes "b" ∷ codes "c" ∷ []) ((codes "c", codes "a") ∷ (codes "a", codes "b") ∷ [])) ≡ (0, 2) ∷ (1, 0) ∷ []
 needing = refl
-
--- the folders around packages, in the project and out of it
-around_none : folders [] ≡ codes "." ∷ []
-around_none = refl
-
-around_one : folders (codes "node_modules/a") ≡ codes "." ∷ codes "node_modules" ∷ codes "a" ∷ []
-around_one = refl
-
-around_dot : folders (codes "a") ≡ codes "." ∷ codes "a" ∷ []
-around_dot = refl
-
--- the folder above, one beside the project, the folder above that and one in there: what is further up is around what is less far up
-around_above : folders (codes "..") ≡ replicate 32 (codes "..")
-around_above = refl
-
-around_other : folders (codes "../out") ≡ replicate 32 (codes "..") ++ codes "out" ∷ []
-around_other = refl
-
-around_higher : folders (codes "../..") ≡ replicate 31 (codes "..")
-around_higher = refl
-
-around_beside : folders (codes "../../y") ≡ replicate 31 (codes "..") ++ codes "y" ∷ []
-around_beside = refl
-
--- where a package of a folder is
-in_project : path_in [] (codes "a") ≡ codes "node_modules/a"
-in_project = refl
-
-in_folder : path_in (codes "packages/p") (codes "@s/a") ≡ codes "packages/p/node_modules/@s/a"
-in_folder = refl

@@ -1,104 +1,84 @@
--- Networks that a source means.
-use Rattle.std.proofs.Common.{◌≡◌, ◌∙◌, ℕ, ◌+◌, ◌≤◌, ◌<◌, Bool, true, List, [], ◌∷◌, length, get_or, map, Result, Ok, Err, inl, inr, sym, subst, All, OnOk, arith}
-use Rattle.std.proofs.lemmas.List.{length-map}
-use Rattle.std.proofs.lemmas.List.Elements.{All-nil, All-cons, All-append, All-map, All-weaker, Contains-get_or}
-use Rattle.std.proofs.lemmas.Option.{slice_get_within}
-use Rattle.std.proofs.lemmas.Slice.Zip.{AllZip-long}
-use Rattle.std.specs.List.{AllZip}
-use Rattle.serde_json.specs.Data.{Data as JsonData}
-use Rattle.toml.specs.Data.{Data}
-use Rattle.trees.specs.declared.deps.Network.{Network}
+-- Packages that a source means, and their networks.
+use Rattle.std.proofs.Common.{◌≡◌, ◌∙◌, ℕ, Bool, List, [], length, map, Bor, Option, sym, ap, subst, All, string_bytes, true≢false}
+use Rattle.std.proofs.lemmas.List.Elements.{All-map, All-weaker}
+use Rattle.trees.specs.declared.deps.Dependencies.{Dependencies}
+use Rattle.trees.specs.declared.deps.network.Network.{Network}
+use Rattle.trees.specs.declared.deps.Packages.{Packages}
 use Rattle.trees.specs.declared.source.Source.{Source}
-use Rattle.trees.specs.Depending.{directed, same_edge, IsNpmFile, IsPairFile, IsTextFile}
-use Rattle.trees.specs.DependingParts.{labels_of, needs_of, IsNetworkOf, IsNetworkOfPairs, IsWithin}
-use Rattle.trees.specs.Locking.{Package, edges_from, entries_in, tables_in, IsLabel, Leads}
-use Rattle.trees.specs.LockingParts.{HasLocked, HoldsLocked}
-use Rattle.trees.specs.Meaning.{as_pairs, as_lock, as_npm_lock, HoldsLock, MeansTables, NeedPlaces}
-use Rattle.trees.specs.Npm.{packages_in, HasLabel, MeansPackages, Needs}
-use Rattle.trees.specs.NpmParts.{HoldsOnlyNpmLock, HoldsPackages}
-use Rattle.trees.proofs.PairGraphs.{all_firsts, directed_within, network_whole, no_paths}
-use Rattle.trees.proofs.Understood.{same_document}
+use Rattle.trees.specs.Depending.{directed, needs_between, edges_of_needs, same_edge, AreNames, HoldsPairs, IsGraphIn, IsLockFile, IsNoName, IsPairFile, IsWithin}
+use Rattle.trees.specs.DependingParts.{labels_of, names_in, needs_in, needs_of, paths_in, paths_of, AreRead, AreWithin, HasPackages, HoldsWords, IsWhole}
+use Rattle.trees.specs.Meaning.{as_lock, as_pairs, HoldsNoGraph, IsGraphOf, IsUnderstood, Means}
+use Rattle.trees.proofs.PairGraphs.{all_firsts, directed_within, words_within}
+use Rattle.trees.proofs.Pairs.{pairs_unique}
 
--- ## Edges of lock files
+-- the words of a source that is read as lines of two
+pub words_read : (source : Source) (p : Packages) → IsPairFile source → HoldsWords source p → AreRead source p
+words_read source p file is = record {
+  understood = as_pairs is.pairs file is.held is.some;
+  means = record {
+    are = subst (AreNames is.pairs) (sym is.has.labels) is.are;
+    pathless = ap (map string_bytes) is.has.paths;
+    needed = is.has.needs ∙ ap (λ names. needs_between names is.pairs) (sym is.has.labels);
+  };
+}
 
--- entries lead to packages
-places_within : (packages : List Package) (entries : List Data) (places : List ℕ) → AllZip (Leads packages) entries places → All (λ at. at < length packages) places
-places_within packages [] [] zip = All-nil (λ at. at < length packages)
-places_within packages (entry ∷ entries) (at ∷ places) zip = All-cons (λ k. k < length packages) at places zip.0.2.below (places_within packages entries places zip.1)
-places_within packages _ _ zip = absurd zip
+-- the packages of one that is read as a lock file
+pub lock_read : (source : Source) (p : Packages) → IsLockFile source → AreWithin p → AreRead source p
+lock_read source p file within = record { understood = as_lock file; means = within }
 
--- so do edges from as many nodes as there are
-from_within : (packages : List Package) (locked : List (Data × Package)) (all : List (List ℕ)) (n k : ℕ) → k + length locked ≤ n → length packages ≤ n → AllZip (λ l. NeedPlaces packages l.0) locked all → All (IsWithin n) (edges_from k all)
-from_within packages [] [] n k room few zip = All-nil (IsWithin n)
-from_within packages (l ∷ locked) (places ∷ all) n k room few zip =
-    All-append (IsWithin n) (map (λ at. (k, at)) places) (edges_from (k + 1) all)
-    (All-map (IsWithin n) (λ at. (k, at)) places (All-weaker (λ at. at < length packages) (λ at. IsWithin n (k, at)) (λ at low. (omega arith, omega arith)) places (places_within packages (entries_in packages l.0) places zip.0)))
-    (from_within packages locked all n (k + 1) (omega arith) few zip.1)
-from_within packages _ _ n k room few zip = absurd zip
+-- what is needed is among the packages
+means_within : (source : Source) (is : IsUnderstood source) (paths names : List (List ℕ)) (needs : List (ℕ × ℕ)) → Means source is paths names needs → All (IsWithin (length names)) needs
+means_within source (as_pairs pairs file held some) paths names needs means = subst (All (IsWithin (length names))) (sym means.needed) (words_within pairs names means.are)
+means_within source (as_lock file) paths names needs means = means
 
-tables_within : (is_inverse : Bool) (tables : List Data) (names : List (List ℕ)) (needs : List (ℕ × ℕ)) → MeansTables is_inverse tables names needs → All (IsWithin (length names)) needs
-tables_within is_inverse tables names needs is =
-    let n = length names in
-    let packages : List Package = map (λ l. l.1) is.locked in
-    let edges = edges_from 0 is.places in
-    let all : length names ≡ length is.locked = AllZip-long (IsLabel packages) is.locked names is.labels in
-    let few : length packages ≡ length is.locked = length-map is.locked (λ l. l.1) in
-    subst (All (IsWithin n)) (sym is.edges)
-    (all_firsts (IsWithin n) same_edge (map (directed is_inverse) edges)
-    (All-map (IsWithin n) (directed is_inverse) edges
-    (All-weaker (IsWithin n) (λ e. IsWithin n (directed is_inverse e)) (directed_within is_inverse n) edges
-    (from_within packages is.locked is.places n 0 (omega (arith, all)) (omega (arith, all, few)) is.leads))))
+-- ## What is read
 
--- ## Edges of lock files of npm
+module _ (source : Source) (p : Packages) (read : AreRead source p) where
+  pub read_within : AreWithin p
+  read_within = means_within source read.understood (paths_in p) (names_in p) (needs_in p) read.means
 
--- what nodes need is among them
-needs_within : (packages nodes : List (List ℕ × JsonData)) (i j : ℕ) → Needs packages nodes i j → IsWithin (length nodes) (i, j)
-needs_within packages nodes i j needs = (slice_get_within nodes i needs.node needs.is, elim needs.nearest.seen.is_in.1.2 [ inl own ↦ slice_get_within nodes j _ own | inr other ↦ slice_get_within nodes j other.1.0 other.1.2 ])
+  -- what is drawn of it is the graph that the source means
+  pub graph_meant : (root : Option (Bor (List ℕ))) (is_inverse is_terminal : Bool) (d : Dependencies) → IsGraphIn source root is_terminal (paths_in p) (names_in p) (edges_of_needs is_inverse (needs_in p)) d → IsGraphOf source root is_inverse is_terminal d
+  graph_meant root is_inverse is_terminal d drawn = record { understood = read.understood; paths = paths_in p; names = names_in p; needs = needs_in p; means = read.means; drawn = drawn }
 
-packages_within : (is_inverse : Bool) (source : Source) (lock : JsonData) (names : List (List ℕ)) (needs : List (ℕ × ℕ)) → MeansPackages is_inverse source lock names needs → All (IsWithin (length names)) needs
-packages_within is_inverse source lock names needs is =
-    let n = length names in
-    let all : n ≡ length is.nodes = AllZip-long (HasLabel (packages_in lock) is.root) is.nodes names is.labels in
-    subst (All (IsWithin n)) (sym is.edges)
-    (all_firsts (IsWithin n) same_edge (map (directed is_inverse) is.pairs)
-    (All-map (IsWithin n) (directed is_inverse) is.pairs (λ k d low.
-    let e = get_or is.pairs k d in
-    directed_within is_inverse n e (subst (λ m. IsWithin m e) (sym all) (needs_within (packages_in lock) is.nodes e.0 e.1 ((is.are e.0 e.1).0 (Contains-get_or is.pairs k d low)))))))
+  -- a name of none of the packages is no word of its pairs
+  pub name_unmeant : (root : Option (Bor (List ℕ))) → IsNoName root (paths_in p) (names_in p) → HoldsNoGraph source root
+  name_unmeant root none = λ pairs file held some. go pairs file held read.understood read.means none where
+    go : (pairs : List (List ℕ × List ℕ)) → IsPairFile source → HoldsPairs source pairs → (is : IsUnderstood source) → Means source is (paths_in p) (names_in p) (needs_in p) → IsNoName root (paths_in p) (names_in p)
+        → (names : List (List ℕ)) × AreNames pairs names × IsNoName root [] names
+    go pairs file held (as_pairs qs g held' some') means none =
+        (names_in p, subst (λ xs. AreNames xs (names_in p)) (pairs_unique qs pairs (sym held'.words ∙ held.words)) means.are, subst (λ ps. IsNoName root ps (names_in p)) means.pathless none)
+    go pairs file held (as_lock g) means none = absurd (true≢false (sym g.lock ∙ file.lock))
 
--- ## Sources
+-- ## Networks
 
--- what follows of two facts of a success
-pub ok_both : {T E : Type 0} (r : Result T E) (P Q R : Type 0) → (P → Q → R) → OnOk r P → OnOk r Q → OnOk r R
-ok_both (Ok x) P Q R f p q = f p q
-ok_both (Err e) P Q R f p q = tt
+module _ (is_inverse : Bool) (p : Packages) (n : Network) (has : HasPackages is_inverse p n) where
+  same_labels : labels_of n ≡ names_in p
+  same_labels = ap (λ v. map string_bytes v.items) has.labels
 
-module _ (source : Source) (is_inverse : Bool) (n : Network) where
-  -- of a source that is read as lines of two words, the network of its pairs is what it means
-  pub pairs_meant : IsPairFile source → IsNetworkOfPairs source is_inverse n → IsNetworkOf source is_inverse n
-  pairs_meant file is = record {
-    understood = as_pairs is.pairs file is.held is.some;
-    means = (record { are = is.has.names; edges = is.has.needs.edges }, no_paths n is.has.needs.paths);
-    whole = network_whole source is_inverse n is;
-  }
+  same_paths : paths_of n ≡ paths_in p
+  same_paths = ap (λ v. map string_bytes v.items) has.paths
 
-  -- of one that is read as a lock file with tables, that of its tables
-  pub tables_meant : IsTextFile true source → (d : Data) × HoldsLock source d → HoldsLocked source is_inverse n → IsNetworkOf source is_inverse n
-  tables_meant file lock held =
-      let d = lock.0 in
-      let locked : HasLocked is_inverse (tables_in d) n = subst (λ e. HasLocked is_inverse (tables_in e) n) (same_document held.0 d (sym held.1 ∙ lock.1.0)) held.2 in
+  -- edges of needs among packages are between the nodes
+  pub network_whole : AreWithin p → IsWhole n
+  network_whole low =
+      let count : ℕ = length (names_in p) in
+      let needs = needs_in p in
       record {
-        understood = as_lock d file lock.1;
-        means = (locked.means, no_paths n locked.paths);
-        whole = record { indexed = locked.indexed; within = tables_within is_inverse (tables_in d) (labels_of n) (needs_of n) locked.means };
+        indexed = has.indexed;
+        within = subst (λ names. All (IsWithin (length names)) (needs_of n)) (sym same_labels)
+            (subst (All (IsWithin count)) (sym has.edges)
+            (all_firsts (IsWithin count) same_edge (map (directed is_inverse) needs)
+            (All-map (IsWithin count) (directed is_inverse) needs (All-weaker (IsWithin count) (λ e. IsWithin count (directed is_inverse e)) (directed_within is_inverse count) needs low))));
       }
 
-  -- and of one of npm, that of its packages
-  pub packages_meant : IsNpmFile source → HoldsOnlyNpmLock source → HoldsPackages source is_inverse n → IsNetworkOf source is_inverse n
-  packages_meant file only held =
-      let lock = held.0 in
-      let has = held.2 in
-      record {
-        understood = as_npm_lock lock file (held.1, only lock held.1);
-        means = (has.means, (has.means.nodes, has.means.drawn, has.paths));
-        whole = record { indexed = has.indexed; within = packages_within is_inverse source lock (labels_of n) (needs_of n) has.means };
-      }
+  -- what is drawn of the network is the graph of the packages
+  pub graph_drawn : (source : Source) (root : Option (Bor (List ℕ))) (is_terminal : Bool) (d : Dependencies) → IsGraphIn source root is_terminal (paths_of n) (labels_of n) (needs_of n) d
+      → IsGraphIn source root is_terminal (paths_in p) (names_in p) (edges_of_needs is_inverse (needs_in p)) d
+  graph_drawn source root is_terminal d drawn =
+      subst (λ es. IsGraphIn source root is_terminal (paths_in p) (names_in p) es d) has.edges
+      (subst (λ ls. IsGraphIn source root is_terminal (paths_in p) ls (needs_of n) d) same_labels (subst (λ ps. IsGraphIn source root is_terminal ps (labels_of n) (needs_of n) d) same_paths drawn))
+
+  -- and what is none of its nodes is none of them
+  pub name_missing : (root : Option (Bor (List ℕ))) → IsNoName root (paths_of n) (labels_of n) → IsNoName root (paths_in p) (names_in p)
+  name_missing root none = subst (λ ls. IsNoName root (paths_in p) ls) same_labels (subst (λ ps. IsNoName root ps (labels_of n)) same_paths none)

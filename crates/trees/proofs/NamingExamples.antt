@@ -1,10 +1,5 @@
 -- Names of nodes by computation.
-use Rattle.std.proofs.Common.{◌≡◌, ℕ, zero, suc, true, false, List, [], ◌∷◌, codes, inl, inr, refl, sym, All, true≢false, arith}
-use Rattle.std.proofs.lemmas.List.Elements.{All-from_recursion}
-use Rattle.std.specs.List.Sorted.{IsStrictlySortedBy}
-use Rattle.serde_json.specs.Data.{unsigned, Data, number, string, object, Members, no_members, member}
-use Rattle.trees.specs.Npm.{label_text, leads_on, listed, AreNodePaths}
-use Rattle.trees.proofs.NpmTargets.{all_nodes}
+use Rattle.std.proofs.Common.{◌≡◌, ℕ, zero, suc, true, false, List, [], ◌∷◌, codes, inl, inr, refl, sym, true≢false, arith}
 use Rattle.trees.specs.Naming.{is_all_of, is_labelled, is_part_of, own_name, version_text, IsRootNode, LacksRoot}
 
 -- ## Names and versions
@@ -118,37 +113,15 @@ unknown = λ i root. elim root [
   no_part (suc zero) is = is
   no_part (suc (suc k)) is = is
 
--- ## Nodes of a package-lock.json
+-- ## Nodes with paths
 
--- packages with a version that need another, or none
-abbrev needing : List ℕ → Data
-needing name = object (member (codes "dependencies") (object (member name (string (codes "1")) no_members)) (member (codes "version") (string (codes "1.0.0")) no_members))
-
-abbrev alone : Data
-alone = object (member (codes "version") (string (codes "1.0.0")) no_members)
-
--- the project, which needs two
-abbrev site : Data
-site = object (member (codes "dependencies") (object (member (codes "a") (string (codes "1")) (member (codes "c") (string (codes "1")) no_members))) (member (codes "name") (string (codes "site")) no_members))
-
-abbrev packages : Members
-packages = member [] site (member (codes "node_modules/a") (needing (codes "c")) (member (codes "node_modules/a/node_modules/c") alone (member (codes "node_modules/c") (needing (codes "a")) no_members)))
-
+-- those of a package-lock.json
 abbrev node_paths : List (List ℕ)
 node_paths = [] ∷ codes "node_modules/a" ∷ codes "node_modules/a/node_modules/c" ∷ codes "node_modules/c" ∷ []
-
-have_paths : AreNodePaths (object (member (codes "lockfileVersion") (number (unsigned 3)) (member (codes "packages") (object packages) no_members))) node_paths
-unfolding IsStrictlySortedBy
-have_paths = (listed packages, all_nodes (listed packages) ((refl, (refl, (refl, tt))), ((refl, (refl, tt)), ((refl, tt), (tt, tt)))) own, refl) where
-  own : All (λ p. leads_on p.0 p.1 ≡ false) (listed packages)
-  own = All-from_recursion (λ p. leads_on p.0 p.1 ≡ false) (listed packages) (refl, (refl, (refl, (refl, tt))))
 
 -- two have one label
 abbrev node_labels : List (List ℕ)
 node_labels = codes "site" ∷ codes "a@1.0.0" ∷ codes "c@1.0.0" ∷ codes "c@1.0.0" ∷ []
-
-have_labels : label_text (codes "site") (codes "site") site ∷ label_text (codes "a") (codes "a") (needing (codes "c")) ∷ label_text (codes "c") (codes "c") alone ∷ label_text (codes "c") (codes "c") (needing (codes "a")) ∷ [] ≡ node_labels
-have_labels = refl
 
 -- and so a name of the two means none
 one_label : LacksRoot node_labels node_paths (codes "c@1.0.0")

@@ -1,14 +1,15 @@
 -- Networks that get nodes and edges.
-use Rattle.std.proofs.Common.{◌≡◌, ◌∙◌, ℕ, ◌&&◌, ◌||◌, not, Bool, true, false, cond, eqb, ◌+◌, ◌<◌, List, [], ◌∷◌, ◌++◌, length, get_or, take, map, refl, sym, ap, subst, Bor, is_eq, filter, string_bytes, eqb-true, true≢false, arith}
+use Rattle.std.proofs.Common.{◌≡◌, ◌∙◌, ℕ, ◌&&◌, ◌||◌, not, Bool, true, false, cond, eqb, ◌+◌, ◌<◌, List, [], ◌∷◌, ◌++◌, length, get_or, take, map, refl, sym, ap, subst, Bor, is_eq, filter, All, eqb-true, true≢false, arith}
 use Rattle.std.proofs.lemmas.List.{append-nil, map-append, take_more}
-use Rattle.std.proofs.lemmas.List.Elements.{filter-append}
+use Rattle.std.proofs.lemmas.List.Elements.{All-nil, All-cons, All-append, filter-append}
 use Rattle.std.proofs.lemmas.Map.Views.{any-filter_same}
 use Rattle.std.proofs.lemmas.Bool.Decides.{nat_tests}
 use Rattle.std.specs.List.{list_any}
 use Rattle.ptree.specs.Graph.{numbers_of}
-use Rattle.trees.specs.declared.deps.Network.{Network}
-use Rattle.trees.specs.Depending.{number, is_need, directed, edge_of, same_edge, firsts, edges_between}
-use Rattle.trees.specs.DependingParts.{texts_of, labels_of, needs_of, edge_cmp, added, AddsEdge, IsIndexed, HasNeeds}
+use Rattle.trees.specs.declared.deps.Need.{Need}
+use Rattle.trees.specs.declared.deps.network.Network.{Network}
+use Rattle.trees.specs.Depending.{number, is_need, directed, ends, edges_of_needs, need_of, needs_between, same_edge, firsts, IsWithin}
+use Rattle.trees.specs.DependingParts.{texts_of, needs_of, edge_cmp, added, AddsEdge, IsIndexed, IsUnlinked, HasNeeds}
 
 -- ## Elements once
 
@@ -66,73 +67,77 @@ edge_exact d e same = pair (eqb d.0 e.0) (eqb d.1 e.1) refl refl same where
   pair true false x y s = absurd (true≢false (sym s))
   pair false b x y s = absurd (true≢false (sym s))
 
--- the edges of one pair more
-module _ (is_inverse : Bool) (names : List (List ℕ)) (pairs : List (List ℕ × List ℕ)) (p : List ℕ × List ℕ) where
-  needs_pushed : (b : Bool) → is_need p ≡ b → map (edge_of is_inverse names) (filter is_need (pairs ++ p ∷ [])) ≡ map (edge_of is_inverse names) (filter is_need pairs) ++ cond b (edge_of is_inverse names p ∷ []) []
+-- ## Needs
+
+-- those of one pair more
+module _ (names : List (List ℕ)) (pairs : List (List ℕ × List ℕ)) (p : List ℕ × List ℕ) where
+  needs_pushed : (b : Bool) → is_need p ≡ b → needs_between names (pairs ++ p ∷ []) ≡ needs_between names pairs ++ cond b (need_of names p ∷ []) []
   needs_pushed b e =
-      ap (map (edge_of is_inverse names)) (filter-append is_need pairs (p ∷ []))
-      ∙ (map-append (edge_of is_inverse names) (filter is_need pairs) (filter is_need (p ∷ [])) ∙ ap (λ es. map (edge_of is_inverse names) (filter is_need pairs) ++ es) (last b e)) where
-        last : (b : Bool) → is_need p ≡ b → map (edge_of is_inverse names) (filter is_need (p ∷ [])) ≡ cond b (edge_of is_inverse names p ∷ []) []
-        last true e = ap (λ (c : Bool). map (edge_of is_inverse names) (cond c (p ∷ []) [])) e
-        last false e = ap (λ (c : Bool). map (edge_of is_inverse names) (cond c (p ∷ []) [])) e
+      ap (map (need_of names)) (filter-append is_need pairs (p ∷ []))
+      ∙ (map-append (need_of names) (filter is_need pairs) (filter is_need (p ∷ [])) ∙ ap (λ es. map (need_of names) (filter is_need pairs) ++ es) (last b e)) where
+        last : (b : Bool) → is_need p ≡ b → map (need_of names) (filter is_need (p ∷ [])) ≡ cond b (need_of names p ∷ []) []
+        last true e = ap (λ (c : Bool). map (need_of names) (cond c (p ∷ []) [])) e
+        last false e = ap (λ (c : Bool). map (need_of names) (cond c (p ∷ []) [])) e
 
-  pub edges_same : is_need p ≡ false → edges_between is_inverse names (pairs ++ p ∷ []) ≡ edges_between is_inverse names pairs
-  edges_same e = ap (firsts same_edge) (needs_pushed false e ∙ append-nil (map (edge_of is_inverse names) (filter is_need pairs)))
+  pub needs_same : is_need p ≡ false → needs_between names (pairs ++ p ∷ []) ≡ needs_between names pairs
+  needs_same e = needs_pushed false e ∙ append-nil (needs_between names pairs)
 
-  pub edges_more : is_need p ≡ true → edges_between is_inverse names (pairs ++ p ∷ []) ≡ added same_edge (edges_between is_inverse names pairs) (edge_of is_inverse names p)
-  edges_more e = ap (firsts same_edge) (needs_pushed true e) ∙ firsts_push same_edge edge_exact edge_flips (map (edge_of is_inverse names) (filter is_need pairs)) (edge_of is_inverse names p)
+  pub needs_more : is_need p ≡ true → needs_between names (pairs ++ p ∷ []) ≡ needs_between names pairs ++ need_of names p ∷ []
+  needs_more e = needs_pushed true e
+
+-- those of the pair at a place
+module _ (names : List (List ℕ)) (ps : List (Bor (List ℕ) × Bor (List ℕ))) (i : ℕ) (d : Bor (List ℕ) × Bor (List ℕ)) (low : i < length ps) (needs : List Need) (so : map ends needs ≡ needs_between names (map texts_of (take i ps))) where
+  pair_taken : map texts_of (take (i + 1) ps) ≡ map texts_of (take i ps) ++ texts_of (get_or ps i d) ∷ []
+  pair_taken = ap (map texts_of) (take_more ps i d low) ∙ map-append texts_of (take i ps) (get_or ps i d ∷ [])
+
+  -- if its words are the same
+  pub turn_same : is_need (texts_of (get_or ps i d)) ≡ false → map ends needs ≡ needs_between names (map texts_of (take (i + 1) ps))
+  turn_same same = so ∙ sym (ap (needs_between names) pair_taken ∙ needs_same names (map texts_of (take i ps)) (texts_of (get_or ps i d)) same)
+
+  -- and if they differ
+  pub turn_more : (n : Need) (all : List Need) → is_need (texts_of (get_or ps i d)) ≡ true → all ≡ needs ++ n ∷ [] → n.needing ≡ number names (get_or ps i d).0.now → n.needed ≡ number names (get_or ps i d).1.now
+      → map ends all ≡ needs_between names (map texts_of (take (i + 1) ps))
+  turn_more n all differ pushed first second =
+      let p = texts_of (get_or ps i d) in
+      let both : ends n ≡ need_of names p = ap (λ (a : ℕ). (a, n.needed)) first ∙ ap (λ (b : ℕ). (number names p.0, b)) second in
+      ap (map ends) pushed
+      ∙ (map-append ends needs (n ∷ [])
+      ∙ (ap (λ es. es ++ ends n ∷ []) so
+      ∙ (ap (λ (e : ℕ × ℕ). needs_between names (map texts_of (take i ps)) ++ e ∷ []) both
+      ∙ sym (ap (needs_between names) pair_taken ∙ needs_more names (map texts_of (take i ps)) p differ))))
 
 -- ## Networks
 
 -- a network without edges is indexed
-pub indexed_none : (n : Network) → n.edges.items ≡ [] → n.sorted.keys ≡ [] → IsIndexed n
+indexed_none : (n : Network) → n.edges.items ≡ [] → n.sorted.keys ≡ [] → IsIndexed n
 indexed_none n edges keys e =
     ap (list_any (λ (k : ℕ × ℕ). is_eq (edge_cmp e k))) keys ∙ sym (ap (λ es. list_any (same_edge e) (map numbers_of es)) edges)
 
--- a network that gets names
-pub record HasNames (old new : Network) (names : List (Bor (List ℕ))) : Type 0 where
-  pub labels : labels_of new ≡ labels_of old ++ map (λ x. x.now) names
-  pub paths : new.paths ≡ old.paths
-  pub direction : new.is_inverse ≡ old.is_inverse
-  pub edges : new.edges ≡ old.edges
-  pub sorted : new.sorted ≡ old.sorted
+-- it has no needs
+pub no_needs : (n : Network) → IsUnlinked n → HasNeeds n [] n
+no_needs n none = record { nodes = record { labels = refl; paths = refl; is_inverse = refl }; edges = ap (map numbers_of) none.edges; indexed = indexed_none n none.edges none.sorted }
 
--- a pair of one word twice
-pub need_same : (is_inverse : Bool) (names : List (List ℕ)) (pairs : List (List ℕ × List ℕ)) (p : List ℕ × List ℕ) (n : Network) → HasNeeds is_inverse names pairs n → is_need p ≡ false → HasNeeds is_inverse names (pairs ++ p ∷ []) n
-need_same is_inverse names pairs p n has same = record {
-  labels = has.labels;
-  paths = has.paths;
-  direction = has.direction;
-  edges = has.edges ∙ sym (edges_same is_inverse names pairs p same);
-  indexed = has.indexed;
-}
-
--- a pair of two words
-pub need_more : (is_inverse : Bool) (names : List (List ℕ)) (pairs : List (List ℕ × List ℕ)) (p : List ℕ × List ℕ) (n m : Network) → HasNeeds is_inverse names pairs n → is_need p ≡ true
-    → (IsIndexed n → AddsEdge n m (directed n.is_inverse (number names p.0, number names p.1))) → HasNeeds is_inverse names (pairs ++ p ∷ []) m
-need_more is_inverse names pairs p n m has differ adds =
+-- and it gets one more
+pub need_more : (needs : List Need) (i : ℕ) (d : Need) (old n m : Network) → i < length needs → HasNeeds old (map ends (take i needs)) n → (IsIndexed n → AddsEdge n m (directed n.is_inverse (ends (get_or needs i d)))) → HasNeeds old (map ends (take (i + 1) needs)) m
+need_more needs i d old n m low has adds =
     let new = adds has.indexed in
+    let e = ends (get_or needs i d) in
+    let es = map ends (take i needs) in
+    let taken : map ends (take (i + 1) needs) ≡ es ++ e ∷ [] = ap (map ends) (take_more needs i d low) ∙ map-append ends (take i needs) (get_or needs i d ∷ []) in
+    let inverse = old.is_inverse in
     record {
-      labels = ap (λ v. map string_bytes v.items) new.nodes.labels ∙ has.labels;
-      paths = ap (λ v. v.items) new.nodes.paths ∙ has.paths;
-      direction = new.nodes.is_inverse ∙ has.direction;
+      nodes = record { labels = new.nodes.labels ∙ has.nodes.labels; paths = new.nodes.paths ∙ has.nodes.paths; is_inverse = new.nodes.is_inverse ∙ has.nodes.is_inverse };
       edges = new.edges
-          ∙ (ap (λ (b : Bool). added same_edge (needs_of n) (directed b (number names p.0, number names p.1))) has.direction
-          ∙ (ap (λ es. added same_edge es (edge_of is_inverse names p)) has.edges ∙ sym (edges_more is_inverse names pairs p differ)));
+          ∙ (ap (λ (b : Bool). added same_edge (needs_of n) (directed b e)) has.nodes.is_inverse
+          ∙ (ap (λ xs. added same_edge xs (directed inverse e)) has.edges
+          ∙ sym (ap (edges_of_needs inverse) taken
+          ∙ (ap (firsts same_edge) (map-append (directed inverse) es (e ∷ [])) ∙ firsts_push same_edge edge_exact edge_flips (map (directed inverse) es) (directed inverse e)))));
       indexed = new.indexed;
     }
 
--- the pair at a place
-module _ (is_inverse : Bool) (names : List (List ℕ)) (ps : List (Bor (List ℕ) × Bor (List ℕ))) (i : ℕ) (d : Bor (List ℕ) × Bor (List ℕ)) (low : i < length ps) (n : Network) (has : HasNeeds is_inverse names (map texts_of (take i ps)) n) where
-  pair_taken : map texts_of (take (i + 1) ps) ≡ map texts_of (take i ps) ++ texts_of (get_or ps i d) ∷ []
-  pair_taken = ap (map texts_of) (take_more ps i d low) ∙ map-append texts_of (take i ps) (get_or ps i d ∷ [])
-
-  pub turn_same : is_need (texts_of (get_or ps i d)) ≡ false → HasNeeds is_inverse names (map texts_of (take (i + 1) ps)) n
-  turn_same same = subst (λ pairs. HasNeeds is_inverse names pairs n) (sym pair_taken) (need_same is_inverse names (map texts_of (take i ps)) (texts_of (get_or ps i d)) n has same)
-
-  pub turn_more : (m : Network) (a b : ℕ) → is_need (texts_of (get_or ps i d)) ≡ true → a ≡ number names (get_or ps i d).0.now → b ≡ number names (get_or ps i d).1.now → (IsIndexed n → AddsEdge n m (directed n.is_inverse (a, b)))
-      → HasNeeds is_inverse names (map texts_of (take (i + 1) ps)) m
-  turn_more m a b differ first second adds =
-      subst (λ pairs. HasNeeds is_inverse names pairs m) (sym pair_taken)
-      (need_more is_inverse names (map texts_of (take i ps)) (texts_of (get_or ps i d)) n m has differ
-      (λ indexed. subst (λ (y : ℕ). AddsEdge n m (directed n.is_inverse (number names (get_or ps i d).0.now, y))) second (subst (λ (x : ℕ). AddsEdge n m (directed n.is_inverse (x, b))) first (adds indexed))))
+-- needs that are within a count, and one more
+pub within_more : (count : ℕ) (needs : List Need) (i : ℕ) (d : Need) → i < length needs → All (IsWithin count) (map ends (take i needs)) → IsWithin count (ends (get_or needs i d)) → All (IsWithin count) (map ends (take (i + 1) needs))
+within_more count needs i d low so is =
+    let e = ends (get_or needs i d) in
+    let taken : map ends (take (i + 1) needs) ≡ map ends (take i needs) ++ e ∷ [] = ap (map ends) (take_more needs i d low) ∙ map-append ends (take i needs) (get_or needs i d ∷ []) in
+    subst (All (IsWithin count)) (sym taken) (All-append (IsWithin count) (map ends (take i needs)) (e ∷ []) so (All-cons (IsWithin count) e [] is (All-nil (IsWithin count))))

@@ -7,7 +7,7 @@ use Rattle.std.specs.Str.Lines.{lines}
 use Rattle.trees.specs.declared.source.Source.{Source}
 use Rattle.trees.specs.Depending.{source_text, other_names, is_other_line, IsOwn}
 use Rattle.trees.specs.Documents.{IsLastPart}
-use Rattle.trees.proofs.NpmNames.{last_same}
+use Rattle.trees.proofs.LastParts.{last_same}
 
 module _ (source : Source) where
   -- a file with another name

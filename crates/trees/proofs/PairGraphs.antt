@@ -9,11 +9,10 @@ use Rattle.ptree.specs.declared.graph.NodeIndex.{NodeIndex}
 use Rattle.ptree.specs.Graph.{edges_of, numbers_of, turned, weights_of, LacksNode}
 use Rattle.ptree.proofs.Config.FieldLists.{Contains-map}
 use Rattle.trees.specs.declared.deps.Dependencies.{Dependencies}
-use Rattle.trees.specs.declared.deps.Network.{Network}
+use Rattle.trees.specs.declared.deps.network.Network.{Network}
 use Rattle.trees.specs.declared.source.Source.{Source}
-use Rattle.trees.specs.Depending.{pair_words, number, is_need, directed, edge_of, same_edge, firsts, edges_between, HoldsPairs, AreNames, StandsAbove, IsRooted}
-use Rattle.trees.specs.DependingParts.{texts_of, labels_of, needs_of, paths_of, HasRoot, HoldsNone, IsNetworkOf, IsNetworkOfPairs, IsWhole, IsWithin}
-use Rattle.trees.specs.Meaning.{IsGraphOf}
+use Rattle.trees.specs.Depending.{pair_words, number, is_need, directed, firsts, need_of, needs_between, AreNames, HoldsNone, HoldsPairs, IsGraphIn, IsRooted, IsWithin, StandsAbove}
+use Rattle.trees.specs.DependingParts.{texts_of, labels_of, needs_of, paths_of, HasRoot, IsWhole}
 use Rattle.trees.specs.Shown.{shown_text}
 use Rattle.trees.proofs.Pairs.{pairs_unique}
 
@@ -66,21 +65,12 @@ all_firsts P same [] h = h
 all_firsts P same (x ∷ xs) h =
     All-cons P x (filter (λ y. not (same x y)) (firsts same xs)) (All-head P x xs h) (All-filter (λ y. not (same x y)) P (firsts same xs) (all_firsts P same xs (All-tail P x xs h)))
 
--- the edges of pairs are between the names
-pub edges_within : (is_inverse : Bool) (pairs : List (List ℕ × List ℕ)) (names : List (List ℕ)) → AreNames pairs names → All (IsWithin (length names)) (edges_between is_inverse names pairs)
-edges_within is_inverse pairs names are =
+-- what pairs need is among the names
+pub words_within : (pairs : List (List ℕ × List ℕ)) (names : List (List ℕ)) → AreNames pairs names → All (IsWithin (length names)) (needs_between names pairs)
+words_within pairs names are =
     let n : ℕ = length names in
-    all_firsts (IsWithin n) same_edge (map (edge_of is_inverse names) (filter is_need pairs))
-    (All-map (IsWithin n) (edge_of is_inverse names) (filter is_need pairs)
-    (All-filter is_need (λ p. IsWithin n (edge_of is_inverse names p)) pairs
-    (All-weaker (HasWords names) (λ p. IsWithin n (edge_of is_inverse names p)) (λ p h. directed_within is_inverse n (number names p.0, number names p.1) (number_known names p.0 h.0, number_known names p.1 h.1)) pairs (names_known pairs names are))))
-
--- the edges of a network of pairs are
-pub network_whole : (source : Source) (is_inverse : Bool) (n : Network) → IsNetworkOfPairs source is_inverse n → IsWhole n
-network_whole source is_inverse n is = record {
-  indexed = is.has.needs.indexed;
-  within = subst (All (IsWithin (length (labels_of n)))) (sym is.has.needs.edges) (edges_within is_inverse is.pairs (labels_of n) is.has.names);
-}
+    All-map (IsWithin n) (need_of names) (filter is_need pairs)
+    (All-filter is_need (λ p. IsWithin n (need_of names p)) pairs (All-weaker (HasWords names) (λ p. IsWithin n (need_of names p)) (λ p h. (number_known names p.0 h.0, number_known names p.1 h.1)) pairs (names_known pairs names are)))
 
 -- ## Roots
 
@@ -144,22 +134,12 @@ pub same_count : (is_terminal : Bool) (ws labels : List (String Global)) (i : �
 same_count is_terminal ws labels i end so =
     sym (length-map ws string_bytes) ∙ (ap length (so ∙ ap (λ ls. map (shown_text is_terminal) (map string_bytes ls)) (take_all i labels end)) ∙ length-map (map string_bytes labels) (shown_text is_terminal))
 
--- a network without paths
-pub no_paths : (n : Network) → n.paths.items ≡ [] → paths_of n ≡ []
-no_paths n none = ap (λ (paths : List (String Global)). map string_bytes paths) none
-
 -- what is drawn of a network
-pub graph_held : (source : Source) (name : Option (Bor (List ℕ))) (is_inverse is_terminal : Bool) (read rooted drawn : Network) (d : Dependencies) → IsNetworkOf source is_inverse read → HasRoot source name read rooted d.root.0
-    → drawn.labels ≡ rooted.labels → drawn.edges.items ≡ reverse rooted.edges.items → map string_bytes (weights_of d.graph) ≡ map (shown_text is_terminal) (labels_of drawn) → edges_of d.graph ≡ needs_of drawn
-    → IsGraphOf source name is_inverse is_terminal d
-graph_held source name is_inverse is_terminal read rooted drawn d is root labels turned texts edges = record {
-  understood = is.understood;
-  paths = paths_of read;
-  names = labels_of read;
-  needs = needs_of read;
-  means = is.means;
+pub graph_held : (source : Source) (name : Option (Bor (List ℕ))) (is_terminal : Bool) (read rooted drawn : Network) (d : Dependencies) → HasRoot source name read rooted d.root.0 → drawn.labels ≡ rooted.labels → drawn.edges.items ≡ reverse rooted.edges.items
+    → map string_bytes (weights_of d.graph) ≡ map (shown_text is_terminal) (labels_of drawn) → edges_of d.graph ≡ needs_of drawn → IsGraphIn source name is_terminal (paths_of read) (labels_of read) (needs_of read) d
+graph_held source name is_terminal read rooted drawn d root labels turned texts edges = record {
   texts = labels_of rooted;
-  edges = needs_of rooted;
+  all = needs_of rooted;
   rooted = root;
   graph = record {
     weights = texts ∙ ap (λ v. map (shown_text is_terminal) (map string_bytes v.items)) labels;

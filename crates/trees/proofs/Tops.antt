@@ -7,9 +7,9 @@ use Rattle.std.proofs.lemmas.List.Quantifiers.{all_pairs_push}
 use Rattle.std.proofs.lemmas.List.Sorted.{All-permutation, IsPermutation-sym, IsPermutation-reverse}
 use Rattle.std.proofs.lemmas.Map.Lookups.{CmpEqualImpliesEq, exact_pairs, exact_unsigned}
 use Rattle.std.proofs.lemmas.Map.Views.{Contains-from_any, btree_set_contains_iff}
-use Rattle.trees.specs.declared.deps.Network.{Network}
-use Rattle.trees.specs.Depending.{same_edge, IsClosed, HasEach, IsUnreached, AreTops}
-use Rattle.trees.specs.DependingParts.{labels_of, needs_of, edge_cmp, is_marked, HasMarked, IsWithin, IsIndexed, IsWhole, Reaches, AreFirsts}
+use Rattle.trees.specs.declared.deps.network.Network.{Network}
+use Rattle.trees.specs.Depending.{same_edge, IsClosed, HasEach, IsUnreached, IsWithin, AreTops}
+use Rattle.trees.specs.DependingParts.{labels_of, needs_of, edge_cmp, is_marked, HasMarked, IsIndexed, IsWhole, Reaches, AreFirsts}
 use Rattle.trees.proofs.Elements.{pairs_front}
 use Rattle.trees.proofs.Marks.{front_of, mark_kept, mark_there, mark_only, mark_low, mark_same, unmarked}
 use Rattle.trees.proofs.Networks.{edge_exact}

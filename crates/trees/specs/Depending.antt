@@ -1,4 +1,4 @@
--- Which graph is drawn of lines of two words.
+-- Which graph is drawn of packages and what they need, and of lines of two words.
 use Rattle.std.specs.Borrow.{Bor}
 use Rattle.std.specs.Prelude.{◌≡◌, ◌≢◌, ◌<◌, ◌↔◌, ℕ, ◌==◌, ◌&&◌, ◌||◌, not, Bool, true, false, if◌then◌else◌, List, [], ◌∷◌, ◌++◌, filter, flat_map, length, map, reverse, All, AllPairs, Contains, Option, Some, None, codes, string_bytes}
 use Rattle.std.specs.Char.{is_whitespace}
@@ -11,6 +11,7 @@ use Rattle.std.specs.Str.Lines.{lines}
 use Rattle.ptree.specs.Graph.{edges_of, turned, weights_of}
 use Rattle.ptree_trees.specs.Parts.{begins_with, has_part}
 use Rattle.trees.specs.declared.deps.Dependencies.{Dependencies}
+use Rattle.trees.specs.declared.deps.Need.{Need}
 use Rattle.trees.specs.declared.source.Source.{Source}
 use Rattle.trees.specs.Documents.{IsLastPart}
 use Rattle.trees.specs.Listing.{is_empty, unmarked}
@@ -48,20 +49,19 @@ begins_as start source = begins_with start (trim_start (source_text source))
 abbrev pub has_tables : Source → Bool
 has_tables source = has_part (codes "[[package]]") (source_text source) || has_part (codes "package = []") (source_text source)
 
--- a source is no list of another program and no object of JSON, and it has tables of packages or not
-pub record IsTextFile (is_lock : Bool) (source : Source) : Type 0 where
-  pub own : IsOwn source
-  pub json : begins_as (codes "{") source ≡ false
-  pub toml : has_tables source ≡ is_lock
+-- whether it is read as a lock file: it begins as an object of JSON, or has such tables
+abbrev pub is_lock : Source → Bool
+is_lock source = begins_as (codes "{") source || has_tables source
 
--- it is read as a lock file of npm
-pub record IsNpmFile (source : Source) : Type 0 where
+-- a source is no list of another program, and it is read as a lock file
+pub record IsLockFile (source : Source) : Type 0 where
   pub own : IsOwn source
-  pub json : begins_as (codes "{") source ≡ true
+  pub lock : is_lock source ≡ true
 
 -- it is read as lines of two words: nothing says that it is a lock file, or other JSON or TOML
 pub record IsPairFile (source : Source) : Type 0 where
-  pub file : IsTextFile false source
+  pub own : IsOwn source
+  pub lock : is_lock source ≡ false
   pub list : begins_as (codes "[") source ≡ false
 
 -- ## Lines
@@ -92,6 +92,20 @@ pub record ArePairs (text : List ℕ) (pairs : List (List ℕ × List ℕ)) : Ty
 abbrev pub HoldsPairs : Source → List (List ℕ × List ℕ) → Type 0
 HoldsPairs source pairs = ArePairs (source_text source) pairs
 
+-- the source holds no pairs
+abbrev pub HoldsNone : Source → Type 0
+HoldsNone source = (pairs : List (List ℕ × List ℕ)) → HoldsPairs source pairs → pairs ≡ []
+
+-- ## Packages
+
+-- the numbers of a package and of the one that it needs
+abbrev pub ends : Need → ℕ × ℕ
+ends n = (n.needing, n.needed)
+
+-- two numbers are below a count
+abbrev pub IsWithin : ℕ → ℕ × ℕ → Type 0
+IsWithin count e = (e.0 < count) × (e.1 < count)
+
 -- ## Nodes and edges
 
 -- names are the words of pairs, each once, in ascending order
@@ -111,9 +125,13 @@ is_need p = not (bytes_eq p.0 p.1)
 abbrev pub directed : Bool → ℕ × ℕ → ℕ × ℕ
 directed is_inverse e = if is_inverse then turned e else e
 
--- the edge from the first word of a pair to the second, or the reverse
-abbrev pub edge_of : Bool → List (List ℕ) → List ℕ × List ℕ → ℕ × ℕ
-edge_of is_inverse names p = directed is_inverse (number names p.0, number names p.1)
+-- the numbers of the words of a pair
+abbrev pub need_of : List (List ℕ) → List ℕ × List ℕ → ℕ × ℕ
+need_of names p = (number names p.0, number names p.1)
+
+-- those of pairs of different words
+abbrev pub needs_between : List (List ℕ) → List (List ℕ × List ℕ) → List (ℕ × ℕ)
+needs_between names pairs = map (need_of names) (filter is_need pairs)
 
 -- whether two edges are the same
 abbrev pub same_edge : ℕ × ℕ → ℕ × ℕ → Bool
@@ -124,9 +142,9 @@ abbrev pub firsts : {X : Type 0} → (X → X → Bool) → List X → List X
 firsts same [] = []
 firsts same (x ∷ xs) = x ∷ filter (λ y. not (same x y)) (firsts same xs)
 
--- the edges of pairs of different words, each once, in the order in which they first stand
-abbrev pub edges_between : Bool → List (List ℕ) → List (List ℕ × List ℕ) → List (ℕ × ℕ)
-edges_between is_inverse names pairs = firsts same_edge (map (edge_of is_inverse names) (filter is_need pairs))
+-- the edges of needs, or the reverse, each once, in the order in which they first stand
+abbrev pub edges_of_needs : Bool → List (ℕ × ℕ) → List (ℕ × ℕ)
+edges_of_needs is_inverse needs = firsts same_edge (map (directed is_inverse) needs)
 
 -- ## Roots
 
@@ -166,6 +184,13 @@ IsRooted source None paths names edges texts all root =
 pub record IsGraphFrom (is_terminal : Bool) (texts : List (List ℕ)) (all : List (ℕ × ℕ)) (d : Dependencies) : Type 0 where
   pub weights : map string_bytes (weights_of d.graph) ≡ map (shown_text is_terminal) texts
   pub edges : edges_of d.graph ≡ reverse all
+
+-- d is the graph of names and edges, from the root that is asked for on
+pub record IsGraphIn (source : Source) (root : Option (Bor (List ℕ))) (is_terminal : Bool) (paths names : List (List ℕ)) (edges : List (ℕ × ℕ)) (d : Dependencies) : Type 0 where
+  pub texts : List (List ℕ)
+  pub all : List (ℕ × ℕ)
+  pub rooted : IsRooted source root paths names edges texts all d.root.0
+  pub graph : IsGraphFrom is_terminal texts all d
 
 -- a name is asked for that means none of these nodes
 abbrev pub IsNoName : Option (Bor (List ℕ)) → List (List ℕ) → List (List ℕ) → Type 0

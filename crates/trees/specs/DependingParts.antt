@@ -1,4 +1,4 @@
--- What the parts of reading lines of two words do. What `perform` ensures doesn't cite this.
+-- What the parts of reading packages and lines of two words do. What `perform` ensures doesn't cite this.
 use Rattle.std.specs.Borrow.{Bor}
 use Rattle.std.specs.BTreeSet.{contains}
 use Rattle.std.specs.Ordering.{nat_cmp, ordering_then}
@@ -7,9 +7,10 @@ use Rattle.std.specs.List.{list_any, range_with_len}
 use Rattle.std.specs.Str.{bytes_eq}
 use Rattle.std.specs.Prelude.{◌≡◌, ◌≢◌, ◌<◌, ◌+◌, ◌⊎◌, ◌||◌, ℕ, Bool, not, true, false, if◌then◌else◌, List, [], ◌∷◌, ◌++◌, count_by, filter, length, map, slice_index_or, All, AllPairs, Contains, Option, Some, None, codes, string_bytes}
 use Rattle.ptree.specs.Graph.{numbers_of}
-use Rattle.trees.specs.declared.deps.Network.{Network}
+use Rattle.trees.specs.declared.deps.network.Network.{Network}
+use Rattle.trees.specs.declared.deps.Packages.{Packages}
 use Rattle.trees.specs.declared.source.Source.{Source}
-use Rattle.trees.specs.Depending.{pair_words, same_edge, edges_between, HoldsPairs, AreNames, IsClosed, HasEach, IsUnreached, AreTops, StandsAbove, IsRooted}
+use Rattle.trees.specs.Depending.{pair_words, ends, needs_between, same_edge, edges_of_needs, HoldsPairs, AreNames, IsClosed, HasEach, IsUnreached, IsWithin, AreTops, StandsAbove, IsRooted}
 use Rattle.trees.specs.Meaning.{IsUnderstood, Means}
 use Rattle.trees.specs.Naming.{is_labelled, passes_at}
 
@@ -65,36 +66,59 @@ pub record AddsEdge (old new : Network) (e : ℕ × ℕ) : Type 0 where
   pub edges : needs_of new ≡ added same_edge (needs_of old) e
   pub indexed : IsIndexed new
 
--- a network without nodes
-pub record IsEmpty (n : Network) : Type 0 where
-  pub labels : n.labels.items ≡ []
-  pub paths : n.paths.items ≡ []
+-- a network without edges
+pub record IsUnlinked (n : Network) : Type 0 where
   pub edges : n.edges.items ≡ []
   pub sorted : n.sorted.keys ≡ []
 
--- a network has names as its nodes, and the edges of pairs, whose words are among them
-pub record HasNeeds (is_inverse : Bool) (names : List (List ℕ)) (pairs : List (List ℕ × List ℕ)) (n : Network) : Type 0 where
-  pub labels : labels_of n ≡ names
-  pub paths : n.paths.items ≡ []
-  pub direction : n.is_inverse ≡ is_inverse
-  pub edges : needs_of n ≡ edges_between is_inverse names pairs
+-- a network gets the edges of these needs
+pub record HasNeeds (old : Network) (needs : List (ℕ × ℕ)) (new : Network) : Type 0 where
+  pub nodes : KeepsNodes old new
+  pub edges : needs_of new ≡ edges_of_needs old.is_inverse needs
+  pub indexed : IsIndexed new
+
+-- ## Packages
+
+-- the labels of packages, their paths, and what they need
+abbrev pub names_in : Packages → List (List ℕ)
+names_in p = map string_bytes p.labels.items
+
+abbrev pub paths_in : Packages → List (List ℕ)
+paths_in p = map string_bytes p.paths.items
+
+abbrev pub needs_in : Packages → List (ℕ × ℕ)
+needs_in p = map ends p.needs.items
+
+-- what they need is among them
+abbrev pub AreWithin : Packages → Type 0
+AreWithin p = All (IsWithin (length (names_in p))) (needs_in p)
+
+-- a network is that of packages
+pub record HasPackages (is_inverse : Bool) (p : Packages) (n : Network) : Type 0 where
+  pub labels : n.labels ≡ p.labels
+  pub paths : n.paths ≡ p.paths
+  pub edges : needs_of n ≡ edges_of_needs is_inverse (needs_in p)
   pub indexed : IsIndexed n
 
--- the names are the words of the pairs
-pub record HasPairs (is_inverse : Bool) (pairs : List (List ℕ × List ℕ)) (n : Network) : Type 0 where
-  pub names : AreNames pairs (labels_of n)
-  pub needs : HasNeeds is_inverse (labels_of n) pairs n
+-- packages are names, and what pairs of these need
+pub record HasWords (names : List (List ℕ)) (pairs : List (List ℕ × List ℕ)) (p : Packages) : Type 0 where
+  pub labels : names_in p ≡ names
+  pub paths : p.paths.items ≡ []
+  pub needs : needs_in p ≡ needs_between names pairs
 
--- the source holds no pairs
-abbrev pub HoldsNone : Source → Type 0
-HoldsNone source = (pairs : List (List ℕ × List ℕ)) → HoldsPairs source pairs → pairs ≡ []
-
--- a network has the nodes and edges of the pairs in a source
-pub record IsNetworkOfPairs (source : Source) (is_inverse : Bool) (n : Network) : Type 0 where
+-- packages are the words of the pairs in a source
+pub record HoldsWords (source : Source) (p : Packages) : Type 0 where
   pub pairs : List (List ℕ × List ℕ)
   pub held : HoldsPairs source pairs
   pub some : pairs ≢ []
-  pub has : HasPairs is_inverse pairs n
+  pub names : List (List ℕ)
+  pub are : AreNames pairs names
+  pub has : HasWords names pairs p
+
+-- they are what a source means
+pub record AreRead (source : Source) (p : Packages) : Type 0 where
+  pub understood : IsUnderstood source
+  pub means : Means source understood (paths_in p) (names_in p) (needs_in p)
 
 -- ## Marks
 
@@ -157,10 +181,6 @@ means_node is_whole labels paths name i = passes_at (is_meant is_whole paths nam
 abbrev pub meant_nodes : Bool → Network → List ℕ → List ℕ
 meant_nodes is_whole n name = passing (means_node is_whole (labels_of n) (paths_of n) name) (length (labels_of n))
 
--- an edge between the first nodes
-abbrev pub IsWithin : ℕ → ℕ × ℕ → Type 0
-IsWithin n e = (e.0 < n) × (e.1 < n)
-
 -- the edges of a network, in both orders, are between its nodes
 pub record IsWhole (n : Network) : Type 0 where
   pub indexed : IsIndexed n
@@ -173,12 +193,6 @@ AreTopsOf n tops = IsWhole n → AreTops (needs_of n) (length (labels_of n)) top
 -- a root stands for these nodes
 abbrev pub IsTopped : List ℕ → Network → Network → ℕ → Type 0
 IsTopped label old new root = (tops : List ℕ) × All (λ t. t < length (labels_of old)) tops × AreTopsOf old tops × StandsAbove label (labels_of old) (needs_of old) tops (labels_of new) (needs_of new) root
-
--- a network has the nodes and edges that a source means
-pub record IsNetworkOf (source : Source) (is_inverse : Bool) (n : Network) : Type 0 where
-  pub understood : IsUnderstood source
-  pub means : Means source understood is_inverse (paths_of n) (labels_of n) (needs_of n)
-  pub whole : IsWhole n
 
 -- the root of a network is the one that is asked for
 abbrev pub HasRoot : Source → Option (Bor (List ℕ)) → Network → Network → ℕ → Type 0

@@ -26,22 +26,12 @@ pub mod MergingParts
 pub mod Outlining
 -- which node a name means
 pub mod Naming
--- which graph is drawn of lines of two words
+-- which graph is drawn of packages, and of lines of two words
 pub mod Depending
 -- what the parts of reading them do
 pub mod DependingParts
--- which packages a lock file has, and what its entries need
-pub mod Locking
--- which packages a package-lock.json has, and what they need
-pub mod Npm
--- which graph is drawn of each
+-- which graph a source means
 pub mod Meaning
--- what the parts of reading lock files do
-pub mod LockingParts
--- what the parts of reading a package-lock.json do
-pub mod NpmParts
--- which paths patterns of its workspaces mean
-pub mod NpmPatterns
 -- what is said of the settings
 pub mod Settings
 -- what calls write

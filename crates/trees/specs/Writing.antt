@@ -176,10 +176,10 @@ abbrev pub MeansTooDeep : Sources → Source → Deps → Drawing → Type 0
 MeansTooDeep sources source deps drawing =
     (d : Dependencies) × IsGraphOf source deps.root deps.is_inverse drawing.screen.is_terminal d × IsGraphTooDeep (drawing_value sources drawing) d deps.walks
 
--- what each failure before anything is written says: the source is not understood, or means no graph with the
--- root that is asked for, or one that is too deep, or memory ran out
+-- what each failure before anything is written says: lines of two words hold none, or no word is the root that
+-- is asked for; or the graph is too deep, or memory ran out. Of a lock file it says nothing else
 abbrev pub FailsToDepend : Sources → Source → Deps → Drawing → Failure → Type 0
-FailsToDepend sources source deps drawing = FailsFor (HoldsNoGraph source deps.root deps.is_inverse ⊎ MeansTooDeep sources source deps drawing) ⊥
+FailsToDepend sources source deps drawing = FailsFor (HoldsNoGraph source deps.root ⊎ MeansTooDeep sources source deps drawing) ⊥
 
 -- the drawing of the graph of an input is written
 abbrev pub DrawsNeeds : {A : Type 0} → Sources → Source → Deps → Drawing → Option (List ℕ) → Option (List ℕ) → Result A Failure → Type 0

@@ -2,25 +2,25 @@
 ghost use Rattle.std.specs.Cmp.Lexicographic.{slice_cmp};
 ghost use Rattle.std.specs.List.Sorted.{IsStrictlySortedBy};
 ghost use Rattle.std.specs.Ordering.{nat_cmp};
-ghost use Rattle.std.specs.Prelude.{◌≡◌, false, true, map, Contains, IfOk, IfErr, OnOk, OnErr};
-ghost use Rattle.trees.specs.Depending.{words_of, number, AreNames, HoldsPairs};
-ghost use Rattle.trees.specs.DependingParts.{texts_of, found_words, are_no_pair, HasPairs, HoldsNone, IsEmpty, IsNetworkOfPairs};
+ghost use Rattle.std.specs.Prelude.{◌≡◌, false, true, map, Contains, IfOk, IfErr, OnOk, OnErr, string_bytes};
+ghost use Rattle.trees.specs.Depending.{words_of, number, ends, needs_between, AreNames, HoldsNone, HoldsPairs};
+ghost use Rattle.trees.specs.DependingParts.{texts_of, found_words, are_no_pair, HasWords, HoldsWords};
 ghost use Rattle.trees.specs.Reading.{FailsFor, FailsToMake};
 
-use crate::deps::Network;
+use crate::deps::{Need, Packages};
 use crate::failure::Failure;
 use crate::source::Source;
 use std::alloc::{AllocError, Global};
 
-/// Adds the dependencies of lines of two words. A word twice is a node alone, as `tsort` takes it.
+/// Returns the words of lines of two, the first of which needs the second. A word twice is one
+/// alone, as `tsort` takes it.
 ///
 /// # Errors
 ///
 /// `Input` with the line that has another number of words or is a comment, or if there is none, and
 /// `Memory`.
-pub fn pairs(alloc: Global, source: &Source, network: &mut Network) -> Result<(), Failure>
-    ensures held { IsEmpty network.old → OnOk result
-        (IsNetworkOfPairs source.now network.old.is_inverse network.new) }
+pub fn packages(alloc: Global, source: &Source) -> Result<Packages, Failure>
+    ensures held { IfOk result (HoldsWords source.now) }
     ensures failed { IfErr result (FailsFor (HoldsNone source.now) ⊥) }
 {
     let pairs = line_pairs(alloc, source)?;
@@ -28,7 +28,48 @@ pub fn pairs(alloc: Global, source: &Source, network: &mut Network) -> Result<()
         return Err(source.wrong(alloc, "empty")?);
     }
     let names = names(alloc, &pairs)?;
-    Ok(push_pairs(alloc, &pairs, &names, network)?)
+    Ok(named(alloc, &pairs, &names)?)
+}
+
+// Returns words as packages, and what pairs of them need.
+fn named(alloc: Global, pairs: &[(&str, &str)], names: &[&str]) -> Result<Packages, AllocError>
+    requires { AreNames (map texts_of pairs.now) (map (λ n. n.now) names.now) }
+    ensures { IfOk result
+        (HasWords (map (λ n. n.now) names.now) (map texts_of pairs.now)) }
+{
+    Ok(Packages {
+        labels: labels(alloc, names)?,
+        paths: Vec::new(alloc),
+        needs: needs(alloc, pairs, names)?,
+    })
+}
+
+// Returns the labels of these words.
+fn labels(alloc: Global, names: &[&str]) -> Result<Vec<String>, AllocError>
+    ensures { IfOk result
+        (λ labels. map string_bytes labels.items ≡ map (λ n. n.now) names.now) }
+{
+    let mut labels = Vec::new(alloc);
+    for name in names {
+        labels.push(String::from_str(alloc, name)?)?;
+    }
+    Ok(labels)
+}
+
+// Returns what the first words of pairs need, if it is another word.
+fn needs(alloc: Global, pairs: &[(&str, &str)], names: &[&str]) -> Result<Vec<Need>, AllocError>
+    requires { AreNames (map texts_of pairs.now) (map (λ n. n.now) names.now) }
+    ensures { IfOk result (λ needs. map ends needs.items
+        ≡ needs_between (map (λ n. n.now) names.now) (map texts_of pairs.now)) }
+{
+    let mut needs = Vec::new(alloc);
+    for (first, second) in pairs {
+        if first != second {
+            let (needing, needed) = (number(names, first), number(names, second));
+            needs.push(Need { needing, needed })?;
+        }
+    }
+    Ok(needs)
 }
 
 // Returns the words of pairs, each once, in ascending order.
@@ -56,28 +97,6 @@ fn number(names: &[&str], word: &str) -> usize
         Ok(number) => number,
         Err(place) => place,
     }
-}
-
-// Adds the nodes with these names, and the edges of pairs.
-fn push_pairs(
-    alloc: Global,
-    pairs: &[(&str, &str)],
-    names: &[&str],
-    network: &mut Network,
-) -> Result<(), AllocError>
-    requires { AreNames (map texts_of pairs.now) (map (λ n. n.now) names.now) }
-    ensures { IsEmpty network.old → OnOk result
-        (HasPairs network.old.is_inverse (map texts_of pairs.now) network.new) }
-{
-    for name in names {
-        network.labels.push(String::from_str(alloc, name)?)?;
-    }
-    for (first, second) in pairs {
-        if first != second {
-            network.add_need(number(names, first), number(names, second))?;
-        }
-    }
-    Ok(())
 }
 
 // Returns the two words of a line, or nothing of a blank one, or else what is wrong with it.

@@ -1,10 +1,11 @@
-//! The root of what is drawn.
-ghost use Rattle.std.specs.Prelude.{◌≡◌, ◌≢◌, ◌<◌, ⊤, ℕ, not, true, [], ◌∷◌, length, map, slice_index_or, slice_set, All, Contains, IfOk, IfErr, OnOk};
-ghost use Rattle.trees.specs.DependingParts.{labels_of, paths_of, is_meant, meant_nodes, AreFirsts, AreTopsOf, MarksNeeds, Reaches};
+//! The root that is asked for.
+ghost use Rattle.std.specs.Prelude.{◌≡◌, ◌≢◌, ⊤, [], ◌∷◌, length, map, IfOk, IfErr};
+ghost use Rattle.trees.specs.DependingParts.{labels_of, paths_of, is_meant, meant_nodes};
 ghost use Rattle.trees.specs.Naming.{is_called, is_labelled, is_version, own_name, version_text, IsRootNode, LacksRoot};
 ghost use Rattle.trees.specs.Reading.{FailsFor};
 
-use crate::deps::{Network, wrong};
+use crate::deps::network::Network;
+use crate::deps::wrong;
 use crate::failure::Failure;
 use crate::source::{Source, behind};
 use crate::suggest::Nearest;
@@ -147,24 +148,17 @@ fn unknown(alloc: Global, source: &Source, network: &Network, name: &str) -> Fai
         nearest.try_word(parts(label.as_str()).0);
         nearest.try_word(label.as_str());
     }
+    let start = "no package is named ";
     match longer(network, name).or(nearest.word) {
-        Some(near) => {
-            let parts = ["no package is named ", name, "; did you mean ", near, "?"];
-            wrong(alloc, source, &parts)
-        }
-        None => wrong(alloc, source, &["no package is named ", name]),
+        Some(near) => wrong(alloc, source, &[start, name, "; did you mean ", near, "?"]),
+        None => wrong(alloc, source, &[start, name]),
     }
 }
 
 // Returns the first label that is a name, which may have blanks, with a version.
 fn longer<'a>(network: &'a Network, name: &str) -> Option<&'a str> {
-    for label in &network.labels {
-        match behind(label.as_str(), name) {
-            Some(rest) if rest.starts_with([' ', '@']) => return Some(label.as_str()),
-            _ => {}
-        }
-    }
-    None
+    let mut labels = network.labels.iter().map(|label| label.as_str());
+    labels.find(|label| behind(label, name).is_some_and(|rest| rest.starts_with([' ', '@'])))
 }
 
 // Says which nodes have a name, with their paths if they have some.
@@ -178,139 +172,14 @@ fn ambiguous(
     ensures { IfOk result (FailsFor ⊤ ⊥) }
 {
     let mut words = format!(in alloc; "several packages are named {name}")?;
-    let mut between = ": ";
-    for node in found {
-        push_node(&mut words, network, node.0, between)?;
-        between = ", ";
+    for (i, node) in found.iter().enumerate() {
+        words.push_str(if i == 0 { ": " } else { ", " })?;
+        if let Some(label) = network.labels.get(node.0) {
+            words.push_str(label.as_str())?;
+        }
+        if let Some(path) = network.paths.get(node.0) {
+            write!(words, " in {path}")?;
+        }
     }
     Ok(wrong(alloc, source, &[words.as_str()]))
-}
-
-// Adds a node, with its path if it has one.
-fn push_node(
-    words: &mut String,
-    network: &Network,
-    node: usize,
-    between: &str,
-) -> Result<(), AllocError> {
-    match (network.labels.get(node), network.paths.get(node)) {
-        (Some(label), Some(path)) => write!(words, "{between}{label} in {path}"),
-        (Some(label), None) => write!(words, "{between}{label}"),
-        (None, _) => Ok(()),
-    }
-}
-
-/// Returns what nothing needs, and of each cycle that nothing else needs the first node. All other
-/// nodes are reached from these.
-///
-/// # Errors
-///
-/// Memory ran out.
-pub fn tops(alloc: Global, network: &Network) -> Result<Vec<usize>, AllocError>
-    ensures nodes { IfOk result (λ tops. All (λ t. t < length (labels_of network.now)) tops.items) }
-    ensures tops { IfOk result (λ tops. AreTopsOf network.now tops.items) }
-{
-    let nodes = in_turn(alloc, &needed(alloc, network)?)?;
-    // None of the first ones reaches a later one, and those that a later one reaches are no tops.
-    let mut firsts = firsts(alloc, network, &nodes)?;
-    firsts.reverse();
-    let mut tops = self::firsts(alloc, network, &firsts)?;
-    tops.reverse();
-    Ok(tops)
-}
-
-// Returns which nodes are needed.
-fn needed(alloc: Global, network: &Network) -> Result<Vec<bool>, AllocError>
-    ensures { IfOk result (λ needed. length needed.items ≡ length (labels_of network.now)) }
-{
-    let mut needed = vec![in alloc; false; network.labels.len()]?;
-    for (_, to) in &network.sorted {
-        mark(&mut needed, *to);
-    }
-    Ok(needed)
-}
-
-// Returns the nodes that are not needed, and then those that are.
-fn in_turn(alloc: Global, needed: &[bool]) -> Result<Vec<usize>, AllocError>
-    ensures nodes { IfOk result (λ nodes. All (λ t. t < length needed.now) nodes.items) }
-    ensures all { IfOk result (λ nodes. (n : ℕ) → n < length needed.now → Contains nodes.items n) }
-{
-    let mut nodes = Vec::new(alloc);
-    for is_needed in [false, true] {
-        for (i, marked) in needed.iter().enumerate() {
-            if *marked == is_needed {
-                nodes.push(i)?;
-            }
-        }
-    }
-    Ok(nodes)
-}
-
-// Returns those of these nodes that none before them reaches.
-fn firsts(alloc: Global, network: &Network, nodes: &[usize]) -> Result<Vec<usize>, AllocError>
-    ensures nodes { IfOk result (λ firsts. All (Contains nodes.now) firsts.items) }
-    ensures firsts { IfOk result (λ firsts.
-        All (λ e. e.1 < length (labels_of network.now)) network.now.sorted.keys
-        → All (λ n. n < length (labels_of network.now)) nodes.now
-        → AreFirsts network.now.sorted.keys nodes.now firsts.items) }
-{
-    let mut reached = vec![in alloc; false; network.labels.len()]?;
-    let mut firsts = Vec::new(alloc);
-    for node in nodes {
-        if mark(&mut reached, *node) {
-            firsts.push(*node)?;
-            reach(alloc, network, *node, &mut reached)?;
-        }
-    }
-    Ok(firsts)
-}
-
-// Marks all that a node needs, and what that needs.
-fn reach(
-    alloc: Global,
-    network: &Network,
-    from: usize,
-    reached: &mut [bool],
-) -> Result<(), AllocError>
-    ensures { OnOk result (Reaches network.now.sorted.keys from reached.old reached.new) }
-{
-    let mut left = vec![in alloc; from]?;
-    // Each node is marked once, and so is left once.
-    for _ in 0..reached.len() {
-        let Some(node) = left.pop() else {
-            break;
-        };
-        mark_needs(network, node, reached, &mut left)?;
-    }
-    Ok(())
-}
-
-// Marks what a node needs, and adds what was not marked before to what is left.
-fn mark_needs(
-    network: &Network,
-    node: usize,
-    reached: &mut [bool],
-    left: &mut Vec<usize>,
-) -> Result<(), AllocError>
-    ensures { OnOk result (MarksNeeds network.now.sorted.keys node
-        reached.old reached.new left.old.items left.new.items) }
-{
-    for (_, to) in network.sorted.range((node, 0)..=(node, usize::MAX)) {
-        if mark(reached, *to) {
-            left.push(*to)?;
-        }
-    }
-    Ok(())
-}
-
-// Marks a node. Returns whether it was not marked before.
-fn mark(marks: &mut [bool], node: usize) -> bool
-    ensures new { result ≡ not (slice_index_or marks.old node true) }
-    ensures marked { marks.new ≡ slice_set marks.old node true }
-{
-    if node >= marks.len() || marks[node] {
-        return false;
-    }
-    marks[node] = true;
-    true
 }

@@ -1,4 +1,4 @@
-use Rattle.std.proofs.Common.{rules, ◌≡◌, ◌∙◌, [], ap, map, subst, sym}
+use Rattle.std.proofs.Common.{rules, ◌≡◌, ◌∙◌, [], map, subst, sym}
 use Rattle.std.specs.List.{AllByRecursion}
 use Rattle.ptree.specs.Outline.{Line, outline}
 use Rattle.ptree.specs.Tree.{tree_of}

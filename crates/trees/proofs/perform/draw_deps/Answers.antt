@@ -20,7 +20,7 @@ returns-clause-written g c =
     let means : Type 0 = MeansTooDeep sources source deps c.args.drawing in
     let old = g.W.Sink.contents c.args.out.now in
     writes_weaker old (g.W.Sink.contents c.draw-drawn.new.out) c.draw-drawn.result (IsGraphDrawing (drawing_value sources c.args.drawing) found deps.walks) (IsNeedsDrawing sources source deps c.args.drawing) (FailsFor deep ⊥) (FailsToDepend sources source deps c.args.drawing)
-    (λ bytes drawing. (found, c.in_ok-dependencies.ensures.graph, drawing)) (λ e says. fails_weaker deep (HoldsNoGraph source deps.root deps.is_inverse ⊎ means) ⊥ e (λ is. inr (found, c.in_ok-dependencies.ensures.graph, is)) says) (search rules)
+    (λ bytes drawing. (found, c.in_ok-dependencies.ensures.graph, drawing)) (λ e says. fails_weaker deep (HoldsNoGraph source deps.root ⊎ means) ⊥ e (λ is. inr (found, c.in_ok-dependencies.ensures.graph, is)) says) (search rules)
 
 pub returns-in_err-dependencies-clause-written : goal.returns-in_err-dependencies-clause-written
 returns-in_err-dependencies-clause-written g c =
@@ -29,7 +29,7 @@ returns-in_err-dependencies-clause-written g c =
     let deps = c.args.deps in
     let means : Type 0 = MeansTooDeep sources source deps c.args.drawing in
     let e = c.in_err-dependencies.field-0.0 in
-    let fails : FailsToDepend sources source deps c.args.drawing e = fails_weaker (HoldsNoGraph source deps.root deps.is_inverse) (HoldsNoGraph source deps.root deps.is_inverse ⊎ means) ⊥ e inl c.in_err-dependencies.ensures.failed in
+    let fails : FailsToDepend sources source deps c.args.drawing e = fails_weaker (HoldsNoGraph source deps.root) (HoldsNoGraph source deps.root ⊎ means) ⊥ e inl c.in_err-dependencies.ensures.failed in
     nothing_written (g.W.Sink.contents c.args.out.now) c.from_residual.result (IsNeedsDrawing sources source deps c.args.drawing) (FailsToDepend sources source deps c.args.drawing) (search rules) (search (rules, fails))
 
 -- the labels are as a terminal may get them
