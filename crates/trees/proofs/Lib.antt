@@ -24,7 +24,6 @@ pub mod OutlineTexts
 pub mod OutlineLines
 pub mod Named
 pub mod NameParts
-pub mod NamingExamples
 pub mod Networks
 pub mod NextFronts
 pub mod NextItems

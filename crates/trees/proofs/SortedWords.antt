@@ -1,7 +1,7 @@
 -- Words in ascending order.
-use Rattle.std.proofs.Common.{◌≡◌, ◌≢◌, ◌∙◌, ℕ, ◌+◌, ◌<◌, Bool, false, List, [], ◌∷◌, length, get_or, map, inl, inr, refl, sym, ap, subst, Bor, Contains, Decides, Result, Ok, Err, flat_map, is_ok, option_map, bytes_eq, Ordering, Less, Equal, Greater, arith}
+use Rattle.std.proofs.Common.{◌≡◌, ◌≢◌, ◌∙◌, ℕ, ◌+◌, ◌<◌, Bool, false, List, [], ◌∷◌, length, get_or, map, inl, inr, refl, sym, ap, subst, Bor, Contains, flat_map, option_map, bytes_eq, Ordering, Less, Equal, Greater, arith}
 use Rattle.std.proofs.Math.ListN.{get_or-map}
-use Rattle.std.proofs.lemmas.Bool.{cases_lt, false≢true}
+use Rattle.std.proofs.lemmas.Bool.{cases_lt}
 use Rattle.std.proofs.lemmas.Cmp.{nat_list_cmp_total, tied_itself}
 use Rattle.std.proofs.lemmas.List.{length-map}
 use Rattle.std.proofs.lemmas.List.Filters.{dedup_is}
@@ -16,7 +16,7 @@ use Rattle.std.proofs.lemmas.Slice.Eq.{bytes_eq-Decides}
 use Rattle.std.specs.Cmp.Lexicographic.{slice_cmp, on_texts, on_texts_equal, texts_ties}
 use Rattle.std.specs.List.{HoldsAt, dedup}
 use Rattle.std.specs.List.Retain.{IsFiltered, DiffersFromLast}
-use Rattle.std.specs.List.Sorted.{IsBinarySearchResult, IsPermutation, IsSearchInRange, IsSorted, IsStrictlySortedBy, IsPartitionPoint, IsNonDecreasingBy}
+use Rattle.std.specs.List.Sorted.{IsPermutation, IsSorted, IsStrictlySortedBy, IsPartitionPoint, IsNonDecreasingBy}
 use Rattle.std.specs.Ordering.{is_eq, is_lt, nat_cmp, ordering_index, ordering_reverse}
 use Rattle.ptree.proofs.Config.FieldLists.{Contains-map}
 use Rattle.trees.specs.Depending.{pair_words, number, AreNames}
@@ -129,10 +129,3 @@ missed names w i up known parts =
 pub none_missed : (names : List Text) (w : List ℕ) (i : ℕ) → IsStrictlySortedBy (slice_cmp nat_cmp) (map own names) → Contains (map own names) w → (IsNonDecreasingBy (λ (y : Text). ordering_index (slice_cmp nat_cmp y.now w)) names
     → IsPartitionPoint (λ (y : Text). slice_cmp nat_cmp y.now w ≡ Less) (λ (y : Text). slice_cmp nat_cmp y.now w ≡ Greater) names i) → ⊥
 none_missed names w i up = missed names w i (rises names w up)
-
--- what a search says of texts in order
-pub search_decides : (names : List Text) (w : List ℕ) (r : Result ℕ ℕ) → IsSorted text_cmp names → IsSearchInRange r (length names) → IsBinarySearchResult (λ (y : Text). slice_cmp nat_cmp y.now w) names r → Decides (is_ok r) (Contains (map own names) w)
-search_decides names w (Ok i) up low here =
-    let there : Text = record { ref_ptr = (0, 0); now = w } in
-    (λ yes. (i, rw length-map low, get_or-map own names i there ∙ exact_bytes (get_or names i there).now w (here there)), λ known. refl)
-search_decides names w (Err i) up low parts = (λ no. absurd (false≢true no), λ known. absurd (missed names w i (searchable_from_sorted nat_list_cmp_total own names w up) known parts))
