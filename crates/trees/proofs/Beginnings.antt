@@ -1,15 +1,9 @@
 -- With which pieces a drawing can go on after some lines.
-use Rattle.std.proofs.Common.{◌≡◌, ◌≢◌, ℕ, suc, ◌+◌, ◌<◌, ◌⊎◌, Bool, true, false, List, [], ◌∷◌, ◌++◌, codes, length, map, get_or, Result, Ok, Err, String, Global, string_bytes, inl, inr, refl, sym, ap, ◌∙◌, subst, append_assoc, ◌↔◌, Contains, IfOk, arith}
-use Rattle.std.proofs.lemmas.Bool.{cases_lt}
+use Rattle.trees.proofs.Common.{◌≡◌, ◌≢◌, ℕ, suc, ◌+◌, ◌<◌, ◌⊎◌, Bool, true, false, List, [], ◌∷◌, ◌++◌, codes, length, map, get_or, Result, Ok, Err, String, Global, string_bytes, inl, inr, refl, sym, ap, ◌∙◌, subst, append_assoc, ◌↔◌, Contains, IfOk, arith, cases_lt, ConfigValue, HasContinuation, IsFollowedBy, AreFlags, IsReadable, IsReadableWith, ArePassing, ArePiecesAt, style_codes}
 use Rattle.std.proofs.lemmas.List.{append-nil, get_or_default, get_or-map, length-map}
 use Rattle.ptree.specs.declared.print_config.OutputKind.TheVariants.{Unknown}
-use Rattle.ptree.specs.Config.{ConfigValue}
-use Rattle.ptree.specs.Continuation.{HasContinuation, IsFollowedBy, AreFlags}
 use Rattle.ptree.specs.Drawing.{Look, look_by, effective_style}
 use Rattle.ptree.specs.Pieces.{Pieces, turning_piece, passing_piece, passing_all, pieces_from}
-use Rattle.ptree.specs.Readable.{IsReadable, IsReadableWith}
-use Rattle.ptree.specs.Spelled.{ArePassing, ArePiecesAt}
-use Rattle.ptree.specs.Style.{style_codes}
 use Rattle.ptree.proofs.Pieces.Prefixes.{apart_not_both_starts, same_kind, same_prefix}
 use Rattle.ptree.proofs.Styles.PaintedTexts.{plain_codes}
 use Rattle.trees.specs.Expected.{CanFollow, IsBeginning, IsUncoloured, ListsBeginnings, IsLastLine, AreDistinct, AddsListed, AddsTexts, IsFlagged, EndsPieces, EndsFront, AreFronts, HasFronts}

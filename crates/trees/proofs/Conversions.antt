@@ -1,14 +1,10 @@
 -- Conversions there and back.
-use Rattle.std.proofs.Common.{◌≡◌, ◌≤◌, ◌∙◌, ℕ, Bool, false, Option, Some, None, List, Result, Ok, Err, string_bytes, refl, sym, ap, subst, arith}
-use Rattle.std.specs.Io.KnownBytes.{Appends}
+use Rattle.trees.proofs.Common.{◌≡◌, ◌≤◌, ◌∙◌, ℕ, Bool, false, Option, Some, None, List, Result, Ok, Err, string_bytes, refl, sym, ap, subst, arith, Appends, Sources, ConfigValue, effective_config}
 use Rattle.ptree.specs.declared.print_config.OutputKind.TheVariants.{Unknown}
-use Rattle.ptree.specs.declared.print_config.Sources.{Sources}
 use Rattle.ptree.specs.declared.print_config.StyleWhen.{StyleWhen}
 use Rattle.ptree.specs.declared.print_config.StyleWhen.TheVariants.{Never}
-use Rattle.ptree.specs.Config.{ConfigValue}
 use Rattle.ptree.specs.Drawing.{Look, look_by, IsDrawing}
 use Rattle.ptree.specs.DrawnForm.{IsDrawnForm}
-use Rattle.ptree.specs.Loading.{effective_config}
 use Rattle.ptree.specs.Tree.{Tree, shape_of_tree, height}
 use Rattle.ptree.proofs.Reading.SpelledForms.{same_drawn_form}
 use Rattle.ptree.proofs.Drawing.TreeDrawing.{tree_drawing, drawing_of_tree}

@@ -1,8 +1,6 @@
 -- Lines that begin with passing pieces.
-use Rattle.std.proofs.Common.{◌≡◌, ℕ, ◌+◌, ◌⊎◌, inl, inr, Bool, true, false, List, [], ◌∷◌, ◌++◌, length, length-append, refl, sym, ap, ◌∙◌, append_assoc, arith}
+use Rattle.trees.proofs.Common.{◌≡◌, ℕ, ◌+◌, ◌⊎◌, inl, inr, Bool, true, false, List, [], ◌∷◌, ◌++◌, length, length-append, refl, sym, ap, ◌∙◌, append_assoc, arith, IsPrefixOf, passing_all-push}
 use Rattle.ptree.specs.Pieces.{Pieces, turning_piece, passing_piece, passing_all}
-use Rattle.ptree.specs.Texts.{IsPrefixOf}
-use Rattle.ptree.proofs.Reading.Paths.{passing_all-push}
 use Rattle.trees.specs.Expected.{IsTooDeep}
 
 -- a line is n passing pieces, and then the rest

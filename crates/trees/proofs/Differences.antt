@@ -1,11 +1,7 @@
 -- What is said of the first difference of two trees.
-use Rattle.std.specs.Str.{NoCharPasses}
-use Rattle.std.proofs.Common.{◌+◌, ◌-◌, ◌++◌, ℕ, List, [], ◌∷◌, length, Option, Some, None, codes, refl, sym, subst, decimal, option_map, slice_get, unwrap_or}
-use Rattle.std.proofs.lemmas.Str.{NoCharPasses-nil, NoCharPasses-append}
-use Rattle.ptree.specs.Address.{Address}
+use Rattle.trees.proofs.Common.{◌+◌, ◌-◌, ◌++◌, ℕ, List, [], ◌∷◌, length, Option, Some, None, codes, refl, sym, subst, decimal, option_map, slice_get, unwrap_or, NoCharPasses, NoCharPasses-nil, NoCharPasses-append, Address, escaped_text}
 use Rattle.ptree.specs.Tree.{Tree}
 use Rattle.ptree_trees.specs.Difference.{text_at_address, texts_above}
-use Rattle.ptree_trees.specs.Escape.{escaped_text}
 use Rattle.trees.specs.declared.compare.Side.{Side}
 use Rattle.trees.specs.declared.compare.Side.TheVariants.{Left, Right}
 use Rattle.trees.specs.Merging.{TellsDifference, way_text, place_line, side_line, side_mark}

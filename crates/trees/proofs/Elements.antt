@@ -1,7 +1,6 @@
 -- Elements of lists, and pairs of them.
-use Rattle.std.proofs.Common.{List, [], ◌∷◌, ◌++◌, get_or, subst, AllPairs, arith}
+use Rattle.trees.proofs.Common.{List, [], ◌∷◌, ◌++◌, get_or, subst, AllPairs, arith, AllZip}
 use Rattle.std.proofs.lemmas.List.{get_or_append_left, length-append}
-use Rattle.std.specs.List.{AllZip}
 
 -- the pairs of a shorter list
 pub pairs_front : {X : Type 0} (R : X → X → Type 0) (xs ys : List X) → AllPairs R (xs ++ ys) → AllPairs R xs

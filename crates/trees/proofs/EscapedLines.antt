@@ -1,18 +1,11 @@
 -- Texts that can stand after an indent still can when they are escaped.
-use Rattle.std.proofs.Common.{◌≡◌, ◌≢◌, ◌∙◌, ℕ, suc, ◌≤◌, Bool, true, false, cond, Option, Some, None, List, [], ◌∷◌, ◌++◌, length, map, flat_map, IsUtf8, lit<, refl, sym, ap, subst, encode_utf8, All, option_map, unwrap_or, chars, encode_utf8_all, arith}
-use Rattle.std.proofs.lemmas.List.{map-append}
+use Rattle.trees.proofs.Common.{◌≡◌, ◌≢◌, ◌∙◌, ℕ, suc, ◌≤◌, Bool, true, false, cond, Option, Some, None, List, [], ◌∷◌, ◌++◌, length, map, flat_map, IsUtf8, lit<, refl, sym, ap, subst, encode_utf8, All, option_map, unwrap_or, chars, encode_utf8_all, arith, map-append, All-nil, All-cons, All-head, All-tail, All-append, All-weaker, AllByRecursion, StringItem, Line, line, outline_at, outline, Form, begins_blank, IsLineText, AreLineTexts}
 use Rattle.std.proofs.lemmas.List.Concat.{flat_map-append}
-use Rattle.std.proofs.lemmas.List.Elements.{All-nil, All-cons, All-head, All-tail, All-append, All-weaker}
 use Rattle.std.proofs.lemmas.Str.{IsUtf8-append, IsUtf8-string_bytes, chars-append, encodes-append, encodes-chars, encode_ascii, length-encode, len_utf8_bounds}
-use Rattle.std.specs.List.{AllByRecursion}
-use Rattle.ptree.specs.declared.item.StringItem.{StringItem}
 use Rattle.ptree.specs.declared.item.StringItem.TheFolds.{ind-StringItem}
-use Rattle.ptree.specs.Outline.{Line, line, outline_at, outline}
 use Rattle.ptree.specs.Tree.{Forest, none, item, Tree, forest, tree_of}
 use Rattle.ptree.proofs.Trees.ItemTrees.{tree_of_roll}
-use Rattle.ptree_trees.specs.declared.indented.Form.{Form}
 use Rattle.ptree_trees.specs.Escape.{is_hidden, escape_letter, hex_digits, escape_char, escaped_text, mapped_forest}
-use Rattle.ptree_trees.specs.Indented.{begins_blank, IsLineText, AreLineTexts}
 use Rattle.ptree_trees.proofs.Escapes.{text_shown, bytes_shown}
 use Rattle.trees.specs.Writing.{AreShownTexts}
 

@@ -1,5 +1,5 @@
 -- Names, indents and a first difference by computation.
-use Rattle.std.proofs.Common.{◌≡◌, true, false, Some, [], ◌∷◌, ◌++◌, codes, refl}
+use Rattle.trees.proofs.Common.{◌≡◌, true, false, Some, [], ◌∷◌, ◌++◌, codes, refl}
 use Rattle.ptree_trees.specs.Difference.{texts_above}
 use Rattle.ptree.specs.Tree.{none, tree}
 use Rattle.std.specs.Char.{encode_utf8}

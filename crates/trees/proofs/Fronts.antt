@@ -1,12 +1,6 @@
 -- The passing pieces behind which an item could follow a line.
-use Rattle.std.proofs.Common.{◌≡◌, ◌≢◌, ℕ, suc, ◌<◌, ◌≤◌, ◌⊎◌, inl, inr, Bool, true, false, List, [], ◌∷◌, ◌++◌, length, length-append, get_or, refl, sym, ap, ◌∙◌, subst, All, arith}
-use Rattle.std.proofs.lemmas.List.{append_cancel_left}
-use Rattle.std.proofs.lemmas.List.Elements.{All-nil, All-cons, All-append}
+use Rattle.trees.proofs.Common.{◌≡◌, ◌≢◌, ℕ, suc, ◌<◌, ◌≤◌, ◌⊎◌, inl, inr, Bool, true, false, List, [], ◌∷◌, ◌++◌, length, length-append, get_or, refl, sym, ap, ◌∙◌, subst, All, arith, append_cancel_left, All-nil, All-cons, All-append, IsReadable, ArePassing, IsPrefixOf, passing_all-push}
 use Rattle.ptree.specs.Pieces.{Pieces, turning_piece, passing_piece}
-use Rattle.ptree.specs.Readable.{IsReadable}
-use Rattle.ptree.specs.Spelled.{ArePassing}
-use Rattle.ptree.specs.Texts.{IsPrefixOf}
-use Rattle.ptree.proofs.Reading.Paths.{passing_all-push}
 use Rattle.trees.specs.Expected.{EndsBelow, AreFronts, AddsTexts}
 use Rattle.trees.proofs.DistinctTexts.{distinct_both, all_contained, texts_none, texts_one, texts_two}
 

@@ -1,14 +1,9 @@
 -- That no passing pieces are missing behind which an item could follow a line.
-use Rattle.std.proofs.Common.{◌≡◌, ◌≢◌, ℕ, suc, ◌<◌, ◌≤◌, inl, inr, Bool, List, [], ◌∷◌, ◌++◌, length, length-append, sym, ap, ◌∙◌, subst, append_assoc, Contains, arith}
-use Rattle.std.proofs.lemmas.Bool.{cases_lt}
-use Rattle.std.proofs.lemmas.List.Elements.{Contains-append_left, Contains-append_right, Contains-push}
+use Rattle.trees.proofs.Common.{◌≡◌, ◌≢◌, ℕ, suc, ◌<◌, ◌≤◌, inl, inr, Bool, List, [], ◌∷◌, ◌++◌, length, length-append, sym, ap, ◌∙◌, subst, append_assoc, Contains, arith, cases_lt, Contains-append_left, Contains-append_right, Contains-push, IsReadable, IsPrefixOf, passing_all-push}
 use Rattle.ptree.specs.Pieces.{Pieces, turning_piece, passing_piece, passing_all}
-use Rattle.ptree.specs.Readable.{IsReadable}
-use Rattle.ptree.specs.Texts.{IsPrefixOf}
 use Rattle.ptree.proofs.Pieces.Prefixes.{apart_not_both_starts}
 use Rattle.ptree.proofs.Reading.Markers.{passings_once}
 use Rattle.ptree.proofs.Reading.OpenItems.{cut_flags, passing_parts}
-use Rattle.ptree.proofs.Reading.Paths.{passing_all-push}
 use Rattle.trees.specs.Expected.{EndsBelow, HasFronts, AddsTexts}
 
 -- no passing piece is at the start of a text

@@ -1,7 +1,6 @@
 -- The names of the paths that are given.
-use Rattle.std.proofs.Common.{◌≡◌, ◌≢◌, ◌∙◌, ℕ, ◌+◌, ◌<◌, Bool, true, false, cond, eqb, List, [], ◌∷◌, ◌++◌, length, get_or, take, map, refl, sym, ap, Bor, filter, eqb-true, true≢false, arith}
+use Rattle.trees.proofs.Common.{◌≡◌, ◌≢◌, ◌∙◌, ℕ, ◌+◌, ◌<◌, Bool, true, false, cond, eqb, List, [], ◌∷◌, ◌++◌, length, get_or, take, map, refl, sym, ap, Bor, filter, eqb-true, true≢false, arith, names, names_of}
 use Rattle.std.proofs.lemmas.List.{map_more, map_push, append-nil}
-use Rattle.ptree_trees.specs.Paths.{names, names_of}
 use Rattle.ptree_trees.proofs.PathTrees.{names_some}
 use Rattle.trees.specs.Listing.{path_names, has_names, given_paths}
 use Rattle.trees.specs.ListingParts.{own_names}

@@ -1,9 +1,6 @@
 -- What is behind the last slash of a path.
-use Rattle.std.proofs.Common.{◌≡◌, ◌≢◌, ◌∙◌, ℕ, ◌<◌, List, [], ◌∷◌, ◌++◌, length, get_or, take, drop, refl, sym, ap, subst, length-append, Option, Some, None, MatchOption, arith}
+use Rattle.trees.proofs.Common.{◌≡◌, ◌≢◌, ◌∙◌, ℕ, ◌<◌, List, [], ◌∷◌, ◌++◌, length, get_or, take, drop, refl, sym, ap, subst, length-append, Option, Some, None, MatchOption, arith, take-append-drop, drop_at_char, NoCharPasses-char, HasCharAt, RFindsChar}
 use Rattle.std.proofs.Math.Seq.{get_or-append_seam}
-use Rattle.std.proofs.lemmas.List.{take-append-drop}
-use Rattle.std.proofs.lemmas.Str.Pattern.{drop_at_char, NoCharPasses-char}
-use Rattle.std.specs.Str.Pattern.{HasCharAt, RFindsChar}
 use Rattle.trees.specs.Documents.{IsLastPart}
 
 -- a text has no slash

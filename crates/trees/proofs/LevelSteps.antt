@@ -1,12 +1,9 @@
 -- How many levels there are below something.
-use Rattle.std.proofs.Common.{◌≡◌, ℕ, zero, suc, ◌+◌, ◌-◌, ◌<◌, ◌≤◌, ◌==◌, min, Bool, true, false, not, if◌then◌else◌, IsTrue, ◌⊎◌, inl, inr, ◌↔◌, List, [], ◌∷◌, ◌++◌, length, length-append, map, take, drop, get_or, Any, Option, Some, None, is_some, option_map, option_and_then, slice_get, ap, refl, sym, ◌∙◌, subst, arith}
+use Rattle.trees.proofs.Common.{◌≡◌, ℕ, zero, suc, ◌+◌, ◌-◌, ◌<◌, ◌≤◌, ◌==◌, min, Bool, true, false, not, if◌then◌else◌, IsTrue, ◌⊎◌, inl, inr, ◌↔◌, List, [], ◌∷◌, ◌++◌, length, length-append, map, take, drop, get_or, Any, Option, Some, None, is_some, option_map, option_and_then, slice_get, ap, refl, sym, ◌∙◌, subst, arith, at, neighbors_of, NodeIndex}
 use Rattle.std.proofs.lemmas.Bool.{cases_lt, eqb-true}
 use Rattle.std.proofs.lemmas.List.{take_all, drop_all, length-drop}
 use Rattle.std.proofs.lemmas.Option.{slice_get_within, slice_get_read, slice_get-map, slice_get-get_or, get_or_from_slice_get}
-use Rattle.ptree.specs.Address.{at}
-use Rattle.ptree.specs.Graph.{neighbors_of}
 use Rattle.ptree.specs.Occurrence.{OccurrenceTree, IsExpandedOnce, HasOneTree, occurrence_kids, tree_places, size_below, trees_in, first_tree}
-use Rattle.ptree.specs.declared.graph.NodeIndex.{NodeIndex}
 use Rattle.ptree.specs.declared.graph.places.Place.{Place}
 use Rattle.ptree.proofs.Drawing.Subtrees.{at-append}
 use Rattle.ptree.proofs.Graphs.Places.{trees_none, trees_first, kids_at_place}

@@ -1,4 +1,5 @@
 pub mod Beginnings
+pub mod Common
 pub mod Conversions
 pub mod DeepLines
 pub mod Differences

@@ -1,10 +1,6 @@
 -- Texts cut at their line feeds.
-use Rattle.std.proofs.Common.{◌≡◌, ◌≢◌, ℕ, ◌⊎◌, inl, inr, Option, Some, None, List, [], ◌∷◌, ◌++◌, take, drop, refl, sym, ap, ◌∙◌, subst, append_assoc, Bor, MatchOption, unwrap_or}
+use Rattle.trees.proofs.Common.{◌≡◌, ◌≢◌, ℕ, ◌⊎◌, inl, inr, Option, Some, None, List, [], ◌∷◌, ◌++◌, take, drop, refl, sym, ap, ◌∙◌, subst, append_assoc, Bor, MatchOption, unwrap_or, All-push, RFindsChar, with_inserted, HasNoLineFeed}
 use Rattle.std.proofs.lemmas.List.{append-nil, append_cancel_right}
-use Rattle.std.proofs.lemmas.List.Elements.{All-push}
-use Rattle.std.specs.Str.Pattern.{RFindsChar}
-use Rattle.ptree.specs.Drawing.{with_inserted}
-use Rattle.ptree.specs.Texts.{HasNoLineFeed}
 use Rattle.ptree.proofs.Drawing.Inserted.{is_feed, inserted_feed, inserted_other}
 use Rattle.ptree.proofs.Reading.LineEnds.{last_feed, no_feed}
 use Rattle.ptree.proofs.Reading.OwnBytes.{holds_line_feed}

@@ -1,11 +1,9 @@
 -- Words of lines.
-use Rattle.std.proofs.Common.{◌≡◌, ◌∙◌, ℕ, ◌<◌, not, Bool, true, false, List, [], ◌∷◌, ◌++◌, length, length-append, map, codes, refl, sym, ap, subst, append_assoc, filter, append-nil, arith}
-use Rattle.std.proofs.lemmas.Bool.{not-false}
+use Rattle.trees.proofs.Common.{◌≡◌, ◌∙◌, ℕ, ◌<◌, not, Bool, true, false, List, [], ◌∷◌, ◌++◌, length, length-append, map, codes, refl, sym, ap, subst, append_assoc, filter, append-nil, arith, not-false, AllByRecursion, slice_split}
 use Rattle.std.proofs.lemmas.List.Elements.{All-from_recursion}
 use Rattle.std.proofs.lemmas.List.Splits.{slice_split-cons_yes, slice_split_none, slice_split_at}
 use Rattle.std.proofs.lemmas.Str.{cons_from_encodes, encodes_same, length-encode, len_utf8_bounds}
 use Rattle.std.specs.Char.{encode_utf8, is_whitespace, is_not_whitespace}
-use Rattle.std.specs.List.{AllByRecursion, slice_split}
 use Rattle.std.specs.Str.{encode_utf8_all, NonePass, NoCharPasses, EmptyOrStartsWithPassing}
 use Rattle.trees.specs.DependingParts.{are_no_pair}
 use Rattle.trees.specs.Listing.{is_empty}

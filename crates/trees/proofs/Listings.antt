@@ -1,14 +1,8 @@
 -- Paths that are right, and their trees.
-use Rattle.std.proofs.Common.{◌≡◌, ◌≢◌, ◌∙◌, ℕ, ◌+◌, ◌<◌, ◌&&◌, ◌||◌, not, Bool, true, false, cond, eqb, ltb, Option, Some, None, List, [], ◌∷◌, length, get_or, drop, map, refl, sym, ap, subst, Bor, slice_index, arith}
+use Rattle.trees.proofs.Common.{◌≡◌, ◌≢◌, ◌∙◌, ℕ, ◌+◌, ◌<◌, ◌&&◌, ◌||◌, not, Bool, true, false, cond, eqb, ltb, Option, Some, None, List, [], ◌∷◌, length, get_or, drop, map, refl, sym, ap, subst, Bor, slice_index, arith, at_drop_more, get_or_default, list_any_at, Any-from_list_any, both_ways, list_any, begins_with, begins}
 use Rattle.std.proofs.lemmas.Bool.{false≢true, eqb-true, eq-eqb, and_from, or_parts, or_left, or_right, or_from, not_from_false}
-use Rattle.std.proofs.lemmas.List.{at_drop_more, get_or_default}
-use Rattle.std.proofs.lemmas.List.Folds.{list_any_at, Any-from_list_any}
-use Rattle.std.specs.Cmp.{both_ways}
-use Rattle.std.specs.List.{list_any}
 use Rattle.ptree.specs.Tree.{Forest, Tree}
-use Rattle.ptree_trees.specs.Parts.{begins_with}
 use Rattle.ptree_trees.specs.Paths.{names, next_names, texts_below}
-use Rattle.ptree_trees.proofs.PartTexts.{begins}
 use Rattle.ptree_trees.proofs.PathTrees.{names_have}
 use Rattle.trees.specs.declared.command.Paths.{Paths}
 use Rattle.trees.specs.declared.source.Source.{Source}

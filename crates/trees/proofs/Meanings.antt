@@ -1,6 +1,5 @@
 -- Packages that a source means, and their networks.
-use Rattle.std.proofs.Common.{◌≡◌, ◌∙◌, ℕ, Bool, List, [], length, map, Bor, Option, sym, ap, subst, All, string_bytes, true≢false}
-use Rattle.std.proofs.lemmas.List.Elements.{All-map, All-weaker}
+use Rattle.trees.proofs.Common.{◌≡◌, ◌∙◌, ℕ, Bool, List, [], length, map, Bor, Option, sym, ap, subst, All, string_bytes, true≢false, All-map, All-weaker}
 use Rattle.trees.specs.declared.deps.Dependencies.{Dependencies}
 use Rattle.trees.specs.declared.deps.network.Network.{Network}
 use Rattle.trees.specs.declared.deps.Packages.{Packages}

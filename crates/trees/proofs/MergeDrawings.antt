@@ -1,12 +1,10 @@
 -- Drawings of merges, which are refusals.
-use Rattle.std.proofs.Common.{◌≡◌, ℕ, Bool, false, inr, Option, List, Result, Ok, Err, subst, IsErr, IfErr, true≢false, sym}
+use Rattle.trees.proofs.Common.{◌≡◌, ℕ, Bool, false, inr, Option, List, Result, Ok, Err, subst, IsErr, IfErr, true≢false, sym, look_by, IsDrawing, styled_shape}
 use Rattle.ptree.specs.declared.print_config.OutputKind.TheVariants.{Unknown}
 use Rattle.ptree.specs.Config.{ConfigValue, is_styled}
-use Rattle.ptree.specs.Drawing.{look_by, IsDrawing}
 use Rattle.ptree.specs.Shape.{Shape}
 use Rattle.ptree.specs.Tree.{Tree}
 use Rattle.ptree.specs.Writing.{AppendsPart}
-use Rattle.ptree_trees.specs.Styled.{styled_shape}
 use Rattle.ptree_trees.specs.declared.styled.StyledItem.{StyledItem}
 use Rattle.trees.specs.declared.failure.Failure.{Failure}
 use Rattle.trees.specs.declared.failure.Failure.TheVariants.{Output, Memory}

@@ -1,20 +1,12 @@
 -- Sorted texts with their positions.
-use Rattle.std.specs.Cmp.{IsTotalOrder}
-use Rattle.std.specs.Cmp.Lexicographic.{slice_cmp}
 use Rattle.std.specs.List.Sorted.{IsSorted, IsBinarySearchResult, IsPermutation}
 use Rattle.std.specs.Ordering.{is_lt, nat_cmp, ordering_reverse, ordering_then}
-use Rattle.std.proofs.Common.{◌≡◌, ◌≢◌, ◌∙◌, ℕ, ◌+◌, ◌<◌, ◌≤◌, ◌⊎◌, ◌++◌, false, Result, Ok, Err, List, [], ◌∷◌, Contains, length, get_or, Some, ap, refl, sym, subst, inl, inr, string_bytes, Bor, option_map, Ordering, Less, Equal, Greater, arith}
-use Rattle.std.proofs.lemmas.Bool.{cases_lt, false≢true}
+use Rattle.trees.proofs.Common.{◌≡◌, ◌≢◌, ◌∙◌, ℕ, ◌+◌, ◌<◌, ◌≤◌, ◌⊎◌, ◌++◌, false, Result, Ok, Err, List, [], ◌∷◌, Contains, length, get_or, Some, ap, refl, sym, subst, inl, inr, string_bytes, Bor, option_map, Ordering, Less, Equal, Greater, arith, IsTotalOrder, slice_cmp, cases_lt, false≢true, get_or_default, All-get_or, Contains-append_left, Contains-push, StringItem, out-StringItem, tree_of, tree_of_item}
 use Rattle.std.proofs.lemmas.Cmp.{nat_list_cmp_total, nat_cmp_total, on_total, ranked, then_total, tied_itself}
-use Rattle.std.proofs.lemmas.List.{get_or_default}
-use Rattle.std.proofs.lemmas.List.Elements.{All-get_or, Contains-append_left, Contains-push}
 use Rattle.std.proofs.lemmas.List.Sorted.{ranks_by, searchable_from_sorted, sorted_far, Contains-permutation}
 use Rattle.std.proofs.lemmas.Map.Keys.{ge_from_not_lt}
 use Rattle.std.proofs.lemmas.Map.Lookups.{exact_bytes}
 use Rattle.std.proofs.lemmas.Option.{slice_get_read, slice_get_past}
-use Rattle.ptree.specs.declared.item.StringItem.{StringItem, out-StringItem}
-use Rattle.ptree.specs.Tree.{tree_of}
-use Rattle.ptree.proofs.Trees.ItemTrees.{tree_of_item}
 use Rattle.trees.specs.MergingParts.{Place, place_cmp, text_at, ArePlaces, HasPlaces, IsFoundAt, LacksText}
 
 -- the order of places is one

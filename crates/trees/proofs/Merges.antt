@@ -1,17 +1,9 @@
 -- Merges of two trees, made one child after another.
-use Rattle.std.proofs.Common.{◌≡◌, ◌≢◌, ◌∙◌, ℕ, ◌+◌, ◌-◌, ◌<◌, ◌≤◌, ◌++◌, true, false, All, List, [], ◌∷◌, length, get_or, map, take, drop, Option, Some, None, string_bytes, ap, refl, sym, subst, append_assoc, append-nil, slice_range, option_map, bytes_eq, true≢false, arith}
+use Rattle.trees.proofs.Common.{◌≡◌, ◌≢◌, ◌∙◌, ℕ, ◌+◌, ◌-◌, ◌<◌, ◌≤◌, ◌++◌, true, false, All, List, [], ◌∷◌, length, get_or, map, take, drop, Option, Some, None, string_bytes, ap, refl, sym, subst, append_assoc, append-nil, slice_range, option_map, bytes_eq, true≢false, arith, All-map, All-head, All-tail, All-weaker, slice_get_read, bytes_eq-Decides, StyleValue, style_of, StringItem, out-StringItem, tree_of_item, left_more, HasParts}
 use Rattle.std.proofs.lemmas.List.{take_more, take_all, map-append, get_or_default, get_or-take, get_or-drop, length-take-le, length-drop}
-use Rattle.std.proofs.lemmas.List.Elements.{All-map, All-head, All-tail, All-weaker}
 use Rattle.std.proofs.lemmas.List.Folds.{drop_split}
-use Rattle.std.proofs.lemmas.Option.{slice_get_read}
-use Rattle.std.proofs.lemmas.Slice.Eq.{bytes_eq-Decides}
-use Rattle.ptree.specs.Style.{StyleValue, style_of}
 use Rattle.ptree.specs.declared.style.Style.{Style}
-use Rattle.ptree.specs.declared.item.StringItem.{StringItem, out-StringItem}
 use Rattle.ptree.specs.Tree.{Forest, Tree, item, tree_of, forest}
-use Rattle.ptree.proofs.Trees.ItemTrees.{tree_of_item}
-use Rattle.ptree.proofs.Trees.OutlineItems.{left_more}
-use Rattle.ptree_trees.specs.Styled.{HasParts}
 use Rattle.ptree_trees.specs.declared.styled.StyledItem.{StyledItem}
 use Rattle.trees.specs.declared.compare.Look.{Look}
 use Rattle.trees.specs.declared.compare.Side.{Side}

@@ -1,17 +1,14 @@
 -- Names and versions in texts.
-use Rattle.std.proofs.Common.{◌≡◌, ◌≢◌, ◌∙◌, ℕ, suc, ◌+◌, ◌-◌, ◌<◌, ◌≤◌, ◌&&◌, ◌||◌, Bool, true, false, cond, eqb, eqb-true, List, [], ◌∷◌, ◌++◌, length, get_or, take, drop, codes, inl, inr, refl, sym, ap, subst, append_assoc, length-append, Bor, Option, Some, None, MatchBool, MatchOption, unwrap_or, arith}
+use Rattle.trees.proofs.Common.{◌≡◌, ◌≢◌, ◌∙◌, ℕ, suc, ◌+◌, ◌-◌, ◌<◌, ◌≤◌, ◌&&◌, ◌||◌, Bool, true, false, cond, eqb, eqb-true, List, [], ◌∷◌, ◌++◌, length, get_or, take, drop, codes, inl, inr, refl, sym, ap, subst, append_assoc, length-append, Bor, Option, Some, None, MatchBool, MatchOption, unwrap_or, arith, bytes_eq-Decides, after_first, before_first, position_or_len, begins_with}
 use Rattle.std.proofs.Math.Bool.{or-false}
 use Rattle.std.proofs.lemmas.Bool.{and_left, cond-false, cond-true, eq-eqb, false≢true, false_from_ne_true, ne_eqb, or_cases, or_from, or_left, or_right}
 use Rattle.std.proofs.lemmas.List.{append-nil, get_or-take, length-drop, length-take, nil_from_length, take_all}
 use Rattle.std.proofs.lemmas.List.Sums.{position_or_len_is}
-use Rattle.std.proofs.lemmas.Slice.Eq.{bytes_eq-Decides}
 use Rattle.std.proofs.lemmas.Str.{IsCharBoundary-before_ascii, IsCharBoundary-start, NoCharPasses-byte, len_utf8_ascii}
 use Rattle.std.proofs.lemmas.Str.Pattern.{strip_prefix_char}
 use Rattle.std.specs.Char.{char_set_contains}
-use Rattle.std.specs.List.{after_first, before_first, position_or_len}
 use Rattle.std.specs.Str.{bytes_eq, IsUtf8, NoCharPasses}
 use Rattle.std.specs.Str.Pattern.{FindsBy, FindsCharPrefix, FindsTextPrefix, GetsRange, HasPrefixMatch, LacksTextAt, StripsPrefix}
-use Rattle.ptree_trees.specs.Parts.{begins_with}
 use Rattle.ptree_trees.proofs.PartTexts.{begins, begun}
 use Rattle.trees.specs.Listing.{is_empty}
 use Rattle.trees.specs.Naming.{ends_name, is_called, is_labelled, is_version, own_name, version_text, without_front}

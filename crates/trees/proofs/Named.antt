@@ -1,11 +1,7 @@
 -- With which pieces a text is read, and what is said of them.
-use Rattle.std.proofs.Common.{◌≡◌, ◌≢◌, ℕ, ◌-◌, ◌≤◌, inl, inr, Bool, true, false, Option, Some, None, Result, Ok, IfOk, All, List, [], ◌∷◌, ◌++◌, length, slice_index_or, take, Contains, codes, refl, sym, ap, ◌∙◌, subst, append_assoc, lit<, ltb, encode_utf8, MatchOption, IsCharBoundary, ltb-true, true≢false}
-use Rattle.std.proofs.lemmas.List.Elements.{All-contains}
+use Rattle.trees.proofs.Common.{◌≡◌, ◌≢◌, ℕ, ◌-◌, ◌≤◌, inl, inr, Bool, true, false, Option, Some, None, Result, Ok, IfOk, All, List, [], ◌∷◌, ◌++◌, length, slice_index_or, take, Contains, codes, refl, sym, ap, ◌∙◌, subst, append_assoc, lit<, ltb, encode_utf8, MatchOption, IsCharBoundary, ltb-true, true≢false, All-contains, encode_ascii, FindsCharSuffix, ConfigValue}
 use Rattle.std.proofs.lemmas.Str.Pattern.{ends_char}
-use Rattle.std.proofs.lemmas.Str.{encode_ascii}
-use Rattle.std.specs.Str.Pattern.{FindsCharSuffix}
 use Rattle.ptree.specs.declared.presets.Preset.TheVariants.{Tree, TreeAscii, CargoTree, CargoTreeAscii, Findmnt, FindmntAscii, Sqlite, Maven, Clang, Ps}
-use Rattle.ptree.specs.Config.{ConfigValue}
 use Rattle.trees.specs.declared.pieces.Pieces.{Pieces}
 use Rattle.trees.specs.declared.pieces.Pieces.TheVariants.{Utf, UtfBold, UtfDashed, UtfDouble, Ascii, AsciiPlus, Program}
 use Rattle.trees.specs.Expected.{AreWholeLines, ListsBeginnings, IsHint}

@@ -1,11 +1,8 @@
 -- Networks that get nodes and edges.
-use Rattle.std.proofs.Common.{◌≡◌, ◌∙◌, ℕ, ◌&&◌, ◌||◌, not, Bool, true, false, cond, eqb, ◌+◌, ◌<◌, List, [], ◌∷◌, ◌++◌, length, get_or, take, map, refl, sym, ap, subst, Bor, is_eq, filter, All, eqb-true, true≢false, arith}
+use Rattle.trees.proofs.Common.{◌≡◌, ◌∙◌, ℕ, ◌&&◌, ◌||◌, not, Bool, true, false, cond, eqb, ◌+◌, ◌<◌, List, [], ◌∷◌, ◌++◌, length, get_or, take, map, refl, sym, ap, subst, Bor, is_eq, filter, All, eqb-true, true≢false, arith, All-nil, All-cons, All-append, filter-append, list_any, numbers_of}
 use Rattle.std.proofs.lemmas.List.{append-nil, map-append, take_more}
-use Rattle.std.proofs.lemmas.List.Elements.{All-nil, All-cons, All-append, filter-append}
 use Rattle.std.proofs.lemmas.Map.Views.{any-filter_same}
 use Rattle.std.proofs.lemmas.Bool.Decides.{nat_tests}
-use Rattle.std.specs.List.{list_any}
-use Rattle.ptree.specs.Graph.{numbers_of}
 use Rattle.trees.specs.declared.deps.Need.{Need}
 use Rattle.trees.specs.declared.deps.network.Network.{Network}
 use Rattle.trees.specs.Depending.{number, is_need, directed, ends, edges_of_needs, need_of, needs_between, same_edge, firsts, IsWithin}

@@ -1,22 +1,14 @@
 -- Behind which passing pieces an item can follow whole lines.
-use Rattle.std.proofs.Common.{◌≡◌, ◌≢◌, ℕ, zero, suc, ◌<◌, ◌≤◌, ◌⊎◌, inl, inr, Bool, not, List, [], ◌∷◌, ◌++◌, length, length-append, refl, sym, ap, ◌∙◌, subst, append_assoc, append-nil, Contains, flat_map, arith}
-use Rattle.std.proofs.lemmas.Bool.{cases_lt}
-use Rattle.ptree.specs.Continuation.{HasContinuation}
+use Rattle.trees.proofs.Common.{◌≡◌, ◌≢◌, ℕ, zero, suc, ◌<◌, ◌≤◌, ◌⊎◌, inl, inr, Bool, not, List, [], ◌∷◌, ◌++◌, length, length-append, refl, sym, ap, ◌∙◌, subst, append_assoc, append-nil, Contains, flat_map, arith, cases_lt, HasContinuation, Line, line, outline_at, IsReadableWith, ArePiecesAt, style_codes, start_codes, end_codes, IsPrefixOf, passing_all-push}
 use Rattle.ptree.specs.Drawing.{Look, with_inserted, continued_prefix}
 use Rattle.ptree.specs.Flags.{has_later, last_flags, pieces_by, passing_by}
-use Rattle.ptree.specs.Outline.{Line, line, outline_at}
 use Rattle.ptree.specs.Pieces.{Pieces, turning_piece, passing_piece, passing_all}
 use Rattle.ptree.specs.Reached.{lines_text}
-use Rattle.ptree.specs.Readable.{IsReadableWith}
-use Rattle.ptree.specs.Spelled.{ArePiecesAt}
-use Rattle.ptree.specs.Style.{style_codes, start_codes, end_codes}
-use Rattle.ptree.specs.Texts.{IsPrefixOf}
 use Rattle.ptree.proofs.Pieces.Prefixes.{same_pieces}
 use Rattle.ptree.proofs.Reading.LastFlags.{length-last_flags}
 use Rattle.ptree.proofs.Reading.Levels.{has_later_deeper, last_flags_same}
 use Rattle.ptree.proofs.Reading.Markers.{turning_is_no_marker}
 use Rattle.ptree.proofs.Reading.NextLines.{line_split, form_outline}
-use Rattle.ptree.proofs.Reading.Paths.{passing_all-push}
 use Rattle.ptree.proofs.Reading.SpelledForms.{pieces_at}
 use Rattle.ptree.proofs.Styles.PaintedTexts.{painted_plain}
 use Rattle.trees.specs.Expected.{IsLastLine, EndsPieces, HasFronts}

@@ -1,15 +1,11 @@
 -- The item with which a drawing goes on after whole lines, and what their last line shows of the one
 -- before it.
-use Rattle.std.proofs.Common.{◌≡◌, ◌≢◌, ℕ, suc, ◌<◌, ◌≤◌, ◌⊎◌, inl, inr, List, [], ◌∷◌, ◌++◌, refl, sym, ap, ◌∙◌, subst, append_assoc}
-use Rattle.std.proofs.lemmas.List.Elements.{All-append}
+use Rattle.trees.proofs.Common.{◌≡◌, ◌≢◌, ℕ, suc, ◌<◌, ◌≤◌, ◌⊎◌, inl, inr, List, [], ◌∷◌, ◌++◌, refl, sym, ap, ◌∙◌, subst, append_assoc, All-append, IsReadableWith, start_codes, end_codes, HasNoLineFeed}
 use Rattle.ptree.specs.Drawing.{Look, with_inserted, continued_prefix}
 use Rattle.ptree.specs.Flags.{last_flags, pieces_by, passing_by}
 use Rattle.ptree.specs.Outline.{Line, Steps}
 use Rattle.ptree.specs.Reached.{lines_text, own_prefix}
-use Rattle.ptree.specs.Readable.{IsReadableWith}
 use Rattle.ptree.specs.Spelled.{IsNotContinued}
-use Rattle.ptree.specs.Style.{start_codes, end_codes}
-use Rattle.ptree.specs.Texts.{HasNoLineFeed}
 use Rattle.ptree.proofs.Reading.LineEnds.{no_feed_pieces, no_feed_painted, no_feed_continued}
 use Rattle.ptree.proofs.Reading.NextLines.{line_split}
 use Rattle.ptree.proofs.Reading.OwnBytes.{holds_line_feed}

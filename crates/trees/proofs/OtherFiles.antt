@@ -1,9 +1,6 @@
 -- Sources that are lists of other programs, and those that are none.
-use Rattle.std.proofs.Common.{◌≡◌, ◌∙◌, ℕ, ◌<◌, ◌||◌, Bool, true, false, List, [], ◌∷◌, ◌++◌, length, get_or, map, sym, ap, Bor, string_bytes, bytes_eq, true≢false}
-use Rattle.std.proofs.lemmas.List.{map-append}
+use Rattle.trees.proofs.Common.{◌≡◌, ◌∙◌, ℕ, ◌<◌, ◌||◌, Bool, true, false, List, [], ◌∷◌, ◌++◌, length, get_or, map, sym, ap, Bor, string_bytes, bytes_eq, true≢false, map-append, list_any, lines}
 use Rattle.std.proofs.lemmas.List.Folds.{list_any-append, list_any_at}
-use Rattle.std.specs.List.{list_any}
-use Rattle.std.specs.Str.Lines.{lines}
 use Rattle.trees.specs.declared.source.Source.{Source}
 use Rattle.trees.specs.Depending.{source_text, other_names, is_other_line, IsOwn}
 use Rattle.trees.specs.Documents.{IsLastPart}

@@ -1,21 +1,12 @@
 -- Lines of outlines, and what their ends are.
-use Rattle.std.proofs.Common.{◌≡◌, ◌≢◌, ◌∙◌, ℕ, ◌+◌, ◌-◌, ◌&&◌, not, Bool, true, false, cond, eqb, List, [], ◌∷◌, ◌++◌, length, length-append, get_or, take, drop, map, refl, sym, ap, append_assoc, filter, slice_index, encode_utf8_all, IsUtf8, arith}
+use Rattle.trees.proofs.Common.{◌≡◌, ◌≢◌, ◌∙◌, ℕ, ◌+◌, ◌-◌, ◌&&◌, not, Bool, true, false, cond, eqb, List, [], ◌∷◌, ◌++◌, length, length-append, get_or, take, drop, map, refl, sym, ap, append_assoc, filter, slice_index, encode_utf8_all, IsUtf8, arith, list_all-append, cons_from_encodes, encodes-append, AllByRecursion, list_all, HasCharAt, Line, line, outline, outline_at, is_blank, begins_blank, indent, indented_lines, IsUnit, IsLineText, AreLineTexts, Form, begins_with, begins}
 use Rattle.std.proofs.Math.Bool.{and-false}
 use Rattle.std.proofs.lemmas.Bool.{eqb-true, false_from_ne_true}
 use Rattle.std.proofs.lemmas.List.{append-nil, at_drop_more, drop_all, take-append-drop}
-use Rattle.std.proofs.lemmas.List.Folds.{list_all-append}
-use Rattle.std.proofs.lemmas.Str.{cons_from_encodes, encodes-append}
-use Rattle.std.specs.List.{AllByRecursion, list_all}
 use Rattle.std.specs.Str.Lines.{lines_of_parts, strip_carriage_return}
 use Rattle.std.specs.Char.{encode_utf8}
-use Rattle.std.specs.Str.Pattern.{HasCharAt}
-use Rattle.ptree.specs.Outline.{Line, line, outline, outline_at}
 use Rattle.ptree.specs.Tree.{Tree}
-use Rattle.ptree_trees.specs.Indented.{is_blank, begins_blank, indent, indented_lines, IsUnit, IsLineText, AreLineTexts}
-use Rattle.ptree_trees.specs.declared.indented.Form.{Form}
-use Rattle.ptree_trees.specs.Parts.{begins_with}
 use Rattle.ptree_trees.proofs.IndentedLines.{line_parts, own, whole}
-use Rattle.ptree_trees.proofs.PartTexts.{begins}
 use Rattle.trees.specs.Outlining.{is_filled, filled_lines, text_of_lines, EndsInReturn, IsKeptText}
 use Rattle.trees.specs.Listing.{byte_order_mark, unmarked}
 use Rattle.trees.proofs.Outlines.{parts_of_form}

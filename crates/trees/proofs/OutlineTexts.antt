@@ -1,18 +1,11 @@
 -- Blank lines, indents and labels.
-use Rattle.std.proofs.Common.{◌≡◌, ◌≢◌, ◌∙◌, ℕ, ◌+◌, ◌<◌, ◌&&◌, not, Bool, true, false, cond, eqb, Option, Some, None, List, [], ◌∷◌, ◌++◌, length, take, drop, map, lit<, refl, sym, ap, append_assoc, Bor, ◌↔◌, IsTrue, IfSome, MatchOption, unwrap_or, arith}
+use Rattle.trees.proofs.Common.{◌≡◌, ◌≢◌, ◌∙◌, ℕ, ◌+◌, ◌<◌, ◌&&◌, not, Bool, true, false, cond, eqb, Option, Some, None, List, [], ◌∷◌, ◌++◌, length, take, drop, map, lit<, refl, sym, ap, append_assoc, Bor, ◌↔◌, IsTrue, IfSome, MatchOption, unwrap_or, arith, list_all-append, encode_ascii, drop_at_char, both_ways, is_blank, IsUnit, begins_with, Form}
 use Rattle.std.proofs.lemmas.Bool.{false≢true, and_parts, ne_eqb}
 use Rattle.std.proofs.lemmas.List.{append_cancel_right, take-append-drop}
-use Rattle.std.proofs.lemmas.List.Folds.{list_all-append}
 use Rattle.std.proofs.lemmas.List.Sums.{take_while-cons}
 use Rattle.std.proofs.lemmas.Simd.{map-map}
-use Rattle.std.proofs.lemmas.Str.{encode_ascii}
-use Rattle.std.proofs.lemmas.Str.Pattern.{drop_at_char}
-use Rattle.std.specs.Cmp.{both_ways}
 use Rattle.std.specs.List.{AllByRecursion, list_all, take_while}
 use Rattle.std.specs.Str.Pattern.{FindsCharPrefix, FindsTextSuffix, CutsPrefixes, IsTrimStartMatches, StripsSuffix}
-use Rattle.ptree_trees.specs.Indented.{is_blank, IsUnit}
-use Rattle.ptree_trees.specs.Parts.{begins_with}
-use Rattle.ptree_trees.specs.declared.indented.Form.{Form}
 use Rattle.trees.specs.Outlining.{is_filled, text_of_lines, tab, line_indent, text_or, labelled_lines}
 
 -- ## Blank lines

@@ -1,18 +1,13 @@
 -- The lines of indented text, and their trees.
-use Rattle.std.proofs.Common.{◌≡◌, ◌≢◌, ◌∙◌, ℕ, zero, suc, ◌+◌, ◌<◌, ◌≤◌, Bool, true, false, cond, eqb, Option, Some, None, ◌⊎◌, List, [], ◌∷◌, ◌++◌, length, get_or, take, drop, map, inl, inr, refl, sym, ap, subst, append_assoc, Bor, unwrap_or, arith}
+use Rattle.trees.proofs.Common.{◌≡◌, ◌≢◌, ◌∙◌, ℕ, zero, suc, ◌+◌, ◌<◌, ◌≤◌, Bool, true, false, cond, eqb, Option, Some, None, ◌⊎◌, List, [], ◌∷◌, ◌++◌, length, get_or, take, drop, map, inl, inr, refl, sym, ap, subst, append_assoc, Bor, unwrap_or, arith, All-nil, All-cons, All-head, All-tail, All-weaker, Line, outline, HasNoLineFeed, begins_blank, indent, indented_line, indented_lines, IsUnit, IsLineText, AreLineTexts, IsIndentedForm, Form}
 use Rattle.std.proofs.lemmas.Bool.{false≢true, cases_lt, ne_eqb}
 use Rattle.std.proofs.lemmas.List.{append-nil, append_cancel_left, at_drop_more, map_more}
 use Rattle.std.proofs.lemmas.List.Concat.{flat_map-append}
-use Rattle.std.proofs.lemmas.List.Elements.{All-nil, All-cons, All-head, All-tail, All-weaker}
 use Rattle.std.proofs.lemmas.List.Splits.{slice_split_at}
 use Rattle.std.specs.List.{All, Any, filter, slice_split}
-use Rattle.ptree.specs.Outline.{Line, outline}
 use Rattle.ptree.specs.Reached.{AreWithin}
-use Rattle.ptree.specs.Texts.{HasNoLineFeed}
 use Rattle.ptree.specs.Tree.{Tree, height}
 use Rattle.ptree.proofs.Reading.SpelledForms.{low_height, height_low}
-use Rattle.ptree_trees.specs.Indented.{begins_blank, indent, indented_line, indented_lines, IsUnit, IsLineText, AreLineTexts, IsIndentedForm}
-use Rattle.ptree_trees.specs.declared.indented.Form.{Form}
 use Rattle.ptree_trees.proofs.IndentedLines.{line_parts, no_feed_join, own, whole}
 use Rattle.ptree_trees.proofs.IndentedTexts.{blank_unit}
 use Rattle.trees.specs.declared.command.Outline.{Outline}

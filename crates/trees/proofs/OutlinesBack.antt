@@ -1,21 +1,7 @@
 -- Indented text is an outline of the tree that it was written of.
-use Rattle.std.proofs.Common.{Result, Ok, Err, IfOk, ◌≡◌, ◌≢◌, ◌∙◌, ℕ, ◌+◌, ◌<◌, ◌≤◌, not, Bool, true, false, eqb, Option, Some, None, List, [], ◌∷◌, ◌++◌, length, get_or, drop, map, lit<, refl, sym, ap, subst, Bor, ◌↔◌, option_map, encode_utf8, eqb-true, true≢false}
-use Rattle.std.proofs.lemmas.List.{drop_all, nil_from_length}
-use Rattle.std.proofs.lemmas.List.Elements.{All-append}
-use Rattle.std.proofs.lemmas.Str.{encode_ascii}
-use Rattle.std.proofs.lemmas.Str.Pattern.{NoCharPasses-char}
-use Rattle.std.specs.List.{AllByRecursion}
-use Rattle.std.specs.Str.{NoCharPasses}
-use Rattle.std.specs.Str.Lines.{lines}
-use Rattle.ptree.specs.declared.item.StringItem.{StringItem}
-use Rattle.ptree.specs.declared.print_config.Sources.{Sources}
-use Rattle.ptree.specs.Outline.{Line, line, outline}
+use Rattle.trees.proofs.Common.{Result, Ok, Err, IfOk, ◌≡◌, ◌≢◌, ◌∙◌, ℕ, ◌+◌, ◌<◌, ◌≤◌, not, Bool, true, false, eqb, Option, Some, None, List, [], ◌∷◌, ◌++◌, length, get_or, drop, map, lit<, refl, sym, ap, subst, Bor, ◌↔◌, option_map, encode_utf8, eqb-true, true≢false, drop_all, nil_from_length, All-append, encode_ascii, NoCharPasses-char, AllByRecursion, NoCharPasses, lines, StringItem, Sources, Line, line, outline, left_more, item_line, begins_blank, IsUnit, IsLineText, AreLineTexts, IsIndentedForm, begins_with, Form}
 use Rattle.ptree.specs.Tree.{Tree, height}
 use Rattle.ptree.proofs.Drawing.Inserted.{no_line_feed_from_reads}
-use Rattle.ptree.proofs.Trees.OutlineItems.{left_more, item_line}
-use Rattle.ptree_trees.specs.Indented.{begins_blank, IsUnit, IsLineText, AreLineTexts, IsIndentedForm}
-use Rattle.ptree_trees.specs.Parts.{begins_with}
-use Rattle.ptree_trees.specs.declared.indented.Form.{Form}
 use Rattle.ptree_trees.proofs.IndentedLines.{own, whole}
 use Rattle.ptree_trees.proofs.IndentedResults.{same_form}
 use Rattle.ptree_trees.proofs.IndentedWriting.{bullet_fits}

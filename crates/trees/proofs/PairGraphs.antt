@@ -1,13 +1,8 @@
 -- Graphs of pairs of words.
-use Rattle.std.proofs.Common.{◌≡◌, ◌∙◌, ℕ, zero, suc, ◌+◌, ◌<◌, ◌≤◌, not, Bool, true, false, cond, List, [], ◌∷◌, ◌++◌, length, get_or, map, reverse, take, Option, Some, None, inl, inr, refl, sym, ap, subst, Bor, All, Any, Contains, filter, flat_map, String, string_bytes, Global, bytes_eq, arith}
+use Rattle.trees.proofs.Common.{◌≡◌, ◌∙◌, ℕ, zero, suc, ◌+◌, ◌<◌, ◌≤◌, not, Bool, true, false, cond, List, [], ◌∷◌, ◌++◌, length, get_or, map, reverse, take, Option, Some, None, inl, inr, refl, sym, ap, subst, Bor, All, Any, Contains, filter, flat_map, String, string_bytes, Global, bytes_eq, arith, All-nil, All-cons, All-head, All-tail, All-append, All-filter, All-map, All-weaker, All-contains, Contains-append_right, All-permutation, IsPermutation-reverse, bytes_eq-Decides, NodeIndex, Contains-map}
 use Rattle.std.proofs.Math.ListN.{get_or-map}
 use Rattle.std.proofs.lemmas.List.{length-map, map-append, reverse-append, take_all, take_more, length_push}
-use Rattle.std.proofs.lemmas.List.Elements.{All-nil, All-cons, All-head, All-tail, All-append, All-filter, All-map, All-weaker, All-contains, Contains-append_right}
-use Rattle.std.proofs.lemmas.List.Sorted.{All-permutation, IsPermutation-reverse}
-use Rattle.std.proofs.lemmas.Slice.Eq.{bytes_eq-Decides}
-use Rattle.ptree.specs.declared.graph.NodeIndex.{NodeIndex}
 use Rattle.ptree.specs.Graph.{edges_of, numbers_of, turned, weights_of, LacksNode}
-use Rattle.ptree.proofs.Config.FieldLists.{Contains-map}
 use Rattle.trees.specs.declared.deps.Dependencies.{Dependencies}
 use Rattle.trees.specs.declared.deps.network.Network.{Network}
 use Rattle.trees.specs.declared.source.Source.{Source}

@@ -1,13 +1,9 @@
 -- Pairs of words on lines.
-use Rattle.std.proofs.Common.{◌≡◌, ◌≢◌, ◌∙◌, ℕ, ◌+◌, ◌<◌, true, false, List, [], ◌∷◌, ◌++◌, length, get_or, map, zero, suc, codes, refl, sym, ap, subst, filter, All, Bor, true≢false, arith}
+use Rattle.trees.proofs.Common.{◌≡◌, ◌≢◌, ◌∙◌, ℕ, ◌+◌, ◌<◌, true, false, List, [], ◌∷◌, ◌++◌, length, get_or, map, zero, suc, codes, refl, sym, ap, subst, filter, All, Bor, true≢false, arith, lines, map_twice, All-nil, All-cons, All-head, All-tail, All-append, filter-append, bytes_eq-Decides}
 use Rattle.std.specs.List.{enumerate_from}
-use Rattle.std.specs.Str.Lines.{lines}
-use Rattle.ptree.proofs.Trees.ItemTrees.{map_twice}
 use Rattle.std.proofs.Math.ListN.{get_or-map}
 use Rattle.std.proofs.lemmas.List.{append-nil, length-map, map-append}
-use Rattle.std.proofs.lemmas.List.Elements.{All-nil, All-cons, All-head, All-tail, All-append, filter-append}
 use Rattle.std.proofs.lemmas.List.FromFn.{get_or-enumerate_from, length-enumerate_from}
-use Rattle.std.proofs.lemmas.Slice.Eq.{bytes_eq-Decides}
 use Rattle.trees.specs.Depending.{words_of, has_words, pair_words, ArePairs}
 use Rattle.trees.specs.DependingParts.{texts_of, are_no_pair}
 

@@ -1,13 +1,11 @@
 -- Parts of documents: there is one at most where some steps lead.
-use Rattle.std.proofs.Common.{◌≡◌, ◌∙◌, ◌<◌, ◌+◌, ◌-◌, ◌==◌, inl, [], ◌∷◌, ℕ, List, Option, Some, None, false, Bor, length, subst, sym, ap, refl, length-drop, MatchOption, option_map, arith}
+use Rattle.trees.proofs.Common.{◌≡◌, ◌∙◌, ◌<◌, ◌+◌, ◌-◌, ◌==◌, inl, [], ◌∷◌, ℕ, List, Option, Some, None, false, Bor, length, subst, sym, ap, refl, length-drop, MatchOption, option_map, arith, position_or_len, before_first, after_first, FileNode, json, toml}
 use Rattle.std.proofs.lemmas.List.Elements.{All-from_get_or}
 use Rattle.std.proofs.lemmas.List.Splits.{slice_split_first, slice_split_none}
 use Rattle.std.proofs.lemmas.List.Sums.{fails_before_first}
-use Rattle.std.specs.List.{position_or_len, before_first, after_first}
 use Rattle.serde_json.specs.Data as j
 use Rattle.toml.specs.Data as t
 use Rattle.ptree.specs.declared.value.document.DocFormat.{DocFormat}
-use Rattle.ptree.specs.File.{FileNode, json, toml}
 use Rattle.ptree.proofs.Styles.ColorNames.{option_map-option_map}
 use Rattle.ptree_trees.specs.RefusedPath.{StepValue, at_key, at_position}
 use Rattle.trees.specs.declared.command.Document.{Document}

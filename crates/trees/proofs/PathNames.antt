@@ -1,10 +1,7 @@
 -- The names of paths.
-use Rattle.std.proofs.Common.{◌≡◌, ◌≢◌, ◌∙◌, ℕ, zero, suc, ◌+◌, ◌-◌, ◌<◌, ◌≤◌, ◌&&◌, Bool, true, false, cond, eqb, ltb, Option, Some, None, List, [], ◌∷◌, ◌++◌, length, drop, inl, inr, lit<, refl, sym, ap, subst, Bor, IfSome, MatchOption, is_some, option_map, slice_get, arith}
+use Rattle.trees.proofs.Common.{◌≡◌, ◌≢◌, ◌∙◌, ℕ, zero, suc, ◌+◌, ◌-◌, ◌<◌, ◌≤◌, ◌&&◌, Bool, true, false, cond, eqb, ltb, Option, Some, None, List, [], ◌∷◌, ◌++◌, length, drop, inl, inr, lit<, refl, sym, ap, subst, Bor, IfSome, MatchOption, is_some, option_map, slice_get, arith, encode_ascii, drop_at_char, both_ways}
 use Rattle.std.proofs.lemmas.Bool.{eqb-true, ne_eqb, le-ltb, lt-ltb, ltb-true, and_right}
 use Rattle.std.proofs.lemmas.List.{take-append-drop, drop_all}
-use Rattle.std.proofs.lemmas.Str.{encode_ascii}
-use Rattle.std.proofs.lemmas.Str.Pattern.{drop_at_char}
-use Rattle.std.specs.Cmp.{both_ways}
 use Rattle.std.specs.List.{list_all, slice_split, onto_first}
 use Rattle.std.specs.Str.Pattern.{FindsCharSuffix, CutsSuffixes, IsTrimEndMatches}
 use Rattle.ptree_trees.specs.Paths.{with_first, names}

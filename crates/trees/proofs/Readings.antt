@@ -1,8 +1,6 @@
 -- How a reading fails.
-use Rattle.std.proofs.Common.{◌≡◌, ℕ, List, Result, Ok, Err, string_bytes, subst, sym, IfErr, None, MatchOption}
+use Rattle.trees.proofs.Common.{◌≡◌, ℕ, List, Result, Ok, Err, string_bytes, subst, sym, IfErr, None, MatchOption, config_of, written_look}
 use Rattle.ptree.specs.declared.print_config.PrintConfig.{PrintConfig}
-use Rattle.ptree.specs.Config.{config_of}
-use Rattle.ptree.specs.Drawing.{written_look}
 use Rattle.ptree.specs.DrawnForm.{IsDrawnForm}
 use Rattle.ptree.specs.Tree.{Tree}
 use Rattle.trees.specs.declared.failure.Failure.{Failure}

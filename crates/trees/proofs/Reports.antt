@@ -1,8 +1,6 @@
 -- Reports on several sources, or lines of several fields.
-use Rattle.std.specs.List.{concat, AllZip}
-use Rattle.std.proofs.Common.{◌≡◌, ℕ, ◌+◌, ◌<◌, ◌++◌, Result, Ok, Err, List, [], ◌∷◌, length, take, get_or, sym, ap, ◌∙◌, subst, append_assoc, OnOk, is_ok, if◌then◌else◌}
+use Rattle.trees.proofs.Common.{◌≡◌, ℕ, ◌+◌, ◌<◌, ◌++◌, Result, Ok, Err, List, [], ◌∷◌, length, take, get_or, sym, ap, ◌∙◌, subst, append_assoc, OnOk, is_ok, if◌then◌else◌, concat, AllZip, concat-append}
 use Rattle.std.proofs.lemmas.List.{append-nil, take_more}
-use Rattle.std.proofs.lemmas.List.Folds.{concat-append}
 use Rattle.trees.specs.Reading.{Adds}
 use Rattle.trees.proofs.Elements.{zip_push}
 

@@ -1,13 +1,8 @@
 -- Nodes that a name means, and what stands above nodes.
-use Rattle.std.proofs.Common.{◌≡◌, ◌≢◌, ◌∙◌, ℕ, zero, suc, ◌+◌, ◌<◌, ◌≤◌, ◌||◌, Bool, true, false, cond, List, [], ◌∷◌, ◌++◌, length, get_or, map, inl, inr, refl, sym, ap, subst, All, Contains, Option, filter, option_map, unwrap_or, Result, IfOk, IfErr, bytes_eq, arith}
-use Rattle.std.proofs.lemmas.Bool.{cases_eq, cond-false, cond-true, false≢true, false_from_ne_true}
+use Rattle.trees.proofs.Common.{◌≡◌, ◌≢◌, ◌∙◌, ℕ, zero, suc, ◌+◌, ◌<◌, ◌≤◌, ◌||◌, Bool, true, false, cond, List, [], ◌∷◌, ◌++◌, length, get_or, map, inl, inr, refl, sym, ap, subst, All, Contains, Option, filter, option_map, unwrap_or, Result, IfOk, IfErr, bytes_eq, arith, cases_eq, cond-false, cond-true, false≢true, false_from_ne_true, All-head, filter-append, filter_passes, slice_get_read, IfOk-weaker, IfErr-weaker, NodeIndex}
 use Rattle.std.proofs.lemmas.List.{append-nil, length-map, map-append, map-id, nil_from_length}
-use Rattle.std.proofs.lemmas.List.Elements.{All-head, filter-append, filter_passes}
 use Rattle.std.proofs.lemmas.List.FromFn.{get_or-range_with_len, length-range_with_len, map-range_with_len_more}
-use Rattle.std.proofs.lemmas.Option.{slice_get_read}
-use Rattle.std.proofs.lemmas.Result.{IfOk-weaker, IfErr-weaker}
 use Rattle.std.specs.List.{range_with_len}
-use Rattle.ptree.specs.declared.graph.NodeIndex.{NodeIndex}
 use Rattle.trees.specs.declared.failure.Failure.{Failure}
 use Rattle.trees.specs.Depending.{StandsAbove}
 use Rattle.trees.specs.DependingParts.{is_meant, means_node, passing}

@@ -1,21 +1,10 @@
 -- What calls write on a terminal.
-use Rattle.std.specs.Str.{NoCharPasses}
-use Rattle.std.proofs.Common.{◌≡◌, ℕ, zero, suc, ◌++◌, Bool, true, false, List, [], ◌∷◌, Option, Result, Ok, Err, inl, inr, refl, sym, ap, ◌∙◌, subst, All, append-nil, true≢false}
-use Rattle.std.proofs.lemmas.List.Elements.{All-nil, All-cons, All-head, All-tail, All-append}
-use Rattle.std.proofs.lemmas.Str.{NoCharPasses-append}
+use Rattle.trees.proofs.Common.{◌≡◌, ℕ, zero, suc, ◌++◌, Bool, true, false, List, [], ◌∷◌, Option, Result, Ok, Err, inl, inr, refl, sym, ap, ◌∙◌, subst, All, append-nil, true≢false, NoCharPasses, All-nil, All-cons, All-head, All-tail, All-append, NoCharPasses-append, Sources, ConfigValue, effective_config, Line, line, outline_at, outline, IsPrefixOf, Form, escaped_text, mapped_forest, mapped_tree, indent, indented_line, indented_lines}
 use Rattle.ptree.specs.declared.print_config.OutputKind.TheVariants.{Unknown}
-use Rattle.ptree.specs.declared.print_config.Sources.{Sources}
-use Rattle.ptree.specs.Config.{ConfigValue}
 use Rattle.ptree.specs.Drawing.{Look, look_by}
-use Rattle.ptree.specs.Loading.{effective_config}
-use Rattle.ptree.specs.Outline.{Line, line, outline_at, outline}
-use Rattle.ptree.specs.Texts.{IsPrefixOf}
 use Rattle.ptree.specs.Tree.{none, item, Forest, Tree}
 use Rattle.ptree.specs.Writing.{AppendsPart}
 use Rattle.ptree.proofs.Drawing.Engine.{nothing_yet}
-use Rattle.ptree_trees.specs.declared.indented.Form.{Form}
-use Rattle.ptree_trees.specs.Escape.{escaped_text, mapped_forest, mapped_tree}
-use Rattle.ptree_trees.specs.Indented.{indent, indented_line, indented_lines}
 use Rattle.trees.specs.declared.command.Diff.{Diff}
 use Rattle.trees.specs.declared.command.Drawing.{Drawing}
 use Rattle.trees.specs.declared.command.Indented.{Indented}

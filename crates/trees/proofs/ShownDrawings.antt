@@ -1,24 +1,14 @@
 -- Drawings that a terminal may get.
-use Rattle.std.specs.Str.{NoCharPasses}
-use Rattle.std.proofs.Common.{◌≡◌, ℕ, ◌++◌, Bool, true, false, List, [], ◌∷◌, map, Option, Some, None, string_bytes, inl, inr, refl, sym, ap, ◌∙◌, subst, All, String, codes, slice_get, option_map, unwrap_or, Global, append-nil, true≢false}
-use Rattle.std.proofs.lemmas.List.Elements.{All-nil, All-cons, All-append}
-use Rattle.std.proofs.lemmas.Option.{slice_get_within, unwrap_or-slice_get}
-use Rattle.std.proofs.lemmas.Str.{NoCharPasses-append}
+use Rattle.trees.proofs.Common.{◌≡◌, ℕ, ◌++◌, Bool, true, false, List, [], ◌∷◌, map, Option, Some, None, string_bytes, inl, inr, refl, sym, ap, ◌∙◌, subst, All, String, codes, slice_get, option_map, unwrap_or, Global, append-nil, true≢false, NoCharPasses, All-nil, All-cons, All-append, slice_get_within, unwrap_or-slice_get, NoCharPasses-append, Address, ConfigValue, painted_text, HasNoLineFeed, map_twice, is_hidden, escaped_text, mapped_forest, mapped_tree}
 use Rattle.ptree.specs.declared.graph.Graph.{Graph}
 use Rattle.ptree.specs.declared.print_config.OutputKind.TheVariants.{Unknown}
-use Rattle.ptree.specs.Address.{Address}
-use Rattle.ptree.specs.Config.{ConfigValue}
 use Rattle.ptree.specs.Drawing.{Look, look_by, passing_text, continued_prefix, own_at, IsDrawing}
 use Rattle.ptree.specs.Graph.{weights_of, edges_of, neighbors_of, node_own, node_shape}
 use Rattle.ptree.specs.Occurrence.{OccurrenceTree, occurrence_kids, occurrence_own, occurrence_shape, mark_text}
 use Rattle.ptree.specs.Shape.{Shape}
-use Rattle.ptree.specs.Style.{painted_text}
-use Rattle.ptree.specs.Texts.{HasNoLineFeed}
 use Rattle.ptree.specs.Tree.{none, item, Forest, Tree, tree, trees, tree_kids, tree_own, shape_of_tree}
 use Rattle.ptree.proofs.Drawing.Joined.{OfCharacters, OfLook, turning_of, passing_of, passed_of, drawing_of, own_of_kids}
-use Rattle.ptree.proofs.Trees.ItemTrees.{map_twice}
 use Rattle.ptree.proofs.Trees.Shapes.{kids_of_unfold}
-use Rattle.ptree_trees.specs.Escape.{is_hidden, escaped_text, mapped_forest, mapped_tree}
 use Rattle.ptree_trees.proofs.Escapes.{text_shown}
 use Rattle.trees.specs.declared.deps.Dependencies.{Dependencies}
 use Rattle.trees.specs.Shown.{shown_lines, shown_characters, shown_config, AreShownLabels, IsLookCode, IsShown}

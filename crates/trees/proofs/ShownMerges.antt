@@ -1,18 +1,11 @@
 -- Drawings of two trees in one that a terminal may get.
 use Rattle.std.specs.Prelude.{◌⊎◌, ⊤, codes, unwrap_or}
 use Rattle.std.specs.Str.{bytes_eq, NoCharPasses}
-use Rattle.std.proofs.Common.{◌≡◌, ℕ, ◌++◌, Bool, true, false, cond, List, [], ◌∷◌, map, Option, Some, None, inl, inr, refl, sym, ap, ◌∙◌, subst, true≢false}
-use Rattle.std.proofs.lemmas.Str.{NoCharPasses-append}
+use Rattle.trees.proofs.Common.{◌≡◌, ℕ, ◌++◌, Bool, true, false, cond, List, [], ◌∷◌, map, Option, Some, None, inl, inr, refl, sym, ap, ◌∙◌, subst, true≢false, NoCharPasses-append, Address, ConfigValue, look_by, own_at, StyleValue, painted_text, HasNoLineFeed, escaped_text}
 use Rattle.ptree.specs.declared.print_config.OutputKind.TheVariants.{Unknown}
-use Rattle.ptree.specs.Address.{Address}
-use Rattle.ptree.specs.Config.{ConfigValue}
-use Rattle.ptree.specs.Drawing.{look_by, own_at}
-use Rattle.ptree.specs.Style.{StyleValue, painted_text}
-use Rattle.ptree.specs.Texts.{HasNoLineFeed}
 use Rattle.ptree.specs.Tree.{Forest, none, item, Tree}
 use Rattle.ptree.proofs.Drawing.Joined.{own_of_kids}
 use Rattle.ptree.proofs.Trees.Shapes.{kids_of_unfold}
-use Rattle.ptree_trees.specs.Escape.{escaped_text}
 use Rattle.trees.specs.declared.compare.Look.{Look}
 use Rattle.trees.specs.declared.compare.Side.{Side}
 use Rattle.trees.specs.declared.compare.Side.TheVariants.{Left, Right}

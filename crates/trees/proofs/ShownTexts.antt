@@ -1,19 +1,11 @@
 -- Texts that a terminal may get.
-use Rattle.std.specs.List.{concat, list_all}
 use Rattle.std.specs.Fmt.{decimal, digits, digits_onto, digit_glyph}
 use Rattle.std.specs.Str.{chars, encode_utf8_all, NonePass, NoCharPasses}
-use Rattle.std.proofs.Common.{◌≡◌, ◌≢◌, ◌<◌, ◌/◌, ◌%◌, ℕ, zero, suc, ◌++◌, Bool, true, false, cond, eqb, List, [], ◌∷◌, flat_map, inl, inr, refl, sym, ap, ◌∙◌, subst, ◌==◌, ◌||◌, ◌&&◌, not, ◌⊎◌, All, codes, nat_lt, append-nil, ne_eqb, true≢false, arith}
+use Rattle.trees.proofs.Common.{◌≡◌, ◌≢◌, ◌<◌, ◌/◌, ◌%◌, ℕ, zero, suc, ◌++◌, Bool, true, false, cond, eqb, List, [], ◌∷◌, flat_map, inl, inr, refl, sym, ap, ◌∙◌, subst, ◌==◌, ◌||◌, ◌&&◌, not, ◌⊎◌, All, codes, nat_lt, append-nil, ne_eqb, true≢false, arith, concat, list_all, All-nil, All-cons, All-head, All-tail, All-append, concat-append, NoCharPasses-nil, NoCharPasses-append, encode_ascii, encodes-append, NoCharPasses-char, StyleValue, start_codes, end_codes, painted_text, HasNoLineFeed, is_hidden, escape_char, escaped_text}
 use Rattle.std.proofs.lemmas.Bool.Decides.{nat_tests}
-use Rattle.std.proofs.lemmas.List.Elements.{All-nil, All-cons, All-head, All-tail, All-append}
-use Rattle.std.proofs.lemmas.List.Folds.{concat-append}
-use Rattle.std.proofs.lemmas.Str.{NoCharPasses-nil, NoCharPasses-append, encode_ascii, encodes-append}
-use Rattle.std.proofs.lemmas.Str.Pattern.{NoCharPasses-char}
 use Rattle.ptree.specs.Drawing.{Look, with_inserted}
-use Rattle.ptree.specs.Style.{StyleValue, start_codes, end_codes, painted_text}
-use Rattle.ptree.specs.Texts.{HasNoLineFeed}
 use Rattle.ptree.proofs.Drawing.Inserted.{is_feed, inserted_feed, inserted-append, inserted_none, no_line_feed_from_reads}
 use Rattle.ptree.proofs.Styles.PaintedTexts.{no_line_feed_start, no_line_feed_end}
-use Rattle.ptree_trees.specs.Escape.{is_hidden, escape_char, escaped_text}
 use Rattle.ptree_trees.proofs.Escapes.{none_append, form_shown, text_shown}
 use Rattle.trees.specs.Shown.{shown_char, shown_lines, is_raw, IsCodeOf, IsLookCode, IsShown}
 

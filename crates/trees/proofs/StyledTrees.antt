@@ -1,10 +1,6 @@
 -- Styled trees and items.
-use Rattle.std.proofs.Common.{◌≡◌, ◌∙◌, ℕ, List, [], ◌∷◌, length, map, Option, Some, None, ap, refl, sym, string_bytes, slice_get, option_and_then, option_map, unwrap_or}
+use Rattle.trees.proofs.Common.{◌≡◌, ◌∙◌, ℕ, List, [], ◌∷◌, length, map, Option, Some, None, ap, refl, sym, string_bytes, slice_get, option_and_then, option_map, unwrap_or, length-map, slice_get-map, Address, at, StyleValue, style_of}
 use Rattle.std.proofs.Math.Path.{fun_ext}
-use Rattle.std.proofs.lemmas.List.{length-map}
-use Rattle.std.proofs.lemmas.Option.{slice_get-map}
-use Rattle.ptree.specs.Address.{Address, at}
-use Rattle.ptree.specs.Style.{StyleValue, style_of}
 use Rattle.ptree.specs.declared.style.Style.{Style}
 use Rattle.ptree_trees.specs.Styled.{HasParts, styled_own, styled_shape}
 use Rattle.ptree_trees.specs.declared.styled.StyledItem.{StyledItem, out-StyledItem}

@@ -1,9 +1,7 @@
 -- What the end of a call tells.
-use Rattle.std.proofs.Common.{◌≡◌, ◌<◌, ◌+◌, ◌∙◌, true, false, not, eqb, ℕ, List, [], ◌∷◌, All, take, length, get_or, Bool, Option, Some, None, Result, Ok, Err, ◌↔◌, IsTrue, string_bytes, subst, sym, ap, refl, is_some, slice_get, take-take, get_or-take, length-take-le, ne_eqb, true≢false, arith}
+use Rattle.trees.proofs.Common.{◌≡◌, ◌<◌, ◌+◌, ◌∙◌, true, false, not, eqb, ℕ, List, [], ◌∷◌, All, take, length, get_or, Bool, Option, Some, None, Result, Ok, Err, ◌↔◌, IsTrue, string_bytes, subst, sym, ap, refl, is_some, slice_get, take-take, get_or-take, length-take-le, ne_eqb, true≢false, arith, ConfigValue, look_by, IsDrawing}
 use Rattle.std.proofs.lemmas.List.Elements.{All-more, All-take, All-get_or}
 use Rattle.ptree.specs.declared.print_config.OutputKind.TheVariants.{Unknown}
-use Rattle.ptree.specs.Config.{ConfigValue}
-use Rattle.ptree.specs.Drawing.{look_by, IsDrawing}
 use Rattle.ptree.specs.Tree.{Tree, shape_of_tree}
 use Rattle.ptree.proofs.Drawing.Laws.{drawn_form_again}
 use Rattle.trees.specs.declared.failure.Failure.{Failure}

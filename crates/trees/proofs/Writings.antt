@@ -1,11 +1,8 @@
 -- What is written.
-use Rattle.std.proofs.Common.{◌≡◌, ℕ, true, false, inl, inr, Option, Some, None, List, Result, Ok, Err, sym, subst, append-nil, [], IsErr, IfErr, true≢false}
+use Rattle.trees.proofs.Common.{◌≡◌, ℕ, true, false, inl, inr, Option, Some, None, List, Result, Ok, Err, sym, subst, append-nil, [], IsErr, IfErr, true≢false, Appends, Sources, Form}
 use Rattle.std.proofs.KnownBytes.{Appends-nil}
-use Rattle.std.specs.Io.KnownBytes.{Appends}
-use Rattle.ptree.specs.declared.print_config.Sources.{Sources}
 use Rattle.ptree.specs.declared.value.document.DocFormat.TheVariants.{Toml, Json}
 use Rattle.ptree.specs.Tree.{Tree}
-use Rattle.ptree_trees.specs.declared.indented.Form.{Form}
 use Rattle.trees.specs.declared.command.Diff.{Diff}
 use Rattle.trees.specs.declared.command.Drawing.{Drawing}
 use Rattle.trees.specs.declared.command.Tree.{Tree as Given}

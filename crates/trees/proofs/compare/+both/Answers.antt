@@ -1,11 +1,5 @@
-use Rattle.std.proofs.Common.{◌≡◌, ◌∙◌, ◌+◌, ◌-◌, ◌++◌, [], ◌∷◌, get_or, refl, List, None, map, drop, length, ap, sym, subst, arith, rules, string_bytes}
-use Rattle.std.specs.List.{slice_range}
+use Rattle.trees.proofs.Common.{◌≡◌, ◌∙◌, ◌+◌, ◌-◌, ◌++◌, [], ◌∷◌, get_or, refl, List, None, map, drop, length, ap, sym, subst, arith, rules, string_bytes, slice_range, IfOk-weaker, StringItem, out-StringItem, Forest, tree_of, forest, item_text, left_more, HasParts}
 use Rattle.std.proofs.lemmas.List.{drop_all, take_all, length-drop}
-use Rattle.std.proofs.lemmas.Result.{IfOk-weaker}
-use Rattle.ptree.specs.declared.item.StringItem.{StringItem, out-StringItem}
-use Rattle.ptree.specs.Tree.{Forest, tree_of, forest}
-use Rattle.ptree.proofs.Trees.OutlineItems.{item_text, left_more}
-use Rattle.ptree_trees.specs.Styled.{HasParts}
 use Rattle.trees.specs.declared.compare.Side.TheVariants.{Right}
 use Rattle.trees.specs.MergingParts.{IsFoundAt, LacksText}
 use Rattle.trees.specs.Merging.{styled_tree_of, marked_tree, styled_forest, roots_text, ShowsBoth, ShowsMerge}

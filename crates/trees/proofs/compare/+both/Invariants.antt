@@ -1,5 +1,4 @@
-use Rattle.std.proofs.Common.{◌≡◌, ◌≤◌, length, map, drop}
-use Rattle.ptree.specs.Tree.{tree_of}
+use Rattle.trees.proofs.Common.{◌≡◌, ◌≤◌, length, map, drop, tree_of}
 use Rattle.trees.specs.Merging.{styled_tree_of}
 use Rattle.trees.proofs.Merges.{ShowsBut}
 use Rattle.trees.proofs.compare.+both.Given as goal

@@ -1,7 +1,4 @@
-use Rattle.std.proofs.Common.{◌≡◌, [], rules}
-use Rattle.std.proofs.lemmas.Result.{IfOk-weaker}
-use Rattle.ptree.specs.Tree.{tree_of}
-use Rattle.ptree_trees.specs.Styled.{HasParts}
+use Rattle.trees.proofs.Common.{◌≡◌, [], rules, IfOk-weaker, tree_of, HasParts}
 use Rattle.trees.specs.Merging.{styled_tree_of, marked_tree}
 use Rattle.trees.proofs.Merges.{next_shown, whole_marked}
 use Rattle.trees.proofs.compare.+marked.Goals as goal

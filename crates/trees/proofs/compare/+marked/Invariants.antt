@@ -1,5 +1,4 @@
-use Rattle.std.proofs.Common.{◌≡◌, map, take}
-use Rattle.ptree.specs.Tree.{tree_of}
+use Rattle.trees.proofs.Common.{◌≡◌, map, take, tree_of}
 use Rattle.trees.specs.Merging.{styled_tree_of, marked_tree}
 use Rattle.trees.proofs.compare.+marked.Given as goal
 

@@ -1,6 +1,4 @@
-use Rattle.std.specs.Prelude.{option_map}
-use Rattle.std.proofs.Common.{◌≡◌, ◌∙◌, ◌++◌, append_assoc, map, rules, string_bytes}
-use Rattle.ptree.specs.ReadItems.{read_text_of}
+use Rattle.trees.proofs.Common.{◌≡◌, ◌∙◌, ◌++◌, append_assoc, map, rules, string_bytes, option_map, read_text_of}
 use Rattle.trees.specs.declared.compare.Side.TheVariants.{Left, Right}
 use Rattle.trees.specs.Merging.{way_text, place_line, side_line}
 use Rattle.trees.proofs.compare.first.Goals as goal

@@ -1,6 +1,4 @@
-use Rattle.std.proofs.Common.{◌≡◌, ◌++◌, List, map, take_all, subst, rules}
-use Rattle.ptree.specs.Tree.{tree_of}
-use Rattle.ptree.specs.declared.item.StringItem.{StringItem}
+use Rattle.trees.proofs.Common.{◌≡◌, ◌++◌, List, map, take_all, subst, rules, tree_of, StringItem}
 use Rattle.trees.specs.declared.compare.Side.TheVariants.{Right}
 use Rattle.trees.specs.Merging.{styled_tree_of, marked_tree}
 use Rattle.trees.proofs.Merges.{next_shown}

@@ -1,7 +1,4 @@
-use Rattle.std.proofs.Common.{◌≡◌, ◌∙◌, ◌++◌, ◌+◌, codes, get_or, map, drop, string_bytes, append_assoc, append-nil, ap, sym}
-use Rattle.std.proofs.lemmas.List.{at_drop_more, drop_all}
-use Rattle.ptree.specs.ReadItems.{read_text_of}
-use Rattle.ptree_trees.specs.Escape.{escaped_text}
+use Rattle.trees.proofs.Common.{◌≡◌, ◌∙◌, ◌++◌, ◌+◌, codes, get_or, map, drop, string_bytes, append_assoc, append-nil, ap, sym, at_drop_more, drop_all, read_text_of, escaped_text}
 use Rattle.trees.specs.Merging.{way_text}
 use Rattle.trees.proofs.compare.push_way.Goals as goal
 

@@ -1,5 +1,4 @@
-use Rattle.std.proofs.Common.{◌≡◌, ◌++◌, map, drop, string_bytes}
-use Rattle.ptree.specs.ReadItems.{read_text_of}
+use Rattle.trees.proofs.Common.{◌≡◌, ◌++◌, map, drop, string_bytes, read_text_of}
 use Rattle.trees.specs.Merging.{way_text}
 use Rattle.trees.proofs.compare.push_way.Given as goal
 

@@ -1,6 +1,5 @@
-use Rattle.std.proofs.Common.{◌≡◌, ◌<◌, ◌++◌, [], ◌∷◌, Some, length, sym, arith, rules}
+use Rattle.trees.proofs.Common.{◌≡◌, ◌<◌, ◌++◌, [], ◌∷◌, Some, length, sym, arith, rules, All-permutation}
 use Rattle.std.proofs.lemmas.List.Elements.{All-push, All-same}
-use Rattle.std.proofs.lemmas.List.Sorted.{All-permutation}
 use Rattle.trees.specs.MergingParts.{Place, text_at}
 use Rattle.trees.proofs.MergePlaces.{has_more, has_sorted, text_there}
 use Rattle.trees.proofs.compare.sorted_places.Goals as goal

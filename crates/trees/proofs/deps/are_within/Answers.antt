@@ -1,6 +1,5 @@
-use Rattle.std.proofs.Common.{◌≡◌, ◌∙◌, ℕ, List, length, map, subst, string_bytes, arith}
+use Rattle.std.proofs.Common.{◌≡◌, ◌∙◌, ℕ, List, length, map, subst, string_bytes, arith, All}
 use Rattle.std.proofs.lemmas.List.{length-map, take_all}
-use Rattle.std.specs.List.{All}
 use Rattle.trees.specs.declared.deps.Need.{Need}
 use Rattle.trees.specs.Depending.{ends, IsWithin}
 use Rattle.trees.proofs.Networks.{within_more}

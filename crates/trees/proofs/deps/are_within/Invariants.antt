@@ -1,5 +1,4 @@
-use Rattle.std.proofs.Common.{map, take}
-use Rattle.std.specs.List.{All}
+use Rattle.std.proofs.Common.{map, take, All}
 use Rattle.trees.specs.Depending.{ends, IsWithin}
 use Rattle.trees.proofs.deps.are_within.Given as goal
 

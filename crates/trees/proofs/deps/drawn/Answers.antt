@@ -1,6 +1,4 @@
-use Rattle.std.proofs.Common.{◌≡◌, map, string_bytes, refl, rules}
-use Rattle.std.specs.Prelude.{length, Any}
-use Rattle.ptree.specs.Graph.{weights_of, LacksNode}
+use Rattle.trees.proofs.Common.{◌≡◌, map, string_bytes, refl, rules, length, Any, weights_of, LacksNode}
 use Rattle.trees.specs.declared.deps.Dependencies.{Dependencies}
 use Rattle.trees.specs.declared.deps.network.Network.{Network}
 use Rattle.trees.specs.Depending.{IsNoName}

@@ -1,6 +1,4 @@
-use Rattle.std.proofs.Common.{◌∙◌, sym}
-use Rattle.std.proofs.lemmas.Result.{IfErr-weaker, IfOk-weaker}
-use Rattle.std.specs.Prelude.{⊤}
+use Rattle.trees.proofs.Common.{◌∙◌, sym, IfErr-weaker, IfOk-weaker, ⊤}
 use Rattle.trees.specs.Depending.{HoldsNone, IsPairFile}
 use Rattle.trees.specs.DependingParts.{AreRead, AreWithin, HoldsWords}
 use Rattle.trees.specs.Meaning.{HoldsNoPairs}

@@ -1,5 +1,4 @@
-use Rattle.std.proofs.Common.{rules}
-use Rattle.std.proofs.lemmas.Result.{IfErr-weaker, IfOk-weaker}
+use Rattle.trees.proofs.Common.{rules, IfErr-weaker, IfOk-weaker}
 use Rattle.trees.specs.Depending.{edges_of_needs, IsGraphIn, IsNoName}
 use Rattle.trees.specs.DependingParts.{names_in, needs_in, paths_in}
 use Rattle.trees.specs.Meaning.{HoldsNoGraph, HoldsNoPairs, IsGraphOf}

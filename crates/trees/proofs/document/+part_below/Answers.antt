@@ -1,5 +1,4 @@
-use Rattle.std.proofs.Common.{◌≡◌, ◌∷◌, ◌++◌, codes, rules}
-use Rattle.std.proofs.lemmas.Result.{IfErr-weaker}
+use Rattle.trees.proofs.Common.{◌≡◌, ◌∷◌, ◌++◌, codes, rules, IfErr-weaker}
 use Rattle.trees.specs.Documents.{shown_keys, steps_in}
 use Rattle.trees.specs.Reading.{Says}
 use Rattle.trees.proofs.Parts.{missing_first, says_below}

@@ -1,6 +1,4 @@
-use Rattle.std.proofs.Common.{subst}
-use Rattle.std.proofs.lemmas.Result.{IfErr-weaker}
-use Rattle.ptree.specs.File.{FileNode}
+use Rattle.trees.proofs.Common.{subst, IfErr-weaker, FileNode}
 use Rattle.ptree.specs.Tree.{Tree}
 use Rattle.trees.specs.Documents.{IsTreeIn, IsPartTree}
 use Rattle.trees.proofs.Parts.{one_document}

@@ -1,6 +1,4 @@
-use Rattle.std.proofs.Common.{rules, subst}
-use Rattle.std.specs.Prelude.{⊤}
-use Rattle.ptree.specs.File.{FileNode}
+use Rattle.trees.proofs.Common.{rules, subst, ⊤, FileNode}
 use Rattle.ptree.specs.Tree.{Tree}
 use Rattle.trees.specs.Documents.{IsAllowed, IsTreeIn}
 use Rattle.trees.proofs.Parts.{one_asked, wrong_at}

@@ -1,6 +1,5 @@
-use Rattle.std.proofs.Common.{arith}
+use Rattle.trees.proofs.Common.{arith, config_of}
 use Rattle.std.proofs.lemmas.Grind.{common_steps}
-use Rattle.ptree.specs.Config.{config_of}
 use Rattle.trees.proofs.Named.{hint_named, hint_nothing, hint_listed}
 use Rattle.trees.proofs.drawings.hint.Goals as goal
 

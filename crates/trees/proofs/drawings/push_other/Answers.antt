@@ -1,5 +1,4 @@
-use Rattle.std.proofs.Common.{rules}
-use Rattle.ptree.specs.Config.{config_of}
+use Rattle.trees.proofs.Common.{rules, config_of}
 use Rattle.trees.specs.Named.{IsReadWith}
 use Rattle.trees.proofs.Named.{adds_name}
 use Rattle.trees.proofs.drawings.push_other.Goals as goal

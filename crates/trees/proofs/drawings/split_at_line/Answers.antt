@@ -1,5 +1,4 @@
-use Rattle.std.proofs.Common.{◌≡◌, ◌+◌, ◌-◌, ◌∷◌, ◌++◌, ℕ, List, ap, ◌∙◌, arith, rules}
-use Rattle.ptree.specs.Continuation.{first_lines, line_count}
+use Rattle.trees.proofs.Common.{◌≡◌, ◌+◌, ◌-◌, ◌∷◌, ◌++◌, ℕ, List, ap, ◌∙◌, arith, rules, first_lines, line_count}
 use Rattle.ptree.proofs.Reading.FirstLines.{first_more, count_line}
 use Rattle.trees.proofs.drawings.split_at_line.Goals as goal
 

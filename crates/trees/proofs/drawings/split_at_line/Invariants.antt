@@ -1,7 +1,6 @@
-use Rattle.std.proofs.Common.{◌≡◌, ◌+◌, ◌++◌}
+use Rattle.trees.proofs.Common.{◌≡◌, ◌+◌, ◌++◌, first_lines, line_count}
 use denote.Text.{Utf8}
 use denote.Shadow.{shadow}
-use Rattle.ptree.specs.Continuation.{first_lines, line_count}
 use Rattle.trees.proofs.drawings.split_at_line.Given as goal
 
 -- the first lines so far, and the rest

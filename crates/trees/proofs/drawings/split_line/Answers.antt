@@ -1,5 +1,4 @@
-use Rattle.std.proofs.Common.{◌≡◌, None, Some, arith}
-use Rattle.ptree.specs.Continuation.{line_count}
+use Rattle.trees.proofs.Common.{◌≡◌, None, Some, arith, line_count}
 use Rattle.ptree.proofs.Reading.FirstLines.{count_none}
 use Rattle.trees.proofs.drawings.split_line.Goals as goal
 use Rattle.ptree_trees.proofs.IndentedTexts.{split_is}

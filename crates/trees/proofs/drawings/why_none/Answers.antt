@@ -1,7 +1,5 @@
-use Rattle.std.proofs.Common.{inl, inr, refl, rules, string_bytes, subst, sym}
-use Rattle.ptree.specs.Config.{config_of}
+use Rattle.trees.proofs.Common.{inl, inr, refl, rules, string_bytes, subst, sym, config_of, written_look}
 use Rattle.ptree.specs.Continuation.{EndsWrong}
-use Rattle.ptree.specs.Drawing.{written_look}
 use Rattle.ptree.proofs.Reading.Scanning.{wrong_line_no_drawing}
 use Rattle.trees.specs.Expected.{TellsLine, TellsEnd}
 use Rattle.trees.specs.Named.{IsUnreadBy}

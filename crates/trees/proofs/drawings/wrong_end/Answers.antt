@@ -1,5 +1,4 @@
-use Rattle.std.proofs.Common.{◌≡◌, string_bytes, subst, rules}
-use Rattle.ptree.specs.Config.{config_of}
+use Rattle.trees.proofs.Common.{◌≡◌, string_bytes, subst, rules, config_of}
 use Rattle.trees.specs.Named.{AddsOther}
 use Rattle.trees.proofs.drawings.wrong_end.Goals as goal
 

@@ -1,6 +1,4 @@
-use Rattle.std.proofs.Common.{◌≡◌, ◌++◌, ℕ, List, inr, ap, ◌∙◌, codes, string_bytes, subst, rules}
-use Rattle.ptree.specs.Config.{config_of}
-use Rattle.ptree_trees.specs.Escape.{escaped_text}
+use Rattle.trees.proofs.Common.{◌≡◌, ◌++◌, ℕ, List, inr, ap, ◌∙◌, codes, string_bytes, subst, rules, config_of, escaped_text}
 use Rattle.trees.specs.Expected.{IsHint}
 use Rattle.trees.proofs.drawings.wrong_line.Goals as goal
 

@@ -1,8 +1,4 @@
-use Rattle.std.proofs.Common.{◌≡◌, [], ◌++◌, ℕ, Bool, List, codes, length, map, sym, ap, ◌∙◌, string_bytes, subst, rules}
-use Rattle.std.proofs.lemmas.List.{length-map}
-use Rattle.ptree.specs.Config.{ConfigValue, config_of}
-use Rattle.ptree.specs.Continuation.{IsFollowedBy, AreFlags}
-use Rattle.ptree.specs.Drawing.{written_look}
+use Rattle.trees.proofs.Common.{◌≡◌, [], ◌++◌, ℕ, Bool, List, codes, length, map, sym, ap, ◌∙◌, string_bytes, subst, rules, length-map, ConfigValue, config_of, IsFollowedBy, AreFlags, written_look}
 use Rattle.ptree.specs.Pieces.{Pieces, pieces_of, config_pieces}
 use Rattle.trees.specs.Expected.{ListsBeginnings, AreFronts, HasFronts, AddsListed, AddsTexts, IsFlagged, EndsFront}
 use Rattle.trees.proofs.Beginnings.{IsBehind, follows_listed, if_listed, listed_beginnings}

@@ -1,7 +1,6 @@
-use Rattle.std.proofs.Common.{map, string_bytes}
+use Rattle.trees.proofs.Common.{map, string_bytes, pieces_of}
 use denote.Text.{Utf8}
 use denote.Shadow.{shadow}
-use Rattle.ptree.specs.Pieces.{pieces_of}
 use Rattle.trees.proofs.Fronts.{AreFrontsBelow}
 use Rattle.trees.proofs.FrontsTried.{HasTried}
 use Rattle.trees.proofs.expected.fronts.Given as goal

@@ -1,6 +1,5 @@
-use Rattle.std.proofs.Common.{◌≡◌, inl, inr, ℕ, List, subst, arith, rules}
+use Rattle.trees.proofs.Common.{◌≡◌, inl, inr, ℕ, List, subst, arith, rules, IsPrefixOf}
 use Rattle.ptree.specs.Pieces.{Pieces, pieces_of}
-use Rattle.ptree.specs.Texts.{IsPrefixOf}
 use Rattle.trees.proofs.DeepLines.{passes_more, turns_too_deep}
 use Rattle.trees.proofs.expected.has_more_pieces.Goals as goal
 

@@ -1,5 +1,4 @@
-use Rattle.std.proofs.Common.{◌≡◌, ◌<◌, [], ◌++◌, ℕ, List, Bool, true, false, codes, length, get_or, map, refl, sym, ap, ◌∙◌, string_bytes, subst, arith, rules}
-use Rattle.std.proofs.lemmas.Bool.{false≢true}
+use Rattle.trees.proofs.Common.{◌≡◌, ◌<◌, [], ◌++◌, ℕ, List, Bool, true, false, codes, length, get_or, map, refl, sym, ap, ◌∙◌, string_bytes, subst, arith, rules, false≢true}
 use Rattle.std.proofs.lemmas.List.{get_or-map, length-map}
 use Rattle.trees.specs.Expected.{AddsListed, IsFlagged}
 use Rattle.trees.proofs.Beginnings.{flagged_none, next_flagged}

@@ -1,5 +1,4 @@
-use Rattle.std.proofs.Common.{[], map, string_bytes}
-use Rattle.ptree.specs.Pieces.{pieces_of}
+use Rattle.trees.proofs.Common.{[], map, string_bytes, pieces_of}
 use Rattle.trees.specs.Expected.{EndsFront, AddsTexts}
 use Rattle.trees.proofs.expected.prefixes.Given as goal
 

@@ -1,9 +1,5 @@
-use Rattle.std.proofs.Common.{◌≡◌, ◌⊎◌, inl, inr, ◌∷◌, ◌++◌, [], map, refl, sym, ap, ◌∙◌, string_bytes, subst, rules}
-use Rattle.std.specs.Prelude.{◌≢◌}
-use Rattle.std.proofs.lemmas.Bool.{false≢true}
-use Rattle.std.specs.Cmp.Lexicographic.{same_text, other_text}
+use Rattle.trees.proofs.Common.{◌≡◌, ◌⊎◌, inl, inr, ◌∷◌, ◌++◌, [], map, refl, sym, ap, ◌∙◌, string_bytes, subst, rules, ◌≢◌, false≢true, same_text, other_text, IsPrefixOf}
 use Rattle.ptree.specs.Pieces.{Pieces, pieces_of}
-use Rattle.ptree.specs.Texts.{IsPrefixOf}
 use Rattle.trees.proofs.DistinctTexts.{bytes_push}
 use Rattle.trees.proofs.Fronts.{below_same, below_tried}
 use Rattle.trees.proofs.expected.push_below.Goals as goal

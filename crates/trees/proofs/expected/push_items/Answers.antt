@@ -1,6 +1,4 @@
-use Rattle.std.proofs.Common.{◌≡◌, ◌≢◌, ◌++◌, ℕ, List, true, false, refl, sym, rules}
-use Rattle.std.proofs.lemmas.List.{append_cancel_left}
-use Rattle.std.specs.Cmp.Lexicographic.{same_text, other_text}
+use Rattle.trees.proofs.Common.{◌≡◌, ◌≢◌, ◌++◌, ℕ, List, true, false, refl, sym, rules, append_cancel_left, same_text, other_text}
 use Rattle.ptree.specs.Pieces.{Pieces, turning_piece, pieces_of}
 use Rattle.trees.specs.Expected.{EndsPieces}
 use Rattle.trees.proofs.Beginnings.{one_piece, either_piece}

@@ -1,5 +1,4 @@
-use Rattle.std.proofs.Common.{◌≡◌, [], ◌∷◌, ◌-◌, ◌⊎◌, inl, inr, refl, sym, ◌∙◌, ap, subst, Any, arith}
-use Rattle.std.proofs.lemmas.Bool.{false≢true}
+use Rattle.trees.proofs.Common.{◌≡◌, [], ◌∷◌, ◌-◌, ◌⊎◌, inl, inr, refl, sym, ◌∙◌, ap, subst, Any, arith, false≢true}
 use Rattle.ptree.specs.Occurrence.{occurrence_kids, first_tree, trees_in}
 use Rattle.ptree.proofs.Graphs.Places.{trees_none}
 use Rattle.trees.specs.Levels.{HasLevel}

@@ -1,5 +1,4 @@
-use Rattle.std.proofs.Common.{◌↔◌}
-use Rattle.std.specs.List.{Any}
+use Rattle.std.proofs.Common.{◌↔◌, Any}
 use Rattle.ptree.specs.Occurrence.{occurrence_kids, trees_in}
 use Rattle.trees.specs.Levels.{HasLevel}
 use Rattle.trees.proofs.levels.+has_level.Given as goal

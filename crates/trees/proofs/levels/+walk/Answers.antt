@@ -1,9 +1,4 @@
-use Rattle.std.proofs.Common.{◌≡◌, ◌-◌, suc, inl, inr, [], length, Some, slice_get, get_or, refl, sym, ap, ◌∙◌, subst, arith, rules}
-use Rattle.std.proofs.lemmas.Bool.{cases_lt}
-use Rattle.std.proofs.lemmas.List.{length-map}
-use Rattle.std.proofs.lemmas.Option.{unwrap_or-slice_get}
-use Rattle.ptree.specs.Graph.{edges_of, neighbors_of}
-use Rattle.ptree.specs.declared.graph.NodeIndex.{NodeIndex}
+use Rattle.trees.proofs.Common.{◌≡◌, ◌-◌, suc, inl, inr, [], length, Some, slice_get, get_or, refl, sym, ap, ◌∙◌, subst, arith, rules, cases_lt, length-map, unwrap_or-slice_get, edges_of, neighbors_of, NodeIndex}
 use Rattle.trees.specs.declared.levels.Walks.TheVariants.{Unknown, Open, Longest}
 use Rattle.trees.specs.Levels.{HasLevel, walks_from}
 use Rattle.trees.proofs.LevelSteps.{level_here, level_few, level_around, leads_on, level_by, height_by, neighbor_at, known_set, right_set}

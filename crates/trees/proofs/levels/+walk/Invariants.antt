@@ -1,5 +1,4 @@
-use Rattle.std.proofs.Common.{◌≡◌, ◌<◌, ◌≤◌, ◌+◌, ◌*◌, ℕ, Some, slice_get}
-use Rattle.ptree.specs.Graph.{edges_of, neighbors_of}
+use Rattle.trees.proofs.Common.{◌≡◌, ◌<◌, ◌≤◌, ◌+◌, ◌*◌, ℕ, Some, slice_get, edges_of, neighbors_of}
 use Rattle.trees.specs.Levels.{HasLevel, AreRight, walks_from}
 use Rattle.trees.specs.declared.levels.Walks.TheVariants.{Open}
 use Rattle.trees.proofs.levels.+walk.Given as goal

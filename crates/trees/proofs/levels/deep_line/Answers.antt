@@ -1,8 +1,4 @@
-use Rattle.std.proofs.Common.{ℕ, eqb, List, lit<, sym, subst, rules}
-use Rattle.std.proofs.lemmas.Iterator.Consumers.{YieldsList-turn, YieldsList-end}
-use Rattle.std.proofs.lemmas.Iterator.Splits.{YieldsList-from_str_split}
-use Rattle.std.proofs.lemmas.List.Elements.{All-push, All-map}
-use Rattle.std.specs.Borrow.{Bor}
+use Rattle.trees.proofs.Common.{ℕ, eqb, List, lit<, sym, subst, rules, Bor, YieldsList-turn, YieldsList-end, YieldsList-from_str_split, All-push, All-map}
 use Rattle.std.specs.List.{All, Any, slice_split}
 use Rattle.trees.specs.ListingParts.{IsDeep}
 use Rattle.trees.proofs.levels.deep_line.Goals as goal

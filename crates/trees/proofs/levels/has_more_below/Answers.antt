@@ -1,5 +1,4 @@
-use Rattle.std.proofs.Common.{◌↔◌, IsTrue, sym, subst}
-use Rattle.ptree.specs.Graph.{edges_of, neighbors_of}
+use Rattle.trees.proofs.Common.{◌↔◌, IsTrue, sym, subst, edges_of, neighbors_of}
 use Rattle.trees.specs.Levels.{HasMoreLevels}
 use Rattle.trees.proofs.LevelSteps.{walk_told, once_level}
 use Rattle.trees.proofs.levels.has_more_below.Goals as goal

@@ -1,9 +1,5 @@
-use Rattle.std.proofs.Common.{◌∙◌, ℕ, List, lit<, ap, rules}
-use Rattle.std.specs.Borrow.{Bor}
-use Rattle.std.specs.Prelude.{is_some, slice_get}
+use Rattle.trees.proofs.Common.{◌∙◌, ℕ, List, lit<, ap, rules, Bor, is_some, slice_get, YieldsList-from_str_split, names}
 use Rattle.std.proofs.lemmas.Iterator.Consumers.{nth_from_yields_List}
-use Rattle.std.proofs.lemmas.Iterator.Splits.{YieldsList-from_str_split}
-use Rattle.ptree_trees.specs.Paths.{names}
 use Rattle.trees.proofs.PathNames.{few_names, split_names, name_at, there_if_read}
 use Rattle.trees.proofs.levels.has_more_names.Goals as goal
 

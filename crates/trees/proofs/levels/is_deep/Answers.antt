@@ -1,5 +1,4 @@
-use Rattle.std.proofs.Common.{refl, rules}
-use Rattle.std.proofs.lemmas.Bool.{false≢true}
+use Rattle.trees.proofs.Common.{refl, rules, false≢true}
 use Rattle.ptree_trees.proofs.IndentedTexts.{indent_more}
 use Rattle.trees.proofs.Outlines.{is_deep, not_deep, next_level}
 use Rattle.trees.proofs.levels.is_deep.Goals as goal

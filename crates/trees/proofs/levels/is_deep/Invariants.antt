@@ -1,7 +1,6 @@
-use Rattle.std.proofs.Common.{◌≡◌, ◌++◌, ◌-◌, ◌≤◌}
+use Rattle.trees.proofs.Common.{◌≡◌, ◌++◌, ◌-◌, ◌≤◌, indent}
 use denote.Text.{Utf8}
 use denote.Shadow.{shadow}
-use Rattle.ptree_trees.specs.Indented.{indent}
 use Rattle.trees.proofs.levels.is_deep.Given as goal
 
 -- the line is an indent of the level so far and the rest

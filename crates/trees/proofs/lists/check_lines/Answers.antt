@@ -1,9 +1,5 @@
-use Rattle.std.proofs.Common.{◌≡◌, ◌∙◌, ℕ, Bool, true, false, List, [], get_or, map, take, sym, subst, rules}
-use Rattle.std.proofs.lemmas.Bool.{or_from, or_left, or_right}
-use Rattle.std.proofs.lemmas.List.{take_all}
+use Rattle.trees.proofs.Common.{◌≡◌, ◌∙◌, ℕ, Bool, true, false, List, [], get_or, map, take, sym, subst, rules, take_all, Bor, or_from, or_left, or_right, list_any}
 use Rattle.std.proofs.lemmas.List.Folds.{list_any_more, list_any_at}
-use Rattle.std.specs.Borrow.{Bor}
-use Rattle.std.specs.List.{list_any}
 use Rattle.trees.specs.Listing.{is_cut_off}
 use Rattle.trees.specs.ListingParts.{is_wrong_line, are_wrong_lines}
 use Rattle.trees.proofs.Listings.{any_map}

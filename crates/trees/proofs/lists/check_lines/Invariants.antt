@@ -1,5 +1,4 @@
-use Rattle.std.proofs.Common.{◌≡◌, false, take}
-use Rattle.std.specs.List.{list_any}
+use Rattle.trees.proofs.Common.{◌≡◌, false, take, list_any}
 use Rattle.trees.specs.ListingParts.{is_wrong_line}
 use Rattle.trees.proofs.lists.check_lines.Given as goal
 

@@ -1,7 +1,4 @@
-use Rattle.std.proofs.Common.{rules, ◌≡◌, ◌∙◌, [], map, subst, sym}
-use Rattle.std.specs.List.{AllByRecursion}
-use Rattle.ptree.specs.Outline.{Line, outline}
-use Rattle.ptree.specs.Tree.{tree_of}
+use Rattle.trees.proofs.Common.{rules, ◌≡◌, ◌∙◌, [], map, subst, sym, AllByRecursion, Line, outline, tree_of}
 use Rattle.ptree.proofs.Trees.OutlineItems.{item_tree, item_line, item_text, lines_of_items}
 use Rattle.trees.specs.Outlining.{text_or, IsKeptText, AreKeptTexts}
 use Rattle.trees.proofs.OutlineTexts.{text_or_is}

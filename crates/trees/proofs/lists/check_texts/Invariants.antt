@@ -1,5 +1,4 @@
-use Rattle.std.proofs.Common.{drop}
-use Rattle.std.specs.Prelude.{◌↔◌}
+use Rattle.std.proofs.Common.{drop, ◌↔◌}
 use Rattle.trees.proofs.OutlinesBack.{AreKeptItems}
 use Rattle.trees.proofs.lists.check_texts.Given as goal
 

@@ -1,11 +1,5 @@
-use Rattle.std.proofs.Common.{◌≡◌, ◌++◌, List, ℕ, true, string_bytes, refl, sym, subst, rules}
-use Rattle.std.proofs.lemmas.Result.{IfOk-weaker}
-use Rattle.std.specs.List.{AllByRecursion}
-use Rattle.ptree.specs.Outline.{Line, outline}
+use Rattle.trees.proofs.Common.{◌≡◌, ◌++◌, List, ℕ, true, string_bytes, refl, sym, subst, rules, IfOk-weaker, AllByRecursion, Line, outline, escaped_text, mapped_tree, IsLineText, AreLineTexts, IsIndentedForm, Form}
 use Rattle.ptree.specs.Tree.{Tree, tree_of}
-use Rattle.ptree_trees.specs.Escape.{escaped_text, mapped_tree}
-use Rattle.ptree_trees.specs.Indented.{IsLineText, AreLineTexts, IsIndentedForm}
-use Rattle.ptree_trees.specs.declared.indented.Form.{Form}
 use Rattle.trees.specs.Writing.{IsShownForm}
 use Rattle.trees.proofs.lists.escaped_form.Goals as goal
 

@@ -1,7 +1,4 @@
-use Rattle.std.proofs.Common.{◌∙◌, ap}
-use Rattle.std.proofs.lemmas.Iterator.Consumers.{YieldsList-end}
-use Rattle.std.proofs.lemmas.Iterator.Splits.{YieldsList-from_lines}
-use Rattle.std.specs.Prelude.{filter}
+use Rattle.trees.proofs.Common.{◌∙◌, ap, filter, YieldsList-end, YieldsList-from_lines}
 use Rattle.trees.specs.Outlining.{is_filled}
 use Rattle.trees.proofs.lists.filled_lines.Goals as goal
 

@@ -1,5 +1,4 @@
-use Rattle.std.proofs.Common.{◌≡◌, map}
-use Rattle.std.specs.Prelude.{filter}
+use Rattle.std.proofs.Common.{◌≡◌, map, filter}
 use Rattle.trees.specs.Outlining.{is_filled}
 use Rattle.trees.proofs.lists.filled_lines.Given as goal
 

@@ -1,7 +1,4 @@
-use Rattle.std.proofs.Common.{◌≡◌, ◌∙◌, ℕ, true, false, List, [], get_or, map, sym, rules}
-use Rattle.std.proofs.lemmas.List.{at_drop_all}
-use Rattle.std.specs.Borrow.{Bor}
-use Rattle.ptree_trees.specs.Indented.{begins_blank}
+use Rattle.trees.proofs.Common.{◌≡◌, ◌∙◌, ℕ, true, false, List, [], get_or, map, sym, rules, Bor, at_drop_all, begins_blank}
 use Rattle.trees.specs.Outlining.{line_indent, first_indent}
 use Rattle.trees.proofs.Outlines.{indent_here, indent_later}
 use Rattle.trees.proofs.lists.first_indent.Goals as goal

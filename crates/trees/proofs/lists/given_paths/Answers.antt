@@ -1,7 +1,4 @@
-use Rattle.std.proofs.Common.{◌≡◌, ℕ, true, false, eqb, List, [], ◌∷◌, ◌++◌, length, get_or, map, subst, rules}
-use Rattle.std.proofs.lemmas.List.{take_all}
-use Rattle.std.specs.Borrow.{Bor}
-use Rattle.ptree_trees.specs.Paths.{names_of}
+use Rattle.trees.proofs.Common.{◌≡◌, ℕ, true, false, eqb, List, [], ◌∷◌, ◌++◌, length, get_or, map, subst, rules, take_all, Bor, names_of}
 use Rattle.trees.specs.Listing.{given_paths, path_names}
 use Rattle.trees.specs.ListingParts.{own_names}
 use Rattle.trees.proofs.GivenPaths.{given_more, given_same}

@@ -1,5 +1,4 @@
-use Rattle.std.proofs.Common.{◌≡◌, map, take}
-use Rattle.ptree_trees.specs.Paths.{names_of}
+use Rattle.trees.proofs.Common.{◌≡◌, map, take, names_of}
 use Rattle.trees.specs.Listing.{given_paths}
 use Rattle.trees.proofs.lists.given_paths.Given as goal
 

@@ -1,6 +1,4 @@
-use Rattle.std.proofs.Common.{◌≡◌, [], ap, Err, string_bytes, rules}
-use Rattle.ptree.specs.Tree.{tree_of}
-use Rattle.ptree_trees.specs.declared.indented.Form.{Form}
+use Rattle.trees.proofs.Common.{◌≡◌, [], ap, Err, string_bytes, rules, tree_of, Form}
 use Rattle.trees.specs.Outlining.{text_or, LosesText}
 use Rattle.trees.proofs.EscapedLines.{shown_texts}
 use Rattle.trees.proofs.OutlineTexts.{text_or_is}

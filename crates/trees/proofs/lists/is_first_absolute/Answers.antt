@@ -1,6 +1,4 @@
-use Rattle.std.proofs.Common.{◌≡◌, ◌∙◌, ℕ, true, false, eqb, List, [], length, get_or, map, sym, rules}
-use Rattle.std.proofs.lemmas.List.{at_drop_all}
-use Rattle.std.specs.Borrow.{Bor}
+use Rattle.trees.proofs.Common.{◌≡◌, ◌∙◌, ℕ, true, false, eqb, List, [], length, get_or, map, sym, rules, Bor, at_drop_all}
 use Rattle.trees.specs.Listing.{is_absolute}
 use Rattle.trees.specs.ListingParts.{is_first_absolute}
 use Rattle.trees.proofs.Listings.{first_here, first_later}

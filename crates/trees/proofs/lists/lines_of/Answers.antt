@@ -1,7 +1,4 @@
-use Rattle.std.proofs.Common.{◌≡◌, ◌∙◌, ℕ, Bool, List, IfOk, map, ap, sym, subst}
-use Rattle.std.proofs.lemmas.Iterator.Consumers.{YieldsList-end}
-use Rattle.std.proofs.lemmas.Iterator.Splits.{YieldsList-from_lines}
-use Rattle.std.specs.Borrow.{Bor}
+use Rattle.trees.proofs.Common.{◌≡◌, ◌∙◌, ℕ, Bool, List, IfOk, map, ap, sym, subst, Bor, YieldsList-end, YieldsList-from_lines}
 use Rattle.trees.specs.Listing.{path_lines}
 use Rattle.trees.proofs.lists.lines_of.Goals as goal
 

@@ -1,9 +1,5 @@
-use Rattle.std.proofs.Common.{◌≡◌, ◌∙◌, ℕ, List, map, sym, rules}
-use Rattle.std.proofs.lemmas.Bool.{false≢true}
-use Rattle.std.proofs.lemmas.Result.{IfOk-weaker, IfErr-weaker}
-use Rattle.std.specs.Borrow.{Bor}
+use Rattle.trees.proofs.Common.{◌≡◌, ◌∙◌, ℕ, List, map, sym, rules, Bor, false≢true, IfOk-weaker, IfErr-weaker, Form}
 use Rattle.ptree.specs.Tree.{Tree, tree_of}
-use Rattle.ptree_trees.specs.declared.indented.Form.{Form}
 use Rattle.trees.specs.Outlining.{text_of_lines, labelled_lines, IsFormWithin, HoldsOutline, HoldsNoOtherOutline, FailsToOutline}
 use Rattle.trees.specs.Reading.{FailsToMake}
 use Rattle.trees.proofs.Outlines.{form_is, IsTextOf, text_is, within_held, held_within, outline_fails, form_fails}

@@ -1,7 +1,4 @@
-use Rattle.std.proofs.Common.{◌∙◌, ℕ, List, lit<, map, ap}
-use Rattle.std.proofs.lemmas.Iterator.Consumers.{YieldsList-end}
-use Rattle.std.proofs.lemmas.Iterator.Splits.{YieldsList-from_str_split}
-use Rattle.std.specs.Borrow.{Bor}
+use Rattle.trees.proofs.Common.{◌∙◌, ℕ, List, lit<, map, ap, Bor, YieldsList-end, YieldsList-from_str_split}
 use Rattle.trees.proofs.lists.parts_of.Goals as goal
 
 pub returns : goal.returns

@@ -1,7 +1,5 @@
-use Rattle.std.proofs.Common.{◌≡◌, ◌∙◌, ℕ, true, false, List, map, ap, sym, subst, rules}
-use Rattle.std.specs.Borrow.{Bor}
+use Rattle.trees.proofs.Common.{◌≡◌, ◌∙◌, ℕ, true, false, List, map, ap, sym, subst, rules, Bor, names_of}
 use Rattle.ptree.specs.Tree.{Tree, tree_of}
-use Rattle.ptree_trees.specs.Paths.{names_of}
 use Rattle.trees.specs.Listing.{source_lines, path_lines, given_paths, are_wrong, root_text, IsFolders}
 use Rattle.trees.specs.ListingParts.{is_first_absolute, beside, are_wrong_lines}
 use Rattle.trees.proofs.Listings.{wrong_lines, listing, stands}

@@ -1,6 +1,4 @@
-use Rattle.std.proofs.Common.{◌≡◌, ◌++◌, ℕ, List, [], map, subst, string_bytes, rules}
-use Rattle.std.proofs.lemmas.List.{take_all}
-use Rattle.std.specs.Borrow.{Bor}
+use Rattle.std.proofs.Common.{◌≡◌, ◌++◌, ℕ, List, [], map, subst, string_bytes, rules, take_all, Bor}
 use Rattle.trees.specs.Outlining.{text_of_lines}
 use Rattle.trees.proofs.Outlines.{text_more}
 use Rattle.trees.proofs.lists.push_lines.Goals as goal

@@ -1,7 +1,4 @@
-use Rattle.std.proofs.Common.{Bool, false, IfOk, string_bytes, sym, refl, subst}
-use Rattle.std.proofs.lemmas.Result.{IfOk-weaker}
-use Rattle.ptree.specs.Tree.{tree_of}
-use Rattle.ptree_trees.specs.Indented.{IsIndentedForm}
+use Rattle.trees.proofs.Common.{Bool, false, IfOk, string_bytes, sym, refl, subst, IfOk-weaker, tree_of, IsIndentedForm}
 use Rattle.trees.specs.Writing.{IsShownForm, AreShownTexts}
 use Rattle.trees.proofs.lists.shown_form.Goals as goal
 

@@ -1,5 +1,4 @@
-use Rattle.std.proofs.Common.{◌≡◌, ◌∙◌, ℕ, List, [], ◌∷◌, ap, sym, arith, rules}
-use Rattle.ptree_trees.specs.Paths.{names}
+use Rattle.trees.proofs.Common.{◌≡◌, ◌∙◌, ℕ, List, [], ◌∷◌, ap, sym, arith, rules, names}
 use Rattle.trees.specs.Listing.{from_first}
 use Rattle.trees.proofs.PathNames.{skip_start, behind_shorter, start_done}
 use Rattle.trees.proofs.lists.without_start.Goals as goal

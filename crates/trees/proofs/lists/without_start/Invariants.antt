@@ -1,7 +1,6 @@
-use Rattle.std.proofs.Common.{◌≡◌, length}
+use Rattle.trees.proofs.Common.{◌≡◌, length, names}
 use denote.Text.{Utf8}
 use denote.Shadow.{shadow}
-use Rattle.ptree_trees.specs.Paths.{names}
 use Rattle.trees.specs.Listing.{from_first}
 use Rattle.trees.proofs.lists.without_start.Given as goal
 

@@ -1,5 +1,4 @@
-use Rattle.std.proofs.Common.{◌∙◌, sym}
-use Rattle.std.proofs.lemmas.Bool.{false≢true, not-false}
+use Rattle.trees.proofs.Common.{◌∙◌, sym, false≢true, not-false}
 use Rattle.trees.proofs.OutlinesBack.{kept_text, some_length}
 use Rattle.trees.proofs.lists.wrong_text.Goals.{else-is_empty-via-then-is_empty+else-not-is_line_text, then-is_empty-2, else-is_empty-2, else-is_empty-via-else-is_empty}
 use Rattle.trees.proofs.lists.wrong_text.Goals as goal

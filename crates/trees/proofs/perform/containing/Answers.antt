@@ -1,8 +1,4 @@
-use Rattle.std.proofs.Common.{rules}
-use Rattle.std.proofs.lemmas.Result.{IfOk-weaker}
-use Rattle.std.proofs.lemmas.Str.Pattern.{contains_text}
-use Rattle.ptree_trees.specs.Parts.{has_part}
-use Rattle.ptree_trees.proofs.PartTexts.{part_test}
+use Rattle.trees.proofs.Common.{rules, IfOk-weaker, contains_text, has_part, part_test}
 use Rattle.trees.proofs.perform.containing.Goals as goal
 
 pub returns : goal.returns

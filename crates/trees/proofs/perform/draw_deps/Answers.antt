@@ -1,5 +1,4 @@
-use Rattle.std.proofs.Common.{inl, inr, rules}
-use Rattle.std.specs.Prelude.{◌⊎◌}
+use Rattle.std.proofs.Common.{inl, inr, rules, ◌⊎◌}
 use Rattle.trees.specs.Asked.{drawing_value}
 use Rattle.trees.specs.Meaning.{HoldsNoGraph}
 use Rattle.trees.specs.Reading.{FailsFor}

@@ -1,6 +1,4 @@
-use Rattle.std.proofs.Common.{rules}
-use Rattle.std.specs.Prelude.{IsErr, IfErr}
-use Rattle.ptree.specs.Tree.{tree_of}
+use Rattle.trees.proofs.Common.{rules, IsErr, IfErr, tree_of}
 use Rattle.trees.specs.Writing.{IsDrawingOf, IsGiven, FailsToGive}
 use Rattle.trees.proofs.Shown.{drawing_shown, drawing_nothing}
 use Rattle.trees.proofs.Writings.{drawing_made, nothing_written, gives_memory}

@@ -1,6 +1,4 @@
-use Rattle.std.proofs.Common.{IfOk, string_bytes, rules}
-use Rattle.std.proofs.lemmas.Result.{IfErr-weaker}
-use Rattle.ptree.specs.Tree.{tree_of}
+use Rattle.trees.proofs.Common.{IfOk, string_bytes, rules, IfErr-weaker, tree_of}
 use Rattle.trees.specs.Asked.{reading_value}
 use Rattle.trees.specs.Outlining.{LosesText}
 use Rattle.trees.specs.Reading.{HoldsDrawing, HoldsNoOther, FailsFor}

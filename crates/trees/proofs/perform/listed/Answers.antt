@@ -1,6 +1,4 @@
-use Rattle.std.proofs.Common.{◌≡◌, true, inl, inr, rules}
-use Rattle.std.proofs.lemmas.Result.{IfOk-weaker, IfErr-weaker}
-use Rattle.std.specs.Prelude.{IfErr}
+use Rattle.trees.proofs.Common.{◌≡◌, true, inl, inr, rules, IfErr, IfOk-weaker, IfErr-weaker}
 use Rattle.ptree.specs.Tree.{Tree, tree_of}
 use Rattle.trees.specs.Changing.{IsKept}
 use Rattle.trees.specs.Listing.{are_wrong, source_lines, IsListed, IsWrongList, FailsToList}

@@ -1,5 +1,4 @@
-use Rattle.std.proofs.Common.{◌↔◌, ◌∙◌, List, All, IsTrue, rules, string_bytes, take, take_all, subst, sym, ◌+◌}
-use Rattle.std.proofs.lemmas.Bool.{false≢true}
+use Rattle.trees.proofs.Common.{◌↔◌, ◌∙◌, List, All, IsTrue, rules, string_bytes, take, take_all, subst, sym, ◌+◌, false≢true}
 use Rattle.trees.specs.declared.source.Source.{Source}
 use Rattle.trees.specs.Asked.{reading_value}
 use Rattle.trees.specs.Reading.{HoldsSome, IsReport, Adds}

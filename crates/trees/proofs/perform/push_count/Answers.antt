@@ -1,5 +1,4 @@
-use Rattle.std.proofs.Common.{◌≡◌, ◌++◌, List, ℕ, codes, string_bytes, rules, ap, subst}
-use Rattle.std.specs.Prelude.{decimal, OnOk}
+use Rattle.std.proofs.Common.{◌≡◌, ◌++◌, List, ℕ, codes, string_bytes, rules, ap, subst, decimal, OnOk}
 use Rattle.trees.proofs.perform.push_count.Goals as goal
 
 pub returns : goal.returns

@@ -1,5 +1,4 @@
-use Rattle.std.proofs.Common.{◌≡◌, rules, subst, sym}
-use Rattle.ptree.specs.Tree.{tree_of}
+use Rattle.trees.proofs.Common.{◌≡◌, rules, subst, sym, tree_of}
 use Rattle.trees.specs.declared.failure.Failure.TheVariants.{Memory}
 use Rattle.trees.specs.Asked.{drawing_value}
 use Rattle.trees.specs.Merging.{IsComparison, IsMergeDrawing}

@@ -1,5 +1,4 @@
-use Rattle.std.specs.Io.KnownBytes.{Appends}
-use Rattle.std.proofs.Common.{◌≡◌, [], subst, sym}
+use Rattle.trees.proofs.Common.{◌≡◌, [], subst, sym, Appends}
 use Rattle.ptree_trees.specs.Difference.{IsItemDifference}
 use Rattle.trees.specs.declared.failure.Failure.TheVariants.{Memory}
 use Rattle.trees.specs.Asked.{drawing_value, reading_value}

@@ -1,6 +1,4 @@
-use Rattle.std.proofs.Common.{IfOk, sym, subst}
-use Rattle.std.specs.Prelude.{IfErr}
-use Rattle.ptree.specs.Tree.{tree_of}
+use Rattle.trees.proofs.Common.{IfOk, sym, subst, IfErr, tree_of}
 use Rattle.trees.specs.declared.command.Tree.{Tree as Given}
 use Rattle.trees.specs.Writing.{IsGiven, FailsToGive}
 use Rattle.trees.proofs.Readings.{both_err}

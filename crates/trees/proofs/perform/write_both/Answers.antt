@@ -1,8 +1,4 @@
-use Rattle.std.specs.Io.KnownBytes.{Appends}
-use Rattle.std.proofs.Common.{◌≡◌, [], rules}
-use Rattle.std.specs.Prelude.{IsErr, IfErr}
-use Rattle.ptree.specs.Config.{config_of}
-use Rattle.ptree.specs.Tree.{tree_of}
+use Rattle.trees.proofs.Common.{◌≡◌, [], rules, IsErr, IfErr, Appends, config_of, tree_of}
 use Rattle.trees.specs.declared.failure.Failure.TheVariants.{Memory}
 use Rattle.trees.specs.Merging.{IsMergeDrawing, ShowsBoth, styled_tree_of}
 use Rattle.trees.specs.Reading.{IsWriting}

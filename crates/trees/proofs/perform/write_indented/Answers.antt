@@ -1,5 +1,4 @@
-use Rattle.std.proofs.Common.{◌≡◌, subst, sym, rules}
-use Rattle.std.specs.Prelude.{IsErr, IfErr}
+use Rattle.std.proofs.Common.{◌≡◌, subst, sym, rules, IsErr, IfErr}
 use Rattle.trees.specs.declared.failure.Failure.TheVariants.{Memory}
 use Rattle.trees.specs.Asked.{reading_value}
 use Rattle.trees.specs.Named.{IsReadableValue}

@@ -1,5 +1,4 @@
-use Rattle.std.proofs.Common.{false, rules}
-use Rattle.ptree.specs.Config.{config_of}
+use Rattle.trees.proofs.Common.{false, rules, config_of}
 use Rattle.trees.specs.Writing.{IsGraphDrawing}
 use Rattle.trees.proofs.perform.write_once.Goals as goal
 

@@ -1,5 +1,4 @@
-use Rattle.std.proofs.Common.{◌≢◌, All, get_or, subst, take_all, rules}
-use Rattle.std.proofs.lemmas.List.Elements.{All-more}
+use Rattle.trees.proofs.Common.{◌≢◌, All, get_or, subst, take_all, rules, All-more}
 use Rattle.trees.specs.declared.pieces.Pieces.TheVariants.{Utf}
 use Rattle.trees.specs.Named.{piece_name}
 use Rattle.trees.proofs.pieces.first_named.Goals as goal

@@ -1,7 +1,4 @@
-use Rattle.std.proofs.Common.{All, ◌∙◌, sym, subst, take_all}
-use Rattle.std.proofs.lemmas.Bool.{false≢true}
-use Rattle.std.proofs.lemmas.List.Elements.{All-more}
-use Rattle.ptree.specs.Config.{config_of}
+use Rattle.trees.proofs.Common.{All, ◌∙◌, sym, subst, take_all, false≢true, All-more, config_of}
 use Rattle.trees.specs.declared.pieces.Pieces.TheVariants.{Utf}
 use Rattle.trees.specs.Named.{IsReadWith}
 use Rattle.trees.proofs.pieces.first_reading.Goals as goal

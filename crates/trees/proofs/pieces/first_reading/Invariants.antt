@@ -1,5 +1,4 @@
-use Rattle.std.proofs.Common.{All, take}
-use Rattle.ptree.specs.Config.{config_of}
+use Rattle.trees.proofs.Common.{All, take, config_of}
 use Rattle.trees.specs.Named.{IsReadWith}
 use Rattle.trees.proofs.pieces.first_reading.Given as goal
 

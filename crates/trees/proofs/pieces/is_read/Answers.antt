@@ -1,6 +1,4 @@
-use Rattle.std.proofs.Common.{rules}
-use Rattle.ptree.specs.Config.{config_of}
-use Rattle.ptree.specs.Drawing.{written_look}
+use Rattle.trees.proofs.Common.{rules, config_of, written_look}
 use Rattle.ptree.proofs.Reading.Scanning.{wrong_line_no_drawing}
 use Rattle.trees.specs.Named.{IsReadBy}
 use Rattle.trees.proofs.pieces.is_read.Goals as goal

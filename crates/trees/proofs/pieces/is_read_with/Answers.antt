@@ -1,5 +1,4 @@
-use Rattle.std.proofs.Common.{◌≡◌, ◌↔◌, ◌∙◌, IfOk, IsTrue, Some, ap, sym, subst, rules}
-use Rattle.ptree.specs.Config.{ConfigValue, config_of}
+use Rattle.trees.proofs.Common.{◌≡◌, ◌↔◌, ◌∙◌, IfOk, IsTrue, Some, ap, sym, subst, rules, ConfigValue, config_of}
 use Rattle.trees.specs.Asked.{pieces_value, with_own, with_pieces}
 use Rattle.trees.specs.Named.{IsReadBy, IsUnreadBy}
 use Rattle.trees.proofs.pieces.is_read_with.Goals as goal

@@ -1,5 +1,4 @@
-use Rattle.std.proofs.Common.{rules}
-use Rattle.ptree.specs.Config.{config_of}
+use Rattle.trees.proofs.Common.{rules, config_of}
 use Rattle.trees.specs.Named.{IsReadWith}
 use Rattle.trees.proofs.Named.{none_tried}
 use Rattle.trees.proofs.pieces.reading.Goals as goal

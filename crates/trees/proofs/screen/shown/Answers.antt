@@ -1,7 +1,5 @@
-use Rattle.std.proofs.Common.{ap, flat_map, map-id, string_bytes, sym, ◌∙◌}
+use Rattle.trees.proofs.Common.{ap, flat_map, map-id, string_bytes, sym, ◌∙◌, encode_utf8_all, YieldsList-end}
 use Rattle.std.proofs.lemmas.Iterator.{YieldsList-from_chars}
-use Rattle.std.proofs.lemmas.Iterator.Consumers.{YieldsList-end}
-use Rattle.std.specs.Str.{encode_utf8_all}
 use Rattle.ptree_trees.proofs.Escapes.{char_pushed}
 use Rattle.trees.specs.Shown.{shown_char}
 use Rattle.trees.proofs.screen.shown.Goals as goal

@@ -1,5 +1,4 @@
-use Rattle.std.proofs.Common.{◌≡◌, flat_map, string_bytes}
-use Rattle.std.specs.Str.{encode_utf8_all}
+use Rattle.std.proofs.Common.{◌≡◌, flat_map, string_bytes, encode_utf8_all}
 use Rattle.trees.specs.Shown.{shown_char}
 use Rattle.trees.proofs.screen.shown.Given as goal
 

@@ -1,5 +1,4 @@
-use Rattle.std.proofs.Common.{◌∙◌, ap, not, eqb, length, rules}
-use Rattle.std.specs.Prelude.{is_some}
+use Rattle.std.proofs.Common.{◌∙◌, ap, not, eqb, length, rules, is_some}
 use Rattle.trees.proofs.Told.{some_first}
 use Rattle.trees.proofs.settings.describe.Goals as goal
 

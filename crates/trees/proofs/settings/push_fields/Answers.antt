@@ -1,8 +1,6 @@
-use Rattle.std.proofs.Common.{List, get_or, string_bytes, subst, take_all}
-use Rattle.std.proofs.lemmas.List.{get_or_default}
+use Rattle.trees.proofs.Common.{List, get_or, string_bytes, subst, take_all, get_or_default, config_of}
 use Rattle.ptree.specs.declared.print_config.fields.Field.{Field}
 use Rattle.ptree.specs.declared.print_config.fields.Field.TheVariants.{Depth}
-use Rattle.ptree.specs.Config.{config_of}
 use Rattle.trees.specs.Reading.{Adds}
 use Rattle.trees.specs.Settings.{IsSettingLine}
 use Rattle.trees.proofs.Reports.{adds_nothing, adds_next}

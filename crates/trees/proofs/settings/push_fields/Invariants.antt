@@ -1,5 +1,4 @@
-use Rattle.std.proofs.Common.{take, string_bytes}
-use Rattle.ptree.specs.Config.{config_of}
+use Rattle.trees.proofs.Common.{take, string_bytes, config_of}
 use Rattle.trees.specs.Reading.{Adds}
 use Rattle.trees.specs.Settings.{IsSettingLine}
 use Rattle.trees.proofs.settings.push_fields.Given as goal

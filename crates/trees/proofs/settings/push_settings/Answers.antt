@@ -1,8 +1,5 @@
-use Rattle.std.proofs.Common.{◌≡◌, string_bytes, subst, rules}
-use Rattle.std.specs.Prelude.{OnOk}
-use Rattle.ptree.specs.Config.{ConfigValue, config_of}
+use Rattle.trees.proofs.Common.{◌≡◌, string_bytes, subst, rules, OnOk, ConfigValue, config_of, effective_config}
 use Rattle.ptree.specs.Fields.{all_fields}
-use Rattle.ptree.specs.Loading.{effective_config}
 use Rattle.trees.specs.Reading.{Adds}
 use Rattle.trees.specs.Settings.{IsSettingLine}
 use Rattle.trees.proofs.settings.push_settings.Goals as goal

@@ -1,8 +1,5 @@
-use Rattle.std.proofs.Common.{◌≡◌, ◌≢◌, ◌<◌, ◌≤◌, ◌⊎◌, ◌∙◌, ℕ, true, false, List, Ok, Err, length, get_or, string_bytes, ap, sym, subst, arith, rules}
-use Rattle.std.proofs.lemmas.Bool.{false≢true}
-use Rattle.std.proofs.lemmas.List.{get_or_default}
+use Rattle.trees.proofs.Common.{◌≡◌, ◌≢◌, ◌<◌, ◌≤◌, ◌⊎◌, ◌∙◌, ℕ, true, false, List, Ok, Err, length, get_or, string_bytes, ap, sym, subst, arith, rules, false≢true, get_or_default, StringItem, out-StringItem}
 use Rattle.std.specs.List.Sorted.{IsBinarySearchResult, IsSearchInRange}
-use Rattle.ptree.specs.declared.item.StringItem.{StringItem, out-StringItem}
 use Rattle.trees.specs.MergingParts.{Place, place_cmp, HasPlaces, IsFoundAt, LacksText}
 use Rattle.trees.proofs.MergePlaces.{text_there, EndsAt, found_place, found_none}
 use Rattle.trees.proofs.compare.Places.next_with.Goals.{After-deref-2, then-is_empty+in_ok-self, else-is_empty, in-Ok, in-Ok-2}

@@ -1,6 +1,5 @@
-use Rattle.std.proofs.Common.{◌∙◌, ap}
+use Rattle.trees.proofs.Common.{◌∙◌, ap, begins_with}
 use Rattle.std.specs.Str.{trim_start}
-use Rattle.ptree_trees.specs.Parts.{begins_with}
 use Rattle.trees.proofs.NameParts.{starts_is}
 use Rattle.trees.proofs.deps.forms.begins_as.Goals as goal
 

@@ -1,7 +1,4 @@
-use Rattle.std.proofs.Common.{◌∙◌, ap, sym, rules}
-use Rattle.std.proofs.lemmas.Iterator.Consumers.{YieldsList-end, YieldsList-turn}
-use Rattle.std.proofs.lemmas.Iterator.Splits.{YieldsList-from_lines}
-use Rattle.std.specs.List.{list_any}
+use Rattle.trees.proofs.Common.{◌∙◌, ap, sym, rules, YieldsList-end, YieldsList-turn, YieldsList-from_lines, list_any}
 use Rattle.trees.specs.Depending.{source_text, is_other_line}
 use Rattle.trees.proofs.OtherFiles.{none_more, other_lined, other_named, own_file}
 use Rattle.trees.proofs.deps.forms.form_not_read.Goals as goal

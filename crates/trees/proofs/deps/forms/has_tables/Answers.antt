@@ -1,9 +1,5 @@
-use Rattle.std.proofs.Common.{◌≡◌, ◌∙◌, ◌||◌, List, ℕ, Bool, None, codes, sym, ap, rules}
-use Rattle.std.proofs.lemmas.Str.Pattern.{contains_text}
-use Rattle.std.specs.Prelude.{MatchBool}
+use Rattle.trees.proofs.Common.{◌≡◌, ◌∙◌, ◌||◌, List, ℕ, Bool, None, codes, sym, ap, rules, MatchBool, contains_text, has_part, part_test}
 use Rattle.std.specs.Str.Pattern.{FindsText, HasMatch}
-use Rattle.ptree_trees.specs.Parts.{has_part}
-use Rattle.ptree_trees.proofs.PartTexts.{part_test}
 use Rattle.trees.specs.Depending.{source_text}
 use Rattle.trees.proofs.deps.forms.has_tables.Goals as goal
 

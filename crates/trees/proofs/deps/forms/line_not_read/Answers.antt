@@ -1,6 +1,4 @@
-use Rattle.std.proofs.Common.{◌≡◌, ◌∙◌, false, codes, sym}
-use Rattle.std.proofs.lemmas.Bool.{false≢true}
-use Rattle.ptree_trees.specs.Parts.{begins_with}
+use Rattle.trees.proofs.Common.{◌≡◌, ◌∙◌, false, codes, sym, false≢true, begins_with}
 use Rattle.trees.proofs.NameParts.{starts_is}
 use Rattle.trees.proofs.deps.forms.line_not_read.Goals as goal
 use Rattle.trees.proofs.deps.forms.line_not_read.Goals.{then-starts_with-2, else-starts_with-2}

@@ -1,6 +1,4 @@
-use Rattle.std.proofs.Common.{◌≡◌, ◌≤◌, ◌<◌, ◌++◌, ◌∙◌, length, get_or, map, string_bytes, ap, subst, rules}
-use Rattle.std.proofs.lemmas.List.{take_all}
-use Rattle.ptree.specs.Graph.{numbers_of, weights_of, LacksNode}
+use Rattle.trees.proofs.Common.{◌≡◌, ◌≤◌, ◌<◌, ◌++◌, ◌∙◌, length, get_or, map, string_bytes, ap, subst, rules, take_all, numbers_of, weights_of, LacksNode}
 use Rattle.trees.specs.Shown.{shown_text}
 use Rattle.trees.specs.DependingParts.{labels_of}
 use Rattle.std.specs.Prelude.{⊤, Any}

@@ -1,5 +1,4 @@
-use Rattle.std.proofs.Common.{◌≡◌, true, [], map, string_bytes, take}
-use Rattle.ptree.specs.Graph.{edges_of, weights_of}
+use Rattle.trees.proofs.Common.{◌≡◌, true, [], map, string_bytes, take, edges_of, weights_of}
 use Rattle.trees.specs.Shown.{shown_text, AreShownLabels}
 use Rattle.trees.proofs.deps.network.graph.Given as goal
 

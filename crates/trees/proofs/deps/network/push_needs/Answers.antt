@@ -1,5 +1,4 @@
-use Rattle.std.proofs.Common.{map, subst}
-use Rattle.std.proofs.lemmas.List.{take_all}
+use Rattle.std.proofs.Common.{map, subst, take_all}
 use Rattle.trees.specs.Depending.{ends}
 use Rattle.trees.specs.DependingParts.{HasNeeds}
 use Rattle.trees.proofs.Networks.{need_more, no_needs}

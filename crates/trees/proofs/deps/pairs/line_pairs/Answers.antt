@@ -1,7 +1,5 @@
-use Rattle.std.proofs.Common.{◌∙◌, ℕ, List, ap}
+use Rattle.trees.proofs.Common.{◌∙◌, ℕ, List, ap, string_bytes, YieldsList-from_lines}
 use Rattle.std.proofs.lemmas.Iterator.Consumers.{YieldsList-from_enumerate, YieldsList-turn, YieldsList-end}
-use Rattle.std.proofs.lemmas.Iterator.Splits.{YieldsList-from_lines}
-use Rattle.std.specs.Prelude.{string_bytes}
 use Rattle.trees.specs.Depending.{HoldsPairs}
 use Rattle.trees.specs.Listing.{unmarked}
 use Rattle.trees.specs.DependingParts.{found_words}

@@ -1,6 +1,4 @@
-use Rattle.std.proofs.Common.{◌∙◌, [], ◌∷◌, ap}
-use Rattle.std.proofs.lemmas.List.{take_all}
-use Rattle.std.specs.Prelude.{flat_map}
+use Rattle.std.proofs.Common.{◌∙◌, [], ◌∷◌, ap, take_all, flat_map}
 use Rattle.trees.proofs.SortedWords.{names_are}
 use Rattle.trees.proofs.deps.pairs.names.Goals as goal
 

@@ -1,5 +1,4 @@
-use Rattle.std.proofs.Common.{◌≡◌, [], ◌∷◌, take}
-use Rattle.std.specs.Prelude.{flat_map}
+use Rattle.std.proofs.Common.{◌≡◌, [], ◌∷◌, take, flat_map}
 use Rattle.trees.proofs.deps.pairs.names.Given as goal
 
 -- the words of the pairs so far

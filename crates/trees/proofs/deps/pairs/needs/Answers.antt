@@ -1,5 +1,4 @@
-use Rattle.std.proofs.Common.{◌≡◌, true, List, [], ℕ, ◌+◌, get_or, map, take, sym, subst, rules}
-use Rattle.std.specs.Borrow.{Bor}
+use Rattle.std.proofs.Common.{◌≡◌, true, List, [], ℕ, ◌+◌, get_or, map, take, sym, subst, rules, Bor}
 use Rattle.trees.specs.Depending.{ends, is_need, needs_between}
 use Rattle.trees.specs.DependingParts.{texts_of}
 use Rattle.trees.proofs.Networks.{turn_same, turn_more}

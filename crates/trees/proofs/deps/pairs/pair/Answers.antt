@@ -1,7 +1,4 @@
-use Rattle.std.proofs.Common.{◌≡◌, ◌∙◌, ℕ, true, false, List, ◌∷◌, codes, ap, sym, rules}
-use Rattle.std.proofs.lemmas.Slice.Eq.{bytes_eq-Decides}
-use Rattle.std.proofs.lemmas.Str.{encodes-chars}
-use Rattle.std.specs.Str.{bytes_eq, chars}
+use Rattle.trees.proofs.Common.{◌≡◌, ◌∙◌, ℕ, true, false, List, ◌∷◌, codes, ap, sym, rules, bytes_eq, chars, bytes_eq-Decides, encodes-chars}
 use Rattle.trees.specs.DependingParts.{are_no_pair}
 use Rattle.trees.proofs.LineWords.{comment_words, first_word, no_words, one_word, only_two, more_words, spelled_words}
 use Rattle.trees.proofs.deps.pairs.pair.Goals as goal

@@ -1,6 +1,5 @@
-use Rattle.std.proofs.Common.{◌≡◌, ◌∙◌, codes, eqb-true, sym, rules}
+use Rattle.trees.proofs.Common.{◌≡◌, ◌∙◌, codes, eqb-true, sym, rules, begins_with}
 use Rattle.std.proofs.lemmas.Bool.{eqb-false}
-use Rattle.ptree_trees.specs.Parts.{begins_with}
 use Rattle.trees.proofs.NameParts.{starts_is, strip_is, version_more, version_other, version_same}
 use Rattle.trees.proofs.deps.root.is_version.Goals as goal
 

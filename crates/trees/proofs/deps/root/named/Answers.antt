@@ -1,5 +1,4 @@
-use Rattle.std.proofs.Common.{◌≡◌, ◌≢◌, true, length, map, rules}
-use Rattle.ptree.specs.declared.graph.NodeIndex.{NodeIndex}
+use Rattle.trees.proofs.Common.{◌≡◌, ◌≢◌, true, length, map, rules, NodeIndex}
 use Rattle.trees.specs.DependingParts.{labels_of, meant_nodes, paths_of}
 use Rattle.trees.proofs.Roots.{named_whole, unnamed_whole, named_parts, unnamed_parts}
 use Rattle.trees.proofs.deps.root.named.Goals as goal

@@ -1,6 +1,5 @@
-use Rattle.std.proofs.Common.{◌≡◌, ◌≤◌, ◌<◌, ◌∙◌, ◌+◌, length, get_or, string_bytes, refl, sym, ap, subst, arith}
+use Rattle.trees.proofs.Common.{◌≡◌, ◌≤◌, ◌<◌, ◌∙◌, ◌+◌, length, get_or, string_bytes, refl, sym, ap, subst, arith, length-map}
 use Rattle.std.proofs.Math.ListN.{get_or-map}
-use Rattle.std.proofs.lemmas.List.{length-map}
 use Rattle.trees.specs.DependingParts.{labels_of, paths_of, is_meant}
 use Rattle.trees.proofs.Roots.{AreNodes, nodes_push, nodes_same, nodes_all}
 use Rattle.trees.proofs.deps.root.nodes.Goals as goal

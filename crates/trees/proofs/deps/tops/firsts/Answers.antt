@@ -1,5 +1,4 @@
-use Rattle.std.proofs.Common.{◌≡◌, ◌∙◌, ◌+◌, not, false, true, get_or, length, set, sym, ap, subst, rules}
-use Rattle.std.proofs.lemmas.Bool.{not-true, not-false}
+use Rattle.trees.proofs.Common.{◌≡◌, ◌∙◌, ◌+◌, not, false, true, get_or, length, set, sym, ap, subst, rules, not-true, not-false}
 use Rattle.std.proofs.lemmas.List.{with_items_is}
 use Rattle.std.specs.Vec.{with_items}
 use Rattle.trees.specs.DependingParts.{labels_of, Reaches}

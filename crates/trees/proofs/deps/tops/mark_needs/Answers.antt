@@ -1,13 +1,8 @@
-use Rattle.std.proofs.Common.{◌≡◌, ◌∙◌, ℕ, true, get_or, map, sym, ap, ap₂, subst, arith, rules}
-use Rattle.std.proofs.lemmas.Bool.{not-true, not-false}
-use Rattle.std.proofs.lemmas.List.{map_push}
+use Rattle.trees.proofs.Common.{◌≡◌, ◌∙◌, ℕ, true, get_or, map, sym, ap, ap₂, subst, arith, rules, Bor, filter, not-true, not-false, map_push, map_twice}
 use Rattle.std.proofs.lemmas.Map.Iter.{iter_end}
-use Rattle.std.specs.Borrow.{Bor}
 use Rattle.std.specs.BTreeMap.Range.{range_contains}
 use Rattle.std.specs.Map.Iter.{deref}
-use Rattle.std.specs.Prelude.{filter}
 use Rattle.std.specs.declared.ops.Bound.TheVariants.{Included}
-use Rattle.ptree.proofs.Trees.ItemTrees.{map_twice}
 use Rattle.trees.specs.DependingParts.{edge_cmp}
 use Rattle.trees.proofs.Marks.{MarksAll, marks_none, marks_new, marks_same}
 use Rattle.trees.proofs.Reached.{edges_from, needs_marked}

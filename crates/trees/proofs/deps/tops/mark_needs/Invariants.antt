@@ -1,5 +1,4 @@
-use Rattle.std.proofs.Common.{ℕ, map}
-use Rattle.std.specs.Borrow.{Bor}
+use Rattle.std.proofs.Common.{ℕ, map, Bor}
 use Rattle.trees.proofs.Marks.{MarksAll}
 use Rattle.trees.proofs.deps.tops.mark_needs.Given as goal
 

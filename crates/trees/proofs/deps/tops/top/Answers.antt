@@ -1,5 +1,4 @@
-use Rattle.std.proofs.Common.{◌≢◌, ◌≤◌, ◌++◌, ◌∙◌, List, ℕ, length, map, take, ap, subst, rules}
-use Rattle.std.proofs.lemmas.List.{take_all}
+use Rattle.std.proofs.Common.{◌≢◌, ◌≤◌, ◌++◌, ◌∙◌, List, ℕ, length, map, take, ap, subst, rules, take_all}
 use Rattle.trees.specs.DependingParts.{labels_of, needs_of}
 use Rattle.trees.proofs.Roots.{stands_above}
 use Rattle.trees.proofs.deps.tops.top.Goals as goal

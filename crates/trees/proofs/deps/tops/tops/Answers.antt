@@ -1,6 +1,4 @@
-use Rattle.std.proofs.Common.{◌≡◌, ◌<◌, ◌∙◌, length, ap, subst, sym, rules}
-use Rattle.std.proofs.lemmas.List.Sorted.{All-permutation}
-use Rattle.std.specs.Prelude.{All, Contains}
+use Rattle.trees.proofs.Common.{◌≡◌, ◌<◌, ◌∙◌, length, ap, subst, sym, rules, All, Contains, All-permutation}
 use Rattle.trees.specs.DependingParts.{labels_of, AreFirsts}
 use Rattle.trees.proofs.Tops.{firsts_below, keys_within, tops_are}
 use Rattle.trees.proofs.deps.tops.tops.Goals as goal

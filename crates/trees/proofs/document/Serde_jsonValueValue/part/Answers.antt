@@ -1,6 +1,5 @@
-use Rattle.std.proofs.Common.{◌∙◌, option_map, sym, ap}
+use Rattle.trees.proofs.Common.{◌∙◌, option_map, sym, ap, json}
 use Rattle.serde_json.specs.View.{view}
-use Rattle.ptree.specs.File.{json}
 use Rattle.trees.proofs.Parts.{at_its_key, at_said}
 use Rattle.trees.proofs.document.Serde_jsonValueValue.part.Goals as goal
 

@@ -1,6 +1,5 @@
-use Rattle.std.proofs.Common.{◌∙◌, option_map, sym, ap}
+use Rattle.trees.proofs.Common.{◌∙◌, option_map, sym, ap, toml}
 use Rattle.toml.specs.View.{view}
-use Rattle.ptree.specs.File.{toml}
 use Rattle.trees.proofs.Parts.{at_its_key, at_said}
 use Rattle.trees.proofs.document.TomlValueValue.part.Goals as goal
 

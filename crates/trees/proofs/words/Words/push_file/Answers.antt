@@ -1,9 +1,6 @@
-use Rattle.std.proofs.Common.{◌≡◌, ◌∙◌, ℕ, ◌+◌, ◌≤◌, Bool, true, false, cond, List, [], ◌∷◌, ◌++◌, codes, refl, sym, ap, subst, is_ok, arith, rules}
-use Rattle.std.proofs.lemmas.Bool.{false≢true, or_parts}
+use Rattle.trees.proofs.Common.{◌≡◌, ◌∙◌, ℕ, ◌+◌, ◌≤◌, Bool, true, false, cond, List, [], ◌∷◌, ◌++◌, codes, refl, sym, ap, subst, is_ok, arith, rules, Bor, bytes_eq, false≢true, or_parts}
 use Rattle.std.proofs.lemmas.List.Sums.{sum_by-cons, sum_by_push}
-use Rattle.std.specs.Borrow.{Bor}
 use Rattle.std.specs.List.{count_by, list_any}
-use Rattle.std.specs.Str.{bytes_eq}
 use Rattle.trees.proofs.words.Words.push_file.Goals as goal
 use Rattle.trees.proofs.words.Words.push_file.Goals.{else-eq-via-then-eq+else-contains, else-eq-via-else-eq}
 
