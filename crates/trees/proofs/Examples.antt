@@ -1,18 +1,7 @@
--- Names, indents and a first difference by computation.
-use Rattle.trees.proofs.Common.{◌≡◌, true, false, Some, [], ◌∷◌, ◌++◌, codes, refl}
-use Rattle.ptree_trees.specs.Difference.{texts_above}
-use Rattle.ptree.specs.Tree.{none, tree}
-use Rattle.std.specs.Char.{encode_utf8}
-use Rattle.std.specs.Str.{chars}
-use Rattle.trees.specs.declared.compare.Side.TheVariants.{Left, Right}
-use Rattle.trees.specs.Merging.{way_text, place_line, side_line}
-use Rattle.trees.specs.Naming.{is_labelled, version_text}
+-- Names of nodes and indents by computation.
+use Rattle.trees.proofs.Common.{◌≡◌, ℕ, zero, suc, true, false, true≢false, [], ◌∷◌, codes, inl, refl, sym}
+use Rattle.trees.specs.Naming.{is_all_of, is_labelled, version_text, IsRootNode}
 use Rattle.trees.specs.Outlining.{first_indent}
-
--- two roots
-roots : way_text (texts_above (tree (codes "a") none) []) ++ (place_line [] ++ (side_line Left (Some (codes "a")) ++ side_line Right (Some (codes "\\")))) ≡ codes "root\n- a\n+ \\\\\n"
-unfolding chars encode_utf8
-roots = refl
 
 -- the unit is a tab where the first line with blanks begins with one
 tabs : first_indent (codes "a" ∷ (9 ∷ 9 ∷ 98 ∷ []) ∷ codes "  c" ∷ []) ≡ 9 ∷ []
@@ -22,9 +11,21 @@ tabs = refl
 version_none : version_text (codes "@s/tool") ≡ []
 version_none = refl
 
+-- a source may be behind the version
+with_source : is_labelled (codes "a@1.0.0") (codes "a v1.0.0 (git+https://example.org/a)") ≡ true
+with_source = refl
+
 -- an alias has two names, and the version of one
 alias_real : is_labelled (codes "@s/real@1.0.0") (codes "al@npm:@s/real@1.0.0") ≡ true
 alias_real = refl
 
 alias_version : is_labelled (codes "al@1.0.0") (codes "al@npm:@s/real@1.0.0") ≡ false
 alias_version = refl
+
+-- a whole label comes before a part of another
+whole : IsRootNode (codes "a v1" ∷ codes "a" ∷ []) [] (codes "a") 1
+whole = inl (refl, only) where
+  only : (k : ℕ) → is_all_of (codes "a v1" ∷ codes "a" ∷ []) [] (codes "a") k ≡ true → k ≡ 1
+  only zero is = absurd (true≢false (sym is))
+  only (suc zero) is = refl
+  only (suc (suc k)) is = absurd (true≢false (sym is))
