@@ -1,7 +1,7 @@
 -- Nodes that a name means, and what stands above nodes.
-use Rattle.trees.proofs.Common.{◌≡◌, ◌≢◌, ◌∙◌, ℕ, zero, suc, ◌+◌, ◌<◌, ◌≤◌, ◌||◌, Bool, true, false, cond, List, [], ◌∷◌, ◌++◌, length, get_or, map, inl, inr, refl, sym, ap, subst, All, Contains, Option, filter, option_map, unwrap_or, Result, IfOk, IfErr, bytes_eq, arith, cases_eq, cond-false, cond-true, false≢true, false_from_ne_true, All-head, filter-append, filter_passes, slice_get_read, IfOk-weaker, IfErr-weaker, NodeIndex}
+use Rattle.trees.proofs.Common.{◌≡◌, ◌≢◌, ◌∙◌, ℕ, zero, suc, ◌+◌, ◌<◌, ◌≤◌, ◌||◌, Bool, true, false, cond, List, [], ◌∷◌, ◌++◌, length, get_or, map, inl, inr, refl, sym, ap, subst, All, Contains, Option, filter, option_map, unwrap_or, Result, IfOk, IfErr, bytes_eq, arith, cases_eq, cond-false, cond-true, false≢true, false_from_ne_true, All-head, filter_passes, slice_get_read, IfOk-weaker, IfErr-weaker, NodeIndex}
 use Rattle.std.proofs.lemmas.List.{append-nil, length-map, map-append, map-id, nil_from_length}
-use Rattle.std.proofs.lemmas.List.FromFn.{get_or-range_with_len, length-range_with_len, map-range_with_len_more}
+use Rattle.std.proofs.lemmas.List.FromFn.{get_or-range_with_len, length-range_with_len, filter_of_map_range_with_len_more}
 use Rattle.std.specs.List.{range_with_len}
 use Rattle.trees.specs.declared.failure.Failure.{Failure}
 use Rattle.trees.specs.Depending.{StandsAbove}
@@ -13,14 +13,12 @@ use Rattle.trees.proofs.Readings.{fails_weaker}
 
 -- ## Numbers that pass a test
 
--- one number more
-range_more : (n : ℕ) → range_with_len 0 (n + 1) ≡ range_with_len 0 n ++ n ∷ []
-range_more n = sym (map-id (range_with_len 0 (n + 1))) ∙ (map-range_with_len_more (λ k. k) 0 n n (omega arith) ∙ ap (λ ks. ks ++ n ∷ []) (map-id (range_with_len 0 n)))
-
 module _ (test : ℕ → Bool) where
+  -- one number more
   pub passing_more : (n : ℕ) (b : Bool) → test n ≡ b → passing test (n + 1) ≡ passing test n ++ cond b (n ∷ []) []
   passing_more n b is =
-      ap (filter test) (range_more n) ∙ (filter-append test (range_with_len 0 n) (n ∷ []) ∙ ap (λ (c : Bool). passing test n ++ cond c (n ∷ []) []) is)
+      let one = filter_of_map_range_with_len_more test (λ (k : ℕ). k) 0 n n (omega arith) in
+      ap (filter test) (sym (map-id (range_with_len 0 (n + 1)))) ∙ (one ∙ (ap (λ ks. filter test ks ++ cond (test n) (n ∷ []) []) (map-id (range_with_len 0 n)) ∙ ap (λ (c : Bool). passing test n ++ cond c (n ∷ []) []) is))
 
   -- one that passes is there
   passing_has : (n k : ℕ) → k < n → test k ≡ true → Contains (passing test n) k
