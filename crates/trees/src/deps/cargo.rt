@@ -1,7 +1,8 @@
 //! Lock files of Cargo and uv: `Cargo.lock` and `uv.lock`.
 
 use crate::deps::Refusal;
-use crate::deps::tables::{self, Package, Wanted};
+use crate::deps::tables::search::Wanted;
+use crate::deps::tables::{self, Package};
 use std::alloc::Global;
 use toml::Value;
 

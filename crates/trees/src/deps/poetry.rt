@@ -1,7 +1,8 @@
 //! Lock files of Poetry: `poetry.lock`.
 
 use crate::deps::Refusal;
-use crate::deps::tables::{Package, Wanted};
+use crate::deps::tables::Package;
+use crate::deps::tables::search::Wanted;
 use std::alloc::{AllocError, Global};
 use toml::Value;
 

@@ -1,5 +1,7 @@
 //! The packages of lock files in TOML: tables `[[package]]`.
 
+pub mod search;
+
 use crate::deps::{Packages, Refusal, cargo, poetry};
 use crate::source::behind;
 use std::alloc::{AllocError, Global};
@@ -27,14 +29,6 @@ pub struct Package<'a> {
     pub table: &'a Value,
 }
 
-/// What is known of a package that another one needs.
-#[derive(Clone, Copy)]
-pub struct Wanted<'a> {
-    pub name: &'a str,
-    pub version: Option<&'a str>,
-    pub source: Option<&'a str>,
-}
-
 /// Returns the packages of a lock file, and what they need.
 ///
 /// # Errors
@@ -49,11 +43,11 @@ pub fn packages(alloc: Global, lock: &Value) -> Result<Packages, Refusal> {
         .get("metadata")
         .is_some_and(|it| it.get("content-hash").is_some());
     let tables = tables(alloc, lock)?;
-    let names = names(alloc, &tables, is_poetry)?;
-    let mut locked = Vec::new(alloc);
-    for (table, name) in tables.iter().zip(&names) {
-        locked.push(Package::of(alloc, table, name.as_str())?)?;
+    let mut names = Vec::new(alloc);
+    if is_poetry {
+        push_normal_names(alloc, &tables, &mut names)?;
     }
+    let mut locked = locked(alloc, &tables, &names)?;
     linked(alloc, &mut locked, is_poetry)
 }
 
@@ -94,20 +88,42 @@ fn tables(alloc: Global, lock: &Value) -> Result<Vec<&Value>, Refusal> {
     Ok(tables)
 }
 
-// Returns the names of packages, those of Poetry in the form that they are compared in.
-fn names(alloc: Global, tables: &[&Value], is_poetry: bool) -> Result<Vec<String>, Refusal> {
-    let mut names = Vec::new(alloc);
+// Adds the names of packages in the form in which Poetry compares them.
+fn push_normal_names(
+    alloc: Global,
+    tables: &[&Value],
+    names: &mut Vec<String>,
+) -> Result<(), Refusal> {
     for table in tables {
-        let Some(name) = text(table, "name") else {
-            return Err(Refusal::of(alloc, &["a package has no name"]));
-        };
-        names.push(if is_poetry {
-            poetry::normal_name(alloc, name)?
-        } else {
-            String::from_str(alloc, name)?
-        })?;
+        let name = name(alloc, table)?;
+        names.push(poetry::normal_name(alloc, name)?)?;
     }
-    Ok(names)
+    Ok(())
+}
+
+// Returns the packages of tables, by the names given, or else by those in the tables.
+fn locked<'a>(
+    alloc: Global,
+    tables: &[&'a Value],
+    names: &'a [String],
+) -> Result<Vec<Package<'a>>, Refusal> {
+    let mut locked = Vec::new(alloc);
+    for (number, table) in tables.iter().enumerate() {
+        let name = match names.get(number) {
+            Some(name) => name.as_str(),
+            None => name(alloc, table)?,
+        };
+        locked.push(Package::of(alloc, table, name)?)?;
+    }
+    Ok(locked)
+}
+
+// Returns the name in a table.
+fn name<'a>(alloc: Global, table: &'a Value) -> Result<&'a str, Refusal> {
+    match text(table, "name") {
+        Some(name) => Ok(name),
+        None => Err(Refusal::of(alloc, &["a package has no name"])),
+    }
 }
 
 // Puts packages into order, and returns them as they are drawn, with what they need.
@@ -141,6 +157,14 @@ pub fn source_text(source: &Value) -> Option<&str> {
     }
 }
 
+// Returns the source in a table, or nothing.
+fn source(table: &Value) -> Option<&str> {
+    match table.get("source") {
+        Some(source) => source_text(source),
+        None => Some(""),
+    }
+}
+
 // Returns a source without the `#` and the revision at its end.
 fn without_revision(source: &str) -> &str {
     match source.split_once('#') {
@@ -155,11 +179,7 @@ impl<'a> Package<'a> {
         if table.get("replace").is_some() {
             return Err(Refusal::of(alloc, &[name, " is replaced, which is not supported"]));
         }
-        let source = match table.get("source") {
-            Some(source) => source_text(source),
-            None => Some(""),
-        };
-        let Some(source) = source else {
+        let Some(source) = source(table) else {
             return Err(Refusal::of(alloc, &["invalid source of ", name]));
         };
         let Some(version) = version(table) else {
@@ -231,57 +251,4 @@ fn labelled(alloc: Global, packages: &[Package<'_>]) -> Result<Packages, Refusal
         drawn.labels.push(package.label(alloc, has_twin)?)?;
     }
     Ok(drawn)
-}
-
-impl Wanted<'_> {
-    /// Returns the number of the package that another one wants by a name, if there is one.
-    ///
-    /// # Errors
-    ///
-    /// There are several, and memory.
-    pub fn find(
-        &self,
-        alloc: Global,
-        packages: &[Package<'_>],
-        needing: &Package<'_>,
-        need: &str,
-    ) -> Result<Option<usize>, Refusal> {
-        let start = packages.partition_point(|package| self.is_behind(package));
-        let mut found = None;
-        for number in start..packages.len() {
-            let package = &packages[number];
-            if !self.has_version(package) {
-                break;
-            }
-            if self.has_source(package) {
-                // A package in a folder has no source, so it cannot be named with one.
-                if self.version.is_some() && package.source.is_empty() {
-                    return Ok(Some(number));
-                }
-                if found.is_some() {
-                    return Err(needing.needs(alloc, need, ", of which there are several"));
-                }
-                found = Some(number);
-            }
-        }
-        Ok(found)
-    }
-
-    // Whether a package stands before those that can be wanted.
-    fn is_behind(&self, package: &Package<'_>) -> bool {
-        (package.name, package.version) < (self.name, self.version.unwrap_or(""))
-    }
-
-    // Whether a package has the name and the version that are known.
-    fn has_version(&self, package: &Package<'_>) -> bool {
-        package.name == self.name && self.version.unwrap_or(package.version) == package.version
-    }
-
-    // Whether it has the source that is known.
-    fn has_source(&self, package: &Package<'_>) -> bool {
-        match self.source {
-            Some(source) => without_revision(source) == package.origin,
-            None => true,
-        }
-    }
 }
