@@ -220,7 +220,8 @@ static uint32_t draw_into(const struct given *given, size_t call, size_t other, 
     uint32_t refusal = draw(given, call, other, *out, size, found);
     refused_in = -1;
     need_reason(given, refusal);
-    size_t written = refusal ? 0 : found->bytes;
+    /* (if memory runs out, a part of the drawing of an outline may be there) */
+    size_t written = refusal == PTREE_MEMORY ? size : refusal ? 0 : found->bytes;
     for (size_t i = written; i < size; i++) need((*out)[i] == '#', "what is behind a result was changed");
     if (size == 0) need((*out)[0] == '#', "a byte of no room was changed");
     need(!refusal || (found->bytes == 0 && found->items == 0), "a refusal has found something");

@@ -205,7 +205,8 @@ uint32_t ptree_faults(const uint8_t *file, size_t file_length, uint32_t format, 
 uint32_t ptree_is_styled(uint32_t styled, uint32_t is_standard_output, uint32_t is_terminal);
 
 /* Draws items into `out`, by a configuration. On success, `found->bytes` is the length of the whole drawing, and `found->items` the
- * number of items given. Errors: MEMORY, UTF8, LEVEL, END, NAMES, COLOR, STYLED; `out` is unchanged.
+ * number of items given. Errors: MEMORY, UTF8, LEVEL, END, NAMES, COLOR, STYLED; `out` is unchanged, but after MEMORY it may hold a part of
+ * the drawing.
  *
  * To give items styles of their own, paint their texts with ptree_paint, and leave the configuration's style of leaves plain. */
 uint32_t ptree_draw_with(const struct ptree_item *items, size_t items_count, const uint8_t *texts, size_t texts_length,
@@ -261,7 +262,8 @@ uint32_t ptree_paint(const uint8_t *text, size_t text_length, const struct ptree
                      size_t names_length, uint8_t *out, size_t out_length, struct ptree_found *found);
 
 /* Draws items into `out`, down to a depth: at 0 only the root. On success, `found->bytes` is the length of the whole drawing, and
- * `found->items` the number of items given. Errors: MEMORY, UTF8, LEVEL, PRESET, END; `out` is unchanged. */
+ * `found->items` the number of items given. Errors: MEMORY, UTF8, LEVEL, PRESET, END; `out` is unchanged, but after MEMORY it may hold a part of the
+ * drawing. */
 uint32_t ptree_draw(const struct ptree_item *items, size_t items_count, const uint8_t *texts, size_t texts_length, uint32_t preset,
                     uint32_t depth, uint8_t *out, size_t out_length, struct ptree_found *found);
 

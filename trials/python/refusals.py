@@ -2,7 +2,7 @@
 """Refuses each request for memory in each call of ptree.h in turn. PTREE_LIBRARY is the path of libptree_refusing.so.
 
 For each call and each n: the call with its n-th request refused either reports that memory ran out, and leaves everything that a result
-would go into as it was, or is done as without a refusal. The same with all requests from the n-th on refused. After each, the call holds
+would go into as it was (but for a part of the drawing of an outline), or is done as without a refusal. The same with all requests from the n-th on refused. After each, the call holds
 no block, and the same call again is done as ever. A call that reports fewer refusals than it did fails.
 """
 import ctypes
@@ -151,8 +151,8 @@ def try_call(name, given, rooms, fewest):
                 return f"request {n} refused: {held} blocks are held"
             if number == c.MEMORY:
                 reports += last == n
-                # (items that ptree_draw_steps has drawn are drawn)
-                if name != "draw_steps" and (states != untouched or rooms and found != (0, 0, 0)):
+                # (items that ptree_draw_steps has drawn are drawn, and an outline may be drawn in part)
+                if name != "draw_steps" and (name not in ("draw", "draw_with") and states != untouched or rooms and found != (0, 0, 0)):
                     return f"request {n} refused: something is written, or found"
             elif (number, found, states) != usual[:3]:
                 return f"request {n} refused: number {number}, or another result"

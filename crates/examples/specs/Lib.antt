@@ -1,3 +1,4 @@
 pub mod Escapes
+pub mod Given
 pub mod OwnTypes
 pub mod Tasks

@@ -11,6 +11,7 @@ pub mod documents;
 pub mod drawing;
 pub mod errors;
 pub mod escaping;
+pub mod giving;
 pub mod graphs;
 pub mod indenting;
 pub mod loading;

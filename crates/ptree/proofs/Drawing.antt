@@ -7,6 +7,8 @@ pub mod Overlaid
 pub mod Engine
 pub mod Drawn
 pub mod CutTrees
+pub mod GivenItems
+pub mod Standing
 pub mod Subtrees
 pub mod Laws
 pub mod Joined

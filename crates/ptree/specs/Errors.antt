@@ -8,6 +8,8 @@ use Rattle.ptree.specs.declared.builder.AddError.{AddError}
 use Rattle.ptree.specs.declared.builder.AddError.TheVariants as add
 use Rattle.ptree.specs.declared.graph.EdgeError.{EdgeError}
 use Rattle.ptree.specs.declared.graph.EdgeError.TheVariants as edge
+use Rattle.ptree.specs.declared.output.writer.ItemError.{ItemError}
+use Rattle.ptree.specs.declared.output.writer.ItemError.TheVariants as item
 use Rattle.ptree.specs.declared.print_config.characters.CharsError.{CharsError}
 use Rattle.ptree.specs.declared.print_config.characters.CharsError.TheVariants as chars
 use Rattle.ptree.specs.declared.read.ReadError.{ReadError}
@@ -29,6 +31,11 @@ IsIoError Memory told = error_kind told ≡ OutOfMemory
 abbrev pub add_kind : AddError → ErrorKind
 add_kind add.Level = InvalidInput
 add_kind add.Memory = OutOfMemory
+
+-- the error of a writer of items whose entry was not made
+abbrev pub item_error : AddError → ItemError
+item_error add.Level = item.Level
+item_error add.Memory = item.Draw Memory
 
 -- the kind of the error of refused edges
 abbrev pub edge_kind : EdgeError → ErrorKind

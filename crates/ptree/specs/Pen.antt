@@ -9,7 +9,7 @@ use Rattle.ptree.specs.Style.{start_codes}
 
 -- the look of a brush
 abbrev pub brush_look : Brush → Look
-brush_look brush = look_of brush.look.now
+brush_look brush = look_of brush.look
 
 -- the bytes in the buffer of a pen
 abbrev pub buffer_of : Pen → List ℕ

@@ -1,9 +1,10 @@
 //! What becomes which error: a refusal of memory, another error, and each of them as one of std.
 ghost use Rattle.std.specs.IoError.{error_kind};
 ghost use Rattle.std.specs.Prelude.{◌≡◌};
-ghost use Rattle.ptree.specs.Errors.{add_kind, chars_kind, convert_kind, edge_kind, read_kind, IsDocIoError};
+ghost use Rattle.ptree.specs.Errors.{add_kind, chars_kind, convert_kind, edge_kind, item_error, read_kind, IsDocIoError};
 ghost use Rattle.ptree.specs.declared.builder.AddError.TheVariants as add;
 ghost use Rattle.ptree.specs.declared.graph.EdgeError.TheVariants as edge;
+ghost use Rattle.ptree.specs.declared.output.writer.ItemError.TheVariants as item;
 ghost use Rattle.ptree.specs.declared.read.ReadError.TheVariants as read;
 ghost use Rattle.ptree.specs.declared.print_config.characters.CharsError.TheVariants as chars;
 ghost use Rattle.ptree.specs.declared.sink.DrawError.TheVariants as draw;
@@ -12,6 +13,7 @@ ghost use Rattle.ptree.specs.declared.value.document.DocError.TheVariants as doc
 
 use crate::builder::AddError;
 use crate::graph::EdgeError;
+use crate::output::ItemError;
 use crate::print_config::{CharsError, Fault};
 use crate::read::ReadError;
 use crate::sink::DrawError;
@@ -34,6 +36,25 @@ impl<T: Drop> From<AllocFailed<T>> for AddError {
 
     fn from(_e: AllocFailed<T>) -> AddError {
         AddError::Memory
+    }
+}
+
+impl From<AddError> for ItemError {
+    ghost from_gives = { λ e result. result ≡ item_error e };
+
+    fn from(e: AddError) -> ItemError {
+        match e {
+            AddError::Level => ItemError::Level,
+            AddError::Memory => ItemError::Draw(DrawError::Memory),
+        }
+    }
+}
+
+impl From<DrawError> for ItemError {
+    ghost from_gives = { λ e result. result ≡ item.Draw e };
+
+    fn from(e: DrawError) -> ItemError {
+        ItemError::Draw(e)
     }
 }
 

@@ -16,6 +16,7 @@ mod line;
 pub(crate) mod look;
 pub(crate) mod pen;
 pub(crate) mod place;
+mod writer;
 
 use crate::item::{StringItem, TreeItem};
 use crate::print_config::{OutputKind, PrintConfig, Sources};
@@ -25,6 +26,7 @@ use engine::{Drawn, Top, draw};
 pub use indent::Indent;
 use look::Look;
 use std::alloc::{AllocError, Global};
+pub use writer::{ItemError, ItemWriter};
 
 // Draws to output of a kind. `terminal` says whether standard output is a terminal.
 pub(crate) fn draw_for<D: Drawn, W: Sink>(
@@ -44,9 +46,7 @@ pub(crate) fn draw_for<D: Drawn, W: Sink>(
     ensures cause { HasCause (W.faults f.old) (W.faults f.new) result }
 {
     let look = Look::of_config(alloc, config, output_kind, terminal)?;
-    let drawn = draw(alloc, root, f, &look, config.depth);
-    drop(look);
-    drawn
+    draw(alloc, root, f, look, config.depth)
 }
 
 // Draws to output of a kind, under the configuration that sources denote.

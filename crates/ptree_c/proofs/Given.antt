@@ -1,121 +1,105 @@
 -- The items of a tree, given one by one, are drawn as the tree.
-use Rattle.std.proofs.Common.{◌≡◌, ℕ, zero, suc, ◌-◌, ◌<◌, ◌≤◌, inl, inr, Bool, true, false, not, cond, eqb, Some, None, List, [], ◌∷◌, ◌++◌, length, map, take, drop, refl, sym, ap, ◌∙◌, subst, append_assoc, arith}
+use Rattle.std.proofs.Common.{◌≡◌, ℕ, ◌-◌, ◌≤◌, Bool, true, false, cond, eqb, List, [], ◌∷◌, ◌++◌, length, map, take, drop, refl, sym, ap, ◌∙◌, subst, append_assoc, arith}
 use Rattle.std.proofs.Math.Seq.{take-append_seam}
-use Rattle.std.proofs.lemmas.Bool.{cases_lt, ne_eqb, false≢true}
-use Rattle.std.proofs.lemmas.List.{length-append, length-take-le, map-append, take-take}
-use Rattle.ptree.specs.Drawing.{Look}
-use Rattle.ptree.specs.Flags.{has_later, last_flags, pieces_by, passing_by, shown_by}
-use Rattle.ptree.specs.Outline.{Line, outline_at, Steps}
-use Rattle.ptree.specs.Pieces.{turning_piece, passing_piece, passing_all}
-use Rattle.ptree.specs.Reached.{AreWithin, lines_text}
-use Rattle.ptree.specs.Spelled.{has_line_feed, text_entry}
-use Rattle.ptree.proofs.Reading.Levels.{has_later_deeper, last_flags_same, entry_shown, tree_by_levels}
-use Rattle.ptree.proofs.Reading.Paths.{passing_all-push}
+use Rattle.std.proofs.lemmas.Bool.{eqb-true, eqb-false}
+use Rattle.std.proofs.lemmas.List.{length-append, length-map, length-take-le, map-append, take-map, take-take}
+use Rattle.ptree.specs.Drawing.{Look, IsDrawing}
+use Rattle.ptree.specs.GivenItems.{last_of, entry_below, entry_behind, GivenItem, given_text, AreGivenAs}
+use Rattle.ptree.specs.GivenItems as given
+use Rattle.ptree.specs.ItemWriter.{path_of}
+use Rattle.ptree.specs.Outline.{Line, outline, outline_at, Steps}
+use Rattle.ptree.specs.Reached.{AreWithin}
+use Rattle.ptree.specs.Style.{painted_text}
+use Rattle.ptree.specs.Tree.{shape_of_tree}
+use Rattle.ptree.specs.declared.output.writer.ItemWriter.{ItemWriter}
+use Rattle.ptree.proofs.Drawing.GivenItems.{draws_items}
 use Rattle.ptree.proofs.Reading.SpelledForms.{tree_steps, low_height}
-use Rattle.ptree.proofs.Drawing.TreeDrawing.{drawing_of_tree}
-use Rattle.ptree_c.specs.Fields.{is_set, part_text}
-use Rattle.ptree_c.specs.Steps.{path_flags, own_flag, entry_below, step_entry, path_with, path_after, steps_text, IsStepOf, AreStepsOf, DrawsTrees, DrawsParts}
+use Rattle.ptree_c.specs.Fields.{is_set}
+use Rattle.ptree_c.specs.Steps.{path_flags, step_own, step_entry, path_with, path_after, steps_text, IsOnPath, AreStepsOf, DrawsTrees, DrawsParts}
 use Rattle.ptree_c.specs.declared.steps.Step.{Step}
-use Rattle.ptree_c.proofs.Walks.{with_above, with_length}
+use Rattle.ptree_c.proofs.Walks.{with_length}
 
--- the flags of the first levels stay
-flags_above : (path : List ℕ) (level last m : ℕ) → level ≤ length path → m < level → path_flags (path_with path level last) m ≡ path_flags path m
-flags_above path level last m h low =
-    let low' : m ≤ level - 1 = omega (arith, low) in
-    ap (map is_set) (sym (take-take m (level - 1) (path_with path level last) low') ∙ (ap (take m) (with_above path level last h) ∙ take-take m (level - 1) path low'))
+-- the first flags of a path
+flags_first : (path : List ℕ) (n m : ℕ) → m ≤ n → take m (path_flags path n) ≡ path_flags path m
+flags_first path n m h = take-map is_set m (take n path) ∙ ap (map is_set) (take-take m n path h)
 
--- the flag of the level is behind them
-flags_own : (path : List ℕ) (level last : ℕ) → 0 < level → level ≤ length path → path_flags (path_with path level last) level ≡ path_flags path (level - 1) ++ is_set last ∷ []
-flags_own path level last some h = at (eqb level 0) refl where
-  at : (root : Bool) → eqb level 0 ≡ root → path_flags (cond root path (take (level - 1) path ++ last ∷ drop level path)) level ≡ path_flags path (level - 1) ++ is_set last ∷ []
-  at true e = absurd (false≢true (sym (ne_eqb level 0 (omega (arith, some))) ∙ e))
+-- a path with the flag of a level has the flags of a writer behind an item there
+flags_with : (path : List ℕ) (n level last : ℕ) → level ≤ length path → level - 1 ≤ n → path_flags (path_with path level last) level ≡ given.path_with (path_flags path n) level (is_set last)
+flags_with path n level last h few = at (eqb level 0) refl where
+  at : (root : Bool) → eqb level 0 ≡ root
+      → path_flags (cond root path (take (level - 1) path ++ last ∷ drop level path)) level ≡ cond root [] (take (level - 1) (path_flags path n) ++ is_set last ∷ [])
+  at true e = ap (path_flags path) (eqb-true level 0 e)
   at false e =
       let above : List ℕ = take (level - 1) path in
-      let wide : level ≡ length (above ++ last ∷ []) = omega (arith, some, length-append above (last ∷ []), length-take-le (level - 1) path (omega (arith, h))) in
+      let wide : level ≡ length (above ++ last ∷ []) = omega (arith, eqb-false level 0 e, length-append above (last ∷ []), length-take-le (level - 1) path (omega (arith, h))) in
       let parts : above ++ last ∷ drop level path ≡ (above ++ last ∷ []) ++ drop level path = sym (append_assoc above (last ∷ []) (drop level path)) in
       ap (map is_set) (ap (take level) parts ∙ (ap (λ n. take n ((above ++ last ∷ []) ++ drop level path)) wide ∙ take-append_seam (above ++ last ∷ []) (drop level path)))
-      ∙ map-append is_set above (last ∷ [])
+      ∙ (map-append is_set above (last ∷ []) ∙ ap (λ f. f ++ is_set last ∷ []) (sym (flags_first path n (level - 1) few)))
 
--- the first n flags of a path, and fewer of them, are those that the later lines give
-abbrev KeepsFlags : ℕ → List ℕ → List Line → Type 0
-KeepsFlags n path o = (m : ℕ) → m ≤ n → path_flags path m ≡ last_flags o m
+-- the entry of an item behind one of a path
+pub entry_of_step : (look : Look) (texts path : List ℕ) (flags : List Bool) (s : Step) → s.level - 1 ≤ length flags → flags ≡ path_flags path (length flags)
+    → entry_behind look flags s.level (is_set s.is_last) (step_own look texts s) ≡ step_entry look texts path s
+entry_of_step look texts path flags s few is =
+    ap (λ f. entry_below look f (last_of s.level (is_set s.is_last)) (step_own look texts s)) (ap (take (s.level - 1)) is ∙ flags_first path (length flags) (s.level - 1) few)
 
--- above the level of a line they are those that the lines behind it give
-flags_behind : (n : ℕ) (path : List ℕ) (l : Line) (o : List Line) (m : ℕ) → KeepsFlags n path (l ∷ o) → m ≤ n → m < l.level → path_flags path m ≡ last_flags o m
-flags_behind n path l o m keeps h low = keeps m h ∙ last_flags_same (l ∷ o) o m (λ j g. has_later_deeper l o j (omega (arith, g, low)))
+-- then the writer is on the path with its flag
+pub on_path_with : (path : List ℕ) (old new : ItemWriter) (level last : ℕ) → level ≤ length path → IsOnPath path old → level - 1 ≤ length (path_of old)
+    → path_of new ≡ given.path_with (path_of old) level (is_set last) → IsOnPath (path_with path level last) new
+on_path_with path old new level last h on few is =
+    let next : List ℕ = path_with path level last in
+    let same : path_of new ≡ path_flags next level =
+    is ∙ (ap (λ f. given.path_with f level (is_set last)) on.1 ∙ sym (flags_with path (length (path_of old)) level last h few)) in
+    let long : length next ≡ length path = with_length path level last h in
+    let wide : length (path_of new) ≡ level = ap length same ∙ (length-map (take level next) is_set ∙ length-take-le level next (omega (arith, h, long))) in
+    (omega (arith, wide, h, long), same ∙ ap (path_flags next) (sym wide))
 
--- the entry of an item is that of its line
-entry_of_step : (k : Look) (texts path : List ℕ) (s : Step) (l : Line) (o : List Line) → IsStepOf texts l o s → 0 < l.level → path_flags path (l.level - 1) ≡ last_flags o (l.level - 1)
-    → step_entry k texts path s ≡ text_entry k (pieces_by k.pieces o l.level) (shown_by k.pieces o l) l.text
-entry_of_step k texts path s l o is some above =
-    let n : ℕ = l.level - 1 in
-    let p = k.pieces in
-    let b : Bool = not (has_later o (suc n)) in
-    let level_is : l.level ≡ suc n = omega (arith, some) in
-    let own : own_flag l.level s.is_last ≡ Some b =
-    ap (λ r. cond r None (Some (is_set s.is_last))) (ne_eqb l.level 0 (omega (arith, some))) ∙ ap Some (is.last ∙ ap (λ m. not (has_later o m)) level_is) in
-    let passing : passing_all p (last_flags o n) ++ passing_piece p b ≡ passing_by p o (suc n) = sym (passing_all-push p (last_flags o n) b) in
-    ap (λ m. entry_below k (path_flags path (m - 1)) (own_flag m s.is_last) (part_text texts s.text)) is.level
-    ∙ (ap (λ t. entry_below k (path_flags path n) (own_flag l.level s.is_last) t) is.text
-    ∙ (ap (λ f. entry_below k f (own_flag l.level s.is_last) l.text) above
-    ∙ (ap (λ f. entry_below k (last_flags o n) f l.text) own
-    ∙ (ap (λ q. text_entry k (passing_all p (last_flags o n) ++ turning_piece p b) q l.text) passing
-    ∙ (sym (entry_shown k (pieces_by p o (suc n)) (passing_by p o (suc n)) l.text)
-    ∙ ap (λ m. text_entry k (pieces_by p o m) (cond (has_line_feed l.text) (passing_by p o m) []) l.text) (sym level_is))))))
+-- a step as an item that is given
+abbrev given_of : Look → List ℕ → Step → GivenItem
+given_of look texts s = record { level = s.level; last = is_set s.is_last; own = step_own look texts s }
 
--- after an item they are those that the lines behind it give
-flags_after : (n : ℕ) (path texts : List ℕ) (s : Step) (l : Line) (o : List Line) → IsStepOf texts l o s → 0 < l.level → l.level ≤ suc n → l.level ≤ length path → KeepsFlags n path (l ∷ o)
-    → KeepsFlags l.level (path_with path l.level s.is_last) o
-flags_after n path texts s l o is some step h keeps m low = elim (cases_lt m l.level) [
-  | inl above ↦ flags_above path l.level s.is_last m h above ∙ flags_behind n path l o m keeps (omega (arith, above, step)) above
-  | inr here ↦
-      let j : ℕ = l.level - 1 in
-      let same : m ≡ l.level = omega (arith, here, low) in
-      let level_is : l.level ≡ suc j = omega (arith, some) in
-      ap (path_flags (path_with path l.level s.is_last)) same
-      ∙ (flags_own path l.level s.is_last some h
-      ∙ (ap (λ f. f ++ is_set s.is_last ∷ []) (flags_behind n path l o j keeps (omega (arith, some, step)) (omega (arith, some)))
-      ∙ (ap (λ b. last_flags o j ++ b ∷ []) (is.last ∙ ap (λ m. not (has_later o m)) level_is)
-      ∙ ap (last_flags o) (sym (same ∙ level_is)))))
-]
+-- the steps of lines are given as the lines
+are_given : (look : Look) (texts : List ℕ) (o : List Line) (steps : List Step) → AreStepsOf texts o steps → AreGivenAs look o (map (given_of look texts) steps)
+are_given look texts [] [] are = tt
+are_given look texts [] (s ∷ steps) are = absurd are
+are_given look texts (l ∷ o) [] are = absurd are
+are_given look texts (l ∷ o) (s ∷ steps) are =
+    (record { level = are.0.level; own = ap (painted_text look.leaf) are.0.text; last = are.0.last }, are_given look texts o steps are.1)
 
--- the entries of items below a root are the drawing of their lines
-steps_lines : (k : Look) (texts : List ℕ) (n : ℕ) (o : List Line) (path : List ℕ) (steps : List Step) → Steps n o → AreWithin (length path) o → KeepsFlags n path o → AreStepsOf texts o steps
-    → steps_text k texts path steps ≡ lines_text k o
-steps_lines k texts n [] path [] st low keeps are = refl
-steps_lines k texts n [] path (s ∷ steps) st low keeps are = absurd are
-steps_lines k texts n (l ∷ o) path [] st low keeps are = absurd are
-steps_lines k texts n (l ∷ o) path (s ∷ steps) st low keeps are =
-    let is = are.0 in
-    let some : 0 < l.level = st.0 in
-    let step : l.level ≤ suc n = st.1 in
-    let h : l.level ≤ length path = low.0 in
-    let above = flags_behind n path l o (l.level - 1) keeps (omega (arith, some, step)) (omega (arith, some)) in
-    let after : List ℕ = path_with path l.level s.is_last in
-    let low' : AreWithin (length after) o = subst (λ m. AreWithin m o) (sym (with_length path l.level s.is_last h)) low.1 in
-    ap (λ z. z ++ steps_text k texts (path_with path s.level s.is_last) steps) (entry_of_step k texts path s l o is some above)
-    ∙ ap (λ z. text_entry k (pieces_by k.pieces o l.level) (shown_by k.pieces o l) l.text ++ z)
-    (ap (λ m. steps_text k texts (path_with path m s.is_last) steps) is.level
-    ∙ steps_lines k texts l.level o after steps st.2 low' (flags_after n path texts s l o is some step h keeps) are.1)
-
--- no flag is none
-no_flags : (path : List ℕ) (o : List Line) → KeepsFlags 0 path o
-no_flags path o zero h = refl
-no_flags path o (suc m) h = absurd (omega (arith, h))
+-- the entries of steps behind an item at level n are those of the items that are given
+steps_given : (look : Look) (texts : List ℕ) (n : ℕ) (o : List Line) (path : List ℕ) (steps : List Step) → Steps n o → AreWithin (length path) o → AreStepsOf texts o steps
+    → steps_text look texts path steps ≡ given_text look (path_flags path n) (map (given_of look texts) steps)
+steps_given look texts n [] path [] st low are = refl
+steps_given look texts n [] path (s ∷ steps) st low are = absurd are
+steps_given look texts n (l ∷ o) path [] st low are = absurd are
+steps_given look texts n (l ∷ o) path (s ∷ steps) st low are =
+    let level : s.level ≡ l.level = are.0.level in
+    let few : s.level - 1 ≤ n = omega (arith, level, st.1) in
+    let within : s.level ≤ length path = omega (arith, level, low.0) in
+    let next : List ℕ = path_with path s.level s.is_last in
+    let entry : step_entry look texts path s ≡ entry_behind look (path_flags path n) s.level (is_set s.is_last) (step_own look texts s) =
+    ap (λ f. entry_below look f (last_of s.level (is_set s.is_last)) (step_own look texts s)) (sym (flags_first path n (s.level - 1) few)) in
+    let rest = steps_given look texts s.level o next steps (subst (λ m. Steps m o) (sym level) st.2) (subst (λ m. AreWithin m o) (sym (with_length path s.level s.is_last within)) low.1) are.1 in
+    ap (λ z. z ++ steps_text look texts next steps) entry
+    ∙ ap (λ z. entry_behind look (path_flags path n) s.level (is_set s.is_last) (step_own look texts s) ++ z)
+    (rest ∙ ap (λ f. given_text look f (map (given_of look texts) steps)) (flags_with path n s.level s.is_last within few))
 
 -- the entries of a tree's items are its drawing
 pub draws_trees : (look : Look) (texts : List ℕ) → DrawsTrees look texts
 draws_trees look texts t path [] depth long high are = absurd are
 draws_trees look texts t path (s ∷ steps) depth long high are =
-    let is = are.0 in
+    let level : s.level ≡ 0 = are.0.level in
     let o : List Line = outline_at 1 t.children in
-    let root : step_entry look texts path s ≡ text_entry look [] [] t.text =
-    ap (λ m. entry_below look (path_flags path (m - 1)) (own_flag m s.is_last) (part_text texts s.text)) is.level ∙ ap (text_entry look [] []) is.text in
-    let rest : steps_text look texts (path_with path s.level s.is_last) steps ≡ lines_text look o =
-    ap (λ m. steps_text look texts (path_with path m s.is_last) steps) is.level
-    ∙ steps_lines look texts 0 o path steps (tree_steps t.children) (low_height (length path) 0 t.children (omega (arith, long))) (no_flags path o) are.1 in
-    (drawing_of_tree look depth t _ high).1
-    (ap (λ z. z ++ steps_text look texts (path_with path s.level s.is_last) steps) root ∙ (ap (λ z. text_entry look [] [] t.text ++ z) rest ∙ sym (tree_by_levels look t)))
+    let own : List ℕ = step_own look texts s in
+    let items : List GivenItem = map (given_of look texts) steps in
+    let root : step_entry look texts path s ≡ entry_behind look [] s.level (is_set s.is_last) own =
+    ap (λ m. entry_below look (path_flags path (m - 1)) (last_of m (is_set s.is_last)) own) level ∙ sym (ap (λ m. entry_behind look [] m (is_set s.is_last) own) level) in
+    let rest : steps_text look texts (path_with path s.level s.is_last) steps ≡ given_text look (given.path_with [] s.level (is_set s.is_last)) items =
+    ap (λ m. steps_text look texts (path_with path m s.is_last) steps) level
+    ∙ (steps_given look texts 0 o path steps (tree_steps t.children) (low_height (length path) 0 t.children (omega (arith, long))) are.1
+    ∙ sym (ap (λ m. given_text look (given.path_with [] m (is_set s.is_last)) items) level)) in
+    let whole : steps_text look texts path (s ∷ steps) ≡ given_text look [] (map (given_of look texts) (s ∷ steps)) =
+    ap (λ z. z ++ steps_text look texts (path_with path s.level s.is_last) steps) root ∙ ap (λ z. entry_behind look [] s.level (is_set s.is_last) own ++ z) rest in
+    subst (λ z. IsDrawing look (shape_of_tree t) depth z) (sym whole) (draws_items look t [] (map (given_of look texts) (s ∷ steps)) depth high (are_given look texts (outline t) (s ∷ steps) are))
 
 -- the entries of items in two parts
 pub draws_parts : (look : Look) (texts : List ℕ) → DrawsParts look texts

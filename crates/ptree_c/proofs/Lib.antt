@@ -1,11 +1,7 @@
-pub mod Codes
-pub mod Entries
 pub mod Flat
 pub mod Given
 pub mod Later
-pub mod Longest
 pub mod Numbered
 pub mod Outlined
-pub mod Paths
 pub mod Rooms
 pub mod Walks

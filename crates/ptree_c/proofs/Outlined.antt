@@ -1,11 +1,7 @@
 -- The items of an outline, drawn as steps, are the drawing of its tree.
 use Rattle.std.proofs.Common.{◌≡◌, ℕ, zero, suc, ◌+◌, ◌-◌, ◌<◌, ◌≤◌, ◌⊎◌, inl, inr, true, false, not, cond, ltb, List, [], ◌∷◌, ◌++◌, length, take, drop, get_or, refl, sym, ap, ◌∙◌, subst, append_assoc, add-one, drop-cons, arith}
 use Rattle.std.proofs.lemmas.Bool.{cases_lt, lt-ltb, le-ltb}
-use Rattle.std.proofs.lemmas.List.{append-nil, length-append}
-use Rattle.std.specs.List.{concat}
-use Rattle.ptree.specs.Entries.{drawn_entries}
-use Rattle.ptree.proofs.Drawing.Laws.{one_drawing}
-use Rattle.ptree.proofs.Trees.Outlines.{same_tree}
+use Rattle.std.proofs.lemmas.List.{append-nil}
 use Rattle.ptree.specs.Drawing.{Look, IsDrawing}
 use Rattle.ptree.specs.Flags.{has_later}
 use Rattle.ptree.specs.Outline.{Line, line, outline, outline_at, Steps}
@@ -138,19 +134,6 @@ pub low_outline : (deepest depth long : ℕ) (items : List Item) → ((n : ℕ) 
 low_outline deepest depth long [] fit are = absurd are
 low_outline deepest depth long (i ∷ items) fit are = (λ h. omega (arith, are.0), low_down deepest depth long 0 items fit are.1)
 
--- the items of an outline are drawn alike, whatever the path holds at first
-pub outline_same : (look : Look) (texts p q : List ℕ) (items : List Item) (flags : List ℕ) (deepest depth : ℕ) → AreItems deepest items → AreLastFlags items flags
-    → ((n : ℕ) → n ≤ deepest → n ≤ depth → n ≤ length p) → ((n : ℕ) → n ≤ deepest → n ≤ depth → n ≤ length q)
-    → steps_text look texts p (steps_from depth 0 items flags) ≡ steps_text look texts q (steps_from depth 0 items flags)
-outline_same look texts p q items flags deepest depth are last fit_p fit_q =
-    let lines : List Line = lines_from 0 texts items in
-    let a = outline_drawn look texts p items flags deepest depth (steps_text look texts p (steps_from depth 0 items flags)) are last fit_p refl in
-    let b = outline_drawn look texts q items flags deepest depth (steps_text look texts q (steps_from depth 0 items flags)) are last fit_q refl in
-    let same : a.0 ≡ b.0 = same_tree a.0 b.0 (sym ((outline_of_tree a.0 lines).0 a.1) ∙ (outline_of_tree b.0 lines).0 b.1) in
-    one_drawing look (shape_of_tree a.0) depth (steps_text look texts p (steps_from depth 0 items flags)) a.2
-    ∙ (ap (λ t. concat (drawn_entries look depth (shape_of_tree t))) same
-    ∙ sym (one_drawing look (shape_of_tree b.0) depth (steps_text look texts q (steps_from depth 0 items flags)) b.2))
-
 -- an item that is in no list
 abbrev pub no_item : Item
 no_item = record { end = 0; level = 0 }
@@ -194,14 +177,6 @@ next_left look texts path new depth from n items flags d h long is =
     ∙ (ap (λ x. steps_text look texts path (steps_from depth from (i ∷ drop (n + 1) items) x)) flag
     ∙ (kept_text look texts path depth s rest
     ∙ ap (λ q. steps_text look texts path (kept_before depth s []) ++ steps_text look texts q rest) (sym is)))
-
--- a part more of a whole is measured
-pub size_more : (whole part rest : List ℕ) (size new all : ℕ) → whole ≡ part ++ rest → size + length whole ≡ all → new ≡ size + length part → new + length rest ≡ all
-size_more whole part rest size new all is before more = omega (arith, ap length is, length-append part rest, before, more)
-
--- and it fits, as the whole does
-pub size_fits : (drawn whole part rest all : List ℕ) (at most : ℕ) → whole ≡ part ++ rest → drawn ++ whole ≡ all → at ≡ length drawn → length all ≤ most → at + length part ≤ most
-size_fits drawn whole part rest all at most is before here fits = omega (arith, ap length is, length-append part rest, ap length before, length-append drawn whole, here, fits)
 
 -- a part more of a whole is drawn
 pub drawn_more : (drawn whole part rest all : List ℕ) → whole ≡ part ++ rest → drawn ++ whole ≡ all → (drawn ++ part) ++ rest ≡ all

@@ -1,11 +1,10 @@
 -- Items drawn in turn.
-use Rattle.std.proofs.Common.{◌≡◌, ℕ, suc, ◌+◌, ◌-◌, ◌<◌, ◌≤◌, List, [], ◌∷◌, ◌++◌, length, take, drop, get_or, map, refl, sym, ap, ◌∙◌, append_assoc, add-one, arith}
-use Rattle.std.proofs.Math.Seq.{drop-cons, take-append_seam}
+use Rattle.std.proofs.Common.{◌≡◌, ℕ, suc, ◌+◌, ◌-◌, ◌<◌, ◌≤◌, List, [], ◌∷◌, ◌++◌, length, take, drop, get_or, refl, sym, ap, ◌∙◌, append_assoc, add-one, arith}
+use Rattle.std.proofs.Math.Seq.{drop-cons}
 use Rattle.std.proofs.lemmas.Bool.{eq-eqb}
 use Rattle.std.proofs.lemmas.List.{append-nil, length-append, length-take-le, length-drop, take_more}
 use Rattle.ptree.specs.Drawing.{Look}
-use Rattle.ptree_c.specs.Fields.{is_set}
-use Rattle.ptree_c.specs.Steps.{path_flags, path_with, path_after, step_entry, steps_text}
+use Rattle.ptree_c.specs.Steps.{path_with, path_after, step_entry, steps_text}
 use Rattle.ptree_c.specs.declared.steps.Step.{Step}
 
 -- the path after items and one more
@@ -29,20 +28,8 @@ next_of xs n x t e =
     let rest : drop (suc n) xs ≡ t = cc in
     (within, take_more xs n x within ∙ ap (λ y. take n xs ++ y ∷ []) first, ap (λ k. drop k xs) (add-one n) ∙ rest)
 
--- the levels above one keep their flags
-pub with_above : (path : List ℕ) (level last : ℕ) → level ≤ length path → take (level - 1) (path_with path level last) ≡ take (level - 1) path
-with_above path level last h =
-    let wide = length-take-le (level - 1) path (omega arith) in
-    grind (arith, ap (λ n. take n (take (level - 1) path ++ last ∷ drop level path)) wide, take-append_seam (take (level - 1) path) (last ∷ drop level path))
-
 -- a path stays as long as it was
 pub with_length : (path : List ℕ) (level last : ℕ) → level ≤ length path → length (path_with path level last) ≡ length path
 with_length path level last h =
     let front = length-take-le (level - 1) path (omega arith) in
     grind (arith, eq-eqb level 0, length-append (take (level - 1) path) (last ∷ drop level path), front, length-drop level path)
-
--- the flags above an item are those of the path after it
-pub above_same : (path new : List ℕ) (s : Step) (level : ℕ) → level ≡ s.level - 1 → s.level ≤ length path → new ≡ path_with path s.level s.is_last → path_flags new level ≡ path_flags path level
-above_same path new s level above h is =
-    ap (path_flags new) above
-    ∙ (ap (λ p. map is_set (take (s.level - 1) p)) is ∙ (ap (map is_set) (with_above path s.level s.is_last h) ∙ sym (ap (path_flags path) above)))

@@ -1,11 +1,9 @@
-pub mod Brushes
 pub mod Calls
 pub mod Fields
 pub mod Graphs
 pub mod Items
 pub mod Loads
 pub mod Outlines
-pub mod Pens
 pub mod Presets
 pub mod Refusals
 pub mod Rooms

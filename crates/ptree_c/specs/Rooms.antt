@@ -1,5 +1,5 @@
 -- What a call leaves in the memory of its caller.
-use Rattle.std.specs.Prelude.{◌≡◌, ◌≤◌, ◌+◌, ℕ, List, ◌++◌, length, take, drop}
+use Rattle.std.specs.Prelude.{◌≡◌, ◌+◌, ℕ, List, ◌++◌, length, take, drop}
 use Rattle.ptree_c.specs.declared.room.Found.{Found}
 
 -- the values, as many as there is room for, and then what was there
@@ -9,10 +9,6 @@ filled room values = take (length room) values ++ drop (length values) room
 -- what a call that is done has found
 abbrev pub found_sizes : ℕ → ℕ → Found
 found_sizes bytes items = record { bytes = bytes; items = items; place = 0 }
-
--- a number of bytes that can be reported
-abbrev pub IsSize : ℕ → Type 0
-IsSize n = n ≤ 18446744073709551615
 
 -- the room was filled with these bytes, which end at this place
 abbrev pub IsFilled : List ℕ → List ℕ → List ℕ → ℕ → Type 0

@@ -1,12 +1,13 @@
 -- Items given one by one, each with whether it is its parent's last child.
-use Rattle.std.specs.Prelude.{◌≡◌, ◌≤◌, ◌-◌, ℕ, Bool, not, nat_eq, if◌then◌else◌, Option, Some, None, List, [], ◌∷◌, ◌++◌, length, map, take, drop}
+use Rattle.std.specs.Prelude.{◌≡◌, ◌≤◌, ◌-◌, ℕ, Bool, not, nat_eq, if◌then◌else◌, List, [], ◌∷◌, ◌++◌, length, map, take, drop}
 use Rattle.ptree.specs.Drawing.{Look, IsDrawing}
 use Rattle.ptree.specs.Flags.{has_later}
-use Rattle.ptree.specs.Looks.{own_piece, below_piece}
+use Rattle.ptree.specs.GivenItems.{last_of, entry_below}
+use Rattle.ptree.specs.ItemWriter.{path_of}
 use Rattle.ptree.specs.Outline.{Line, outline}
-use Rattle.ptree.specs.Pieces.{passing_all}
-use Rattle.ptree.specs.Spelled.{text_entry}
+use Rattle.ptree.specs.Style.{painted_text}
 use Rattle.ptree.specs.Tree.{Tree, height, shape_of_tree}
+use Rattle.ptree.specs.declared.output.writer.ItemWriter.{ItemWriter}
 use Rattle.ptree_c.specs.Fields.{is_set, part_text}
 use Rattle.ptree_c.specs.declared.steps.Step.{Step}
 
@@ -14,18 +15,17 @@ use Rattle.ptree_c.specs.declared.steps.Step.{Step}
 abbrev pub path_flags : List ℕ → ℕ → List Bool
 path_flags path n = map is_set (take n path)
 
--- whether an item at a level is a last child; a root is no child
-abbrev pub own_flag : ℕ → ℕ → Option Bool
-own_flag level last = if nat_eq level 0 then None else Some (is_set last)
-
--- the entry of an item below items with these flags
-abbrev pub entry_below : Look → List Bool → Option Bool → List ℕ → List ℕ
-entry_below look above own text =
-    text_entry look (passing_all look.pieces above ++ own_piece look.pieces own) (passing_all look.pieces above ++ below_piece look.pieces own) text
+-- the own bytes of an item: its text, painted
+abbrev pub step_own : Look → List ℕ → Step → List ℕ
+step_own look texts s = painted_text look.leaf (part_text texts s.text)
 
 -- the entry of an item below those of a path
 abbrev pub step_entry : Look → List ℕ → List ℕ → Step → List ℕ
-step_entry look texts path s = entry_below look (path_flags path (s.level - 1)) (own_flag s.level s.is_last) (part_text texts s.text)
+step_entry look texts path s = entry_below look (path_flags path (s.level - 1)) (last_of s.level (is_set s.is_last)) (step_own look texts s)
+
+-- the last item of a writer is on a path
+abbrev pub IsOnPath : List ℕ → ItemWriter → Type 0
+IsOnPath path writer = let level = length (path_of writer) in (level ≤ length path) × (path_of writer ≡ path_flags path level)
 
 -- a path with the flag of a level; a root has none
 abbrev pub path_with : List ℕ → ℕ → ℕ → List ℕ

@@ -30,7 +30,7 @@ pub extern "C" fn ptree_draw(
 ) -> u32
     ensures drawn { result ≡ 0 → HasPut (IsItemsDrawing (look_at preset depth) depth items.now
         texts.now) (length items.now) out.old out.new found.new }
-    ensures kept { 0 < result → out.new ≡ out.old }
+    ensures kept { 1 < result → out.new ≡ out.old }
     ensures right { result ≡ 0 → AreRight texts.now items.now }
     ensures refused { 0 < result → (e : Refusal) × IsRefused result found.new e
         × (IsPresetRefusal preset e ⊎ IsItemsRefusal texts.now items.now e) }
@@ -57,7 +57,7 @@ pub extern "C" fn ptree_draw_with(
     ensures drawn { result ≡ 0 → HasPut (IsItemsDrawing
         (look_of names.now config.now) (depth_of names.now config.now) items.now texts.now)
         (length items.now) out.old out.new found.new }
-    ensures kept { 0 < result → out.new ≡ out.old }
+    ensures kept { 1 < result → out.new ≡ out.old }
     ensures right { result ≡ 0 → AreRight texts.now items.now }
     ensures refused { 0 < result → (e : Refusal) × IsRefused result found.new e
         × (IsFieldsRefusal config.now e ⊎ IsItemsRefusal texts.now items.now e) }

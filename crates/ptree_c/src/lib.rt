@@ -3,7 +3,6 @@
 #![tactic(auto)]
 
 mod answer;
-mod brush;
 pub mod document;
 pub mod draw;
 pub mod faults;
@@ -13,7 +12,6 @@ pub mod items;
 pub mod load;
 mod outline;
 pub mod paint;
-mod pen;
 pub mod preset;
 pub mod read;
 pub mod refusal;

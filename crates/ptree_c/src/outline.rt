@@ -1,25 +1,25 @@
 //! Draws the items of an outline without making their tree.
-ghost use Rattle.std.specs.Prelude.{◌≡◌, ◌<◌, ◌≤◌, ◌+◌, ◌∷◌, ◌++◌, [], ℕ, List, not, length, IfOk, IfErr, IfSome, OnOk, OnErr};
+ghost use Rattle.std.specs.Prelude.{◌≡◌, ◌≢◌, ◌<◌, ◌≤◌, ◌+◌, ◌∷◌, ◌++◌, [], ℕ, List, not, length, IfOk, IfErr, IfSome, OnOk};
 ghost use Rattle.ptree.specs.Drawing.{written_look};
+ghost use Rattle.ptree.specs.ItemWriter.{writer_look};
 ghost use Rattle.ptree_c.specs.Calls.{IsItemsDrawing};
 ghost use Rattle.ptree_c.specs.Fields.{is_set};
 ghost use Rattle.ptree_c.specs.Outlines.{has_later_item, AreLater, AreLastFlags, AreItems, AreLow, AreRight, StepsDown, IsFirstWrong, IsItemsRefusal, IsRightAfter, IsWrongAfter, kept_before, kept_path, steps_from};
-ghost use Rattle.ptree_c.specs.Pens.{HoldsPath, HasRoom, brush_look};
 ghost use Rattle.ptree_c.specs.Refusals.{IsRefused, IsTextBetween};
-ghost use Rattle.ptree_c.specs.Rooms.{HasPut, IsFilled, IsSize};
-ghost use Rattle.ptree_c.specs.Steps.{steps_text};
+ghost use Rattle.ptree_c.specs.Rooms.{HasPut, IsFilled};
+ghost use Rattle.ptree_c.specs.Steps.{steps_text, IsOnPath};
 ghost use Rattle.ptree_c.specs.declared.items.Item.{Item};
 
 use crate::answer::{refuse, report};
-use crate::brush::Brush;
 use crate::fields::{Part, flag};
 use crate::items::Item;
-use crate::pen::Pen;
 use crate::refusal::Refusal;
-use crate::room::Found;
-use crate::steps::{Step, put_step, set_flag, width_of_step};
+use crate::room::{Found, put};
+use crate::steps::{Step, make_step, set_flag};
 use crate::texts::Texts;
 use ptree::PrintConfig;
+use ptree::output::ItemWriter;
+use ptree::print_config::OutputKind;
 use std::alloc::{AllocError, Global};
 
 // Checks an item at a place, and its text, by the item before it.
@@ -107,147 +107,57 @@ fn last_flags(alloc: Global, items: &[Item], deepest: u32) -> Result<Vec<u8>, Al
     Ok(flags)
 }
 
-// Adds the length of an item's entry, unless the item is deeper than a depth. None if there are too
-// many bytes for any memory.
-fn measure_item(
-    pen: &mut Pen,
-    brush: &Brush<'_>,
-    path: &mut [u8],
-    texts: &Texts<'_>,
-    step: &Step,
-    depth: u32,
-    size: usize,
-) -> Option<usize>
-    requires held { HoldsPath brush.now path.old pen.old }
-    requires room { HasRoom brush.now (length path.old) pen.old }
-    requires low { step.now.level ≤ depth → step.now.level ≤ length path.old }
-    requires text { IsTextBetween texts.now.bytes.now step.now.text.start step.now.text.end }
-    ensures size { IfSome result (λ n. n ≡ size + length (steps_text (brush_look brush.now)
-        texts.now.bytes.now path.old (kept_before depth step.now []))) }
-    ensures path { IfSome result (λ _. path.new ≡ kept_path depth path.old step.now) }
-    ensures held { IfSome result (λ _. HoldsPath brush.now path.new pen.new) }
-    ensures room { HasRoom brush.now (length path.new) pen.new }
-{
-    if step.level > depth {
-        return Some(size);
-    }
-    pen.go_to(brush, path, (step.level as usize).saturating_sub(1));
-    let width = width_of_step(pen, brush, texts, step)?;
-    let end = size.checked_add(width)?;
-    set_flag(path, step.level, step.is_last);
-    Some(end)
-}
-
-// The length of the drawing of items down to a depth, each with its flag. None if it is too long
-// for any memory.
-fn measure_items(
-    pen: &mut Pen,
-    brush: &Brush<'_>,
-    path: &mut [u8],
-    texts: &Texts<'_>,
-    items: &[Item],
-    flags: &[u8],
-    depth: u32,
-) -> Option<usize>
-    requires held { HoldsPath brush.now path.old pen.old }
-    requires room { HasRoom brush.now (length path.old) pen.old }
-    requires low { AreLow depth (length path.old) items.now }
-    requires flags { length flags.now ≡ length items.now }
-    requires right { AreRight texts.now.bytes.now items.now }
-    ensures size { IfSome result (λ n. n ≡ length (steps_text (brush_look brush.now)
-        texts.now.bytes.now path.old (steps_from depth 0 items.now flags.now))) }
-    ensures held { IfSome result (λ _. HoldsPath brush.now path.new pen.new) }
-    ensures room { HasRoom brush.now (length path.new) pen.new }
-{
-    let mut size = 0;
-    let mut from = 0;
-    for place in 0..items.len() {
-        let item = items[place];
-        let step = Step {
-            text: Part {
-                start: from,
-                end: item.end,
-            },
-            level: item.level,
-            is_last: flags[place],
-        };
-        size = measure_item(pen, brush, path, texts, &step, depth, size)?;
-        from = item.end;
-    }
-    Some(size)
-}
-
-// A length that the drawing of items does not exceed, as each item and each byte of a text takes at
-// most as much as the widest entry. None if it is beyond any memory.
-fn longest_drawing(
-    brush: &Brush<'_>,
-    levels: usize,
-    texts: &Texts<'_>,
-    items: &[Item],
-) -> Option<usize>
-    requires { AreRight texts.now.bytes.now items.now }
-    ensures { (path flags : List ℕ) (depth : ℕ) → AreLow depth levels items.now
-        → IfSome result (λ n. length (steps_text (brush_look brush.now) texts.now.bytes.now path
-        (steps_from depth 0 items.now flags)) ≤ n) }
-{
-    let count = items.len().checked_add(texts.len())?;
-    let longest = count.checked_mul(brush.widest_entry(levels)?)?;
-    Some(longest)
-}
-
 // Draws an item behind the bytes that end at a place, unless it is deeper than a depth, and returns
-// where its entry ends.
+// where its entry ends. None if memory ran out.
+#[inline(always)]
 fn draw_item(
-    pen: &mut Pen,
-    brush: &Brush<'_>,
+    writer: &mut ItemWriter<'_>,
     path: &mut [u8],
     texts: &Texts<'_>,
     step: &Step,
     depth: u32,
     out: &mut [u8],
     at: usize,
-) -> usize
-    requires held { HoldsPath brush.now path.old pen.old }
-    requires room { HasRoom brush.now (length path.old) pen.old }
+) -> Option<usize>
+    requires on_path { IsOnPath path.old writer.old }
     requires low { step.now.level ≤ depth → step.now.level ≤ length path.old }
     requires text { IsTextBetween texts.now.bytes.now step.now.text.start step.now.text.end }
-    requires size { IsSize (at + length (steps_text (brush_look brush.now)
-        texts.now.bytes.now path.old (kept_before depth step.now []))) }
     ensures filled { (room before : List ℕ) → IsFilled room before out.old at
-        → IsFilled room (before ++ steps_text (brush_look brush.now)
-        texts.now.bytes.now path.old (kept_before depth step.now [])) out.new result }
-    ensures path { path.new ≡ kept_path depth path.old step.now }
-    ensures held { HoldsPath brush.now path.new pen.new }
-    ensures room { HasRoom brush.now (length path.new) pen.new }
+        → IfSome result (IsFilled room (before ++ steps_text (writer_look writer.old)
+        texts.now.bytes.now path.old (kept_before depth step.now [])) out.new) }
+    ensures path { IfSome result (λ _. path.new ≡ kept_path depth path.old step.now) }
+    ensures on_path { IfSome result (λ _. IsOnPath path.new writer.new) }
+    ensures look { writer_look writer.new ≡ writer_look writer.old }
 {
     if step.level > depth {
-        return at;
+        return Some(at);
     }
-    pen.go_to(brush, path, (step.level as usize).saturating_sub(1));
-    put_step(pen, brush, path, texts, step, out, at)
+    match make_step(writer, path, texts, step) {
+        Ok(()) => {}
+        Err(_) => return None,
+    }
+    let end = put(out, at, writer.entry())?;
+    set_flag(path, step.level, step.is_last);
+    Some(end)
 }
 
 // Draws items down to a depth, each with its flag, as much as there is room for, and returns the
-// length of the drawing.
+// length of the drawing. None if memory ran out.
 fn draw_items(
-    pen: &mut Pen,
-    brush: &Brush<'_>,
+    writer: &mut ItemWriter<'_>,
     path: &mut [u8],
     texts: &Texts<'_>,
     items: &[Item],
     flags: &[u8],
     depth: u32,
     out: &mut [u8],
-) -> usize
-    requires held { HoldsPath brush.now path.old pen.old }
-    requires room { HasRoom brush.now (length path.old) pen.old }
+) -> Option<usize>
+    requires on_path { IsOnPath path.old writer.old }
     requires low { AreLow depth (length path.old) items.now }
     requires flags { length flags.now ≡ length items.now }
     requires right { AreRight texts.now.bytes.now items.now }
-    requires size { IsSize (length (steps_text (brush_look brush.now)
-        texts.now.bytes.now path.old (steps_from depth 0 items.now flags.now))) }
-    ensures { IsFilled out.old (steps_text (brush_look brush.now)
-        texts.now.bytes.now path.old (steps_from depth 0 items.now flags.now)) out.new result }
+    ensures { IfSome result (IsFilled out.old (steps_text (writer_look writer.old)
+        texts.now.bytes.now path.old (steps_from depth 0 items.now flags.now)) out.new) }
 {
     let mut at = 0;
     let mut from = 0;
@@ -261,44 +171,10 @@ fn draw_items(
             level: item.level,
             is_last: flags[place],
         };
-        at = draw_item(pen, brush, path, texts, &step, depth, out, at);
+        at = draw_item(writer, path, texts, &step, depth, out, at)?;
         from = item.end;
     }
-    at
-}
-
-// Draws as far as there is room, and returns the length of the drawing. It is measured first only
-// if it may be too long for any memory.
-fn draw_by_brush(
-    alloc: Global,
-    brush: &Brush<'_>,
-    path: &mut [u8],
-    texts: &Texts<'_>,
-    items: &[Item],
-    flags: &[u8],
-    depth: u32,
-    out: &mut [u8],
-) -> Result<usize, AllocError>
-    requires low { AreLow depth (length path.old) items.now }
-    requires flags { length flags.now ≡ length items.now }
-    requires right { AreRight texts.now.bytes.now items.now }
-    requires same { (p q : List ℕ) → length p ≡ length path.old → length q ≡ length path.old
-        → steps_text (brush_look brush.now) texts.now.bytes.now p
-        (steps_from depth 0 items.now flags.now)
-        ≡ steps_text (brush_look brush.now) texts.now.bytes.now q
-        (steps_from depth 0 items.now flags.now) }
-    ensures filled { IfOk result (IsFilled out.old (steps_text (brush_look brush.now)
-        texts.now.bytes.now path.old (steps_from depth 0 items.now flags.now)) out.new) }
-    ensures kept { OnErr result (out.new ≡ out.old) }
-{
-    let mut pen = Pen::new(alloc, brush)?;
-    pen.make_room(brush, path.len())?;
-    if longest_drawing(brush, path.len(), texts, items).is_none()
-        && measure_items(&mut pen, brush, path, texts, items, flags, depth).is_none()
-    {
-        return Err(AllocError);
-    }
-    Ok(draw_items(&mut pen, brush, path, texts, items, flags, depth, out))
+    Some(at)
 }
 
 // Draws items, as much as there is room for, and returns the length of the drawing.
@@ -312,7 +188,7 @@ fn draw_outline(
     ensures drawn { IfOk result (λ size. (drawing : List ℕ)
         × IsItemsDrawing (written_look config.now) config.now.depth items.now texts.now drawing
         × IsFilled out.old drawing out.new size) }
-    ensures kept { OnErr result (out.new ≡ out.old) }
+    ensures kept { IfErr result (λ e. e ≢ Refusal.Memory → out.new ≡ out.old) }
     ensures right { OnOk result (AreRight texts.now items.now) }
     ensures refused { IfErr result (IsItemsRefusal texts.now items.now) }
 {
@@ -321,10 +197,9 @@ fn draw_outline(
     let flags = last_flags(alloc, items, deepest)?;
     let mut path = Vec::new(alloc);
     path.resize(deepest.min(config.depth) as usize, 0)?;
-    let brush = Brush::new(alloc, config)?;
-    let drawn = draw_by_brush(
-        alloc,
-        &brush,
+    let mut writer = ItemWriter::new(alloc, config, OutputKind::Unknown, false)?;
+    let drawn = draw_items(
+        &mut writer,
         &mut path,
         &known,
         items,
@@ -332,8 +207,11 @@ fn draw_outline(
         config.depth,
         out,
     );
-    drop(brush);
-    Ok(drawn?)
+    drop(writer);
+    match drawn {
+        Some(size) => Ok(size),
+        None => Err(Refusal::Memory),
+    }
 }
 
 /// Puts the drawing of items, as a configuration says, into the memory of the caller.
@@ -347,7 +225,7 @@ pub(crate) fn put_outline(
 ) -> u32
     ensures drawn { result ≡ 0 → HasPut (IsItemsDrawing (written_look config) config.depth
         items.now texts.now) (length items.now) out.old out.new found.new }
-    ensures kept { 0 < result → out.new ≡ out.old }
+    ensures kept { 1 < result → out.new ≡ out.old }
     ensures right { result ≡ 0 → AreRight texts.now items.now }
     ensures refused { 0 < result → (e : Refusal) × IsRefused result found.new e
         × IsItemsRefusal texts.now items.now e }

@@ -1,6 +1,6 @@
 //! Puts a result into the memory of the caller.
-ghost use Rattle.std.specs.Prelude.{◌≡◌, ◌≤◌, ◌<◌, ◌+◌, ◌++◌, ℕ, List, length};
-ghost use Rattle.ptree_c.specs.Rooms.{filled, IsFilled, IsSize, PutsBytes};
+ghost use Rattle.std.specs.Prelude.{◌≡◌, ◌≤◌, ◌<◌, ◌+◌, ◌++◌, ℕ, List, IfSome, length};
+ghost use Rattle.ptree_c.specs.Rooms.{filled, IsFilled, PutsBytes};
 
 use std::simd::Simd;
 
@@ -86,34 +86,28 @@ fn copy_few(out: &mut [u8], text: &[u8])
 }
 
 /// Puts bytes behind those that end at a place, as many as there is room for, and returns where
-/// they end.
+/// they end. None if that is beyond any memory.
 #[inline(always)]
-pub(crate) fn put(out: &mut [u8], at: usize, bytes: &[u8]) -> usize
-    requires { IsSize (at + length bytes.now) }
-    ensures { PutsBytes bytes.now out.old at out.new result }
+pub(crate) fn put(out: &mut [u8], at: usize, bytes: &[u8]) -> Option<usize>
+    ensures { IfSome result (PutsBytes bytes.now out.old at out.new) }
 {
-    let end = at + bytes.len();
+    let end = at.checked_add(bytes.len())?;
     if end <= out.len() {
         copy(&mut out[at..end], bytes);
     } else if at < out.len() {
         put_part(out, at, bytes);
     }
-    end
+    Some(end)
 }
 
-/// Puts bytes as `put` does. Where they are none or one, as those around a text often are, this is
-/// cheaper.
+/// Puts bytes behind those that end at a place, where there is room for all, and returns where they
+/// end.
 #[inline(always)]
-pub(crate) fn put_few(out: &mut [u8], at: usize, bytes: &[u8]) -> usize
-    requires { IsSize (at + length bytes.now) }
+pub(crate) fn put_whole(out: &mut [u8], at: usize, bytes: &[u8]) -> usize
+    requires { at + length bytes.now ≤ length out.old }
     ensures { PutsBytes bytes.now out.old at out.new result }
 {
-    if bytes.is_empty() {
-        return at;
-    }
-    if bytes.len() == 1 && at < out.len() {
-        out[at] = bytes[0];
-        return at + 1;
-    }
-    put(out, at, bytes)
+    let end = at + bytes.len();
+    copy(&mut out[at..end], bytes);
+    end
 }

@@ -1,18 +1,20 @@
 //! Draws items that are given one by one, as many at once as the caller likes.
 ghost use Rattle.std.specs.Prelude.{◌≡◌, ◌≢◌, ◌≤◌, ◌<◌, ◌+◌, ◌-◌, ◌++◌, ℕ, List, length, take, IfOk, IfErr, IsErrOf, IfSome, OnOk, OnErr, ◌⊎◌};
+ghost use Rattle.ptree.specs.Drawing.{written_look};
+ghost use Rattle.ptree.specs.ItemWriter.{writer_look, path_of, entry_of};
 ghost use Rattle.ptree_c.specs.Fields.{look_of};
-ghost use Rattle.ptree_c.specs.Pens.{HoldsPath, brush_look};
 ghost use Rattle.ptree_c.specs.Refusals.{IsTextBetween};
-ghost use Rattle.ptree_c.specs.Rooms.{filled, IsFilled, IsSize, PutsBytes};
-ghost use Rattle.ptree_c.specs.Steps.{own_flag, path_with, path_after, step_entry, steps_text, IsNextLength, DrawsTrees, DrawsParts};
+ghost use Rattle.ptree_c.specs.Rooms.{filled, IsFilled};
+ghost use Rattle.ptree_c.specs.Steps.{path_with, path_after, step_entry, steps_text, IsOnPath, IsNextLength, DrawsTrees, DrawsParts};
 
 use crate::answer::refuse;
-use crate::brush::Brush;
 use crate::fields::{ConfigFields, Part, config_of_fields, flag};
-use crate::pen::Pen;
 use crate::refusal::Refusal;
-use crate::room::Found;
+use crate::room::{Found, put_whole};
 use crate::texts::Texts;
+use ptree::PrintConfig;
+use ptree::output::ItemWriter;
+use ptree::print_config::OutputKind;
 use std::alloc::{AllocError, Global};
 
 /// An item, with whether it is its parent's last child.
@@ -42,17 +44,6 @@ enum Stop {
     Refused(Refusal),
 }
 
-// Whether an item is a last child, if it is a child.
-fn own_flag(step: &Step) -> Option<bool>
-    ensures { result ≡ own_flag step.now.level step.now.is_last }
-{
-    if step.level == 0 {
-        None
-    } else {
-        Some(flag(step.is_last))
-    }
-}
-
 /// Sets the flag of a level. A root has none.
 pub(crate) fn set_flag(path: &mut [u8], level: u32, is_last: u8)
     requires { level ≤ length path.old }
@@ -63,91 +54,77 @@ pub(crate) fn set_flag(path: &mut [u8], level: u32, is_last: u8)
     }
 }
 
-/// The length of an item's entry, or none if it is beyond any memory. The pen is at the level above
-/// the item.
+// Goes below the items of a path, down to a level.
 #[inline(always)]
-pub(crate) fn width_of_step(
-    pen: &Pen,
-    brush: &Brush<'_>,
-    texts: &Texts<'_>,
-    step: &Step,
-) -> Option<usize>
-    requires text { IsTextBetween texts.now.bytes.now step.now.text.start step.now.text.end }
-    requires level { pen.now.level ≡ step.now.level - 1 }
-    ensures { (path : List ℕ) → HoldsPath brush.now path pen.now → IfSome result (λ n.
-        n ≡ length (step_entry (brush_look brush.now) texts.now.bytes.now path step.now)) }
+fn go_below(writer: &mut ItemWriter<'_>, path: &[u8], level: usize) -> Result<(), AllocError>
+    requires on_path { IsOnPath path.now writer.old }
+    requires within { level ≤ length path.now }
+    ensures on_path { OnOk result (IsOnPath path.now writer.new) }
+    ensures level { OnOk result (level ≤ length (path_of writer.new)) }
+    ensures look { writer_look writer.new ≡ writer_look writer.old }
 {
-    let text = texts.part(step.text);
-    let has_line_feed = texts.has_line_feed(step.text, text);
-    pen.width(brush, own_flag(step), text, has_line_feed)
+    while writer.level() < level {
+        writer.open(flag(path[writer.level()]))?;
+    }
+    Ok(())
 }
 
-/// Puts an item's entry behind the bytes that end at a place, as much as there is room for, sets
-/// its flag in the path, and returns where it ends. The pen is at the level above the item.
+/// Makes the entry of an item below those of a path.
 #[inline(always)]
-pub(crate) fn put_step(
-    pen: &Pen,
-    brush: &Brush<'_>,
-    path: &mut [u8],
+pub(crate) fn make_step(
+    writer: &mut ItemWriter<'_>,
+    path: &[u8],
     texts: &Texts<'_>,
     step: &Step,
-    out: &mut [u8],
-    at: usize,
-) -> usize
+) -> Result<(), AllocError>
     requires text { IsTextBetween texts.now.bytes.now step.now.text.start step.now.text.end }
-    requires held { HoldsPath brush.now path.old pen.now }
-    requires level { pen.now.level ≡ step.now.level - 1 }
-    requires within { step.now.level ≤ length path.old }
-    requires size { IsSize (at
-        + length (step_entry (brush_look brush.now) texts.now.bytes.now path.old step.now)) }
-    ensures put { PutsBytes
-        (step_entry (brush_look brush.now) texts.now.bytes.now path.old step.now)
-        out.old at out.new result }
-    ensures path { path.new ≡ path_with path.old step.now.level step.now.is_last }
-    ensures held { HoldsPath brush.now path.new pen.now }
+    requires on_path { IsOnPath path.now writer.old }
+    requires within { step.now.level ≤ length path.now }
+    ensures entry { OnOk result (entry_of writer.new
+        ≡ step_entry (writer_look writer.old) texts.now.bytes.now path.now step.now) }
+    ensures on_path { OnOk result
+        (IsOnPath (path_with path.now step.now.level step.now.is_last) writer.new) }
+    ensures look { writer_look writer.new ≡ writer_look writer.old }
 {
+    let level = step.level as usize;
+    go_below(writer, path, level.saturating_sub(1))?;
     let text = texts.part(step.text);
-    let has_line_feed = texts.has_line_feed(step.text, text);
-    let end = pen.draw(brush, own_flag(step), text, has_line_feed, out, at);
-    set_flag(path, step.level, step.is_last);
-    end
+    match writer.make_text(step.level, flag(step.is_last), text) {
+        Ok(()) => Ok(()),
+        Err(_) => Err(AllocError),
+    }
 }
 
-// Goes to the item at a place, and returns the length of its entry.
+// Makes the entry of the item at a place.
+#[inline(always)]
 fn reach_step(
-    pen: &mut Pen,
-    brush: &Brush<'_>,
+    writer: &mut ItemWriter<'_>,
     path: &[u8],
     texts: &Texts<'_>,
     step: &Step,
     place: usize,
-) -> Result<usize, Refusal>
-    requires { HoldsPath brush.now path.now pen.old }
-    ensures width { IfOk result (λ n. n
-        ≡ length (step_entry (brush_look brush.now) texts.now.bytes.now path.now step.now)) }
-    ensures text { OnOk result
-        (IsTextBetween texts.now.bytes.now step.now.text.start step.now.text.end) }
-    ensures held { OnOk result (HoldsPath brush.now path.now pen.new) }
-    ensures level { OnOk result (pen.new.level ≡ step.now.level - 1) }
+) -> Result<(), Refusal>
+    requires { IsOnPath path.now writer.old }
+    ensures entry { OnOk result (entry_of writer.new
+        ≡ step_entry (writer_look writer.old) texts.now.bytes.now path.now step.now) }
+    ensures on_path { OnOk result
+        (IsOnPath (path_with path.now step.now.level step.now.is_last) writer.new) }
+    ensures look { writer_look writer.new ≡ writer_look writer.old }
     ensures within { OnOk result (step.now.level ≤ length path.now) }
 {
-    let level = step.level as usize;
-    if level > path.len() {
+    if step.level as usize > path.len() {
         return Err(Refusal::Level(place));
     }
     texts.check(step.text.start, step.text.end, place)?;
-    pen.reach(brush, path, level.saturating_sub(1))?;
-    match width_of_step(pen, brush, texts, step) {
-        Some(width) => Ok(width),
-        None => Err(Refusal::Memory),
-    }
+    make_step(writer, path, texts, step)?;
+    Ok(())
 }
 
 // Draws the item at a place, if there is room for its entry, and sets its flag in the path. Returns
 // where the entry ends.
+#[inline(always)]
 fn add_step(
-    pen: &mut Pen,
-    brush: &Brush<'_>,
+    writer: &mut ItemWriter<'_>,
     path: &mut [u8],
     texts: &Texts<'_>,
     step: &Step,
@@ -155,27 +132,34 @@ fn add_step(
     out: &mut [u8],
     at: usize,
 ) -> Result<usize, Stop>
-    requires held { HoldsPath brush.now path.old pen.old }
+    requires on_path { IsOnPath path.old writer.old }
     requires room { at ≤ length out.old }
     ensures filled { (room before : List ℕ) → IsFilled room before out.old at
         → IfOk result (λ end. IsFilled room
-        (before ++ step_entry (brush_look brush.now) texts.now.bytes.now path.old step.now)
+        (before ++ step_entry (writer_look writer.old) texts.now.bytes.now path.old step.now)
         out.new end) }
     ensures path { OnOk result
         (path.new ≡ path_with path.old step.now.level step.now.is_last) }
     ensures kept { OnErr result ((out.new ≡ out.old) × (path.new ≡ path.old)) }
-    ensures held { OnOk result (HoldsPath brush.now path.new pen.new) }
+    ensures on_path { OnOk result (IsOnPath path.new writer.new) }
+    ensures look { writer_look writer.new ≡ writer_look writer.old }
     ensures room { IfOk result (λ end. end ≤ length out.old) }
     ensures full { IfErr result (λ stop. (n : ℕ) → stop ≡ Stop.Full n → length out.old < at + n) }
     ensures length { IfErr result (λ stop. (n : ℕ) → stop ≡ Stop.Full n
-        → n ≡ length (step_entry (brush_look brush.now) texts.now.bytes.now path.old step.now)) }
+        → n ≡ length (step_entry (writer_look writer.old) texts.now.bytes.now path.old step.now)) }
     ensures stopped { IfErr result (λ stop. stop ≢ Stop.All) }
 {
-    match reach_step(pen, brush, path, texts, step, place) {
-        Ok(width) if width > out.len() - at => Err(Stop::Full(width)),
-        Ok(_) => Ok(put_step(pen, brush, path, texts, step, out, at)),
-        Err(refusal) => Err(Stop::Refused(refusal)),
+    match reach_step(writer, path, texts, step, place) {
+        Ok(()) => {}
+        Err(refusal) => return Err(Stop::Refused(refusal)),
     }
+    let entry = writer.entry();
+    if entry.len() > out.len() - at {
+        return Err(Stop::Full(entry.len()));
+    }
+    let end = put_whole(out, at, entry);
+    set_flag(path, step.level, step.is_last);
+    Ok(end)
 }
 
 // How many bytes were drawn, of how many items, and why it ended there.
@@ -189,7 +173,7 @@ struct Drawn {
 // Draws items in turn, as many as there is room for.
 fn draw_steps(
     alloc: Global,
-    brush: &Brush<'_>,
+    config: &PrintConfig,
     path: &mut [u8],
     texts: &[u8],
     steps: &[Step],
@@ -197,7 +181,7 @@ fn draw_steps(
 ) -> Result<Drawn, AllocError>
     ensures items { IfOk result (λ d. d.items ≤ length steps.now) }
     ensures filled { IfOk result (λ d. IsFilled out.old
-        (steps_text (brush_look brush.now) texts.now path.old (take d.items steps.now))
+        (steps_text (written_look config.now) texts.now path.old (take d.items steps.now))
         out.new d.bytes) }
     ensures room { IfOk result (λ d. d.bytes ≤ length out.old) }
     ensures path { IfOk result (λ d. path.new ≡ path_after path.old (take d.items steps.now)) }
@@ -206,15 +190,15 @@ fn draw_steps(
     ensures full { IfOk result (λ d. (n : ℕ) → d.stop ≡ Stop.Full n
         → length out.old < d.bytes + n) }
     ensures next { IfOk result (λ d. (n : ℕ) → d.stop ≡ Stop.Full n
-        → IsNextLength (brush_look brush.now) texts.now path.new steps.now d.items n) }
+        → IsNextLength (written_look config.now) texts.now path.new steps.now d.items n) }
 {
     let known = Texts::new(texts);
-    let mut pen = Pen::new(alloc, brush)?;
+    let mut writer = ItemWriter::new(alloc, config, OutputKind::Unknown, false)?;
     let mut bytes = 0;
     let mut items = 0;
     let mut rest = steps;
     while let Some((step, tail)) = rest.split_first() {
-        match add_step(&mut pen, brush, path, &known, step, items, out, bytes) {
+        match add_step(&mut writer, path, &known, step, items, out, bytes) {
             Ok(end) => bytes = end,
             Err(stop) => return Ok(Drawn { bytes, items, stop }),
         }
@@ -253,9 +237,7 @@ fn draw_by_fields(
     ensures styled { 2 < fields.now.styled → IsErrOf result Refusal.Styled }
 {
     let config = config_of_fields(alloc, names, fields)?;
-    let brush = Brush::new(alloc, &config)?;
-    let drawn = draw_steps(alloc, &brush, path, texts, steps, out);
-    drop(brush);
+    let drawn = draw_steps(alloc, &config, path, texts, steps, out);
     drop(config);
     Ok(drawn?)
 }

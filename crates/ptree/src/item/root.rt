@@ -29,6 +29,7 @@ impl<C: Shaped> TreeItem for Root<'_, C> {
     type Child = C;
 
     /// Writes the text, painted. It does not allocate.
+    #[inline(always)]
     fn write_self<W: Sink>(&self, _alloc: Global, f: &mut W, style: &Style) -> Result<(), DrawError>
         ensures bytes { IsWritten (W.contents f.old) (W.contents f.new) result
             ((root_shape self.now.text.now (map C.shape self.now.children.now)).own []

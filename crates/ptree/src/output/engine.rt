@@ -69,6 +69,37 @@ fn put_rest<W: Sink>(f: &mut W, bytes: &[u8], error: &mut DrawError) -> Result<(
     put_or_stop(f, bytes, error)
 }
 
+// Gathers one entry, that of a root (`None`) or of a child. The first `width` bytes of the buffer are
+// the branch's start codes and the passing text of its parent. Its turning piece with the end codes
+// follows them. What the buffer held stays before what is gathered.
+#[inline(always)]
+pub(crate) fn gather_entry<C: TreeItem>(
+    item: &C,
+    pen: &mut Pen,
+    brush: &Brush<'_>,
+    width: usize,
+    last: Option<bool>,
+) -> Result<(), Stop>
+    requires width { width ≤ length (buffer_of pen.old) }
+    requires turned { HoldsOwnText brush.now pen.old width last }
+    ensures entry { OnOk result ((outer : List ℕ)
+        → HoldsPassing brush.now pen.old width outer
+        → buffer_of pen.new
+        ≡ own_entry (brush_look brush.now) outer last (C.shape item.now)) }
+    ensures kept { take (length (buffer_of pen.old)) (buffer_of pen.new) ≡ buffer_of pen.old }
+    ensures turned { pen.new.turned ≡ pen.old.turned }
+    ensures error { pen.new.error ≡ pen.old.error }
+{
+    let start = pen.line.len();
+    match item.write_self(brush.alloc, &mut pen.line, &brush.look.leaf) {
+        Ok(()) => {}
+        Err(_) => return Err(Stop),
+    }
+    pen.line.continue_lines(start, width, brush, last)?;
+    pen.line.end_line()?;
+    Ok(())
+}
+
 // Draws one entry: a root (`None`) or a child. The first `width` bytes of the buffer are the
 // branch's start codes and the passing text of its parent. Its turning piece with the end codes
 // follows them. The buffer holds the same afterwards.
@@ -95,12 +126,7 @@ pub(crate) fn draw_entry<C: TreeItem, W: Sink>(
     ensures turned { pen.new.turned ≡ pen.old.turned }
 {
     let start = pen.line.len();
-    match item.write_self(brush.alloc, &mut pen.line, &brush.look.leaf) {
-        Ok(()) => {}
-        Err(_) => return Err(Stop),
-    }
-    pen.line.continue_lines(start, width, brush, last)?;
-    pen.line.end_line()?;
+    gather_entry(item, pen, brush, width, last)?;
     put_buffer(f, pen.line.as_slice(), &mut pen.error)?;
     pen.line.truncate(start);
     Ok(())
@@ -276,7 +302,7 @@ fn draw_root<D: Drawn, W: Sink>(
     ensures cause { HasErrorCause (W.faults f.old) (W.faults f.new) pen.new.error }
 {
     let width = pen.line.len();
-    pen.line.append(brush.end.as_bytes())?;
+    pen.line.append(brush.end().as_bytes())?;
     root.draw_own(f, pen, brush, width)?;
     pen.line.truncate(width);
     if depth == 0 {
@@ -291,14 +317,14 @@ pub(crate) fn draw<D: Drawn, W: Sink>(
     alloc: Global,
     root: &D,
     f: &mut W,
-    look: &Look<'_>,
+    look: Look<'_>,
     depth: u32,
 ) -> Result<(), DrawError>
     ensures bytes { IsWritten (W.contents f.old) (W.contents f.new) result
-        (concat (drawn_entries (look_of look.now) depth (D.shape_to root.now depth))) }
+        (concat (drawn_entries (look_of look.entry) depth (D.shape_to root.now depth))) }
     ensures whole { result ≡ Err Memory
         → AppendsFirst (W.contents f.old) (W.contents f.new)
-        (drawn_entries (look_of look.now) depth (D.shape_to root.now depth)) }
+        (drawn_entries (look_of look.entry) depth (D.shape_to root.now depth)) }
     ensures cause { HasCause (W.faults f.old) (W.faults f.new) result }
 {
     let mut pen = Pen::new(alloc, &look.branch)?;

@@ -120,7 +120,9 @@ impl LineBuffer {
     #[inline(always)]
     pub(crate) fn replace_end(&mut self, width: usize, text: &str) -> Result<(), AllocError>
         requires { width ≤ length (line_bytes self.old) }
-        ensures { OnOk result (line_bytes self.new ≡ take width (line_bytes self.old) ++ text.now) }
+        ensures line { OnOk result
+            (line_bytes self.new ≡ take width (line_bytes self.old) ++ text.now) }
+        ensures kept { OnErr result (line_bytes self.new ≡ take width (line_bytes self.old)) }
     {
         self.truncate(width);
         self.append(text.as_bytes())
@@ -129,7 +131,8 @@ impl LineBuffer {
     // Puts a line feed.
     #[inline(always)]
     pub(crate) fn end_line(&mut self) -> Result<(), AllocError>
-        ensures { OnOk result (line_bytes self.new ≡ line_bytes self.old ++ line_feed ∷ []) }
+        ensures line { OnOk result (line_bytes self.new ≡ line_bytes self.old ++ line_feed ∷ []) }
+        ensures kept { OnErr result (line_bytes self.new ≡ line_bytes self.old) }
     {
         self.append(b"\n")
     }
@@ -146,8 +149,9 @@ impl LineBuffer {
     ) -> Result<(), AllocError>
         requires within { width ≤ start }
         requires start { start ≤ length (line_bytes self.old) }
-        ensures { OnOk result (line_bytes self.new ≡ spread_bytes start width
+        ensures line { OnOk result (line_bytes self.new ≡ spread_bytes start width
             (further_text (brush_look brush.now) last) (line_bytes self.old)) }
+        ensures kept { OnErr result (line_bytes self.new ≡ line_bytes self.old) }
     {
         if may_hold_line_feed(self.as_slice(), start) {
             self.spread(start, width, brush.further(last).as_bytes())
@@ -162,8 +166,9 @@ impl LineBuffer {
     fn spread(&mut self, start: usize, width: usize, further: &[u8]) -> Result<(), AllocError>
         requires within { width ≤ start }
         requires start { start ≤ length (line_bytes self.old) }
-        ensures { OnOk result (line_bytes self.new
+        ensures line { OnOk result (line_bytes self.new
             ≡ spread_bytes start width further.now (line_bytes self.old)) }
+        ensures kept { OnErr result (line_bytes self.new ≡ line_bytes self.old) }
     {
         let alloc = *self.room.allocator();
         let used = mem::replace(&mut self.used, 0);
@@ -171,6 +176,10 @@ impl LineBuffer {
         let held = mem::replace(&mut self.other, Vec::new(alloc));
         let spread = self.append_lines(&held[..used], start, width, further);
         self.other = held;
+        if spread.is_err() {
+            mem::swap(&mut self.room, &mut self.other);
+            self.used = used;
+        }
         spread
     }
 

@@ -1,5 +1,5 @@
 //! The engine's buffer between its calls.
-ghost use Rattle.std.specs.Prelude.{◌≡◌, ◌≤◌, true, false, Some, length, take, ◌++◌, IfOk, OnOk};
+ghost use Rattle.std.specs.Prelude.{◌≡◌, ◌≤◌, ◌+◌, true, false, Some, length, take, ◌++◌, IfOk, OnOk, OnErr};
 ghost use Rattle.ptree.specs.Line.{line_bytes};
 ghost use Rattle.ptree.specs.Looks.{own_text};
 ghost use Rattle.ptree.specs.Pen.{brush_look};
@@ -67,6 +67,42 @@ impl Pen {
         self.line.replace_end(width, brush.turn(is_last))
     }
 
+    // Puts an item's turning piece after the first `width` bytes, and cuts off what is behind it. The
+    // previous item's regular turning piece may be there already.
+    #[inline(always)]
+    pub(crate) fn turn_again(
+        &mut self,
+        width: usize,
+        brush: &Brush<'_>,
+        is_last: bool,
+    ) -> Result<(), AllocError>
+        requires width { width ≤ length (line_bytes self.old.line) }
+        requires turned { self.old.turned ≡ true
+            → take (width + length (own_text (brush_look brush.now) (Some false)))
+            (line_bytes self.old.line)
+            ≡ take width (line_bytes self.old.line)
+            ++ own_text (brush_look brush.now) (Some false) }
+        ensures line { OnOk result
+            (line_bytes self.new.line
+            ≡ take width (line_bytes self.old.line)
+            ++ own_text (brush_look brush.now) (Some is_last)) }
+        ensures kept { take width (line_bytes self.new.line)
+            ≡ take width (line_bytes self.old.line) }
+        ensures regular { OnOk result (self.new.turned ≡ true → is_last ≡ false) }
+        ensures stopped { OnErr result (self.new.turned ≡ false) }
+        ensures error { self.new.error ≡ self.old.error }
+    {
+        let piece = brush.turn(is_last);
+        if self.turned && !is_last {
+            self.line.truncate(width + piece.len());
+            return Ok(());
+        }
+        self.turned = false;
+        self.line.replace_end(width, piece)?;
+        self.turned = !is_last;
+        Ok(())
+    }
+
     // Puts an item's passing piece after the first `width` bytes, for what is below the item.
     #[inline(always)]
     pub(crate) fn pass(
@@ -80,6 +116,8 @@ impl Pen {
             (line_bytes self.new.line
             ≡ take width (line_bytes self.old.line)
             ++ passing_piece (brush_look brush.now).pieces is_last) }
+        ensures kept { OnErr result
+            (line_bytes self.new.line ≡ take width (line_bytes self.old.line)) }
         ensures turned { self.new.turned ≡ false }
         ensures error { self.new.error ≡ self.old.error }
     {

@@ -16,8 +16,19 @@ pub(crate) fn place(room: &mut [u8], at: usize, text: &[u8])
         8..16 => place_ends::<8>(room, at, text),
         16..32 => place_ends::<16>(room, at, text),
         32..64 => place_ends::<32>(room, at, text),
-        n => room[at..at + n].copy_from_slice(text),
+        _ => place_long(room, at, text),
     }
+}
+
+// Copies a text of any length. It is a function of its own, so that it is no part of what it is called
+// in.
+#[inline(never)]
+fn place_long(room: &mut [u8], at: usize, text: &[u8])
+    requires { at + length text.now ≤ length room.old }
+    ensures text { take (at + length text.now) room.new ≡ take at room.old ++ text.now }
+    ensures len { length room.new ≡ length room.old }
+{
+    room[at..at + text.len()].copy_from_slice(text);
 }
 
 // Copies a text of fewer than eight bytes. Most pieces have four or more, so these are tried first.

@@ -9,7 +9,7 @@ returns-in_err-look-clause-bytes g c = drawn_nothing _ (config_look c.args.confi
 pub returns-clause-bytes : goal.returns-clause-bytes
 returns-clause-bytes g c =
     drawn_under (look_of c.in_ok-look.look) _ (g.D.Drawn.shape_to c.args.root.now c.args.config.now.depth) c.args.config.now.depth
-    (g.W.Sink.contents c.args.f.now) (g.W.Sink.contents c.draw-drawn.new.f) c.draw-drawn.result c.in_ok-look.ensures c.draw-drawn.ensures.bytes
+    (g.W.Sink.contents c.args.f.now) (g.W.Sink.contents c.draw.new.f) c.draw.result c.in_ok-look.ensures c.draw.ensures.bytes
 
 pub returns-in_err-look-clause-whole : goal.returns-in_err-look-clause-whole
 returns-in_err-look-clause-whole g c = whole_nothing (config_look c.args.config.now c.args.output_kind c.args.terminal) (g.D.Drawn.shape_to c.args.root.now c.args.config.now.depth) c.args.config.now.depth _ _
@@ -17,4 +17,4 @@ returns-in_err-look-clause-whole g c = whole_nothing (config_look c.args.config.
 pub returns-clause-whole : goal.returns-clause-whole
 returns-clause-whole g c =
     whole_under (look_of c.in_ok-look.look) _ (g.D.Drawn.shape_to c.args.root.now c.args.config.now.depth) c.args.config.now.depth
-    (g.W.Sink.contents c.args.f.now) (g.W.Sink.contents c.draw-drawn.new.f) c.draw-drawn.result c.in_ok-look.ensures c.draw-drawn.ensures.whole
+    (g.W.Sink.contents c.args.f.now) (g.W.Sink.contents c.draw.new.f) c.draw.result c.in_ok-look.ensures c.draw.ensures.whole

@@ -25,7 +25,7 @@ use Rattle.ptree.proofs.graph.row.+draw_row.Goals.{draw_node-then-repeated-via-t
 
 pub draw_row-returns-in_err-set_flag-clause-bytes : goal.draw_row-returns-in_err-set_flag-clause-bytes
 draw_row-returns-in_err-set_flag-clause-bytes g t c = λ outer e.
-    let look = look_of c.args.brush.now.look.now in
+    let look = look_of c.args.brush.now.look in
     let graph = c.args.marked.now.graph.now in
     entries_err _ _ _ _ _ _ c.from_residual.ensures.1
     (entries_none _ c.args.pen.now.error (kid_entries look (entries_below look c.args.levels_left) outer (map (occurrence_shape g.N.Label.text graph c.args.marked.now.mark.now) (kids_grown (neighbors_of (edges_of graph)) c.args.levels_left (flags_of graph c.args.seen.now.items) c.args.node.0))))
@@ -33,7 +33,7 @@ draw_row-returns-in_err-set_flag-clause-bytes g t c = λ outer e.
 pub draw_row-loop-number-init : goal.draw_row-loop-number-init
 draw_row-loop-number-init g t c =
     let wide : c.len-width.result ≡ length (line_bytes c.args.pen.now.line) = c.len-width.ensures in
-    let look = look_of c.args.brush.now.look.now in
+    let look = look_of c.args.brush.now.look in
     let graph = c.args.marked.now.graph.now in
     let set = c.in_ok-set_flag.ensures.flags (length (weights_of graph)) c.requires.node c.requires.length in
     let (all, seen, newest) = row_starts graph c.args.levels_left c.args.node.0 c.args.newest (flags_of graph c.args.seen.now.items) (flags_of graph c.set_flag.new.seen.items) c.requires.newest c.requires.some set.0 in
@@ -58,7 +58,7 @@ draw_row-loop-number-smaller g t c =
 
 pub draw_row-returns-in_err-turn-clause-bytes : goal.draw_row-returns-in_err-turn-clause-bytes
 draw_row-returns-in_err-turn-clause-bytes g t c = λ outer e.
-    let look = look_of c.args.brush.now.look.now in
+    let look = look_of c.args.brush.now.look in
     entries_err _ _ _ _ _ _ c.from_residual-in_err-turn.ensures.1 (begun_part look (entries_below look c.args.levels_left) outer _ _ _ _ c.turn.new.self.error (c.loop-number.invariant.begun outer e))
 
 pub draw_row-turn-requires : goal.draw_row-turn-requires
@@ -75,7 +75,7 @@ draw_row-draw_node-requires g t c =
 
 pub draw_row-returns-in_err-draw_node-clause-bytes : goal.draw_row-returns-in_err-draw_node-clause-bytes
 draw_row-returns-in_err-draw_node-clause-bytes g t c = λ outer e.
-    let look = look_of c.args.brush.now.look.now in
+    let look = look_of c.args.brush.now.look in
     let graph = c.args.marked.now.graph.now in
     let last = flags_of graph c.loop-number.seen.items in
     let edge = c.index-edge.result.now in
@@ -87,7 +87,7 @@ draw_row-returns-in_err-draw_node-clause-bytes g t c = λ outer e.
 
 pub draw_row-loop-number-preserved : goal.draw_row-loop-number-preserved
 draw_row-loop-number-preserved g t c =
-    let look = look_of c.args.brush.now.look.now in
+    let look = look_of c.args.brush.now.look in
     let graph = c.args.marked.now.graph.now in
     let inv = c.loop-number.invariant in
     let next = row_next graph c.args.levels_left c.args.node.0 c.loop-number.number c.index-edge.result.now (flags_of graph c.loop-number.seen.items) (flags_of graph c.draw_node.new.seen.items) (omega arith) inv.newest c.index-edge.ensures c.in_ok-draw_node.ensures.seen in
@@ -105,7 +105,7 @@ draw_row-loop-number-preserved g t c =
 
 pub draw_row-returns-clause-bytes : goal.draw_row-returns-clause-bytes
 draw_row-returns-clause-bytes g t c = λ outer e.
-    let look = look_of c.args.brush.now.look.now in
+    let look = look_of c.args.brush.now.look in
     let graph = c.args.marked.now.graph.now in
     let ended : c.loop-number.number ≡ 0 = omega (arith, c.loop-number-test.false) in
     let none = ap (λ k. map (occurrence_shape g.N.Label.text graph c.args.marked.now.mark.now) (row_occurrences (grow (neighbors_of (edges_of graph)) c.args.levels_left) (flags_of graph c.loop-number.seen.items) (neighbors_of (take k (edges_of graph)) c.args.node.0))) ended in
@@ -119,7 +119,7 @@ draw_row-returns-clause-seen g t c =
 
 pub draw_node-returns-in_err-draw_entry-clause-bytes : goal.draw_node-returns-in_err-draw_entry-clause-bytes
 draw_node-returns-in_err-draw_entry-clause-bytes g t c = λ outer e.
-    let look = look_of c.args.brush.now.look.now in
+    let look = look_of c.args.brush.now.look in
     let graph = c.args.marked.now.graph.now in
     let v = c.args.node.0 in
     let tree = (grow (neighbors_of (edges_of graph)) c.args.levels_left (flags_of graph c.args.seen.now.items) v).occurrence in
@@ -128,7 +128,7 @@ draw_node-returns-in_err-draw_entry-clause-bytes g t c = λ outer e.
 
 pub draw_node-returns-in_err-pass-clause-bytes : goal.draw_node-returns-in_err-pass-clause-bytes
 draw_node-returns-in_err-pass-clause-bytes g t c = λ outer e.
-    let look = look_of c.args.brush.now.look.now in
+    let look = look_of c.args.brush.now.look in
     let graph = c.args.marked.now.graph.now in
     let v = c.args.node.0 in
     let shape : OccurrenceTree → Shape = occurrence_shape g.N.Label.text graph c.args.marked.now.mark.now in
@@ -139,7 +139,7 @@ draw_node-returns-in_err-pass-clause-bytes g t c = λ outer e.
 
 pub draw_node-returns-clause-bytes : goal.draw_node-returns-clause-bytes
 draw_node-returns-clause-bytes g t c = λ outer e.
-    let look = look_of c.args.brush.now.look.now in
+    let look = look_of c.args.brush.now.look in
     let graph = c.args.marked.now.graph.now in
     let v = c.args.node.0 in
     expanded_written g.N.Label.text graph c.args.marked.now.mark.now _ _ _ _ _ look outer c.args.is_last c.args.levels_left c.args.seen.now.items v _ _ (λ z. c.if-levels_left-eq0.false z) c.if-repeated.false
@@ -158,7 +158,7 @@ draw_node-returns-then-repeated-clause-bytes g t c = λ outer e.
     let flag : c.is_flagged-repeated.result ≡ is_seen seen v = flag_read (length (weights_of graph)) c.args.seen.now.items _ v _ c.is_flagged-repeated.ensures c.deref.ensures.value in
     let stop = stopped (neighbors_of (edges_of graph)) c.args.levels_left seen v
     (elim c.then-repeated.branch [ draw_node-then-repeated-via-then-repeated w ↦ inl (sym flag ∙ w.if-repeated.true) | draw_node-then-repeated-via-else-repeated+then-levels_left-eq0 w ↦ inr w.if-levels_left-eq0.true ]) in
-    leaf_drawn g.N.Label.text graph c.args.marked.now.mark.now _ _ (look_of c.args.brush.now.look.now) outer c.args.is_last c.args.levels_left c.args.seen.now.items v _ _ _ _ stop
+    leaf_drawn g.N.Label.text graph c.args.marked.now.mark.now _ _ (look_of c.args.brush.now.look) outer c.args.is_last c.args.levels_left c.args.seen.now.items v _ _ _ _ stop
     (node_at graph v c.index-record.result.now c.requires.node c.index-record.ensures).0 (c.is_flagged-repeated.ensures ∙ ap (λ l. is_seen l v) c.deref.ensures.value) (c.in_ok-draw_entry.ensures.bytes outer e)
 
 pub draw_node-returns-then-repeated-clause-seen : goal.draw_node-returns-then-repeated-clause-seen
@@ -179,7 +179,7 @@ draw_node-returns-then-newest-eq0-clause-bytes g t c = λ outer e.
     let flag : c.is_flagged-repeated.result ≡ is_seen seen v = flag_read (length (weights_of graph)) c.args.seen.now.items _ v _ c.is_flagged-repeated.ensures c.deref.ensures.value in
     let node = node_at graph v c.index-record.result.now c.requires.node c.index-record.ensures in
     let none : below v ≡ [] = sym (newest_starts (edges_of graph) v c.index-record.result.now.newest node.1).0 ∙ ap (λ k. neighbors_of (take k (edges_of graph)) v) c.if-newest-eq0.true in
-    leaf_drawn g.N.Label.text graph c.args.marked.now.mark.now _ _ (look_of c.args.brush.now.look.now) outer c.args.is_last c.args.levels_left c.args.seen.now.items v _ _ _ _
+    leaf_drawn g.N.Label.text graph c.args.marked.now.mark.now _ _ (look_of c.args.brush.now.look) outer c.args.is_last c.args.levels_left c.args.seen.now.items v _ _ _ _
     (without below c.args.levels_left seen v c.if-levels_left-eq0.false (sym flag ∙ c.if-repeated.false) none) node.0 (c.is_flagged-repeated.ensures ∙ ap (λ l. is_seen l v) c.deref.ensures.value) (c.in_ok-draw_entry.ensures.bytes outer e)
 
 pub draw_node-returns-then-newest-eq0-clause-seen : goal.draw_node-returns-then-newest-eq0-clause-seen

@@ -25,7 +25,7 @@ invariant-draw_row-loop-number g l =
     let below = neighbors_of (edges_of graph) in
     let one = grow below l.levels_left in
     let left = neighbors_of (take l.number (edges_of graph)) l.fn.node.0 in
-    let look = look_of l.brush.look.now in
+    let look = look_of l.brush.look in
     let shape = occurrence_shape g.N.Label.text graph l.marked.mark.now in
     record {
       begun : (outer : List ℕ) → line_bytes l.fn.pen.line ≡ start_codes look.branch ++ outer

@@ -13,7 +13,7 @@ pub draw_children-loop-item-init : goal.draw_children-loop-item-init
 draw_children-loop-item-init g t c =
     let wide : c.len-width.result ≡ length (line_bytes c.args.pen.now.line) = c.len-width.ensures in
     record {
-      begun = λ outer e. begun_none (look_of c.args.brush.now.look.now) (entries_below (look_of c.args.brush.now.look.now) c.args.levels_left) outer _ _ _ refl;
+      begun = λ outer e. begun_none (look_of c.args.brush.now.look) (entries_below (look_of c.args.brush.now.look) c.args.levels_left) outer _ _ _ refl;
       no_fault = refl;
       error = c.requires.error;
       kept = take_all c.len-width.result _ (omega (arith, wide));
@@ -22,7 +22,7 @@ draw_children-loop-item-init g t c =
 
 pub draw_children-returns-in_err-turn-clause-bytes : goal.draw_children-returns-in_err-turn-clause-bytes
 draw_children-returns-in_err-turn-clause-bytes g t c = λ outer e.
-    let look = look_of c.args.brush.now.look.now in
+    let look = look_of c.args.brush.now.look in
     entries_err _ _ _ _ _ _ c.from_residual.ensures.1 (begun_part look (entries_below look c.args.levels_left) outer _ _ _ _ c.turn.new.self.error (c.loop-item.invariant.begun outer e))
 
 pub draw_children-turn-requires : goal.draw_children-turn-requires
@@ -36,7 +36,7 @@ draw_children-cut-requires g t c = long_enough _ _ _ c.loop-item.invariant.kept 
 
 pub draw_children-returns-in_err-draw_item-clause-bytes : goal.draw_children-returns-in_err-draw_item-clause-bytes
 draw_children-returns-in_err-draw_item-clause-bytes g t c = λ outer e.
-    let look = look_of c.args.brush.now.look.now in
+    let look = look_of c.args.brush.now.look in
     let inv = c.loop-item.invariant in
     let kept = take_again c.len-width.result (line_bytes c.loop-item.pen.line) _ _ (long_enough _ _ _ inv.kept c.len-width.ensures) c.in_ok-turn.ensures.line ∙ inv.kept in
     entries_err _ _ _ _ _ _ c.from_residual-in_err-draw_item.ensures.1
@@ -44,7 +44,7 @@ draw_children-returns-in_err-draw_item-clause-bytes g t c = λ outer e.
 
 pub draw_children-loop-item-preserved : goal.draw_children-loop-item-preserved
 draw_children-loop-item-preserved g t c =
-    let look = look_of c.args.brush.now.look.now in
+    let look = look_of c.args.brush.now.look in
     let inv = c.loop-item.invariant in
     let kept = take_again c.len-width.result (line_bytes c.loop-item.pen.line) _ _ (long_enough _ _ _ inv.kept c.len-width.ensures) c.in_ok-turn.ensures.line in
     record {
@@ -57,21 +57,21 @@ draw_children-loop-item-preserved g t c =
 
 pub draw_item-returns-in_err-draw_entry-clause-bytes : goal.draw_item-returns-in_err-draw_entry-clause-bytes
 draw_item-returns-in_err-draw_entry-clause-bytes g t c = λ outer e.
-    let look = look_of c.args.brush.now.look.now in
+    let look = look_of c.args.brush.now.look in
     entries_err _ _ _ _ _ _ c.from_residual.ensures.1
     (entry_part _ _ _ _ (entries_below look c.args.levels_left (outer ++ passing_piece look.pieces c.args.is_last) (g.C.Shaped.shape c.args.item.now)) (c.in_err-draw_entry.ensures.bytes outer e) c.in_err-draw_entry.ensures.memory)
 
 pub draw_item-returns-in_err-children-clause-bytes : goal.draw_item-returns-in_err-children-clause-bytes
 draw_item-returns-in_err-children-clause-bytes g t c = λ outer e.
-    item_alone (look_of c.args.brush.now.look.now) c.args.levels_left outer c.args.is_last (g.C.Shaped.shape c.args.item.now) _ _ _ _ c.draw_entry.new.pen.error (λ z. c.if-levels_left-eq0.false z) (c.in_ok-draw_entry.ensures.bytes outer e) c.from_residual-in_err-children.ensures.1
+    item_alone (look_of c.args.brush.now.look) c.args.levels_left outer c.args.is_last (g.C.Shaped.shape c.args.item.now) _ _ _ _ c.draw_entry.new.pen.error (λ z. c.if-levels_left-eq0.false z) (c.in_ok-draw_entry.ensures.bytes outer e) c.from_residual-in_err-children.ensures.1
 
 pub draw_item-returns-in_err-pass-clause-bytes : goal.draw_item-returns-in_err-pass-clause-bytes
 draw_item-returns-in_err-pass-clause-bytes g t c = λ outer e.
-    item_alone (look_of c.args.brush.now.look.now) c.args.levels_left outer c.args.is_last (g.C.Shaped.shape c.args.item.now) _ _ _ _ c.pass.new.self.error (λ z. c.if-levels_left-eq0.false z) (c.in_ok-draw_entry.ensures.bytes outer e) c.from_residual-in_err-pass.ensures.1
+    item_alone (look_of c.args.brush.now.look) c.args.levels_left outer c.args.is_last (g.C.Shaped.shape c.args.item.now) _ _ _ _ c.pass.new.self.error (λ z. c.if-levels_left-eq0.false z) (c.in_ok-draw_entry.ensures.bytes outer e) c.from_residual-in_err-pass.ensures.1
 
 pub draw_item-returns-clause-bytes : goal.draw_item-returns-clause-bytes
 draw_item-returns-clause-bytes g t c = λ outer e.
-    let look = look_of c.args.brush.now.look.now in
+    let look = look_of c.args.brush.now.look in
     let passing = outer ++ passing_piece look.pieces c.args.is_last in
     item_written look c.args.levels_left outer c.args.is_last (g.C.Shaped.shape c.args.item.now) _ _ _ _ _ (λ z. c.if-levels_left-eq0.false z)
     (c.in_ok-draw_entry.ensures.bytes outer e)
@@ -81,6 +81,6 @@ draw_item-returns-clause-bytes g t c = λ outer e.
 
 pub draw_item-returns-then-is_empty-clause-bytes : goal.draw_item-returns-then-is_empty-clause-bytes
 draw_item-returns-then-is_empty-clause-bytes g t c = λ outer e.
-    leaf_written (look_of c.args.brush.now.look.now) c.args.levels_left outer c.args.is_last (g.C.Shaped.shape c.args.item.now) _ _
+    leaf_written (look_of c.args.brush.now.look) c.args.levels_left outer c.args.is_last (g.C.Shaped.shape c.args.item.now) _ _
     (none_below (g.C.Shaped.shape c.args.item.now) g.C.Shaped.shape c.as_slice.result.now c.is_empty.result c.if-is_empty.true c.is_empty.ensures (ap (map g.C.Shaped.shape) c.as_slice.ensures ∙ c.in_ok-children.ensures))
     (c.in_ok-draw_entry.ensures.bytes outer e)

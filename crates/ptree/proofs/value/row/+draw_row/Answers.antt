@@ -17,7 +17,7 @@ use Rattle.ptree.proofs.value.row.+draw_row.Goals.{draw_node-then-levels_left-eq
 pub draw_row-loop-node-init : goal.draw_row-loop-node-init
 draw_row-loop-node-init g t c =
     let wide : c.len-width.result ≡ length (line_bytes c.args.pen.now.line) = c.len-width.ensures in
-    let look = look_of c.args.brush.now.look.now in
+    let look = look_of c.args.brush.now.look in
     record {
       begun = λ outer e. begun_none look (entries_below look c.args.levels_left) outer _ _ _ (ap (map pair_shape) (sym c.of-row.ensures));
       no_fault = refl;
@@ -28,7 +28,7 @@ draw_row-loop-node-init g t c =
 
 pub draw_row-returns-in_err-turn-clause-bytes : goal.draw_row-returns-in_err-turn-clause-bytes
 draw_row-returns-in_err-turn-clause-bytes g t c = λ outer e.
-    let look = look_of c.args.brush.now.look.now in
+    let look = look_of c.args.brush.now.look in
     entries_err _ _ _ _ _ _ c.from_residual.ensures.1 (begun_part look (entries_below look c.args.levels_left) outer _ _ _ _ c.turn.new.self.error (c.loop-node.invariant.begun outer e))
 
 pub draw_row-turn-requires : goal.draw_row-turn-requires
@@ -42,7 +42,7 @@ draw_row-cut-requires g t c = long_enough _ _ _ c.loop-node.invariant.kept c.len
 
 pub draw_row-returns-in_err-draw_node-clause-bytes : goal.draw_row-returns-in_err-draw_node-clause-bytes
 draw_row-returns-in_err-draw_node-clause-bytes g t c = λ outer e.
-    let look = look_of c.args.brush.now.look.now in
+    let look = look_of c.args.brush.now.look in
     let inv = c.loop-node.invariant in
     let kept = take_again c.len-width.result (line_bytes c.loop-node.pen.line) _ _ (long_enough _ _ _ inv.kept c.len-width.ensures) c.in_ok-turn.ensures.line ∙ inv.kept in
     entries_err _ _ _ _ _ _ c.from_residual-in_err-draw_node.ensures.1
@@ -50,7 +50,7 @@ draw_row-returns-in_err-draw_node-clause-bytes g t c = λ outer e.
 
 pub draw_row-loop-node-preserved : goal.draw_row-loop-node-preserved
 draw_row-loop-node-preserved g t c =
-    let look = look_of c.args.brush.now.look.now in
+    let look = look_of c.args.brush.now.look in
     let inv = c.loop-node.invariant in
     let kept = take_again c.len-width.result (line_bytes c.loop-node.pen.line) _ _ (long_enough _ _ _ inv.kept c.len-width.ensures) c.in_ok-turn.ensures.line in
     record {
@@ -63,17 +63,17 @@ draw_row-loop-node-preserved g t c =
 
 pub draw_node-returns-in_err-draw_entry-clause-bytes : goal.draw_node-returns-in_err-draw_entry-clause-bytes
 draw_node-returns-in_err-draw_entry-clause-bytes g t c = λ outer e.
-    let look = look_of c.args.brush.now.look.now in
+    let look = look_of c.args.brush.now.look in
     entries_err _ _ _ _ _ _ c.from_residual.ensures.1
     (entry_part _ _ _ _ (entries_below look c.args.levels_left (outer ++ passing_piece look.pieces c.args.is_last) (pair_shape (node_pair_of c.args.node.now))) (c.in_err-draw_entry.ensures.bytes outer e) c.in_err-draw_entry.ensures.memory)
 
 pub draw_node-returns-in_err-pass-clause-bytes : goal.draw_node-returns-in_err-pass-clause-bytes
 draw_node-returns-in_err-pass-clause-bytes g t c = λ outer e.
-    item_alone (look_of c.args.brush.now.look.now) c.args.levels_left outer c.args.is_last (pair_shape (node_pair_of c.args.node.now)) _ _ _ _ c.pass.new.self.error (λ z. c.if-levels_left-eq0.false z) (c.in_ok-draw_entry.ensures.bytes outer e) c.from_residual-in_err-pass.ensures.1
+    item_alone (look_of c.args.brush.now.look) c.args.levels_left outer c.args.is_last (pair_shape (node_pair_of c.args.node.now)) _ _ _ _ c.pass.new.self.error (λ z. c.if-levels_left-eq0.false z) (c.in_ok-draw_entry.ensures.bytes outer e) c.from_residual-in_err-pass.ensures.1
 
 pub draw_node-returns-then-levels_left-eq0-clause-bytes : goal.draw_node-returns-then-levels_left-eq0-clause-bytes
 draw_node-returns-then-levels_left-eq0-clause-bytes g t c = λ outer e.
-    let look = look_of c.args.brush.now.look.now in
+    let look = look_of c.args.brush.now.look in
     let pair = node_pair_of c.args.node.now in
     let passing = outer ++ passing_piece look.pieces c.args.is_last in
     alone_written _ _ _ (entries_below look c.args.levels_left passing (pair_shape pair))
@@ -86,7 +86,7 @@ draw_node-returns-then-levels_left-eq0-clause-bytes g t c = λ outer e.
 
 pub draw_node-returns-clause-bytes : goal.draw_node-returns-clause-bytes
 draw_node-returns-clause-bytes g t c = λ outer e.
-    let look = look_of c.args.brush.now.look.now in
+    let look = look_of c.args.brush.now.look in
     let pair = node_pair_of c.args.node.now in
     let passing = outer ++ passing_piece look.pieces c.args.is_last in
     item_written look c.args.levels_left outer c.args.is_last (pair_shape pair) _ _ _ _ _ (λ z. c.if-levels_left-eq0.false z)

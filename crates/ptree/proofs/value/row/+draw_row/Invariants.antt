@@ -19,13 +19,13 @@ decreases-draw_node g l = 2 * l.levels_left
 -- the entries so far
 abbrev pub invariant-draw_row-loop-node : goal.invariant-draw_row-loop-node
 invariant-draw_row-loop-node g l = record {
-  begun : (outer : List ℕ) → line_bytes l.fn.pen.line ≡ start_codes (look_of l.brush.look.now).branch ++ outer
-      → (let look = look_of l.brush.look.now in AreBegun look (entries_below look l.levels_left) outer (map pair_shape (value_pairs (part_of l.part)))
+  begun : (outer : List ℕ) → line_bytes l.fn.pen.line ≡ start_codes (look_of l.brush.look).branch ++ outer
+      → (let look = look_of l.brush.look in AreBegun look (entries_below look l.levels_left) outer (map pair_shape (value_pairs (part_of l.part)))
       (map pair_shape (row_pairs l.row)) (g.W.Sink.contents l.fn.f) (g.W.Sink.contents l.f));
   no_fault : g.W.Sink.faults l.f ≡ g.W.Sink.faults l.fn.f;
   error : l.pen.error ≡ Memory;
   kept : take l.width (line_bytes l.pen.line) ≡ line_bytes l.fn.pen.line;
-  turned : l.pen.turned ≡ true → 0 < length (row_pairs l.row) → line_bytes l.pen.line ≡ take l.width (line_bytes l.pen.line) ++ own_text (look_of l.brush.look.now) (Some false);
+  turned : l.pen.turned ≡ true → 0 < length (row_pairs l.row) → line_bytes l.pen.line ≡ take l.width (line_bytes l.pen.line) ++ own_text (look_of l.brush.look) (Some false);
 }
 
 abbrev pub decreases-draw_row-loop-node : goal.decreases-draw_row-loop-node

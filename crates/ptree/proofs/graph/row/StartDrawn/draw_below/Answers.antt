@@ -17,7 +17,7 @@ use Rattle.ptree.proofs.graph.row.StartDrawn.draw_below.Goals as goal
 
 pub returns-clause-bytes : goal.returns-clause-bytes
 returns-clause-bytes g c =
-    let look = look_of c.args.brush.now.look.now in
+    let look = look_of c.args.brush.now.look in
     let graph = c.args.self.now.marked.graph.now in
     let mark = c.args.self.now.marked.mark.now in
     let v = c.args.self.now.node.0 in
@@ -28,7 +28,7 @@ returns-clause-bytes g c =
 
 pub returns-then-newest-eq0-clause-bytes : goal.returns-then-newest-eq0-clause-bytes
 returns-then-newest-eq0-clause-bytes g c =
-    let look = look_of c.args.brush.now.look.now in
+    let look = look_of c.args.brush.now.look in
     let graph = c.args.self.now.marked.graph.now in
     let v = c.args.self.now.node.0 in
     let contents = g.W.Sink.contents c.args.f.now in

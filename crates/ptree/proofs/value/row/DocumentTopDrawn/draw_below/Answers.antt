@@ -11,7 +11,7 @@ use Rattle.ptree.proofs.value.row.DocumentTopDrawn.draw_below.Goals as goal
 
 pub returns-clause-bytes : goal.returns-clause-bytes
 returns-clause-bytes g c =
-    let look = look_of c.args.brush.now.look.now in
+    let look = look_of c.args.brush.now.look in
     let pair = node_pair_of c.args.self.now.0 in
     all_below look (entries_below look (c.args.depth - 1)) [] (pair_shape pair) _ _ _ _ pair_shape (value_pairs (part_of c.part.result.now))
     (ap (map pair_shape) c.part.ensures ∙ kids_of_unfold pair_own pair_below pair)
