@@ -1,9 +1,10 @@
 -- Items that are given one by one.
+use Rattle.std.specs.Prelude.{[]}
 use Rattle.ptree.specs.Drawing.{Look}
 use Rattle.ptree.specs.GivenItems.{GivenItem}
-use Rattle.ptree.specs.Style.{painted_text}
+use Rattle.ptree.specs.Shape.{Shape}
 use Rattle.examples.specs.declared.giving.Given.{Given}
 
--- what an item is drawn by
-abbrev pub given : Look → Given → GivenItem
-given look item = record { level = item.level; last = item.is_last; own = painted_text look.leaf item.text.now }
+-- what an item is drawn by, where the items have these shapes
+abbrev pub given : {T : Type 0} → (T → Shape) → Look → Given T → GivenItem
+given shape look g = record { level = g.level; last = g.is_last; own = (shape g.item.now).own [] look.leaf }

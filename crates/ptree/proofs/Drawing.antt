@@ -7,7 +7,8 @@ pub mod Overlaid
 pub mod Engine
 pub mod Drawn
 pub mod CutTrees
-pub mod GivenItems
+pub mod GivenAddresses
+pub mod GivenLines
 pub mod Standing
 pub mod Subtrees
 pub mod Laws

@@ -37,6 +37,11 @@ abbrev pub item_error : AddError → ItemError
 item_error add.Level = item.Level
 item_error add.Memory = item.Draw Memory
 
+-- an error of a writer of items as an error of std: the drawing's, or one of a kind
+abbrev pub IsItemIoError : ItemError → Error → Type 0
+IsItemIoError item.Level told = error_kind told ≡ InvalidInput
+IsItemIoError (item.Draw e) told = IsIoError e told
+
 -- the kind of the error of refused edges
 abbrev pub edge_kind : EdgeError → ErrorKind
 edge_kind edge.NoNode = InvalidInput

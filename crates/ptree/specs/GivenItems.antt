@@ -1,10 +1,12 @@
 -- Items given one by one in the order of drawing, each with its level and whether it is its parent's last child.
-use Rattle.std.specs.Prelude.{◌≡◌, ◌≤◌, ◌-◌, ℕ, Bool, not, nat_eq, if◌then◌else◌, Option, Some, None, List, [], ◌∷◌, ◌++◌, take}
-use Rattle.ptree.specs.Drawing.{Look, entry_from, IsDrawing}
+use Rattle.std.specs.Prelude.{◌≡◌, ◌<◌, ◌≤◌, ◌-◌, ℕ, Bool, not, nat_eq, if◌then◌else◌, Option, Some, None, List, [], ◌∷◌, ◌++◌, length, take}
+use Rattle.ptree.specs.Address.{Address, IsAddressList, is_last}
+use Rattle.ptree.specs.Drawing.{Look, entry_from, own_at, IsDrawing}
 use Rattle.ptree.specs.Flags.{has_later}
 use Rattle.ptree.specs.Looks.{own_piece, below_piece}
 use Rattle.ptree.specs.Outline.{Line, outline}
 use Rattle.ptree.specs.Pieces.{passing_all}
+use Rattle.ptree.specs.Shape.{Shape, kids}
 use Rattle.ptree.specs.Style.{painted_text}
 use Rattle.ptree.specs.Tree.{Tree, height, shape_of_tree}
 
@@ -35,6 +37,27 @@ abbrev pub given_text : Look → List Bool → List GivenItem → List ℕ
 given_text look path [] = []
 given_text look path (i ∷ items) = entry_behind look path i.level i.last i.own ++ given_text look (path_with path i.level i.last) items
 
+-- an item is the one at an address: its level is the address's length
+pub record IsAt (look : Look) (x : Shape) (a : Address) (i : GivenItem) : Type 0 where
+  pub level : i.level ≡ length a
+  pub last : 0 < length a → i.last ≡ is_last kids x a
+  pub own : i.own ≡ own_at look x a
+
+-- item k is the one at address k
+abbrev pub AreAt : Look → Shape → List Address → List GivenItem → Type 0
+AreAt look x [] [] = Unit {0}
+AreAt look x [] (i ∷ items) = ⊥
+AreAt look x (a ∷ list) [] = ⊥
+AreAt look x (a ∷ list) (i ∷ items) = IsAt look x a i × AreAt look x list items
+
+-- the entries of the items of a shape, in the order of their addresses, are its drawing, whatever
+-- came before
+abbrev pub DrawsItems : Look → Type 0
+DrawsItems look =
+    (x : Shape) (depth : ℕ) (list : List Address) (path : List Bool) (items : List GivenItem)
+    → IsAddressList kids x depth list → AreAt look x list items
+    → IsDrawing look x depth (given_text look path items)
+
 -- an item with the level and the text of a line, which is a last child if none of the lines after it has its level before one above it
 pub record IsGivenAs (look : Look) (l : Line) (later : List Line) (i : GivenItem) : Type 0 where
   pub level : i.level ≡ l.level
@@ -48,8 +71,9 @@ AreGivenAs look [] (i ∷ items) = ⊥
 AreGivenAs look (l ∷ o) [] = ⊥
 AreGivenAs look (l ∷ o) (i ∷ items) = IsGivenAs look l o i × AreGivenAs look o items
 
--- the entries of a tree's items are its drawing, whatever came before
-abbrev pub DrawsItems : Look → Type 0
-DrawsItems look =
-    (t : Tree) (path : List Bool) (items : List GivenItem) (depth : ℕ) → height t.children ≤ depth → AreGivenAs look (outline t) items
+-- the same of a tree's items, where which are last children is told by the levels after them
+abbrev pub DrawsLines : Look → Type 0
+DrawsLines look =
+    (t : Tree) (path : List Bool) (items : List GivenItem) (depth : ℕ) → height t.children ≤ depth
+    → AreGivenAs look (outline t) items
     → IsDrawing look (shape_of_tree t) depth (given_text look path items)

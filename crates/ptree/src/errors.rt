@@ -58,6 +58,22 @@ impl From<DrawError> for ItemError {
     }
 }
 
+impl From<AllocError> for ItemError {
+    ghost from_gives = { λ _ e. e ≡ item.Draw draw.Memory };
+
+    fn from(_e: AllocError) -> ItemError {
+        ItemError::Draw(DrawError::Memory)
+    }
+}
+
+impl<T: Drop> From<AllocFailed<T>> for ItemError {
+    ghost from_gives = { λ _ e. e ≡ item.Draw draw.Memory };
+
+    fn from(_e: AllocFailed<T>) -> ItemError {
+        ItemError::Draw(DrawError::Memory)
+    }
+}
+
 impl From<AllocError> for EdgeError {
     ghost from_gives = { λ _ e. e ≡ edge.Memory };
 
@@ -220,6 +236,21 @@ impl From<AddError> for io::Error {
             AddError::Memory => ErrorKind::OutOfMemory,
         };
         io_error(kind, &e)
+    }
+}
+
+impl From<ItemError> for io::Error {
+    ghost use Rattle.ptree.specs.Errors.{IsItemIoError};
+
+    ghost from_gives = { IsItemIoError };
+
+    /// Returns what a failed drawing's error gives, or else an error with the same text, of the
+    /// kind `InvalidInput`.
+    fn from(e: ItemError) -> io::Error {
+        match e {
+            ItemError::Draw(e) => io::Error::from(e),
+            refused => io_error(ErrorKind::InvalidInput, &refused),
+        }
     }
 }
 

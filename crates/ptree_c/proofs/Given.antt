@@ -12,9 +12,10 @@ use Rattle.ptree.specs.Reached.{AreWithin}
 use Rattle.ptree.specs.Style.{painted_text}
 use Rattle.ptree.specs.Tree.{shape_of_tree}
 use Rattle.ptree.specs.declared.output.writer.ItemWriter.{ItemWriter}
-use Rattle.ptree.proofs.Drawing.GivenItems.{draws_items}
+use Rattle.ptree.proofs.Drawing.GivenLines.{draws_lines}
 use Rattle.ptree.proofs.Reading.SpelledForms.{tree_steps, low_height}
 use Rattle.ptree_c.specs.Fields.{is_set}
+use Rattle.ptree_c.specs.Outlines.{given_of}
 use Rattle.ptree_c.specs.Steps.{path_flags, step_own, step_entry, path_with, path_after, steps_text, IsOnPath, AreStepsOf, DrawsTrees, DrawsParts}
 use Rattle.ptree_c.specs.declared.steps.Step.{Step}
 use Rattle.ptree_c.proofs.Walks.{with_length}
@@ -53,12 +54,8 @@ on_path_with path old new level last h on few is =
     let wide : length (path_of new) ≡ level = ap length same ∙ (length-map (take level next) is_set ∙ length-take-le level next (omega (arith, h, long))) in
     (omega (arith, wide, h, long), same ∙ ap (path_flags next) (sym wide))
 
--- a step as an item that is given
-abbrev given_of : Look → List ℕ → Step → GivenItem
-given_of look texts s = record { level = s.level; last = is_set s.is_last; own = step_own look texts s }
-
 -- the steps of lines are given as the lines
-are_given : (look : Look) (texts : List ℕ) (o : List Line) (steps : List Step) → AreStepsOf texts o steps → AreGivenAs look o (map (given_of look texts) steps)
+pub are_given : (look : Look) (texts : List ℕ) (o : List Line) (steps : List Step) → AreStepsOf texts o steps → AreGivenAs look o (map (given_of look texts) steps)
 are_given look texts [] [] are = tt
 are_given look texts [] (s ∷ steps) are = absurd are
 are_given look texts (l ∷ o) [] are = absurd are
@@ -99,7 +96,7 @@ draws_trees look texts t path (s ∷ steps) depth long high are =
     ∙ sym (ap (λ m. given_text look (given.path_with [] m (is_set s.is_last)) items) level)) in
     let whole : steps_text look texts path (s ∷ steps) ≡ given_text look [] (map (given_of look texts) (s ∷ steps)) =
     ap (λ z. z ++ steps_text look texts (path_with path s.level s.is_last) steps) root ∙ ap (λ z. entry_behind look [] s.level (is_set s.is_last) own ++ z) rest in
-    subst (λ z. IsDrawing look (shape_of_tree t) depth z) (sym whole) (draws_items look t [] (map (given_of look texts) (s ∷ steps)) depth high (are_given look texts (outline t) (s ∷ steps) are))
+    subst (λ z. IsDrawing look (shape_of_tree t) depth z) (sym whole) (draws_lines look t [] (map (given_of look texts) (s ∷ steps)) depth high (are_given look texts (outline t) (s ∷ steps) are))
 
 -- the entries of items in two parts
 pub draws_parts : (look : Look) (texts : List ℕ) → DrawsParts look texts

@@ -1,24 +1,27 @@
 -- The items of an outline, drawn as steps, are the drawing of its tree.
-use Rattle.std.proofs.Common.{◌≡◌, ℕ, zero, suc, ◌+◌, ◌-◌, ◌<◌, ◌≤◌, ◌⊎◌, inl, inr, true, false, not, cond, ltb, List, [], ◌∷◌, ◌++◌, length, take, drop, get_or, refl, sym, ap, ◌∙◌, subst, append_assoc, add-one, drop-cons, arith}
+use Rattle.std.proofs.Common.{◌≡◌, ℕ, zero, suc, ◌+◌, ◌-◌, ◌<◌, ◌≤◌, ◌⊎◌, inl, inr, Bool, true, false, not, cond, ltb, List, [], ◌∷◌, ◌++◌, length, map, take, drop, get_or, refl, sym, ap, ◌∙◌, subst, append_assoc, add-one, drop-cons, arith}
 use Rattle.std.proofs.lemmas.Bool.{cases_lt, lt-ltb, le-ltb}
 use Rattle.std.proofs.lemmas.List.{append-nil}
 use Rattle.ptree.specs.Drawing.{Look, IsDrawing}
 use Rattle.ptree.specs.Flags.{has_later}
+use Rattle.ptree.specs.GivenItems.{entry_behind, path_with}
 use Rattle.ptree.specs.Outline.{Line, line, outline, outline_at, Steps}
 use Rattle.ptree.specs.Reached.{AreWithin}
 use Rattle.ptree.specs.Tree.{none, item, Forest, Tree, tree, height, cut_forest, cut_tree, shape_of_tree}
 use Rattle.ptree.proofs.Drawing.CutTrees.{drawing_of_cut_tree}
+use Rattle.ptree.proofs.Drawing.GivenLines.{draws_lines}
 use Rattle.ptree.proofs.Trees.LineTrees.{tree_of_lines}
 use Rattle.ptree.proofs.Trees.OutlineAddresses.{outline_of_tree}
 use Rattle.ptree.proofs.Reading.SpelledForms.{height_low}
 use Rattle.ptree_c.specs.Calls.{IsItemsDrawing}
 use Rattle.ptree_c.specs.Items.{lines_from}
-use Rattle.ptree_c.specs.Outlines.{has_later_item, AreLastFlags, StepsDown, AreItems, AreRight, AreRightAfter, AreLow, step_of, kept_before, kept_path, steps_from}
+use Rattle.ptree_c.specs.Fields.{is_set}
+use Rattle.ptree_c.specs.Outlines.{has_later_item, AreLastFlags, StepsDown, AreItems, AreRight, AreRightAfter, step_of, kept_before, kept_path, given_of, drawn_text, steps_from}
 use Rattle.ptree_c.specs.Refusals.{IsTextBetween}
-use Rattle.ptree_c.specs.Steps.{AreStepsOf, step_entry, steps_text}
+use Rattle.ptree_c.specs.Steps.{AreStepsOf, step_own}
 use Rattle.ptree_c.specs.declared.items.Item.{Item}
 use Rattle.ptree_c.specs.declared.steps.Step.{Step}
-use Rattle.ptree_c.proofs.Given.{draws_trees}
+use Rattle.ptree_c.proofs.Given.{are_given}
 
 -- a number is below another one, or not
 pub low_or_deep : (depth level : ℕ) → (ltb depth level ≡ true) × (depth < level) ⊎ (ltb depth level ≡ false) × (level ≤ depth)
@@ -75,23 +78,19 @@ steps_down : (deepest previous from : ℕ) (texts : List ℕ) (items : List Item
 steps_down deepest previous from texts [] down = tt
 steps_down deepest previous from texts (i ∷ items) down = (down.0, down.1, steps_down deepest i.level i.end texts items down.3)
 
--- the lines that are drawn are low
-low_drawn : (deepest depth long previous from : ℕ) (texts : List ℕ) (items : List Item) → ((n : ℕ) → n ≤ deepest → n ≤ depth → n ≤ long) → StepsDown deepest previous items
-    → AreWithin long (drawn_lines depth (lines_from from texts items))
-low_drawn deepest depth long previous from texts [] fit down = tt
-low_drawn deepest depth long previous from texts (i ∷ items) fit down =
-    let below = low_drawn deepest depth long i.level i.end texts items fit down.3 in
-    elim (low_or_deep depth i.level) [
-      | inl (deep, h) ↦ rw deep below
-      | inr (drawn, low) ↦ rw drawn (fit i.level down.2 low, below)
-    ]
+-- the lines that are drawn are within the depth
+drawn_within : (depth from : ℕ) (texts : List ℕ) (items : List Item) → AreWithin depth (drawn_lines depth (lines_from from texts items))
+drawn_within depth from texts [] = tt
+drawn_within depth from texts (i ∷ items) =
+    let below = drawn_within depth i.end texts items in
+    elim (low_or_deep depth i.level) [ inl (deep, h) ↦ rw deep below | inr (drawn, low) ↦ rw drawn (low, below) ]
 
 -- the items of an outline, drawn as steps, are the drawing of its tree
-pub outline_drawn : (look : Look) (texts path : List ℕ) (items : List Item) (flags : List ℕ) (deepest depth : ℕ) (drawing : List ℕ) → AreItems deepest items → AreLastFlags items flags
-    → ((n : ℕ) → n ≤ deepest → n ≤ depth → n ≤ length path) → drawing ≡ steps_text look texts path (steps_from depth 0 items flags) → IsItemsDrawing look depth items texts drawing
-outline_drawn look texts path [] flags deepest depth drawing are last fit is = absurd are
-outline_drawn look texts path (i ∷ items) [] deepest depth drawing are last fit is = absurd last
-outline_drawn look texts path (i ∷ items) (flag ∷ flags) deepest depth drawing are last fit is =
+pub outline_drawn : (look : Look) (texts : List ℕ) (items : List Item) (flags : List ℕ) (deepest depth : ℕ) (drawing : List ℕ) → AreItems deepest items → AreLastFlags items flags
+    → drawing ≡ drawn_text look texts [] (steps_from depth 0 items flags) → IsItemsDrawing look depth items texts drawing
+outline_drawn look texts [] flags deepest depth drawing are last is = absurd are
+outline_drawn look texts (i ∷ items) [] deepest depth drawing are last is = absurd last
+outline_drawn look texts (i ∷ items) (flag ∷ flags) deepest depth drawing are last is =
     let o : List Line = lines_from i.end texts items in
     let text : List ℕ = take (i.end - 0) (drop 0 texts) in
     let steps : List Step = steps_from depth 0 (i ∷ items) (flag ∷ flags) in
@@ -100,39 +99,26 @@ outline_drawn look texts path (i ∷ items) (flag ∷ flags) deepest depth drawi
     let t : Tree = tree text f in
     let root : line i.level text ∷ o ≡ line 0 text ∷ o = ap (λ n. line n text ∷ o) are.0 in
     let cut : outline_at 1 (cut_forest depth f) ≡ drawn_lines depth o = outline_cut depth 0 depth f (omega arith) ∙ ap (drawn_lines depth) made.1 in
-    let high : (long : ℕ) → ((n : ℕ) → n ≤ deepest → n ≤ depth → n ≤ long) → height (cut_forest depth f) ≤ long =
-    λ long fits. let low = height_low long 0 (cut_forest depth f) (omega arith) (subst (λ z. AreWithin long z) (sym cut) (low_drawn deepest depth long 0 i.end texts items fits are.1)) in omega (arith, low) in
+    let low = height_low depth 0 (cut_forest depth f) (omega arith) (subst (λ z. AreWithin depth z) (sym cut) (drawn_within depth i.end texts items)) in
     let drawn : drawn_lines depth (line i.level text ∷ o) ≡ outline (cut_tree depth t) =
     ap (drawn_lines depth) root
     ∙ (ap (λ b. cond b (drawn_lines depth o) (line 0 text ∷ drawn_lines depth o)) (le-ltb depth 0 (omega arith)) ∙ ap (λ z. line 0 text ∷ z) (sym cut)) in
     let all : AreStepsOf texts (outline (cut_tree depth t)) steps = subst (λ z. AreStepsOf texts z steps) drawn (steps_of_items depth 0 texts (i ∷ items) (flag ∷ flags) last) in
-    let whole : IsDrawing look (shape_of_tree (cut_tree depth t)) depth (steps_text look texts path steps) =
-    draws_trees look texts (cut_tree depth t) path steps depth (high (length path) fit) (high depth (λ n a b. b)) all in (
+    let whole : IsDrawing look (shape_of_tree (cut_tree depth t)) depth (drawn_text look texts [] steps) =
+    draws_lines look (cut_tree depth t) [] (map (given_of look texts) steps) depth (omega (arith, low)) (are_given look texts (outline (cut_tree depth t)) steps all) in (
       t,
       (outline_of_tree t (line i.level text ∷ o)).1 (root ∙ ap (λ z. line 0 text ∷ z) (sym made.1)),
       (drawing_of_cut_tree look depth t depth drawing (omega arith)).1 (subst (λ z. IsDrawing look (shape_of_tree (cut_tree depth t)) depth z) (sym is) whole),
     )
 
 -- the text of an item before others
-pub kept_text : (look : Look) (texts path : List ℕ) (depth : ℕ) (s : Step) (steps : List Step)
-    → steps_text look texts path (kept_before depth s steps) ≡ steps_text look texts path (kept_before depth s []) ++ steps_text look texts (kept_path depth path s) steps
-kept_text look texts path depth s steps = grind (arith, append-nil (step_entry look texts path s))
-
--- the item at a place is low, if all are
-pub low_at : (depth long : ℕ) (items : List Item) (n : ℕ) (d : Item) → AreLow depth long items → n < length items → (get_or items n d).level ≤ depth → (get_or items n d).level ≤ long
-low_at depth long [] n d low h = absurd (omega (arith, h))
-low_at depth long (i ∷ items) zero d low h = low.0
-low_at depth long (i ∷ items) (suc n) d low h = low_at depth long items n d low.1 (omega (arith, h))
-
--- items whose levels step down to the deepest are low
-low_down : (deepest depth long previous : ℕ) (items : List Item) → ((n : ℕ) → n ≤ deepest → n ≤ depth → n ≤ long) → StepsDown deepest previous items → AreLow depth long items
-low_down deepest depth long previous [] fit down = tt
-low_down deepest depth long previous (i ∷ items) fit down = (fit i.level down.2, low_down deepest depth long i.level items fit down.3)
-
--- the items of an outline are low
-pub low_outline : (deepest depth long : ℕ) (items : List Item) → ((n : ℕ) → n ≤ deepest → n ≤ depth → n ≤ long) → AreItems deepest items → AreLow depth long items
-low_outline deepest depth long [] fit are = absurd are
-low_outline deepest depth long (i ∷ items) fit are = (λ h. omega (arith, are.0), low_down deepest depth long 0 items fit are.1)
+pub kept_text : (look : Look) (texts : List ℕ) (path : List Bool) (depth : ℕ) (s : Step) (steps : List Step)
+    → drawn_text look texts path (kept_before depth s steps) ≡ drawn_text look texts path (kept_before depth s []) ++ drawn_text look texts (kept_path depth path s) steps
+kept_text look texts path depth s steps = elim (low_or_deep depth s.level) [
+  | inl (deep, h) ↦ rw deep refl
+  | inr (drawn, low) ↦
+      rw drawn (ap (λ z. z ++ drawn_text look texts (path_with path s.level (is_set s.is_last)) steps) (sym (append-nil (entry_behind look path s.level (is_set s.is_last) (step_own look texts s)))))
+]
 
 -- an item that is in no list
 abbrev pub no_item : Item
@@ -161,11 +147,11 @@ next_text texts from n items d h have =
     subst (λ (z : List Item). HaveTexts texts from z) item have
 
 -- the items that are left are the next one before those behind it
-pub next_left : (look : Look) (texts path new : List ℕ) (depth from n : ℕ) (items : List Item) (flags : List ℕ) (d : Item) → n < length items → length flags ≡ length items
+pub next_left : (look : Look) (texts : List ℕ) (path new : List Bool) (depth from n : ℕ) (items : List Item) (flags : List ℕ) (d : Item) → n < length items → length flags ≡ length items
     → new ≡ kept_path depth path (step_of from (get_or items n d) (get_or flags n 0))
-    → steps_text look texts path (steps_from depth from (drop n items) (drop n flags))
-    ≡ steps_text look texts path (kept_before depth (step_of from (get_or items n d) (get_or flags n 0)) [])
-    ++ steps_text look texts new (steps_from depth (get_or items n d).end (drop (n + 1) items) (drop (n + 1) flags))
+    → drawn_text look texts path (steps_from depth from (drop n items) (drop n flags))
+    ≡ drawn_text look texts path (kept_before depth (step_of from (get_or items n d) (get_or flags n 0)) [])
+    ++ drawn_text look texts new (steps_from depth (get_or items n d).end (drop (n + 1) items) (drop (n + 1) flags))
 next_left look texts path new depth from n items flags d h long is =
     let i : Item = get_or items n d in
     let f : ℕ = get_or flags n 0 in
@@ -173,10 +159,10 @@ next_left look texts path new depth from n items flags d h long is =
     let item : drop n items ≡ i ∷ drop (n + 1) items = drop-cons items n d h ∙ ap (λ k. i ∷ drop k items) (sym (add-one n)) in
     let flag : drop n flags ≡ f ∷ drop (n + 1) flags = drop-cons flags n 0 (omega (arith, h, long)) ∙ ap (λ k. f ∷ drop k flags) (sym (add-one n)) in
     let rest : List Step = steps_from depth i.end (drop (n + 1) items) (drop (n + 1) flags) in
-    ap (λ x. steps_text look texts path (steps_from depth from x (drop n flags))) item
-    ∙ (ap (λ x. steps_text look texts path (steps_from depth from (i ∷ drop (n + 1) items) x)) flag
+    ap (λ x. drawn_text look texts path (steps_from depth from x (drop n flags))) item
+    ∙ (ap (λ x. drawn_text look texts path (steps_from depth from (i ∷ drop (n + 1) items) x)) flag
     ∙ (kept_text look texts path depth s rest
-    ∙ ap (λ q. steps_text look texts path (kept_before depth s []) ++ steps_text look texts q rest) (sym is)))
+    ∙ ap (λ q. drawn_text look texts path (kept_before depth s []) ++ drawn_text look texts q rest) (sym is)))
 
 -- a part more of a whole is drawn
 pub drawn_more : (drawn whole part rest all : List ℕ) → whole ≡ part ++ rest → drawn ++ whole ≡ all → (drawn ++ part) ++ rest ≡ all

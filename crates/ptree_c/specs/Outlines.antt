@@ -1,8 +1,10 @@
 -- The items of an outline as steps: which of them are last children, and which are drawn down to a depth.
-use Rattle.std.specs.Prelude.{◌≡◌, ◌<◌, ◌≤◌, ◌⊎◌, ℕ, suc, Bool, false, not, nat_lt, nat_eq, if◌then◌else◌, List, [], ◌∷◌, get_or}
+use Rattle.std.specs.Prelude.{◌≡◌, ◌<◌, ◌≤◌, ◌⊎◌, ℕ, suc, Bool, false, not, nat_lt, nat_eq, if◌then◌else◌, List, [], ◌∷◌, map, get_or}
+use Rattle.ptree.specs.Drawing.{Look}
+use Rattle.ptree.specs.GivenItems.{GivenItem, given_text, path_with}
 use Rattle.ptree_c.specs.Fields.{is_set}
 use Rattle.ptree_c.specs.Refusals.{IsTextBetween, IsTextFault}
-use Rattle.ptree_c.specs.Steps.{path_with}
+use Rattle.ptree_c.specs.Steps.{step_own}
 use Rattle.ptree_c.specs.declared.items.Item.{Item}
 use Rattle.ptree_c.specs.declared.refusal.Refusal.{Refusal}
 use Rattle.ptree_c.specs.declared.refusal.Refusal.TheVariants.{Memory, Level}
@@ -76,14 +78,17 @@ step_of from i last = record { text = record { start = from; end = i.end }; leve
 abbrev pub kept_before : ℕ → Step → List Step → List Step
 kept_before depth s steps = if nat_lt depth s.level then steps else s ∷ steps
 
--- a path after an item, unless it is deeper than a depth
-abbrev pub kept_path : ℕ → List ℕ → Step → List ℕ
-kept_path depth path s = if nat_lt depth s.level then path else path_with path s.level s.is_last
+-- the path behind an item, unless it is deeper than a depth
+abbrev pub kept_path : ℕ → List Bool → Step → List Bool
+kept_path depth path s = if nat_lt depth s.level then path else path_with path s.level (is_set s.is_last)
 
--- no item down to the depth is at a deeper level than this one
-abbrev pub AreLow : ℕ → ℕ → List Item → Type 0
-AreLow depth level [] = Unit {0}
-AreLow depth level (i ∷ items) = (i.level ≤ depth → i.level ≤ level) × AreLow depth level items
+-- a step as an item that is given
+abbrev pub given_of : Look → List ℕ → Step → GivenItem
+given_of look texts s = record { level = s.level; last = is_set s.is_last; own = step_own look texts s }
+
+-- the entries of steps, joined, where the first one comes behind an item with this path
+abbrev pub drawn_text : Look → List ℕ → List Bool → List Step → List ℕ
+drawn_text look texts path steps = given_text look path (map (given_of look texts) steps)
 
 -- the items that are drawn down to a depth, each with its flag, where the first one's text begins at place from
 abbrev pub steps_from : ℕ → ℕ → List Item → List ℕ → List Step

@@ -1,13 +1,12 @@
 //! Draws the items of an outline without making their tree.
 ghost use Rattle.std.specs.Prelude.{◌≡◌, ◌≢◌, ◌<◌, ◌≤◌, ◌+◌, ◌∷◌, ◌++◌, [], ℕ, List, not, length, IfOk, IfErr, IfSome, OnOk};
 ghost use Rattle.ptree.specs.Drawing.{written_look};
-ghost use Rattle.ptree.specs.ItemWriter.{writer_look};
+ghost use Rattle.ptree.specs.ItemWriter.{writer_look, path_of};
 ghost use Rattle.ptree_c.specs.Calls.{IsItemsDrawing};
 ghost use Rattle.ptree_c.specs.Fields.{is_set};
-ghost use Rattle.ptree_c.specs.Outlines.{has_later_item, AreLater, AreLastFlags, AreItems, AreLow, AreRight, StepsDown, IsFirstWrong, IsItemsRefusal, IsRightAfter, IsWrongAfter, kept_before, kept_path, steps_from};
+ghost use Rattle.ptree_c.specs.Outlines.{has_later_item, AreLater, AreLastFlags, AreItems, AreRight, StepsDown, IsFirstWrong, IsItemsRefusal, IsRightAfter, IsWrongAfter, drawn_text, kept_before, kept_path, steps_from};
 ghost use Rattle.ptree_c.specs.Refusals.{IsRefused, IsTextBetween};
 ghost use Rattle.ptree_c.specs.Rooms.{HasPut, IsFilled};
-ghost use Rattle.ptree_c.specs.Steps.{steps_text, IsOnPath};
 ghost use Rattle.ptree_c.specs.declared.items.Item.{Item};
 
 use crate::answer::{refuse, report};
@@ -15,7 +14,7 @@ use crate::fields::{Part, flag};
 use crate::items::Item;
 use crate::refusal::Refusal;
 use crate::room::{Found, put};
-use crate::steps::{Step, make_step, set_flag};
+use crate::steps::Step;
 use crate::texts::Texts;
 use ptree::PrintConfig;
 use ptree::output::ItemWriter;
@@ -112,52 +111,44 @@ fn last_flags(alloc: Global, items: &[Item], deepest: u32) -> Result<Vec<u8>, Al
 #[inline(always)]
 fn draw_item(
     writer: &mut ItemWriter<'_>,
-    path: &mut [u8],
     texts: &Texts<'_>,
     step: &Step,
     depth: u32,
     out: &mut [u8],
     at: usize,
 ) -> Option<usize>
-    requires on_path { IsOnPath path.old writer.old }
-    requires low { step.now.level ≤ depth → step.now.level ≤ length path.old }
-    requires text { IsTextBetween texts.now.bytes.now step.now.text.start step.now.text.end }
+    requires { IsTextBetween texts.now.bytes.now step.now.text.start step.now.text.end }
     ensures filled { (room before : List ℕ) → IsFilled room before out.old at
-        → IfSome result (IsFilled room (before ++ steps_text (writer_look writer.old)
-        texts.now.bytes.now path.old (kept_before depth step.now [])) out.new) }
-    ensures path { IfSome result (λ _. path.new ≡ kept_path depth path.old step.now) }
-    ensures on_path { IfSome result (λ _. IsOnPath path.new writer.new) }
+        → IfSome result (IsFilled room (before ++ drawn_text (writer_look writer.old)
+        texts.now.bytes.now (path_of writer.old) (kept_before depth step.now [])) out.new) }
+    ensures path { IfSome result (λ _.
+        path_of writer.new ≡ kept_path depth (path_of writer.old) step.now) }
     ensures look { writer_look writer.new ≡ writer_look writer.old }
 {
     if step.level > depth {
         return Some(at);
     }
-    match make_step(writer, path, texts, step) {
-        Ok(()) => {}
-        Err(_) => return None,
+    let text = texts.part(step.text);
+    match writer.make_text(step.level, flag(step.is_last), text) {
+        Ok(()) => put(out, at, writer.entry()),
+        Err(_) => None,
     }
-    let end = put(out, at, writer.entry())?;
-    set_flag(path, step.level, step.is_last);
-    Some(end)
 }
 
 // Draws items down to a depth, each with its flag, as much as there is room for, and returns the
 // length of the drawing. None if memory ran out.
 fn draw_items(
     writer: &mut ItemWriter<'_>,
-    path: &mut [u8],
     texts: &Texts<'_>,
     items: &[Item],
     flags: &[u8],
     depth: u32,
     out: &mut [u8],
 ) -> Option<usize>
-    requires on_path { IsOnPath path.old writer.old }
-    requires low { AreLow depth (length path.old) items.now }
     requires flags { length flags.now ≡ length items.now }
     requires right { AreRight texts.now.bytes.now items.now }
-    ensures { IfSome result (IsFilled out.old (steps_text (writer_look writer.old)
-        texts.now.bytes.now path.old (steps_from depth 0 items.now flags.now)) out.new) }
+    ensures { IfSome result (IsFilled out.old (drawn_text (writer_look writer.old)
+        texts.now.bytes.now (path_of writer.old) (steps_from depth 0 items.now flags.now)) out.new) }
 {
     let mut at = 0;
     let mut from = 0;
@@ -171,7 +162,7 @@ fn draw_items(
             level: item.level,
             is_last: flags[place],
         };
-        at = draw_item(writer, path, texts, &step, depth, out, at)?;
+        at = draw_item(writer, texts, &step, depth, out, at)?;
         from = item.end;
     }
     Some(at)
@@ -195,18 +186,8 @@ fn draw_outline(
     let known = Texts::new(texts);
     let deepest = deepest_of_items(items, &known)?;
     let flags = last_flags(alloc, items, deepest)?;
-    let mut path = Vec::new(alloc);
-    path.resize(deepest.min(config.depth) as usize, 0)?;
     let mut writer = ItemWriter::new(alloc, config, OutputKind::Unknown, false)?;
-    let drawn = draw_items(
-        &mut writer,
-        &mut path,
-        &known,
-        items,
-        &flags,
-        config.depth,
-        out,
-    );
+    let drawn = draw_items(&mut writer, &known, items, &flags, config.depth, out);
     drop(writer);
     match drawn {
         Some(size) => Ok(size),

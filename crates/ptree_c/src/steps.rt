@@ -44,8 +44,8 @@ enum Stop {
     Refused(Refusal),
 }
 
-/// Sets the flag of a level. A root has none.
-pub(crate) fn set_flag(path: &mut [u8], level: u32, is_last: u8)
+// Sets the flag of a level. A root has none.
+fn set_flag(path: &mut [u8], level: u32, is_last: u8)
     requires { level ≤ length path.old }
     ensures { path.new ≡ path_with path.old level is_last }
 {
@@ -69,9 +69,9 @@ fn go_below(writer: &mut ItemWriter<'_>, path: &[u8], level: usize) -> Result<()
     Ok(())
 }
 
-/// Makes the entry of an item below those of a path.
+// Makes the entry of an item below those of a path.
 #[inline(always)]
-pub(crate) fn make_step(
+fn make_step(
     writer: &mut ItemWriter<'_>,
     path: &[u8],
     texts: &Texts<'_>,

@@ -244,7 +244,8 @@ impl Error for ItemError {}
 /// Draws items one by one, in the order of drawing, and holds no tree: each is given by its level and
 /// by whether it is its parent's last child.
 ///
-/// It takes memory for one entry, and for 16 bytes a level.
+/// An item takes time by the bytes of its entry, however deep it is. The writer takes memory for one
+/// entry, and 16 bytes a level.
 #[derive(Drop)]
 pub struct ItemWriter<'a> {
     brush: Brush<'a>,
@@ -309,7 +310,7 @@ fn make_entry<T: TreeItem>(
 impl<'a> ItemWriter<'a> {
     ghost use Rattle.std.specs.Prelude.{◌↔◌, ◌≢◌, List, ℕ, IsErrOf};
     ghost use Rattle.ptree.specs.Drawing.{config_look};
-    ghost use Rattle.ptree.specs.GivenItems.{DrawsItems};
+    ghost use Rattle.ptree.specs.GivenItems.{DrawsItems, DrawsLines};
     ghost use Rattle.ptree.specs.ItemWriter.{writer_look, path_of, entry_of, item_faults};
     ghost use Rattle.ptree.specs.Style.{painted_text};
     ghost use Rattle.ptree.specs.Writing.{IsWritten};
@@ -329,8 +330,9 @@ impl<'a> ItemWriter<'a> {
         ensures look { IfOk result (λ w.
             writer_look w ≡ config_look config.now output_kind terminal) }
         ensures path { IfOk result (λ w. path_of w ≡ []) }
-        // The entries of a tree's items are its drawing.
-        ensures trees { DrawsItems (config_look config.now output_kind terminal) }
+        // The entries of the items of a shape, in the order of drawing, are its drawing.
+        ensures items { DrawsItems (config_look config.now output_kind terminal) }
+        ensures lines { DrawsLines (config_look config.now output_kind terminal) }
     {
         let look = Look::of_config(alloc, config, output_kind, terminal)?;
         let pen = Pen::new(alloc, &look.branch)?;
@@ -342,6 +344,17 @@ impl<'a> ItemWriter<'a> {
             root,
             rungs: Vec::new(alloc),
         })
+    }
+
+    // Goes back to before a root. It is a function of its own, since it is seldom called.
+    #[cold]
+    #[inline(never)]
+    fn restart(&mut self)
+        ensures path { path_of self.new ≡ [] }
+        ensures look { writer_look self.new ≡ writer_look self.old }
+    {
+        self.rungs.clear();
+        self.pen.cut(self.root);
     }
 
     /// Returns the level of the last item, or 0 if there is none. The next item can be at most one
@@ -380,7 +393,7 @@ impl<'a> ItemWriter<'a> {
     /// # Errors
     ///
     /// `Level` if the item is more than a level below the last one; the writer is unchanged. `Memory`
-    /// if memory ran out.
+    /// if memory ran out; the writer is as new.
     #[inline(always)]
     pub fn make<T: TreeItem>(&mut self, level: u32, is_last: bool, item: &T) -> Result<(), AddError>
         ensures entry { OnOk result (entry_of self.new
@@ -391,12 +404,13 @@ impl<'a> ItemWriter<'a> {
         ensures look { writer_look self.new ≡ writer_look self.old }
         ensures refused { IsErrOf result AddError.Level ↔ length (path_of self.old) + 1 < level }
         ensures kept { IsErrOf result AddError.Level → self.new ≡ self.old }
+        ensures lost { IsErrOf result AddError.Memory → path_of self.new ≡ [] }
     {
         let place = level as usize;
         if place > self.rungs.len() + 1 {
             return Err(AddError::Level);
         }
-        make_entry(
+        let made = make_entry(
             item,
             &mut self.pen,
             &self.brush,
@@ -404,7 +418,11 @@ impl<'a> ItemWriter<'a> {
             &mut self.rungs,
             place,
             is_last,
-        )?;
+        );
+        if made.is_err() {
+            self.restart();
+            return Err(AddError::Memory);
+        }
         Ok(())
     }
 
@@ -423,6 +441,7 @@ impl<'a> ItemWriter<'a> {
         ensures look { writer_look self.new ≡ writer_look self.old }
         ensures refused { IsErrOf result AddError.Level ↔ length (path_of self.old) + 1 < level }
         ensures kept { IsErrOf result AddError.Level → self.new ≡ self.old }
+        ensures lost { IsErrOf result AddError.Memory → path_of self.new ≡ [] }
     {
         let item: Root<'_, StringItem> = Root {
             text,
@@ -444,7 +463,8 @@ impl<'a> ItemWriter<'a> {
     /// # Errors
     ///
     /// `Level` if the item is more than a level below the last one; nothing is written, and the
-    /// writer is unchanged. `Draw` if `f` failed, or if memory ran out: then nothing is written.
+    /// writer is unchanged. `Draw` if `f` failed, or if memory ran out: then nothing is written. After
+    /// `Draw` the writer is as new.
     pub fn put<T: TreeItem, W: Sink>(
         &mut self,
         level: u32,
@@ -461,11 +481,16 @@ impl<'a> ItemWriter<'a> {
         ensures look { writer_look self.new ≡ writer_look self.old }
         ensures refused { IsErrOf result ItemError.Level ↔ length (path_of self.old) + 1 < level }
         ensures kept { IsErrOf result ItemError.Level → (self.new ≡ self.old) × (f.new ≡ f.old) }
+        ensures lost { (e : DrawError) → IsErrOf result (ItemError.Draw e) → path_of self.new ≡ [] }
         ensures whole { IsErrOf result (ItemError.Draw DrawError.Memory) → f.new ≡ f.old }
         ensures cause { W.faults f.new ≡ W.faults f.old + item_faults result }
     {
         self.make(level, is_last, item)?;
-        put_all(f, self.entry())?;
+        let put = put_all(f, self.entry());
+        if let Err(e) = put {
+            self.restart();
+            return Err(ItemError::Draw(e));
+        }
         Ok(())
     }
 }

@@ -1,8 +1,7 @@
-use Rattle.std.proofs.Common.{◌≡◌, ◌++◌, List, ℕ, length, drop}
-use Rattle.ptree.specs.ItemWriter.{writer_look}
-use Rattle.ptree_c.specs.Outlines.{steps_from}
+use Rattle.std.proofs.Common.{◌≡◌, ◌++◌, List, ℕ, drop}
+use Rattle.ptree.specs.ItemWriter.{writer_look, path_of}
+use Rattle.ptree_c.specs.Outlines.{drawn_text, steps_from}
 use Rattle.ptree_c.specs.Rooms.{IsFilled}
-use Rattle.ptree_c.specs.Steps.{steps_text, IsOnPath}
 use Rattle.ptree_c.proofs.Outlined.{HaveTexts}
 use Rattle.ptree_c.proofs.outline.draw_items.Given as goal
 
@@ -10,10 +9,8 @@ use Rattle.ptree_c.proofs.outline.draw_items.Given as goal
 abbrev pub invariant-loop-place : goal.invariant-loop-place
 invariant-loop-place l = record {
   drawn : (drawn : List ℕ) × IsFilled l.fn.out drawn l.out l.at
-      × (drawn ++ steps_text (writer_look l.fn.writer) l.texts.bytes.now l.path (steps_from l.depth l.from (drop l.place l.items) (drop l.place l.flags))
-      ≡ steps_text (writer_look l.fn.writer) l.texts.bytes.now l.fn.path (steps_from l.depth 0 l.items l.flags));
+      × (drawn ++ drawn_text (writer_look l.fn.writer) l.texts.bytes.now (path_of l.writer) (steps_from l.depth l.from (drop l.place l.items) (drop l.place l.flags))
+      ≡ drawn_text (writer_look l.fn.writer) l.texts.bytes.now (path_of l.fn.writer) (steps_from l.depth 0 l.items l.flags));
   look : writer_look l.writer ≡ writer_look l.fn.writer;
-  on_path : IsOnPath l.path l.writer;
-  long : length l.path ≡ length l.fn.path;
   texts : HaveTexts l.texts.bytes.now l.from (drop l.place l.items);
 }

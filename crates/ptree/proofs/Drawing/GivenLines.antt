@@ -4,7 +4,7 @@ use Rattle.std.proofs.lemmas.Bool.{cases_lt, ne_eqb}
 use Rattle.std.proofs.lemmas.List.{take_all, take-append-le}
 use Rattle.ptree.specs.Drawing.{Look}
 use Rattle.ptree.specs.Flags.{has_later, last_flags, pieces_by, passing_by, shown_by}
-use Rattle.ptree.specs.GivenItems.{last_of, entry_below, entry_behind, path_with, GivenItem, given_text, IsGivenAs, AreGivenAs, DrawsItems}
+use Rattle.ptree.specs.GivenItems.{last_of, entry_below, entry_behind, path_with, GivenItem, given_text, IsGivenAs, AreGivenAs, DrawsLines}
 use Rattle.ptree.specs.Outline.{Line, line, outline_at, Steps}
 use Rattle.ptree.specs.Reached.{lines_text}
 use Rattle.ptree.specs.Spelled.{text_entry}
@@ -72,9 +72,9 @@ given_lines look n (l ∷ o) path (i ∷ items) st keeps are =
     ∙ ap (λ z. text_entry look (pieces_by look.pieces o l.level) (shown_by look.pieces o l) l.text ++ z) (given_lines look l.level o (path_with path i.level i.last) items st.2 next are.1)
 
 -- the entries of a tree's items are its drawing
-pub draws_items : (look : Look) → DrawsItems look
-draws_items look t path [] depth high are = absurd are
-draws_items look t path (i ∷ items) depth high are =
+pub draws_lines : (look : Look) → DrawsLines look
+draws_lines look t path [] depth high are = absurd are
+draws_lines look t path (i ∷ items) depth high are =
     let is = are.0 in
     let o : List Line = outline_at 1 t.children in
     let root : entry_behind look path i.level i.last i.own ≡ text_entry look [] [] t.text = ap (λ m. entry_behind look path m i.last i.own) is.level ∙ ap (entry_behind look path 0 i.last) is.own in
