@@ -1,26 +1,38 @@
 //! Finds line feeds.
-ghost use Rattle.std.specs.Prelude.{◌≡◌, ◌≢◌, ℕ, false, length, slice_index, drop, ◌≤◌, ◌<◌, ◌+◌};
+ghost use Rattle.std.specs.Prelude.{◌≡◌, ◌≢◌, ℕ, false, length, slice_index, take, drop, ◌≤◌, ◌<◌, ◌+◌};
 ghost use Rattle.ptree.specs.Texts.{HasNoLineFeed, line_feed};
 
 use std::simd::prelude::*;
 
-/// Whether a line feed may follow the first `start` bytes. If the result is false, there is none.
-/// The bytes are examined by vectors, which may overlap and take some of the first ones too.
+/// Whether a line feed may be among the bytes from one place to another. If the result is false,
+/// there is none. Few bytes are examined by one vector, where there are sixteen or more from `start`
+/// on; many by vectors that may overlap, and take some of the bytes before `start` too.
 #[inline(always)]
-pub(crate) fn may_hold_line_feed(bytes: &[u8], start: usize) -> bool
-    requires { start ≤ length bytes.now }
+pub(crate) fn may_hold_line_feed(bytes: &[u8], start: usize, end: usize) -> bool
+    requires order { start ≤ end }
+    requires within { end ≤ length bytes.now }
+    ensures { result ≡ false → HasNoLineFeed (drop start (take end bytes.now)) }
+{
+    let count = end - start;
+    if count > 16 {
+        return holds_line_feed_in_many(&bytes[..end], start);
+    }
+    if bytes.len() - start >= 16 {
+        return feedless_of_sixteen(bytes, start) < count;
+    }
+    first_line_feed(&bytes[start..end]) < count
+}
+
+// Whether a line feed may follow the first `start` bytes, for sixteen bytes or more.
+#[inline(always)]
+fn holds_line_feed_in_many(bytes: &[u8], start: usize) -> bool
+    requires { 16 ≤ length bytes.now }
     ensures { result ≡ false → HasNoLineFeed (drop start bytes.now) }
 {
-    // If there are fewer than sixteen bytes, this is past the start.
-    let from = bytes.len().wrapping_sub(16);
-    if from <= start {
-        return holds_line_feed_at::<16>(bytes, from);
-    }
-    match bytes.len() {
-        0..8 => holds_line_feed_in_few(bytes, start),
-        8..16 => holds_line_feed::<8>(bytes, start),
-        16..32 => holds_line_feed::<16>(bytes, start),
-        _ => holds_line_feed::<32>(bytes, start),
+    if bytes.len() < 32 {
+        holds_line_feed::<16>(bytes, start)
+    } else {
+        holds_line_feed::<32>(bytes, start)
     }
 }
 
@@ -55,23 +67,6 @@ fn holds_line_feed<const N: usize>(bytes: &[u8], start: usize) -> bool
         place = place.saturating_sub(N);
     }
     holds_line_feed_at::<N>(bytes, place)
-}
-
-// Whether a line feed may follow the first `start` bytes, for any number of them.
-#[inline(always)]
-fn holds_line_feed_in_few(bytes: &[u8], start: usize) -> bool
-    requires { start ≤ length bytes.now }
-    ensures { result ≡ false → HasNoLineFeed (drop start bytes.now) }
-{
-    if bytes.len() >= 4 {
-        return holds_line_feed::<4>(bytes, start);
-    }
-    for place in start..bytes.len() {
-        if bytes[place] == b'\n' {
-            return true;
-        }
-    }
-    false
 }
 
 // Returns how many of the sixteen bytes at a place precede the first line feed, or sixteen.

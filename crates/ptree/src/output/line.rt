@@ -153,7 +153,7 @@ impl LineBuffer {
             (further_text (brush_look brush.now) last) (line_bytes self.old)) }
         ensures kept { OnErr result (line_bytes self.new ≡ line_bytes self.old) }
     {
-        if may_hold_line_feed(self.as_slice(), start) {
+        if may_hold_line_feed(&self.room, start, self.used) {
             self.spread(start, width, brush.further(last).as_bytes())
         } else {
             Ok(())

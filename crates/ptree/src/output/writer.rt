@@ -60,19 +60,17 @@ fn go_down(
     root: usize,
     rungs: &mut Vec<Rung>,
     is_last: bool,
-) -> Result<usize, AllocError>
+) -> Result<(), AllocError>
     requires { StandsAt (brush_look brush.now) (buffer_of pen.old) pen.old.turned root
         rungs.old.items }
     ensures stands { StandsAt (brush_look brush.now) (buffer_of pen.new) pen.new.turned root
         rungs.new.items }
     ensures path { OnOk result
         (flags_of rungs.new.items ≡ flags_of rungs.old.items ++ is_last ∷ []) }
-    ensures width { IfOk result (λ n.
-        n ≡ length (front_below (brush_look brush.now) (flags_of rungs.old.items))) }
 {
     let width = descend(pen, brush, root, rungs)?;
     rungs.push(Rung { width, is_last })?;
-    Ok(width)
+    Ok(())
 }
 
 // Leaves a path at a level. A turning piece stays only if the last item is at that level.
@@ -98,7 +96,7 @@ fn go_up(
     rungs: &mut Vec<Rung>,
     level: usize,
     is_last: bool,
-) -> usize
+)
     requires stands { StandsAt (brush_look brush.now) (buffer_of pen.old) pen.old.turned root
         rungs.old.items }
     requires some { 0 < level }
@@ -107,13 +105,9 @@ fn go_up(
         rungs.new.items }
     ensures path { flags_of rungs.new.items
         ≡ take (level - 1) (flags_of rungs.old.items) ++ is_last ∷ [] }
-    ensures width { result ≡ length (front_below (brush_look brush.now)
-        (take (level - 1) (flags_of rungs.old.items))) }
 {
     leave(pen, rungs, level);
-    let rung = &mut rungs[level - 1];
-    rung.is_last = is_last;
-    rung.width
+    rungs[level - 1].is_last = is_last;
 }
 
 // Puts the turning piece of the last item of a path, which begins with `width` bytes.
@@ -139,8 +133,7 @@ fn turn(
     pen.turn_again(width, brush, is_last)
 }
 
-// Puts a new item at a level on a path, at most one below its last item, and returns how many bytes
-// its entry begins with.
+// Puts a new item at a level on a path, at most one below its last item.
 #[inline(always)]
 fn settle(
     pen: &mut Pen,
@@ -149,7 +142,7 @@ fn settle(
     rungs: &mut Vec<Rung>,
     level: usize,
     is_last: bool,
-) -> Result<usize, AllocError>
+) -> Result<(), AllocError>
     requires stands { StandsAt (brush_look brush.now) (buffer_of pen.old) pen.old.turned root
         rungs.old.items }
     requires some { 0 < level }
@@ -158,14 +151,13 @@ fn settle(
         rungs.new.items }
     ensures path { OnOk result (flags_of rungs.new.items
         ≡ take (level - 1) (flags_of rungs.old.items) ++ is_last ∷ []) }
-    ensures width { IfOk result (λ n. n ≡ length (front_below (brush_look brush.now)
-        (take (level - 1) (flags_of rungs.old.items)))) }
+    ensures length { OnOk result (length rungs.new.items ≡ level) }
 {
-    if level <= rungs.len() {
-        Ok(go_up(pen, brush, root, rungs, level, is_last))
-    } else {
-        go_down(pen, brush, root, rungs, is_last)
+    if level > rungs.len() {
+        return go_down(pen, brush, root, rungs, is_last);
     }
+    go_up(pen, brush, root, rungs, level, is_last);
+    Ok(())
 }
 
 // Goes to a new root.
@@ -302,7 +294,8 @@ fn make_entry<T: TreeItem>(
     if level == 0 {
         return make_root(item, pen, brush, root, rungs);
     }
-    let width = settle(pen, brush, root, rungs, level, is_last)?;
+    settle(pen, brush, root, rungs, level, is_last)?;
+    let width = rungs[level - 1].width;
     turn(pen, brush, root, rungs, width, is_last)?;
     gather(item, pen, brush, root, rungs, width, Some(is_last))
 }

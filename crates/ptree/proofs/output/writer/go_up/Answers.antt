@@ -8,7 +8,7 @@ pub returns-clause-stands : goal.returns-clause-stands
 returns-clause-stands c =
     stands_up (look_of c.args.brush.now.look) _ _ _ _ _ c.args.rungs.now.items c.leave.new.rungs.items c.args.level _ c.args.is_last c.requires.some c.requires.within c.requires.stands c.leave.ensures.path
     (ap line_bytes c.leave.ensures.line) c.leave.ensures.turned
-    (width_up (look_of c.args.brush.now.look) c.args.rungs.now.items c.leave.new.rungs.items c.args.level c.index_mut-rung.result.now c.requires.some c.requires.within c.requires.stands.widths c.leave.ensures.path c.index_mut-rung.ensures.value)
+    (width_up (look_of c.args.brush.now.look) c.args.rungs.now.items c.leave.new.rungs.items c.args.level c.index_mut.result.now c.requires.some c.requires.within c.requires.stands.widths c.leave.ensures.path c.index_mut.ensures.value)
 
 pub returns-clause-path : goal.returns-clause-path
 returns-clause-path c = flags_up c.args.rungs.now.items c.leave.new.rungs.items c.args.level _ c.args.is_last c.requires.some c.requires.within c.leave.ensures.path
