@@ -1,6 +1,6 @@
 //! Callers that draw items one by one.
 ghost use Rattle.std.specs.Io.KnownBytes.{Appends};
-ghost use Rattle.std.specs.Prelude.{◌≡◌, ◌≤◌, ◌+◌, [], ⊥, ℕ, List, length, map, nat_lt, if◌then◌else◌, OnOk, IsErrOf};
+ghost use Rattle.std.specs.Prelude.{◌≡◌, ◌≤◌, ◌+◌, [], ℕ, List, length, map, nat_lt, if◌then◌else◌, OnOk, IsErrOf};
 ghost use Rattle.ptree.specs.Address.{Address, IsAddressList};
 ghost use Rattle.ptree.specs.Drawing.{written_look, IsDrawing};
 ghost use Rattle.ptree.specs.GivenItems.{AreAt, AreGivenAs, entry_behind, given_text};

@@ -9,45 +9,44 @@ use Rattle.examples.specs.Given.{given}
 use Rattle.examples.specs.declared.giving.Given.{Given}
 use Rattle.examples.proofs.giving.put_given.Goals as goal
 
--- an item that is in no list
-abbrev no_item : Given
-no_item = record { level = 0; is_last = false; text = record { ref_ptr = (0, 0); now = [] } }
-
 pub loop-place-init : goal.loop-place-init
 loop-place-init g c = record { same = refl; drawn = ([], refl, Appends-nil _) }
 
 pub loop-place-preserved : goal.loop-place-preserved
 loop-place-preserved g c =
+    let shape = g.T.Shaped.shape in
     let look = writer_look c.args.writer.now in
     let inv = c.loop-place.invariant in
     let items = c.args.items.now in
     let place = c.loop-place.place in
-    let item = get_or items place no_item in
+    let item = c.index-items-place.result in
     let others = drop (place + 1) items in
     let path = path_of c.loop-place.writer in
-    let i = given look item in
+    let i = given shape look item in
     let entry = entry_behind look path i.level i.last i.own in
-    let after = given_text look (path_of c.put.new.self) (map (given look) others) in
-    let left : drop place items ≡ item ∷ others = drop_more items place no_item c.loop-place-test.true in
-    let split : given_text look path (map (given look) (drop place items)) ≡ entry ++ after =
-    ap (λ xs. given_text look path (map (given look) xs)) left ∙ ap (λ p. entry ++ given_text look p (map (given look) others)) (sym c.in_ok-put.ensures.path) in
+    let after = given_text look (path_of c.put.new.self) (map (given shape look) others) in
+    let same : get_or items place item ≡ item = sym c.index-items-place.is in
+    let left : drop place items ≡ item ∷ others = drop_more items place item c.loop-place-test.true ∙ ap (λ i. i ∷ others) same in
+    let split : given_text look path (map (given shape look) (drop place items)) ≡ entry ++ after =
+    ap (λ xs. given_text look path (map (given shape look) xs)) left ∙ ap (λ p. entry ++ given_text look p (map (given shape look) others)) (sym c.in_ok-put.ensures.path) in
     record {
       same = c.put.ensures.look ∙ inv.same;
       drawn = (
         inv.drawn.0 ++ entry,
         append_assoc inv.drawn.0 entry after ∙ (ap (λ z. inv.drawn.0 ++ z) (sym split) ∙ inv.drawn.1),
         Appends-trans _ _ _ inv.drawn.0 entry inv.drawn.2
-            (subst (λ k. Appends (g.W.Sink.contents c.loop-place.f) (g.W.Sink.contents c.put.new.f) (entry_behind k path item.level item.is_last (painted_text k.leaf item.text.now))) inv.same c.in_ok-put.ensures.bytes),
+            (subst (λ k. Appends (g.W.Sink.contents c.loop-place.f) (g.W.Sink.contents c.put.new.f) (entry_behind k path item.level item.is_last ((shape item.item.now).own [] k.leaf))) inv.same c.in_ok-put.ensures.bytes),
       );
     }
 
 pub returns : goal.returns
 returns g c =
+    let shape = g.T.Shaped.shape in
     let look = writer_look c.args.writer.now in
     let inv = c.loop-place.invariant in
     let items = c.args.items.now in
     let place = c.loop-place.place in
     let path = path_of c.loop-place.writer in
     let none : drop place items ≡ [] = drop_all place items (omega (arith, c.loop-place-test.false)) in
-    let whole = sym (append-nil inv.drawn.0) ∙ (ap (λ xs. inv.drawn.0 ++ given_text look path (map (given look) xs)) (sym none) ∙ inv.drawn.1) in
+    let whole = sym (append-nil inv.drawn.0) ∙ (ap (λ xs. inv.drawn.0 ++ given_text look path (map (given shape look) xs)) (sym none) ∙ inv.drawn.1) in
     subst (λ (z : List ℕ). Appends (g.W.Sink.contents c.args.f.now) (g.W.Sink.contents c.loop-place.f) z) whole inv.drawn.2

@@ -11,6 +11,6 @@ invariant-loop-place g l =
     let look = writer_look l.fn.writer in
     record {
       same : writer_look l.writer ≡ look;
-      drawn : (drawn : List ℕ) × (drawn ++ given_text look (path_of l.writer) (map (given look) (drop l.place l.items)) ≡ given_text look (path_of l.fn.writer) (map (given look) l.items))
+      drawn : (drawn : List ℕ) × (drawn ++ given_text look (path_of l.writer) (map (given g.T.Shaped.shape look) (drop l.place l.items)) ≡ given_text look (path_of l.fn.writer) (map (given g.T.Shaped.shape look) l.items))
           × Appends (g.W.Sink.contents l.fn.f) (g.W.Sink.contents l.f) drawn;
     }
