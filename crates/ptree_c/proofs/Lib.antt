@@ -1,5 +1,5 @@
-pub mod Flat
 pub mod Given
+pub mod ItemsRead
 pub mod Later
 pub mod Numbered
 pub mod Outlined

@@ -1,8 +1,8 @@
 //! Reads a drawing.
 ghost use Rattle.std.specs.Prelude.{◌≡◌, ◌⊎◌, ◌<◌, ℕ, List, IfOk, IfErr, IsErrOf, length};
 ghost use Rattle.ptree.specs.Drawing.{written_look};
-ghost use Rattle.ptree.specs.DrawnForm.{IsDrawnForm};
-ghost use Rattle.ptree.specs.Tree.{tree_of};
+ghost use Rattle.ptree.specs.Readable.{HasReadablePieces};
+ghost use Rattle.ptree.specs.Scanned.{IsError};
 ghost use Rattle.ptree_c.specs.Calls.{AreItemsOf, IsReadRefusal};
 ghost use Rattle.ptree_c.specs.Fields.{depth_of, look_of};
 ghost use Rattle.ptree_c.specs.Presets.{look_at, IsPresetRefusal};
@@ -11,20 +11,48 @@ ghost use Rattle.ptree_c.specs.Rooms.{filled, found_sizes};
 
 use crate::answer::{refuse, report};
 use crate::fields::{ConfigFields, config_of_fields};
-use crate::items::{Flat, Item, items_of_tree};
+use crate::items::Item;
 use crate::preset::config;
 use crate::refusal::Refusal;
 use crate::room::{Found, fill};
 use ptree::PrintConfig;
-use ptree::item::StringItem;
-use ptree::read::{ReadError, pieces_readable, read_tree_or_line};
+use ptree::read::{ItemReader, ReadError, pieces_readable};
 use std::alloc::Global;
 use std::str;
 
-// The tree whose drawing a text is.
-fn tree_of_text(alloc: Global, text: &[u8], config: &PrintConfig) -> Result<StringItem, Refusal>
-    ensures some { IfOk result (λ t.
-        IsDrawnForm (written_look config.now) config.now.depth text.now (tree_of t)) }
+// Items, and their texts.
+#[derive(Drop)]
+struct Flat {
+    items: Vec<Item>,
+    texts: Vec<u8>,
+}
+
+// The items of the tree whose drawing a text is.
+fn flat_items(alloc: Global, text: &str, config: &PrintConfig) -> Result<Flat, ReadError>
+    requires { HasReadablePieces config.now }
+    ensures items { IfOk result (λ flat.
+        AreItemsOf (written_look config.now) config.now.depth text.now flat.items.items
+        flat.texts.items) }
+    ensures error { IfErr result (IsError (written_look config.now) config.now.depth text.now) }
+{
+    let mut reader = ItemReader::new(alloc, text, config)?;
+    let mut items = Vec::new(alloc);
+    let mut texts = Vec::new(alloc);
+    while let Some(item) = reader.next_item()? {
+        texts.extend_from_slice(item.text.as_str().as_bytes())?;
+        items.push(Item {
+            end: texts.len(),
+            level: item.level as u32,
+        })?;
+    }
+    Ok(Flat { items, texts })
+}
+
+// The items of the tree whose drawing bytes are, or why they are none.
+fn items_of_text(alloc: Global, text: &[u8], config: &PrintConfig) -> Result<Flat, Refusal>
+    ensures items { IfOk result (λ flat.
+        AreItemsOf (written_look config.now) config.now.depth text.now flat.items.items
+        flat.texts.items) }
     ensures refused { IfErr result
         (IsReadRefusal (written_look config.now) config.now.depth text.now) }
 {
@@ -34,24 +62,12 @@ fn tree_of_text(alloc: Global, text: &[u8], config: &PrintConfig) -> Result<Stri
     if !pieces_readable(alloc, config)? {
         return Err(Refusal::Pieces);
     }
-    match read_tree_or_line(alloc, text, config) {
-        Ok(tree) => Ok(tree),
+    match flat_items(alloc, text, config) {
+        Ok(flat) => Ok(flat),
         Err(ReadError::Line(line)) => Err(Refusal::Line(line)),
         Err(ReadError::End) => Err(Refusal::Incomplete),
         Err(ReadError::Memory) => Err(Refusal::Memory),
     }
-}
-
-// The items of the tree whose drawing a text is.
-fn items_of_text(alloc: Global, text: &[u8], config: &PrintConfig) -> Result<Flat, Refusal>
-    ensures items { IfOk result (λ flat.
-        AreItemsOf (written_look config.now) config.now.depth text.now flat.items.items
-        flat.texts.items) }
-    ensures refused { IfErr result
-        (IsReadRefusal (written_look config.now) config.now.depth text.now) }
-{
-    let tree = tree_of_text(alloc, text, config)?;
-    Ok(items_of_tree(alloc, &tree)?)
 }
 
 // The items of what a preset draws.
