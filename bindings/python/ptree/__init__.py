@@ -26,7 +26,6 @@ import functools
 import graphlib
 import itertools
 import json
-import math
 import operator
 import struct
 import sys
@@ -243,8 +242,7 @@ def read(text: str, config: Config | str | None = None, **changes: Any) -> Tree:
     given, found, config = _utf8(text), c.Found(), config_of(config, changes)
     most = given.count(b"\n")
     (items, items_at), (texts, texts_at) = c.room(struct.calcsize(c.ITEM) * most), c.room(len(given))
-    call = (given, len(given), *fields_of(config), items_at, most, texts_at, len(given), found)
-    number = c.deep(_reading_stack(given), lambda: int(c.library.ptree_read_with(*call)))
+    number = c.library.ptree_read_with(given, len(given), *fields_of(config), items_at, most, texts_at, len(given), found)
     if number != c.DONE:
         c.refuse(number, found.place)
     path, start = [Tree("")], 0
@@ -253,13 +251,6 @@ def read(text: str, config: Config | str | None = None, **changes: Any) -> Tree:
         path.append(path[level].add(texts[start:end].decode()))
         start = end
     return path[1]
-
-
-def _reading_stack(text: bytes) -> int:
-    """How much stack the reading of a text may need: 200 bytes for each level. An item of level n has n pieces of a byte or more in its
-    line, and there is an item of each level above it."""
-    few = 200 * math.isqrt(2 * len(text))
-    return few if few <= 32768 else min(few, 200 * max(map(len, text.split(b"\n"))))
 
 
 def draw_json(document: Any, label: str = "", config: Config | str | None = None, **changes: Any) -> str:
