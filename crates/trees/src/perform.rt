@@ -12,7 +12,8 @@ ghost use Rattle.trees.specs.Asked.{drawing_value, reading_value, with_drawing};
 ghost use Rattle.trees.specs.Changing.{IsPart, IsKept, IsConverted, FailsToConvert};
 ghost use Rattle.trees.specs.Listing.{IsListed, FailsToList};
 ghost use Rattle.trees.specs.Merging.{IsComparison, IsMergeDrawing};
-ghost use Rattle.trees.specs.Reading.{HoldDifference, HoldsCount, HoldsDrawing, HoldsNoOther, HoldsSome, IsRedrawn, FailsFor, FailsToRead, FailsToMake, NamesPlace, IsReport, Adds, item_word, count_line};
+ghost use Rattle.trees.specs.Named.{IsReadableValue};
+ghost use Rattle.trees.specs.Reading.{HoldDifference, HoldsDrawing, HoldsNoOther, HoldsSome, IsRedrawn, FailsFor, FailsToRead, FailsToMake, NamesPlace, IsReport, Adds, item_word, count_line};
 ghost use Rattle.trees.specs.Shown.{IsNone, ShowsOnly};
 ghost use Rattle.trees.specs.Telling.{failure_faults, TellsWhether, TellsOnlyIf, TellsOfTexts, TellsOfCommand};
 ghost use Rattle.trees.specs.Writing.{WritesSaid, AreReports, FailsToCheck, AreSettings, Writes, IsTreeDrawing, IsGraphDrawing, IsGraphTooDeep, WritesDrawn, IsIndentation, FailsToIndent, IsGiven, FailsToGive, Draws, DrawsNeeds, Converts, ConvertsBack, WritesOfCommand, ShowsOfCommand, ShowsDrawing, ShowsMerged, LeavesIfWrong, WritesRefusal, Compares};
@@ -24,14 +25,14 @@ use crate::failure::Failure;
 use crate::levels::{LEVELS, TOO_DEEP_GRAPH, has_more_below};
 use crate::pieces::Pieces;
 use crate::screen::{Screen, show_pieces, shown};
+use crate::settings::{self, Settings};
 use crate::source::Source;
-use crate::{document, drawings, lists, settings};
+use crate::{document, drawings, lists};
 use ptree::graph::{REPEATED_MARK, write_graph_once_with, write_graph_with};
 use ptree::item::StringItem;
 use ptree::output::write_tree_with;
 use ptree::print_config::{PrintConfig, StyleWhen};
 use ptree::style::{DrawError, Sink, put_all};
-use ptree_sources::surroundings::Surroundings;
 use ptree_trees::change::{kept, sorted};
 use ptree_trees::difference::ItemDifference;
 use ptree_trees::escape::escaped_item;
@@ -47,7 +48,7 @@ pub fn perform<W: Sink>(
     alloc: Global,
     command: Command<'_>,
     out: &mut W,
-    found: &Surroundings,
+    found: &Settings,
 ) -> Result<(), Failure>
     ensures told { TellsOfCommand found.now.sources command.entry result }
     ensures written { WritesOfCommand found.now.sources command.entry
@@ -117,7 +118,7 @@ fn draw_source<W: Sink>(
     tree: Tree<'_>,
     drawing: Drawing,
     out: &mut W,
-    found: &Surroundings,
+    found: &Settings,
 ) -> Result<(), Failure>
     ensures written { Draws found.now.sources source.now tree.entry drawing
         (W.contents out.old) (W.contents out.new) result }
@@ -207,7 +208,7 @@ fn draw<W: Sink>(
     drawn: Drawn<'_>,
     drawing: Drawing,
     out: &mut W,
-    found: &Surroundings,
+    found: &Settings,
 ) -> Result<(), Failure>
     ensures written { WritesDrawn (drawing_value found.now.sources drawing)
         drawing.screen.is_terminal drawn.entry (W.contents out.old) (W.contents out.new) result }
@@ -280,10 +281,10 @@ fn write_as_is<W: Sink>(
 }
 
 // Returns the configuration of the settings, with what is said of a drawing.
-fn config(alloc: Global, drawing: Drawing, found: &Surroundings) -> Result<PrintConfig, AllocError>
+fn config(alloc: Global, drawing: Drawing, found: &Settings) -> Result<PrintConfig, AllocError>
     ensures { IfOk result (λ config. config_of config ≡ drawing_value found.now.sources drawing) }
 {
-    let mut config = PrintConfig::from_env(alloc, &found.sources)?;
+    let mut config = found.config.clone()?;
     set_drawing(alloc, &mut config, drawing)?;
     Ok(config)
 }
@@ -311,7 +312,7 @@ fn draw_deps<W: Sink>(
     deps: Deps<'_>,
     drawing: Drawing,
     out: &mut W,
-    found: &Surroundings,
+    found: &Settings,
 ) -> Result<(), Failure>
     ensures written { DrawsNeeds found.now.sources source.now deps.entry drawing
         (W.contents out.old) (W.contents out.new) result }
@@ -372,7 +373,7 @@ fn write_once<W: Sink>(
 fn reading_config(
     alloc: Global,
     pieces: Option<Pieces>,
-    found: &Surroundings,
+    found: &Settings,
 ) -> Result<PrintConfig, AllocError>
     ensures { IfOk result (λ config. config_of config ≡ reading_value found.now.sources pieces) }
 {
@@ -385,7 +386,7 @@ fn read_drawing(
     alloc: Global,
     source: &Source,
     pieces: Option<Pieces>,
-    found: &Surroundings,
+    found: &Settings,
 ) -> Result<StringItem, Failure>
     ensures some { IfOk result (λ t.
         HoldsDrawing (reading_value found.now.sources pieces) source.now (tree_of t)) }
@@ -404,24 +405,23 @@ fn read_drawing(
     tree
 }
 
-// Returns how many items that tree has.
-fn count_items(
+// Fails if an input is no drawing that can be read so.
+fn expect_drawing(
     alloc: Global,
     source: &Source,
     pieces: Option<Pieces>,
-    found: &Surroundings,
-) -> Result<usize, Failure>
-    ensures some { IfOk result
-        (HoldsCount (reading_value found.now.sources pieces) source.now) }
+    found: &Settings,
+) -> Result<(), Failure>
+    ensures some { OnOk result
+        (HoldsSome (reading_value found.now.sources pieces) source.now) }
     ensures failed { IfErr result
         (FailsToRead (reading_value found.now.sources pieces) source.now) }
-    ensures place { IfErr result
-        (NamesPlace (reading_value found.now.sources pieces) source.now) }
 {
     let config = reading_config(alloc, pieces, found)?;
     let count = drawings::count(alloc, source, &config);
     drop(config);
-    count
+    count?;
+    Ok(())
 }
 
 // Returns the first difference of the trees of two drawings, if they differ.
@@ -430,7 +430,7 @@ fn find_difference<'a>(
     left: &'a Source,
     right: &'a Source,
     pieces: Option<Pieces>,
-    found: &Surroundings,
+    found: &Settings,
 ) -> Result<Option<ItemDifference<'a>>, Failure>
     ensures some { IfOk result
         (HoldDifference (reading_value found.now.sources pieces) left.now right.now) }
@@ -450,7 +450,7 @@ fn write_indented<W: Sink>(
     source: &Source,
     indented: Indented<'_>,
     out: &mut W,
-    found: &Surroundings,
+    found: &Settings,
 ) -> Result<(), Failure>
     ensures written { Writes (W.contents out.old) (W.contents out.new) result
         (IsIndentation found.now.sources source.now indented.entry)
@@ -469,7 +469,7 @@ fn indented_text(
     alloc: Global,
     source: &Source,
     indented: Indented<'_>,
-    found: &Surroundings,
+    found: &Settings,
 ) -> Result<String, Failure>
     ensures text { IfOk result (λ text.
         IsIndentation found.now.sources source.now indented.entry (string_bytes text)) }
@@ -486,7 +486,7 @@ fn check<W: Sink>(
     pieces: Option<Pieces>,
     screen: Screen,
     out: &mut W,
-    found: &Surroundings,
+    found: &Settings,
 ) -> Result<(), Failure>
     ensures told { TellsWhether result
         (All (HoldsSome (reading_value found.now.sources pieces)) sources.now) }
@@ -498,18 +498,18 @@ fn check<W: Sink>(
     ensures shown { ShowsOnly screen.is_terminal IsNone (W.contents out.old) (W.contents out.new) }
 {
     let mut said = String::new(alloc);
-    let are_drawings = push_checks(alloc, &mut said, sources, pieces, found)?;
+    let are_drawings = push_reports(alloc, &mut said, sources, pieces, found)?;
     let said = screen.lines(alloc, said)?;
     say(out, said.as_str(), !are_drawings)
 }
 
 // Adds of each input whether it is a drawing, and returns whether all are.
-fn push_checks(
+fn push_reports(
     alloc: Global,
     said: &mut String,
     sources: &[Source],
     pieces: Option<Pieces>,
-    found: &Surroundings,
+    found: &Settings,
 ) -> Result<bool, Failure>
     ensures all { IfOk result (λ b.
         IsTrue b ↔ All (HoldsSome (reading_value found.now.sources pieces)) sources.now) }
@@ -518,9 +518,28 @@ fn push_checks(
         (string_bytes said.old) (string_bytes said.new)) }
     ensures failed { IfErr result (FailsToCheck found.now.sources pieces) }
 {
+    let config = reading_config(alloc, pieces, found)?;
+    let are_drawings = push_checks(alloc, said, sources, &config);
+    drop(config);
+    are_drawings
+}
+
+// Adds of each input whether it is a drawing by a configuration, and returns whether all are.
+fn push_checks(
+    alloc: Global,
+    said: &mut String,
+    sources: &[Source],
+    config: &PrintConfig,
+) -> Result<bool, Failure>
+    ensures all { IfOk result (λ b.
+        IsTrue b ↔ All (HoldsSome (config_of config.now)) sources.now) }
+    ensures reports { IfOk result (λ _. Adds (IsReport (config_of config.now)) sources.now
+        (string_bytes said.old) (string_bytes said.new)) }
+    ensures failed { IfErr result (FailsFor ⊥ (IsReadableValue (config_of config.now) → ⊥)) }
+{
     let mut are_drawings = true;
     for source in sources {
-        if !push_check(alloc, said, source, pieces, found)? {
+        if !push_check(alloc, said, source, config)? {
             are_drawings = false;
         }
     }
@@ -532,17 +551,16 @@ fn push_check(
     alloc: Global,
     said: &mut String,
     source: &Source,
-    pieces: Option<Pieces>,
-    found: &Surroundings,
+    config: &PrintConfig,
 ) -> Result<bool, Failure>
     ensures drawing { IfOk result (λ b.
-        IsTrue b ↔ HoldsSome (reading_value found.now.sources pieces) source.now) }
+        IsTrue b ↔ HoldsSome (config_of config.now) source.now) }
     ensures report { IfOk result (λ _. (more : List ℕ)
         × (string_bytes said.new ≡ string_bytes said.old ++ more)
-        × IsReport (reading_value found.now.sources pieces) source.now more) }
-    ensures failed { IfErr result (FailsToCheck found.now.sources pieces) }
+        × IsReport (config_of config.now) source.now more) }
+    ensures failed { IfErr result (FailsFor ⊥ (IsReadableValue (config_of config.now) → ⊥)) }
 {
-    match count_items(alloc, source, pieces, found) {
+    match drawings::count(alloc, source, config) {
         Ok(count) => {
             push_count(said, source, count)?;
             Ok(true)
@@ -577,7 +595,7 @@ fn draw_converted<W: Sink>(
     source: &Source,
     convert: Convert<'_>,
     out: &mut W,
-    found: &Surroundings,
+    found: &Settings,
 ) -> Result<(), Failure>
     ensures written { Converts found.now.sources source.now convert.entry
         (W.contents out.old) (W.contents out.new) result }
@@ -598,7 +616,7 @@ fn converted(
     alloc: Global,
     source: &Source,
     convert: Convert<'_>,
-    found: &Surroundings,
+    found: &Settings,
 ) -> Result<StringItem, Failure>
     ensures converted { IfOk result (λ t.
         IsConverted found.now.sources source.now convert.entry (tree_of t)) }
@@ -619,7 +637,7 @@ fn compare_drawings<W: Sink>(
     right: &Source,
     diff: Diff,
     out: &mut W,
-    found: &Surroundings,
+    found: &Settings,
 ) -> Result<(), Failure>
     ensures told { TellsOfTexts (reading_value found.now.sources diff.drawing.pieces)
         left.now right.now result }
@@ -631,8 +649,7 @@ fn compare_drawings<W: Sink>(
         (W.contents out.old) (W.contents out.new) }
 {
     if left.text == right.text {
-        count_items(alloc, left, diff.drawing.pieces, found)?;
-        return Ok(());
+        return expect_drawing(alloc, left, diff.drawing.pieces, found);
     }
     if diff.shows_all {
         return show_all(alloc, left, right, diff, out, found);
@@ -647,7 +664,7 @@ fn show_all<W: Sink>(
     right: &Source,
     diff: Diff,
     out: &mut W,
-    found: &Surroundings,
+    found: &Settings,
 ) -> Result<(), Failure>
     requires all { diff.shows_all ≡ true }
     ensures different { IsErr result }
@@ -672,7 +689,7 @@ fn show_first<W: Sink>(
     right: &Source,
     diff: Diff,
     out: &mut W,
-    found: &Surroundings,
+    found: &Settings,
 ) -> Result<(), Failure>
     requires first { diff.shows_all ≡ false }
     requires differ { string_bytes left.now.text ≢ string_bytes right.now.text }
@@ -721,7 +738,7 @@ fn write_both<W: Sink>(
 }
 
 // Says which settings hold.
-fn show_settings<W: Sink>(alloc: Global, out: &mut W, found: &Surroundings) -> Result<(), Failure>
+fn show_settings<W: Sink>(alloc: Global, out: &mut W, found: &Settings) -> Result<(), Failure>
     ensures told { TellsWhether result (first_fault found.now.sources ≡ None) }
     ensures written { WritesSaid (W.contents out.old) (W.contents out.new) result
         (AreSettings found.now.sources) (λ e. e ≡ Failure.Memory) }

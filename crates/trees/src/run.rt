@@ -9,11 +9,12 @@ use crate::help;
 use crate::names::{CommandName, Opt};
 use crate::perform::perform;
 use crate::screen::Screen;
+use crate::settings::Settings;
 use crate::source::Source;
 use crate::words::Words;
 use ptree::print_config::first_fault;
 use ptree::style::{Sink, put_all};
-use ptree_sources::surroundings::{Surroundings, gather};
+use ptree_sources::surroundings::gather;
 use std::alloc::{AllocError, Global};
 use std::env::Env;
 use std::io::{Eprint, Read};
@@ -123,7 +124,7 @@ where
     let alloc = rt.alloc();
     match words.command(sources, screen) {
         Ok(command) => {
-            let found = gather(rt, alloc)?;
+            let found = Settings::load(alloc, gather(rt, alloc)?)?;
             tell_fault(rt, words.name, &found)?;
             perform(alloc, command, out, &found)
         }
@@ -136,9 +137,9 @@ where
 fn tell_fault<R: AllocGlobal + Eprint>(
     rt: &R,
     name: CommandName,
-    found: &Surroundings,
+    found: &Settings,
 ) -> Result<(), AllocError> {
-    if name == CommandName::Config {
+    if !found.has_fault || name == CommandName::Config {
         return Ok(());
     }
     if let Some(fault) = first_fault(rt.alloc(), &found.sources)? {

@@ -10,7 +10,8 @@ ghost use Rattle.trees.specs.Settings.{setting_name, when_word, quoted, IsColorT
 
 use crate::suggest::Nearest;
 use ptree::print_config::{
-    FIELDS, Fault, Field, Part, PrintConfig, Spelling, StyleField, StyleWhen, faults, last_value,
+    FIELDS, Fault, Field, Part, PrintConfig, Sources, Spelling, StyleField, StyleWhen, faults,
+    last_value, load,
 };
 use ptree::style::{Color, Style};
 use ptree_sources::settings::{
@@ -19,6 +20,39 @@ use ptree_sources::settings::{
 use ptree_sources::surroundings::Surroundings;
 use ptree_trees::escape::escaped;
 use std::alloc::{AllocError, Global};
+
+/// The settings of a call: their sources, the path of the file, and what they mean.
+#[derive(Drop)]
+pub struct Settings {
+    pub sources: Sources,
+    pub path: Option<String>,
+    pub config: PrintConfig,
+
+    /// Whether the sources have a fault. Then the configuration is the default.
+    pub has_fault: bool,
+    ghost loaded: { config_of config ≡ effective_config sources },
+}
+
+impl Settings {
+    /// Loads the configuration of what surrounds a call.
+    ///
+    /// # Errors
+    ///
+    /// Memory ran out.
+    pub fn load(alloc: Global, found: Surroundings) -> Result<Settings, AllocError> {
+        let Surroundings { sources, path } = found;
+        let (config, has_fault) = match load(alloc, &sources)? {
+            Some(config) => (config, false),
+            None => (PrintConfig::default(alloc)?, true),
+        };
+        Ok(Settings {
+            sources,
+            path,
+            config,
+            has_fault,
+        })
+    }
+}
 
 /// What is said of the settings, and whether the sources have faults.
 #[derive(Drop)]
@@ -33,7 +67,7 @@ pub struct Report {
 /// # Errors
 ///
 /// Memory ran out.
-pub fn describe(alloc: Global, found: &Surroundings) -> Result<Report, AllocError>
+pub fn describe(alloc: Global, found: &Settings) -> Result<Report, AllocError>
     ensures faults { IfOk result (λ report.
         report.has_faults ≡ is_some (first_fault found.now.sources)) }
     ensures settings { IfOk result (λ report.
@@ -63,7 +97,7 @@ pub fn describe(alloc: Global, found: &Surroundings) -> Result<Report, AllocErro
 fn push_fault(
     alloc: Global,
     text: &mut String,
-    found: &Surroundings,
+    found: &Settings,
     fault: Fault,
 ) -> Result<(), AllocError> {
     text.push_str("error: ")?;
@@ -110,26 +144,25 @@ fn nearest_variable(name: &str) -> Option<&'static str> {
 fn push_settings(
     alloc: Global,
     text: &mut String,
-    found: &Surroundings,
+    found: &Settings,
     has_faults: bool,
 ) -> Result<(), AllocError>
     ensures { OnOk result (Adds (IsSettingLine (effective_config found.now.sources)) all_fields
         (string_bytes text.old) (string_bytes text.new)) }
 {
-    let config = PrintConfig::from_env(alloc, &found.sources)?;
     let entries = entries(alloc, &found.sources.file)?;
     let known = Known {
         found,
         entries: entries.as_slice(),
         has_faults,
     };
-    push_fields(alloc, text, &config, known, &FIELDS)
+    push_fields(alloc, text, &found.config, known, &FIELDS)
 }
 
 // What says where settings come from.
 #[derive(Clone, Copy)]
 struct Known<'a> {
-    found: &'a Surroundings,
+    found: &'a Settings,
     entries: &'a [Entry],
     has_faults: bool,
 }
@@ -243,7 +276,7 @@ fn origin_of(field: Field, known: Known<'_>) -> Origin {
 }
 
 // Whether there is a variable of a field.
-fn has_variable(field: Field, found: &Surroundings) -> bool {
+fn has_variable(field: Field, found: &Settings) -> bool {
     last_value(
         Spelling::AnyCase,
         field.variable(),

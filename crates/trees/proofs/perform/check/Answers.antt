@@ -38,7 +38,7 @@ returns-clause-written g c =
     let new = g.W.Sink.contents c.say.new.out in
     let text = c.as_str.result.now in
     let empty : string_bytes c.new-said.result ≡ [] = search rules in
-    let lines = subst (λ a. Adds (IsReport (reading_value sources c.args.pieces)) inputs a (string_bytes c.push_checks.new.said)) empty c.in_ok-are_drawings.ensures.reports in
+    let lines = subst (λ a. Adds (IsReport (reading_value sources c.args.pieces)) inputs a (string_bytes c.push_reports.new.said)) empty c.in_ok-are_drawings.ensures.reports in
     let reports : AreReports sources inputs c.args.pieces b text = (_, lines, search rules) in
     let are = AreReports sources inputs c.args.pieces b in
     said_weaker old new c.say.result (λ bytes. bytes ≡ text) are (λ e. e ≡ Memory) (FailsToCheck sources c.args.pieces) (λ bytes e. subst are (sym e) reports)

@@ -1,6 +1,6 @@
 use Rattle.std.proofs.Common.{◌≡◌, ◌++◌, inl, inr, refl, rules, ap, sym, subst, codes, string_bytes}
 use Rattle.trees.specs.declared.failure.Failure.TheVariants.{Input}
-use Rattle.trees.specs.Asked.{reading_value}
+use Rattle.ptree.specs.Config.{config_of}
 use Rattle.trees.specs.Reading.{FailsToRead, NamesPlace, count_line}
 use Rattle.trees.proofs.perform.push_check.Goals as goal
 
@@ -13,7 +13,7 @@ returns-in_ok-push_count-in-Ok-clause-report c =
 -- what is wrong is said, on a line of its own
 pub returns-in_ok-writeln-in-Err-Input-clause-report : goal.returns-in_ok-writeln-in-Err-Input-clause-report
 returns-in_ok-writeln-in-Err-Input-clause-report c =
-    let config = reading_value c.args.found.now.sources c.args.pieces in
+    let config = config_of c.args.config.now in
     let source = c.args.source.now in
     let wrong = c.in-Err-Input.wrong in
     let failed : FailsToRead config source (Input wrong) = search rules in

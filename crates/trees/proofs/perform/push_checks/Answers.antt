@@ -1,6 +1,6 @@
 use Rattle.trees.proofs.Common.{◌↔◌, ◌∙◌, List, All, IsTrue, rules, string_bytes, take, take_all, subst, sym, ◌+◌, false≢true}
 use Rattle.trees.specs.declared.source.Source.{Source}
-use Rattle.trees.specs.Asked.{reading_value}
+use Rattle.ptree.specs.Config.{config_of}
 use Rattle.trees.specs.Reading.{HoldsSome, IsReport, Adds}
 use Rattle.trees.proofs.Reports.{adds_nothing, adds_next}
 use Rattle.trees.proofs.Told.{still_all, not_all}
@@ -8,11 +8,11 @@ use Rattle.trees.proofs.perform.push_checks.Goals.{then-not-branch, else-not-bra
 use Rattle.trees.proofs.perform.push_checks.Goals as goal
 
 pub loop-source-init : goal.loop-source-init
-loop-source-init c = (search rules, adds_nothing (IsReport (reading_value c.args.found.now.sources c.args.pieces)) (string_bytes c.args.said.now))
+loop-source-init c = (search rules, adds_nothing (IsReport (config_of c.args.config.now)) (string_bytes c.args.said.now))
 
 pub loop-source-preserved : goal.loop-source-preserved
 loop-source-preserved c =
-    let config = reading_value c.args.found.now.sources c.args.pieces in
+    let config = config_of c.args.config.now in
     let holds : Source → Type 0 = λ s. HoldsSome config s in
     let sources = c.args.sources.now in
     let i = c.loop-source.source-index in
@@ -32,11 +32,11 @@ loop-source-preserved c =
 
 pub returns-clause-all : goal.returns-clause-all
 returns-clause-all c =
-    let holds : Source → Type 0 = λ s. HoldsSome (reading_value c.args.found.now.sources c.args.pieces) s in
+    let holds : Source → Type 0 = λ s. HoldsSome (config_of c.args.config.now) s in
     subst (λ (xs : List Source). IsTrue c.loop-source.are_drawings ↔ All holds xs) (take_all c.loop-source.source-index c.args.sources.now c.loop-source-test.false) c.loop-source.invariant.0
 
 pub returns-clause-reports : goal.returns-clause-reports
 returns-clause-reports c =
-    let config = reading_value c.args.found.now.sources c.args.pieces in
+    let config = config_of c.args.config.now in
     subst (λ (xs : List Source). Adds (IsReport config) xs (string_bytes c.args.said.now) (string_bytes c.loop-source.said))
     (take_all c.loop-source.source-index c.args.sources.now c.loop-source-test.false) c.loop-source.invariant.1

@@ -1,4 +1,4 @@
-use Rattle.trees.proofs.Common.{◌≡◌, string_bytes, subst, rules, OnOk, ConfigValue, config_of, effective_config}
+use Rattle.trees.proofs.Common.{string_bytes, subst, rules, OnOk, ConfigValue, config_of}
 use Rattle.ptree.specs.Fields.{all_fields}
 use Rattle.trees.specs.Reading.{Adds}
 use Rattle.trees.specs.Settings.{IsSettingLine}
@@ -6,6 +6,5 @@ use Rattle.trees.proofs.settings.push_settings.Goals as goal
 
 pub returns : goal.returns
 returns c =
-    let value : config_of c.in_ok-config.config ≡ effective_config c.args.found.now.sources = search rules in
-    let lines : OnOk c.push_fields.result (Adds (IsSettingLine (config_of c.in_ok-config.config)) all_fields (string_bytes c.args.text.now) (string_bytes c.push_fields.new.text)) = search rules in
-    subst (λ (v : ConfigValue). OnOk c.push_fields.result (Adds (IsSettingLine v) all_fields (string_bytes c.args.text.now) (string_bytes c.push_fields.new.text))) value lines
+    let lines : OnOk c.push_fields.result (Adds (IsSettingLine (config_of c.args.found.now.config)) all_fields (string_bytes c.args.text.now) (string_bytes c.push_fields.new.text)) = search rules in
+    subst (λ (v : ConfigValue). OnOk c.push_fields.result (Adds (IsSettingLine v) all_fields (string_bytes c.args.text.now) (string_bytes c.push_fields.new.text))) c.args.found.now.loaded lines
