@@ -142,7 +142,7 @@ fn tree_of(alloc: Global, source: &Source, tree: Tree<'_>) -> Result<StringItem,
         Tree::Json(document) => document::tree::<serde_json::Value>(alloc, source, document),
         Tree::Toml(document) => document::tree::<toml::Value>(alloc, source, document),
         Tree::Paths(paths) => listed(alloc, source, paths),
-        Tree::Outline(outline) => lists::outline(alloc, source, outline),
+        Tree::Outline(outline) => lists::outlines::outline(alloc, source, outline),
     }
 }
 

@@ -1,6 +1,6 @@
 use Rattle.std.proofs.Common.{◌≡◌, drop, map}
 use Rattle.trees.specs.Outlining.{first_indent}
-use Rattle.trees.proofs.lists.first_indent.Given as goal
+use Rattle.trees.proofs.lists.outlines.first_indent.Given as goal
 
 -- the lines so far have no indent
 abbrev pub invariant-loop-line : goal.invariant-loop-line

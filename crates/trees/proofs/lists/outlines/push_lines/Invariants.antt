@@ -1,6 +1,6 @@
 use Rattle.std.proofs.Common.{◌≡◌, ◌++◌, map, take, string_bytes}
 use Rattle.trees.specs.Outlining.{text_of_lines}
-use Rattle.trees.proofs.lists.push_lines.Given as goal
+use Rattle.trees.proofs.lists.outlines.push_lines.Given as goal
 
 -- the lines so far were added
 abbrev pub invariant-loop-line : goal.invariant-loop-line

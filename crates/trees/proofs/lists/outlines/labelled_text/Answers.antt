@@ -1,8 +1,8 @@
 use Rattle.std.proofs.Common.{◌≡◌, ◌++◌, ◌∷◌, ℕ, List, [], Option, map, sym, subst, string_bytes, rules, Bor}
 use Rattle.trees.specs.Outlining.{text_of_lines, labelled_lines}
 use Rattle.trees.proofs.OutlineTexts.{labelled_some}
-use Rattle.trees.proofs.lists.labelled_text.Goals.{in-Some+in_ok-push_line-in-Some+in_ok-push_lines-in-Some, in-None+in_ok-push_lines-in-None}
-use Rattle.trees.proofs.lists.labelled_text.Goals as goal
+use Rattle.trees.proofs.lists.outlines.labelled_text.Goals.{in-Some+in_ok-push_line-in-Some+in_ok-push_lines-in-Some, in-None+in_ok-push_lines-in-None}
+use Rattle.trees.proofs.lists.outlines.labelled_text.Goals as goal
 
 pub returns : goal.returns
 returns c =

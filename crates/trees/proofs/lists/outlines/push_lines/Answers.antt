@@ -1,7 +1,7 @@
 use Rattle.std.proofs.Common.{◌≡◌, ◌++◌, ℕ, List, [], map, subst, string_bytes, rules, take_all, Bor}
 use Rattle.trees.specs.Outlining.{text_of_lines}
 use Rattle.trees.proofs.Outlines.{text_more}
-use Rattle.trees.proofs.lists.push_lines.Goals as goal
+use Rattle.trees.proofs.lists.outlines.push_lines.Goals as goal
 
 pub loop-line-preserved : goal.loop-line-preserved
 loop-line-preserved c =

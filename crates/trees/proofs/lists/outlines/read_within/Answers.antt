@@ -3,7 +3,7 @@ use Rattle.ptree.specs.Tree.{Tree, tree_of}
 use Rattle.trees.specs.Outlining.{IsFormWithin}
 use Rattle.trees.proofs.Outlines.{within_lines, deep_line}
 use Rattle.trees.proofs.Readings.{fails_weaker}
-use Rattle.trees.proofs.lists.read_within.Goals as goal
+use Rattle.trees.proofs.lists.outlines.read_within.Goals as goal
 
 pub returns-in-Some-clause-failed : goal.returns-in-Some-clause-failed
 returns-in-Some-clause-failed c =

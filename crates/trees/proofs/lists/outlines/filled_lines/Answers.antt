@@ -1,6 +1,6 @@
 use Rattle.trees.proofs.Common.{◌∙◌, ap, filter, YieldsList-end, YieldsList-from_lines}
 use Rattle.trees.specs.Outlining.{is_filled}
-use Rattle.trees.proofs.lists.filled_lines.Goals as goal
+use Rattle.trees.proofs.lists.outlines.filled_lines.Goals as goal
 
 pub returns : goal.returns
 returns c =

@@ -1,6 +1,6 @@
 use Rattle.std.proofs.Common.{◌≡◌, map, filter}
 use Rattle.trees.specs.Outlining.{is_filled}
-use Rattle.trees.proofs.lists.filled_lines.Given as goal
+use Rattle.trees.proofs.lists.outlines.filled_lines.Given as goal
 
 -- those so far
 abbrev pub invariant-loop-line : goal.invariant-loop-line

@@ -1,6 +1,6 @@
 use Rattle.std.proofs.Common.{◌∙◌, ap, rules}
 use Rattle.trees.proofs.OutlineTexts.{blanks_before}
-use Rattle.trees.proofs.lists.indent_of.Goals as goal
+use Rattle.trees.proofs.lists.outlines.indent_of.Goals as goal
 
 pub returns : goal.returns
 returns c =

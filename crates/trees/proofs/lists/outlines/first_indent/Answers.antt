@@ -1,7 +1,7 @@
 use Rattle.trees.proofs.Common.{◌≡◌, ◌∙◌, ℕ, true, false, List, [], get_or, map, sym, rules, Bor, at_drop_all, begins_blank}
 use Rattle.trees.specs.Outlining.{line_indent, first_indent}
 use Rattle.trees.proofs.Outlines.{indent_here, indent_later}
-use Rattle.trees.proofs.lists.first_indent.Goals as goal
+use Rattle.trees.proofs.lists.outlines.first_indent.Goals as goal
 
 pub returns-then-is_indented : goal.returns-then-is_indented
 returns-then-is_indented c =

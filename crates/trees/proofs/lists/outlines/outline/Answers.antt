@@ -3,8 +3,8 @@ use Rattle.ptree.specs.Tree.{Tree, tree_of}
 use Rattle.trees.specs.Outlining.{text_of_lines, labelled_lines, IsFormWithin, HoldsOutline, HoldsNoOtherOutline, FailsToOutline}
 use Rattle.trees.specs.Reading.{FailsToMake}
 use Rattle.trees.proofs.Outlines.{form_is, IsTextOf, text_is, within_held, held_within, outline_fails, form_fails}
-use Rattle.trees.proofs.lists.outline.Goals.{After-drop-text}
-use Rattle.trees.proofs.lists.outline.Goals as goal
+use Rattle.trees.proofs.lists.outlines.outline.Goals.{After-drop-text}
+use Rattle.trees.proofs.lists.outlines.outline.Goals as goal
 
 -- the unit and the bullet
 abbrev made_form : After-drop-text → Form
