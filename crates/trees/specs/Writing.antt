@@ -29,8 +29,8 @@ use Rattle.trees.specs.declared.command.Tree.TheVariants as given
 use Rattle.trees.specs.declared.deps.Dependencies.{Dependencies}
 use Rattle.trees.specs.declared.failure.Failure.{Failure}
 use Rattle.trees.specs.declared.failure.Failure.TheVariants.{Usage, Input, Said, Output, Memory}
-use Rattle.trees.specs.declared.perform.Drawn.{Drawn}
-use Rattle.trees.specs.declared.perform.Drawn.TheVariants as drawn
+use Rattle.trees.specs.declared.perform.drawn.Drawn.{Drawn}
+use Rattle.trees.specs.declared.perform.drawn.Drawn.TheVariants as drawn
 use Rattle.trees.specs.declared.pieces.Pieces.{Pieces}
 use Rattle.trees.specs.declared.source.Source.{Source}
 use Rattle.trees.specs.Asked.{drawing_value, reading_value}

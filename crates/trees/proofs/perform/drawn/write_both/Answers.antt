@@ -4,7 +4,7 @@ use Rattle.trees.specs.Merging.{IsMergeDrawing, ShowsBoth, styled_tree_of}
 use Rattle.trees.specs.Reading.{IsWriting}
 use Rattle.trees.proofs.MergeDrawings.{merge_drawing, refuses_part}
 use Rattle.trees.proofs.Writings.{fails_early}
-use Rattle.trees.proofs.perform.write_both.Goals as goal
+use Rattle.trees.proofs.perform.drawn.write_both.Goals as goal
 
 pub returns-in_err-both-clause-written : goal.returns-in_err-both-clause-written
 returns-in_err-both-clause-written g c =

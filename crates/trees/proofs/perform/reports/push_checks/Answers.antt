@@ -4,8 +4,8 @@ use Rattle.ptree.specs.Config.{config_of}
 use Rattle.trees.specs.Reading.{HoldsSome, IsReport, Adds}
 use Rattle.trees.proofs.Reports.{adds_nothing, adds_next}
 use Rattle.trees.proofs.Told.{still_all, not_all}
-use Rattle.trees.proofs.perform.push_checks.Goals.{then-not-branch, else-not-branch}
-use Rattle.trees.proofs.perform.push_checks.Goals as goal
+use Rattle.trees.proofs.perform.reports.push_checks.Goals.{then-not-branch, else-not-branch}
+use Rattle.trees.proofs.perform.reports.push_checks.Goals as goal
 
 pub loop-source-init : goal.loop-source-init
 loop-source-init c = (search rules, adds_nothing (IsReport (config_of c.args.config.now)) (string_bytes c.args.said.now))

@@ -9,7 +9,7 @@ use Rattle.trees.specs.Reading.{IsReport, Adds}
 use Rattle.trees.specs.Shown.{IsNone}
 use Rattle.trees.proofs.Shown.{lines_part_shown, nothing_shown}
 use Rattle.trees.proofs.Told.{tells_of_not}
-use Rattle.trees.proofs.perform.check.Goals as goal
+use Rattle.trees.proofs.perform.reports.check.Goals as goal
 
 pub returns-clause-told : goal.returns-clause-told
 returns-clause-told g c =

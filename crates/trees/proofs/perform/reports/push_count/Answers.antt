@@ -1,5 +1,5 @@
 use Rattle.std.proofs.Common.{◌≡◌, ◌++◌, List, ℕ, codes, string_bytes, rules, ap, subst, decimal, OnOk}
-use Rattle.trees.proofs.perform.push_count.Goals as goal
+use Rattle.trees.proofs.perform.reports.push_count.Goals as goal
 
 pub returns : goal.returns
 returns c =

@@ -1,6 +1,6 @@
 use Rattle.trees.proofs.Common.{false, rules, config_of}
 use Rattle.trees.specs.Writing.{IsGraphDrawing}
-use Rattle.trees.proofs.perform.write_once.Goals as goal
+use Rattle.trees.proofs.perform.drawn.write_once.Goals as goal
 
 -- the drawing is that of the one tree
 pub returns-clause-written : goal.returns-clause-written

@@ -2,7 +2,7 @@ use Rattle.std.proofs.Common.{◌≡◌, ◌++◌, inl, inr, refl, rules, ap, sy
 use Rattle.trees.specs.declared.failure.Failure.TheVariants.{Input}
 use Rattle.ptree.specs.Config.{config_of}
 use Rattle.trees.specs.Reading.{FailsToRead, NamesPlace, count_line}
-use Rattle.trees.proofs.perform.push_check.Goals as goal
+use Rattle.trees.proofs.perform.reports.push_check.Goals as goal
 
 -- how many items there are is said
 pub returns-in_ok-push_count-in-Ok-clause-report : goal.returns-in_ok-push_count-in-Ok-clause-report

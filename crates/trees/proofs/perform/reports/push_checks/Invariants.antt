@@ -1,7 +1,7 @@
 use Rattle.std.proofs.Common.{◌↔◌, IsTrue, All, take, string_bytes}
 use Rattle.ptree.specs.Config.{config_of}
 use Rattle.trees.specs.Reading.{HoldsSome, IsReport, Adds}
-use Rattle.trees.proofs.perform.push_checks.Given as goal
+use Rattle.trees.proofs.perform.reports.push_checks.Given as goal
 
 -- whether the sources so far hold drawings, and what is said of them
 abbrev pub invariant-loop-source : goal.invariant-loop-source
