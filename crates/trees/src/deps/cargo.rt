@@ -1,78 +1,68 @@
 //! Lock files of Cargo and uv: `Cargo.lock` and `uv.lock`.
 
-use crate::deps::Refusal;
-use crate::deps::tables::search::Wanted;
-use crate::deps::tables::{self, Package};
+use crate::deps::tables::search::{Needing, Wanted};
+use crate::deps::{Refusal, tables};
 use std::alloc::Global;
 use toml::Value;
 
-/// Adds what a package needs: what it always does, and in extras and groups.
-///
-/// # Errors
-///
-/// Its needs are of another kind, or not packages, and memory.
-pub fn push_needed(
-    alloc: Global,
-    packages: &[Package<'_>],
-    package: &Package<'_>,
-    needed: &mut Vec<usize>,
-) -> Result<(), Refusal> {
-    if let Some(entries) = package.table.get("dependencies") {
-        push_list(alloc, packages, package, entries, needed)?;
-    }
-    for key in ["optional-dependencies", "dev-dependencies"] {
-        if let Some(groups) = package.table.get(key) {
-            let Some(groups) = groups.as_table() else {
-                let parts = [package.name, " has ", key, " that are not a table"];
-                return Err(Refusal::of(alloc, &parts));
-            };
-            for entries in groups.values() {
-                push_list(alloc, packages, package, entries, needed)?;
+impl Needing<'_> {
+    /// Adds what a package needs: what it always does, and in extras and groups.
+    ///
+    /// # Errors
+    ///
+    /// Its needs are of another kind, or not packages, and memory.
+    pub fn push_listed(&self, alloc: Global, needed: &mut Vec<usize>) -> Result<(), Refusal> {
+        if let Some(entries) = self.package.table.get("dependencies") {
+            self.push_list(alloc, entries, needed)?;
+        }
+        for key in ["optional-dependencies", "dev-dependencies"] {
+            if let Some(groups) = self.package.table.get(key) {
+                let Some(groups) = groups.as_table() else {
+                    let parts = [self.package.name, " has ", key, " that are not a table"];
+                    return Err(Refusal::of(alloc, &parts));
+                };
+                for entries in groups.values() {
+                    self.push_list(alloc, entries, needed)?;
+                }
             }
         }
+        Ok(())
     }
-    Ok(())
-}
 
-// Adds what a package needs by the entries of a list.
-fn push_list(
-    alloc: Global,
-    packages: &[Package<'_>],
-    package: &Package<'_>,
-    entries: &Value,
-    needed: &mut Vec<usize>,
-) -> Result<(), Refusal> {
-    let Some(list) = entries.as_array() else {
-        let has = if entries.is_table() {
-            " has a table of dependencies, but metadata has no content-hash"
-        } else {
-            " has dependencies that are not a list"
+    // Adds what a package needs by the entries of a list.
+    fn push_list(
+        &self,
+        alloc: Global,
+        entries: &Value,
+        needed: &mut Vec<usize>,
+    ) -> Result<(), Refusal> {
+        let Some(list) = entries.as_array() else {
+            let wrong = if entries.is_table() {
+                "a table of dependencies, but metadata has no content-hash"
+            } else {
+                "dependencies that are not a list"
+            };
+            return Err(self.has(alloc, wrong));
         };
-        return Err(Refusal::of(alloc, &[package.name, has]));
-    };
-    for entry in list {
-        needed.push(find(alloc, packages, package, entry)?)?;
+        for entry in list {
+            needed.push(self.find_entry(alloc, entry)?)?;
+        }
+        Ok(())
     }
-    Ok(())
-}
 
-// Returns the number of the package that an entry wants: a text, or a table in a `uv.lock`.
-fn find(
-    alloc: Global,
-    packages: &[Package<'_>],
-    package: &Package<'_>,
-    entry: &Value,
-) -> Result<usize, Refusal> {
-    let wanted = match entry.as_str() {
-        Some(text) => wanted_by_text(text),
-        None => wanted_by_table(entry),
-    };
-    let Some(wanted) = wanted else {
-        return Err(Refusal::of(alloc, &[package.name, " has an invalid dependency"]));
-    };
-    match wanted.find(alloc, packages, package, wanted.name)? {
-        Some(number) => Ok(number),
-        None => Err(package.needs(alloc, wanted.name, ", which is missing")),
+    // Returns the number of the package that an entry wants: a text, or a table in a `uv.lock`.
+    fn find_entry(&self, alloc: Global, entry: &Value) -> Result<usize, Refusal> {
+        let wanted = match entry.as_str() {
+            Some(text) => wanted_by_text(text),
+            None => wanted_by_table(entry),
+        };
+        let Some(wanted) = wanted else {
+            return Err(self.has(alloc, "an invalid dependency"));
+        };
+        match self.find(alloc, wanted)? {
+            Some(number) => Ok(number),
+            None => Err(self.needs(alloc, wanted.name, ", which is missing")),
+        }
     }
 }
 

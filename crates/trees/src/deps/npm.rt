@@ -16,8 +16,6 @@ const NO_PACKAGES: &str = "no object at packages, as a lock file of npm has";
 
 const ALIAS: &str = " is a link by another name than its package has, which is not supported";
 
-const OTHER: &str = "no lockfileVersion 2 or 3, as a lock file of npm has";
-
 // What a lock file has, in the order of the paths.
 #[derive(Drop)]
 struct Lock<'a> {
@@ -39,9 +37,9 @@ pub fn packages(alloc: Global, file: &str, lock: &Value) -> Result<Packages, Ref
         let is_old = version.is_some() && lock.get("dependencies").is_some();
         return Err(Refusal::of(alloc, &[if is_old { OLD } else { NO_PACKAGES }]));
     };
-    match version.and_then(|version| version.as_u64()) {
-        Some(2 | 3) => {}
-        _ => return Err(Refusal::of(alloc, &[OTHER])),
+    if !matches!(version.and_then(|version| version.as_u64()), Some(2 | 3)) {
+        let wrong = "no lockfileVersion 2 or 3, as a lock file of npm has";
+        return Err(Refusal::of(alloc, &[wrong]));
     }
     let project = Entry::read(alloc, "", lock, file)?;
     // npm leaves out a project of which it has nothing but the name.
@@ -152,7 +150,7 @@ impl<'a> Lock<'a> {
         Ok(names)
     }
 
-    // Adds the names of the workspaces of the project. Its patterns are a list, or one at `packages`.
+    // Adds the names of the project's workspaces. Their patterns are a list, or one at `packages`.
     fn push_workspaces(
         &self,
         alloc: Global,
@@ -182,11 +180,9 @@ impl<'a> Lock<'a> {
             Some(number) => number..number.saturating_add(1),
             None => 0..0,
         };
-        for number in numbers {
-            if let Some(package) = self.packages.get(number) {
-                if workspaces::means(pattern, package.path) {
-                    names.push(package.own_name)?;
-                }
+        for package in self.packages.get(numbers).unwrap_or(&[]) {
+            if workspaces::means(pattern, package.path) {
+                names.push(package.own_name)?;
             }
         }
         Ok(())

@@ -1,8 +1,7 @@
 //! Lock files of Poetry: `poetry.lock`.
 
 use crate::deps::Refusal;
-use crate::deps::tables::Package;
-use crate::deps::tables::search::Wanted;
+use crate::deps::tables::search::{Needing, Wanted};
 use std::alloc::{AllocError, Global};
 use toml::Value;
 
@@ -27,48 +26,38 @@ pub fn normal_name(alloc: Global, name: &str) -> Result<String, AllocError> {
     Ok(normal)
 }
 
-/// Adds what a package needs, as far as that is locked.
-///
-/// # Errors
-///
-/// Its needs are of another kind, or several packages, and memory.
-pub fn push_needed(
-    alloc: Global,
-    packages: &[Package<'_>],
-    package: &Package<'_>,
-    needed: &mut Vec<usize>,
-) -> Result<(), Refusal> {
-    let Some(entries) = package.table.get("dependencies") else {
-        return Ok(());
-    };
-    let Some(entries) = entries.as_table() else {
-        let wrong = " has dependencies that are not a table";
-        return Err(Refusal::of(alloc, &[package.name, wrong]));
-    };
-    for (name, constraint) in entries.iter() {
-        if let Some(number) = find(alloc, packages, package, name.as_str(), constraint)? {
-            needed.push(number)?;
+impl Needing<'_> {
+    /// Adds what a package needs, as far as that is locked.
+    ///
+    /// # Errors
+    ///
+    /// Its needs are of another kind, or several packages, and memory.
+    pub fn push_locked(&self, alloc: Global, needed: &mut Vec<usize>) -> Result<(), Refusal> {
+        let Some(entries) = self.package.table.get("dependencies") else {
+            return Ok(());
+        };
+        let Some(entries) = entries.as_table() else {
+            return Err(self.has(alloc, "dependencies that are not a table"));
+        };
+        for (name, constraint) in entries.iter() {
+            let (Value::String(_) | Value::Table(_) | Value::Array(_)) = constraint else {
+                return Err(self.has(alloc, "an invalid dependency"));
+            };
+            if let Some(number) = self.find_named(alloc, name.as_str())? {
+                needed.push(number)?;
+            }
         }
+        Ok(())
     }
-    Ok(())
-}
 
-// Returns the number of the package that another one needs by a name, if it is locked.
-fn find(
-    alloc: Global,
-    packages: &[Package<'_>],
-    package: &Package<'_>,
-    name: &str,
-    constraint: &Value,
-) -> Result<Option<usize>, Refusal> {
-    let (Value::String(_) | Value::Table(_) | Value::Array(_)) = constraint else {
-        return Err(Refusal::of(alloc, &[package.name, " has an invalid dependency"]));
-    };
-    let normal = normal_name(alloc, name)?;
-    let wanted = Wanted {
-        name: normal.as_str(),
-        version: None,
-        source: None,
-    };
-    wanted.find(alloc, packages, package, name)
+    // Returns the number of the package with a name, if it is locked.
+    fn find_named(&self, alloc: Global, name: &str) -> Result<Option<usize>, Refusal> {
+        let normal = normal_name(alloc, name)?;
+        let wanted = Wanted {
+            name: normal.as_str(),
+            version: None,
+            source: None,
+        };
+        self.find(alloc, wanted)
+    }
 }

@@ -2,7 +2,8 @@
 
 pub mod search;
 
-use crate::deps::{Packages, Refusal, cargo, poetry};
+use crate::deps::tables::search::Needing;
+use crate::deps::{Packages, Refusal, poetry};
 use crate::source::behind;
 use std::alloc::{AllocError, Global};
 use toml::Value;
@@ -43,10 +44,11 @@ pub fn packages(alloc: Global, lock: &Value) -> Result<Packages, Refusal> {
         .get("metadata")
         .is_some_and(|it| it.get("content-hash").is_some());
     let tables = tables(alloc, lock)?;
-    let mut names = Vec::new(alloc);
-    if is_poetry {
-        push_normal_names(alloc, &tables, &mut names)?;
-    }
+    let names = if is_poetry {
+        normal_names(alloc, &tables)?
+    } else {
+        Vec::new(alloc)
+    };
     let mut locked = locked(alloc, &tables, &names)?;
     linked(alloc, &mut locked, is_poetry)
 }
@@ -79,26 +81,19 @@ fn tables(alloc: Global, lock: &Value) -> Result<Vec<&Value>, Refusal> {
         return Err(Refusal::of(alloc, &["no packages"]));
     };
     let mut tables = Vec::new(alloc);
-    if let Some(root) = lock.get("root") {
-        tables.push(root)?;
-    }
-    for table in others {
+    for table in lock.get("root").into_iter().chain(others.iter()) {
         tables.push(table)?;
     }
     Ok(tables)
 }
 
-// Adds the names of packages in the form in which Poetry compares them.
-fn push_normal_names(
-    alloc: Global,
-    tables: &[&Value],
-    names: &mut Vec<String>,
-) -> Result<(), Refusal> {
+// Returns the names of packages in the form in which Poetry compares them.
+fn normal_names(alloc: Global, tables: &[&Value]) -> Result<Vec<String>, Refusal> {
+    let mut names = Vec::new(alloc);
     for table in tables {
-        let name = name(alloc, table)?;
-        names.push(poetry::normal_name(alloc, name)?)?;
+        names.push(poetry::normal_name(alloc, name(alloc, table)?)?)?;
     }
-    Ok(())
+    Ok(names)
 }
 
 // Returns the packages of tables, by the names given, or else by those in the tables.
@@ -132,10 +127,11 @@ fn linked(alloc: Global, locked: &mut [Package<'_>], is_poetry: bool) -> Result<
     let mut packages = labelled(alloc, locked)?;
     let mut needed = Vec::new(alloc);
     for (number, package) in locked.iter().enumerate() {
+        let needing = Needing { package, locked };
         if is_poetry {
-            poetry::push_needed(alloc, locked, package, &mut needed)?;
+            needing.push_locked(alloc, &mut needed)?;
         } else {
-            cargo::push_needed(alloc, locked, package, &mut needed)?;
+            needing.push_listed(alloc, &mut needed)?;
         }
         packages.push_needs(number, &needed)?;
         needed.clear();
@@ -159,18 +155,12 @@ pub fn source_text(source: &Value) -> Option<&str> {
 
 // Returns the source in a table, or nothing.
 fn source(table: &Value) -> Option<&str> {
-    match table.get("source") {
-        Some(source) => source_text(source),
-        None => Some(""),
-    }
+    table.get("source").map_or(Some(""), |it| source_text(it))
 }
 
 // Returns a source without the `#` and the revision at its end.
 fn without_revision(source: &str) -> &str {
-    match source.split_once('#') {
-        Some((source, _)) => source,
-        None => source,
-    }
+    source.split_once('#').map_or(source, |(source, _)| source)
 }
 
 impl<'a> Package<'a> {
@@ -179,11 +169,10 @@ impl<'a> Package<'a> {
         if table.get("replace").is_some() {
             return Err(Refusal::of(alloc, &[name, " is replaced, which is not supported"]));
         }
-        let Some(source) = source(table) else {
-            return Err(Refusal::of(alloc, &["invalid source of ", name]));
-        };
-        let Some(version) = version(table) else {
-            return Err(Refusal::of(alloc, &[name, " has no version"]));
+        let (source, version) = match (source(table), version(table)) {
+            (Some(source), Some(version)) => (source, version),
+            (None, _) => return Err(Refusal::of(alloc, &["invalid source of ", name])),
+            (_, None) => return Err(Refusal::of(alloc, &[name, " has no version"])),
         };
         Ok(Package {
             name,
@@ -194,11 +183,6 @@ impl<'a> Package<'a> {
         })
     }
 
-    /// Says what is wrong with what it needs by a name.
-    pub fn needs(&self, alloc: Global, name: &str, wrong: &str) -> Refusal {
-        Refusal::of(alloc, &[self.name, " needs ", name, wrong])
-    }
-
     // Returns what it is ordered by, and differs in. A need in a Cargo.lock names no revision.
     fn key(&self) -> (&'a str, &'a str, &'a str) {
         (self.name, self.version, self.origin)
@@ -206,10 +190,7 @@ impl<'a> Package<'a> {
 
     // Whether another one has the name and the version of it.
     fn is_twin(&self, other: Option<&Package<'_>>) -> bool {
-        match other {
-            Some(other) => self.name == other.name && self.version == other.version,
-            None => false,
-        }
+        other.is_some_and(|other| self.name == other.name && self.version == other.version)
     }
 
     // Returns the label, with the source if another package has the same name and version.

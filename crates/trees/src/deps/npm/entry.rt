@@ -1,7 +1,7 @@
 //! What a lock file of npm has at a path.
 
 use crate::deps::Refusal;
-use serde_json::{Map, Value};
+use serde_json::Value;
 use std::alloc::{AllocError, Global};
 
 /// A package at its path, or a link to one. The project is at the empty path.
@@ -50,7 +50,7 @@ impl<'a> Entry<'a> {
         Ok(entry)
     }
 
-    /// Returns the label: a name, the own name behind `@npm:` if that is another one, and the version.
+    /// Returns the label: a name, the own name behind `@npm:` if it is another, and the version.
     ///
     /// # Errors
     ///
@@ -110,8 +110,12 @@ impl<'a> Entry<'a> {
         list: &str,
         names: &mut Vec<&'a str>,
     ) -> Result<(), Refusal> {
-        let Some(needs) = self.needs(alloc, list)? else {
-            return Ok(());
+        // npm takes an empty list of JSON for none.
+        let needs = match self.value.get(list) {
+            Some(Value::Object(needs)) => needs,
+            Some(Value::Array(items)) if items.is_empty() => return Ok(()),
+            Some(_) => return Err(self.invalid(alloc, list)),
+            None => return Ok(()),
         };
         for (name, version) in needs.iter() {
             if !version.is_string() {
@@ -121,16 +125,6 @@ impl<'a> Entry<'a> {
             names.push(name.as_str())?;
         }
         Ok(())
-    }
-
-    // Returns a list of needs, if there is one. npm takes an empty list of JSON for none.
-    fn needs(&self, alloc: Global, list: &str) -> Result<Option<&'a Map<String, Value>>, Refusal> {
-        match self.value.get(list) {
-            None => Ok(None),
-            Some(Value::Object(needs)) => Ok(Some(needs)),
-            Some(Value::Array(items)) if items.is_empty() => Ok(None),
-            Some(_) => Err(self.invalid(alloc, list)),
-        }
     }
 
     // Says that a part of it is of another kind.

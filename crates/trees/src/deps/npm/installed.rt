@@ -37,8 +37,8 @@ impl<'a> Installed<'a> {
         Ok(names.insert(name.to_lowercase(alloc)?, package)?.is_none())
     }
 
-    /// Returns what the package at a path needs by some names, in whatever case, as npm compares them:
-    /// what is in the `node_modules` of the nearest folder that has it, from the path up.
+    /// Returns what the package at a path needs by some names, in whatever case, as npm compares
+    /// them: what is in the `node_modules` of the nearest folder that has it, from the path up.
     ///
     /// # Errors
     ///
@@ -53,8 +53,8 @@ impl<'a> Installed<'a> {
         let mut found = Vec::new(alloc);
         for name in names {
             let name = name.to_lowercase(alloc)?;
-            if let Some(package) = first(&folders, name.as_str()) {
-                found.push(package)?;
+            if let Some(package) = folders.iter().find_map(|names| names.get(name.as_str())) {
+                found.push(*package)?;
             }
         }
         Ok(found)
@@ -71,14 +71,4 @@ impl<'a> Installed<'a> {
         }
         Ok(folders)
     }
-}
-
-// Returns the package of a name in the first folder that has it.
-fn first(folders: &[&Names], name: &str) -> Option<usize> {
-    for names in folders {
-        if let Some(package) = names.get(name) {
-            return Some(*package);
-        }
-    }
-    None
 }
