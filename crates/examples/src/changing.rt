@@ -1,6 +1,5 @@
 //! Callers that find, keep and sort items of trees.
-ghost use Rattle.std.specs.Prelude.{◌≡◌, [], ◌∷◌, option_map, Some, IfOk};
-ghost use Rattle.std.specs.Str.{bytes_eq};
+ghost use Rattle.std.specs.Prelude.{◌≡◌, [], ◌∷◌, option_map, IfOk};
 ghost use Rattle.ptree.specs.Tree.{tree_of};
 ghost use Rattle.ptree_trees.specs.Change.{kept_tree, tree_at_names};
 ghost use Rattle.ptree_trees.specs.Parts.{has_part};
@@ -8,18 +7,6 @@ ghost use Rattle.ptree_trees.specs.Parts.{has_part};
 use ptree::item::StringItem;
 use ptree_trees::change;
 use std::alloc::{AllocError, Global};
-
-/// Returns the tree of the items with a text, and of those above them.
-pub fn keep_named(
-    alloc: Global,
-    root: &StringItem,
-    name: &str,
-) -> Result<Option<StringItem>, AllocError>
-    ensures { IfOk result (λ kept. option_map tree_of kept
-        ≡ kept_tree (λ text. bytes_eq text name.now) (tree_of root.now)) }
-{
-    change::kept(alloc, root, |text: &str| text == name)
-}
 
 /// Returns the tree of the items whose texts have a part, and of those above them.
 pub fn keep_containing(
@@ -31,13 +18,6 @@ pub fn keep_containing(
         ≡ kept_tree (has_part part.now) (tree_of root.now)) }
 {
     change::kept(alloc, root, |text: &str| text.contains(part))
-}
-
-/// The root is at the empty path.
-pub fn at_nothing(root: &StringItem) -> Option<&StringItem>
-    ensures { option_map (λ s. tree_of s.now) result ≡ Some (tree_of root.now) }
-{
-    change::at(root, &[])
 }
 
 /// Returns the item at a path of two texts.

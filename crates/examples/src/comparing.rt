@@ -19,21 +19,6 @@ pub fn is_same(alloc: Global, left: &StringItem, right: &StringItem) -> Result<b
     Ok(first_difference(alloc, left, right)?.is_none())
 }
 
-/// Whether two trees differ at the root: then their texts differ, and otherwise they don't.
-pub fn differ_at_root(
-    alloc: Global,
-    left: &StringItem,
-    right: &StringItem,
-) -> Result<bool, AllocError>
-    ensures { IfOk result (λ b. IsTrue b
-        ↔ ((tree_of left.now).text ≢ (tree_of right.now).text)) }
-{
-    let Some(found) = first_difference(alloc, left, right)? else {
-        return Ok(false);
-    };
-    Ok(found.address.is_empty())
-}
-
 /// Returns where the right tree has no item in the place of one of the left tree, if that is the
 /// first difference.
 pub fn first_lost(

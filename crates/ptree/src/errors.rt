@@ -50,14 +50,6 @@ impl From<AddError> for ItemError {
     }
 }
 
-impl From<DrawError> for ItemError {
-    ghost from_gives = { λ e result. result ≡ item.Draw e };
-
-    fn from(e: DrawError) -> ItemError {
-        ItemError::Draw(e)
-    }
-}
-
 impl From<AllocError> for ItemError {
     ghost from_gives = { λ _ e. e ≡ item.Draw draw.Memory };
 

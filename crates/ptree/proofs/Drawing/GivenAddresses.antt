@@ -1,9 +1,9 @@
 -- Items given by their addresses, one by one, are drawn as their shape.
-use Rattle.std.proofs.Common.{◌≡◌, ◌≢◌, ℕ, zero, suc, ◌-◌, ◌<◌, Bool, cond, None, Some, List, [], ◌∷◌, ◌++◌, length, map, take, refl, sym, ap, ◌∙◌, subst, arith}
+use Rattle.std.proofs.Common.{◌≡◌, ℕ, zero, suc, ◌-◌, ◌<◌, Bool, cond, None, Some, List, [], ◌∷◌, ◌++◌, length, map, take, refl, sym, ap, ◌∙◌, subst, arith}
 use Rattle.std.specs.Prelude.{flat_map}
 use Rattle.std.proofs.lemmas.Bool.{ne_eqb}
 use Rattle.std.proofs.lemmas.List.{map-append, take-map}
-use Rattle.ptree.specs.Address.{Address, IsAddressList, is_last, prefixes, parent}
+use Rattle.ptree.specs.Address.{Address, is_last, prefixes, parent}
 use Rattle.ptree.specs.Drawing.{Look, entry_from, own_at, passing_text, entry_text}
 use Rattle.ptree.specs.GivenItems.{last_of, entry_below, entry_behind, path_with, GivenItem, given_text, IsAt, AreAt, DrawsItems}
 use Rattle.ptree.specs.Pieces.{passing_piece, turning_piece, passing_all}
@@ -79,7 +79,7 @@ entry_of look x path (i ∷ r) last some above same =
     ∙ (ap (λ q. entry_below look flags (cond q None (Some last)) own) (ne_eqb (length b) 0 (omega arith))
     ∙ (ap (λ c. entry_below look flags (Some c) own) same
     ∙ (ap (λ q. entry_from look (passing_all look.pieces flags ++ turning_piece look.pieces end) q own)
-        (sym (passing_all-push look.pieces flags end) ∙ (ap (passing_all look.pieces) (sym (flags_last x b some)) ∙ sym (passing_by_flags look x (prefixes b))))
+    (sym (passing_all-push look.pieces flags end) ∙ (ap (passing_all look.pieces) (sym (flags_last x b some)) ∙ sym (passing_by_flags look x (prefixes b))))
     ∙ ap (λ q. entry_from look (q ++ turning_piece look.pieces end) (passing_text look x b) own) (sym (passing_by_flags look x (prefixes (parent b)))))))
 
 -- its path has the flags of its address

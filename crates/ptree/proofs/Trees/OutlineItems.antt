@@ -1,11 +1,10 @@
 -- The items of a tree one by one, each with its level, and the lines of its outline.
-use Rattle.std.proofs.Common.{◌≡◌, ℕ, suc, ◌+◌, ◌<◌, List, [], ◌∷◌, ◌++◌, map, length, get_or, drop, refl, sym, ap, ◌∙◌, add-one}
+use Rattle.std.proofs.Common.{◌≡◌, ℕ, suc, ◌+◌, ◌<◌, List, [], ◌∷◌, map, length, get_or, drop, refl, sym, ap, ◌∙◌, add-one}
 use Rattle.std.proofs.Math.Seq.{drop-cons}
-use Rattle.std.proofs.lemmas.List.{map-append}
 use Rattle.std.specs.Borrow.{Bor}
 use Rattle.std.specs.Prelude.{string_bytes}
 use Rattle.ptree.specs.Outline.{Line, AreItems, outline}
-use Rattle.ptree.specs.Tree.{Forest, none, item, Tree, tree_of}
+use Rattle.ptree.specs.Tree.{Tree, tree_of}
 use Rattle.ptree.specs.declared.item.StringItem.{StringItem, out-StringItem}
 use Rattle.ptree.proofs.Trees.ItemTrees.{tree_of_item}
 use Rattle.ptree.proofs.Trees.OutlineAddresses.{line_of, lines_by_addresses, outline_of_tree}

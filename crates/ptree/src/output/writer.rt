@@ -110,29 +110,6 @@ fn go_up(
     rungs[level - 1].is_last = is_last;
 }
 
-// Puts the turning piece of the last item of a path, which begins with `width` bytes.
-#[inline(always)]
-fn turn(
-    pen: &mut Pen,
-    brush: &Brush<'_>,
-    root: usize,
-    rungs: &[Rung],
-    width: usize,
-    is_last: bool,
-) -> Result<(), AllocError>
-    requires stands { StandsAt (brush_look brush.now) (buffer_of pen.old) pen.old.turned root
-        rungs.now }
-    requires width { width
-        ≡ length (front_below (brush_look brush.now) (above (flags_of rungs.now))) }
-    ensures stands { StandsAt (brush_look brush.now) (buffer_of pen.new) pen.new.turned root
-        rungs.now }
-    ensures front { OnOk result (buffer_of pen.new
-        ≡ front_below (brush_look brush.now) (above (flags_of rungs.now))
-        ++ own_text (brush_look brush.now) (Some is_last)) }
-{
-    pen.turn_again(width, brush, is_last)
-}
-
 // Puts a new item at a level on a path, at most one below its last item.
 #[inline(always)]
 fn settle(
@@ -296,7 +273,7 @@ fn make_entry<T: TreeItem>(
     }
     settle(pen, brush, root, rungs, level, is_last)?;
     let width = rungs[level - 1].width;
-    turn(pen, brush, root, rungs, width, is_last)?;
+    pen.turn_again(width, brush, is_last)?;
     gather(item, pen, brush, root, rungs, width, Some(is_last))
 }
 
