@@ -136,10 +136,8 @@ graph_held source name is_terminal read rooted drawn d root labels turned texts 
   texts = labels_of rooted;
   all = needs_of rooted;
   rooted = root;
-  graph = record {
-    weights = texts ∙ ap (λ v. map (shown_text is_terminal) (map string_bytes v.items)) labels;
-    edges = edges ∙ (ap (map numbers_of) turned ∙ map_reversed numbers_of rooted.edges.items);
-  };
+  weights = texts ∙ ap (λ v. map (shown_text is_terminal) (map string_bytes v.items)) labels;
+  drawn = edges ∙ (ap (map numbers_of) turned ∙ map_reversed numbers_of rooted.edges.items);
 }
 
 -- it has no edge without a node

@@ -75,17 +75,13 @@ abbrev pub has_words : List (List ℕ) → Bool
 has_words [] = false
 has_words (w ∷ ws) = true
 
--- the words of each line that has some
-abbrev pub word_lines : List ℕ → List (List (List ℕ))
-word_lines text = filter has_words (map words_of (lines text))
-
 -- the two words of a pair, the first of which needs the second
 abbrev pub pair_words : List ℕ × List ℕ → List (List ℕ)
 pair_words p = p.0 ∷ p.1 ∷ []
 
 -- the lines of a text that have words are these pairs, and none of them is a comment
 pub record ArePairs (text : List ℕ) (pairs : List (List ℕ × List ℕ)) : Type 0 where
-  pub words : word_lines text ≡ map pair_words pairs
+  pub words : filter has_words (map words_of (lines text)) ≡ map pair_words pairs
   pub own : All (λ p. p.0 ≢ codes "#") pairs
 
 -- the lines of the source are these pairs
@@ -180,17 +176,14 @@ IsRooted source (Some name) paths names edges texts all root = IsRootNode names 
 IsRooted source None paths names edges texts all root =
     (label : List ℕ) × (tops : List ℕ) × IsLastPart (string_bytes source.name) label × All (λ t. t < length names) tops × AreTops edges (length names) tops × StandsAbove label names edges tops texts all root
 
--- a graph has these texts, on a terminal escaped, and these edges, the first of a node drawn first
-pub record IsGraphFrom (is_terminal : Bool) (texts : List (List ℕ)) (all : List (ℕ × ℕ)) (d : Dependencies) : Type 0 where
-  pub weights : map string_bytes (weights_of d.graph) ≡ map (shown_text is_terminal) texts
-  pub edges : edges_of d.graph ≡ reverse all
-
--- d is the graph of names and edges, from the root that is asked for on
-pub record IsGraphIn (source : Source) (root : Option (Bor (List ℕ))) (is_terminal : Bool) (paths names : List (List ℕ)) (edges : List (ℕ × ℕ)) (d : Dependencies) : Type 0 where
+-- d is the graph of names and edges from the root that is asked for on, a node's first edge first
+pub record IsGraphIn (source : Source) (root : Option (Bor (List ℕ))) (is_terminal : Bool)
+    (paths names : List (List ℕ)) (edges : List (ℕ × ℕ)) (d : Dependencies) : Type 0 where
   pub texts : List (List ℕ)
   pub all : List (ℕ × ℕ)
   pub rooted : IsRooted source root paths names edges texts all d.root.0
-  pub graph : IsGraphFrom is_terminal texts all d
+  pub weights : map string_bytes (weights_of d.graph) ≡ map (shown_text is_terminal) texts
+  pub drawn : edges_of d.graph ≡ reverse all
 
 -- a name is asked for that means none of these nodes
 abbrev pub IsNoName : Option (Bor (List ℕ)) → List (List ℕ) → List (List ℕ) → Type 0

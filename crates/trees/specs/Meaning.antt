@@ -12,8 +12,6 @@ pub data IsUnderstood (source : Source) : Type 0 where
   as_pairs : (pairs : List (List ℕ × List ℕ)) → IsPairFile source → HoldsPairs source pairs → pairs ≢ [] → IsUnderstood source
   as_lock : IsLockFile source → IsUnderstood source
 
--- ## Names and needs
-
 -- they are those of pairs
 pub record MeansPairs (pairs : List (List ℕ × List ℕ)) (paths names : List (List ℕ)) (needs : List (ℕ × ℕ)) : Type 0 where
   pub are : AreNames pairs names
