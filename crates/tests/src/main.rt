@@ -1,7 +1,7 @@
 //! Makes calls of `ptree` that allocate and that the library for C has not, and those that were
 //! refused memory once more. Prints what they returned, and how many were refused.
 //!
-//! `tools/parts/trials` refuses each allocation in turn.
+//! `tests/test_rattle.py` refuses each allocation in turn.
 #![tactic(auto)]
 
 mod building;

@@ -1,6 +1,6 @@
 //! Makes the calls that the library for C has none for, those of a builder, a graph that is turned
 //! round, a `Value` and the lines that can follow a text, for rows that ask for them
-//! (`trials/python/rows.py`).
+//! (`tests/test_rows.py`).
 //!
 //! Standard input is calls, each a word and a text, which the byte 0 ends. Each answer is its length
 //! in bytes, a blank, its text and a line feed.
