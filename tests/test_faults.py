@@ -174,16 +174,22 @@ class TreesStreams(support.Preloading):
 
     source = "faulty.c"
 
-    def expect_fault(self, fault, status=0, output=DRAWN, error=""):
-        ended, noticed = self.run_preloaded([TREES, "json", "--label", "r"], DOCUMENT, {"FAULT": fault}, timeout=5)
+    def expect_fault(self, fault, status=0, output=DRAWN, error="", words=("json", "--label", "r"), given=DOCUMENT):
+        ended, noticed = self.run_preloaded([TREES, *words], given, {"FAULT": fault}, timeout=5)
         self.expect(ended, status, output if isinstance(output, str) else output.decode(errors="surrogateescape"), error, fault)
         self.assertEqual(noticed, b"", f"{fault}: the stream is used again")
 
     def test_output_at_each_byte(self):
-        for how in ("eio", "eintr", "zero", "eio_once", "eintr_once", "enospc_once", "zero_once"):
-            with self.subTest(how):
-                for at in range(len(DRAWN.encode())):
-                    self.expect_fault(f"output {how} {at}", 1, DRAWN.encode()[:at], "trees: cannot write\n")
+        """(of a document, and of a graph with each node expanded once and by its walks)"""
+        for drawn, *call in (
+            (DRAWN, ("json", "--label", "r"), DOCUMENT),
+            ("r\n├─ a\n│  └─ b\n│     └─ c\n└─ b (*)\n", ("deps",), "r a\nr b\na b\nb c\n"),
+            ("r\n├─ a\n│  └─ b\n└─ b\n", ("deps", "--walks"), "r a\nr b\na b\n"),
+        ):
+            for how in ENDLESS + ONCE:
+                with self.subTest(words=call[0], how=how):
+                    for at in range(len(drawn.encode())):
+                        self.expect_fault(f"output {how} {at}", 1, drawn.encode()[:at], "trees: cannot write\n", *call)
 
     def test_input_at_each_byte(self):
         for how in ("eio", "eio_once"):

@@ -1,5 +1,6 @@
 """Files of rows over the library for C, and random rows of what C has no call for."""
 import functools
+import itertools
 import random
 import re
 import shutil
@@ -262,6 +263,21 @@ def value_lines(dice):
     return lines
 
 
+def large_lines(size):
+    """Calls of a builder and of a graph of a size, and lines that can follow a text."""
+    chain = ["x", []]
+    for _ in range(size):
+        chain = ["x", [chain]]
+    leaves = ["x", [["x", []]] * size]
+    return [
+        ["root x", *["leaf x"] * size, "= level 0", "= built", *outline(leaves)],
+        ["root x", *["at 1 x"] * size, f"= level {min(size, 1)}", "= built", *outline(leaves)],
+        ["root x", *["begin x"] * size, f"= level {size}", "= built", *outline(chain)],
+        [*["node x"] * (size + 1), "edges " + " ".join(f"0>{i}" for i in range(1, size + 1)), " ".join(["= neighbors", *map(str, range(size, 0, -1))])],
+        ["text", "|x", *["|├─ x"] * size, "next", *["|├─ x"] * size, "|x", f"= follow {'yes ' * size}no"],
+    ]
+
+
 class RandomRows(LibraryRows):
     """Rows of calls of builders and graphs, and of values of documents, which the library for C has not."""
 
@@ -271,6 +287,8 @@ class RandomRows(LibraryRows):
         cls.paths = [folder / kind / "random.rows" for kind in ("trees", "sources")]
         for path, makers in zip(cls.paths, ([builder_lines, graph_lines], [value_lines])):
             rows = [makers[case % len(makers)](random.Random(f"{SEED} {case}")) for case in range(200 * TIMES)]
+            if path is cls.paths[0]:
+                rows += itertools.chain(*map(large_lines, (0, 1, 40, 300)))
             path.parent.mkdir()
             lines = (line for case, row in enumerate(rows) for line in [f"row {case}", *row, ""])
             path.write_text("".join(line + "\n" for line in lines), encoding="utf-8", newline="")

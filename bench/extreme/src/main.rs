@@ -1,7 +1,7 @@
-//! Drawings of extreme sizes, to standard output.
+//! Draws what is of extreme size to standard output: `chain`, `items`, `children`, `line`, `lines`,
+//! `characters`, `pieces` or `graph`.
+#![tactic(auto)]
 
-use crate::deviation::{Deviation, expect};
-use crate::fixtures::trees::{over, over_leaves};
 use ptree::graph::{Graph, NodeIndex, write_graph_with};
 use ptree::item::StringItem;
 use ptree::output::write_tree_with;
@@ -9,11 +9,26 @@ use ptree::print_config::PrintConfig;
 use ptree::read::{pieces_readable, read_tree};
 use ptree::style::Counted;
 use std::alloc::{AllocError, Global};
-use std::io::{self, BufWriter, Write};
-use std::str;
+use std::io::{self, BufWriter, ErrorKind, Write};
+use std::process::ExitCode;
+use std::{env, str};
 
 // The part that a long line is made of, of 64 bytes.
 const PART: &str = "0123456789abcdef0123456789abcdef0123456789abcdef0123456789abcde\u{7f}";
+
+// An item over children.
+fn over(alloc: Global, text: &str, children: Vec<StringItem>) -> Result<StringItem, AllocError> {
+    Ok(StringItem {
+        text: String::from_str(alloc, text)?,
+        children,
+    })
+}
+
+// An item over one of this text.
+fn over_leaf(alloc: Global, text: &str, leaf: &str) -> Result<StringItem, AllocError> {
+    let leaf = over(alloc, leaf, Vec::new(alloc))?;
+    over(alloc, text, vec![in alloc; leaf]?)
+}
 
 // A root over so many items, each with this text.
 fn wide(alloc: Global, items: usize, text: &str) -> Result<StringItem, AllocError> {
@@ -26,7 +41,7 @@ fn wide(alloc: Global, items: usize, text: &str) -> Result<StringItem, AllocErro
 
 // A root over one text of so many parts.
 fn long(alloc: Global, part: &str, parts: usize) -> Result<StringItem, AllocError> {
-    over_leaves(alloc, "root", &[part.repeat(alloc, parts)?.as_str()])
+    over_leaf(alloc, "root", part.repeat(alloc, parts)?.as_str())
 }
 
 // A root over a text of all characters.
@@ -37,11 +52,11 @@ fn every_character(alloc: Global) -> Result<StringItem, AllocError> {
             text.push(c)?;
         }
     }
-    over_leaves(alloc, "root", &[text.as_str()])
+    over_leaf(alloc, "root", text.as_str())
 }
 
 // A ring of so many nodes, each with an edge to the next one and to the first one.
-fn ring(alloc: Global, nodes: usize) -> Result<Graph<u64>, Deviation> {
+fn ring(alloc: Global, nodes: usize) -> io::Result<Graph<u64>> {
     let mut graph = Graph::new(alloc);
     let mut edges = Vec::with_capacity(alloc, nodes.saturating_mul(2))?;
     for i in 0..nodes {
@@ -63,30 +78,31 @@ fn draw(rt: &HostRuntime, tree: &StringItem, config: &PrintConfig) -> io::Result
 }
 
 // What is drawn of a tree.
-fn drawn(alloc: Global, tree: &StringItem, config: &PrintConfig) -> Result<Vec<u8>, Deviation> {
+fn drawn(alloc: Global, tree: &StringItem, config: &PrintConfig) -> io::Result<Vec<u8>> {
     let mut out = Counted::new(Vec::new(alloc));
     write_tree_with(alloc, tree, &mut out, config)?;
     Ok(out.into_inner())
 }
 
 // What is read of a drawing.
-fn read(alloc: Global, drawing: &[u8], config: &PrintConfig) -> Result<StringItem, Deviation> {
-    let text = str::from_utf8(drawing).map_err(|_| Deviation::of("a drawing is UTF-8"))?;
+fn read(alloc: Global, drawing: &[u8], config: &PrintConfig) -> io::Result<StringItem> {
+    let text = str::from_utf8(drawing).map_err(|_| io::Error::from(ErrorKind::InvalidData))?;
     if !pieces_readable(alloc, config)? {
-        return Err(Deviation::of("the pieces are readable"));
+        return Err(io::Error::from(ErrorKind::InvalidInput));
     }
     let read = read_tree(alloc, text, config)?;
-    read.ok_or(Deviation::of("a drawing is read"))
+    read.ok_or(io::Error::from(ErrorKind::InvalidData))
 }
 
 // That what is read of a drawing has the same drawing.
-fn read_back(alloc: Global, drawing: &[u8], config: &PrintConfig) -> Result<(), Deviation> {
+fn read_back(alloc: Global, drawing: &[u8], config: &PrintConfig) -> io::Result<()> {
     let tree = read(alloc, drawing, config)?;
     let again = drawn(alloc, &tree, config)?;
-    expect(
-        again.as_slice() == drawing,
-        "what is read is drawn as the text",
-    )
+    if again.as_slice() == drawing {
+        Ok(())
+    } else {
+        Err(io::Error::from(ErrorKind::InvalidData))
+    }
 }
 
 // Draws a tree into memory, reads the drawing back, and writes it to standard output.
@@ -107,7 +123,7 @@ fn draw_ring(rt: &HostRuntime, config: &PrintConfig) -> io::Result<()> {
 
 // A chain of so many items.
 fn chain(alloc: Global, items: usize) -> Result<StringItem, AllocError> {
-    let mut chain = over_leaves(alloc, "x", &[])?;
+    let mut chain = over(alloc, "x", Vec::new(alloc))?;
     for _ in 1..items {
         chain = over(alloc, "x", vec![in alloc; chain]?)?;
     }
@@ -135,9 +151,18 @@ fn draw_named(rt: &HostRuntime, name: &str, config: &mut PrintConfig) -> io::Res
     }
 }
 
-/// Draws what has this name: `chain`, `items`, `children`, `line`, `lines`, `characters`, `pieces`
-/// or `graph`.
-pub fn draw_extreme(rt: &HostRuntime, name: &str) -> io::Result<()> {
+// Draws what the first word names, if there is one.
+fn run(rt: &HostRuntime) -> io::Result<()> {
     let mut config = PrintConfig::default(rt.alloc())?;
-    draw_named(rt, name, &mut config)
+    match env::args(rt)?.nth(1) {
+        Some(name) => draw_named(rt, name.as_str(), &mut config),
+        None => Ok(()),
+    }
+}
+
+fn main(rt: HostRuntime) -> ExitCode {
+    match run(&rt) {
+        Ok(()) => ExitCode::from(0),
+        Err(_) => ExitCode::from(1),
+    }
 }
