@@ -124,12 +124,26 @@ where
     let alloc = rt.alloc();
     match words.command(sources, screen) {
         Ok(command) => {
-            let found = Settings::load(alloc, gather(rt, alloc)?)?;
-            tell_fault(rt, words.name, &found)?;
-            perform(alloc, command, out, &found)
+            let found = load_settings(rt, words.name)?;
+            let performed = perform(alloc, command, out, &found);
+            drop(found);
+            performed
         }
         Err(wrong) => Err(wrong.failure(alloc)?),
     }
+}
+
+// Loads the settings, and says what is wrong with them.
+fn load_settings<R: Env + Files + AllocGlobal + Eprint>(
+    rt: &R,
+    name: CommandName,
+) -> Result<Settings, AllocError>
+where
+    R::File: Drop,
+{
+    let found = Settings::load(rt.alloc(), gather(rt, rt.alloc())?)?;
+    tell_fault(rt, name, &found)?;
+    Ok(found)
 }
 
 // Says on standard error why the configuration is ignored, unless the command shows all errors. A
