@@ -10,8 +10,8 @@
  * No pointer may be NULL, even if its length is 0, and each must be aligned for its type. What a call writes to (`out`, `items`, `texts`,
  * `found`) must not overlap anything else that you give to that call.
  *
- * The library has no state: threads may call it at the same time, each with memory of its own. Reading, and drawing documents and graphs,
- * takes stack for each level of the tree.
+ * The library has no state: threads may call it at the same time, each with memory of its own. Drawing documents and graphs takes stack for
+ * each level of the tree.
  *
  * There are no callbacks. To draw items that are made on demand, give them to ptree_draw_steps, as many at a call as you like.
  */
