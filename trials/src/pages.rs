@@ -3,14 +3,18 @@
 
 use crate::expect::{expect_drawn, expect_once, expect_text};
 use examples::building::add_list;
+use examples::giving::{draw_log, put_within};
 use examples::own_types::{Folder, Halved};
 use examples::tasks::release;
 use ptree::TreeBuilder;
 use ptree::graph::Graph;
 use ptree::item::{Root, StringItem};
-use ptree::print_config::{FileSource, PrintConfig, Sources, first_fault, load, syntax_line};
+use ptree::output::{ItemError, ItemWriter};
+use ptree::print_config::{FileSource, OutputKind, PrintConfig, Sources, first_fault, load, syntax_line};
 use ptree::read::read_tree;
+use ptree::sink::Counted;
 use std::alloc::{AllocError, Global};
+use std::io::{BufRead, BufReader};
 use std::test::Fail;
 
 const NOTES: &str = "\
@@ -61,6 +65,44 @@ fn a_recursion_builds_a_tree(rt: HostRuntime) -> Result<(), Fail> {
     add_list(alloc, &mut builder, 3)?;
     let text = "sort\n└─ 3\n   ├─ 1\n   └─ 2\n      ├─ 1\n      └─ 1\n";
     expect_drawn(alloc, &builder.build()?, text)
+}
+
+#[test]
+fn a_log_is_drawn_as_it_comes(rt: HostRuntime) -> Result<(), Fail> {
+    let alloc = rt.alloc();
+    let config = PrintConfig::default(alloc)?;
+    let log = BufReader::new(alloc, &b"started\nstopped\n"[..])?;
+    let mut drawn = Counted::new(Vec::new(alloc));
+    draw_log(alloc, "log", log.lines(alloc), &mut drawn, &config)?;
+    expect_text(str::from_utf8(&drawn.into_inner())?, "log\n├─ started\n└─ stopped\n")
+}
+
+// The item of a text.
+fn one_text(text: &str) -> Root<'_, StringItem> {
+    Root {
+        text,
+        children: &[],
+    }
+}
+
+#[test]
+fn an_item_too_deep_is_refused(rt: HostRuntime) -> Result<(), Fail> {
+    let alloc = rt.alloc();
+    let config = PrintConfig::default(alloc)?;
+    let mut writer = ItemWriter::new(alloc, &config, OutputKind::Unknown, false)?;
+    let mut drawn = Counted::new(Vec::new(alloc));
+    writer.put(0, true, &one_text("a"), &mut drawn)?;
+    match writer.put(2, true, &one_text("b"), &mut drawn) {
+        Err(ItemError::Level) => {}
+        _ => return Err(Fail::from("no refusal")),
+    }
+    put_within(&mut writer, 7, false, &one_text("b"), &mut drawn)?;
+    put_within(&mut writer, 7, true, &one_text("c\nd"), &mut drawn)?;
+    writer.put(1, true, &one_text("e"), &mut drawn)?;
+    expect_text(
+        str::from_utf8(&drawn.into_inner())?,
+        "a\n├─ b\n│  └─ c\n│     : d\n└─ e\n",
+    )
 }
 
 #[test]
