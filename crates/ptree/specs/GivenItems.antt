@@ -1,4 +1,5 @@
--- Items given one by one in the order of drawing, each with its level and whether it is its parent's last child.
+-- Items given one by one in the order of drawing, each with its level and whether it is its
+-- parent's last child.
 use Rattle.std.specs.Prelude.{◌≡◌, ◌<◌, ◌≤◌, ◌-◌, ℕ, Bool, not, nat_eq, if◌then◌else◌, Option, Some, None, List, [], ◌∷◌, ◌++◌, length, take}
 use Rattle.ptree.specs.Address.{Address, IsAddressList, is_last}
 use Rattle.ptree.specs.Drawing.{Look, entry_from, own_at, IsDrawing}
@@ -14,13 +15,18 @@ use Rattle.ptree.specs.Tree.{Tree, height, shape_of_tree}
 abbrev pub last_of : ℕ → Bool → Option Bool
 last_of level last = if nat_eq level 0 then None else Some last
 
--- the entry of these own bytes, for a root (none) or for a child by whether it is last, below items with these flags
+-- the entry of these own bytes, for a root (none) or for a child by whether it is last, below items
+-- with these flags
 abbrev pub entry_below : Look → List Bool → Option Bool → List ℕ → List ℕ
-entry_below look above last own = entry_from look (passing_all look.pieces above ++ own_piece look.pieces last) (passing_all look.pieces above ++ below_piece look.pieces last) own
+entry_below look above last own =
+    entry_from look (passing_all look.pieces above ++ own_piece look.pieces last)
+    (passing_all look.pieces above ++ below_piece look.pieces last) own
 
--- the entry of an item at a level that comes behind one with this path: the flags of the items from level 1 on, down to itself
+-- the entry of an item at a level that comes behind one with this path: the flags of the items from
+-- level 1 on, down to itself
 abbrev pub entry_behind : Look → List Bool → ℕ → Bool → List ℕ → List ℕ
-entry_behind look path level last own = entry_below look (take (level - 1) path) (last_of level last) own
+entry_behind look path level last own =
+    entry_below look (take (level - 1) path) (last_of level last) own
 
 -- the path of that item
 abbrev pub path_with : List Bool → ℕ → Bool → List Bool
@@ -35,7 +41,8 @@ pub record GivenItem : Type 0 where
 -- the entries of items, joined, where the first one comes behind an item with this path
 abbrev pub given_text : Look → List Bool → List GivenItem → List ℕ
 given_text look path [] = []
-given_text look path (i ∷ items) = entry_behind look path i.level i.last i.own ++ given_text look (path_with path i.level i.last) items
+given_text look path (i ∷ items) =
+    entry_behind look path i.level i.last i.own ++ given_text look (path_with path i.level i.last) items
 
 -- an item is the one at an address: its level is the address's length
 pub record IsAt (look : Look) (x : Shape) (a : Address) (i : GivenItem) : Type 0 where
@@ -58,7 +65,8 @@ DrawsItems look =
     → IsAddressList kids x depth list → AreAt look x list items
     → IsDrawing look x depth (given_text look path items)
 
--- an item with the level and the text of a line, which is a last child if none of the lines after it has its level before one above it
+-- an item with the level and the text of a line, which is a last child if none of the lines after it
+-- has its level before one above it
 pub record IsGivenAs (look : Look) (l : Line) (later : List Line) (i : GivenItem) : Type 0 where
   pub level : i.level ≡ l.level
   pub own : i.own ≡ painted_text look.leaf l.text

@@ -28,11 +28,16 @@ no_rung = record { width = 0; is_last = false }
 
 -- each item of a path has the width of what its entry begins with
 abbrev pub AreWidths : Look → List Rung → Type 0
-AreWidths look rungs = (k : ℕ) → k < length rungs → (get_or rungs k no_rung).width ≡ length (front_below look (take k (flags_of rungs)))
+AreWidths look rungs =
+    (k : ℕ) → k < length rungs
+    → (get_or rungs k no_rung).width ≡ length (front_below look (take k (flags_of rungs)))
 
--- a buffer begins as the entry of the last item of a path does, and if it is turned with a regular turning piece too
-pub record StandsAt (look : Look) (buffer : List ℕ) (turned : Bool) (root : ℕ) (rungs : List Rung) : Type 0 where
+-- a buffer begins as the entry of the last item of a path does, and if it is turned with a regular
+-- turning piece too
+pub record StandsAt (look : Look) (buffer : List ℕ) (turned : Bool) (root : ℕ) (rungs : List Rung)
+    : Type 0 where
   pub root_is : root ≡ length (start_codes look.branch)
   pub widths : AreWidths look rungs
   pub front : Begins (front_below look (above (flags_of rungs))) buffer
-  pub regular : turned ≡ true → Begins (front_below look (above (flags_of rungs)) ++ own_text look (Some false)) buffer
+  pub regular : turned ≡ true
+      → Begins (front_below look (above (flags_of rungs)) ++ own_text look (Some false)) buffer

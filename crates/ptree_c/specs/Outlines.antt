@@ -80,11 +80,16 @@ kept_before depth s steps = if nat_lt depth s.level then steps else s ∷ steps
 
 -- the path behind an item, unless it is deeper than a depth
 abbrev pub kept_path : ℕ → List Bool → Step → List Bool
-kept_path depth path s = if nat_lt depth s.level then path else path_with path s.level (is_set s.is_last)
+kept_path depth path s =
+    if nat_lt depth s.level then path else path_with path s.level (is_set s.is_last)
 
 -- a step as an item that is given
 abbrev pub given_of : Look → List ℕ → Step → GivenItem
-given_of look texts s = record { level = s.level; last = is_set s.is_last; own = step_own look texts s }
+given_of look texts s = record {
+  level = s.level;
+  last = is_set s.is_last;
+  own = step_own look texts s;
+}
 
 -- the entries of steps, joined, where the first one comes behind an item with this path
 abbrev pub drawn_text : Look → List ℕ → List Bool → List Step → List ℕ

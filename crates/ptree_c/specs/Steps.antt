@@ -21,11 +21,15 @@ step_own look texts s = painted_text look.leaf (part_text texts s.text)
 
 -- the entry of an item below those of a path
 abbrev pub step_entry : Look → List ℕ → List ℕ → Step → List ℕ
-step_entry look texts path s = entry_below look (path_flags path (s.level - 1)) (last_of s.level (is_set s.is_last)) (step_own look texts s)
+step_entry look texts path s =
+    entry_below look (path_flags path (s.level - 1)) (last_of s.level (is_set s.is_last))
+    (step_own look texts s)
 
 -- the last item of a writer is on a path
 abbrev pub IsOnPath : List ℕ → ItemWriter → Type 0
-IsOnPath path writer = let level = length (path_of writer) in (level ≤ length path) × (path_of writer ≡ path_flags path level)
+IsOnPath path writer =
+    let level = length (path_of writer) in
+    (level ≤ length path) × (path_of writer ≡ path_flags path level)
 
 -- a path with the flag of a level; a root has none
 abbrev pub path_with : List ℕ → ℕ → ℕ → List ℕ
