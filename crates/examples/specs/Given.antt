@@ -7,8 +7,5 @@ use Rattle.examples.specs.declared.giving.Given.{Given}
 
 -- what an item is drawn by, where the items have these shapes
 abbrev pub given : {T : Type 0} → (T → Shape) → Look → Given T → GivenItem
-given shape look g = record {
-  level = g.level;
-  last = g.is_last;
-  own = (shape g.item.now).own [] look.leaf;
-}
+given shape look g =
+    record { level = g.level; last = g.is_last; own = (shape g.item.now).own [] look.leaf }

@@ -57,10 +57,3 @@ ends_put out text half same low high =
     let rest : back ≡ drop last text = take_all half (drop last text) (omega (arith, high, length-drop last text)) in
     sym (take_all (length text) done (omega (arith, long_done)))
     ∙ (whole ∙ (ap (λ z. z ++ back) first ∙ (ap (λ z. take last text ++ z) rest ∙ take-append-drop last text)))
-
--- bytes are put behind others that were put
-pub puts_more : {a b old mid new : List ℕ} → {at m to : ℕ} → PutsBytes a old at mid m → PutsBytes b mid m new to → PutsBytes (a ++ b) old at new to
-puts_more {a} {b} {old} {mid} {new} {at} {m} {to} first rest = record {
-  filled = λ room before is. subst (λ (z : List ℕ). IsFilled room z new to) (append_assoc before a b) (rest.filled room (before ++ a) (first.filled room before is));
-  end = omega (arith, first.end, rest.end, length-append a b);
-}

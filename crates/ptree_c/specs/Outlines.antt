@@ -85,11 +85,8 @@ kept_path depth path s =
 
 -- a step as an item that is given
 abbrev pub given_of : Look → List ℕ → Step → GivenItem
-given_of look texts s = record {
-  level = s.level;
-  last = is_set s.is_last;
-  own = step_own look texts s;
-}
+given_of look texts s =
+    record { level = s.level; last = is_set s.is_last; own = step_own look texts s }
 
 -- the entries of steps, joined, where the first one comes behind an item with this path
 abbrev pub drawn_text : Look → List ℕ → List Bool → List Step → List ℕ

@@ -30,10 +30,6 @@ begins_same a text is = begins_parts a [] text (is ∙ sym (append-nil a))
 pub begins_short : (a text : List ℕ) → Begins a text → length a ≤ length text
 begins_short a text is = long_enough (length a) text a is refl
 
--- a text begins as before if only its end was changed
-begins_kept : (a old new : List ℕ) → Begins a old → take (length old) new ≡ old → Begins a new
-begins_kept a old new is kept = sym (take-take (length a) (length old) new (begins_short a old is)) ∙ (ap (take (length a)) kept ∙ is)
-
 -- the passing pieces of two parts of flags
 passing_all-append : (p : Pieces) (a b : List Bool) → passing_all p (a ++ b) ≡ passing_all p a ++ passing_all p b
 passing_all-append p [] b = refl
@@ -97,26 +93,6 @@ stands_put look old new turned turned' root rungs k r h at wide front regular =
       front = subst (λ (f : List Bool). Begins (front_below look f) new) (sym same) front;
       regular = λ is. subst (λ (f : List Bool). Begins (front_below look f ++ own_text look (Some false)) new) (sym same) (regular is);
     }
-
--- it stands where it did if only the end of the buffer was changed
-pub stands_kept : (look : Look) (old new : List ℕ) (turned turned' : Bool) (root : ℕ) (rungs : List Rung) → StandsAt look old turned root rungs → take (length old) new ≡ old → turned' ≡ turned
-    → StandsAt look new turned' root rungs
-stands_kept look old new turned turned' root rungs at kept same = record {
-  root_is = at.root_is;
-  widths = at.widths;
-  front = begins_kept (front_below look (above (flags_of rungs))) old new at.front kept;
-  regular = λ is. begins_kept (front_below look (above (flags_of rungs)) ++ own_text look (Some false)) old new (at.regular (sym same ∙ is)) kept;
-}
-
--- and if it was cut behind what each entry there begins with
-pub stands_front : (look : Look) (old new more : List ℕ) (turned turned' : Bool) (root : ℕ) (rungs : List Rung) → StandsAt look old turned root rungs → turned' ≡ false
-    → new ≡ front_below look (above (flags_of rungs)) ++ more → StandsAt look new turned' root rungs
-stands_front look old new more turned turned' root rungs at not is = record {
-  root_is = at.root_is;
-  widths = at.widths;
-  front = begins_parts (front_below look (above (flags_of rungs))) more new is;
-  regular = λ held. absurd (false≢true (sym not ∙ held));
-}
 
 -- the item at a place of the path
 pub stands_width : (look : Look) (buffer : List ℕ) (turned : Bool) (root : ℕ) (rungs : List Rung) (k : ℕ) → StandsAt look buffer turned root rungs → k < length rungs
