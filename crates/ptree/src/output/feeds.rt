@@ -5,22 +5,26 @@ ghost use Rattle.ptree.specs.Texts.{HasNoLineFeed, line_feed};
 use std::simd::prelude::*;
 
 /// Whether a line feed may be among the bytes from one place to another. If the result is false,
-/// there is none. Few bytes are examined by one vector, where there are sixteen or more from `start`
-/// on; many by vectors that may overlap, and take some of the bytes before `start` too.
+/// there is none. The bytes are examined by vectors, which may overlap and take some of those before
+/// `start` too.
 #[inline(always)]
 pub(crate) fn may_hold_line_feed(bytes: &[u8], start: usize, end: usize) -> bool
     requires order { start ≤ end }
     requires within { end ≤ length bytes.now }
     ensures { result ≡ false → HasNoLineFeed (drop start (take end bytes.now)) }
 {
-    let count = end - start;
-    if count > 16 {
+    // If fewer than sixteen bytes are before the end, this is past the start.
+    let from = end.wrapping_sub(16);
+    if from <= start {
+        return holds_line_feed_at::<16>(bytes, from);
+    }
+    if end >= 16 {
         return holds_line_feed_in_many(&bytes[..end], start);
     }
     if bytes.len() - start >= 16 {
-        return feedless_of_sixteen(bytes, start) < count;
+        return feedless_of_sixteen(bytes, start) < end - start;
     }
-    first_line_feed(&bytes[start..end]) < count
+    first_line_feed(&bytes[start..end]) < end - start
 }
 
 // Whether a line feed may follow the first `start` bytes, for sixteen bytes or more.
