@@ -10,7 +10,9 @@ use ptree::TreeBuilder;
 use ptree::graph::Graph;
 use ptree::item::{Root, StringItem};
 use ptree::output::{ItemError, ItemWriter};
-use ptree::print_config::{FileSource, OutputKind, PrintConfig, Sources, first_fault, load, syntax_line};
+use ptree::print_config::{
+    FileSource, OutputKind, PrintConfig, Sources, first_fault, load, syntax_line,
+};
 use ptree::read::read_tree;
 use ptree::sink::Counted;
 use std::alloc::{AllocError, Global};
@@ -74,7 +76,10 @@ fn a_log_is_drawn_as_it_comes(rt: HostRuntime) -> Result<(), Fail> {
     let log = BufReader::new(alloc, &b"started\nstopped\n"[..])?;
     let mut drawn = Counted::new(Vec::new(alloc));
     draw_log(alloc, "log", log.lines(alloc), &mut drawn, &config)?;
-    expect_text(str::from_utf8(&drawn.into_inner())?, "log\n├─ started\n└─ stopped\n")
+    expect_text(
+        str::from_utf8(&drawn.into_inner())?,
+        "log\n├─ started\n└─ stopped\n",
+    )
 }
 
 // The item of a text.
