@@ -42,7 +42,8 @@ pub record GivenItem : Type 0 where
 abbrev pub given_text : Look → List Bool → List GivenItem → List ℕ
 given_text look path [] = []
 given_text look path (i ∷ items) =
-    entry_behind look path i.level i.last i.own ++ given_text look (path_with path i.level i.last) items
+    entry_behind look path i.level i.last i.own
+    ++ given_text look (path_with path i.level i.last) items
 
 -- an item is the one at an address: its level is the address's length
 pub record IsAt (look : Look) (x : Shape) (a : Address) (i : GivenItem) : Type 0 where
@@ -65,8 +66,8 @@ DrawsItems look =
     → IsAddressList kids x depth list → AreAt look x list items
     → IsDrawing look x depth (given_text look path items)
 
--- an item with the level and the text of a line, which is a last child if none of the lines after it
--- has its level before one above it
+-- an item with the level and the text of a line, which is a last child if none of the lines after
+-- it has its level before one above it
 pub record IsGivenAs (look : Look) (l : Line) (later : List Line) (i : GivenItem) : Type 0 where
   pub level : i.level ≡ l.level
   pub own : i.own ≡ painted_text look.leaf l.text
@@ -82,6 +83,6 @@ AreGivenAs look (l ∷ o) (i ∷ items) = IsGivenAs look l o i × AreGivenAs loo
 -- the same of a tree's items, where which are last children is told by the levels after them
 abbrev pub DrawsLines : Look → Type 0
 DrawsLines look =
-    (t : Tree) (path : List Bool) (items : List GivenItem) (depth : ℕ) → height t.children ≤ depth
-    → AreGivenAs look (outline t) items
+    (t : Tree) (path : List Bool) (items : List GivenItem) (depth : ℕ)
+    → height t.children ≤ depth → AreGivenAs look (outline t) items
     → IsDrawing look (shape_of_tree t) depth (given_text look path items)
