@@ -34,8 +34,8 @@ AreWidths look rungs =
 
 -- a buffer begins as the entry of the last item of a path does, and if it is turned with a regular
 -- turning piece too
-pub record StandsAt (look : Look) (buffer : List ℕ) (turned : Bool) (root : ℕ) (rungs : List Rung)
-    : Type 0 where
+pub record StandsAt (look : Look) (buffer : List ℕ) (turned : Bool) (root : ℕ)
+    (rungs : List Rung) : Type 0 where
   pub root_is : root ≡ length (start_codes look.branch)
   pub widths : AreWidths look rungs
   pub front : Begins (front_below look (above (flags_of rungs))) buffer
